@@ -1,0 +1,10 @@
+//! The outside as contracts see it: a shelf of named files, a sink for printed text, and a gate round each step.
+#![tactic(auto)]
+
+pub mod gate;
+pub mod shelf;
+pub mod sink;
+
+pub use gate::{Gate, OpenGate};
+pub use shelf::{Shelf, ShelfError};
+pub use sink::Sink;
