@@ -1,0 +1,4 @@
+pub mod Rises
+pub mod Calls
+mod Writes
+mod Prints

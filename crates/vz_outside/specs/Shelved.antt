@@ -1,5 +1,5 @@
 -- What can be known of a shelf of named files, and what a call may change of it.
-use Rattle.std.specs.Prelude.{◌≡◌, ◌≢◌, ◌≤◌, ℕ, Bool, Option, Some, None, List, ◌++◌, IsTrue}
+use Rattle.std.specs.Prelude.{◌≡◌, ◌≢◌, ◌≤◌, ℕ, Bool, Option, Some, None, List, ◌++◌, length, take, IsTrue}
 
 -- a name, or text, as its bytes
 abbrev pub Text : Type 0
@@ -64,6 +64,10 @@ pub record KeepsOthers (one : Text) (old new : Shelved) : Type 0 where
 -- these bytes stand at the end of the bytes of a name
 abbrev pub Appends : List ℕ → Text → Shelved → Shelved → Type 0
 Appends more name old new = (before : List ℕ) → old.bytes name ≡ Some before → new.bytes name ≡ Some (before ++ more)
+
+-- a front part of these bytes stands at the end of the bytes of a name
+abbrev pub AppendsFront : List ℕ → Text → Shelved → Shelved → Type 0
+AppendsFront all name old new = (n : ℕ) × (n ≤ length all) × Appends (take n all) name old new
 
 -- no bytes, no rest and no slot changed
 pub record IsUntouched (old new : Shelved) : Type 0 where

@@ -4,7 +4,9 @@
 pub mod gate;
 pub mod shelf;
 pub mod sink;
+pub mod transfer;
 
 pub use gate::{Gate, OpenGate};
 pub use shelf::{Shelf, ShelfError};
 pub use sink::Sink;
+pub use transfer::{print, write_all};

@@ -1,0 +1,51 @@
+//! Whole texts over calls that move a piece each.
+ghost use Rattle.std.specs.Prelude.{◌≡◌, ◌+◌, ◌<◌, ◌≤◌, ◌^◌, ◌++◌, IsTrue, Some, length, take, vec_len, IfOk, OnOk, OnErr, IsErrOf};
+ghost use Rattle.vz_outside.specs.Faults.{Rose};
+ghost use Rattle.vz_outside.specs.Shelved.{Reading, Writing, IsCall, SameFiles, KeepsOtherRests, KeepsOthers, Appends, AppendsFront, StaysSound};
+ghost use Rattle.vz_outside.specs.Sunk as sinks;
+ghost use Rattle.vz_outside.specs.declared.shelf.ShelfError.TheVariants.{Failed};
+
+use std::alloc::Global;
+
+use crate::{Shelf, ShelfError, Sink};
+
+/// Writes all of a text at the end of a slot's file, in as many calls as it takes.
+///
+/// `Failed` comes only where the count of faults rose, `Memory` for want of memory.
+/// After both, some front part of the text, maybe none and maybe all of it, was written.
+pub fn write_all<F: Shelf>(shelf: &mut F, slot: u32, text: &[u8]) -> Result<(), ShelfError>
+    requires open { (F.shelved shelf.old).mode slot ≡ Some Writing }
+    ensures appended { IsTrue (F.shelved shelf.old).tells → OnOk result (Appends text.now ((F.shelved shelf.old).name slot) (F.shelved shelf.old) (F.shelved shelf.new)) }
+    ensures begun { IsTrue (F.shelved shelf.old).tells → OnErr result (AppendsFront text.now ((F.shelved shelf.old).name slot) (F.shelved shelf.old) (F.shelved shelf.new)) }
+    ensures others { IsTrue (F.shelved shelf.old).tells → KeepsOthers ((F.shelved shelf.old).name slot) (F.shelved shelf.old) (F.shelved shelf.new) }
+    ensures call { IsCall (F.shelved shelf.old) (F.shelved shelf.new) }
+    ensures failed { IsErrOf result Failed → Rose (F.shelved shelf.old).faults (F.shelved shelf.new).faults }
+    ensures sound { IsTrue (F.shelved shelf.old).sound → IsErrOf result Failed → ⊥ }
+    ensures stays { IsTrue (F.shelved shelf.old).sound → StaysSound (F.shelved shelf.old) (F.shelved shelf.new) }
+{
+    let mut written = 0;
+    while written < text.len() {
+        written += shelf.write(slot, &text[written..])?;
+    }
+    Ok(())
+}
+
+/// Prints all of a text, in as many calls as it takes.
+///
+/// `Failed` comes only where the count of faults rose, `Memory` for want of memory.
+/// After both, some front part of the text, maybe none and maybe all of it, was printed.
+pub fn print<O: Sink>(out: &mut O, text: &[u8]) -> Result<(), ShelfError>
+    ensures taken { IsTrue (O.sunk out.old).tells → OnOk result ((O.sunk out.new).bytes ≡ (O.sunk out.old).bytes ++ text.now) }
+    ensures begun { IsTrue (O.sunk out.old).tells → OnErr result (sinks.TakesFront text.now (O.sunk out.old) (O.sunk out.new)) }
+    ensures telling { (O.sunk out.new).tells ≡ (O.sunk out.old).tells }
+    ensures faults { (O.sunk out.old).faults ≤ (O.sunk out.new).faults }
+    ensures failed { IsErrOf result Failed → Rose (O.sunk out.old).faults (O.sunk out.new).faults }
+    ensures sound { IsTrue (O.sunk out.old).sound → IsErrOf result Failed → ⊥ }
+    ensures stays { IsTrue (O.sunk out.old).sound → sinks.StaysSound (O.sunk out.old) (O.sunk out.new) }
+{
+    let mut printed = 0;
+    while printed < text.len() {
+        printed += out.write(&text[printed..])?;
+    }
+    Ok(())
+}
