@@ -1,7 +1,7 @@
 -- Laws on what calls of a shelf change: each holds of no call, and of two calls where it holds of both.
-use Rattle.std.proofs.Common.{◌≡◌, ◌≢◌, ℕ, ◌≤◌, Bool, Some, None, List, [], ◌++◌, IsTrue, refl, sym, ◌∙◌, ap, subst, arith, append_assoc}
+use Rattle.std.proofs.Common.{ℕ, Some, [], ◌++◌, IsTrue, refl, sym, ◌∙◌, ap, subst, arith, append_assoc}
 use Rattle.std.proofs.lemmas.List.{append-nil}
-use Rattle.vz_outside.specs.Shelved.{Shelved, Mode, Text, IsCall, SameFiles, KeepsRests, KeepsOtherRests, KeepsOthers, Appends, IsUntouched, StaysSound}
+use Rattle.vz_outside.specs.Shelved.{Shelved, Text, IsCall, SameFiles, KeepsRests, KeepsOtherRests, KeepsOthers, Appends, IsUntouched, StaysSound}
 
 -- no call keeps all
 pub call_same : (s : Shelved) → IsCall s s

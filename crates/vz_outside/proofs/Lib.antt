@@ -2,3 +2,4 @@ pub mod Rises
 pub mod Calls
 mod Writes
 mod Prints
+mod Fills

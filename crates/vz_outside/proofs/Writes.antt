@@ -1,9 +1,9 @@
 -- What stands while a text is written piece by piece.
-use Rattle.std.proofs.Common.{◌≡◌, ℕ, ◌+◌, ◌-◌, ◌≤◌, List, Some, length, take, drop, ◌++◌, IsTrue, refl, sym, subst, ap, arith, length-drop}
+use Rattle.std.proofs.Common.{◌≡◌, ℕ, ◌+◌, ◌-◌, ◌≤◌, List, Some, length, take, drop, ◌++◌, IsTrue, refl, subst, ap, arith, length-drop}
 use Rattle.std.proofs.lemmas.List.{take_all}
 use Rattle.std.proofs.Math.Seq.{take-add}
 use Rattle.vz_outside.proofs.Calls.{call_same, call_then_call, tells_after, others_same, others_then_others, append_nothing, append_then_append, sound_same, sound_then_sound}
-use Rattle.vz_outside.specs.Shelved.{Shelved, Text, Mode, Writing, IsCall, KeepsOthers, Appends, StaysSound}
+use Rattle.vz_outside.specs.Shelved.{Shelved, Text, Writing, IsCall, KeepsOthers, Appends, StaysSound}
 
 -- so many bytes of a text were written
 pub record HasWritten (text : List ℕ) (slot written : ℕ) (old new : Shelved) : Type 0 where
@@ -34,18 +34,20 @@ written_more text part slot written more old mid new before is_part few call app
       subst (λ (all : List ℕ). Appends all (old.name slot) old new) (joined told) (chain told);
   others = λ told.
       others_then_others (old.name slot) old mid new told before.call (before.others told)
-        (subst (λ (name : Text). KeepsOthers name mid new) (named told) (others (tells_after old mid before.call told)));
+      (subst (λ (name : Text). KeepsOthers name mid new) (named told) (others (tells_after old mid before.call told)));
   stays = λ sound.
       sound_then_sound old mid new (before.stays sound) (stays (before.stays sound).sound);
 }
   where
     named : IsTrue old.tells → mid.name slot ≡ old.name slot
     named told = before.call.names told slot Writing before.opened
+
     chain : IsTrue old.tells → Appends (take written text ++ take more part) (old.name slot) old new
     chain told =
         append_then_append (take written text) (take more part) (old.name slot) old mid new (before.appended told)
-          (subst (λ (name : Text). Appends (take more part) name mid new) (named told)
-            (appended (tells_after old mid before.call told)))
+        (subst (λ (name : Text). Appends (take more part) name mid new) (named told)
+        (appended (tells_after old mid before.call told)))
+
     joined : IsTrue old.tells → take written text ++ take more part ≡ take (written + more) text
     joined told = rw (is_part, take-add written more text) refl
 

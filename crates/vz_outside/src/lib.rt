@@ -9,4 +9,4 @@ pub mod transfer;
 pub use gate::{Gate, OpenGate};
 pub use shelf::{Shelf, ShelfError};
 pub use sink::Sink;
-pub use transfer::{print, write_all};
+pub use transfer::{print, read_upto, write_all};

@@ -2,7 +2,9 @@
 ghost use Rattle.std.specs.Prelude.{◌≡◌, ◌<◌, ◌≤◌, ◌++◌, IsTrue, Some, None, length, take, [], IfOk, OnErr, IsErrOf};
 ghost use Rattle.vz_outside.specs.Faults.{Rose, greatest_count};
 ghost use Rattle.vz_outside.specs.Shelved.{Shelved, Reading, Writing, IsCall, IsOpened, SameFiles, KeepsRests, KeepsOtherRests, KeepsOthers, Appends, IsUntouched, StaysSound};
-ghost use Rattle.vz_outside.specs.declared.shelf.ShelfError.TheVariants.{Failed};
+ghost use Rattle.vz_outside.specs.declared.shelf.ShelfError.TheVariants.{Failed, Memory};
+
+use std::alloc::{AllocError, AllocFailed};
 
 /// Why a call of a shelf or a sink has no other answer.
 #[derive(Clone, Copy, Debug, PartialEq, Eq)]
@@ -11,6 +13,22 @@ pub enum ShelfError {
     Failed,
     /// Want of memory.
     Memory,
+}
+
+impl From<AllocError> for ShelfError {
+    ghost from_gives = { λ _ e. e ≡ Memory };
+
+    fn from(_error: AllocError) -> Self {
+        ShelfError::Memory
+    }
+}
+
+impl<T: Drop> From<AllocFailed<T>> for ShelfError {
+    ghost from_gives = { λ _ e. e ≡ Memory };
+
+    fn from(_error: AllocFailed<T>) -> Self {
+        ShelfError::Memory
+    }
 }
 
 /// Named files. A file is opened in a slot for reading or for writing, and a slot stays open.

@@ -9,4 +9,4 @@ loop-printed-preserved g c =
     let text = c.args.text.now in
     let done = c.loop-printed.printed in
     printed_more text (take (length text - done) (drop done text)) _ _ _ _ _ c.loop-printed.invariant (rest_of done text)
-      wrote.count wrote.taken wrote.telling wrote.faults wrote.stays
+    wrote.count wrote.taken wrote.telling wrote.faults wrote.stays

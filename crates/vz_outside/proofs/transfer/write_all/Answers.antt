@@ -8,4 +8,4 @@ loop-written-preserved g c =
     let text = c.args.text.now in
     let done = c.loop-written.written in
     written_more text (take (length text - done) (drop done text)) _ _ _ _ _ _ c.loop-written.invariant (rest_of done text)
-      wrote.count wrote.call wrote.appended wrote.others wrote.stays
+    wrote.count wrote.call wrote.appended wrote.others wrote.stays
