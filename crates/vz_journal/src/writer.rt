@@ -231,3 +231,6 @@ fn push_open(out: &mut String, unfed: &[Sub]) -> Result<(), AllocError>
     }
     Ok(())
 }
+
+#[cfg(test)]
+mod tests;
