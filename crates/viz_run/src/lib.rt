@@ -1,0 +1,4 @@
+//! The display compositor's one public call.
+#![tactic(auto)]
+
+mod words;
