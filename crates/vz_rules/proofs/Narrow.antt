@@ -1,13 +1,14 @@
 -- Worked checks of the narrow form.
-use Rattle.std.proofs.Common.{◌≡◌, ℕ, Bool, refl, true, false, List, [], ◌∷◌, map, None}
-use Rattle.vz_pixels.specs.Colour.{Colour}
+use Rattle.std.specs.Prelude.{codes}
+use Rattle.std.proofs.Common.{◌≡◌, ℕ, refl, true, false, List, [], ◌∷◌, map, None}
 use Rattle.vz_geom.specs.Rectangle.{points_of}
 use Rattle.vz_frame.specs.declared.message.ClientFile.{ClientFile}
 use Rattle.vz_frame.specs.declared.message.Message.{Message}
 use Rattle.vz_frame.specs.declared.message.Message.TheVariants.{Submit, SetRoot}
 use Rattle.vz_frame.specs.declared.frame.DrawQuad.{DrawQuad}
 use Rattle.vz_frame.specs.declared.frame.Material.TheVariants.{Solid}
-use Rattle.vz_rules.specs.Narrow.{is_narrow, narrow_quad, narrow_history, narrow_colour, narrow_events}
+use Rattle.vz_rules.specs.Narrow.{is_narrow, narrow_quad, narrow_history, narrow_colour, narrow_events, nothing_left}
+use Rattle.vz_rules.specs.Log.{log_text}
 use Rattle.vz_rules.proofs.Rows.{opened, plan_1, log_1, sink_of, first_local, at_local, frame_with, listing_1, sized_frame, rect, red, red_quad, dark, made}
 
 unfoldable narrow_opened : ℕ
@@ -37,6 +38,10 @@ row_1_history = refl
 row_1_made : made plan_1 narrow_events ≡ log_1
 unfolding narrow_opened
 row_1_made = refl
+
+row_1_log : log_text (narrow_history plan_1.size) nothing_left ≡ codes "c1 accepted 1 1 +1.1\nc1 rooted\ndraw drawn 0 0 4 2\ndone shown p1.1\nend\n"
+unfolding narrow_opened
+row_1_log = refl
 
 row_1_colours : map (narrow_colour file_1) (points_of plan_1.size) ≡ dark ∷ red ∷ red ∷ dark ∷ dark ∷ red ∷ red ∷ dark ∷ []
 unfolding narrow_opened
