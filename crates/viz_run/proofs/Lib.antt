@@ -1,2 +1,3 @@
 mod Numbers
 mod Lines
+mod Rows
