@@ -1,0 +1,43 @@
+//! Why a field is not read.
+ghost use Rattle.std.specs.Prelude.{◌≡◌, length};
+ghost use Rattle.vz_codec.specs.declared.error.ReadError.TheVariants.{Memory};
+
+use crate::fault::FileRule;
+use std::alloc::{AllocError, AllocFailed};
+
+/// Why a field is not read: for want of memory, or what it breaks and how many bytes are left at it.
+#[derive(Clone, Copy, Debug, PartialEq, Eq)]
+pub enum ReadError {
+    Memory,
+    Wrong { left: usize, rule: FileRule },
+}
+
+impl ReadError {
+    ghost use Rattle.vz_codec.specs.declared.error.ReadError.TheVariants.{Wrong};
+
+    /// The field at the front of these bytes breaks a rule.
+    pub fn at(bytes: &[u8], rule: FileRule) -> ReadError
+        ensures { result ≡ Wrong (length bytes.now) rule }
+    {
+        ReadError::Wrong {
+            left: bytes.len(),
+            rule,
+        }
+    }
+}
+
+impl From<AllocError> for ReadError {
+    ghost from_gives = { λ _ e. e ≡ Memory };
+
+    fn from(_e: AllocError) -> ReadError {
+        ReadError::Memory
+    }
+}
+
+impl<T: Drop> From<AllocFailed<T>> for ReadError {
+    ghost from_gives = { λ _ e. e ≡ Memory };
+
+    fn from(_e: AllocFailed<T>) -> ReadError {
+        ReadError::Memory
+    }
+}
