@@ -1,10 +1,15 @@
 //! Numbers at the front of bytes, low byte first.
+ghost use Rattle.std.specs.Prelude.{◌≡◌};
 ghost use Rattle.std.specs.Int.{w8, w16, w32, w128};
+ghost use Rattle.vz_frame.specs.Fits.{in_reach};
 ghost use Rattle.vz_codec.specs.Giving.{Gives};
 ghost use Rattle.vz_codec.specs.Reading.{number_at, limited_at, tag_at, signed_at, coordinate_at};
 
 use crate::error::ReadError;
 use crate::fault::FileRule;
+
+/// No coordinate lies further out, and no side is longer.
+pub const REACH: i32 = 16384;
 
 const SHORT: ReadError = ReadError::Wrong {
     left: 0,
@@ -122,8 +127,15 @@ pub fn coordinate_at(bytes: &[u8]) -> Result<(i32, &[u8]), ReadError>
     ensures { Gives (λ x. (x.0, x.1.now)) result (coordinate_at bytes.now) }
 {
     let (number, rest) = i32_at(bytes)?;
-    if number < -16384 || number > 16384 {
+    if !in_reach(number) {
         return Err(ReadError::at(bytes, FileRule::Limit));
     }
     Ok((number, rest))
+}
+
+/// Whether a number may be a coordinate.
+pub fn in_reach(number: i32) -> bool
+    ensures { result ≡ in_reach number }
+{
+    -REACH <= number && number <= REACH
 }
