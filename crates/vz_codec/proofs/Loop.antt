@@ -1,9 +1,10 @@
 -- Reading values one after the other, as a loop does.
-use Rattle.std.proofs.Common.{◌≡◌, ℕ, suc, ◌-◌, ◌+◌, ◌≤◌, ◌<◌, List, [], ◌∷◌, ◌++◌, Result, Ok, Err, refl, sym, ap, ◌∙◌, append_assoc, arith}
+use Rattle.std.proofs.Common.{◌≡◌, ℕ, suc, ◌-◌, ◌+◌, ◌≤◌, ◌<◌, List, [], ◌∷◌, ◌++◌, length, Result, Ok, Err, refl, sym, ap, ◌∙◌, append_assoc, arith}
 use Rattle.std.proofs.lemmas.List.{append-nil}
 use Rattle.vz_codec.specs.declared.error.ReadError.{ReadError}
 use Rattle.vz_codec.specs.declared.error.ReadError.TheVariants as errors
-use Rattle.vz_codec.specs.Reading.{Fault, Read, ◌>>=◌, many_at}
+use Rattle.vz_frame.specs.declared.frame.RenderPass.{RenderPass}
+use Rattle.vz_codec.specs.Reading.{Fault, Read, ◌>>=◌, many_at, pass_at, passes_at}
 use Rattle.vz_codec.specs.Giving.{Fails}
 
 -- what was read before, and what is still read
@@ -36,4 +37,30 @@ unfolding many_at
 is_done {A} read front count i bytes total le so_far =
     let k : count - i ≡ 0 = omega arith in
     let one : with_front front (many_at read (count - i) bytes) ≡ Ok (front, bytes) = rw k (ap (λ (xs : List A). Ok (xs, bytes)) (append-nil front)) in
+    sym so_far ∙ one
+
+-- The same for passes, whose quads are counted together
+
+pub pass_goes_on : (format : ℕ) (front : List RenderPass) (count i before : ℕ) (bytes : List ℕ) (p : RenderPass) (after : List ℕ) (total : Read (List RenderPass)) → i < count → pass_at format before bytes ≡ Ok (p, after)
+    → with_front front (passes_at format (count - i) before bytes) ≡ total → with_front (front ++ p ∷ []) (passes_at format (count - (i + 1)) (before + length p.quads) after) ≡ total
+unfolding passes_at
+pass_goes_on format front count i before bytes p after total lt h so_far =
+    let k : count - i ≡ suc (count - (i + 1)) = omega arith in
+    let one : with_front front (passes_at format (count - i) before bytes) ≡ with_front (front ++ p ∷ []) (passes_at format (count - (i + 1)) (before + length p.quads) after) = rw (k, h) (regroup front p (passes_at format (count - (i + 1)) (before + length p.quads) after)) in
+    sym one ∙ so_far
+
+pub pass_ends : (format : ℕ) (e : ReadError) (front : List RenderPass) (count i before : ℕ) (bytes : List ℕ) (total : Read (List RenderPass)) → i < count → Fails e (pass_at format before bytes)
+    → with_front front (passes_at format (count - i) before bytes) ≡ total → Fails e total
+unfolding passes_at
+pass_ends format errors.Memory front count i before bytes total lt h so_far = tt
+pass_ends format (errors.Wrong left rule) front count i before bytes total lt h so_far =
+    let k : count - i ≡ suc (count - (i + 1)) = omega arith in
+    let one : with_front front (passes_at format (count - i) before bytes) ≡ Err (record { left = left; rule = rule }) = rw (k, h) refl in
+    sym so_far ∙ one
+
+pub passes_done : (format : ℕ) (front : List RenderPass) (count i before : ℕ) (bytes : List ℕ) (total : Read (List RenderPass)) → count ≤ i → with_front front (passes_at format (count - i) before bytes) ≡ total → total ≡ Ok (front, bytes)
+unfolding passes_at
+passes_done format front count i before bytes total le so_far =
+    let k : count - i ≡ 0 = omega arith in
+    let one : with_front front (passes_at format (count - i) before bytes) ≡ Ok (front, bytes) = rw k (ap (λ (xs : List RenderPass). Ok (xs, bytes)) (append-nil front)) in
     sym so_far ∙ one

@@ -1,5 +1,5 @@
 //! Why a field is not read.
-ghost use Rattle.std.specs.Prelude.{◌≡◌, length};
+ghost use Rattle.std.specs.Prelude.{◌≡◌};
 ghost use Rattle.vz_codec.specs.declared.error.ReadError.TheVariants.{Memory};
 
 use crate::fault::FileRule;
@@ -15,14 +15,11 @@ pub enum ReadError {
 impl ReadError {
     ghost use Rattle.vz_codec.specs.declared.error.ReadError.TheVariants.{Wrong};
 
-    /// The field at the front of these bytes breaks a rule.
-    pub fn at(bytes: &[u8], rule: FileRule) -> ReadError
-        ensures { result ≡ Wrong (length bytes.now) rule }
+    /// The field at which so many bytes are left breaks a rule.
+    pub fn refused(left: usize, rule: FileRule) -> ReadError
+        ensures { result ≡ Wrong left rule }
     {
-        ReadError::Wrong {
-            left: bytes.len(),
-            rule,
-        }
+        ReadError::Wrong { left, rule }
     }
 }
 

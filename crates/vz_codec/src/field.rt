@@ -1,65 +1,65 @@
-//! Values that are read from the front of bytes, alone, behind a flag or several in a row.
+//! Fields that stand behind a flag or several in a row.
 ghost use Rattle.std.specs.Prelude.{ℕ, List};
 ghost use Rattle.vz_codec.specs.Giving.{Gives};
 ghost use Rattle.vz_codec.specs.Reading.{Read, optional_at, many_at, counted_at};
 
 use crate::error::ReadError;
-use crate::numbers;
+use crate::reader::Reader;
 use std::alloc::Global;
-
-/// A value that bytes spell whatever stands before it.
-pub trait Field: Sized + Drop {
-    /// The value at the front of bytes and the bytes after it, or the first fault.
-    ghost field_at: { List ℕ → Read Self };
-
-    fn read(bytes: &[u8]) -> Result<(Self, &[u8]), ReadError>
-        ensures { Gives (λ x. (x.0, x.1.now)) result (field_at bytes.now) };
-}
-
-/// A flag, and the value behind a 1.
-#[tactic(auto, unfolding(crate::specs::Reading::optional_at))]
-pub fn optional<T: Field>(bytes: &[u8]) -> Result<(Option<T>, &[u8]), ReadError>
-    ensures { Gives (λ x. (x.0, x.1.now)) result (optional_at T.field_at bytes.now) }
-{
-    let (flag, rest) = numbers::tag_at(0, 1, bytes)?;
-    if flag == 0 {
-        return Ok((None, rest));
-    }
-    let (value, rest) = T::read(rest)?;
-    Ok((Some(value), rest))
-}
 
 /// No value is spelled by fewer bytes.
 const FEWEST_BYTES: usize = 4;
 
-/// So many values. No more room is made for them than there are bytes for.
-pub fn many<T: Field>(
-    alloc: Global,
-    count: usize,
-    bytes: &[u8],
-) -> Result<(Vec<T>, &[u8]), ReadError>
-    ensures { Gives (λ x. (x.0.items, x.1.now)) result (many_at T.field_at count bytes.now) }
+/// How a kind of field is read.
+pub trait Field {
+    type Value: Drop;
+
+    /// The value at the front of bytes and the bytes after it, or the first fault.
+    ghost value_at: { Self → List ℕ → Read Self.Value };
+
+    fn read(&self, input: &mut Reader) -> Result<Self::Value, ReadError>
+        ensures { Gives (λ x. (x, input.new)) result (value_at self.now input.old) };
+}
+
+/// A flag, and the value behind a 1.
+#[tactic(auto, unfolding(crate::specs::Reading::optional_at))]
+pub fn optional<F: Field>(field: &F, input: &mut Reader) -> Result<Option<F::Value>, ReadError>
+    ensures { Gives (λ x. (x, input.new)) result (optional_at (F.value_at field.now) input.old) }
 {
-    let mut values = Vec::with_capacity(alloc, count.min(bytes.len() / FEWEST_BYTES))?;
-    let mut rest = bytes;
-    for _ in 0..count {
-        let (value, after) = T::read(rest)?;
-        values.push(value)?;
-        rest = after;
+    if input.tag(0, 1)? == 0 {
+        return Ok(None);
     }
-    Ok((values, rest))
+    Ok(Some(field.read(input)?))
+}
+
+/// So many values. No more room is made for them than there are bytes for.
+pub fn many<F: Field>(
+    alloc: Global,
+    field: &F,
+    count: usize,
+    input: &mut Reader,
+) -> Result<Vec<F::Value>, ReadError>
+    ensures { Gives (λ x. (x.items, input.new)) result (many_at (F.value_at field.now) count input.old) }
+{
+    let mut values = Vec::with_capacity(alloc, count.min(input.left() / FEWEST_BYTES))?;
+    for _ in 0..count {
+        let value = field.read(input)?;
+        values.push(value)?;
+    }
+    Ok(values)
 }
 
 /// A count up to a limit, and so many values.
 #[tactic(auto, unfolding(crate::specs::Reading::counted_at))]
-pub fn counted<T: Field>(
+pub fn counted<F: Field>(
     alloc: Global,
+    field: &F,
     limit: u8,
-    bytes: &[u8],
-) -> Result<(vz_frame::List<T>, &[u8]), ReadError>
-    ensures { Gives (λ x. (x.0, x.1.now)) result (counted_at T.field_at limit bytes.now) }
+    input: &mut Reader,
+) -> Result<vz_frame::List<F::Value>, ReadError>
+    ensures { Gives (λ x. (x, input.new)) result (counted_at (F.value_at field.now) limit input.old) }
 {
-    let (count, rest) = numbers::u8_within(0, limit, bytes)?;
-    let (values, rest) = many::<T>(alloc, usize::from(count), rest)?;
-    Ok((vz_frame::List::from_vec(values), rest))
+    let count = input.u8_within(0, limit)?;
+    let values = many(alloc, field, usize::from(count), input)?;
+    Ok(vz_frame::List::from_vec(values))
 }

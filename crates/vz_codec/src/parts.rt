@@ -8,29 +8,30 @@ ghost use Rattle.std.specs.Prelude.{◌≡◌, ◌&&◌, is_some, IfSome};
 use crate::error::ReadError;
 use crate::fault::FileRule;
 use crate::field::{Field, optional};
-use crate::numbers::{REACH, i32_at, in_reach, u128_at, u32_at, u8_at};
+use crate::reader::{REACH, Reader, in_reach};
 use vz_geom::Rect;
 use vz_ids::{EmbedToken, FrameSinkId, LocalSurfaceId, SurfaceId, SurfaceRange};
 use vz_pixels::Pixel;
 
 #[tactic(auto, unfolding(crate::specs::Reading::sink_at))]
-pub fn sink_at(bytes: &[u8]) -> Result<(FrameSinkId, &[u8]), ReadError>
-    ensures { Gives (λ x. (x.0, x.1.now)) result (sink_at bytes.now) }
+pub fn read_sink(input: &mut Reader) -> Result<FrameSinkId, ReadError>
+    ensures { Gives (λ x. (x, input.new)) result (sink_at input.old) }
 {
-    let (client_id, rest) = u32_at(bytes)?;
-    let (sink_id, rest) = u32_at(rest)?;
-    Ok((FrameSinkId { client_id, sink_id }, rest))
+    let client_id = input.u32()?;
+    let sink_id = input.u32()?;
+    Ok(FrameSinkId { client_id, sink_id })
 }
 
 #[tactic(auto, unfolding(crate::specs::Reading::local_at))]
-pub fn local_at(bytes: &[u8]) -> Result<(LocalSurfaceId, &[u8]), ReadError>
-    ensures { Gives (λ x. (x.0, x.1.now)) result (local_at bytes.now) }
+pub fn read_local(input: &mut Reader) -> Result<LocalSurfaceId, ReadError>
+    ensures { Gives (λ x. (x, input.new)) result (local_at input.old) }
 {
-    let (parent, rest) = u32_at(bytes)?;
-    let (child, rest) = u32_at(rest)?;
-    let (token, rest) = u128_at(rest)?;
+    let left = input.left();
+    let parent = input.u32()?;
+    let child = input.u32()?;
+    let token = input.u128()?;
     if parent == 0 || child == 0 || token == 0 {
-        return Err(ReadError::at(bytes, FileRule::Limit));
+        return Err(ReadError::refused(left, FileRule::Limit));
     }
     let token = EmbedToken(token);
     let local = LocalSurfaceId {
@@ -38,29 +39,30 @@ pub fn local_at(bytes: &[u8]) -> Result<(LocalSurfaceId, &[u8]), ReadError>
         child,
         token,
     };
-    Ok((local, rest))
+    Ok(local)
 }
 
 #[tactic(auto, unfolding(crate::specs::Reading::surface_at))]
-pub fn surface_at(bytes: &[u8]) -> Result<(SurfaceId, &[u8]), ReadError>
-    ensures { Gives (λ x. (x.0, x.1.now)) result (surface_at bytes.now) }
+pub fn read_surface(input: &mut Reader) -> Result<SurfaceId, ReadError>
+    ensures { Gives (λ x. (x, input.new)) result (surface_at input.old) }
 {
-    let (sink, rest) = sink_at(bytes)?;
-    let (local, rest) = local_at(rest)?;
-    Ok((SurfaceId { sink, local }, rest))
+    let sink = read_sink(input)?;
+    let local = read_local(input)?;
+    Ok(SurfaceId { sink, local })
 }
 
 #[tactic(auto, unfolding(crate::specs::Reading::rect_at))]
-pub fn rect_at(bytes: &[u8]) -> Result<(Rect, &[u8]), ReadError>
-    ensures { Gives (λ x. (x.0, x.1.now)) result (rect_at bytes.now) }
+pub fn read_rect(input: &mut Reader) -> Result<Rect, ReadError>
+    ensures { Gives (λ x. (x, input.new)) result (rect_at input.old) }
 {
-    let (x, rest) = i32_at(bytes)?;
-    let (y, rest) = i32_at(rest)?;
-    let (w, rest) = i32_at(rest)?;
-    let (h, rest) = i32_at(rest)?;
+    let left = input.left();
+    let x = input.i32()?;
+    let y = input.i32()?;
+    let w = input.i32()?;
+    let h = input.i32()?;
     match rect_of(&Sides { x, y, w, h }) {
-        Some(rect) => Ok((rect, rest)),
-        None => Err(ReadError::at(bytes, FileRule::Limit)),
+        Some(rect) => Ok(rect),
+        None => Err(ReadError::refused(left, FileRule::Limit)),
     }
 }
 
@@ -114,41 +116,79 @@ fn is_side(number: i32) -> bool
 }
 
 #[tactic(auto, unfolding(crate::specs::Reading::colour_at))]
-pub fn colour_at(bytes: &[u8]) -> Result<(Pixel, &[u8]), ReadError>
-    ensures { Gives (λ x. (x.0, x.1.now)) result (colour_at bytes.now) }
+pub fn read_colour(input: &mut Reader) -> Result<Pixel, ReadError>
+    ensures { Gives (λ x. (x, input.new)) result (colour_at input.old) }
 {
-    let (r, rest) = u8_at(bytes)?;
-    let (g, rest) = u8_at(rest)?;
-    let (b, rest) = u8_at(rest)?;
-    let (a, rest) = u8_at(rest)?;
+    let left = input.left();
+    let r = input.u8()?;
+    let g = input.u8()?;
+    let b = input.u8()?;
+    let a = input.u8()?;
     match Pixel::new(r, g, b, a) {
-        Some(colour) => Ok((colour, rest)),
-        None => Err(ReadError::at(bytes, FileRule::Colour)),
-    }
-}
-
-impl Field for SurfaceId {
-    ghost field_at = { surface_at };
-
-    fn read(bytes: &[u8]) -> Result<(SurfaceId, &[u8]), ReadError> {
-        surface_at(bytes)
-    }
-}
-
-impl Field for Rect {
-    ghost field_at = { rect_at };
-
-    fn read(bytes: &[u8]) -> Result<(Rect, &[u8]), ReadError> {
-        rect_at(bytes)
+        Some(colour) => Ok(colour),
+        None => Err(ReadError::refused(left, FileRule::Colour)),
     }
 }
 
 /// A start behind a flag, and an end.
 #[tactic(auto, unfolding(crate::specs::Reading::range_at))]
-pub fn range_at(bytes: &[u8]) -> Result<(SurfaceRange, &[u8]), ReadError>
-    ensures { Gives (λ x. (x.0, x.1.now)) result (range_at bytes.now) }
+pub fn read_range(input: &mut Reader) -> Result<SurfaceRange, ReadError>
+    ensures { Gives (λ x. (x, input.new)) result (range_at input.old) }
 {
-    let (start, rest) = optional::<SurfaceId>(bytes)?;
-    let (end, rest) = surface_at(rest)?;
-    Ok((SurfaceRange { start, end }, rest))
+    let start = optional(&Surfaces, input)?;
+    let end = read_surface(input)?;
+    Ok(SurfaceRange { start, end })
+}
+
+
+#[derive(Drop)]
+pub struct Surfaces;
+
+impl Field for Surfaces {
+    type Value = SurfaceId;
+
+    ghost value_at = { λ _. surface_at };
+
+    fn read(&self, input: &mut Reader) -> Result<SurfaceId, ReadError> {
+        read_surface(input)
+    }
+}
+
+#[derive(Drop)]
+pub struct Ranges;
+
+impl Field for Ranges {
+    type Value = SurfaceRange;
+
+    ghost value_at = { λ _. range_at };
+
+    fn read(&self, input: &mut Reader) -> Result<SurfaceRange, ReadError> {
+        read_range(input)
+    }
+}
+
+#[derive(Drop)]
+pub struct Rects;
+
+impl Field for Rects {
+    type Value = Rect;
+
+    ghost value_at = { λ _. rect_at };
+
+    fn read(&self, input: &mut Reader) -> Result<Rect, ReadError> {
+        read_rect(input)
+    }
+}
+
+#[derive(Drop)]
+pub struct Colours;
+
+impl Field for Colours {
+    type Value = Pixel;
+
+    ghost value_at = { λ _. colour_at };
+
+    fn read(&self, input: &mut Reader) -> Result<Pixel, ReadError> {
+        read_colour(input)
+    }
 }

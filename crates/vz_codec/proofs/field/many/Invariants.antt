@@ -4,4 +4,6 @@ use Rattle.vz_codec.proofs.Loop.{with_front}
 use Rattle.vz_codec.proofs.field.many.Given as goal
 
 abbrev pub invariant-loop : goal.invariant-loop
-invariant-loop g l = with_front l.values.items (many_at g.T.Field.field_at (l.count - l.counter) l.rest) ≡ many_at g.T.Field.field_at l.count l.bytes
+invariant-loop g l =
+    let read = g.F.Field.value_at l.field in
+    with_front l.values.items (many_at read (l.count - l.counter) l.input) ≡ many_at read l.count l.fn.input
