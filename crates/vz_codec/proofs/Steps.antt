@@ -1,12 +1,12 @@
 -- What follows for the parts where a reading in steps was right.
-use Rattle.std.proofs.Common.{◌≡◌, ℕ, zero, suc, ◌+◌, ◌-◌, ◌≤◌, Bool, true, false, List, [], ◌∷◌, length, Result, Ok, Err, refl, ap, ◌∙◌, sym, arith, subst}
+use Rattle.std.proofs.Common.{◌≡◌, ℕ, zero, suc, ◌+◌, ◌-◌, ◌≤◌, ◌<◌, Bool, true, false, List, [], ◌∷◌, length, Result, Ok, Err, refl, ap, ◌∙◌, sym, arith, subst}
 use Rattle.std.specs.Int.{Width, w16, w32}
 use Rattle.std.proofs.lemmas.Bool.{and_parts, leb-true}
 use Rattle.vz_frame.specs.Fits.{within}
 use Rattle.vz_frame.specs.declared.frame.RenderPass.{RenderPass}
 use Rattle.vz_codec.specs.declared.fault.FileRule.{FileRule}
 use Rattle.vz_codec.specs.declared.fault.FileRule.TheVariants as fault
-use Rattle.vz_codec.specs.Reading.{Fault, Read, ◌>>=◌, tested, number_at, limited_at, many_at, rect_at, quad_at, pass_at}
+use Rattle.vz_codec.specs.Reading.{Fault, Read, ◌>>=◌, tested, number_at, limited_at, many_at, rect_at, quad_at, pass_at, ended, fault_at}
 
 -- the value of a step that did not fail
 pub bind_ok : {A B : Type 0} (r : Result A Fault) (f : A → Result B Fault) (y : B) → (r >>= f) ≡ Ok y → (x : A) × (r ≡ Ok x) × (f x ≡ Ok y)
@@ -54,3 +54,13 @@ pass_room format before bytes x e =
     let same : length quads.0.0 ≡ n.0.0 = many_length (quad_at format) n.0.0 n.0.1 quads.0 quads.1 in
     let least : length quads.0.0 ≤ 1024 - before = omega arith in
     subst (λ (y : RenderPass × List ℕ). length y.0.quads ≤ 1024 - before) (ok_is _ x quads.2) least
+
+pub ended_there : {A : Type 0} (a : A) (bytes : List ℕ) → length bytes ≤ 0 → ended (a, bytes) ≡ Ok a
+unfolding ended
+ended_there a [] h = refl
+ended_there a (b ∷ bs) h = absurd (omega arith)
+
+pub ended_before : {A : Type 0} (a : A) (bytes : List ℕ) → 0 < length bytes → ended (a, bytes) ≡ Err (fault_at bytes fault.Trailing)
+unfolding ended
+ended_before a [] h = absurd (omega arith)
+ended_before a (b ∷ bs) h = refl

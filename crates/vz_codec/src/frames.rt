@@ -13,7 +13,7 @@ use vz_frame::{Blend, CompositorFrame, DrawQuad, List, Listing, Material, Metada
 use vz_geom::Point;
 
 /// No side of a resource is longer.
-const MOST_SIDE: u16 = 256;
+pub const MOST_SIDE: u16 = 256;
 
 const MOST_DEPENDENCIES: u8 = 16;
 
