@@ -18,7 +18,7 @@ pub tested_ok : {A : Type 0} (bytes : List ℕ) (rule : FileRule) (good : Bool) 
 tested_ok bytes rule true r x e = (refl, e)
 tested_ok bytes rule false r x e = absurd cc
 
-abbrev done : {A : Type 0} → A → Result A Fault
+abbrev pub done : {A : Type 0} → A → Result A Fault
 done x = Ok x
 
 pub ok_is : {A : Type 0} (x y : A) → done x ≡ done y → x ≡ y
