@@ -34,6 +34,13 @@ step {A} {B} {read} t bytes f y fits e =
     let a = bind_ok (read bytes) f y e in
     record { value = a.0; took = t.law bytes a.0 fits a.1; given = a.1; next = a.2 }
 
+-- the same, with the value and what follows as variables
+pub from_step : {A B : Type 0} {read : List ℕ → Read A} {spell : A → List ℕ} {good : A → Bool} {R : Type 0} → Taking read spell good → (bytes : List ℕ) (f : A × List ℕ → Result B Fault) (y : B) → IsBytes bytes → (read bytes >>= f) ≡ Ok y
+    → ((a : A × List ℕ) → Took bytes (spell a.0) a.1 (good a.0) → f a ≡ Ok y → R) → R
+from_step {A} {B} {read} t bytes f y fits e then =
+    let a = bind_ok (read bytes) f y e in
+    then a.0 (t.law bytes a.0 fits a.1) a.2
+
 -- the value that is made of the parts
 pub finish : {A : Type 0} {bytes : List ℕ} {made x : A × List ℕ} (spell : A → List ℕ) (good : A → Bool) → done made ≡ done x → Took bytes (spell made.0) made.1 (good made.0) → Took bytes (spell x.0) x.1 (good x.0)
 finish {A} {bytes} {made} {x} spell good e t = subst (λ (y : A × List ℕ). Took bytes (spell y.0) y.1 (good y.0)) (ok_is made x e) t
