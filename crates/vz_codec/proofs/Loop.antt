@@ -1,10 +1,10 @@
 -- Reading values one after the other, as a loop does.
-use Rattle.std.proofs.Common.{◌≡◌, ℕ, suc, ◌-◌, ◌+◌, ◌≤◌, ◌<◌, List, [], ◌∷◌, ◌++◌, length, Result, Ok, Err, refl, sym, ap, ◌∙◌, append_assoc, arith}
+use Rattle.std.proofs.Common.{◌≡◌, ℕ, suc, ◌-◌, ◌+◌, ◌≤◌, ◌<◌, List, [], ◌∷◌, ◌++◌, length, Ok, Err, refl, sym, ap, ◌∙◌, append_assoc, arith}
 use Rattle.std.proofs.lemmas.List.{append-nil}
 use Rattle.vz_codec.specs.declared.error.ReadError.{ReadError}
 use Rattle.vz_codec.specs.declared.error.ReadError.TheVariants as errors
 use Rattle.vz_frame.specs.declared.frame.RenderPass.{RenderPass}
-use Rattle.vz_codec.specs.Reading.{Fault, Read, ◌>>=◌, many_at, pass_at, passes_at}
+use Rattle.vz_codec.specs.Reading.{Read, ◌>>=◌, many_at, pass_at, passes_at}
 use Rattle.vz_codec.specs.Giving.{Fails}
 
 -- what was read before, and what is still read

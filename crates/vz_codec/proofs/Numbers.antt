@@ -1,6 +1,6 @@
 -- Numbers of bytes: what is read is spelled so, and what is spelled is read again.
-use Rattle.std.proofs.Common.{◌≡◌, ℕ, zero, suc, ◌+◌, ◌*◌, ◌/◌, ◌%◌, ◌^◌, ◌<◌, ◌≤◌, Bool, true, false, ltb, cond, List, [], ◌∷◌, ◌++◌, length, get_or, take, drop, Result, Ok, Err, refl, sym, ap, ◌∙◌, append_assoc, arith, inl, inr, ◌&&◌}
-use Rattle.std.specs.Int.{Width, w8, w16, w32, w64, w128, byte_len, from_le_bytes, to_le_bytes}
+use Rattle.std.proofs.Common.{◌≡◌, ℕ, ◌+◌, ◌*◌, ◌/◌, ◌%◌, ◌^◌, ◌<◌, ◌≤◌, Bool, true, false, ltb, cond, List, [], ◌∷◌, ◌++◌, length, get_or, take, drop, Ok, Err, refl, sym, ap, ◌∙◌, append_assoc, arith, inl, inr, ◌&&◌}
+use Rattle.std.specs.Int.{Width, w8, w16, w32, w128, byte_len, from_le_bytes, to_le_bytes}
 use Rattle.std.proofs.lemmas.Bool.{cases_lt, ltb-false, le-ltb, lt-ltb, and_from}
 use Rattle.std.proofs.lemmas.List.{take_at, drop_at, take-append-drop, length-append, length-take, get_or-drop, get_or-take, get_or_past}
 use Rattle.std.proofs.lemmas.Nat.{le_bytes_2, le_bytes_4, from_le_bytes-to_le_bytes_2, from_le_bytes-to_le_bytes_4}
@@ -77,6 +77,7 @@ wide32 =
 
 byte_of : (low p x high n : ℕ) → low < p → x < 256 → n ≡ (high * 256 + x) * p + low → n / p % 256 ≡ x
 byte_of low p x high n below small is = ap (λ m. m / p % 256) is ∙ ap (λ m. m % 256) (div-mul-add (high * 256 + x) p low below) ∙ mod-mul-add high 256 x small
+
 bytes_16 : (x0 x1 x2 x3 x4 x5 x6 x7 x8 x9 x10 x11 x12 x13 x14 x15 n : ℕ) → x0 < 256 → x1 < 256 → x2 < 256 → x3 < 256 → x4 < 256 → x5 < 256 → x6 < 256 → x7 < 256 → x8 < 256 → x9 < 256 → x10 < 256 → x11 < 256 → x12 < 256 → x13 < 256 → x14 < 256 → x15 < 256 → n ≡ x0 + x1 * 256 + x2 * 65536 + x3 * 16777216 + x4 * 4294967296 + x5 * 1099511627776 + x6 * 281474976710656 + x7 * 72057594037927936 + x8 * 18446744073709551616 + x9 * 4722366482869645213696 + x10 * 1208925819614629174706176 + x11 * 309485009821345068724781056 + x12 * 79228162514264337593543950336 + x13 * 20282409603651670423947251286016 + x14 * 5192296858534827628530496329220096 + x15 * 1329227995784915872903807060280344576 → (n % 256) ∷ (n / 256 % 256) ∷ (n / 65536 % 256) ∷ (n / 16777216 % 256) ∷ (n / 4294967296 % 256) ∷ (n / 1099511627776 % 256) ∷ (n / 281474976710656 % 256) ∷ (n / 72057594037927936 % 256) ∷ (n / 18446744073709551616 % 256) ∷ (n / 4722366482869645213696 % 256) ∷ (n / 1208925819614629174706176 % 256) ∷ (n / 309485009821345068724781056 % 256) ∷ (n / 79228162514264337593543950336 % 256) ∷ (n / 20282409603651670423947251286016 % 256) ∷ (n / 5192296858534827628530496329220096 % 256) ∷ (n / 1329227995784915872903807060280344576 % 256) ∷ [] ≡ x0 ∷ x1 ∷ x2 ∷ x3 ∷ x4 ∷ x5 ∷ x6 ∷ x7 ∷ x8 ∷ x9 ∷ x10 ∷ x11 ∷ x12 ∷ x13 ∷ x14 ∷ x15 ∷ []
 bytes_16 x0 x1 x2 x3 x4 x5 x6 x7 x8 x9 x10 x11 x12 x13 x14 x15 n x0' x1' x2' x3' x4' x5' x6' x7' x8' x9' x10' x11' x12' x13' x14' x15' is =
     let split : n ≡ (x1 + x2 * 256 + x3 * 65536 + x4 * 16777216 + x5 * 4294967296 + x6 * 1099511627776 + x7 * 281474976710656 + x8 * 72057594037927936 + x9 * 18446744073709551616 + x10 * 4722366482869645213696 + x11 * 1208925819614629174706176 + x12 * 309485009821345068724781056 + x13 * 79228162514264337593543950336 + x14 * 20282409603651670423947251286016 + x15 * 5192296858534827628530496329220096) * 256 + x0 = omega arith in

@@ -1,5 +1,5 @@
 -- What fits is a rectangle that can be made.
-use Rattle.std.proofs.Common.{◌≡◌, ℤ, pos, ◌+ℤ◌, ◌-ℤ◌, ◌≤ℤ◌, int_lt, Bool, true, false, ◌&&◌, ◌||◌, inl, inr, refl, arith, w32, to_z, of_z, SFits}
+use Rattle.std.proofs.Common.{◌≡◌, ℤ, pos, ◌+ℤ◌, ◌-ℤ◌, ◌≤ℤ◌, int_lt, Bool, true, false, ◌&&◌, inl, inr, arith, w32, to_z, of_z, SFits}
 use Rattle.std.proofs.lemmas.Bool.{and_parts, or_cases}
 use Rattle.std.proofs.lemmas.Int.{ints, to_z-of_z}
 use Rattle.vz_geom.specs.Rectangle.{Rectangle, with_sides, edge_limit}
@@ -77,11 +77,11 @@ pub has_room : (x y w h : ℤ) → fits_rect (rectangle x y w h) ≡ true → Ha
 has_room x y w h fits =
     elim (or_cases (is_zero x && is_zero y && is_zero w && is_zero h) (in_reach x && in_reach y && is_side w && is_side h) fits) [
       | inl none ↦
-        let e = four (is_zero x) (is_zero y) (is_zero w) (is_zero h) none in
-        zero_room x y w h (zero_is x e.0) (zero_is y e.1) (zero_is w e.2) (zero_is h e.3)
+          let e = four (is_zero x) (is_zero y) (is_zero w) (is_zero h) none in
+          zero_room x y w h (zero_is x e.0) (zero_is y e.1) (zero_is w e.2) (zero_is h e.3)
       | inr some ↦
-        let e = four (in_reach x) (in_reach y) (is_side w) (is_side h) some in
-        place_room x y w h e.0 e.1 e.2 e.3
+          let e = four (in_reach x) (in_reach y) (is_side w) (is_side h) some in
+          place_room x y w h e.0 e.1 e.2 e.3
     ]
 
 -- what is made of numbers that were passed on

@@ -1,5 +1,5 @@
 -- What follows for the parts where a reading in steps was right.
-use Rattle.std.proofs.Common.{◌≡◌, ℕ, zero, suc, ◌+◌, ◌-◌, ◌≤◌, ◌<◌, Bool, true, false, List, [], ◌∷◌, length, Result, Ok, Err, refl, ap, ◌∙◌, sym, arith, subst}
+use Rattle.std.proofs.Common.{◌≡◌, ℕ, zero, suc, ◌-◌, ◌≤◌, ◌<◌, Bool, true, false, List, [], ◌∷◌, length, Result, Ok, Err, refl, ap, ◌∙◌, sym, arith, subst}
 use Rattle.std.specs.Int.{Width, w16, w32}
 use Rattle.std.proofs.lemmas.Bool.{and_parts, leb-true}
 use Rattle.vz_frame.specs.Fits.{within}

@@ -1,28 +1,24 @@
 -- Frames that are read are spelled so, and fit.
-use Rattle.std.proofs.Common.{◌≡◌, ℕ, zero, suc, ◌+◌, ◌-◌, ◌^◌, ◌≤◌, Bool, true, false, not, ◌&&◌, ◌||◌, ◌==◌, cond, leb, ltb, eqb, List, [], ◌∷◌, ◌++◌, length, sum_by, Option, Some, None, Result, Ok, Err, refl, sym, ap, subst, ◌∙◌, append_assoc, arith, inl, inr}
+use Rattle.std.proofs.Common.{◌≡◌, ℕ, zero, suc, ◌+◌, ◌-◌, ◌^◌, ◌≤◌, Bool, true, false, ◌&&◌, ◌||◌, cond, leb, ltb, eqb, List, [], ◌∷◌, ◌++◌, length, sum_by, Option, Some, None, Ok, refl, sym, ap, subst, ◌∙◌, arith, inl, inr}
 use Rattle.std.specs.List.{list_all, flat_map}
-use Rattle.std.specs.Int.{w8, w16, w32}
-use Rattle.std.proofs.lemmas.Bool.{and_parts, and_from, leb-true, le-leb, or_cases, eqb-true}
+use Rattle.std.proofs.lemmas.Bool.{and_parts, and_from, le-leb, or_cases, eqb-true}
 use Rattle.std.proofs.lemmas.List.Sums.{sum_by-cons}
 use Rattle.vz_frame.specs.declared.frame.CompositorFrame.{CompositorFrame}
 use Rattle.vz_frame.specs.declared.frame.Metadata.{Metadata}
-use Rattle.vz_frame.specs.declared.frame.Listing.{Listing}
 use Rattle.vz_frame.specs.declared.frame.RenderPass.{RenderPass}
-use Rattle.vz_frame.specs.declared.frame.DrawQuad.{DrawQuad}
 use Rattle.vz_frame.specs.declared.frame.Blend.{Blend}
-use Rattle.vz_frame.specs.declared.frame.Blend.TheVariants.{Over, Src, DstIn}
+use Rattle.vz_frame.specs.declared.frame.Blend.TheVariants.{Over}
 use Rattle.vz_frame.specs.declared.frame.Material.{Material}
 use Rattle.vz_frame.specs.declared.frame.Material.TheVariants as material
-use Rattle.vz_frame.specs.Fits.{within, in_reach, fits_rect, is_number, fits_surface, fits_optional, fits_range, fits_colour, fits_material, fits_mode, fits_quad, fits_pass, fits_listing, fits_frame}
+use Rattle.vz_frame.specs.Fits.{within, is_number, fits_surface, fits_optional, fits_range, fits_colour, fits_material, fits_mode, fits_quad, fits_pass, fits_listing, fits_frame}
 use Rattle.vz_codec.specs.declared.fault.FileRule.TheVariants as fault
 use Rattle.vz_codec.specs.Spelling.{u8_bytes, u16_bytes, u32_bytes, material_bytes, mode_bytes, quad_bytes, pass_bytes, listing_bytes, deadline_bytes, counted_bytes, frame_bytes, surface_bytes, range_bytes}
-use Rattle.vz_codec.specs.Reading.{Fault, Read, ◌>>=◌, number_at, tag_at, tile_at, embedding_at, material_by, material_at, mode_of, mode_at, quad_at, pass_at, passes_at, listing_at, deadline_at, metadata_at, frame_at, many_at, limited_at}
+use Rattle.vz_codec.specs.Reading.{◌>>=◌, tag_at, tile_at, embedding_at, material_by, material_at, mode_of, mode_at, quad_at, pass_at, passes_at, listing_at, deadline_at, metadata_at, frame_at}
 use Rattle.vz_codec.proofs.Numbers.{IsBytes, Took, also}
-use Rattle.vz_codec.proofs.Steps.{bind_ok, tested_ok, ok_is, done, many_length, pass_room}
+use Rattle.vz_codec.proofs.Steps.{bind_ok, tested_ok, ok_is, many_length, pass_room}
 use Rattle.vz_codec.proofs.Taken.{Taking, step, from_step, finish, judged, nothing, in_range, numbers32, bytes8, limited8, limited16, limited32, tags, coordinates, surfaces, ranges, rects, colours, optionals, many, counted, fits_counted}
 
 -- ---- materials
-
 
 -- a front with a tag, and the material of the tag
 record Tagged (front : List ℕ) (tag : ℕ) (bytes : List ℕ) : Type 0 where
@@ -68,9 +64,11 @@ by_tag (suc (suc (suc (suc (suc n))))) front bytes x tag e = let few = in_range 
 
 pub materials : Taking material_at material_bytes fits_material
 unfolding material_at
-materials = record { law = λ bytes x fits e.
-    let tag = step (tags 1 4) bytes _ x fits e in
-    by_tag tag.value.0 bytes tag.value.1 x (record { took = tag.took }) tag.next }
+materials = record {
+  law = λ bytes x fits e.
+      let tag = step (tags 1 4) bytes _ x fits e in
+      by_tag tag.value.0 bytes tag.value.1 x (record { took = tag.took }) tag.next;
+}
 
 -- ---- quads
 
@@ -95,40 +93,46 @@ modes format = record { law = λ bytes x fits e. modes_by format (eqb format 1) 
 
 pub quads : (format : ℕ) → Taking (quad_at format) (quad_bytes format) (fits_quad format)
 unfolding quad_at quad_bytes fits_quad
-quads format = record { law = λ bytes x fits e.
-    from_step coordinates bytes _ x fits e (λ left t0 e0.
-    from_step coordinates left.1 _ x t0.rest_fits e0 (λ top t1 e1.
-    from_step rects top.1 _ x t1.rest_fits e1 (λ area t2 e2.
-    from_step rects area.1 _ x t2.rest_fits e2 (λ visible t3 e3.
-    from_step (optionals rects) visible.1 _ x t3.rest_fits e3 (λ clip t4 e4.
-    from_step bytes8 clip.1 _ x t4.rest_fits e4 (λ opacity t5 e5.
-    from_step (modes format) opacity.1 _ x t5.rest_fits e5 (λ mode t6 e6.
-    from_step materials mode.1 _ x t6.rest_fits e6 (λ matter t7 e7.
-    finish (quad_bytes format) (fits_quad format) e7 (also (also (also (also (also (also (also t0 t1) t2) t3) t4) t5) t6) t7))))))))) }
+quads format = record {
+  law = λ bytes x fits e.
+      from_step coordinates bytes _ x fits e (λ left t0 e0.
+      from_step coordinates left.1 _ x t0.rest_fits e0 (λ top t1 e1.
+      from_step rects top.1 _ x t1.rest_fits e1 (λ area t2 e2.
+      from_step rects area.1 _ x t2.rest_fits e2 (λ visible t3 e3.
+      from_step (optionals rects) visible.1 _ x t3.rest_fits e3 (λ clip t4 e4.
+      from_step bytes8 clip.1 _ x t4.rest_fits e4 (λ opacity t5 e5.
+      from_step (modes format) opacity.1 _ x t5.rest_fits e5 (λ mode t6 e6.
+      from_step materials mode.1 _ x t6.rest_fits e6 (λ matter t7 e7.
+      finish (quad_bytes format) (fits_quad format) e7 (also (also (also (also (also (also (also t0 t1) t2) t3) t4) t5) t6) t7)))))))));
+}
 
 -- ---- passes
 
 pub passes_one : (format before : ℕ) → Taking (pass_at format before) (pass_bytes format) (fits_pass format)
 unfolding pass_at pass_bytes fits_pass
-passes_one format before = record { law = λ bytes x fits e.
-    from_step numbers32 bytes _ x fits e (λ id t0 e0.
-    from_step rects id.1 _ x t0.rest_fits e0 (λ output t1 e1.
-    from_step rects output.1 _ x t1.rest_fits e1 (λ damage t2 e2.
-    from_step (limited16 0 (1024 - before)) damage.1 _ x t2.rest_fits e2 (λ n t3 e3.
-    let inner = step (many (quads format) n.0) n.1 _ x t3.rest_fits e3 in
-    let len : length inner.value.0 ≡ n.0 = many_length (quad_at format) n.0 n.1 inner.value inner.given in
-    let count : Took damage.1 (u16_bytes (length inner.value.0)) n.1 (within 0 (1024 - before) n.0) = subst (λ (k : ℕ). Took damage.1 (u16_bytes k) n.1 (within 0 (1024 - before) n.0)) (sym len) t3 in
-    let front = also (also t0 t1) t2 in
-    let fit = and_from _ _ front.fits inner.took.fits in
-    finish (pass_bytes format) (fits_pass format) inner.next (judged _ fit (also (also front count) inner.took)))))) }
+passes_one format before = record {
+  law = λ bytes x fits e.
+      from_step numbers32 bytes _ x fits e (λ id t0 e0.
+      from_step rects id.1 _ x t0.rest_fits e0 (λ output t1 e1.
+      from_step rects output.1 _ x t1.rest_fits e1 (λ damage t2 e2.
+      from_step (limited16 0 (1024 - before)) damage.1 _ x t2.rest_fits e2 (λ n t3 e3.
+      let inner = step (many (quads format) n.0) n.1 _ x t3.rest_fits e3 in
+      let len : length inner.value.0 ≡ n.0 = many_length (quad_at format) n.0 n.1 inner.value inner.given in
+      let count : Took damage.1 (u16_bytes (length inner.value.0)) n.1 (within 0 (1024 - before) n.0) = subst (λ (k : ℕ). Took damage.1 (u16_bytes k) n.1 (within 0 (1024 - before) n.0)) (sym len) t3 in
+      let front = also (also t0 t1) t2 in
+      let fit = and_from _ _ front.fits inner.took.fits in
+      finish (pass_bytes format) (fits_pass format) inner.next (judged _ fit (also (also front count) inner.took))))));
+}
 
 pub passes : (format n before : ℕ) → Taking (passes_at format n before) (flat_map (pass_bytes format)) (list_all (fits_pass format))
 unfolding passes_at
 passes format zero before = record { law = λ bytes x fits e. finish (flat_map (pass_bytes format)) (list_all (fits_pass format)) e (nothing bytes fits) }
-passes format (suc n) before = record { law = λ bytes x fits e.
-    from_step (passes_one format before) bytes _ x fits e (λ pass t0 e0.
-    from_step (passes format n (before + length pass.0.quads)) pass.1 _ x t0.rest_fits e0 (λ rest t1 e1.
-    finish (flat_map (pass_bytes format)) (list_all (fits_pass format)) e1 (also t0 t1))) }
+passes format (suc n) before = record {
+  law = λ bytes x fits e.
+      from_step (passes_one format before) bytes _ x fits e (λ pass t0 e0.
+      from_step (passes format n (before + length pass.0.quads)) pass.1 _ x t0.rest_fits e0 (λ rest t1 e1.
+      finish (flat_map (pass_bytes format)) (list_all (fits_pass format)) e1 (also t0 t1)));
+}
 
 passes_length : (format n before : ℕ) (bytes : List ℕ) (x : List RenderPass × List ℕ) → passes_at format n before bytes ≡ Ok x → length x.0 ≡ n
 unfolding passes_at
@@ -159,11 +163,13 @@ passes_sum format (suc n) before bytes x few e =
 
 pub listings : Taking listing_at listing_bytes fits_listing
 unfolding listing_at
-listings = record { law = λ bytes x fits e.
-    from_step (limited32 1 (2 ^ 32 - 1)) bytes _ x fits e (λ id t0 e0.
-    from_step (limited16 1 256) id.1 _ x t0.rest_fits e0 (λ w t1 e1.
-    from_step (limited16 1 256) w.1 _ x t1.rest_fits e1 (λ h t2 e2.
-    finish listing_bytes fits_listing e2 (also (also t0 t1) t2)))) }
+listings = record {
+  law = λ bytes x fits e.
+      from_step (limited32 1 (2 ^ 32 - 1)) bytes _ x fits e (λ id t0 e0.
+      from_step (limited16 1 256) id.1 _ x t0.rest_fits e0 (λ w t1 e1.
+      from_step (limited16 1 256) w.1 _ x t1.rest_fits e1 (λ h t2 e2.
+      finish listing_bytes fits_listing e2 (also (also t0 t1) t2))));
+}
 
 abbrev fits_deadline : Option ℕ → Bool
 fits_deadline d = fits_optional (λ n. leb n 64) d
@@ -178,11 +184,13 @@ deadline_by n false h k =
 
 deadlines : Taking deadline_at deadline_bytes fits_deadline
 unfolding deadline_at
-deadlines = record { law = λ bytes x fits e.
-    from_step bytes8 bytes _ x fits e (λ n t0 e0.
-    let test = tested_ok bytes fault.Limit (leb n.0 64 || eqb n.0 255) (Ok (cond (eqb n.0 255) None (Some n.0), n.1)) x e0 in
-    let one = deadline_by n.0 (eqb n.0 255) refl test.0 in
-    finish deadline_bytes fits_deadline test.1 (judged _ one.1 (subst (λ (text : List ℕ). Took bytes text n.1 (ltb n.0 256)) (sym one.0) t0))) }
+deadlines = record {
+  law = λ bytes x fits e.
+      from_step bytes8 bytes _ x fits e (λ n t0 e0.
+      let test = tested_ok bytes fault.Limit (leb n.0 64 || eqb n.0 255) (Ok (cond (eqb n.0 255) None (Some n.0), n.1)) x e0 in
+      let one = deadline_by n.0 (eqb n.0 255) refl test.0 in
+      finish deadline_bytes fits_deadline test.1 (judged _ one.1 (subst (λ (text : List ℕ). Took bytes text n.1 (ltb n.0 256)) (sym one.0) t0)));
+}
 
 abbrev metadata_bytes : Metadata → List ℕ
 metadata_bytes m =
@@ -194,13 +202,15 @@ fits_metadata m =
 
 metadatas : Taking metadata_at metadata_bytes fits_metadata
 unfolding metadata_at
-metadatas = record { law = λ bytes x fits e.
-    from_step numbers32 bytes _ x fits e (λ token t0 e0.
-    from_step numbers32 token.1 _ x t0.rest_fits e0 (λ ack t1 e1.
-    from_step deadlines ack.1 _ x t1.rest_fits e1 (λ deadline t2 e2.
-    from_step (counted surfaces 16) deadline.1 _ x t2.rest_fits e2 (λ dependencies t3 e3.
-    from_step (counted ranges 64) dependencies.1 _ x t3.rest_fits e3 (λ references t4 e4.
-    finish metadata_bytes fits_metadata e4 (also (also (also (also t0 t1) t2) t3) t4)))))) }
+metadatas = record {
+  law = λ bytes x fits e.
+      from_step numbers32 bytes _ x fits e (λ token t0 e0.
+      from_step numbers32 token.1 _ x t0.rest_fits e0 (λ ack t1 e1.
+      from_step deadlines ack.1 _ x t1.rest_fits e1 (λ deadline t2 e2.
+      from_step (counted surfaces 16) deadline.1 _ x t2.rest_fits e2 (λ dependencies t3 e3.
+      from_step (counted ranges 64) dependencies.1 _ x t3.rest_fits e3 (λ references t4 e4.
+      finish metadata_bytes fits_metadata e4 (also (also (also (also t0 t1) t2) t3) t4))))));
+}
 
 regrouped : (a b c d e f g h i j k l : Bool) → (a && b && c && (d && e) && (f && g)) ≡ true → (h && i) ≡ true → j ≡ true → k ≡ true → l ≡ true → (a && b && c && d && e && f && g && h && i && j && k && l) ≡ true
 regrouped a b c d e f g h i j k l m r n q p =
@@ -223,17 +233,19 @@ frame_fits format f m r n q p =
 
 pub frames : (format : ℕ) → Taking (frame_at format) (frame_bytes format) (fits_frame format)
 unfolding frame_at frame_bytes
-frames format = record { law = λ bytes x fits e.
-    from_step metadatas bytes _ x fits e (λ metadata t0 e0.
-    from_step (counted listings 64) metadata.1 _ x t0.rest_fits e0 (λ resources t1 e1.
-    from_step (limited8 0 16) resources.1 _ x t1.rest_fits e1 (λ n t2 e2.
-    let inner = step (passes format n.0 0) n.1 _ x t2.rest_fits e2 in
-    let len = passes_length format n.0 0 n.1 inner.value inner.given in
-    let sum = passes_sum format n.0 0 n.1 inner.value (omega arith) inner.given in
-    let count : Took resources.1 (u8_bytes (length inner.value.0)) n.1 (within 0 16 n.0) = subst (λ (k : ℕ). Took resources.1 (u8_bytes k) n.1 (within 0 16 n.0)) (sym len) t2 in
-    let least = in_range 0 16 n.0 t2.fits in
-    let few : leb (length inner.value.0) 16 ≡ true = le-leb _ _ (omega (arith, least.1, len)) in
-    let sum_fits : leb (quad_count inner.value.0) 1024 ≡ true = le-leb _ _ (omega (arith, sum)) in
-    let made : CompositorFrame = record { metadata = metadata.0; resources = resources.0; passes = inner.value.0 } in
-    let fit = frame_fits format made t0.fits t1.fits few sum_fits inner.took.fits in
-    finish (frame_bytes format) (fits_frame format) inner.next (judged (fits_frame format made) fit (also (also t0 t1) (also count inner.took)))))) }
+frames format = record {
+  law = λ bytes x fits e.
+      from_step metadatas bytes _ x fits e (λ metadata t0 e0.
+      from_step (counted listings 64) metadata.1 _ x t0.rest_fits e0 (λ resources t1 e1.
+      from_step (limited8 0 16) resources.1 _ x t1.rest_fits e1 (λ n t2 e2.
+      let inner = step (passes format n.0 0) n.1 _ x t2.rest_fits e2 in
+      let len = passes_length format n.0 0 n.1 inner.value inner.given in
+      let sum = passes_sum format n.0 0 n.1 inner.value (omega arith) inner.given in
+      let count : Took resources.1 (u8_bytes (length inner.value.0)) n.1 (within 0 16 n.0) = subst (λ (k : ℕ). Took resources.1 (u8_bytes k) n.1 (within 0 16 n.0)) (sym len) t2 in
+      let least = in_range 0 16 n.0 t2.fits in
+      let few : leb (length inner.value.0) 16 ≡ true = le-leb _ _ (omega (arith, least.1, len)) in
+      let sum_fits : leb (quad_count inner.value.0) 1024 ≡ true = le-leb _ _ (omega (arith, sum)) in
+      let made : CompositorFrame = record { metadata = metadata.0; resources = resources.0; passes = inner.value.0 } in
+      let fit = frame_fits format made t0.fits t1.fits few sum_fits inner.took.fits in
+      finish (frame_bytes format) (fits_frame format) inner.next (judged (fits_frame format made) fit (also (also t0 t1) (also count inner.took))))));
+}

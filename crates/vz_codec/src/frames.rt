@@ -6,8 +6,8 @@ ghost use Rattle.vz_codec.specs.Reading.{many_at, tile_at, embedding_at, materia
 use crate::error::ReadError;
 use crate::fault::FileRule;
 use crate::field::{Field, counted, many, optional};
-use crate::reader::Reader;
 use crate::parts::{Ranges, Rects, Surfaces, read_colour, read_range, read_rect};
+use crate::reader::Reader;
 use std::alloc::Global;
 use vz_frame::{Blend, CompositorFrame, DrawQuad, List, Listing, Material, Metadata, RenderPass};
 use vz_geom::Point;

@@ -30,7 +30,12 @@ pub fn read_file(alloc: Global, bytes: &[u8]) -> Result<ClientFile, ReadError>
     let format = read_version(&mut input)?;
     let sink = read_header(&mut input)?;
     let count = input.u32_within(0, MOST_MESSAGES)?;
-    let messages = many(alloc, &Messages { alloc, format }, count as usize, &mut input)?;
+    let messages = many(
+        alloc,
+        &Messages { alloc, format },
+        count as usize,
+        &mut input,
+    )?;
     let file = ClientFile {
         format,
         sink,
@@ -40,7 +45,7 @@ pub fn read_file(alloc: Global, bytes: &[u8]) -> Result<ClientFile, ReadError>
 }
 
 /// The file, where no byte is left.
-#[tactic(auto, using(crate::proofs::Steps::ended_there, crate::proofs::Steps::ended_before, crate::proofs::Taken_frames::frames))]
+#[tactic(auto, using(crate::proofs::Steps::ended_there, crate::proofs::Steps::ended_before))]
 fn ended(file: ClientFile, input: &Reader) -> Result<ClientFile, ReadError>
     ensures { Gives (λ f. f) result (ended (file, input.now)) }
 {

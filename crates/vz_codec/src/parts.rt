@@ -140,7 +140,6 @@ pub fn read_range(input: &mut Reader) -> Result<SurfaceRange, ReadError>
     Ok(SurfaceRange { start, end })
 }
 
-
 #[derive(Drop)]
 pub struct Surfaces;
 

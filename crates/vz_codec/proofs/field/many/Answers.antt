@@ -1,4 +1,3 @@
-use Rattle.std.proofs.Common.{◌≡◌, ◌++◌, ◌∷◌, []}
 use Rattle.std.proofs.lemmas.Result.{err_from_is_err_and}
 use Rattle.vz_codec.specs.Reading.{many_at}
 use Rattle.vz_codec.proofs.Loop.{goes_on, ends, is_done}

@@ -1,4 +1,4 @@
-use Rattle.std.proofs.Common.{◌≡◌, ◌*◌, length, ap, ◌∙◌, arith}
+use Rattle.std.proofs.Common.{◌≡◌, ◌*◌, length, arith}
 use Rattle.std.specs.Int.{w16}
 use Rattle.vz_codec.specs.Reading.{colour_at}
 use Rattle.vz_codec.proofs.Steps.{limited_ok, many_length}

@@ -1,9 +1,7 @@
-use Rattle.std.proofs.Common.{◌≡◌, true, w32, to_z, of_z, SFits, rules, sym, ◌∙◌}
-use Rattle.std.proofs.lemmas.Int.{to_z-of_z}
-use Rattle.vz_geom.specs.Rectangle.{with_sides}
+use Rattle.std.proofs.Common.{◌≡◌, true, rules, sym, ◌∙◌}
 use Rattle.vz_frame.specs.Fits.{fits_rect}
 use Rattle.vz_codec.specs.Sides.{rectangle}
-use Rattle.vz_codec.proofs.Rects.{has_room, made}
+use Rattle.vz_codec.proofs.Rects.{made}
 use Rattle.vz_codec.proofs.parts.rect_of.Goals as goal
 
 pub returns-then-fits-clause-value : goal.returns-then-fits-clause-value
