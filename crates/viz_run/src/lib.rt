@@ -1,6 +1,8 @@
 //! The display compositor's one public call.
 #![tactic(auto)]
 
+mod input;
 mod narrow;
 mod paint;
+mod stop;
 mod words;
