@@ -1,3 +1,4 @@
 mod Numbers
 mod Lines
 mod Rows
+mod Displays

@@ -2,6 +2,7 @@
 #![tactic(auto)]
 
 mod input;
+mod machine;
 mod narrow;
 mod paint;
 mod stop;
