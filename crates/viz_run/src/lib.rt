@@ -4,6 +4,7 @@
 mod input;
 mod machine;
 mod narrow;
+mod output;
 mod paint;
 mod stop;
 mod words;
