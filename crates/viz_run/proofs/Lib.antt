@@ -1,4 +1,4 @@
 mod Numbers
-mod Lines
+mod Spelled
 mod Rows
 mod Displays

@@ -2,3 +2,5 @@ pub mod Words
 pub mod Files
 pub mod Ends
 pub mod Entries
+pub mod Lines
+pub mod Headline

@@ -2,6 +2,7 @@
 #![tactic(auto)]
 
 mod input;
+mod lines;
 mod machine;
 mod narrow;
 mod output;

@@ -9,6 +9,8 @@ use vz_pixels::Memory;
 /// Why a run stops before its end.
 #[derive(Clone, Copy, Debug, PartialEq, Eq)]
 pub enum Stop {
+    /// The words are those of no command.
+    Words,
     /// A file, by its number, has something that is not built. The schedule is file 0.
     NotBuilt { file: u32 },
     /// The shelf failed, and its count of faults rose.
