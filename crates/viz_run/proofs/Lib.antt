@@ -2,3 +2,6 @@ mod Numbers
 mod Spelled
 mod Rows
 mod Displays
+mod Fitting
+mod Outs
+mod Showing

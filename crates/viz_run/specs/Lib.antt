@@ -4,3 +4,4 @@ pub mod Ends
 pub mod Entries
 pub mod Lines
 pub mod Headline
+pub mod Shown

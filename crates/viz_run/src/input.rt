@@ -67,7 +67,7 @@ fn read_file<F: Shelf>(
 pub fn accepted_file(alloc: Global, inputs: &Inputs) -> Result<ClientFile, Stop>
     ensures spelled { IfOk result (λ file. Spells inputs.now.file.items file) }
     ensures narrow { IfOk result (λ file. IsTrue (is_narrow file)) }
-    ensures whole { OnOk result (vec_len inputs.now.file ≤ 166) }
+    ensures whole { OnOk result (length inputs.now.file.items ≤ 166) }
     ensures schedule { OnOk result (inputs.now.schedule.items ≡ narrow_schedule) }
 {
     if inputs.file.len() > FILE_LIMIT {

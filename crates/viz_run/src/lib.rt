@@ -7,5 +7,8 @@ mod machine;
 mod narrow;
 mod output;
 mod paint;
+mod run;
 mod stop;
 mod words;
+
+pub use run::{Run, viz};

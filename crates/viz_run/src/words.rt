@@ -9,6 +9,7 @@ ghost use Rattle.vz_frame.specs.Fits.{within};
 ghost use Rattle.viz_run.specs.Words.{texts, command_of, is_plain, IsNoStep};
 
 /// The words of `step` with one client file: the sides of the display in pixels, and the names.
+#[derive(Clone, Copy)]
 pub struct StepWords<'a> {
     pub width: u32,
     pub height: u32,
