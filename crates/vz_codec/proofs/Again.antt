@@ -203,3 +203,9 @@ colours = record { law = λ c rest h.
     (next bytes8 c.b (c.a ∷ rest) _ _ (omega arith)
     (next bytes8 c.a rest _ _ most
     (test_good (colour_bytes c ++ rest) fault.Colour (leb c.r c.a && leb c.g c.a && leb c.b c.a) (Ok (c, rest)) least)))) }
+
+pub row_5 : (a b c d e r : List ℕ) → (a ++ b ++ c ++ d ++ e) ++ r ≡ a ++ (b ++ (c ++ (d ++ (e ++ r))))
+row_5 a b c d e r = simp append_assoc
+
+pub row_8 : (a b c d e f g h r : List ℕ) → (a ++ b ++ c ++ d ++ e ++ f ++ g ++ h) ++ r ≡ a ++ (b ++ (c ++ (d ++ (e ++ (f ++ (g ++ (h ++ r)))))))
+row_8 a b c d e f g h r = simp append_assoc

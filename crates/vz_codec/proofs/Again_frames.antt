@@ -19,7 +19,7 @@ use Rattle.vz_codec.specs.Spelling.{u8_bytes, u16_bytes, u32_bytes, i32_bytes, r
 use Rattle.vz_codec.specs.Reading.{Fault, Read, ◌>>=◌, number_at, tag_at, tile_at, embedding_at, material_by, material_at, mode_of, mode_at, quad_at, pass_at, passes_at, listing_at, deadline_at, metadata_at, frame_at, many_at, limited_at}
 use Rattle.vz_codec.proofs.Taken.{fits_counted}
 use Rattle.vz_codec.proofs.Taken_frames.{quad_count, metadata_bytes, fits_metadata, fits_deadline}
-use Rattle.vz_codec.proofs.Again.{Again, next, test_good, row_2, row_3, row_4, numbers32, bytes8, limited8, limited16, limited32, tags, coordinates, surfaces, ranges, rects, colours, optionals, many_again, counted, up_to}
+use Rattle.vz_codec.proofs.Again.{Again, next, test_good, row_2, row_3, row_4, row_5, row_8, numbers32, bytes8, limited8, limited16, limited32, tags, coordinates, surfaces, ranges, rects, colours, optionals, many_again, counted, up_to}
 
 -- ---- materials
 
@@ -45,3 +45,50 @@ material_law (material.Pass id) rest h = next (tags 1 4 (omega arith)) 4 (u32_by
 
 pub materials : Again material_at material_bytes (λ m. fits_material m ≡ true)
 materials = record { law = material_law }
+
+-- ---- quads
+
+mode_law : (format : ℕ) (b : Bool) → eqb format 1 ≡ b → (m : Blend) (rest : List ℕ) → fits_mode format m ≡ true → mode_at format (mode_bytes format m ++ rest) ≡ Ok (m, rest)
+unfolding mode_at
+mode_law format true first Over rest h = rw first refl
+mode_law format true first Src rest h = let none : false ≡ true = rw first at h in absurd (cc none)
+mode_law format true first DstIn rest h = let none : false ≡ true = rw first at h in absurd (cc none)
+mode_law format false first Over rest h = rw first (next (tags 0 2 (omega arith)) 0 rest _ _ refl refl)
+mode_law format false first Src rest h = rw first (next (tags 0 2 (omega arith)) 1 rest _ _ refl refl)
+mode_law format false first DstIn rest h = rw first (next (tags 0 2 (omega arith)) 2 rest _ _ refl refl)
+
+pub modes : (format : ℕ) → Again (mode_at format) (mode_bytes format) (λ m. fits_mode format m ≡ true)
+modes format = record { law = λ m rest h. mode_law format (eqb format 1) refl m rest h }
+
+quad_row : (format : ℕ) (q : DrawQuad) (rest : List ℕ) → in_reach q.offset.x ≡ true → in_reach q.offset.y ≡ true → fits_rect q.area ≡ true → fits_rect q.visible ≡ true → fits_optional fits_rect q.clip ≡ true → q.opacity < 256 → fits_mode format q.blend ≡ true → fits_material q.material ≡ true
+    → quad_at format (i32_bytes q.offset.x ++ (i32_bytes q.offset.y ++ (rect_bytes q.area ++ (rect_bytes q.visible ++ (optional_bytes rect_bytes q.clip ++ (u8_bytes q.opacity ++ (mode_bytes format q.blend ++ (material_bytes q.material ++ rest)))))))) ≡ Ok (q, rest)
+unfolding quad_at
+quad_row format q rest left top area visible clip opacity mode matter =
+    next coordinates q.offset.x _ _ _ left
+    (next coordinates q.offset.y _ _ _ top
+    (next rects q.area _ _ _ area
+    (next rects q.visible _ _ _ visible
+    (next (optionals rects) q.clip _ _ _ clip
+    (next bytes8 q.opacity _ _ _ opacity
+    (next (modes format) q.blend _ _ _ mode
+    (next materials q.material rest _ _ matter refl)))))))
+
+-- a quad's tests apart
+quad_tests : (a b c d e f g h : Bool) {R : Type 0} → (a && b && c && d && e && f && g && h) ≡ true → (a ≡ true → b ≡ true → c ≡ true → d ≡ true → e ≡ true → f ≡ true → g ≡ true → h ≡ true → R) → R
+quad_tests a b c d e f g h fits then =
+    let t7 = and_parts (a && b && c && d && e && f && g) h fits in
+    let t6 = and_parts (a && b && c && d && e && f) g t7.0 in
+    let t5 = and_parts (a && b && c && d && e) f t6.0 in
+    let t4 = and_parts (a && b && c && d) e t5.0 in
+    let t3 = and_parts (a && b && c) d t4.0 in
+    let t2 = and_parts (a && b) c t3.0 in
+    let t1 = and_parts a b t2.0 in
+    then t1.0 t1.1 t2.1 t3.1 t4.1 t5.1 t6.1 t7.1
+
+pub quads : (format : ℕ) → Again (quad_at format) (quad_bytes format) (λ q. fits_quad format q ≡ true)
+unfolding quad_bytes fits_quad
+quads format = record { law = λ q rest fits.
+    quad_tests (in_reach q.offset.x) (in_reach q.offset.y) (fits_rect q.area) (fits_rect q.visible) (fits_optional fits_rect q.clip) (ltb q.opacity 256) (fits_mode format q.blend) (fits_material q.material) fits
+    (λ left top area visible clip opacity mode matter.
+    ap (quad_at format) (row_8 (i32_bytes q.offset.x) (i32_bytes q.offset.y) (rect_bytes q.area) (rect_bytes q.visible) (optional_bytes rect_bytes q.clip) (u8_bytes q.opacity) (mode_bytes format q.blend) (material_bytes q.material) rest)
+    ∙ quad_row format q rest left top area visible clip (ltb-true q.opacity 256 opacity) mode matter) }
