@@ -92,3 +92,117 @@ quads format = record { law = λ q rest fits.
     (λ left top area visible clip opacity mode matter.
     ap (quad_at format) (row_8 (i32_bytes q.offset.x) (i32_bytes q.offset.y) (rect_bytes q.area) (rect_bytes q.visible) (optional_bytes rect_bytes q.clip) (u8_bytes q.opacity) (mode_bytes format q.blend) (material_bytes q.material) rest)
     ∙ quad_row format q rest left top area visible clip (ltb-true q.opacity 256 opacity) mode matter) }
+
+-- ---- passes
+
+pass_row : (format before : ℕ) (p : RenderPass) (rest : List ℕ) → is_number p.id ≡ true → fits_rect p.output ≡ true → fits_rect p.damage ≡ true → list_all (fits_quad format) p.quads ≡ true → length p.quads ≤ 1024 - before
+    → pass_at format before (u32_bytes p.id ++ (rect_bytes p.output ++ (rect_bytes p.damage ++ (u16_bytes (length p.quads) ++ (flat_map (quad_bytes format) p.quads ++ rest))))) ≡ Ok (p, rest)
+unfolding pass_at
+pass_row format before p rest id shown damage all few =
+    next numbers32 p.id _ _ _ id
+    (next rects p.output _ _ _ shown
+    (next rects p.damage _ _ _ damage
+    (next (limited16 0 (1024 - before) (omega arith)) (length p.quads) _ _ _ (up_to (1024 - before) (length p.quads) (le-leb _ _ few))
+    (rw (many_again (quads format) p.quads rest all) refl))))
+
+pass_law : (format before : ℕ) (p : RenderPass) (rest : List ℕ) → fits_pass format p ≡ true → length p.quads ≤ 1024 - before → pass_at format before (pass_bytes format p ++ rest) ≡ Ok (p, rest)
+unfolding pass_bytes fits_pass
+pass_law format before p rest fits few =
+    let t3 = and_parts (is_number p.id && fits_rect p.output && fits_rect p.damage) (list_all (fits_quad format) p.quads) fits in
+    let t2 = and_parts (is_number p.id && fits_rect p.output) (fits_rect p.damage) t3.0 in
+    let t1 = and_parts (is_number p.id) (fits_rect p.output) t2.0 in
+    ap (pass_at format before) (row_5 (u32_bytes p.id) (rect_bytes p.output) (rect_bytes p.damage) (u16_bytes (length p.quads)) (flat_map (quad_bytes format) p.quads) rest)
+    ∙ pass_row format before p rest t1.0 t1.1 t2.1 t3.1 few
+
+quads_of_first : (before : ℕ) (p : RenderPass) (ps : List RenderPass) → before + quad_count (p ∷ ps) ≤ 1024 → before + length p.quads + quad_count ps ≤ 1024
+quads_of_first before p ps h = omega (arith, sum_by-cons (λ (q : RenderPass). length q.quads) p ps)
+
+passes_again : (format before : ℕ) (ps : List RenderPass) (rest : List ℕ) → list_all (fits_pass format) ps ≡ true → before + quad_count ps ≤ 1024 → passes_at format (length ps) before (flat_map (pass_bytes format) ps ++ rest) ≡ Ok (ps, rest)
+unfolding passes_at
+passes_again format before [] rest all few = refl
+passes_again format before (p ∷ ps) rest all few =
+    let both = and_parts (fits_pass format p) (list_all (fits_pass format) ps) all in
+    let more = quads_of_first before p ps few in
+    let one = pass_law format before p (flat_map (pass_bytes format) ps ++ rest) both.0 (omega (arith, more)) in
+    ap (passes_at format (suc (length ps)) before) (row_2 (pass_bytes format p) (flat_map (pass_bytes format) ps) rest)
+    ∙ rw (one, passes_again format (before + length p.quads) ps rest both.1 more) refl
+
+-- ---- frames
+
+pub listings : Again listing_at listing_bytes (λ l. fits_listing l ≡ true)
+unfolding listing_at
+listings = record { law = λ l rest h.
+    let two = and_parts (within 1 (2 ^ 32 - 1) l.id && within 1 256 l.w) (within 1 256 l.h) h in
+    let one = and_parts (within 1 (2 ^ 32 - 1) l.id) (within 1 256 l.w) two.0 in
+    ap listing_at (row_3 (u32_bytes l.id) (u16_bytes l.w) (u16_bytes l.h) rest)
+    ∙ next (limited32 1 (2 ^ 32 - 1) (omega arith)) l.id (u16_bytes l.w ++ (u16_bytes l.h ++ rest)) _ _ one.0
+    (next (limited16 1 256 (omega arith)) l.w (u16_bytes l.h ++ rest) _ _ one.1
+    (next (limited16 1 256 (omega arith)) l.h rest _ _ two.1 refl)) }
+
+few_rounds : (d : ℕ) → leb d 64 ≡ true → (d < 256) × ((leb d 64 || eqb d 255) ≡ true) × (eqb d 255 ≡ false)
+few_rounds d h =
+    let few = leb-true d 64 h in
+    (omega arith, or_left (leb d 64) (eqb d 255) h, ne_eqb d 255 (λ e. omega arith))
+
+deadline_law : (d : Option ℕ) (rest : List ℕ) → fits_deadline d ≡ true → deadline_at (deadline_bytes d ++ rest) ≡ Ok (d, rest)
+unfolding deadline_at
+deadline_law None rest h = next bytes8 255 rest _ _ (omega arith) refl
+deadline_law (Some d) rest h =
+    let few = few_rounds d h in
+    next bytes8 d rest _ _ few.0 (test_good (d ∷ rest) fault.Limit (leb d 64 || eqb d 255) (Ok (cond (eqb d 255) None (Some d), rest)) few.1 ∙ rw few.2 refl)
+
+deadlines : Again deadline_at deadline_bytes (λ d. fits_deadline d ≡ true)
+deadlines = record { law = deadline_law }
+
+metadatas : Again metadata_at metadata_bytes (λ m. fits_metadata m ≡ true)
+unfolding metadata_at
+metadatas = record { law = λ m rest h.
+    let t4 = and_parts (is_number m.token && is_number m.ack && fits_deadline m.deadline && fits_counted fits_surface 16 m.dependencies) (fits_counted fits_range 64 m.references) h in
+    let t3 = and_parts (is_number m.token && is_number m.ack && fits_deadline m.deadline) (fits_counted fits_surface 16 m.dependencies) t4.0 in
+    let t2 = and_parts (is_number m.token && is_number m.ack) (fits_deadline m.deadline) t3.0 in
+    let t1 = and_parts (is_number m.token) (is_number m.ack) t2.0 in
+    ap metadata_at (row_5 (u32_bytes m.token) (u32_bytes m.ack) (deadline_bytes m.deadline) (counted_bytes surface_bytes m.dependencies) (counted_bytes range_bytes m.references) rest)
+    ∙ next numbers32 m.token _ _ _ t1.0
+    (next numbers32 m.ack _ _ _ t1.1
+    (next deadlines m.deadline _ _ _ t2.1
+    (next (counted surfaces 16 (omega arith)) m.dependencies _ _ _ t3.1
+    (next (counted ranges 64 (omega arith)) m.references rest _ _ t4.1 refl)))) }
+
+-- the tests of a frame apart
+frame_tests : (a b c d e f g h i j k l : Bool) {R : Type 0} → (a && b && c && d && e && f && g && h && i && j && k && l) ≡ true
+    → ((a && b && c && (d && e) && (f && g)) ≡ true → (h && i) ≡ true → j ≡ true → k ≡ true → l ≡ true → R) → R
+frame_tests a b c d e f g h i j k l fits then =
+    let t11 = and_parts (a && b && c && d && e && f && g && h && i && j && k) l fits in
+    let t10 = and_parts (a && b && c && d && e && f && g && h && i && j) k t11.0 in
+    let t9 = and_parts (a && b && c && d && e && f && g && h && i) j t10.0 in
+    let t8 = and_parts (a && b && c && d && e && f && g && h) i t9.0 in
+    let t7 = and_parts (a && b && c && d && e && f && g) h t8.0 in
+    let t6 = and_parts (a && b && c && d && e && f) g t7.0 in
+    let t5 = and_parts (a && b && c && d && e) f t6.0 in
+    let t4 = and_parts (a && b && c && d) e t5.0 in
+    let t3 = and_parts (a && b && c) d t4.0 in
+    let deps = and_from d e t3.1 t4.1 in
+    let refs = and_from f g t5.1 t6.1 in
+    then (and_from (a && b && c && (d && e)) (f && g) (and_from (a && b && c) (d && e) t3.0 deps) refs) (and_from h i t7.1 t8.1) t9.1 t10.1 t11.1
+
+frame_row : (format : ℕ) (f : CompositorFrame) (rest : List ℕ) → fits_metadata f.metadata ≡ true → fits_counted fits_listing 64 f.resources ≡ true → leb (length f.passes) 16 ≡ true → leb (quad_count f.passes) 1024 ≡ true → list_all (fits_pass format) f.passes ≡ true
+    → frame_at format (metadata_bytes f.metadata ++ (counted_bytes listing_bytes f.resources ++ (u8_bytes (length f.passes) ++ (flat_map (pass_bytes format) f.passes ++ rest)))) ≡ Ok (f, rest)
+unfolding frame_at
+frame_row format f rest metadata resources few sum all =
+    next metadatas f.metadata _ _ _ metadata
+    (next (counted listings 64 (omega arith)) f.resources _ _ _ resources
+    (next (limited8 0 16 (omega arith)) (length f.passes) _ _ _ (up_to 16 (length f.passes) few)
+    (rw (passes_again format 0 f.passes rest all (omega (arith, leb-true _ _ sum))) refl)))
+
+row_frame : (a b c d r : List ℕ) → (a ++ b ++ (c ++ d)) ++ r ≡ a ++ (b ++ (c ++ (d ++ r)))
+row_frame a b c d r = simp append_assoc
+
+pub frames : (format : ℕ) → Again (frame_at format) (frame_bytes format) (λ f. fits_frame format f ≡ true)
+unfolding frame_bytes fits_frame
+frames format = record { law = λ f rest fits.
+    frame_tests (is_number f.metadata.token) (is_number f.metadata.ack) (fits_deadline f.metadata.deadline)
+    (leb (length f.metadata.dependencies) 16) (list_all fits_surface f.metadata.dependencies) (leb (length f.metadata.references) 64) (list_all fits_range f.metadata.references)
+    (leb (length f.resources) 64) (list_all fits_listing f.resources) (leb (length f.passes) 16) (leb (quad_count f.passes) 1024) (list_all (fits_pass format) f.passes) fits
+    (λ metadata resources few sum all.
+    ap (frame_at format) (row_frame (metadata_bytes f.metadata) (counted_bytes listing_bytes f.resources) (u8_bytes (length f.passes)) (flat_map (pass_bytes format) f.passes) rest)
+    ∙ frame_row format f rest metadata resources few sum all) }
