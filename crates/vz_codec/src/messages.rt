@@ -45,7 +45,7 @@ pub fn read_file(alloc: Global, bytes: &[u8]) -> Result<ClientFile, ReadError>
 }
 
 /// The file, where no byte is left.
-#[tactic(auto, using(crate::proofs::Steps::ended_there, crate::proofs::Steps::ended_before, crate::proofs::Again_frames::frames))]
+#[tactic(auto, using(crate::proofs::Steps::ended_there, crate::proofs::Steps::ended_before))]
 fn ended(file: ClientFile, input: &Reader) -> Result<ClientFile, ReadError>
     ensures { Gives (λ f. f) result (ended (file, input.now)) }
 {
