@@ -56,15 +56,19 @@ byte_is : (n : ℕ) → n < 256 → n % 256 ≡ n
 byte_is n h = omega arith
 
 pub bytes8 : Again (number_at w8) u8_bytes (λ n. n < 256)
-bytes8 = record { law = λ n rest h.
-    let same : to_le_bytes w8 n ≡ u8_bytes n = ap (λ (m : ℕ). m ∷ []) (byte_is n h) in
-    subst (λ (text : List ℕ). number_at w8 (text ++ rest) ≡ Ok (n, rest)) same (number_again w8 256 wide8 n rest h) }
+bytes8 = record {
+  law = λ n rest h.
+      let same : to_le_bytes w8 n ≡ u8_bytes n = ap (λ (m : ℕ). m ∷ []) (byte_is n h) in
+      subst (λ (text : List ℕ). number_at w8 (text ++ rest) ≡ Ok (n, rest)) same (number_again w8 256 wide8 n rest h);
+}
 
 limited_by : (w : Width) {spell : ℕ → List ℕ} (low high limit : ℕ) → high < limit → Again (number_at w) spell (λ n. n < limit) → Again (limited_at w low high) spell (λ n. within low high n ≡ true)
 unfolding limited_at
-limited_by w {spell} low high limit small t = record { law = λ n rest h.
-    let range = in_range low high n h in
-    next t n rest _ _ (omega (arith, range.1)) (test_good (spell n ++ rest) fault.Limit (within low high n) (Ok (n, rest)) h) }
+limited_by w {spell} low high limit small t = record {
+  law = λ n rest h.
+      let range = in_range low high n h in
+      next t n rest _ _ (omega (arith, range.1)) (test_good (spell n ++ rest) fault.Limit (within low high n) (Ok (n, rest)) h);
+}
 
 pub limited8 : (low high : ℕ) → high < 256 → Again (limited_at w8 low high) u8_bytes (λ n. within low high n ≡ true)
 limited8 low high small = limited_by w8 low high 256 small bytes8
@@ -77,15 +81,19 @@ limited32 low high small = limited_by w32 low high (2 ^ 32) small (numbers w32 (
 
 pub tags : (low high : ℕ) → high < 256 → Again (tag_at low high) u8_bytes (λ n. within low high n ≡ true)
 unfolding tag_at
-tags low high small = record { law = λ n rest h.
-    let range = in_range low high n h in
-    next bytes8 n rest _ _ (omega (arith, range.1)) (test_good (u8_bytes n ++ rest) fault.Tag (within low high n) (Ok (n, rest)) h) }
+tags low high small = record {
+  law = λ n rest h.
+      let range = in_range low high n h in
+      next bytes8 n rest _ _ (omega (arith, range.1)) (test_good (u8_bytes n ++ rest) fault.Tag (within low high n) (Ok (n, rest)) h);
+}
 
 pub signed : Again signed_at i32_bytes (λ z. SFits w32 z)
 unfolding signed_at
-signed = record { law = λ z rest h.
-    let fits = Fits-of_z h in
-    next (numbers w32 (2 ^ 32) wide32) (cast_unsigned w32 z) rest _ _ (omega (arith, fits)) (ap (λ (y : ℤ). Ok (y, rest)) (to_z-of_z w32 z h)) }
+signed = record {
+  law = λ z rest h.
+      let fits = Fits-of_z h in
+      next (numbers w32 (2 ^ 32) wide32) (cast_unsigned w32 z) rest _ _ (omega (arith, fits)) (ap (λ (y : ℤ). Ok (y, rest)) (to_z-of_z w32 z h));
+}
 
 small_fits : (z : ℤ) → (pos 0 -ℤ pos 1073741824) ≤ℤ z → z ≤ℤ pos 1073741824 → SFits w32 z
 small_fits (pos n) low high = record { sfits = omega (arith, ints) }
@@ -104,32 +112,38 @@ coordinates = record { law = λ z rest h. next signed z rest _ _ (reach_fits z h
 
 pub sinks : Again sink_at sink_bytes (λ s. fits_sink s ≡ true)
 unfolding sink_at
-sinks = record { law = λ s rest h.
-    let both = and_parts (is_number s.client_id) (is_number s.sink_id) h in
-    ap sink_at (row_2 (u32_bytes s.client_id) (u32_bytes s.sink_id) rest)
-    ∙ next numbers32 s.client_id (u32_bytes s.sink_id ++ rest) _ _ both.0 (next numbers32 s.sink_id rest _ _ both.1 refl) }
+sinks = record {
+  law = λ s rest h.
+      let both = and_parts (is_number s.client_id) (is_number s.sink_id) h in
+      ap sink_at (row_2 (u32_bytes s.client_id) (u32_bytes s.sink_id) rest)
+      ∙ next numbers32 s.client_id (u32_bytes s.sink_id ++ rest) _ _ both.0 (next numbers32 s.sink_id rest _ _ both.1 refl);
+}
 
 pub locals : Again local_at local_bytes (λ l. fits_local l ≡ true)
 unfolding local_at
-locals = record { law = λ l rest h.
-    let all = and_parts (is_valid l && is_number l.parent && is_number l.child) (ltb l.token.0 (2 ^ 128)) h in
-    let three = and_parts (is_valid l && is_number l.parent) (is_number l.child) all.0 in
-    let two = and_parts (is_valid l) (is_number l.parent) three.0 in
-    let parent = u32_bytes l.parent in
-    let child = u32_bytes l.child in
-    let token = to_le_bytes w128 l.token.0 in
-    ap local_at (row_3 parent child token rest)
-    ∙ next numbers32 l.parent (child ++ (token ++ rest)) _ _ two.1
-    (next numbers32 l.child (token ++ rest) _ _ three.1
-    (next (numbers w128 (2 ^ 128) wide128) l.token.0 rest _ _ (ltb-true _ _ all.1)
-    (test_good (parent ++ (child ++ (token ++ rest))) fault.Limit (is_valid l) (Ok (l, rest)) two.0))) }
+locals = record {
+  law = λ l rest h.
+      let all = and_parts (is_valid l && is_number l.parent && is_number l.child) (ltb l.token.0 (2 ^ 128)) h in
+      let three = and_parts (is_valid l && is_number l.parent) (is_number l.child) all.0 in
+      let two = and_parts (is_valid l) (is_number l.parent) three.0 in
+      let parent = u32_bytes l.parent in
+      let child = u32_bytes l.child in
+      let token = to_le_bytes w128 l.token.0 in
+      ap local_at (row_3 parent child token rest)
+      ∙ next numbers32 l.parent (child ++ (token ++ rest)) _ _ two.1
+      (next numbers32 l.child (token ++ rest) _ _ three.1
+      (next (numbers w128 (2 ^ 128) wide128) l.token.0 rest _ _ (ltb-true _ _ all.1)
+      (test_good (parent ++ (child ++ (token ++ rest))) fault.Limit (is_valid l) (Ok (l, rest)) two.0)));
+}
 
 pub surfaces : Again surface_at surface_bytes (λ s. fits_surface s ≡ true)
 unfolding surface_at
-surfaces = record { law = λ s rest h.
-    let both = and_parts (fits_sink s.sink) (fits_local s.local) h in
-    ap surface_at (row_2 (sink_bytes s.sink) (local_bytes s.local) rest)
-    ∙ next sinks s.sink (local_bytes s.local ++ rest) _ _ both.0 (next locals s.local rest _ _ both.1 refl) }
+surfaces = record {
+  law = λ s rest h.
+      let both = and_parts (fits_sink s.sink) (fits_local s.local) h in
+      ap surface_at (row_2 (sink_bytes s.sink) (local_bytes s.local) rest)
+      ∙ next sinks s.sink (local_bytes s.local ++ rest) _ _ both.0 (next locals s.local rest _ _ both.1 refl);
+}
 
 -- ---- flags and counts
 
@@ -154,55 +168,63 @@ up_to limit n h = and_from (leb 0 n) (leb n limit) (le-leb 0 n (omega arith)) h
 
 pub counted : {A : Type 0} {read : List ℕ → Read A} {spell : A → List ℕ} {good : A → Bool} → Again read spell (λ a. good a ≡ true) → (limit : ℕ) → limit < 256 → Again (counted_at read limit) (counted_bytes spell) (λ xs. fits_counted good limit xs ≡ true)
 unfolding counted_at
-counted {A} {read} {spell} {good} t limit small = record { law = λ xs rest h.
-    let both = and_parts (leb (length xs) limit) (list_all good xs) h in
-    ap (counted_at read limit) (row_2 (u8_bytes (length xs)) (flat_map spell xs) rest)
-    ∙ next (limited8 0 limit small) (length xs) (flat_map spell xs ++ rest) _ _ (up_to limit (length xs) both.0) (many_again t xs rest both.1) }
+counted {A} {read} {spell} {good} t limit small = record {
+  law = λ xs rest h.
+      let both = and_parts (leb (length xs) limit) (list_all good xs) h in
+      ap (counted_at read limit) (row_2 (u8_bytes (length xs)) (flat_map spell xs) rest)
+      ∙ next (limited8 0 limit small) (length xs) (flat_map spell xs ++ rest) _ _ (up_to limit (length xs) both.0) (many_again t xs rest both.1);
+}
 
 pub ranges : Again range_at range_bytes (λ r. fits_range r ≡ true)
 unfolding range_at
-ranges = record { law = λ r rest h.
-    let both = and_parts (fits_optional fits_surface r.start) (fits_surface r.end) h in
-    ap range_at (row_2 (optional_bytes surface_bytes r.start) (surface_bytes r.end) rest)
-    ∙ next (optionals surfaces) r.start (surface_bytes r.end ++ rest) _ _ both.0 (next surfaces r.end rest _ _ both.1 refl) }
+ranges = record {
+  law = λ r rest h.
+      let both = and_parts (fits_optional fits_surface r.start) (fits_surface r.end) h in
+      ap range_at (row_2 (optional_bytes surface_bytes r.start) (surface_bytes r.end) rest)
+      ∙ next (optionals surfaces) r.start (surface_bytes r.end ++ rest) _ _ both.0 (next surfaces r.end rest _ _ both.1 refl);
+}
 
 -- ---- rectangles and colours
 
 pub rects : Again rect_at rect_bytes (λ r. fits_rect r ≡ true)
 unfolding rect_at
-rects = record { law = λ r rest h.
-    let room = has_room r.x r.y r.w r.h h in
-    let left : SFits w32 r.x = small_fits r.x (omega (arith, ints, room.left)) (omega (arith, ints, room.wide, room.right)) in
-    let top : SFits w32 r.y = small_fits r.y (omega (arith, ints, room.top)) (omega (arith, ints, room.high, room.bottom)) in
-    let wide : SFits w32 r.w = small_fits r.w (omega (arith, ints, room.wide)) (omega (arith, ints, room.left, room.right)) in
-    let high : SFits w32 r.h = small_fits r.h (omega (arith, ints, room.high)) (omega (arith, ints, room.top, room.bottom)) in
-    let a = i32_bytes r.x in
-    let b = i32_bytes r.y in
-    let c = i32_bytes r.w in
-    let d = i32_bytes r.h in
-    ap rect_at (row_4 a b c d rest)
-    ∙ next signed r.x (b ++ (c ++ (d ++ rest))) _ _ left
-    (next signed r.y (c ++ (d ++ rest)) _ _ top
-    (next signed r.w (d ++ rest) _ _ wide
-    (next signed r.h rest _ _ high
-    (test_good (a ++ (b ++ (c ++ (d ++ rest)))) fault.Limit (fits_rect r) (Ok (r, rest)) h)))) }
+rects = record {
+  law = λ r rest h.
+      let room = has_room r.x r.y r.w r.h h in
+      let left : SFits w32 r.x = small_fits r.x (omega (arith, ints, room.left)) (omega (arith, ints, room.wide, room.right)) in
+      let top : SFits w32 r.y = small_fits r.y (omega (arith, ints, room.top)) (omega (arith, ints, room.high, room.bottom)) in
+      let wide : SFits w32 r.w = small_fits r.w (omega (arith, ints, room.wide)) (omega (arith, ints, room.left, room.right)) in
+      let high : SFits w32 r.h = small_fits r.h (omega (arith, ints, room.high)) (omega (arith, ints, room.top, room.bottom)) in
+      let a = i32_bytes r.x in
+      let b = i32_bytes r.y in
+      let c = i32_bytes r.w in
+      let d = i32_bytes r.h in
+      ap rect_at (row_4 a b c d rest)
+      ∙ next signed r.x (b ++ (c ++ (d ++ rest))) _ _ left
+      (next signed r.y (c ++ (d ++ rest)) _ _ top
+      (next signed r.w (d ++ rest) _ _ wide
+      (next signed r.h rest _ _ high
+      (test_good (a ++ (b ++ (c ++ (d ++ rest)))) fault.Limit (fits_rect r) (Ok (r, rest)) h))));
+}
 
 pub colours : Again colour_at colour_bytes (λ c. fits_colour c ≡ true)
 unfolding colour_at
-colours = record { law = λ c rest h.
-    let all = and_parts (ltb c.a 256 && leb c.r c.a && leb c.g c.a) (leb c.b c.a) h in
-    let three = and_parts (ltb c.a 256 && leb c.r c.a) (leb c.g c.a) all.0 in
-    let two = and_parts (ltb c.a 256) (leb c.r c.a) three.0 in
-    let most = ltb-true c.a 256 two.0 in
-    let red = leb-true c.r c.a two.1 in
-    let green = leb-true c.g c.a three.1 in
-    let blue = leb-true c.b c.a all.1 in
-    let least = and_from (leb c.r c.a && leb c.g c.a) (leb c.b c.a) (and_from (leb c.r c.a) (leb c.g c.a) two.1 three.1) all.1 in
-    next bytes8 c.r (c.g ∷ c.b ∷ c.a ∷ rest) _ _ (omega arith)
-    (next bytes8 c.g (c.b ∷ c.a ∷ rest) _ _ (omega arith)
-    (next bytes8 c.b (c.a ∷ rest) _ _ (omega arith)
-    (next bytes8 c.a rest _ _ most
-    (test_good (colour_bytes c ++ rest) fault.Colour (leb c.r c.a && leb c.g c.a && leb c.b c.a) (Ok (c, rest)) least)))) }
+colours = record {
+  law = λ c rest h.
+      let all = and_parts (ltb c.a 256 && leb c.r c.a && leb c.g c.a) (leb c.b c.a) h in
+      let three = and_parts (ltb c.a 256 && leb c.r c.a) (leb c.g c.a) all.0 in
+      let two = and_parts (ltb c.a 256) (leb c.r c.a) three.0 in
+      let most = ltb-true c.a 256 two.0 in
+      let red = leb-true c.r c.a two.1 in
+      let green = leb-true c.g c.a three.1 in
+      let blue = leb-true c.b c.a all.1 in
+      let least = and_from (leb c.r c.a && leb c.g c.a) (leb c.b c.a) (and_from (leb c.r c.a) (leb c.g c.a) two.1 three.1) all.1 in
+      next bytes8 c.r (c.g ∷ c.b ∷ c.a ∷ rest) _ _ (omega arith)
+      (next bytes8 c.g (c.b ∷ c.a ∷ rest) _ _ (omega arith)
+      (next bytes8 c.b (c.a ∷ rest) _ _ (omega arith)
+      (next bytes8 c.a rest _ _ most
+      (test_good (colour_bytes c ++ rest) fault.Colour (leb c.r c.a && leb c.g c.a && leb c.b c.a) (Ok (c, rest)) least))));
+}
 
 pub row_5 : (a b c d e r : List ℕ) → (a ++ b ++ c ++ d ++ e) ++ r ≡ a ++ (b ++ (c ++ (d ++ (e ++ r))))
 row_5 a b c d e r = simp append_assoc

@@ -87,11 +87,13 @@ quad_tests a b c d e f g h fits then =
 
 pub quads : (format : ℕ) → Again (quad_at format) (quad_bytes format) (λ q. fits_quad format q ≡ true)
 unfolding quad_bytes fits_quad
-quads format = record { law = λ q rest fits.
-    quad_tests (in_reach q.offset.x) (in_reach q.offset.y) (fits_rect q.area) (fits_rect q.visible) (fits_optional fits_rect q.clip) (ltb q.opacity 256) (fits_mode format q.blend) (fits_material q.material) fits
-    (λ left top area visible clip opacity mode matter.
-    ap (quad_at format) (row_8 (i32_bytes q.offset.x) (i32_bytes q.offset.y) (rect_bytes q.area) (rect_bytes q.visible) (optional_bytes rect_bytes q.clip) (u8_bytes q.opacity) (mode_bytes format q.blend) (material_bytes q.material) rest)
-    ∙ quad_row format q rest left top area visible clip (ltb-true q.opacity 256 opacity) mode matter) }
+quads format = record {
+  law = λ q rest fits.
+      quad_tests (in_reach q.offset.x) (in_reach q.offset.y) (fits_rect q.area) (fits_rect q.visible) (fits_optional fits_rect q.clip) (ltb q.opacity 256) (fits_mode format q.blend) (fits_material q.material) fits
+      (λ left top area visible clip opacity mode matter.
+      ap (quad_at format) (row_8 (i32_bytes q.offset.x) (i32_bytes q.offset.y) (rect_bytes q.area) (rect_bytes q.visible) (optional_bytes rect_bytes q.clip) (u8_bytes q.opacity) (mode_bytes format q.blend) (material_bytes q.material) rest)
+      ∙ quad_row format q rest left top area visible clip (ltb-true q.opacity 256 opacity) mode matter);
+}
 
 -- ---- passes
 
@@ -131,13 +133,15 @@ passes_again format before (p ∷ ps) rest all few =
 
 pub listings : Again listing_at listing_bytes (λ l. fits_listing l ≡ true)
 unfolding listing_at
-listings = record { law = λ l rest h.
-    let two = and_parts (within 1 (2 ^ 32 - 1) l.id && within 1 256 l.w) (within 1 256 l.h) h in
-    let one = and_parts (within 1 (2 ^ 32 - 1) l.id) (within 1 256 l.w) two.0 in
-    ap listing_at (row_3 (u32_bytes l.id) (u16_bytes l.w) (u16_bytes l.h) rest)
-    ∙ next (limited32 1 (2 ^ 32 - 1) (omega arith)) l.id (u16_bytes l.w ++ (u16_bytes l.h ++ rest)) _ _ one.0
-    (next (limited16 1 256 (omega arith)) l.w (u16_bytes l.h ++ rest) _ _ one.1
-    (next (limited16 1 256 (omega arith)) l.h rest _ _ two.1 refl)) }
+listings = record {
+  law = λ l rest h.
+      let two = and_parts (within 1 (2 ^ 32 - 1) l.id && within 1 256 l.w) (within 1 256 l.h) h in
+      let one = and_parts (within 1 (2 ^ 32 - 1) l.id) (within 1 256 l.w) two.0 in
+      ap listing_at (row_3 (u32_bytes l.id) (u16_bytes l.w) (u16_bytes l.h) rest)
+      ∙ next (limited32 1 (2 ^ 32 - 1) (omega arith)) l.id (u16_bytes l.w ++ (u16_bytes l.h ++ rest)) _ _ one.0
+      (next (limited16 1 256 (omega arith)) l.w (u16_bytes l.h ++ rest) _ _ one.1
+      (next (limited16 1 256 (omega arith)) l.h rest _ _ two.1 refl));
+}
 
 few_rounds : (d : ℕ) → leb d 64 ≡ true → (d < 256) × ((leb d 64 || eqb d 255) ≡ true) × (eqb d 255 ≡ false)
 few_rounds d h =
@@ -156,17 +160,19 @@ deadlines = record { law = deadline_law }
 
 metadatas : Again metadata_at metadata_bytes (λ m. fits_metadata m ≡ true)
 unfolding metadata_at
-metadatas = record { law = λ m rest h.
-    let t4 = and_parts (is_number m.token && is_number m.ack && fits_deadline m.deadline && fits_counted fits_surface 16 m.dependencies) (fits_counted fits_range 64 m.references) h in
-    let t3 = and_parts (is_number m.token && is_number m.ack && fits_deadline m.deadline) (fits_counted fits_surface 16 m.dependencies) t4.0 in
-    let t2 = and_parts (is_number m.token && is_number m.ack) (fits_deadline m.deadline) t3.0 in
-    let t1 = and_parts (is_number m.token) (is_number m.ack) t2.0 in
-    ap metadata_at (row_5 (u32_bytes m.token) (u32_bytes m.ack) (deadline_bytes m.deadline) (counted_bytes surface_bytes m.dependencies) (counted_bytes range_bytes m.references) rest)
-    ∙ next numbers32 m.token _ _ _ t1.0
-    (next numbers32 m.ack _ _ _ t1.1
-    (next deadlines m.deadline _ _ _ t2.1
-    (next (counted surfaces 16 (omega arith)) m.dependencies _ _ _ t3.1
-    (next (counted ranges 64 (omega arith)) m.references rest _ _ t4.1 refl)))) }
+metadatas = record {
+  law = λ m rest h.
+      let t4 = and_parts (is_number m.token && is_number m.ack && fits_deadline m.deadline && fits_counted fits_surface 16 m.dependencies) (fits_counted fits_range 64 m.references) h in
+      let t3 = and_parts (is_number m.token && is_number m.ack && fits_deadline m.deadline) (fits_counted fits_surface 16 m.dependencies) t4.0 in
+      let t2 = and_parts (is_number m.token && is_number m.ack) (fits_deadline m.deadline) t3.0 in
+      let t1 = and_parts (is_number m.token) (is_number m.ack) t2.0 in
+      ap metadata_at (row_5 (u32_bytes m.token) (u32_bytes m.ack) (deadline_bytes m.deadline) (counted_bytes surface_bytes m.dependencies) (counted_bytes range_bytes m.references) rest)
+      ∙ next numbers32 m.token _ _ _ t1.0
+      (next numbers32 m.ack _ _ _ t1.1
+      (next deadlines m.deadline _ _ _ t2.1
+      (next (counted surfaces 16 (omega arith)) m.dependencies _ _ _ t3.1
+      (next (counted ranges 64 (omega arith)) m.references rest _ _ t4.1 refl))));
+}
 
 -- the tests of a frame apart
 frame_tests : (a b c d e f g h i j k l : Bool) {R : Type 0} → (a && b && c && d && e && f && g && h && i && j && k && l) ≡ true
@@ -199,10 +205,12 @@ row_frame a b c d r = simp append_assoc
 
 pub frames : (format : ℕ) → Again (frame_at format) (frame_bytes format) (λ f. fits_frame format f ≡ true)
 unfolding frame_bytes fits_frame
-frames format = record { law = λ f rest fits.
-    frame_tests (is_number f.metadata.token) (is_number f.metadata.ack) (fits_deadline f.metadata.deadline)
-    (leb (length f.metadata.dependencies) 16) (list_all fits_surface f.metadata.dependencies) (leb (length f.metadata.references) 64) (list_all fits_range f.metadata.references)
-    (leb (length f.resources) 64) (list_all fits_listing f.resources) (leb (length f.passes) 16) (leb (quad_count f.passes) 1024) (list_all (fits_pass format) f.passes) fits
-    (λ metadata resources few sum all.
-    ap (frame_at format) (row_frame (metadata_bytes f.metadata) (counted_bytes listing_bytes f.resources) (u8_bytes (length f.passes)) (flat_map (pass_bytes format) f.passes) rest)
-    ∙ frame_row format f rest metadata resources few sum all) }
+frames format = record {
+  law = λ f rest fits.
+      frame_tests (is_number f.metadata.token) (is_number f.metadata.ack) (fits_deadline f.metadata.deadline)
+      (leb (length f.metadata.dependencies) 16) (list_all fits_surface f.metadata.dependencies) (leb (length f.metadata.references) 64) (list_all fits_range f.metadata.references)
+      (leb (length f.resources) 64) (list_all fits_listing f.resources) (leb (length f.passes) 16) (leb (quad_count f.passes) 1024) (list_all (fits_pass format) f.passes) fits
+      (λ metadata resources few sum all.
+      ap (frame_at format) (row_frame (metadata_bytes f.metadata) (counted_bytes listing_bytes f.resources) (u8_bytes (length f.passes)) (flat_map (pass_bytes format) f.passes) rest)
+      ∙ frame_row format f rest metadata resources few sum all);
+}

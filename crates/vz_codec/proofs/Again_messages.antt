@@ -21,17 +21,19 @@ use Rattle.vz_codec.proofs.Taken_messages.{fits_header}
 
 pub blocks : Again block_at block_bytes (λ b. fits_block b ≡ true)
 unfolding block_at block_bytes
-blocks = record { law = λ b rest fits.
-    let t3 = and_parts (within 1 256 b.w && within 1 256 b.h && (length b.pixels == b.w * b.h)) (list_all fits_colour b.pixels) fits in
-    let t2 = and_parts (within 1 256 b.w && within 1 256 b.h) (length b.pixels == b.w * b.h) t3.0 in
-    let t1 = and_parts (within 1 256 b.w) (within 1 256 b.h) t2.0 in
-    let all : length b.pixels ≡ b.w * b.h = eqb-true _ _ t2.1 in
-    let pixels : many_at colour_at (b.w * b.h) (flat_map colour_bytes b.pixels ++ rest) ≡ Ok (b.pixels, rest) =
-    subst (λ (n : ℕ). many_at colour_at n (flat_map colour_bytes b.pixels ++ rest) ≡ Ok (b.pixels, rest)) all (many_again colours b.pixels rest t3.1) in
-    ap block_at (row_3 (u16_bytes b.w) (u16_bytes b.h) (flat_map colour_bytes b.pixels) rest)
-    ∙ next (limited16 1 256 (omega arith)) b.w _ _ _ t1.0
-    (next (limited16 1 256 (omega arith)) b.h _ _ _ t1.1
-    (rw pixels refl)) }
+blocks = record {
+  law = λ b rest fits.
+      let t3 = and_parts (within 1 256 b.w && within 1 256 b.h && (length b.pixels == b.w * b.h)) (list_all fits_colour b.pixels) fits in
+      let t2 = and_parts (within 1 256 b.w && within 1 256 b.h) (length b.pixels == b.w * b.h) t3.0 in
+      let t1 = and_parts (within 1 256 b.w) (within 1 256 b.h) t2.0 in
+      let all : length b.pixels ≡ b.w * b.h = eqb-true _ _ t2.1 in
+      let pixels : many_at colour_at (b.w * b.h) (flat_map colour_bytes b.pixels ++ rest) ≡ Ok (b.pixels, rest) =
+      subst (λ (n : ℕ). many_at colour_at n (flat_map colour_bytes b.pixels ++ rest) ≡ Ok (b.pixels, rest)) all (many_again colours b.pixels rest t3.1) in
+      ap block_at (row_3 (u16_bytes b.w) (u16_bytes b.h) (flat_map colour_bytes b.pixels) rest)
+      ∙ next (limited16 1 256 (omega arith)) b.w _ _ _ t1.0
+      (next (limited16 1 256 (omega arith)) b.h _ _ _ t1.1
+      (rw pixels refl));
+}
 
 message_law : (format : ℕ) (m : Message) (rest : List ℕ) → fits_message format m ≡ true → message_at format (message_bytes format m ++ rest) ≡ Ok (m, rest)
 unfolding message_at message_by upload_at submit_at hierarchy_at message_bytes fits_message
@@ -68,15 +70,19 @@ magic_law rest = next numbers32 0x435a4956 rest _ _ refl refl
 
 versions : Again version_at u16_bytes (λ v. within 1 2 v ≡ true)
 unfolding version_at
-versions = record { law = λ v rest h.
-    let range = in_range 1 2 v h in
-    next (numbers w16 (2 ^ 16) wide16) v rest _ _ (omega (arith, range.1)) (test_good (u16_bytes v ++ rest) fault.Version (within 1 2 v) (Ok (v, rest)) h) }
+versions = record {
+  law = λ v rest h.
+      let range = in_range 1 2 v h in
+      next (numbers w16 (2 ^ 16) wide16) v rest _ _ (omega (arith, range.1)) (test_good (u16_bytes v ++ rest) fault.Version (within 1 2 v) (Ok (v, rest)) h);
+}
 
 headers : Again header_at sink_bytes (λ s. fits_header s ≡ true)
 unfolding header_at
-headers = record { law = λ s rest h.
-    let both = and_parts (fits_sink s) (not ((s.client_id == 0) && (s.sink_id == 0))) h in
-    next sinks s rest _ _ both.0 (test_good (sink_bytes s ++ rest) fault.Limit (not ((s.client_id == 0) && (s.sink_id == 0))) (Ok (s, rest)) both.1) }
+headers = record {
+  law = λ s rest h.
+      let both = and_parts (fits_sink s) (not ((s.client_id == 0) && (s.sink_id == 0))) h in
+      next sinks s rest _ _ both.0 (test_good (sink_bytes s ++ rest) fault.Limit (not ((s.client_id == 0) && (s.sink_id == 0))) (Ok (s, rest)) both.1);
+}
 
 -- a file and what follows, up to its last message
 file_row : (f : ClientFile) (rest : List ℕ) (y : Result ClientFile Fault) → within 1 2 f.format ≡ true → fits_header f.sink ≡ true → leb (length f.messages) 4096 ≡ true → list_all (fits_message f.format) f.messages ≡ true → ended (f, rest) ≡ y

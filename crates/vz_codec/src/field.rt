@@ -1,5 +1,5 @@
 //! Fields that stand behind a flag or several in a row.
-ghost use Rattle.std.specs.Prelude.{ℕ, List};
+ghost use Rattle.std.specs.Prelude.{ℕ, ◌<◌, List};
 ghost use Rattle.vz_codec.specs.Giving.{Gives};
 ghost use Rattle.vz_codec.specs.Reading.{Read, optional_at, many_at, counted_at};
 
@@ -7,15 +7,16 @@ use crate::error::ReadError;
 use crate::reader::Reader;
 use std::alloc::Global;
 
-/// No value is spelled by fewer bytes.
-const FEWEST_BYTES: usize = 4;
-
 /// How a kind of field is read.
 pub trait Field {
     type Value: Drop;
 
     /// The value at the front of bytes and the bytes after it, or the first fault.
     ghost value_at: { Self → List ℕ → Read Self.Value };
+
+    /// How many bytes its shortest spelling has.
+    fn shortest(&self) -> usize
+        ensures { 0 < result };
 
     fn read(&self, input: &mut Reader) -> Result<Self::Value, ReadError>
         ensures { Gives (λ x. (x, input.new)) result (value_at self.now input.old) };
@@ -41,7 +42,7 @@ pub fn many<F: Field>(
 ) -> Result<Vec<F::Value>, ReadError>
     ensures { Gives (λ x. (x.items, input.new)) result (many_at (F.value_at field.now) count input.old) }
 {
-    let mut values = Vec::with_capacity(alloc, count.min(input.left() / FEWEST_BYTES))?;
+    let mut values = Vec::with_capacity(alloc, count.min(input.left() / field.shortest()))?;
     for _ in 0..count {
         let value = field.read(input)?;
         values.push(value)?;
