@@ -1,24 +1,18 @@
 -- Parts that fit and are spelled are read again, whatever follows.
-use Rattle.std.proofs.Common.{◌≡◌, ℕ, zero, suc, ℤ, pos, negsuc, ◌+◌, ◌-◌, ◌*◌, ◌%◌, ◌^◌, ◌<◌, ◌≤◌, ◌≤ℤ◌, ◌+ℤ◌, ◌-ℤ◌, Bool, true, false, ◌&&◌, cond, ltb, leb, List, [], ◌∷◌, ◌++◌, length, Option, Some, None, Result, Ok, Err, refl, sym, ap, subst, ◌∙◌, append_assoc, arith, SFits}
+use Rattle.std.proofs.Common.{◌≡◌, ℕ, suc, ℤ, pos, negsuc, ◌%◌, ◌^◌, ◌<◌, ◌≤ℤ◌, ◌-ℤ◌, Bool, true, ◌&&◌, ltb, leb, List, [], ◌∷◌, ◌++◌, length, Option, Some, None, Result, Ok, refl, ap, subst, ◌∙◌, append_assoc, arith, SFits}
 use Rattle.std.specs.List.{list_all, flat_map}
-use Rattle.std.specs.Int.{Width, w8, w16, w32, w128, to_le_bytes, cast_signed, cast_unsigned}
+use Rattle.std.specs.Int.{Width, w8, w16, w32, w128, to_le_bytes, cast_unsigned}
 use Rattle.std.proofs.lemmas.Bool.{and_parts, and_from, le-leb, leb-true, ltb-true}
 use Rattle.std.proofs.lemmas.Int.{ints, to_z-of_z}
 use Rattle.std.proofs.Math.Facts.{Fits-of_z}
-use Rattle.vz_geom.specs.Rectangle.{Rectangle}
-use Rattle.vz_ids.specs.declared.FrameSinkId.{FrameSinkId}
-use Rattle.vz_ids.specs.declared.LocalSurfaceId.{LocalSurfaceId}
-use Rattle.vz_ids.specs.declared.SurfaceId.{SurfaceId}
-use Rattle.vz_ids.specs.declared.SurfaceRange.{SurfaceRange}
 use Rattle.vz_ids.specs.Ids.{is_valid}
-use Rattle.vz_pixels.specs.Colour.{Colour}
 use Rattle.vz_frame.specs.Fits.{within, in_reach, fits_rect, is_number, fits_sink, fits_local, fits_surface, fits_optional, fits_range, fits_colour}
 use Rattle.vz_codec.specs.declared.fault.FileRule.{FileRule}
 use Rattle.vz_codec.specs.declared.fault.FileRule.TheVariants as fault
 use Rattle.vz_codec.specs.Spelling.{u8_bytes, u32_bytes, i32_bytes, sink_bytes, local_bytes, surface_bytes, rect_bytes, colour_bytes, optional_bytes, range_bytes, counted_bytes}
 use Rattle.vz_codec.specs.Reading.{Fault, Read, ◌>>=◌, tested, number_at, limited_at, tag_at, signed_at, coordinate_at, sink_at, local_at, surface_at, optional_at, many_at, counted_at, range_at, rect_at, colour_at}
 use Rattle.vz_codec.proofs.Numbers.{IsWide, wide8, wide16, wide32, wide128, number_again}
-use Rattle.vz_codec.proofs.Rects.{HasRoom, has_room, reach_is}
+use Rattle.vz_codec.proofs.Rects.{has_room, reach_is}
 use Rattle.vz_codec.proofs.Taken.{in_range, fits_counted}
 
 -- what is good and spelled is read again, whatever follows

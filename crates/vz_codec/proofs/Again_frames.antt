@@ -1,12 +1,9 @@
 -- Frames that fit and are spelled are read again, whatever follows.
-use Rattle.std.proofs.Common.{◌≡◌, ℕ, zero, suc, ◌+◌, ◌-◌, ◌^◌, ◌<◌, ◌≤◌, Bool, true, false, not, ◌&&◌, ◌||◌, ◌==◌, cond, leb, ltb, eqb, List, [], ◌∷◌, ◌++◌, length, sum_by, Option, Some, None, Result, Ok, Err, refl, sym, ap, subst, ◌∙◌, append_assoc, arith, inl, inr}
+use Rattle.std.proofs.Common.{◌≡◌, ℕ, suc, ◌+◌, ◌-◌, ◌^◌, ◌<◌, ◌≤◌, Bool, true, false, ◌&&◌, ◌||◌, cond, leb, ltb, eqb, List, [], ◌∷◌, ◌++◌, length, Option, Some, None, Ok, refl, ap, ◌∙◌, append_assoc, arith}
 use Rattle.std.specs.List.{list_all, flat_map}
-use Rattle.std.specs.Int.{w8, w16, w32}
-use Rattle.std.proofs.lemmas.Bool.{and_parts, and_from, leb-true, le-leb, or_cases, eqb-true, ne_eqb, or_left, ltb-true}
+use Rattle.std.proofs.lemmas.Bool.{and_parts, and_from, leb-true, le-leb, ne_eqb, or_left, ltb-true}
 use Rattle.std.proofs.lemmas.List.Sums.{sum_by-cons}
 use Rattle.vz_frame.specs.declared.frame.CompositorFrame.{CompositorFrame}
-use Rattle.vz_frame.specs.declared.frame.Metadata.{Metadata}
-use Rattle.vz_frame.specs.declared.frame.Listing.{Listing}
 use Rattle.vz_frame.specs.declared.frame.RenderPass.{RenderPass}
 use Rattle.vz_frame.specs.declared.frame.DrawQuad.{DrawQuad}
 use Rattle.vz_frame.specs.declared.frame.Blend.{Blend}
@@ -16,10 +13,10 @@ use Rattle.vz_frame.specs.declared.frame.Material.TheVariants as material
 use Rattle.vz_frame.specs.Fits.{within, in_reach, fits_rect, is_number, fits_surface, fits_optional, fits_range, fits_colour, fits_material, fits_mode, fits_quad, fits_pass, fits_listing, fits_frame}
 use Rattle.vz_codec.specs.declared.fault.FileRule.TheVariants as fault
 use Rattle.vz_codec.specs.Spelling.{u8_bytes, u16_bytes, u32_bytes, i32_bytes, rect_bytes, colour_bytes, optional_bytes, material_bytes, mode_bytes, quad_bytes, pass_bytes, listing_bytes, deadline_bytes, counted_bytes, frame_bytes, surface_bytes, range_bytes}
-use Rattle.vz_codec.specs.Reading.{Fault, Read, ◌>>=◌, number_at, tag_at, tile_at, embedding_at, material_by, material_at, mode_of, mode_at, quad_at, pass_at, passes_at, listing_at, deadline_at, metadata_at, frame_at, many_at, limited_at}
+use Rattle.vz_codec.specs.Reading.{tile_at, embedding_at, material_by, material_at, mode_at, quad_at, pass_at, passes_at, listing_at, deadline_at, metadata_at, frame_at}
 use Rattle.vz_codec.proofs.Taken.{fits_counted}
 use Rattle.vz_codec.proofs.Taken_frames.{quad_count, metadata_bytes, fits_metadata, fits_deadline}
-use Rattle.vz_codec.proofs.Again.{Again, next, test_good, row_2, row_3, row_4, row_5, row_8, numbers32, bytes8, limited8, limited16, limited32, tags, coordinates, surfaces, ranges, rects, colours, optionals, many_again, counted, up_to}
+use Rattle.vz_codec.proofs.Again.{Again, next, test_good, row_2, row_3, row_5, row_8, numbers32, bytes8, limited8, limited16, limited32, tags, coordinates, surfaces, ranges, rects, colours, optionals, many_again, counted, up_to}
 
 -- ---- materials
 

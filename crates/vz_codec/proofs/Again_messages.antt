@@ -1,20 +1,18 @@
 -- Messages and files that fit and are spelled are read again.
-use Rattle.std.proofs.Common.{◌≡◌, ℕ, zero, suc, ◌+◌, ◌-◌, ◌*◌, ◌^◌, ◌<◌, ◌≤◌, Bool, true, false, not, ◌&&◌, ◌==◌, leb, ltb, eqb, List, [], ◌∷◌, ◌++◌, length, Result, Ok, Err, refl, sym, ap, subst, ◌∙◌, append_assoc, arith}
+use Rattle.std.proofs.Common.{◌≡◌, ℕ, ◌-◌, ◌*◌, ◌^◌, true, not, ◌&&◌, ◌==◌, leb, List, [], ◌∷◌, ◌++◌, length, Result, Ok, refl, sym, ap, subst, ◌∙◌, arith}
 use Rattle.std.specs.List.{list_all, flat_map}
-use Rattle.std.specs.Int.{w16, w32, to_le_bytes}
+use Rattle.std.specs.Int.{w16}
 use Rattle.std.proofs.lemmas.Bool.{and_parts, and_from, eqb-true}
 use Rattle.std.proofs.lemmas.List.{append-nil}
-use Rattle.vz_ids.specs.declared.FrameSinkId.{FrameSinkId}
-use Rattle.vz_pixels.specs.Block.{Block}
 use Rattle.vz_frame.specs.declared.message.ClientFile.{ClientFile}
 use Rattle.vz_frame.specs.declared.message.Message.{Message}
 use Rattle.vz_frame.specs.declared.message.Message.TheVariants as message
-use Rattle.vz_frame.specs.Fits.{within, is_number, fits_sink, fits_local, fits_colour, fits_block, fits_frame, fits_message, fits_file}
+use Rattle.vz_frame.specs.Fits.{within, fits_sink, fits_local, fits_colour, fits_block, fits_frame, fits_message, fits_file}
 use Rattle.vz_codec.specs.declared.fault.FileRule.TheVariants as fault
-use Rattle.vz_codec.specs.Spelling.{u8_bytes, u16_bytes, u32_bytes, sink_bytes, local_bytes, colour_bytes, block_bytes, frame_bytes, message_bytes, magic, file_bytes}
-use Rattle.vz_codec.specs.Reading.{Fault, Read, ◌>>=◌, number_at, limited_at, colour_at, many_at, block_at, upload_at, submit_at, hierarchy_at, message_by, message_at, magic_at, version_at, header_at, ended, fault_at, file_in}
+use Rattle.vz_codec.specs.Spelling.{u16_bytes, u32_bytes, sink_bytes, local_bytes, colour_bytes, block_bytes, frame_bytes, message_bytes, magic, file_bytes}
+use Rattle.vz_codec.specs.Reading.{Fault, colour_at, many_at, block_at, upload_at, submit_at, hierarchy_at, message_by, message_at, magic_at, version_at, header_at, ended, file_in}
 use Rattle.vz_codec.proofs.Numbers.{wide16}
-use Rattle.vz_codec.proofs.Again.{Again, next, test_good, row_2, row_3, row_4, row_5, numbers, numbers32, limited16, limited32, tags, sinks, locals, colours, many_again, up_to}
+use Rattle.vz_codec.proofs.Again.{Again, next, test_good, row_2, row_3, row_5, numbers, numbers32, limited16, limited32, tags, sinks, locals, colours, many_again, up_to}
 use Rattle.vz_codec.proofs.Again_frames.{frames}
 use Rattle.vz_codec.proofs.Taken.{in_range}
 use Rattle.vz_codec.proofs.Taken_messages.{fits_header}

@@ -1,5 +1,5 @@
 -- What decoding finds and refuses, and which bytes spell a file.
-use Rattle.std.proofs.Common.{◌≡◌, ℕ, ◌-◌, ◌<◌, ◌↔◌, Option, Some, None, Result, Ok, Err, List, [], ◌∷◌, ◌++◌, length, get_or, All, refl, sym, ap, ◌∙◌, arith, inl, inr}
+use Rattle.std.proofs.Common.{◌≡◌, ℕ, ◌-◌, ◌<◌, ◌↔◌, Some, None, Result, Ok, Err, List, [], ◌∷◌, ◌++◌, length, All, refl, sym, ap, ◌∙◌, arith, inl, inr}
 use Rattle.std.proofs.lemmas.Bool.{cases_lt}
 use Rattle.std.proofs.lemmas.List.{get_or_past}
 use Rattle.std.proofs.lemmas.List.Elements.{All-get_or}
@@ -7,9 +7,8 @@ use Rattle.vz_frame.specs.declared.message.ClientFile.{ClientFile}
 use Rattle.vz_codec.specs.declared.fault.FileRule.{FileRule}
 use Rattle.vz_codec.specs.declared.fault.DecodeError.{DecodeError}
 use Rattle.vz_codec.specs.declared.fault.DecodeError.TheVariants.{Refused, Memory}
-use Rattle.vz_codec.specs.Spelling.{file_bytes}
-use Rattle.vz_codec.specs.Reading.{Fault, ended, fault_at, file_in}
-use Rattle.vz_codec.specs.Grammar.{Spells, Wrong, placed, wrong, Decodes, Finds}
+use Rattle.vz_codec.specs.Reading.{Fault, ended, file_in}
+use Rattle.vz_codec.specs.Grammar.{Spells, placed, wrong, Decodes, Finds}
 use Rattle.vz_codec.proofs.Numbers.{IsBytes}
 use Rattle.vz_codec.proofs.Taken_messages.{file_took}
 use Rattle.vz_codec.proofs.Again_messages.{file_again, file_read}

@@ -103,10 +103,6 @@ impl Field for Listings {
 
     ghost value_at = { λ _. listing_at };
 
-    fn shortest(&self) -> usize {
-        8
-    }
-
     fn read(&self, input: &mut Reader) -> Result<Listing, ReadError> {
         read_listing(input)
     }
@@ -236,10 +232,6 @@ impl Field for Quads {
     type Value = DrawQuad;
 
     ghost value_at = { λ q. quad_at q.format };
-
-    fn shortest(&self) -> usize {
-        47
-    }
 
     fn read(&self, input: &mut Reader) -> Result<DrawQuad, ReadError> {
         read_quad(self.format, input)

@@ -148,10 +148,6 @@ impl Field for Surfaces {
 
     ghost value_at = { λ _. surface_at };
 
-    fn shortest(&self) -> usize {
-        32
-    }
-
     fn read(&self, input: &mut Reader) -> Result<SurfaceId, ReadError> {
         read_surface(input)
     }
@@ -164,10 +160,6 @@ impl Field for Ranges {
     type Value = SurfaceRange;
 
     ghost value_at = { λ _. range_at };
-
-    fn shortest(&self) -> usize {
-        33
-    }
 
     fn read(&self, input: &mut Reader) -> Result<SurfaceRange, ReadError> {
         read_range(input)
@@ -182,10 +174,6 @@ impl Field for Rects {
 
     ghost value_at = { λ _. rect_at };
 
-    fn shortest(&self) -> usize {
-        16
-    }
-
     fn read(&self, input: &mut Reader) -> Result<Rect, ReadError> {
         read_rect(input)
     }
@@ -198,10 +186,6 @@ impl Field for Colours {
     type Value = Pixel;
 
     ghost value_at = { λ _. colour_at };
-
-    fn shortest(&self) -> usize {
-        4
-    }
 
     fn read(&self, input: &mut Reader) -> Result<Pixel, ReadError> {
         read_colour(input)
