@@ -24,7 +24,7 @@ zero_is z h = grind (arith, ints)
 side_is : (z : ℤ) → is_side z ≡ true → (pos 1 ≤ℤ z) × (z ≤ℤ pos 16384)
 side_is z h = (grind (arith, ints), grind (arith, ints))
 
-reach_is : (z : ℤ) → in_reach z ≡ true → ((pos 0 -ℤ pos 16384) ≤ℤ z) × (z ≤ℤ pos 16384)
+pub reach_is : (z : ℤ) → in_reach z ≡ true → ((pos 0 -ℤ pos 16384) ≤ℤ z) × (z ≤ℤ pos 16384)
 reach_is z h = (grind (arith, ints), grind (arith, ints))
 
 four : (a b c d : Bool) → (a && b && c && d) ≡ true → (a ≡ true) × (b ≡ true) × (c ≡ true) × (d ≡ true)

@@ -171,7 +171,7 @@ listings = record {
       finish listing_bytes fits_listing e2 (also (also t0 t1) t2))));
 }
 
-abbrev fits_deadline : Option ℕ → Bool
+abbrev pub fits_deadline : Option ℕ → Bool
 fits_deadline d = fits_optional (λ n. leb n 64) d
 
 deadline_by : (n : ℕ) (b : Bool) → eqb n 255 ≡ b → (leb n 64 || b) ≡ true → (deadline_bytes (cond b None (Some n)) ≡ n ∷ []) × (fits_deadline (cond b None (Some n)) ≡ true)
@@ -192,11 +192,11 @@ deadlines = record {
       finish deadline_bytes fits_deadline test.1 (judged _ one.1 (subst (λ (text : List ℕ). Took bytes text n.1 (ltb n.0 256)) (sym one.0) t0)));
 }
 
-abbrev metadata_bytes : Metadata → List ℕ
+abbrev pub metadata_bytes : Metadata → List ℕ
 metadata_bytes m =
     u32_bytes m.token ++ u32_bytes m.ack ++ deadline_bytes m.deadline ++ counted_bytes surface_bytes m.dependencies ++ counted_bytes range_bytes m.references
 
-abbrev fits_metadata : Metadata → Bool
+abbrev pub fits_metadata : Metadata → Bool
 fits_metadata m =
     is_number m.token && is_number m.ack && fits_deadline m.deadline && fits_counted fits_surface 16 m.dependencies && fits_counted fits_range 64 m.references
 

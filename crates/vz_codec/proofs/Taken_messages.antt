@@ -128,7 +128,7 @@ versions = record {
       finish u16_bytes (within 1 2) test.1 (judged (within 1 2 n.0) test.0 t0));
 }
 
-abbrev fits_header : FrameSinkId → Bool
+abbrev pub fits_header : FrameSinkId → Bool
 fits_header s = fits_sink s && not ((s.client_id == 0) && (s.sink_id == 0))
 
 headers : Taking header_at sink_bytes fits_header

@@ -1,6 +1,7 @@
 //! Message files, decoded.
 ghost use Rattle.std.specs.Prelude.{IfOk};
-ghost use Rattle.vz_codec.specs.Grammar.{Spells, Decodes};
+ghost use Rattle.vz_frame.specs.declared.message.ClientFile.{ClientFile};
+ghost use Rattle.vz_codec.specs.Grammar.{Spells, Decodes, Finds};
 
 use crate::error::ReadError;
 use crate::fault::DecodeError;
@@ -19,6 +20,9 @@ pub fn decode(alloc: Global, bytes: &[u8]) -> Result<ClientFile, DecodeError>
 
     // A refusal names the first fault.
     ensures exact { Decodes bytes.now result }
+
+    // What is spelled is found.
+    ensures only { (file : ClientFile) → Spells bytes.now file → Finds result file }
 {
     match read_file(alloc, bytes) {
         Ok(file) => Ok(file),

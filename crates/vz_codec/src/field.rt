@@ -7,8 +7,8 @@ use crate::error::ReadError;
 use crate::reader::Reader;
 use std::alloc::Global;
 
-/// No value is spelled by fewer bytes.
-const FEWEST_BYTES: usize = 4;
+/// The bytes of a texel. No value of which many stand in a row has fewer, but for a message.
+const TEXEL_BYTES: usize = 4;
 
 /// How a kind of field is read.
 pub trait Field {
@@ -32,7 +32,7 @@ pub fn optional<F: Field>(field: &F, input: &mut Reader) -> Result<Option<F::Val
     Ok(Some(field.read(input)?))
 }
 
-/// So many values. No more room is made for them than there are bytes for.
+/// So many values. At first no more room is made than the bytes that are left may hold texels.
 pub fn many<F: Field>(
     alloc: Global,
     field: &F,
@@ -41,7 +41,8 @@ pub fn many<F: Field>(
 ) -> Result<Vec<F::Value>, ReadError>
     ensures { Gives (λ x. (x.items, input.new)) result (many_at (F.value_at field.now) count input.old) }
 {
-    let mut values = Vec::with_capacity(alloc, count.min(input.left() / FEWEST_BYTES))?;
+    let room = input.left() / TEXEL_BYTES;
+    let mut values = Vec::with_capacity(alloc, count.min(room))?;
     for _ in 0..count {
         let value = field.read(input)?;
         values.push(value)?;
