@@ -1,3 +1,5 @@
 pub mod Faults
+pub mod Numbered
 pub mod Sunk
 pub mod Shelved
+pub mod InMemory

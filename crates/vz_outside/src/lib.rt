@@ -2,11 +2,14 @@
 #![tactic(auto)]
 
 pub mod gate;
+pub mod memory;
+mod numbering;
 pub mod shelf;
 pub mod sink;
 pub mod transfer;
 
 pub use gate::{Gate, OpenGate};
+pub use memory::MemoryShelf;
 pub use shelf::{Shelf, ShelfError};
 pub use sink::Sink;
 pub use transfer::{print, read_upto, write_all};
