@@ -4,7 +4,7 @@ use Rattle.std.specs.Option.{option_map}
 use Rattle.std.proofs.lemmas.Bool.{cases_eq}
 use Rattle.std.proofs.lemmas.List.{get_or_append_left}
 use Rattle.std.proofs.lemmas.Option.{none-some, same_Some, slice_get_read, slice_get_within}
-use Rattle.vz_outside.proofs.Places.{place_low, place_named, place-set, place-append, place_new, place_other, place_emptied, emptied_there, emptied_new, bytes_found, bytes_missing}
+use Rattle.vz_outside.proofs.Places.{place_low, place_named, place-set, place-append, place_other, emptied_there, emptied_new, bytes_found, bytes_missing}
 use Rattle.vz_outside.proofs.Slots.{get_push, get_set_cases}
 use Rattle.vz_outside.specs.InMemory.{File, InMemory, IsKept, Moves, Puts, file_at, mode_of, place_of, bytes_in, emptied, extended, slot_name}
 use Rattle.vz_outside.specs.Numbered.{Numbered, counted}
@@ -21,7 +21,7 @@ pub record ChangesOne (name : Text) (old new : List File) : Type 0 where
   pub missing : (n : Text) → n ≢ name → place_of old n ≡ None → place_of new n ≡ None
 
 -- a place is known, or there is none
-place_cases : (files : List File) (name : Text) → ((i : ℕ) × (place_of files name ≡ Some i)) ⊎ (place_of files name ≡ None)
+pub place_cases : (files : List File) (name : Text) → ((i : ℕ) × (place_of files name ≡ Some i)) ⊎ (place_of files name ≡ None)
 place_cases files name = split (place_of files name) refl
   where
     split : (place : Option ℕ) → place_of files name ≡ place → ((i : ℕ) × (place_of files name ≡ Some i)) ⊎ (place_of files name ≡ None)

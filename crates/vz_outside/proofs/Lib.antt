@@ -10,3 +10,6 @@ pub mod Held
 pub mod Counting
 mod Standing
 mod OpenRules
+mod CreateRules
+mod ReadRules
+mod WriteRules

@@ -1,16 +1,15 @@
 -- Rules of opening a file of a shelf in memory.
-use Rattle.std.proofs.Common.{◌≡◌, ℕ, ◌≤◌, false, Some, None, List, [], ◌∷◌, ◌++◌, length, drop, slice_get, IsTrue, Result, Ok, Err, IfOk, OnErr, IsErrOf, refl, sym, ◌∙◌, ap, subst, arith}
-use Rattle.std.specs.Option.{option_map, option_map_or}
+use Rattle.std.proofs.Common.{◌≡◌, ℕ, false, Some, None, [], ◌∷◌, length, IsTrue, Result, Ok, Err, IfOk, OnErr, IsErrOf, refl, sym, ◌∙◌, ap, subst, arith}
+use Rattle.std.specs.Option.{option_map_or}
 use Rattle.vz_outside.proofs.Counting.{one_more_least, sound_passes}
 use Rattle.vz_outside.proofs.Held.{open_slot}
 use Rattle.vz_outside.proofs.Places.{bytes_found, bytes_missing, place_named}
 use Rattle.vz_outside.proofs.Slots.{get-append, get_end}
 use Rattle.vz_outside.proofs.Standing.{counted_stays, call_kept, memory_not_failed, ok_not_failed, pushed_opened, pushed_slots, still_call, still_untouched}
 use Rattle.vz_outside.specs.Faults.{Rose}
-use Rattle.vz_outside.specs.InMemory.{InMemory, IsKept, Opens, after_call, after_fault, file_at, place_of, reading_from, shelved_of, slot_name, slot_rest, with_slot}
+use Rattle.vz_outside.specs.InMemory.{InMemory, IsKept, Opens, after_call, after_fault, place_of, reading_from, shelved_of, slot_name, slot_rest, with_slot}
 use Rattle.vz_outside.specs.Numbered.{is_failing}
 use Rattle.vz_outside.specs.Shelved.{Shelved, Text, Reading, IsCall, IsOpened, SameFiles, KeepsRests, IsUntouched, StaysSound}
-use Rattle.vz_outside.specs.declared.memory.Slot.{Slot}
 use Rattle.vz_outside.specs.declared.shelf.ShelfError.{ShelfError}
 use Rattle.vz_outside.specs.declared.shelf.ShelfError.TheVariants.{Failed, Memory}
 

@@ -1,5 +1,5 @@
 -- Laws on the place of the first file of a name.
-use Rattle.std.proofs.Common.{◌≡◌, ℕ, zero, suc, ◌+◌, ◌<◌, nat_lt, not, ◌≢◌, inl, inr, Bool, true, false, cond, Option, Some, None, Result, Ok, Err, OnErr, List, [], ◌∷◌, ◌++◌, length, set, map, Vec, String, string_bytes, refl, sym, ◌∙◌, ap, subst, arith, get_or, if◌then◌else◌}
+use Rattle.std.proofs.Common.{◌≡◌, ℕ, zero, suc, ◌+◌, ◌<◌, nat_lt, not, ◌≢◌, inl, inr, Bool, true, false, Option, Some, None, Result, Ok, Err, OnErr, List, [], ◌∷◌, ◌++◌, length, set, Vec, String, string_bytes, refl, sym, ◌∙◌, ap, subst, arith, get_or, if◌then◌else◌}
 use Rattle.std.proofs.lemmas.List.{length-map, map-set, map-append, set-get_or}
 use Rattle.std.specs.Global.{Global}
 use Rattle.std.specs.List.{position, position_or_len}

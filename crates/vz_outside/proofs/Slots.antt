@@ -1,5 +1,5 @@
 -- Laws on the elements of a list by their places.
-use Rattle.std.proofs.Common.{◌≡◌, ◌≢◌, ℕ, zero, suc, ◌<◌, ◌⊎◌, inl, inr, Some, None, List, [], ◌∷◌, ◌++◌, length, set, slice_get, refl, sym, ap, arith}
+use Rattle.std.proofs.Common.{◌≡◌, ◌≢◌, ℕ, zero, suc, ◌<◌, ◌⊎◌, inl, inr, Some, List, [], ◌∷◌, ◌++◌, length, set, slice_get, refl, sym, ap, arith}
 use Rattle.std.proofs.lemmas.Option.{none-some, same_Some}
 
 -- an element stays where it is when others come behind

@@ -1,15 +1,14 @@
 -- Rules of the calls of a shelf in memory: what stands still, and what the slots keep.
-use Rattle.std.proofs.Common.{◌≡◌, ℕ, ◌<◌, ◌≤◌, Some, None, List, [], ◌∷◌, ◌++◌, length, slice_get, IsTrue, Result, Ok, Err, refl, sym, ◌∙◌, ap, subst, arith}
+use Rattle.std.proofs.Common.{◌≡◌, ℕ, ◌<◌, ◌≤◌, Some, List, [], ◌∷◌, ◌++◌, length, slice_get, IsTrue, Result, Ok, Err, refl, sym, ◌∙◌, ap, subst, arith}
 use Rattle.std.specs.Option.{option_map, option_map_or}
 use Rattle.std.proofs.lemmas.Option.{slice_get_past}
 use Rattle.vz_outside.proofs.Counting.{sound-counted}
 use Rattle.vz_outside.proofs.Held.{open_slot, slot_low}
 use Rattle.vz_outside.proofs.Slots.{get-append, get_end}
-use Rattle.vz_outside.specs.InMemory.{File, InMemory, IsKept, shelved_of, file_at, mode_of, slot_name, slot_rest}
+use Rattle.vz_outside.specs.InMemory.{InMemory, IsKept, shelved_of, file_at, mode_of, slot_name}
 use Rattle.vz_outside.specs.Numbered.{Numbered, counted, is_sound}
-use Rattle.vz_outside.specs.Shelved.{Shelved, Mode, IsCall, IsOpened, IsUntouched, StaysSound}
+use Rattle.vz_outside.specs.Shelved.{Text, Mode, IsCall, IsOpened, KeepsOthers, IsUntouched, StaysSound}
 use Rattle.vz_outside.specs.declared.memory.Slot.{Slot}
-use Rattle.vz_outside.specs.declared.memory.Place.{Place}
 use Rattle.vz_outside.specs.declared.shelf.ShelfError.{ShelfError}
 use Rattle.vz_outside.specs.declared.shelf.ShelfError.TheVariants.{Failed, Memory}
 
@@ -94,3 +93,8 @@ pushed_opened old new slot more = record {
       ap (λ (slots : List Slot). option_map (λ (one : Slot). mode_of one.place) (slice_get slots (length old.slots))) more ∙
       ap (λ o. option_map (λ (one : Slot). mode_of one.place) o) (get_end old.slots slot);
 }
+
+-- where calls alone change, what belongs to other names stays
+pub still_others :
+    (name : Text) (shelf : InMemory) (calls : Numbered) → KeepsOthers name (shelved_of shelf) (shelved_of (record shelf { calls = calls }))
+still_others name shelf calls = record { files = λ n differs. refl; rests = λ slot mode is differs. refl }

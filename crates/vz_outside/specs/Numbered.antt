@@ -1,5 +1,5 @@
 -- Calls that are numbered from 1, some of which fail.
-use Rattle.std.specs.Prelude.{◌≡◌, ℕ, ◌+◌, ◌==◌, nat_lt, Bool, ◌&&◌, List, if◌then◌else◌}
+use Rattle.std.specs.Prelude.{ℕ, ◌+◌, ◌==◌, nat_lt, Bool, ◌&&◌, List, if◌then◌else◌}
 use Rattle.std.specs.List.{list_any, list_all}
 use Rattle.vz_outside.specs.Faults.{greatest_count}
 

@@ -6,8 +6,8 @@ ghost use Rattle.vz_outside.specs.declared.shelf.ShelfError.TheVariants.{Failed}
 ghost use Rattle.vz_outside.specs.declared.memory.Place.TheVariants.{At};
 ghost use Rattle.vz_outside.specs.InMemory.{IsKept, Opens, Creates, Reads, Writes, bytes_in, emptied, extended, files_of, mode_of, place_of, shelved_of};
 
-use crate::ShelfError;
 use crate::numbering::Calls;
+use crate::{Shelf, ShelfError};
 use std::alloc::Global;
 use std::marker::Model;
 
@@ -136,6 +136,32 @@ impl MemoryShelf {
         let file = self.slots[slot as usize].file;
         extend_file(&mut self.files, file, &from[..count])?;
         Ok(count)
+    }
+}
+
+impl Shelf for MemoryShelf {
+    ghost use Rattle.std.specs.Prelude.{refl};
+    ghost use Rattle.std.proofs.lemmas.Bool.{and_parts, ltb-true};
+    ghost use Rattle.vz_outside.specs.InMemory.{shelved_of};
+
+    ghost shelved = { shelved_of };
+
+    ghost sound_tells = { λ shelf sound. (refl, ltb-true _ _ (and_parts _ _ sound).1) };
+
+    fn open(&mut self, name: &str) -> Result<u32, ShelfError> {
+        self.open_file(name)
+    }
+
+    fn create(&mut self, name: &str) -> Result<u32, ShelfError> {
+        self.create_file(name)
+    }
+
+    fn read(&mut self, slot: u32, into: &mut [u8]) -> Result<usize, ShelfError> {
+        self.read_on(slot, into)
+    }
+
+    fn write(&mut self, slot: u32, from: &[u8]) -> Result<usize, ShelfError> {
+        self.write_on(slot, from)
     }
 }
 

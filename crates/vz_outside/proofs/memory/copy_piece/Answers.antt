@@ -1,4 +1,4 @@
-use Rattle.std.proofs.Common.{arith, ℕ, length, length-take, length-drop}
+use Rattle.std.proofs.Common.{arith, ℕ, length-take, length-drop}
 use Rattle.vz_outside.proofs.Pieces.{copied}
 use Rattle.vz_outside.proofs.memory.copy_piece.Goals as goal
 

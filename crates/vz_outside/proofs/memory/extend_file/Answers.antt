@@ -1,4 +1,4 @@
-use Rattle.std.proofs.Common.{◌<◌, ap, arith, length, sym}
+use Rattle.std.proofs.Common.{◌<◌, arith, length}
 use Rattle.vz_outside.proofs.Places.{on_err, stored_extended, stored_same}
 use Rattle.vz_outside.proofs.memory.extend_file.Goals as goal
 

@@ -2,7 +2,7 @@ use Rattle.std.proofs.Common.{◌≡◌, ◌∙◌, sym, ap, Some, List, String,
 use Rattle.std.specs.Global.{Global}
 use Rattle.std.specs.Option.{option_copied}
 use Rattle.vz_outside.proofs.Places.{bytes_stored, bytes_missing}
-use Rattle.vz_outside.specs.InMemory.{InMemory, File, bytes_in, files_of, place_of}
+use Rattle.vz_outside.specs.InMemory.{InMemory, File, files_of, place_of}
 use Rattle.vz_outside.proofs.memory.MemoryShelf.bytes_of.Goals as goal
 
 pub returns : goal.returns

@@ -1,5 +1,4 @@
-use Rattle.std.proofs.Common.{◌∙◌, ap, sym, subst, List, ◌++◌, ◌∷◌, [], Some, String, Vec, ℕ}
-use Rattle.std.specs.Global.{Global}
+use Rattle.std.proofs.Common.{◌∙◌, ap, sym, subst, List, ◌++◌, ◌∷◌, [], Some}
 use Rattle.vz_outside.proofs.Held.{kept_push}
 use Rattle.vz_outside.proofs.Places.{found_there, place_first}
 use Rattle.vz_outside.specs.InMemory.{InMemory, IsKept, files_of, reading_from}

@@ -1,4 +1,4 @@
-use Rattle.std.proofs.Common.{◌≡◌, ◌<◌, ◌∙◌, ap, sym, subst, arith, refl, length, set, ◌+◌, List, Some, String, Vec, ℕ}
+use Rattle.std.proofs.Common.{◌≡◌, ◌∙◌, ap, sym, subst, arith, refl, length, set, ◌+◌, String, Vec, ℕ}
 use Rattle.std.specs.Global.{Global}
 use Rattle.vz_outside.proofs.Held.{kept-set, moves_made, slot_low, slot_read}
 use Rattle.vz_outside.proofs.Places.{stored_at, stored_length}

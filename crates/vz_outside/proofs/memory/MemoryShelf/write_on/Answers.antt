@@ -1,5 +1,5 @@
-use Rattle.std.proofs.Common.{◌≡◌, ◌<◌, ◌∙◌, ap, sym, subst, arith, refl, length, List, Some}
-use Rattle.vz_outside.proofs.Held.{ChangesOne, change-set, kept_files, puts_made, slot_low, slot_read, stands_at_end, open_slot}
+use Rattle.std.proofs.Common.{ap, sym, subst, arith, List}
+use Rattle.vz_outside.proofs.Held.{ChangesOne, change-set, kept_files, puts_made, slot_low, slot_read, stands_at_end}
 use Rattle.vz_outside.proofs.Places.{stored_length}
 use Rattle.vz_outside.specs.InMemory.{File, InMemory, Puts, file_at, files_of}
 use Rattle.vz_outside.specs.Shelved.{Writing}
