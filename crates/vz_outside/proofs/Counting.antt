@@ -1,5 +1,5 @@
 -- Laws on numbered calls.
-use Rattle.std.proofs.Common.{◌≡◌, ℕ, ◌+◌, ◌<◌, ◌≤◌, ◌==◌, nat_lt, Bool, true, false, ◌||◌, List, [], ◌∷◌, IsTrue, refl, ◌∙◌, ap, arith}
+use Rattle.std.proofs.Common.{◌≡◌, ℕ, ◌+◌, ◌<◌, ◌≤◌, ◌==◌, sym, ◌∙◌, nat_lt, Bool, true, false, ◌||◌, List, [], ◌∷◌, IsTrue, refl, ap, arith}
 use Rattle.std.specs.List.{list_all, list_any}
 use Rattle.std.proofs.lemmas.Bool.{and_parts, and_from, cond_both, ltb-true, lt-ltb, ne_eqb}
 use Rattle.vz_outside.specs.Faults.{greatest_count}
@@ -34,8 +34,8 @@ pub sound_passes : (calls : Numbered) → IsTrue (is_sound calls) → is_failing
 sound_passes calls sound = none_equal calls.failing calls.next (and_parts _ _ sound).0
 
 -- sound calls are sound after one more
-pub sound-counted : (calls : Numbered) → IsTrue (is_sound calls) → IsTrue (is_sound (counted calls))
-sound-counted calls sound =
+pub sound_counted : (calls : Numbered) → IsTrue (is_sound calls) → IsTrue (is_sound (counted calls))
+sound_counted calls sound =
     and_from _ _
     (still_below calls.failing calls.next (one_more calls.next) (one_more_least calls.next) (and_parts _ _ sound).0)
     (and_parts _ _ sound).1
@@ -43,3 +43,13 @@ sound-counted calls sound =
 -- the count of sound calls can rise
 pub sound_low : (calls : Numbered) → IsTrue (is_sound calls) → calls.faults < greatest_count
 sound_low calls sound = ltb-true calls.faults greatest_count (and_parts _ _ sound).1
+
+-- the next call is one of those that fail, where its number was found among theirs
+pub failing_found :
+    (calls : Numbered) (numbers : List ℕ) (number : ℕ) (answer : Bool) →
+    numbers ≡ calls.failing → number ≡ calls.next → answer ≡ list_any (λ n. n == number) numbers → answer ≡ true →
+    is_failing calls ≡ true
+failing_found calls numbers number answer same next found hit =
+    ap (λ (ns : List ℕ). list_any (λ n. n == calls.next) ns) (sym same) ∙
+    ap (λ (m : ℕ). list_any (λ n. n == m) numbers) (sym next) ∙
+    sym found ∙ hit

@@ -13,3 +13,4 @@ mod OpenRules
 mod CreateRules
 mod ReadRules
 mod WriteRules
+mod OuterCalls

@@ -2,7 +2,7 @@
 use Rattle.std.proofs.Common.{◌≡◌, ℕ, ◌<◌, ◌≤◌, Some, List, [], ◌∷◌, ◌++◌, length, slice_get, IsTrue, Result, Ok, Err, refl, sym, ◌∙◌, ap, subst, arith}
 use Rattle.std.specs.Option.{option_map, option_map_or}
 use Rattle.std.proofs.lemmas.Option.{slice_get_past}
-use Rattle.vz_outside.proofs.Counting.{sound-counted}
+use Rattle.vz_outside.proofs.Counting.{sound_counted}
 use Rattle.vz_outside.proofs.Held.{open_slot, slot_low}
 use Rattle.vz_outside.proofs.Slots.{get-append, get_end}
 use Rattle.vz_outside.specs.InMemory.{InMemory, IsKept, shelved_of, file_at, mode_of, slot_name}
@@ -40,7 +40,7 @@ still_call shelf calls more = record {
 -- a sound shelf whose calls are counted on is sound
 pub counted_stays : (old new : InMemory) → new.calls ≡ counted old.calls → IsTrue (is_sound old.calls) → StaysSound (shelved_of old) (shelved_of new)
 counted_stays old new after sound = record {
-  sound = subst (λ (calls : Numbered). IsTrue (is_sound calls)) (sym after) (sound-counted old.calls sound);
+  sound = subst (λ (calls : Numbered). IsTrue (is_sound calls)) (sym after) (sound_counted old.calls sound);
   faults = ap (λ (calls : Numbered). calls.faults) after;
 }
 

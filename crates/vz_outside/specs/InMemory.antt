@@ -6,6 +6,7 @@ use Rattle.std.specs.Str.{bytes_eq}
 use Rattle.vz_outside.specs.Faults.{Rose}
 use Rattle.vz_outside.specs.Numbered.{Numbered, counted, faulted, is_failing, is_sound}
 use Rattle.vz_outside.specs.Shelved.{Shelved, Text, Mode, Reading, Writing}
+use Rattle.vz_outside.specs.Sunk.{Sunk}
 use Rattle.vz_outside.specs.declared.memory.Slot.{Slot}
 use Rattle.vz_outside.specs.declared.memory.Place.{Place}
 use Rattle.vz_outside.specs.declared.memory.Place.TheVariants.{At, End}
@@ -160,3 +161,14 @@ abbrev pub Writes : InMemory → ℕ → List ℕ → Result ℕ ShelfError → 
 Writes old slot piece (Ok n) new = Puts old slot piece n new
 Writes old slot piece (Err Failed) new = FailsByNumber old new
 Writes old slot piece (Err Memory) new = new ≡ after_call old
+
+-- what a sink in memory holds
+pub record Collected : Type 0 where
+  -- the bytes that it took
+  pub bytes : List ℕ
+  -- the calls that were made, and those that fail
+  pub calls : Numbered
+
+-- what can be known of a sink in memory: everything
+abbrev pub sunk_of : Collected → Sunk
+sunk_of sink = record { tells = true; bytes = sink.bytes; faults = sink.calls.faults; sound = is_sound sink.calls }

@@ -3,3 +3,4 @@ pub mod Numbered
 pub mod Sunk
 pub mod Shelved
 pub mod InMemory
+pub mod Outer

@@ -1,7 +1,7 @@
 //! The calls of a device in memory, numbered from 1.
-ghost use Rattle.std.specs.Prelude.{◌≡◌, IsTrue, IsErr, OnOk, OnErr, IfErr, ◌↔◌};
+ghost use Rattle.std.specs.Prelude.{◌≡◌, IsTrue, IsOk, IsErr, OnOk, OnErr, IfErr, ◌↔◌};
 ghost use Rattle.vz_outside.specs.Faults.{Rose};
-ghost use Rattle.vz_outside.specs.Numbered.{counted, faulted, is_failing};
+ghost use Rattle.vz_outside.specs.Numbered.{counted, faulted, is_failing, is_sound};
 ghost use Rattle.vz_outside.specs.declared.shelf.ShelfError.TheVariants.{Failed};
 
 use crate::ShelfError;
@@ -43,13 +43,24 @@ impl Calls {
         ensures error { IfErr result (λ e. e ≡ Failed) }
         ensures failed { OnErr result (self.new ≡ faulted (counted self.old)) }
         ensures rose { OnErr result (Rose self.old.faults self.new.faults) }
+        ensures sound { IsTrue (is_sound self.old) → IsOk result }
+        ensures stays { IsTrue (is_sound self.old) → IsTrue (is_sound self.new) }
     {
-        let number = self.next;
-        self.next = number.saturating_add(1);
+        let number = self.count();
         if self.failing.contains(&number) {
             return Err(self.fail());
         }
         Ok(())
+    }
+
+    /// Numbers the next call.
+    fn count(&mut self) -> u64
+        ensures number { result ≡ self.old.next }
+        ensures counted { self.new ≡ counted self.old }
+    {
+        let number = self.next;
+        self.next = number.saturating_add(1);
+        number
     }
 
     /// Counts a fault, and answers it.
