@@ -5,9 +5,12 @@ pub mod gate;
 pub mod memory;
 pub mod memory_sink;
 mod numbering;
+mod opening;
 pub mod real;
 pub mod shelf;
 pub mod sink;
+#[cfg(test)]
+mod tests;
 pub mod transfer;
 
 pub use gate::{Gate, OpenGate};

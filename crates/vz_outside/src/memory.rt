@@ -7,6 +7,7 @@ ghost use Rattle.vz_outside.specs.declared.memory.Place.TheVariants.{At};
 ghost use Rattle.vz_outside.specs.InMemory.{IsKept, Opens, Creates, Reads, Writes, bytes_in, emptied, extended, files_of, mode_of, place_of, shelved_of};
 
 use crate::numbering::Calls;
+use crate::opening::room_for_slot;
 use crate::{Shelf, ShelfError};
 use std::alloc::Global;
 use std::marker::Model;
@@ -84,7 +85,7 @@ impl MemoryShelf {
         let Some(file) = place_of(&self.files, name) else {
             return Err(self.calls.fail());
         };
-        let slot = slot_room(&mut self.slots)?;
+        let slot = room_for_slot(&mut self.slots)?;
         self.slots.push_reserved(Slot {
             file,
             place: Place::At(0),
@@ -98,7 +99,7 @@ impl MemoryShelf {
         ensures creates { Creates self.old name.now result self.new }
     {
         self.calls.pass()?;
-        let slot = slot_room(&mut self.slots)?;
+        let slot = room_for_slot(&mut self.slots)?;
         let alloc = *self.slots.allocator();
         let file = empty_file(alloc, &mut self.files, name)?;
         self.slots.push_reserved(Slot {
@@ -184,18 +185,6 @@ fn place_of(files: &[(String, Vec<u8>)], name: &str) -> Option<usize>
     ensures within { IfSome result (λ place. place < length files.now) }
 {
     files.iter().position(|file| file.0.as_str() == name)
-}
-
-/// Makes room for one more slot, and answers its number.
-fn slot_room(slots: &mut Vec<Slot>) -> Result<u32, ShelfError>
-    ensures number { IfOk result (λ slot. slot ≡ vec_len slots.old) }
-    ensures room { OnOk result (vec_len slots.new < vec_capacity slots.new) }
-    ensures items { slots.new.items ≡ slots.old.items }
-    ensures memory { IsErrOf result Failed → ⊥ }
-{
-    let number = u32::try_from(slots.len()).map_err(|_| ShelfError::Memory)?;
-    slots.reserve(1)?;
-    Ok(number)
 }
 
 /// Empties the first file of a name, or makes an empty one behind the others, and answers its place.

@@ -5,6 +5,7 @@ ghost use Rattle.vz_outside.specs.Outer.{handle_mode};
 ghost use Rattle.vz_outside.specs.Shelved.{Reading, Writing};
 ghost use Rattle.vz_outside.specs.declared.shelf.ShelfError.TheVariants.{Failed};
 
+use crate::opening::room_for_slot;
 use crate::{Shelf, ShelfError, Sink};
 use std::fs;
 use std::io::{self, Read, Write};
@@ -62,7 +63,7 @@ impl<R: Files + AllocGlobal + Drop> Shelf for RealShelf<R> {
     ghost sound_tells = { λ shelf sound. absurd (false≢true sound) };
 
     fn open(&mut self, name: &str) -> Result<u32, ShelfError> {
-        let slot = room(&mut self.slots)?;
+        let slot = room_for_slot(&mut self.slots)?;
         let Ok(file) = fs::open(&self.rt, name) else {
             return Err(fail(&mut self.faults));
         };
@@ -71,7 +72,7 @@ impl<R: Files + AllocGlobal + Drop> Shelf for RealShelf<R> {
     }
 
     fn create(&mut self, name: &str) -> Result<u32, ShelfError> {
-        let slot = room(&mut self.slots)?;
+        let slot = room_for_slot(&mut self.slots)?;
         let Ok(file) = fs::create(&self.rt, name) else {
             return Err(fail(&mut self.faults));
         };
@@ -116,18 +117,6 @@ impl<F: Read + Write + Drop> Handle<F> {
             Handle::Source(_) => unreachable!(),
         }
     }
-}
-
-/// Makes room for one more slot, and answers its number.
-fn room<F: Drop>(slots: &mut Vec<Handle<F>>) -> Result<u32, ShelfError>
-    ensures number { IfOk result (λ slot. slot ≡ vec_len slots.old) }
-    ensures room { OnOk result (vec_len slots.new < vec_capacity slots.new) }
-    ensures items { slots.new.items ≡ slots.old.items }
-    ensures memory { IsErrOf result Failed → ⊥ }
-{
-    let number = u32::try_from(slots.len()).map_err(|_| ShelfError::Memory)?;
-    slots.reserve(1)?;
-    Ok(number)
 }
 
 /// Counts a fault, and answers it. The count stands still at 18,446,744,073,709,551,615.
