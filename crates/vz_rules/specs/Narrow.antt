@@ -25,6 +25,7 @@ use Rattle.vz_rules.specs.declared.entry.Rest.{Rest}
 
 -- The form
 
+-- a list of nothing
 abbrev pub is_nil : {A : Type 0} → List A → Bool
 is_nil [] = true
 is_nil (x ∷ xs) = false
@@ -56,7 +57,7 @@ stands_alone frame = is_nil frame.metadata.dependencies && is_nil frame.metadata
 abbrev pub is_plain_frame : CompositorFrame → Bool
 is_plain_frame frame = stands_alone frame && is_one_pass frame.passes && is_none (first_broken frame)
 
--- what the rules ask of one quad alone in a root pass: the output has points and begins at the first one, the visible part is in the quad's rectangle, and the damage is in the output
+-- what the rules ask of one quad alone in a root pass: an output from (0, 0) on that has the damage, and a rectangle that has the visible part
 abbrev pub quad_keeps_rules : RenderPass → List DrawQuad → Bool
 quad_keeps_rules pass (quad ∷ []) =
     not (bad_root (Some pass)) && covers_rect quad.area quad.visible && covers_rect pass.output pass.damage
@@ -86,6 +87,7 @@ narrow_events = event.Client 1 ∷ event.Client 1 ∷ event.Draw ∷ event.Done 
 abbrev pub only_sub : Sub
 only_sub = record { client = 1; ordinal = 1 }
 
+-- nothing follows
 abbrev pub no_effects : Effects
 no_effects = record { activated = []; destroyed = []; returned = []; fed = [] }
 
@@ -95,7 +97,11 @@ narrow_history size =
     record { event = event.Client 1; reply = reply.Accepted 1 1; effects = record no_effects { activated = only_sub ∷ [] } }
     ∷ record { event = event.Client 1; reply = reply.Rooted; effects = no_effects }
     ∷ record { event = event.Draw; reply = reply.Drawn (sized size); effects = no_effects }
-    ∷ record { event = event.Done; reply = reply.Shown; effects = record no_effects { fed = record { sub = only_sub; presented = true } ∷ [] } }
+    ∷ record {
+      event = event.Done;
+      reply = reply.Shown;
+      effects = record no_effects { fed = record { sub = only_sub; presented = true } ∷ [] };
+    }
     ∷ []
 
 -- no reference is lent, and no submission waits for feedback
@@ -104,6 +110,7 @@ nothing_left = record { held = []; unfed = [] }
 
 -- The picture
 
+-- the colour of a solid
 abbrev pub solid_colour : Material → Option Colour
 solid_colour (Solid c) = Some c
 solid_colour _ = None
