@@ -14,7 +14,7 @@ use Rattle.vz_rules.specs.Frames.{written}
 use Rattle.vz_rules.proofs.Narrow_whole.{written_are}
 use Rattle.vz_rules.specs.Narrow.{is_narrow, narrow_quad, narrow_history, narrow_colour, narrow_events, nothing_left}
 use Rattle.vz_rules.specs.Log.{log_text}
-use Rattle.vz_rules.proofs.Rows.{opened, plan_1, log_1, sink_of, first_local, at_local, frame_with, listing_1, sized_frame, rect, red, red_quad, dark, made}
+use Rattle.vz_rules.proofs.Rows.{opened, one_quad_plan, one_quad_history, sink_of, first_local, at_local, frame_with, one_listing, sized_frame, rect, red, red_quad, dark, made}
 
 unfoldable narrow_opened : ℕ
 unfolding opened is_narrow narrow_events narrow_history narrow_quad narrow_colour
@@ -23,34 +23,40 @@ narrow_opened = 0
 abbrev file_of : List Message → ClientFile
 file_of ms = record { format = 1; sink = sink_of 1; messages = ms }
 
-abbrev file_1 : ClientFile
-file_1 = file_of (Submit first_local (frame_with []) ∷ SetRoot first_local ∷ [])
+abbrev one_quad_file : ClientFile
+one_quad_file = file_of (Submit first_local (frame_with []) ∷ SetRoot first_local ∷ [])
 
 abbrev with_quad : DrawQuad → ClientFile
 with_quad quad = file_of (Submit first_local (sized_frame 4 2 (rect 0 0 4 2) [] [] None (quad ∷ [])) ∷ SetRoot first_local ∷ [])
 
-row_1_files : plan_1.files ≡ file_1 ∷ []
-row_1_files = refl
+-- the plan of one quad has this file alone
+one_quad_files : one_quad_plan.files ≡ one_quad_file ∷ []
+one_quad_files = refl
 
-row_1_is_narrow : is_narrow file_1 ≡ true
+-- the file is narrow
+one_quad_is_narrow : is_narrow one_quad_file ≡ true
 unfolding narrow_opened
-row_1_is_narrow = refl
+one_quad_is_narrow = refl
 
-row_1_history : narrow_history plan_1.size ≡ log_1
+-- the history of a narrow file is that of the one quad
+one_quad_history_is_narrow : narrow_history one_quad_plan.size ≡ one_quad_history
 unfolding narrow_opened
-row_1_history = refl
+one_quad_history_is_narrow = refl
 
-row_1_made : made plan_1 narrow_events ≡ log_1
+-- and so is what the narrow events make
+one_quad_history_made : made one_quad_plan narrow_events ≡ one_quad_history
 unfolding narrow_opened
-row_1_made = refl
+one_quad_history_made = refl
 
-row_1_log : log_text (narrow_history plan_1.size) nothing_left ≡ codes "c1 accepted 1 1 +1.1\nc1 rooted\ndraw drawn 0 0 4 2\ndone shown p1.1\nend\n"
+-- its text
+one_quad_log : log_text (narrow_history one_quad_plan.size) nothing_left ≡ codes "c1 accepted 1 1 +1.1\nc1 rooted\ndraw drawn 0 0 4 2\ndone shown p1.1\nend\n"
 unfolding narrow_opened
-row_1_log = refl
+one_quad_log = refl
 
-row_1_colours : map (narrow_colour file_1) (points_of plan_1.size) ≡ dark ∷ red ∷ red ∷ dark ∷ dark ∷ red ∷ red ∷ dark ∷ []
+-- its picture, row by row
+one_quad_colours : map (narrow_colour one_quad_file) (points_of one_quad_plan.size) ≡ dark ∷ red ∷ red ∷ dark ∷ dark ∷ red ∷ red ∷ dark ∷ []
 unfolding narrow_opened
-row_1_colours = refl
+one_quad_colours = refl
 
 -- it is a plan, so that the laws speak of it
 plan_1_is : IsPlan plan_1
@@ -73,7 +79,7 @@ row_1_written =
 other_forms : map is_narrow (
     file_of (Submit first_local (frame_with []) ∷ SetRoot first_local ∷ SetRoot first_local ∷ [])
     ∷ file_of (Submit first_local (frame_with []) ∷ SetRoot (at_local 1 2) ∷ [])
-    ∷ file_of (Submit first_local (frame_with (listing_1 ∷ [])) ∷ SetRoot first_local ∷ [])
+    ∷ file_of (Submit first_local (frame_with (one_listing ∷ [])) ∷ SetRoot first_local ∷ [])
     ∷ with_quad (record red_quad { material = Solid (record red { a = 254 }) })
     ∷ with_quad (record red_quad { opacity = 254 })
     ∷ with_quad (record red_quad { visible = rect 0 0 2 2 }) ∷ []
