@@ -59,9 +59,9 @@ unfolding narrow_opened
 one_quad_colours = refl
 
 -- it is a plan, so that the laws speak of it
-plan_1_is : IsPlan plan_1
+one_quad_plan_is : IsPlan one_quad_plan
 unfolding narrow_opened first_taken fits_file fits_message fits_frame fits_pass fits_quad fits_material
-plan_1_is =
+one_quad_plan_is =
     record {
       some_files = omega arith;
       few_files = omega arith;
@@ -70,10 +70,10 @@ plan_1_is =
       sizes = record { wide = omega (arith, ints); not_too_wide = omega (arith, ints); high = omega (arith, ints); not_too_high = omega (arith, ints) };
     }
 
-row_1_written : written plan_1 log_1 2 ≡ (dark ∷ red ∷ red ∷ dark ∷ dark ∷ red ∷ red ∷ dark ∷ []) ∷ []
-row_1_written =
-    subst (λ h. written plan_1 h 2 ≡ (dark ∷ red ∷ red ∷ dark ∷ dark ∷ red ∷ red ∷ dark ∷ []) ∷ []) row_1_history
-    (written_are plan_1 file_1 plan_1_is refl row_1_is_narrow ∙ ap (λ cs. cs ∷ []) row_1_colours)
+one_quad_written : written one_quad_plan one_quad_history 2 ≡ (dark ∷ red ∷ red ∷ dark ∷ dark ∷ red ∷ red ∷ dark ∷ []) ∷ []
+one_quad_written =
+    subst (λ h. written one_quad_plan h 2 ≡ (dark ∷ red ∷ red ∷ dark ∷ dark ∷ red ∷ red ∷ dark ∷ []) ∷ []) one_quad_history_is_narrow
+    (written_are one_quad_plan one_quad_file one_quad_plan_is refl one_quad_is_narrow ∙ ap (λ cs. cs ∷ []) one_quad_colours)
 
 -- what is not narrow: another message, another surface, a resource, a quad through which something is seen, and a broken rule
 other_forms : map is_narrow (
