@@ -35,7 +35,7 @@ pub struct Run {
 
 /// Runs the program: `words` are those of the command line behind the program's name, `shelf` has the files that they
 /// name, and the line at the end goes to `out`. `gate` is told of each step, and `steps` counts each pixel that is made or painted.
-pub fn viz<F: Shelf, O: Sink, G: Gate, L: Ledger>(
+pub fn viz<F: Shelf + Send, O: Sink, G: Gate + Sync, L: Ledger>(
     alloc: Global,
     words: &[String],
     shelf: &mut F,
