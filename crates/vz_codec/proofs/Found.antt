@@ -1,5 +1,5 @@
 -- What decoding finds and refuses, and which bytes spell a file.
-use Rattle.std.proofs.Common.{◌≡◌, ℕ, ◌-◌, ◌<◌, ◌↔◌, Some, None, Result, Ok, Err, List, [], ◌∷◌, ◌++◌, length, All, refl, sym, ap, ◌∙◌, arith, inl, inr}
+use Rattle.std.proofs.Common.{◌≡◌, ◌≢◌, ℕ, ◌-◌, ◌<◌, ◌↔◌, Some, None, Result, Ok, Err, List, [], ◌∷◌, ◌++◌, length, All, refl, sym, ap, ◌∙◌, arith, inl, inr}
 use Rattle.std.proofs.lemmas.Bool.{cases_lt}
 use Rattle.std.proofs.lemmas.List.{get_or_past}
 use Rattle.std.proofs.lemmas.List.Elements.{All-get_or}
@@ -8,7 +8,9 @@ use Rattle.vz_codec.specs.declared.fault.FileRule.{FileRule}
 use Rattle.vz_codec.specs.declared.fault.DecodeError.{DecodeError}
 use Rattle.vz_codec.specs.declared.fault.DecodeError.TheVariants.{Refused, Memory}
 use Rattle.vz_codec.specs.Reading.{Fault, ended, file_in}
-use Rattle.vz_codec.specs.Grammar.{Spells, placed, wrong, Decodes, Finds}
+use Rattle.vz_codec.specs.Grammar.{Spells, Wrong, placed, wrong, Decodes, Finds}
+use Rattle.vz_codec.specs.declared.fault.FileRule.TheVariants as rules
+use Rattle.vz_codec.proofs.Places.{fault_placed}
 use Rattle.vz_codec.proofs.Numbers.{IsBytes}
 use Rattle.vz_codec.proofs.Taken_messages.{file_took}
 use Rattle.vz_codec.proofs.Again_messages.{file_again, file_read}
@@ -74,3 +76,23 @@ pub right_spelled : (bytes : List ℕ) → All (λ b. b < 256) bytes → (wrong 
 unfolding wrong
 right_spelled bytes all =
     (λ e. let r = right_by bytes (file_in bytes) e in (r.0, is_found bytes r.0 (bytes_of bytes all) r.1), λ s. spelled_right bytes s.0 s.1)
+
+placed_is : (bytes : List ℕ) (r : Result ClientFile Fault) (w : Wrong) → placed bytes r ≡ Some w → (e : Fault) × (r ≡ Err e) × (w.at ≡ length bytes - e.left) × (w.rule ≡ e.rule)
+placed_is bytes (Ok f) w given = absurd cc
+placed_is bytes (Err e) w given = (e, refl, cc, cc)
+
+pub short_place : (bytes : List ℕ) (w : Wrong) → wrong bytes ≡ Some w → w.rule ≡ rules.Short → w.at ≡ length bytes
+unfolding wrong
+short_place bytes w given is_short =
+    let e = placed_is bytes (file_in bytes) w given in
+    let place = fault_placed bytes e.0 e.1 in
+    let nothing = place.at_end (sym e.3 ∙ is_short) in
+    omega (arith, e.2, nothing)
+
+pub other_place : (bytes : List ℕ) (w : Wrong) → wrong bytes ≡ Some w → w.rule ≢ rules.Short → w.at < length bytes
+unfolding wrong
+other_place bytes w given other =
+    let e = placed_is bytes (file_in bytes) w given in
+    let place = fault_placed bytes e.0 e.1 in
+    let some = place.before_end (λ h. other (e.3 ∙ h)) in
+    omega (arith, e.2, some, place.within)

@@ -41,19 +41,22 @@ many_length {A} read (suc n) bytes x e =
     let b = bind_ok (many_at read n a.0.1) _ x a.2 in
     ap (λ (y : List A × List ℕ). length y.0) (sym (ok_is (a.0.0 ∷ b.0.0, b.0.1) x b.2)) ∙ ap suc (many_length read n a.0.1 b.0 b.1)
 
+-- the value of a step that did not fail, and what follows, as variables
+pub then_ok : {A B : Type 0} {R : Type 0} (r : Result A Fault) (f : A → Result B Fault) (y : B) → (r >>= f) ≡ Ok y → ((x : A) → r ≡ Ok x → f x ≡ Ok y → R) → R
+then_ok r f y e then = let x = bind_ok r f y e in then x.0 x.1 x.2
+
 -- a pass has room among the quads of a frame
 pub pass_room : (format before : ℕ) (bytes : List ℕ) (x : RenderPass × List ℕ) → pass_at format before bytes ≡ Ok x → length x.0.quads ≤ 1024 - before
 unfolding pass_at
 pass_room format before bytes x e =
-    let id = bind_ok (number_at w32 bytes) _ x e in
-    let output = bind_ok (rect_at id.0.1) _ x id.2 in
-    let damage = bind_ok (rect_at output.0.1) _ x output.2 in
-    let n = bind_ok (limited_at w16 0 (1024 - before) damage.0.1) _ x damage.2 in
-    let quads = bind_ok (many_at (quad_at format) n.0.0 n.0.1) _ x n.2 in
-    let limit = limited_ok w16 0 (1024 - before) damage.0.1 n.0 n.1 in
-    let same : length quads.0.0 ≡ n.0.0 = many_length (quad_at format) n.0.0 n.0.1 quads.0 quads.1 in
-    let least : length quads.0.0 ≤ 1024 - before = omega arith in
-    subst (λ (y : RenderPass × List ℕ). length y.0.quads ≤ 1024 - before) (ok_is _ x quads.2) least
+    then_ok (number_at w32 bytes) _ x e (λ id _ e0.
+    then_ok (rect_at id.1) _ x e0 (λ shown _ e1.
+    then_ok (rect_at shown.1) _ x e1 (λ damage _ e2.
+    then_ok (limited_at w16 0 (1024 - before) damage.1) _ x e2 (λ n given e3.
+    then_ok (many_at (quad_at format) n.0 n.1) _ x e3 (λ quads all e4.
+    let limit = limited_ok w16 0 (1024 - before) damage.1 n given in
+    let same : length quads.0 ≡ n.0 = many_length (quad_at format) n.0 n.1 quads all in
+    subst (λ (y : RenderPass × List ℕ). length y.0.quads ≤ 1024 - before) (ok_is _ x e4) (omega arith))))))
 
 pub ended_there : {A : Type 0} (a : A) (bytes : List ℕ) → length bytes ≤ 0 → ended (a, bytes) ≡ Ok a
 unfolding ended

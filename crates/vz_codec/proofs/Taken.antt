@@ -209,28 +209,28 @@ pub rects : Taking rect_at rect_bytes fits_rect
 unfolding rect_at
 rects = record {
   law = λ bytes x fits e.
-      let left = step signed bytes _ x fits e in
-      let top = step signed left.value.1 _ x left.took.rest_fits left.next in
-      let w = step signed top.value.1 _ x top.took.rest_fits top.next in
-      let h = step signed w.value.1 _ x w.took.rest_fits w.next in
-      let made : Rectangle = record { x = left.value.0; y = top.value.0; w = w.value.0; h = h.value.0 } in
-      let test = tested_ok bytes fault.Limit (fits_rect made) (Ok (made, h.value.1)) x h.next in
-      finish rect_bytes fits_rect test.1 (judged (fits_rect made) test.0 (also (also (also left.took top.took) w.took) h.took));
+      from_step signed bytes _ x fits e (λ left t0 e0.
+      from_step signed left.1 _ x t0.rest_fits e0 (λ top t1 e1.
+      from_step signed top.1 _ x t1.rest_fits e1 (λ w t2 e2.
+      from_step signed w.1 _ x t2.rest_fits e2 (λ h t3 e3.
+      let made : Rectangle = record { x = left.0; y = top.0; w = w.0; h = h.0 } in
+      let test = tested_ok bytes fault.Limit (fits_rect made) (Ok (made, h.1)) x e3 in
+      finish rect_bytes fits_rect test.1 (judged (fits_rect made) test.0 (also (also (also t0 t1) t2) t3))))));
 }
 
 pub colours : Taking colour_at colour_bytes fits_colour
 unfolding colour_at
 colours = record {
   law = λ bytes x fits e.
-      let r = step bytes8 bytes _ x fits e in
-      let g = step bytes8 r.value.1 _ x r.took.rest_fits r.next in
-      let b = step bytes8 g.value.1 _ x g.took.rest_fits g.next in
-      let a = step bytes8 b.value.1 _ x b.took.rest_fits b.next in
-      let made : Colour = record { r = r.value.0; g = g.value.0; b = b.value.0; a = a.value.0 } in
+      from_step bytes8 bytes _ x fits e (λ r t0 e0.
+      from_step bytes8 r.1 _ x t0.rest_fits e0 (λ g t1 e1.
+      from_step bytes8 g.1 _ x t1.rest_fits e1 (λ b t2 e2.
+      from_step bytes8 b.1 _ x t2.rest_fits e2 (λ a t3 e3.
+      let made : Colour = record { r = r.0; g = g.0; b = b.0; a = a.0 } in
       let least : Bool = leb made.r made.a && leb made.g made.a && leb made.b made.a in
-      let test = tested_ok bytes fault.Colour least (Ok (made, a.value.1)) x a.next in
+      let test = tested_ok bytes fault.Colour least (Ok (made, a.1)) x e3 in
       let rg = and_parts _ _ test.0 in
       let one = and_parts _ _ rg.0 in
-      let fit : fits_colour made ≡ true = and_from _ _ (and_from _ _ (and_from _ _ a.took.fits one.0) one.1) rg.1 in
-      finish colour_bytes fits_colour test.1 (judged (fits_colour made) fit (also (also (also r.took g.took) b.took) a.took));
+      let fit : fits_colour made ≡ true = and_from _ _ (and_from _ _ (and_from _ _ t3.fits one.0) one.1) rg.1 in
+      finish colour_bytes fits_colour test.1 (judged (fits_colour made) fit (also (also (also t0 t1) t2) t3))))));
 }

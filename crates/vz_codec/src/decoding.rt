@@ -28,7 +28,7 @@ pub fn decode(alloc: Global, bytes: &[u8]) -> Result<ClientFile, DecodeError>
         Ok(file) => Ok(file),
         Err(ReadError::Memory) => Err(DecodeError::Memory),
         Err(ReadError::Wrong { left, rule }) => Err(DecodeError::Refused {
-            at: bytes.len().saturating_sub(left),
+            at: bytes.len() - left,
             rule,
         }),
     }

@@ -43,10 +43,14 @@ pub fn many<F: Field>(
 {
     let room = input.left() / TEXEL_BYTES;
     let mut values = Vec::with_capacity(alloc, count.min(room))?;
+
+    // What is left is kept at hand while the values are read.
+    let mut ahead = input.ahead();
     for _ in 0..count {
-        let value = field.read(input)?;
+        let value = field.read(&mut ahead)?;
         values.push(value)?;
     }
+    *input = ahead;
     Ok(values)
 }
 

@@ -115,15 +115,12 @@ fn is_side(number: i32) -> bool
     1 <= number && number <= REACH
 }
 
-#[tactic(auto, unfolding(crate::specs::Reading::colour_at))]
+#[tactic(auto, using(crate::proofs::Colours::by_four))]
 pub fn read_colour(input: &mut Reader) -> Result<Pixel, ReadError>
     ensures { Gives (λ x. (x, input.new)) result (colour_at input.old) }
 {
     let left = input.left();
-    let r = input.u8()?;
-    let g = input.u8()?;
-    let b = input.u8()?;
-    let a = input.u8()?;
+    let [r, g, b, a] = input.four()?;
     match Pixel::new(r, g, b, a) {
         Some(colour) => Ok(colour),
         None => Err(ReadError::refused(left, FileRule::Colour)),

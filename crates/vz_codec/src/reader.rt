@@ -2,7 +2,7 @@
 ghost use Rattle.std.specs.Prelude.{◌≡◌, ◌<◌, length};
 ghost use Rattle.std.specs.Int.{w8, w16, w32, w128};
 ghost use Rattle.vz_frame.specs.Fits.{in_reach};
-ghost use Rattle.vz_codec.specs.Giving.{Gives};
+ghost use Rattle.vz_codec.specs.Giving.{Gives, four_at};
 ghost use Rattle.vz_codec.specs.Reading.{number_at, limited_at, tag_at, signed_at, coordinate_at};
 
 use crate::error::ReadError;
@@ -36,6 +36,13 @@ impl<'a> Reader<'a> {
         ensures { result ≡ bytes.entry.now }
     {
         Reader { rest: bytes }
+    }
+
+    /// A reader of the same bytes.
+    pub fn ahead(&self) -> Reader<'a>
+        ensures { result ≡ self.now }
+    {
+        Reader { rest: self.rest }
     }
 
     /// How many bytes are left.
@@ -79,6 +86,18 @@ impl<'a> Reader<'a> {
         let (front, rest) = self.rest.split_at(4);
         self.rest = rest;
         Ok(u32::from_le_bytes([front[0], front[1], front[2], front[3]]))
+    }
+
+    /// Four bytes as they stand.
+    pub fn four(&mut self) -> Result<[u8; 4], ReadError>
+        ensures { Gives (λ x. (x, self.new)) result (four_at self.old) }
+    {
+        if self.rest.len() < 4 {
+            return Err(SHORT);
+        }
+        let (front, rest) = self.rest.split_at(4);
+        self.rest = rest;
+        Ok([front[0], front[1], front[2], front[3]])
     }
 
     #[tactic(auto, unfolding(crate::specs::Reading::number_at))]

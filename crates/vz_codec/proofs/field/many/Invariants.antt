@@ -6,4 +6,4 @@ use Rattle.vz_codec.proofs.field.many.Given as goal
 abbrev pub invariant-loop : goal.invariant-loop
 invariant-loop g l =
     let read = g.F.Field.value_at l.field in
-    with_front l.values.items (many_at read (l.count - l.counter) l.input) ≡ many_at read l.count l.fn.input
+    with_front l.values.items (many_at read (l.count - l.counter) l.ahead) ≡ many_at read l.count l.fn.input
