@@ -38,13 +38,13 @@ other_rests_then_other_rests one a b c call first then slot mode other is =
     then slot mode other (call.slots slot mode is) ∙ first slot mode other is
 
 -- no call keeps the others
-pub others_same : (one : Text) (s : Shelved) → KeepsOthers one s s
-others_same one s = record { files = λ name other. refl; rests = λ slot mode is other. refl }
+pub kept_same : (one : Text) (s : Shelved) → KeepsOthers one s s
+kept_same one s = record { files = λ name other. refl; rests = λ slot mode is other. refl }
 
-pub others_then_others :
+pub kept_then_kept :
     (one : Text) (a b c : Shelved) →
     IsTrue a.tells → IsCall a b → KeepsOthers one a b → KeepsOthers one b c → KeepsOthers one a c
-others_then_others one a b c told call first then = record {
+kept_then_kept one a b c told call first then = record {
   files = λ name other. then.files name other ∙ first.files name other;
   rests = λ slot mode is other.
       then.rests slot mode (call.slots slot mode is) (λ same. other (sym (call.names told slot mode is) ∙ same)) ∙
@@ -52,8 +52,8 @@ others_then_others one a b c told call first then = record {
 }
 
 -- where the bytes of all names and all rests stay, those of names other than one do
-pub others_of_untouched : (one : Text) (a b : Shelved) → IsUntouched a b → KeepsOthers one a b
-others_of_untouched one a b same = record {
+pub kept_of_untouched : (one : Text) (a b : Shelved) → IsUntouched a b → KeepsOthers one a b
+kept_of_untouched one a b same = record {
   files = λ name other. same.files name;
   rests = λ slot mode is other. same.rests slot mode is;
 }

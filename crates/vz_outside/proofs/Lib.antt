@@ -1,5 +1,6 @@
 pub mod Rises
 pub mod Calls
+pub mod Fronts
 mod Writes
 mod Prints
 mod Fills

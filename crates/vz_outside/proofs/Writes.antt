@@ -1,8 +1,7 @@
 -- What stands while a text is written piece by piece.
-use Rattle.std.proofs.Common.{◌≡◌, ℕ, ◌+◌, ◌-◌, ◌≤◌, List, Some, length, take, drop, ◌++◌, IsTrue, refl, subst, ap, arith, length-drop}
-use Rattle.std.proofs.lemmas.List.{take_all}
+use Rattle.std.proofs.Common.{◌≡◌, ℕ, ◌+◌, ◌≤◌, List, Some, length, take, drop, ◌++◌, IsTrue, refl, subst, ap, arith, length-drop}
 use Rattle.std.proofs.Math.Seq.{take-add}
-use Rattle.vz_outside.proofs.Calls.{call_same, call_then_call, tells_after, others_same, others_then_others, append_nothing, append_then_append, sound_same, sound_then_sound}
+use Rattle.vz_outside.proofs.Calls.{call_same, call_then_call, tells_after, kept_same, kept_then_kept, append_nothing, append_then_append, sound_same, sound_then_sound}
 use Rattle.vz_outside.specs.Shelved.{Shelved, Text, Writing, IsCall, KeepsOthers, Appends, StaysSound}
 
 -- so many bytes of a text were written
@@ -13,10 +12,6 @@ pub record HasWritten (text : List ℕ) (slot written : ℕ) (old new : Shelved)
   pub appended : IsTrue old.tells → Appends (take written text) (old.name slot) old new
   pub others : IsTrue old.tells → KeepsOthers (old.name slot) old new
   pub stays : IsTrue old.sound → StaysSound old new
-
--- a slice from a place on is what is left there
-pub rest_of : (n : ℕ) (xs : List ℕ) → take (length xs - n) (drop n xs) ≡ drop n xs
-rest_of n xs = take_all _ _ (omega (arith, length-drop n xs))
 
 -- a call wrote so many more, from the front of what was left
 pub written_more :
@@ -33,7 +28,7 @@ written_more text part slot written more old mid new before is_part few call app
   appended = λ told.
       subst (λ (all : List ℕ). Appends all (old.name slot) old new) (joined told) (chain told);
   others = λ told.
-      others_then_others (old.name slot) old mid new told before.call (before.others told)
+      kept_then_kept (old.name slot) old mid new told before.call (before.others told)
       (subst (λ (name : Text). KeepsOthers name mid new) (named told) (others (tells_after old mid before.call told)));
   stays = λ sound.
       sound_then_sound old mid new (before.stays sound) (stays (before.stays sound).sound);
@@ -59,6 +54,6 @@ written_none text slot s writing = record {
   opened = writing;
   call = call_same s;
   appended = λ told. append_nothing (s.name slot) s;
-  others = λ told. others_same (s.name slot) s;
+  others = λ told. kept_same (s.name slot) s;
   stays = λ sound. sound_same s sound;
 }

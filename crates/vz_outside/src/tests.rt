@@ -73,7 +73,12 @@ fn each_call_fails_in_turn(rt: HostRuntime) -> Result<(), Fail> {
         let mut shelf = small_shelf(alloc, vec![in alloc; number]?)?;
         let read = round(alloc, &mut shelf, "b", b"hi");
         let calls_made = 7;
-        assert_eq!(rt; read.is_ok(), number > calls_made, "call {number}");
+        let error = if number > calls_made {
+            None
+        } else {
+            Some(ShelfError::Failed)
+        };
+        assert_eq!(rt; read.err(), error, "call {number}");
     }
     Ok(())
 }

@@ -66,14 +66,14 @@ fn make_room(bytes: &mut Vec<u8>, filled: usize, limit: usize) -> Result<(), She
     Ok(())
 }
 
-/// Writes all of a text at the end of a slot's file, in as many calls as it takes.
+/// Writes all of some bytes at the end of a slot's file, in as many calls as it takes.
 ///
 /// `Failed` comes only where the count of faults rose, `Memory` for want of memory.
-/// After both, some front part of the text, maybe none and maybe all of it, was written.
-pub fn write_all<F: Shelf>(shelf: &mut F, slot: u32, text: &[u8]) -> Result<(), ShelfError>
+/// After both, some front part of them, maybe none and maybe all, was written.
+pub fn write_all<F: Shelf>(shelf: &mut F, slot: u32, bytes: &[u8]) -> Result<(), ShelfError>
     requires open { (F.shelved shelf.old).mode slot ≡ Some Writing }
-    ensures appended { IsTrue (F.shelved shelf.old).tells → OnOk result (Appends text.now ((F.shelved shelf.old).name slot) (F.shelved shelf.old) (F.shelved shelf.new)) }
-    ensures begun { IsTrue (F.shelved shelf.old).tells → OnErr result (AppendsFront text.now ((F.shelved shelf.old).name slot) (F.shelved shelf.old) (F.shelved shelf.new)) }
+    ensures appended { IsTrue (F.shelved shelf.old).tells → OnOk result (Appends bytes.now ((F.shelved shelf.old).name slot) (F.shelved shelf.old) (F.shelved shelf.new)) }
+    ensures begun { IsTrue (F.shelved shelf.old).tells → OnErr result (AppendsFront bytes.now ((F.shelved shelf.old).name slot) (F.shelved shelf.old) (F.shelved shelf.new)) }
     ensures others { IsTrue (F.shelved shelf.old).tells → KeepsOthers ((F.shelved shelf.old).name slot) (F.shelved shelf.old) (F.shelved shelf.new) }
     ensures call { IsCall (F.shelved shelf.old) (F.shelved shelf.new) }
     ensures failed { IsErrOf result Failed → Rose (F.shelved shelf.old).faults (F.shelved shelf.new).faults }
@@ -81,19 +81,19 @@ pub fn write_all<F: Shelf>(shelf: &mut F, slot: u32, text: &[u8]) -> Result<(), 
     ensures stays { IsTrue (F.shelved shelf.old).sound → StaysSound (F.shelved shelf.old) (F.shelved shelf.new) }
 {
     let mut written = 0;
-    while written < text.len() {
-        written += shelf.write(slot, &text[written..])?;
+    while written < bytes.len() {
+        written += shelf.write(slot, &bytes[written..])?;
     }
     Ok(())
 }
 
-/// Prints all of a text, in as many calls as it takes.
+/// Prints all of some bytes, in as many calls as it takes.
 ///
 /// `Failed` comes only where the count of faults rose, `Memory` for want of memory.
-/// After both, some front part of the text, maybe none and maybe all of it, was printed.
-pub fn print<O: Sink>(out: &mut O, text: &[u8]) -> Result<(), ShelfError>
-    ensures taken { IsTrue (O.sunk out.old).tells → OnOk result ((O.sunk out.new).bytes ≡ (O.sunk out.old).bytes ++ text.now) }
-    ensures begun { IsTrue (O.sunk out.old).tells → OnErr result (sinks.TakesFront text.now (O.sunk out.old) (O.sunk out.new)) }
+/// After both, some front part of them, maybe none and maybe all, was printed.
+pub fn print<O: Sink>(out: &mut O, bytes: &[u8]) -> Result<(), ShelfError>
+    ensures taken { IsTrue (O.sunk out.old).tells → OnOk result ((O.sunk out.new).bytes ≡ (O.sunk out.old).bytes ++ bytes.now) }
+    ensures begun { IsTrue (O.sunk out.old).tells → OnErr result (sinks.TakesFront bytes.now (O.sunk out.old) (O.sunk out.new)) }
     ensures telling { (O.sunk out.new).tells ≡ (O.sunk out.old).tells }
     ensures faults { (O.sunk out.old).faults ≤ (O.sunk out.new).faults }
     ensures failed { IsErrOf result Failed → Rose (O.sunk out.old).faults (O.sunk out.new).faults }
@@ -101,8 +101,8 @@ pub fn print<O: Sink>(out: &mut O, text: &[u8]) -> Result<(), ShelfError>
     ensures stays { IsTrue (O.sunk out.old).sound → sinks.StaysSound (O.sunk out.old) (O.sunk out.new) }
 {
     let mut printed = 0;
-    while printed < text.len() {
-        printed += out.write(&text[printed..])?;
+    while printed < bytes.len() {
+        printed += out.write(&bytes[printed..])?;
     }
     Ok(())
 }

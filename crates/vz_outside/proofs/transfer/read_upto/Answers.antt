@@ -1,7 +1,7 @@
 use Rattle.std.proofs.Common.{◌≡◌, ◌-◌, length, arith, sym, ap, ◌∙◌}
 use Rattle.std.proofs.lemmas.List.{length-drop}
 use Rattle.vz_outside.proofs.Fills.{read_more, written_through}
-use Rattle.vz_outside.proofs.Writes.{rest_of}
+use Rattle.std.proofs.lemmas.List.{take_rest}
 use Rattle.vz_outside.proofs.transfer.read_upto.Goals as goal
 
 pub loop-filled-preserved : goal.loop-filled-preserved
@@ -13,7 +13,7 @@ loop-filled-preserved g c =
     let long : length c.deref_mut.result.now ≡ room.len = c.deref_mut.ensures.len in
     let items : length room.items ≡ room.len = ap length (sym same) ∙ long in
     let piece : length c.read.new.into ≡ length c.deref_mut.result.now - c.loop-filled.filled =
-    c.read.auto.into ∙ ap length (rest_of c.loop-filled.filled c.deref_mut.result.now) ∙ length-drop _ _ in
+    c.read.auto.into ∙ ap length (take_rest c.deref_mut.result.now c.loop-filled.filled) ∙ length-drop _ _ in
     read_more c.args.limit c.args.slot c.loop-filled.filled c.in_ok-taken.taken c.loop-filled.bytes.items
     room.items c.read.new.into _ _ _ _
     c.loop-filled.invariant c.make_room.ensures.kept (omega arith) (omega arith) (omega arith)

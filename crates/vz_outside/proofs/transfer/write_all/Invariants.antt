@@ -5,7 +5,7 @@ use Rattle.vz_outside.proofs.transfer.write_all.Given as goal
 -- so much of the text was written
 abbrev pub invariant-loop-written : goal.invariant-loop-written
 invariant-loop-written g l =
-    HasWritten l.text l.slot l.written (g.F.Shelf.shelved l.initial.shelf) (g.F.Shelf.shelved l.shelf)
+    HasWritten l.bytes l.slot l.written (g.F.Shelf.shelved l.initial.shelf) (g.F.Shelf.shelved l.shelf)
 
 abbrev pub decreases-loop-written : goal.decreases-loop-written
-decreases-loop-written g l = length l.text - l.written
+decreases-loop-written g l = length l.bytes - l.written
