@@ -1,2 +1,7 @@
 mod Numbers
-mod Lines
+mod Spelled
+mod Rows
+mod Displays
+mod Fitting
+mod Outs
+mod Showing

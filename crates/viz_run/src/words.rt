@@ -6,9 +6,10 @@ ghost use Rattle.std.specs.Fmt.{decimal};
 ghost use Rattle.std.specs.String.{string_bytes};
 ghost use Rattle.vz_rules.specs.Command.{is_name, are_names, same_text, IsCommand, Step};
 ghost use Rattle.vz_frame.specs.Fits.{within};
-ghost use Rattle.viz_run.specs.Words.{texts, is_plain, IsNoStep};
+ghost use Rattle.viz_run.specs.Words.{texts, command_of, is_plain, IsNoStep};
 
 /// The words of `step` with one client file: the sides of the display in pixels, and the names.
+#[derive(Clone, Copy)]
 pub struct StepWords<'a> {
     pub width: u32,
     pub height: u32,
@@ -20,7 +21,7 @@ pub struct StepWords<'a> {
 
 /// The words of `step` with one client file, where they are that.
 pub fn step_words(words: &[String]) -> Option<StepWords<'_>>
-    ensures found { IfSome result (λ s. IsCommand (texts words.now) (Step s.width s.height s.schedule.now s.frames.now s.log.now (s.file.now ∷ []))) }
+    ensures found { IfSome result (λ s. IsCommand (texts words.now) (command_of s)) }
     ensures none { IfNone result (IsNoStep (texts words.now)) }
 {
     let [command, width, height, names @ ..] = words else {

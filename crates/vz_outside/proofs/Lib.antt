@@ -3,3 +3,14 @@ pub mod Calls
 mod Writes
 mod Prints
 mod Fills
+pub mod Places
+pub mod Slots
+mod Pieces
+pub mod Held
+pub mod Counting
+mod Standing
+mod OpenRules
+mod CreateRules
+mod ReadRules
+mod WriteRules
+mod OuterCalls

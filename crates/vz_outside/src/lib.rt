@@ -2,11 +2,21 @@
 #![tactic(auto)]
 
 pub mod gate;
+pub mod memory;
+pub mod memory_sink;
+mod numbering;
+mod opening;
+pub mod real;
 pub mod shelf;
 pub mod sink;
+#[cfg(test)]
+mod tests;
 pub mod transfer;
 
 pub use gate::{Gate, OpenGate};
+pub use memory::MemoryShelf;
+pub use memory_sink::MemorySink;
+pub use real::{RealShelf, RealSink};
 pub use shelf::{Shelf, ShelfError};
 pub use sink::Sink;
 pub use transfer::{print, read_upto, write_all};

@@ -1,12 +1,17 @@
 -- Worked checks of the narrow form.
 use Rattle.std.specs.Prelude.{codes}
-use Rattle.std.proofs.Common.{◌≡◌, ℕ, refl, true, false, List, [], ◌∷◌, map, None}
+use Rattle.std.proofs.Common.{◌≡◌, ap, ◌∙◌, subst, arith, ℕ, refl, true, false, List, [], ◌∷◌, map, None}
+use Rattle.std.proofs.lemmas.Int.{ints}
 use Rattle.vz_geom.specs.Rectangle.{points_of}
 use Rattle.vz_frame.specs.declared.message.ClientFile.{ClientFile}
 use Rattle.vz_frame.specs.declared.message.Message.{Message}
 use Rattle.vz_frame.specs.declared.message.Message.TheVariants.{Submit, SetRoot}
 use Rattle.vz_frame.specs.declared.frame.DrawQuad.{DrawQuad}
 use Rattle.vz_frame.specs.declared.frame.Material.TheVariants.{Solid}
+use Rattle.vz_frame.specs.Fits.{fits_file, fits_message, fits_frame, fits_pass, fits_quad, fits_material}
+use Rattle.vz_rules.specs.Plan.{first_taken, IsPlan}
+use Rattle.vz_rules.specs.Frames.{written}
+use Rattle.vz_rules.proofs.Narrow_whole.{written_are}
 use Rattle.vz_rules.specs.Narrow.{is_narrow, narrow_quad, narrow_history, narrow_colour, narrow_events, nothing_left}
 use Rattle.vz_rules.specs.Log.{log_text}
 use Rattle.vz_rules.proofs.Rows.{opened, one_quad_plan, one_quad_history, sink_of, first_local, at_local, frame_with, one_listing, sized_frame, rect, red, red_quad, dark, made}
@@ -52,6 +57,23 @@ one_quad_log = refl
 one_quad_colours : map (narrow_colour one_quad_file) (points_of one_quad_plan.size) ≡ dark ∷ red ∷ red ∷ dark ∷ dark ∷ red ∷ red ∷ dark ∷ []
 unfolding narrow_opened
 one_quad_colours = refl
+
+-- it is a plan, so that the laws speak of it
+one_quad_plan_is : IsPlan one_quad_plan
+unfolding narrow_opened first_taken fits_file fits_message fits_frame fits_pass fits_quad fits_material
+one_quad_plan_is =
+    record {
+      some_files = omega arith;
+      few_files = omega arith;
+      all_fit = refl;
+      distinct = refl;
+      sizes = record { wide = omega (arith, ints); not_too_wide = omega (arith, ints); high = omega (arith, ints); not_too_high = omega (arith, ints) };
+    }
+
+one_quad_written : written one_quad_plan one_quad_history 2 ≡ (dark ∷ red ∷ red ∷ dark ∷ dark ∷ red ∷ red ∷ dark ∷ []) ∷ []
+one_quad_written =
+    subst (λ h. written one_quad_plan h 2 ≡ (dark ∷ red ∷ red ∷ dark ∷ dark ∷ red ∷ red ∷ dark ∷ []) ∷ []) one_quad_history_is_narrow
+    (written_are one_quad_plan one_quad_file one_quad_plan_is refl one_quad_is_narrow ∙ ap (λ cs. cs ∷ []) one_quad_colours)
 
 -- what is not narrow: another message, another surface, a resource, a quad through which something is seen, and a broken rule
 other_forms : map is_narrow (

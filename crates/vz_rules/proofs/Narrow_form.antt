@@ -1,5 +1,5 @@
 -- What a file of the narrow form is made of.
-use Rattle.std.proofs.Common.{◌≡◌, ℕ, ℤ, pos, ◌==◌, int_le, int_lt, ◌≤ℤ◌, Bool, true, false, not, ◌&&◌, ◌||◌, Option, Some, None, is_none, List, [], ◌∷◌, refl, ap, sym, ◌∙◌, arith, cond}
+use Rattle.std.proofs.Common.{◌≡◌, ℕ, ℤ, pos, ◌==◌, int_lt, Bool, true, false, not, ◌&&◌, ◌||◌, Option, Some, None, is_none, List, [], ◌∷◌, refl, ap, sym, ◌∙◌, arith, cond}
 use Rattle.std.proofs.lemmas.Bool.Decides.{nat_tests}
 use Rattle.std.proofs.lemmas.Int.{ints}
 use Rattle.std.specs.List.{list_all}
@@ -21,12 +21,9 @@ use Rattle.vz_frame.specs.declared.message.Message.TheVariants.{Submit, SetRoot}
 use Rattle.vz_frame.specs.Frame.{breaks, first_broken, bad_root}
 use Rattle.vz_frame.specs.Fits.{fits_quad, fits_pass, fits_frame, fits_message, fits_file, fits_mode}
 use Rattle.vz_rules.specs.Narrow.{is_nil, is_opaque, is_one_quad, is_one_pass, stands_alone, is_plain_frame, keeps_rules, quad_keeps_rules, are_narrow_messages, is_narrow}
+use Rattle.vz_rules.proofs.Geometry.{both, le_true}
 use Rattle.vz_rules.proofs.Narrow_steps.{plain_frame, narrow_file}
 use Rattle.vz_rules.proofs.Narrow_picture.{IsOpaqueQuad}
-
-both : (a b : Bool) → (a && b) ≡ true → (a ≡ true) × (b ≡ true)
-both true b h = (refl, h)
-both false b h = absurd (cc)
 
 from_eqb : (a b : ℕ) → (a == b) ≡ true → a ≡ b
 from_eqb a b h = grind (arith, nat_tests)
@@ -205,9 +202,6 @@ frame_fits format local frame h = (both _ _ (both _ _ h).1).1
 pass_fits : (format : ℕ) (pass : RenderPass) → fits_pass format pass ≡ true → list_all (fits_quad format) pass.quads ≡ true
 unfolding fits_pass
 pass_fits format pass h = (both _ _ h).1
-
-le_true : (a b : ℤ) → int_le a b ≡ true → a ≤ℤ b
-le_true a b h = grind (arith, ints)
 
 -- what a quad that fits has
 pub record HasFit (format : ℕ) (quad : DrawQuad) : Type 0 where

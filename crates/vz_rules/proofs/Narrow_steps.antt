@@ -1,6 +1,5 @@
 -- The steps of a narrow file.
-use Rattle.std.proofs.Common.{◌≡◌, ℕ, ◌+◌, Bool, true, false, ◌&&◌, ◌||◌, ◌==◌, Option, Some, None, unwrap_or, List, [], ◌∷◌, refl, ap, arith, cond, nat_lt}
-use Rattle.std.proofs.lemmas.Bool.Decides.{nat_tests}
+use Rattle.std.proofs.Common.{◌≡◌, ℕ, ◌+◌, Bool, true, false, ◌&&◌, ◌||◌, ◌==◌, Option, Some, None, unwrap_or, List, [], ◌∷◌, refl, ap, cond, nat_lt}
 use Rattle.vz_geom.specs.declared.Size.{Size}
 use Rattle.vz_ids.specs.declared.FrameSinkId.{FrameSinkId}
 use Rattle.vz_ids.specs.declared.LocalSurfaceId.{LocalSurfaceId}
@@ -26,9 +25,7 @@ use Rattle.vz_rules.specs.Messages.{Answer, says, took, submit_refusal, new_subm
 use Rattle.vz_rules.specs.Step.{done_answer, answer_to, outcome_of}
 use Rattle.vz_rules.specs.Narrow.{only_sub, no_effects}
 
-eqb_self : (a : ℕ) → (a == a) ≡ true
-eqb_self a = grind (arith, nat_tests)
-
+-- a frame that stands alone, with these passes
 abbrev pub plain_frame : ℕ → ℕ → Option ℕ → List RenderPass → CompositorFrame
 plain_frame token ack deadline passes =
     record {
@@ -44,12 +41,15 @@ client_after sink n = record { number = 1; sink = sink; taken = n; closed = fals
 abbrev pub id_in : FrameSinkId → LocalSurfaceId → SurfaceId
 id_in sink local = record { sink = sink; local = local }
 
+-- the surface that it creates
 abbrev pub surface_of : SurfaceId → CompositorFrame → Created
 surface_of id frame = record { client = 1; number = 1; id = id; size = frame_size frame; born = 0; named = false; marked = false; destroyed = false }
 
+-- what it submits on it
 abbrev pub image_of : SurfaceId → CompositorFrame → Image
 image_of id frame = record { id = id; sub = only_sub; index = 1; frame = frame; blocks = [] }
 
+-- the submission, active
 abbrev pub submission_of : Image → Bool → Submission
 submission_of i fed = record { image = i; due = 0 + unwrap_or i.frame.metadata.deadline 4; state = Active; was_active = true; fed = fed }
 
@@ -68,6 +68,7 @@ world_with c id frame fed root in_flight last =
       over = false;
     }
 
+-- a file of two messages, alone in a plan
 abbrev pub narrow_file : FrameSinkId → LocalSurfaceId → CompositorFrame → ClientFile
 narrow_file sink local frame = record { format = 1; sink = sink; messages = Submit local frame ∷ SetRoot local ∷ [] }
 
@@ -82,6 +83,7 @@ outcome_by : (presented : List Sub) (r : Reply) (w settled collected given after
 unfolding outcome_of
 outcome_by presented r w settled collected given after active fed a b c d e f g h = rw (a, b, c, d, e, f, g, h)
 
+-- no reference names a surface
 never : (x : Bool) → (x && false || false) ≡ false
 never true = refl
 never false = refl

@@ -57,13 +57,13 @@ stands_alone frame = is_nil frame.metadata.dependencies && is_nil frame.metadata
 abbrev pub is_plain_frame : CompositorFrame → Bool
 is_plain_frame frame = stands_alone frame && is_one_pass frame.passes && is_none (first_broken frame)
 
--- what the rules ask of one quad alone in a root pass: an output from (0, 0) on that has the damage, and a rectangle that has the visible part
+-- what the rules ask of one quad alone in the root pass: its output has points and begins at the first one, the visible part is in the quad's rectangle, and the damage is in the output
 abbrev pub quad_keeps_rules : RenderPass → List DrawQuad → Bool
 quad_keeps_rules pass (quad ∷ []) =
     not (bad_root (Some pass)) && covers_rect quad.area quad.visible && covers_rect pass.output pass.damage
 quad_keeps_rules pass _ = false
 
--- what they ask of one pass alone with one quad alone
+-- what they ask of one pass alone, which is the root pass, with one quad alone
 abbrev pub keeps_rules : List RenderPass → Bool
 keeps_rules (pass ∷ []) = quad_keeps_rules pass pass.quads
 keeps_rules _ = false
@@ -87,7 +87,7 @@ narrow_events = event.Client 1 ∷ event.Client 1 ∷ event.Draw ∷ event.Done 
 abbrev pub only_sub : Sub
 only_sub = record { client = 1; ordinal = 1 }
 
--- nothing follows
+-- nothing follows from an entry
 abbrev pub no_effects : Effects
 no_effects = record { activated = []; destroyed = []; returned = []; fed = [] }
 
@@ -97,11 +97,7 @@ narrow_history size =
     record { event = event.Client 1; reply = reply.Accepted 1 1; effects = record no_effects { activated = only_sub ∷ [] } }
     ∷ record { event = event.Client 1; reply = reply.Rooted; effects = no_effects }
     ∷ record { event = event.Draw; reply = reply.Drawn (sized size); effects = no_effects }
-    ∷ record {
-      event = event.Done;
-      reply = reply.Shown;
-      effects = record no_effects { fed = record { sub = only_sub; presented = true } ∷ [] };
-    }
+    ∷ record { event = event.Done; reply = reply.Shown; effects = record no_effects { fed = record { sub = only_sub; presented = true } ∷ [] } }
     ∷ []
 
 -- no reference is lent, and no submission waits for feedback
@@ -110,7 +106,7 @@ nothing_left = record { held = []; unfed = [] }
 
 -- The picture
 
--- the colour of a solid
+-- the colour of what is of one colour
 abbrev pub solid_colour : Material → Option Colour
 solid_colour (Solid c) = Some c
 solid_colour _ = None

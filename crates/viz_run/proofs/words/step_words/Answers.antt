@@ -5,7 +5,7 @@ use Rattle.std.specs.String.{string_bytes}
 use Rattle.vz_frame.specs.Fits.{within}
 use Rattle.vz_rules.specs.Command.{Text, Step, IsCommand, are_names, same_text}
 use Rattle.viz_run.specs.Words.{texts, IsNoStep}
-use Rattle.viz_run.proofs.Lines.{behind, seven_texts, step_found, too_few, other_count, other_command, other_names, other_width, other_height, no_step_as, same_text_is, same_text_refl}
+use Rattle.viz_run.proofs.Spelled.{behind, seven_texts, step_found, too_few, other_count, other_command, other_names, other_width, other_height, no_step_as, same_text_is, same_text_refl}
 use Rattle.viz_run.proofs.words.step_words.Goals as goal
 
 pub returns-in_default-clause-none : goal.returns-in_default-clause-none

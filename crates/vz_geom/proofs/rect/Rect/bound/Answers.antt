@@ -8,7 +8,7 @@ use Rattle.vz_geom.proofs.rect.Rect.bound.Goals as goal
 
 pub returns-then-is_empty-clause-value : goal.returns-then-is_empty-clause-value
 returns-then-is_empty-clause-value c =
-    c.r.view_is ∙ sym (join_first c.args.self.now c.args.r.now (sym c.is_empty.ensures ∙ c.if-is_empty.true))
+    c.r.view_is ∙ sym (join_first c.args.self.now c.args.r.now (sym c.is_empty.ensures.value ∙ c.if-is_empty.true))
 
 pub returns-then-is_empty-clause-covers_this : goal.returns-then-is_empty-clause-covers_this
 returns-then-is_empty-clause-covers_this c = covers_first_of _ c.args.self.now c.args.r.now (returns-then-is_empty-clause-value c)
@@ -18,7 +18,7 @@ returns-then-is_empty-clause-covers_this c = covers_first_of _ c.args.self.now c
 pub returns-then-is_empty-2-clause-value : goal.returns-then-is_empty-2-clause-value
 returns-then-is_empty-2-clause-value c =
     c.self.view_is
-    ∙ sym (join_second c.args.self.now c.args.r.now (sym c.is_empty.ensures ∙ c.if-is_empty.false) (sym c.is_empty-2.ensures ∙ c.if-is_empty-2.true))
+    ∙ sym (join_second c.args.self.now c.args.r.now (sym c.is_empty.ensures.value ∙ c.if-is_empty.false) (sym c.is_empty-2.ensures.value ∙ c.if-is_empty-2.true))
 
 pub returns-then-is_empty-2-clause-covers_other : goal.returns-then-is_empty-2-clause-covers_other
 returns-then-is_empty-2-clause-covers_other c = covers_second_of _ c.args.self.now c.args.r.now (returns-then-is_empty-2-clause-value c)
@@ -57,7 +57,7 @@ returns-clause-value c =
     c.with_edges.ensures.value
     ∙ given_edges c.smaller.result c.smaller-2.result c.greater.result c.greater-2.result (fits_stays _ c.smaller.type_inv) (fits_stays _ c.smaller-2.type_inv) (fits_stays _ c.greater.type_inv) (fits_stays _ c.greater-2.type_inv)
     ∙ hull_of c.args.self.now c.args.r.now c.smaller.result c.smaller-2.result c.greater.result c.greater-2.result left top right bottom
-    ∙ sym (join_both c.args.self.now c.args.r.now (sym c.is_empty.ensures ∙ c.if-is_empty.false) (sym c.is_empty-2.ensures ∙ c.if-is_empty-2.false))
+    ∙ sym (join_both c.args.self.now c.args.r.now (sym c.is_empty.ensures.value ∙ c.if-is_empty.false) (sym c.is_empty-2.ensures.value ∙ c.if-is_empty-2.false))
 
 pub returns-clause-covers_this : goal.returns-clause-covers_this
 returns-clause-covers_this c = covers_first_of _ c.args.self.now c.args.r.now (returns-clause-value c)

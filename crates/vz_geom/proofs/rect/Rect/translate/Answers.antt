@@ -40,7 +40,7 @@ returns-clause-value c =
     let fits_y : FitsSigned w32 c.args.by.y = search rules in
     let sum_x : given (given a.x +ℤ given c.args.by.x) ≡ a.x +ℤ c.args.by.x = sum_given a.x c.args.by.x m.x (to_z-of_z w32 c.args.by.x fits_x) (omega (arith, ints)) (omega (arith, ints)) in
     let sum_y : given (given a.y +ℤ given c.args.by.y) ≡ a.y +ℤ c.args.by.y = sum_given a.y c.args.by.y m.y (to_z-of_z w32 c.args.by.y fits_y) (omega (arith, ints)) (omega (arith, ints)) in
-    c.new.ensures ∙ same_sides (sum_x ∙ ap (λ z. z +ℤ c.args.by.x) x) (sum_y ∙ ap (λ z. z +ℤ c.args.by.y) y) (m.w ∙ w) (m.h ∙ h)
+    c.new.ensures.value ∙ same_sides (sum_x ∙ ap (λ z. z +ℤ c.args.by.x) x) (sum_y ∙ ap (λ z. z +ℤ c.args.by.y) y) (m.w ∙ w) (m.h ∙ h)
     ∙ sym (moved_opens c.args.self.now c.args.by)
 
 pub returns-clause-points : goal.returns-clause-points

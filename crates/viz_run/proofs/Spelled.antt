@@ -27,7 +27,7 @@ both : (a b : Bool) → a ≡ true → b ≡ true → (a && b) ≡ true
 both true b p q = q
 both false b p q = p
 
-parts : (a b : Bool) → (a && b) ≡ true → (a ≡ true) × (b ≡ true)
+pub parts : (a b : Bool) → (a && b) ≡ true → (a ≡ true) × (b ≡ true)
 parts true b h = (refl, h)
 parts false b h = absurd (let e : false ≡ true = h in cc)
 
@@ -41,7 +41,7 @@ pub same_text_refl : (a : Text) → same_text a a ≡ true
 same_text_refl [] = refl
 same_text_refl (a ∷ as') = both (a == a) (same_text as' as') (grind arith) (same_text_refl as')
 
-within_parts : (m n : ℕ) (names : Bool) → (((within 1 2048 m && within 1 2048 n) && true) && names) ≡ true → (within 1 2048 m ≡ true) × (within 1 2048 n ≡ true) × (names ≡ true)
+pub within_parts : (m n : ℕ) (names : Bool) → (((within 1 2048 m && within 1 2048 n) && true) && names) ≡ true → (within 1 2048 m ≡ true) × (within 1 2048 n ≡ true) × (names ≡ true)
 within_parts m n names h =
     let k = parts ((within 1 2048 m && within 1 2048 n) && true) names h in
     let sides = parts (within 1 2048 m && within 1 2048 n) true k.0 in

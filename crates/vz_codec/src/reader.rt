@@ -1,0 +1,176 @@
+//! Bytes that are read from the front, and the numbers at the front of them, low byte first.
+ghost use Rattle.std.specs.Prelude.{◌≡◌, ◌<◌, length};
+ghost use Rattle.std.specs.Int.{w8, w16, w32, w128};
+ghost use Rattle.vz_frame.specs.Fits.{in_reach};
+ghost use Rattle.vz_codec.specs.Giving.{Gives};
+ghost use Rattle.vz_codec.specs.Reading.{number_at, limited_at, tag_at, signed_at, coordinate_at};
+
+use crate::error::ReadError;
+use crate::fault::FileRule;
+use std::marker::Model;
+
+/// No coordinate lies further out, and no side is longer.
+pub const REACH: i32 = 16384;
+
+const SHORT: ReadError = ReadError::Wrong {
+    left: 0,
+    rule: FileRule::Short,
+};
+
+/// Bytes that are still to be read. After an error what is left of them is not said.
+#[derive(Drop)]
+pub struct Reader<'a> {
+    rest: &'a [u8],
+}
+
+impl<'a> Model for Reader<'a> {
+    ghost use Rattle.std.specs.Prelude.{ℕ, List};
+
+    ghost Value = { List ℕ };
+
+    ghost view = { λ r. r.rest.now };
+}
+
+impl<'a> Reader<'a> {
+    pub fn new(bytes: &'a [u8]) -> Reader<'a>
+        ensures { result ≡ bytes.entry.now }
+    {
+        Reader { rest: bytes }
+    }
+
+    /// How many bytes are left.
+    pub fn left(&self) -> usize
+        ensures { result ≡ length self.now }
+    {
+        self.rest.len()
+    }
+
+    #[tactic(auto, unfolding(crate::specs::Reading::number_at))]
+    pub fn u8(&mut self) -> Result<u8, ReadError>
+        ensures { Gives (λ x. (x, self.new)) result (number_at w8 self.old) }
+    {
+        if self.rest.len() < 1 {
+            return Err(SHORT);
+        }
+        let (front, rest) = self.rest.split_at(1);
+        self.rest = rest;
+        Ok(front[0])
+    }
+
+    #[tactic(auto, unfolding(crate::specs::Reading::number_at))]
+    pub fn u16(&mut self) -> Result<u16, ReadError>
+        ensures { Gives (λ x. (x, self.new)) result (number_at w16 self.old) }
+    {
+        if self.rest.len() < 2 {
+            return Err(SHORT);
+        }
+        let (front, rest) = self.rest.split_at(2);
+        self.rest = rest;
+        Ok(u16::from_le_bytes([front[0], front[1]]))
+    }
+
+    #[tactic(auto, unfolding(crate::specs::Reading::number_at))]
+    pub fn u32(&mut self) -> Result<u32, ReadError>
+        ensures { Gives (λ x. (x, self.new)) result (number_at w32 self.old) }
+    {
+        if self.rest.len() < 4 {
+            return Err(SHORT);
+        }
+        let (front, rest) = self.rest.split_at(4);
+        self.rest = rest;
+        Ok(u32::from_le_bytes([front[0], front[1], front[2], front[3]]))
+    }
+
+    #[tactic(auto, unfolding(crate::specs::Reading::number_at))]
+    pub fn u128(&mut self) -> Result<u128, ReadError>
+        ensures { Gives (λ x. (x, self.new)) result (number_at w128 self.old) }
+    {
+        if self.rest.len() < 16 {
+            return Err(SHORT);
+        }
+        let (front, rest) = self.rest.split_at(16);
+        self.rest = rest;
+        Ok(u128::from_le_bytes([
+            front[0], front[1], front[2], front[3], front[4], front[5], front[6], front[7],
+            front[8], front[9], front[10], front[11], front[12], front[13], front[14], front[15],
+        ]))
+    }
+
+    #[tactic(auto, unfolding(crate::specs::Reading::signed_at))]
+    pub fn i32(&mut self) -> Result<i32, ReadError>
+        ensures { Gives (λ x. (x, self.new)) result (signed_at self.old) }
+    {
+        Ok(self.u32()?.cast_signed())
+    }
+
+    /// A number from low to high.
+    #[tactic(auto, unfolding(crate::specs::Reading::limited_at))]
+    pub fn u8_within(&mut self, low: u8, high: u8) -> Result<u8, ReadError>
+        ensures { Gives (λ x. (x, self.new)) result (limited_at w8 low high self.old) }
+    {
+        let left = self.left();
+        let number = self.u8()?;
+        if number < low || number > high {
+            return Err(ReadError::refused(left, FileRule::Limit));
+        }
+        Ok(number)
+    }
+
+    /// A number from low to high.
+    #[tactic(auto, unfolding(crate::specs::Reading::limited_at))]
+    pub fn u16_within(&mut self, low: u16, high: u16) -> Result<u16, ReadError>
+        ensures { Gives (λ x. (x, self.new)) result (limited_at w16 low high self.old) }
+    {
+        let left = self.left();
+        let number = self.u16()?;
+        if number < low || number > high {
+            return Err(ReadError::refused(left, FileRule::Limit));
+        }
+        Ok(number)
+    }
+
+    /// A number from low to high.
+    #[tactic(auto, unfolding(crate::specs::Reading::limited_at))]
+    pub fn u32_within(&mut self, low: u32, high: u32) -> Result<u32, ReadError>
+        ensures { Gives (λ x. (x, self.new)) result (limited_at w32 low high self.old) }
+    {
+        let left = self.left();
+        let number = self.u32()?;
+        if number < low || number > high {
+            return Err(ReadError::refused(left, FileRule::Limit));
+        }
+        Ok(number)
+    }
+
+    /// A tag or a flag from low to high.
+    #[tactic(auto, unfolding(crate::specs::Reading::tag_at))]
+    pub fn tag(&mut self, low: u8, high: u8) -> Result<u8, ReadError>
+        ensures { Gives (λ x. (x, self.new)) result (tag_at low high self.old) }
+    {
+        let left = self.left();
+        let number = self.u8()?;
+        if number < low || number > high {
+            return Err(ReadError::refused(left, FileRule::Tag));
+        }
+        Ok(number)
+    }
+
+    #[tactic(auto, unfolding(crate::specs::Reading::coordinate_at))]
+    pub fn coordinate(&mut self) -> Result<i32, ReadError>
+        ensures { Gives (λ x. (x, self.new)) result (coordinate_at self.old) }
+    {
+        let left = self.left();
+        let number = self.i32()?;
+        if !in_reach(number) {
+            return Err(ReadError::refused(left, FileRule::Limit));
+        }
+        Ok(number)
+    }
+}
+
+/// Whether a number may be a coordinate.
+pub fn in_reach(number: i32) -> bool
+    ensures { result ≡ in_reach number }
+{
+    -REACH <= number && number <= REACH
+}
