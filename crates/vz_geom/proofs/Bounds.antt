@@ -134,7 +134,7 @@ covers_inside outer inner s p h =
     let i : IsIn inner p = to_in inner p h in
     (of_in outer p (record { left = omega (arith, ints); right = omega (arith, ints); top = omega (arith, ints); bottom = omega (arith, ints) }))
 
-covers_empty : (outer inner : Rectangle) → is_empty_rect inner ≡ true → Covers outer inner
+pub covers_empty : (outer inner : Rectangle) → is_empty_rect inner ≡ true → Covers outer inner
 covers_empty outer inner e p h = other (is_empty_rect inner) e (in_is_full inner p h)
 
 -- what covers two covers the rectangle round them

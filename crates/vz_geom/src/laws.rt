@@ -1,9 +1,10 @@
 //! Laws of rectangles, each the contract of a function that does nothing. A caller that
 //! calls one has its clauses.
-ghost use Rattle.std.specs.Prelude.{◌≡◌, ◌&&◌, ◌↔◌, IsTrue, List, map};
+ghost use Rattle.std.specs.Prelude.{◌≡◌, ◌&&◌, ◌↔◌, IsTrue, List, length, map, if◌then◌else◌};
 ghost use Rattle.std.specs.List.{All};
 ghost use Rattle.vz_geom.specs.declared.Point.{Point};
 ghost use Rattle.vz_geom.specs.Rectangle.{Rectangle, IsRectangle, has, plus, meet, join, bound, moved, Covers, covers_rect};
+ghost use Rattle.vz_geom.specs.Rectangle.{area_of, points_in, times_in};
 
 /// What two rectangles share is the same in each order and grouping, has exactly the
 /// points of both, and grows where they grow.
@@ -30,6 +31,13 @@ pub fn translations()
     ensures intersection { (a b : Rectangle) (by : Point) → moved (meet a b) by ≡ meet (moved a by) (moved b by) }
     ensures join { (a b : Rectangle) (by : Point) → moved (join a b) by ≡ join (moved a by) (moved b by) }
     ensures bound { (rs : List Rectangle) (by : Point) → moved (bound rs) by ≡ bound (map (λ r. moved r by) rs) }
+{}
+
+/// The area is the number of points: the list of them, row by row, is as long, and has each
+/// point of the rectangle once and no other.
+pub fn areas()
+    ensures count { (r : Rectangle) → length (points_in r) ≡ area_of r }
+    ensures once { (r : Rectangle) (p : Point) → IsRectangle r → times_in (points_in r) p ≡ (if has r p then 1 else 0) }
 {}
 
 /// The test of the edges tells which rectangles cover others.

@@ -1,6 +1,6 @@
 use Rattle.std.proofs.Common.{◌≡◌, ◌∙◌, sym, int_le, ◌+ℤ◌}
 use Rattle.vz_geom.specs.Rectangle.{covers_rect}
-use Rattle.vz_geom.proofs.Bounds.{by_axes, covers_of_test, test_of_covers}
+use Rattle.vz_geom.proofs.Bounds.{by_axes, covers_empty, covers_of_test, test_of_covers}
 use Rattle.vz_geom.proofs.rect.Rect.covers.Goals as goal
 
 the_value : (c : goal.After-encloses) → c.encloses.result ≡ covers_rect c.args.self.now c.args.r.now
@@ -16,3 +16,7 @@ returns-else-is_empty-clause-value c = the_value c
 pub returns-else-is_empty-clause-points : goal.returns-else-is_empty-clause-points
 returns-else-is_empty-clause-points c =
     (λ t. covers_of_test _ _ (sym (the_value c) ∙ t), λ k. the_value c ∙ test_of_covers _ _ k)
+
+pub returns-then-is_empty-clause-points : goal.returns-then-is_empty-clause-points
+returns-then-is_empty-clause-points c =
+    (λ t. covers_empty c.args.self.now c.args.r.now (sym c.is_empty.ensures.value ∙ t), λ k. c.if-is_empty.true)
