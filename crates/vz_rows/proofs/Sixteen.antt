@@ -30,4 +30,4 @@ sixteen names before after printed printed_now start total h (g, well) =
     let width : g.width ≡ 4 = one_digit g.width 4 wide (omega arith) (sym spelled.0) in
     let height : g.height ≡ 2 = one_digit g.height 2 high (omega arith) (sym spelled.1) in
     let area : g.width * g.height ≡ 8 = ap (λ w. w * g.height) width ∙ ap (λ k. 4 * k) height in
-        omega (arith, shown.counted, shown.twice, area)
+    omega (arith, shown.counted, shown.twice, area)

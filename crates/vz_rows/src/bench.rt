@@ -21,7 +21,10 @@ pub struct Left {
 
 /// A file of a shelf.
 pub fn file(alloc: Global, name: &str, bytes: &[u8]) -> Result<(String, Vec<u8>), AllocError> {
-    Ok((String::from_str(alloc, name)?, Vec::from_slice(alloc, bytes)?))
+    Ok((
+        String::from_str(alloc, name)?,
+        Vec::from_slice(alloc, bytes)?,
+    ))
 }
 
 /// The words of a line that are parted by blanks.
