@@ -8,4 +8,4 @@ pub returns-then-fits-clause-value : goal.returns-then-fits-clause-value
 returns-then-fits-clause-value c =
     let s = c.args.sides.now in
     let fits : fits_rect (rectangle s) ≡ true = sym c.fits.ensures ∙ c.if-fits.true in
-    c.new.ensures ∙ made s.x s.y s.w s.h (search rules) (search rules) (search rules) (search rules) fits
+    c.new.ensures.value ∙ made s.x s.y s.w s.h (search rules) (search rules) (search rules) (search rules) fits

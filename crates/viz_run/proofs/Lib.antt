@@ -1,0 +1,7 @@
+mod Numbers
+mod Spelled
+mod Rows
+mod Displays
+mod Fitting
+mod Outs
+mod Showing

@@ -1,0 +1,42 @@
+-- What stands of the files that are written.
+use Rattle.std.proofs.Common.{◌≡◌, ◌≢◌, ℕ, ◌+◌, ◌<◌, ◌≤◌, List, [], ◌++◌, length, take, Option, Some, None, IsTrue, refl, sym, ap, subst, ◌∙◌, take_all, arith}
+use Rattle.std.proofs.lemmas.List.{length-take}
+use Rattle.vz_outside.specs.Shelved.{Shelved, Text, Writing, IsCall, SameFiles, KeepsOthers, Appends}
+use Rattle.vz_outside.proofs.Calls.{tells_after}
+use Rattle.viz_run.specs.Files.{IsReadUpto, IsOut}
+
+short : (limit : ℕ) (all bytes : List ℕ) → bytes ≡ take (limit + 1) all → length bytes ≤ limit → all ≡ bytes
+short limit all bytes is low =
+    let len : length all ≤ limit + 1 = omega (arith, ap length is, length-take (limit + 1) all) in
+    sym (is ∙ take_all (limit + 1) all len)
+
+-- what was read within the limit is all
+pub read_whole : (limit : ℕ) (all : Option (List ℕ)) (bytes : List ℕ) → IsReadUpto limit all bytes → length bytes ≤ limit → all ≡ Some bytes
+read_whole limit None bytes is low = absurd is
+read_whole limit (Some all) bytes is low = ap Some (short limit all bytes is low)
+
+-- a file that is written stays as it is where another one is written
+pub out_kept : (name other : Text) (slot : ℕ) (held : List ℕ) (a b : Shelved) → IsOut name slot held a → IsCall a b → name ≢ other → (IsTrue a.tells → KeepsOthers other a b) → IsOut name slot held b
+out_kept name other slot held a b out call apart kept =
+    record {
+      writing = call.slots slot Writing out.writing;
+      named = λ told. (let before : IsTrue a.tells = subst IsTrue call.telling told in call.names before slot Writing out.writing ∙ out.named before);
+      holds = λ told. (let before : IsTrue a.tells = subst IsTrue call.telling told in (kept before).files name apart ∙ out.holds before);
+    }
+
+-- and holds more where it is written itself
+pub out_more : (name : Text) (slot : ℕ) (held more : List ℕ) (a b : Shelved) → IsOut name slot held a → IsCall a b → (IsTrue a.tells → Appends more (a.name slot) a b) → IsOut name slot (held ++ more) b
+out_more name slot held more a b out call added =
+    record {
+      writing = call.slots slot Writing out.writing;
+      named = λ told. (let before : IsTrue a.tells = subst IsTrue call.telling told in call.names before slot Writing out.writing ∙ out.named before);
+      holds = λ told.
+          (let before : IsTrue a.tells = subst IsTrue call.telling told in
+          let P : Text → Type 0 = λ n. b.bytes n ≡ Some (held ++ more) in
+          let holds : a.bytes (a.name slot) ≡ Some held = ap a.bytes (out.named before) ∙ out.holds before in
+          subst P (out.named before) (added before held holds));
+    }
+
+-- the others of a slot's name are those of the file's name
+pub others_named : (name : Text) (slot : ℕ) (held : List ℕ) (a b : Shelved) → IsOut name slot held a → (IsTrue a.tells → KeepsOthers (a.name slot) a b) → IsTrue a.tells → KeepsOthers name a b
+others_named name slot held a b out kept told = subst (λ n. KeepsOthers n a b) (out.named told) (kept told)

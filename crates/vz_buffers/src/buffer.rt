@@ -1,0 +1,108 @@
+//! The buffer.
+ghost use Rattle.std.specs.Prelude.{◌≡◌, ◌+◌, ◌≤◌, ◌≤ℤ◌, ◌<ℤ◌, ◌+ℤ◌, pos, length, replicate, slice_get, Some, IfOk, OnOk, OnErr};
+ghost use Rattle.vz_pixels.specs.Colour.{black};
+ghost use Rattle.vz_buffers.specs.Canvas.{IsCanvasSize, pixel_count, span_put, place_of};
+
+use crate::Steps;
+use std::alloc::Global;
+use std::marker::Model;
+use std::sync::ledger::Ledger;
+use vz_geom::Size;
+use vz_pixels::{Memory, Pixel};
+
+/// The pixels of a display, row by row from the top, each row from left to right.
+#[derive(Drop)]
+pub struct Buffer {
+    size: Size,
+    pixels: Vec<Pixel>,
+}
+
+impl Model for Buffer {
+    ghost use Rattle.vz_buffers.specs.Canvas.{Canvas, IsCanvas};
+
+    ghost Value = { Canvas };
+
+    ghost view = { λ b. record { size = b.size; pixels = b.pixels.items } };
+
+    ghost invariant = { λ b. IsCanvas (record { size = b.size; pixels = b.pixels.items }) };
+}
+
+impl Buffer {
+    /// A buffer that is opaque black everywhere. Each of its pixels is a step.
+    pub fn new<L: Ledger>(alloc: Global, size: Size, steps: &mut Steps<L>) -> Result<Buffer, Memory>
+        requires { IsCanvasSize size }
+        ensures size { IfOk result (λ b. b.size ≡ size) }
+        ensures black { IfOk result (λ b. b.pixels ≡ replicate (pixel_count size) black) }
+        ensures counted { OnOk result (steps.new ≡ steps.old + pixel_count size) }
+        ensures err { OnErr result (steps.new ≡ steps.old) }
+    {
+        let count = pixels_of(&size);
+        let Ok(pixels) = vec![in alloc; Pixel::black(); count] else {
+            return Err(Memory);
+        };
+        steps.add(count as u64);
+        Ok(Buffer { size, pixels })
+    }
+
+    /// Puts a span of pixels into row `y`, from column `x` on. Each of them is a step.
+    pub fn put_span<L: Ledger>(&mut self, x: i32, y: i32, row: &[Pixel], steps: &mut Steps<L>)
+        requires left { pos 0 ≤ℤ x }
+        requires right { (x +ℤ pos (length row.now)) ≤ℤ self.old.size.w }
+        requires top { pos 0 ≤ℤ y }
+        requires bottom { y <ℤ self.old.size.h }
+        ensures size { self.new.size ≡ self.old.size }
+        ensures put { self.new.pixels ≡ span_put self.old.pixels (place_of self.old.size x y) row.now }
+        ensures counted { steps.new ≡ steps.old + length row.now }
+    {
+        let at = place(&self.size, x, y);
+        put(&mut self.pixels, at, row);
+        steps.add(row.len() as u64);
+    }
+
+    /// The pixel of column `x` and row `y`.
+    pub fn at(&self, x: i32, y: i32) -> Pixel
+        requires left { pos 0 ≤ℤ x }
+        requires right { x <ℤ self.now.size.w }
+        requires top { pos 0 ≤ℤ y }
+        requires bottom { y <ℤ self.now.size.h }
+        ensures { slice_get self.now.pixels (place_of self.now.size x y) ≡ Some result }
+    {
+        self.pixels[place(&self.size, x, y)]
+    }
+
+    /// All pixels.
+    pub fn pixels(&self) -> &[Pixel]
+        ensures { result.now ≡ self.now.pixels }
+    {
+        self.pixels.as_slice()
+    }
+}
+
+/// How many pixels a display of this size has.
+fn pixels_of(size: &Size) -> usize
+    requires { IsCanvasSize size.now }
+    ensures value { result ≡ pixel_count size.now }
+{
+    size.w.unsigned_abs() as usize * size.h.unsigned_abs() as usize
+}
+
+/// Where the pixel of a column and a row stands.
+fn place(size: &Size, x: i32, y: i32) -> usize
+    requires sides { IsCanvasSize size.now }
+    requires left { pos 0 ≤ℤ x }
+    requires right { x ≤ℤ size.now.w }
+    requires top { pos 0 ≤ℤ y }
+    requires bottom { y <ℤ size.now.h }
+    ensures value { result ≡ place_of size.now x y }
+{
+    y.unsigned_abs() as usize * size.w.unsigned_abs() as usize + x.unsigned_abs() as usize
+}
+
+/// Replaces a span of pixels from a place on.
+#[tactic(auto, unfolding(crate::specs::Canvas::span_put))]
+fn put(pixels: &mut [Pixel], at: usize, row: &[Pixel])
+    requires { (at + length row.now) ≤ length pixels.old }
+    ensures { pixels.new ≡ span_put pixels.old at row.now }
+{
+    pixels[at..at + row.len()].copy_from_slice(row);
+}

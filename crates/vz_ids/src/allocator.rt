@@ -1,0 +1,123 @@
+//! Allocators of local surface ids: the parent's raises the parent number, the child's the
+//! child number.
+ghost use Rattle.std.specs.Prelude.{◌≡◌, ◌+◌, ◌<◌, IsOk, IsErr, IfOk, OnErr, IsTrue, ◌↔◌, ◌⊎◌, ◌≢◌};
+ghost use Rattle.vz_ids.specs.Allocating.{first_id, with_parent, with_child, adopted, adopts};
+
+use crate::{EmbedToken, LocalSurfaceId};
+use std::marker::Model;
+
+/// No number is left to raise.
+#[derive(Clone, Copy, Debug, PartialEq, Eq)]
+pub struct Spent;
+
+/// The allocator of an embedder: contracts see the id that it allocated last.
+#[derive(Drop)]
+pub struct ParentAllocator {
+    last: LocalSurfaceId,
+}
+
+impl Model for ParentAllocator {
+    ghost use Rattle.vz_ids.specs.declared.LocalSurfaceId.{LocalSurfaceId as LocalId};
+
+    ghost Value = { LocalId };
+
+    ghost view = { λ a. a.last };
+}
+
+impl ParentAllocator {
+    /// An allocator for a new embedding, at the numbers 1 and 1 with this token.
+    pub fn new(token: EmbedToken) -> ParentAllocator
+        ensures { result ≡ first_id token }
+    {
+        ParentAllocator {
+            last: LocalSurfaceId {
+                parent: 1,
+                child: 1,
+                token,
+            },
+        }
+    }
+
+    /// The next id, with the parent number raised by one. Spent comes exactly where that
+    /// number is 4,294,967,295, and then nothing changes.
+    pub fn next(&mut self) -> Result<LocalSurfaceId, Spent>
+        ensures when { IsErr result ↔ (self.old.parent ≡ u32.MAX) }
+        ensures next { IfOk result (λ id. id ≡ with_parent (self.old.parent + 1) self.old) }
+        ensures kept { IfOk result (λ id. self.new ≡ id) }
+        ensures unchanged { OnErr result (self.new ≡ self.old) }
+    {
+        if self.last.parent == u32::MAX {
+            return Err(Spent);
+        }
+        self.last.parent += 1;
+        Ok(self.last)
+    }
+
+    /// The id that was allocated last.
+    pub fn current(&self) -> LocalSurfaceId
+        ensures { result ≡ self.now }
+    {
+        self.last
+    }
+}
+
+/// The allocator of an embedded client: contracts see the id that it allocated or adopted
+/// last.
+#[derive(Drop)]
+pub struct ChildAllocator {
+    last: LocalSurfaceId,
+}
+
+impl Model for ChildAllocator {
+    ghost use Rattle.vz_ids.specs.declared.LocalSurfaceId.{LocalSurfaceId as LocalId};
+
+    ghost Value = { LocalId };
+
+    ghost view = { λ a. a.last };
+}
+
+impl ChildAllocator {
+    /// An allocator that goes on from the id that the embedder gave.
+    pub fn new(id: LocalSurfaceId) -> ChildAllocator
+        ensures { result ≡ id }
+    {
+        ChildAllocator { last: id }
+    }
+
+    /// The next id, with the child number raised by one. Spent comes exactly where that
+    /// number is 4,294,967,295, and then nothing changes.
+    pub fn next(&mut self) -> Result<LocalSurfaceId, Spent>
+        ensures when { IsErr result ↔ (self.old.child ≡ u32.MAX) }
+        ensures next { IfOk result (λ id. id ≡ with_child (self.old.child + 1) self.old) }
+        ensures kept { IfOk result (λ id. self.new ≡ id) }
+        ensures unchanged { OnErr result (self.new ≡ self.old) }
+    {
+        if self.last.child == u32::MAX {
+            return Err(Spent);
+        }
+        self.last.child += 1;
+        Ok(self.last)
+    }
+
+    /// Takes over the parent number and the token of an id that the embedder gave, and
+    /// keeps the child number. It answers true where the token is another or the parent
+    /// number is greater, and else answers false and changes nothing.
+    pub fn adopt(&mut self, from: LocalSurfaceId) -> bool
+        ensures when { result ≡ adopts self.old from }
+        ensures new { self.new ≡ adopted self.old from }
+    {
+        if self.last.token == from.token && from.parent <= self.last.parent {
+            return false;
+        }
+        self.last.parent = from.parent;
+        self.last.token = from.token;
+        true
+    }
+
+    /// The id that was allocated or adopted last.
+    pub fn current(&self) -> LocalSurfaceId
+        ensures { result ≡ self.now }
+    {
+        self.last
+    }
+}

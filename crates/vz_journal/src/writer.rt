@@ -1,0 +1,239 @@
+//! Writes a history and what is still out as the text of a log.
+ghost use Rattle.std.specs.Prelude.{◌≡◌, [], ◌∷◌, ◌++◌, map, nat_abs, string_bytes, codes};
+ghost use Rattle.std.specs.Prelude.{IfOk, OnOk};
+ghost use Rattle.std.specs.List.{flat_map};
+ghost use Rattle.vz_journal.specs.Appending.{Appends};
+ghost use Rattle.vz_rules.specs.Log.{log_text, entry_text, event_text, reply_text, refusal_text};
+ghost use Rattle.vz_rules.specs.Log.{effects_text, activated_text, destroyed_text, returned_text};
+ghost use Rattle.vz_rules.specs.Log.{fed_text, held_text, open_text, rule_number as rule_number_of};
+
+use std::alloc::{AllocError, Global};
+use vz_frame::{List, Rule};
+use vz_geom::Rect;
+use vz_ids::Sub;
+use vz_pixels::Memory;
+use vz_rules::{Effects, Entry, Event, Fed, Lost, Refusal, Reply, Rest, Returned};
+
+/// The text of a log, in ASCII: a line for each entry of the history, the `held` and the `open`
+/// lines of the rest, and the line `end`. It fails only for want of memory.
+pub fn write(alloc: Global, history: &List<Entry>, rest: &Rest) -> Result<String, Memory>
+    ensures { IfOk result (λ text. string_bytes text ≡ log_text history.now rest.now) }
+{
+    let mut text = String::new(alloc);
+    match push_log(&mut text, history.as_slice(), rest) {
+        Ok(()) => Ok(text),
+        Err(AllocError) => Err(Memory),
+    }
+}
+
+#[tactic(auto, unfolding(vz_rules::specs::Log::log_text))]
+fn push_log(out: &mut String, history: &[Entry], rest: &Rest) -> Result<(), AllocError>
+    ensures { OnOk result (Appends out.old out.new (log_text history.now rest.now)) }
+{
+    push_entries(out, history)?;
+    push_held(out, rest.held.as_slice())?;
+    push_open(out, rest.unfed.as_slice())?;
+    out.push_str("end\n")
+}
+
+fn push_entries(out: &mut String, history: &[Entry]) -> Result<(), AllocError>
+    ensures { OnOk result (Appends out.old out.new (flat_map entry_text history.now)) }
+{
+    for entry in history {
+        push_entry(out, entry)?;
+    }
+    Ok(())
+}
+
+#[tactic(auto, unfolding(vz_rules::specs::Log::entry_text))]
+fn push_entry(out: &mut String, entry: &Entry) -> Result<(), AllocError>
+    ensures { OnOk result (Appends out.old out.new (entry_text entry.now)) }
+{
+    push_event(out, entry.event)?;
+    out.push_str(" ")?;
+    push_reply(out, &entry.reply)?;
+    push_effects(out, &entry.effects)?;
+    out.push_str("\n")
+}
+
+#[tactic(auto, unfolding(vz_rules::specs::Log::event_text))]
+fn push_event(out: &mut String, event: Event) -> Result<(), AllocError>
+    ensures { OnOk result (Appends out.old out.new (event_text event)) }
+{
+    match event {
+        Event::Client(client) => write!(out, "c{client}"),
+        Event::Begin => out.push_str("begin"),
+        Event::Draw => out.push_str("draw"),
+        Event::Done => out.push_str("done"),
+        Event::Over => out.push_str("over"),
+    }
+}
+
+#[tactic(auto, unfolding(vz_rules::specs::Log::reply_text))]
+fn push_reply(out: &mut String, reply: &Reply) -> Result<(), AllocError>
+    ensures { OnOk result (Appends out.old out.new (reply_text reply.now)) }
+{
+    match reply {
+        Reply::Stored => out.push_str("stored"),
+        Reply::Accepted { ordinal, index } => write!(out, "accepted {ordinal} {index}"),
+        Reply::Noted => out.push_str("noted"),
+        Reply::Reclaimed(returns) => push_reclaimed(out, returns.as_slice()),
+        Reply::Rooted => out.push_str("rooted"),
+        Reply::Joined => out.push_str("joined"),
+        Reply::Began(number) => write!(out, "began {number}"),
+        Reply::Over => out.push_str("over"),
+        Reply::Left => out.push_str("left"),
+        Reply::Refused(refusal) => push_refused(out, *refusal),
+        Reply::Ticked(number) => write!(out, "ticked {number}"),
+        Reply::Drawn(damage) => push_drawn(out, damage),
+        Reply::Unchanged => out.push_str("unchanged"),
+        Reply::NoRoot => out.push_str("noroot"),
+        Reply::TooMuch => out.push_str("toomuch"),
+        Reply::Busy => out.push_str("busy"),
+        Reply::Shown => out.push_str("shown"),
+        Reply::Nothing => out.push_str("nothing"),
+        Reply::Ended => out.push_str("ended"),
+    }
+}
+
+#[tactic(auto, unfolding(vz_rules::specs::Log::reply_text))]
+fn push_reclaimed(out: &mut String, returns: &[Returned]) -> Result<(), AllocError>
+    ensures { OnOk result (Appends out.old out.new (reply_text (Reply.Reclaimed returns.now))) }
+{
+    out.push_str("reclaimed")?;
+    for back in returns {
+        write!(out, " {}x{}", back.id, back.count)?;
+    }
+    Ok(())
+}
+
+#[tactic(auto, unfolding(vz_rules::specs::Log::refusal_text, vz_rules::specs::Log::rule_number))]
+fn push_refused(out: &mut String, refusal: Refusal) -> Result<(), AllocError>
+    ensures { OnOk result (Appends out.old out.new (codes "refused " ++ refusal_text refusal)) }
+{
+    match refusal {
+        Refusal::AlreadyClosed => out.push_str("refused 1"),
+        Refusal::Malformed(rule) => write!(out, "refused 2 {}", rule_number(rule)),
+        Refusal::UnknownResource => out.push_str("refused 3"),
+        Refusal::InvariantsViolation => out.push_str("refused 4"),
+        Refusal::SizeMismatch => out.push_str("refused 5"),
+        Refusal::InUse => out.push_str("refused 6"),
+        Refusal::NotRoot => out.push_str("refused 7"),
+        Refusal::Loop => out.push_str("refused 8"),
+        Refusal::UnknownSink => out.push_str("refused 9"),
+        Refusal::ParentOfOther => out.push_str("refused 10"),
+        Refusal::NotYet => out.push_str("refused 11"),
+        Refusal::NoMessage => out.push_str("refused 12"),
+    }
+}
+
+#[tactic(auto, unfolding(vz_rules::specs::Log::rule_number))]
+fn rule_number(rule: Rule) -> u32
+    ensures { result ≡ rule_number_of rule }
+{
+    match rule {
+        Rule::NoPass => 1,
+        Rule::BadRoot => 2,
+        Rule::PassIds => 3,
+        Rule::PassOrder => 4,
+        Rule::VisibleOutside => 5,
+        Rule::UnlistedResource => 6,
+        Rule::ListedTwice => 7,
+        Rule::TileOutside => 8,
+        Rule::BadRange => 9,
+        Rule::BadDependency => 10,
+        Rule::DamageOutside => 11,
+    }
+}
+
+#[tactic(auto, unfolding(vz_rules::specs::Log::reply_text))]
+fn push_drawn(out: &mut String, damage: &Rect) -> Result<(), AllocError>
+    ensures { OnOk result (Appends out.old out.new (reply_text (Reply.Drawn damage.now))) }
+{
+    let [x, y, w, h] = numbers_of(damage);
+    write!(out, "drawn {x} {y} {w} {h}")
+}
+
+/// Its numbers as they are printed, without signs: a drawn damage has none.
+fn numbers_of(damage: &Rect) -> [u32; 4]
+    ensures { result ≡ map nat_abs (damage.now.x ∷ damage.now.y ∷ damage.now.w ∷ damage.now.h ∷ []) }
+{
+    [
+        damage.x().unsigned_abs(),
+        damage.y().unsigned_abs(),
+        damage.w().unsigned_abs(),
+        damage.h().unsigned_abs(),
+    ]
+}
+
+#[tactic(auto, unfolding(vz_rules::specs::Log::effects_text))]
+fn push_effects(out: &mut String, effects: &Effects) -> Result<(), AllocError>
+    ensures { OnOk result (Appends out.old out.new (effects_text effects.now)) }
+{
+    push_activated(out, effects.activated.as_slice())?;
+    push_destroyed(out, effects.destroyed.as_slice())?;
+    push_returned(out, effects.returned.as_slice())?;
+    push_fed(out, effects.fed.as_slice())
+}
+
+fn push_activated(out: &mut String, subs: &[Sub]) -> Result<(), AllocError>
+    ensures { OnOk result (Appends out.old out.new (flat_map activated_text subs.now)) }
+{
+    for sub in subs {
+        write!(out, " +{}.{}", sub.client, sub.ordinal)?;
+    }
+    Ok(())
+}
+
+fn push_destroyed(out: &mut String, surfaces: &[Lost]) -> Result<(), AllocError>
+    ensures { OnOk result (Appends out.old out.new (flat_map destroyed_text surfaces.now)) }
+{
+    for lost in surfaces {
+        write!(out, " x{}.{}", lost.client, lost.surface)?;
+    }
+    Ok(())
+}
+
+fn push_returned(out: &mut String, returns: &[Returned]) -> Result<(), AllocError>
+    ensures { OnOk result (Appends out.old out.new (flat_map returned_text returns.now)) }
+{
+    for back in returns {
+        write!(out, " <{}.{}x{}", back.client, back.id, back.count)?;
+    }
+    Ok(())
+}
+
+fn push_fed(out: &mut String, feedback: &[Fed]) -> Result<(), AllocError>
+    ensures { OnOk result (Appends out.old out.new (flat_map fed_text feedback.now)) }
+{
+    for fed in feedback {
+        let letter = if fed.presented { 'p' } else { 'd' };
+        write!(out, " {letter}{}.{}", fed.sub.client, fed.sub.ordinal)?;
+    }
+    Ok(())
+}
+
+fn push_held(out: &mut String, held: &[Returned]) -> Result<(), AllocError>
+    ensures { OnOk result (Appends out.old out.new (flat_map held_text held.now)) }
+{
+    for reference in held {
+        writeln!(
+            out,
+            "held {}.{}x{}",
+            reference.client, reference.id, reference.count
+        )?;
+    }
+    Ok(())
+}
+
+fn push_open(out: &mut String, unfed: &[Sub]) -> Result<(), AllocError>
+    ensures { OnOk result (Appends out.old out.new (flat_map open_text unfed.now)) }
+{
+    for sub in unfed {
+        writeln!(out, "open {}.{}", sub.client, sub.ordinal)?;
+    }
+    Ok(())
+}
+
+#[cfg(test)]
+mod tests;

@@ -1,0 +1,80 @@
+-- What stands while a file is read piece by piece.
+use Rattle.std.proofs.Common.{◌≡◌, ℕ, ◌+◌, ◌-◌, ◌<◌, ◌≤◌, List, [], Some, length, take, drop, ◌++◌, IsTrue, sym, ap, ◌∙◌, arith, length-drop, length-append, append_assoc}
+use Rattle.std.proofs.lemmas.List.{take_at, drop_all, append-nil, length-take-le}
+use Rattle.std.proofs.Math.Seq.{take-append-add}
+use borrow.Rule.Slice.PartMut.{post_of}
+use Rattle.vz_outside.proofs.Calls.{call_then_call, tells_after, files_then_files, other_rests_then_other_rests, sound_then_sound}
+use Rattle.vz_outside.specs.Shelved.{Shelved, Reading, IsCall, SameFiles, KeepsOtherRests, StaysSound}
+
+-- so many bytes of a slot's rest were read, to the front of the room for them
+pub record HasRead (limit slot filled : ℕ) (room : List ℕ) (old new : Shelved) : Type 0 where
+  pub within : filled ≤ length room
+  pub bounded : length room ≤ limit + 1
+  pub opened : old.mode slot ≡ Some Reading
+  pub call : IsCall old new
+  pub moved : IsTrue old.tells → old.rest slot ≡ take filled room ++ new.rest slot
+  pub files : IsTrue old.tells → SameFiles old new
+  pub rests : IsTrue old.tells → KeepsOtherRests slot old new
+  pub stays : IsTrue old.sound → StaysSound old new
+
+-- what a list holds after its part from a place on was written through a slice
+pub written_through :
+    (len from : ℕ) (slice items into : List ℕ) →
+    slice ≡ items → length slice ≡ len → from ≤ len → length into ≡ length slice - from →
+    take len (take from slice ++ (into ++ post_of from (length slice - from) slice) ++
+    drop (length (take from slice ++ (into ++ post_of from (length slice - from) slice))) items) ≡
+    take from items ++ into
+written_through len from slice items into same is_len low is_into =
+    take_at _ _ len long ∙ shown ∙ ap (λ (xs : List ℕ). take from xs ++ into) same
+  where
+    none_behind : post_of from (length slice - from) slice ≡ []
+    none_behind = drop_all (length slice - from) (drop from slice) (omega (arith, length-drop from slice))
+
+    shown : take from slice ++ (into ++ post_of from (length slice - from) slice) ≡ take from slice ++ into
+    shown = ap (λ (xs : List ℕ). take from slice ++ (into ++ xs)) none_behind ∙ ap (λ (xs : List ℕ). take from slice ++ xs) (append-nil into)
+
+    long : length (take from slice ++ (into ++ post_of from (length slice - from) slice)) ≡ len
+    long = ap length shown ∙ length-append (take from slice) into ∙
+        (let front : length (take from slice) ≡ from = length-take-le from slice (omega arith) in omega arith)
+
+-- a call read so many more, to the room behind
+pub read_more :
+    (limit slot filled more : ℕ) (before room piece after : List ℕ) (old mid new : Shelved) →
+    HasRead limit slot filled before old mid →
+    take filled room ≡ take filled before → filled < length room → length room ≤ limit + 1 →
+    length piece ≡ length room - filled → after ≡ take filled room ++ piece → more ≤ length piece →
+    IsCall mid new →
+    (IsTrue mid.tells → mid.rest slot ≡ take more piece ++ new.rest slot) →
+    (IsTrue mid.tells → SameFiles mid new) →
+    (IsTrue mid.tells → KeepsOtherRests slot mid new) →
+    (IsTrue mid.sound → StaysSound mid new) →
+    HasRead limit slot (filled + more) after old new
+read_more limit slot filled more before room piece after old mid new was kept low bounded is_piece is_after few call moved files rests stays =
+    record {
+      within = omega (arith, long);
+      bounded = omega (arith, long);
+      opened = was.opened;
+      call = call_then_call old mid new was.call call;
+      moved = λ told.
+          was.moved told ∙
+          ap (λ (xs : List ℕ). take filled before ++ xs) (moved (tells_after old mid was.call told)) ∙
+          sym (append_assoc (take filled before) (take more piece) (new.rest slot)) ∙
+          ap (λ (xs : List ℕ). xs ++ new.rest slot) (sym front);
+      files = λ told. files_then_files old mid new (was.files told) (files (tells_after old mid was.call told));
+      rests = λ told.
+          other_rests_then_other_rests slot old mid new was.call (was.rests told) (rests (tells_after old mid was.call told));
+      stays = λ sound. sound_then_sound old mid new (was.stays sound) (stays (was.stays sound).sound);
+    }
+  where
+    taken : length (take filled room) ≡ filled
+    taken = length-take-le filled room (omega arith)
+
+    long : length after ≡ length room
+    long = ap length is_after ∙ length-append (take filled room) piece ∙ omega (arith, taken)
+
+    front : take (filled + more) after ≡ take filled before ++ take more piece
+    front =
+        ap (λ (xs : List ℕ). take (filled + more) xs) is_after ∙
+        ap (λ (n : ℕ). take (n + more) (take filled room ++ piece)) (sym taken) ∙
+        take-append-add (take filled room) piece more ∙
+        ap (λ (xs : List ℕ). xs ++ take more piece) kept

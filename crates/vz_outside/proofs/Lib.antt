@@ -1,0 +1,17 @@
+pub mod Rises
+pub mod Calls
+pub mod Fronts
+mod Writes
+mod Prints
+mod Fills
+pub mod Places
+pub mod Slots
+mod Pieces
+pub mod Held
+pub mod Counting
+mod Standing
+mod OpenRules
+mod CreateRules
+mod ReadRules
+mod WriteRules
+mod OuterCalls

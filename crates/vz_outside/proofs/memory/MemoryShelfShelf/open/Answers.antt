@@ -1,0 +1,19 @@
+use Rattle.vz_outside.proofs.OpenRules.{open_rules}
+use Rattle.vz_outside.proofs.memory.MemoryShelfShelf.open.Goals as goal
+
+pub returns : goal.returns
+returns c =
+    let rules =
+    open_rules c.args.self.now c.args.name.now c.open_file.result c.open_file.new.self c.open_file.ensures.kept c.open_file.ensures.opens in
+    record {
+      opened = rules.opened;
+      named = rules.named;
+      whole = rules.whole;
+      files = rules.files;
+      rests = rules.rests;
+      call = rules.call;
+      untouched = rules.untouched;
+      failed = rules.failed;
+      sound = rules.sound;
+      stays = rules.stays;
+    }

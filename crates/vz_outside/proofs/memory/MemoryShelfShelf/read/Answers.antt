@@ -1,0 +1,20 @@
+use Rattle.std.proofs.Common.{length}
+use Rattle.vz_outside.proofs.ReadRules.{read_rules}
+use Rattle.vz_outside.proofs.memory.MemoryShelfShelf.read.Goals as goal
+
+pub returns : goal.returns
+returns c =
+    let rules =
+    read_rules c.args.self.now c.args.slot (length c.args.into.now) c.read_on.new.into c.read_on.result c.read_on.new.self c.read_on.ensures.kept c.requires.piece c.read_on.ensures.reads in
+    record {
+      count = rules.count;
+      moved = rules.moved;
+      ended = rules.ended;
+      files = rules.files;
+      rests = rules.rests;
+      call = rules.call;
+      untouched = rules.untouched;
+      failed = rules.failed;
+      sound = rules.sound;
+      stays = rules.stays;
+    }

@@ -1,0 +1,6 @@
+pub mod Faults
+pub mod Numbered
+pub mod Sunk
+pub mod Shelved
+pub mod InMemory
+pub mod Outer

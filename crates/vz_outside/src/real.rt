@@ -1,0 +1,170 @@
+//! The files of the system and standard output, as a shelf and a sink: they tell no bytes, and count their faults.
+ghost use Rattle.std.specs.Prelude.{◌≡◌, ◌<◌, ◌≤◌, [], IfOk, OnOk, IsErrOf, length, vec_len, vec_capacity};
+ghost use Rattle.vz_outside.specs.Faults.{Rose};
+ghost use Rattle.vz_outside.specs.Outer.{handle_mode};
+ghost use Rattle.vz_outside.specs.Shelved.{Reading, Writing};
+ghost use Rattle.vz_outside.specs.declared.shelf.ShelfError.TheVariants.{Failed};
+
+use crate::opening::room_for_slot;
+use crate::{Shelf, ShelfError, Sink};
+use std::fs;
+use std::io::{self, Read, Write};
+use std::marker::Model;
+use std::rt::Files;
+
+/// An open file, and what it is open for.
+#[derive(Drop)]
+enum Handle<F: Drop> {
+    /// A file to read.
+    Source(F),
+    /// A file to write.
+    Target(F),
+}
+
+/// A shelf of the files of the system.
+///
+/// Each error of the system is a fault, and so is a write that takes nothing.
+#[derive(Drop)]
+pub struct RealShelf<R: Files + Drop> {
+    rt: R,
+    slots: Vec<Handle<R::File>>,
+    faults: u64,
+}
+
+impl<R: Files + Drop> Model for RealShelf<R> {
+    ghost use Rattle.std.specs.Prelude.{map};
+    ghost use Rattle.vz_outside.specs.Outer.{Outer, handle_mode};
+
+    ghost Value = { Outer };
+
+    ghost view = { λ s. record { modes = map handle_mode s.slots.items; faults = s.faults } };
+}
+
+impl<R: Files + AllocGlobal + Drop> RealShelf<R> {
+    /// A shelf of the files that a runtime reaches, with no slot open and no fault counted.
+    pub fn new(rt: R) -> Self
+        ensures { result ≡ record { modes = []; faults = 0 } }
+    {
+        let slots = Vec::new(rt.alloc());
+        RealShelf {
+            rt,
+            slots,
+            faults: 0,
+        }
+    }
+}
+
+impl<R: Files + AllocGlobal + Drop> Shelf for RealShelf<R> {
+    ghost use Rattle.vz_outside.specs.Outer.{outer_shelf};
+    ghost use Rattle.std.proofs.lemmas.Bool.{false≢true};
+
+    ghost shelved = { outer_shelf };
+
+    ghost sound_tells = { λ shelf sound. absurd (false≢true sound) };
+
+    fn open(&mut self, name: &str) -> Result<u32, ShelfError> {
+        let slot = room_for_slot(&mut self.slots)?;
+        let Ok(file) = fs::open(&self.rt, name) else {
+            return Err(fail(&mut self.faults));
+        };
+        self.slots.push_reserved(Handle::Source(file));
+        Ok(slot)
+    }
+
+    fn create(&mut self, name: &str) -> Result<u32, ShelfError> {
+        let slot = room_for_slot(&mut self.slots)?;
+        let Ok(file) = fs::create(&self.rt, name) else {
+            return Err(fail(&mut self.faults));
+        };
+        self.slots.push_reserved(Handle::Target(file));
+        Ok(slot)
+    }
+
+    fn read(&mut self, slot: u32, into: &mut [u8]) -> Result<usize, ShelfError> {
+        match self.slots[slot as usize].read(into) {
+            Ok(count) => Ok(count),
+            Err(_) => Err(fail(&mut self.faults)),
+        }
+    }
+
+    fn write(&mut self, slot: u32, from: &[u8]) -> Result<usize, ShelfError> {
+        match self.slots[slot as usize].write(from) {
+            Ok(count) if count > 0 => Ok(count),
+            _ => Err(fail(&mut self.faults)),
+        }
+    }
+}
+
+impl<F: Read + Write + Drop> Handle<F> {
+    fn read(&mut self, into: &mut [u8]) -> io::Result<usize>
+        requires { handle_mode self.old ≡ Reading }
+        ensures mode { handle_mode self.new ≡ handle_mode self.old }
+        ensures count { IfOk result (λ n. n ≤ length into.old) }
+    {
+        match self {
+            Handle::Source(file) => file.read(into),
+            Handle::Target(_) => unreachable!(),
+        }
+    }
+
+    fn write(&mut self, from: &[u8]) -> io::Result<usize>
+        requires { handle_mode self.old ≡ Writing }
+        ensures mode { handle_mode self.new ≡ handle_mode self.old }
+        ensures count { IfOk result (λ n. n ≤ length from.now) }
+    {
+        match self {
+            Handle::Target(file) => file.write(from),
+            Handle::Source(_) => unreachable!(),
+        }
+    }
+}
+
+/// Counts a fault, and answers it. The count stands still at 18,446,744,073,709,551,615.
+fn fail(faults: &mut u64) -> ShelfError
+    ensures error { result ≡ Failed }
+    ensures least { faults.old ≤ faults.new }
+    ensures rose { Rose faults.old faults.new }
+{
+    *faults = faults.saturating_add(1);
+    ShelfError::Failed
+}
+
+/// Standard output. Each error of the system is a fault, and so is a write that takes nothing.
+#[derive(Drop)]
+pub struct RealSink<R: Print + Drop> {
+    rt: R,
+    faults: u64,
+}
+
+impl<R: Print + Drop> Model for RealSink<R> {
+    ghost use Rattle.std.specs.Prelude.{ℕ};
+
+    ghost Value = { ℕ };
+
+    ghost view = { λ s. s.faults };
+}
+
+impl<R: Print + Drop> RealSink<R> {
+    /// Standard output as a runtime reaches it, with no fault counted.
+    pub fn new(rt: R) -> Self
+        ensures { result ≡ 0 }
+    {
+        RealSink { rt, faults: 0 }
+    }
+}
+
+impl<R: Print + Drop> Sink for RealSink<R> {
+    ghost use Rattle.vz_outside.specs.Outer.{outer_sink};
+    ghost use Rattle.std.proofs.lemmas.Bool.{false≢true};
+
+    ghost sunk = { outer_sink };
+
+    ghost sound_tells = { λ sink sound. absurd (false≢true sound) };
+
+    fn write(&mut self, from: &[u8]) -> Result<usize, ShelfError> {
+        match self.rt.write_some(from) {
+            Ok(count) if count > 0 => Ok(count),
+            _ => Err(fail(&mut self.faults)),
+        }
+    }
+}

@@ -1,0 +1,114 @@
+//! Each device once, through its trait.
+use crate::{
+    MemoryShelf, MemorySink, RealShelf, RealSink, Shelf, ShelfError, Sink, print, read_upto,
+    write_all,
+};
+use std::alloc::{AllocError, Global};
+use std::test::Fail;
+use std::{fs, process};
+
+/// Writes a text under a name, and reads it back.
+fn round<F: Shelf>(
+    alloc: Global,
+    shelf: &mut F,
+    name: &str,
+    text: &[u8],
+) -> Result<Vec<u8>, ShelfError> {
+    let target = shelf.create(name)?;
+    write_all(shelf, target, text)?;
+    let source = shelf.open(name)?;
+    read_upto(alloc, shelf, source, 100)
+}
+
+/// A shelf with a file `a` of three bytes and a second one of that name, whose calls move one byte each.
+fn small_shelf(alloc: Global, failing: Vec<u64>) -> Result<MemoryShelf, AllocError> {
+    let mut files = Vec::new(alloc);
+    for text in [b"abc", b"xyz"] {
+        let bytes = Vec::from_slice(alloc, text.as_slice())?;
+        files.push((String::from_str(alloc, "a")?, bytes))?;
+    }
+    Ok(MemoryShelf::new(alloc, files, failing, 1))
+}
+
+#[test]
+fn memory_shelf_gives_back(rt: HostRuntime) -> Result<(), Fail> {
+    let alloc = rt.alloc();
+    let mut shelf = small_shelf(alloc, Vec::new(alloc))?;
+    assert_eq!(rt;
+        round(alloc, &mut shelf, "b", b"hello")?.as_slice(),
+        b"hello".as_slice()
+    );
+    assert_eq!(rt; shelf.bytes_of("a"), Some(b"abc".as_slice()));
+    assert_eq!(rt; shelf.bytes_of("b"), Some(b"hello".as_slice()));
+    assert_eq!(rt;
+        round(alloc, &mut shelf, "a", b"")?.as_slice(),
+        b"".as_slice()
+    );
+    assert_eq!(rt; shelf.bytes_of("a"), Some(b"".as_slice()));
+    assert_eq!(rt; shelf.bytes_of("c"), None);
+    assert_eq!(rt; shelf.open("c"), Err(ShelfError::Failed));
+    Ok(())
+}
+
+#[test]
+fn memory_shelf_stops_above_a_limit(rt: HostRuntime) -> Result<(), Fail> {
+    let alloc = rt.alloc();
+    let mut shelf = small_shelf(alloc, Vec::new(alloc))?;
+    let slot = shelf.open("a")?;
+    assert_eq!(rt;
+        read_upto(alloc, &mut shelf, slot, 1)?.as_slice(),
+        b"ab".as_slice()
+    );
+    let mut rest = [0; 4];
+    assert_eq!(rt; shelf.read(slot, &mut rest)?, 1);
+    assert_eq!(rt; rest[0], b'c');
+    assert_eq!(rt; shelf.read(slot, &mut rest)?, 0);
+    Ok(())
+}
+
+#[test]
+fn each_call_fails_in_turn(rt: HostRuntime) -> Result<(), Fail> {
+    let alloc = rt.alloc();
+    for number in 1..9u64 {
+        let mut shelf = small_shelf(alloc, vec![in alloc; number]?)?;
+        let read = round(alloc, &mut shelf, "b", b"hi");
+        let calls_made = 7;
+        let error = if number > calls_made {
+            None
+        } else {
+            Some(ShelfError::Failed)
+        };
+        assert_eq!(rt; read.err(), error, "call {number}");
+    }
+    Ok(())
+}
+
+#[test]
+fn memory_sink_keeps_what_it_took(rt: HostRuntime) -> Result<(), Fail> {
+    let alloc = rt.alloc();
+    let mut sink = MemorySink::new(alloc, vec![in alloc; 2]?);
+    print(&mut sink, b"done ")?;
+    assert_eq!(rt; print(&mut sink, b"lost"), Err(ShelfError::Failed));
+    print(&mut sink, b"here")?;
+    assert_eq!(rt; sink.bytes(), b"done here".as_slice());
+    Ok(())
+}
+
+#[test]
+fn real_shelf_gives_back(rt: HostRuntime) -> Result<(), Fail> {
+    let alloc = rt.alloc();
+    let name = format!(in alloc; "/tmp/vz_outside_{}", process::id(rt.process()))?;
+    let mut shelf = RealShelf::new(rt);
+    let read = round(alloc, &mut shelf, name.as_str(), b"hello");
+    fs::remove_file(&rt, name.as_str())?;
+    assert_eq!(rt; read?.as_slice(), b"hello".as_slice());
+    assert_eq!(rt; shelf.open(name.as_str()), Err(ShelfError::Failed));
+    Ok(())
+}
+
+#[test]
+fn real_sink_prints(rt: HostRuntime) -> Result<(), Fail> {
+    let mut sink = RealSink::new(rt);
+    print(&mut sink, b"printed\n")?;
+    Ok(())
+}

@@ -1,0 +1,6 @@
+use Rattle.std.proofs.Common.{◌≡◌}
+use Rattle.vz_pixels.proofs.Bytes.{colours_upto}
+use Rattle.vz_pixels.proofs.block.pixels_of.Given as goal
+
+abbrev pub invariant-loop-k : goal.invariant-loop-k
+invariant-loop-k l = l.pixels.items ≡ colours_upto l.bytes l.k

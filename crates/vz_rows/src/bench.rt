@@ -1,0 +1,64 @@
+//! A bench of the top call: what it was given and what it left.
+ghost use Rattle.std.specs.Prelude.{◌≡◌, ◌<◌};
+
+use std::alloc::{AllocError, Global};
+use std::marker::Brand;
+use std::sync::ledger::{Blank, Ledger};
+use viz_run::{Run, viz};
+use vz_buffers::Steps;
+use vz_outside::{MemoryShelf, MemorySink, OpenGate};
+
+/// More bytes than any file of a row has.
+pub const WHOLE: usize = 1 << 20;
+
+/// What a call left.
+#[derive(Drop)]
+pub struct Left {
+    pub run: Run,
+    pub shelf: MemoryShelf,
+    pub sink: MemorySink,
+}
+
+/// A file of a shelf.
+pub fn file(alloc: Global, name: &str, bytes: &[u8]) -> Result<(String, Vec<u8>), AllocError> {
+    Ok((
+        String::from_str(alloc, name)?,
+        Vec::from_slice(alloc, bytes)?,
+    ))
+}
+
+/// The words of a line that are parted by blanks.
+pub fn words(alloc: Global, line: &str) -> Result<Vec<String>, AllocError> {
+    let mut words = Vec::new(alloc);
+    for word in line.split_ascii_whitespace() {
+        words.push(String::from_str(alloc, word)?)?;
+    }
+    Ok(words)
+}
+
+/// Calls the program with the words of a line.
+pub fn call(
+    alloc: Global,
+    line: &str,
+    shelf: MemoryShelf,
+    sink: MemorySink,
+) -> Result<Left, AllocError> {
+    let words = words(alloc, line)?;
+    Ok(counted::<Brand>(alloc, &words, shelf, sink, Blank::new(1)))
+}
+
+fn counted<L: Ledger>(
+    alloc: Global,
+    words: &[String],
+    mut shelf: MemoryShelf,
+    mut sink: MemorySink,
+    blank: Blank,
+) -> Left
+    requires name { blank.name ≡ L.name }
+    requires parts { blank.parts ≡ L.parts }
+    requires some { 0 < L.parts }
+{
+    let mut steps = Steps::<L>::new(blank);
+    let run = viz(alloc, words, &mut shelf, &mut sink, &OpenGate, &mut steps);
+    Left { run, shelf, sink }
+}

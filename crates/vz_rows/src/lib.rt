@@ -1,0 +1,10 @@
+//! Worked rows through the top call, over a shelf and a sink in memory.
+#![tactic(auto)]
+
+#[cfg(test)]
+mod bench;
+#[cfg(test)]
+mod files;
+pub mod laws;
+#[cfg(test)]
+mod rows;
