@@ -4,6 +4,7 @@ use Rattle.vz_codec.specs.declared.error.ReadError.{ReadError}
 use Rattle.vz_codec.specs.declared.error.ReadError.TheVariants as errors
 use Rattle.vz_codec.specs.Reading.{Fault, Read, short}
 
+-- reading has the fault that is told, and nothing is said for want of memory
 abbrev pub Fails : {Y : Type 0} → ReadError → Result Y Fault → Type 0
 Fails errors.Memory read = Unit {0}
 Fails (errors.Wrong left rule) read = read ≡ Err (record { left = left; rule = rule })
