@@ -1,6 +1,5 @@
 -- What holds of a call that ends well.
 use Rattle.std.specs.Prelude.{◌≡◌, ℕ, ◌+◌, ◌*◌, pos, Option, Some, IsTrue, List, [], ◌∷◌, ◌++◌, map}
-use Rattle.vz_geom.specs.declared.Size.{Size}
 use Rattle.vz_frame.specs.declared.message.ClientFile.{ClientFile}
 use Rattle.vz_codec.specs.Grammar.{Spells}
 use Rattle.vz_outside.specs.Shelved.{Shelved, Text}
@@ -16,28 +15,36 @@ use Rattle.vz_rules.specs.Narrow.{is_narrow, narrow_events}
 use Rattle.viz_run.specs.Files.{narrow_schedule}
 use Rattle.viz_run.specs.Lines.{done_line}
 
--- what `step` is given: the sides of the display, the names, and the bytes and the value of the client's file
-pub record Given : Type 0 where
+-- what the words of `step` name: the sides of the display, and the files
+pub record Line : Type 0 where
   pub width : ℕ
   pub height : ℕ
   pub schedule : Text
   pub frames : Text
   pub log : Text
   pub file : Text
+
+-- the words of `step` with one client file that name it
+abbrev pub command_for : Line → Command
+command_for l = Step l.width l.height l.schedule l.frames l.log (l.file ∷ [])
+
+-- what `step` is given: what its words name, and the bytes and the value of the client's file
+pub record Given : Type 0 where
+  pub line : Line
   pub bytes : List ℕ
   pub client : ClientFile
 
 -- the plan of the display's size and the client's file
 abbrev pub plan_of : Given → Plan
-plan_of g = record { files = g.client ∷ []; size = record { w = pos g.width; h = pos g.height } }
+plan_of g = record { files = g.client ∷ []; size = record { w = pos g.line.width; h = pos g.line.height } }
 
 -- the file as it was read spells a file in the narrow form; where the shelf tells its bytes, these are those of the file's name, and those of the schedule's name are the schedule that is taken
 pub record IsRead (shelf : Shelved) (g : Given) : Type 0 where
   pub plan : IsPlan (plan_of g)
   pub spelled : Spells g.bytes g.client
   pub narrow : IsTrue (is_narrow g.client)
-  pub file_told : IsTrue shelf.tells → shelf.bytes g.file ≡ Some g.bytes
-  pub schedule_told : IsTrue shelf.tells → shelf.bytes g.schedule ≡ Some narrow_schedule
+  pub file_told : IsTrue shelf.tells → shelf.bytes g.line.file ≡ Some g.bytes
+  pub schedule_told : IsTrue shelf.tells → shelf.bytes g.line.schedule ≡ Some narrow_schedule
 
 -- the events of a history
 abbrev pub events_in : List Entry → List Event
@@ -57,22 +64,18 @@ pub record IsWritten (p : Plan) (h : List Entry) (buffers : ℕ) (log drawn : Te
 pub record IsShown (before after : Shelved) (start total : ℕ) (h : List Entry) (g : Given) : Type 0 where
   pub read : IsRead before g
   pub stepped : IsStepped (plan_of g) h narrow_events
-  pub files : IsWritten (plan_of g) h 2 g.log g.frames after
+  pub files : IsWritten (plan_of g) h 2 g.line.log g.line.frames after
   -- each written frame is the whole picture
   pub whole : written (plan_of g) h 2 ≡ frames (plan_of g) h
   -- each pixel of the display is made once and painted once
   pub counted : total ≡ start + painted (plan_of g) h 2
-  pub twice : painted (plan_of g) h 2 ≡ 2 * (g.width * g.height)
-
--- the words of `step` with one client file that name what is given
-abbrev pub command_for : Given → Command
-command_for g = Step g.width g.height g.schedule g.frames g.log (g.file ∷ [])
+  pub twice : painted (plan_of g) h 2 ≡ 2 * (g.line.width * g.line.height)
 
 -- a call of `step` that ended well for what its words name: from the shelf, the sink and the count of steps before and after, and the history
 pub record EndsWellFor (words : List Text) (before after : Shelved) (printed printed_now : Sunk) (start total : ℕ) (h : List Entry) (g : Given) : Type 0 where
-  pub command : IsCommand words (command_for g)
+  pub command : IsCommand words (command_for g.line)
   pub shown : IsShown before after start total h g
-  pub line : IsTrue printed.tells → printed_now.bytes ≡ printed.bytes ++ done_line h
+  pub told : IsTrue printed.tells → printed_now.bytes ≡ printed.bytes ++ done_line h
 
 -- the call ended well for something that its words name
 abbrev pub EndsWell : List Text → Shelved → Shelved → Sunk → Sunk → ℕ → ℕ → List Entry → Type 0
