@@ -1,14 +1,14 @@
 //! Each device once, through its trait.
 use crate::{
-    MemoryShelf, MemorySink, RealShelf, RealSink, Shelf, ShelfError, Sink, print, read_upto,
-    write_all,
+    Gate, MemoryShelf, MemorySink, OpenGate, RealShelf, RealSink, Shelf, ShelfError, print,
+    read_upto, write_all,
 };
 use std::alloc::{AllocError, Global};
 use std::test::Fail;
 use std::{fs, process};
 
-/// Writes a text under a name, and reads it back.
-fn round<F: Shelf>(
+/// Writes a text under a name, and reads it back, over a shelf that may go to another thread.
+fn round<F: Shelf + Send>(
     alloc: Global,
     shelf: &mut F,
     name: &str,
@@ -18,6 +18,12 @@ fn round<F: Shelf>(
     write_all(shelf, target, text)?;
     let source = shelf.open(name)?;
     read_upto(alloc, shelf, source, 100)
+}
+
+/// Tells a gate that threads may share of a step.
+fn step<G: Gate + Sync>(gate: &G) {
+    gate.before(0, 1);
+    gate.after(0, 1);
 }
 
 /// A shelf with a file `a` of three bytes and a second one of that name, whose calls move one byte each.
@@ -111,4 +117,9 @@ fn real_sink_prints(rt: HostRuntime) -> Result<(), Fail> {
     let mut sink = RealSink::new(rt);
     print(&mut sink, b"printed\n")?;
     Ok(())
+}
+
+#[test]
+fn open_gate_lets_pass() {
+    step(&OpenGate);
 }
