@@ -5,3 +5,4 @@ mod Displays
 mod Fitting
 mod Outs
 mod Showing
+mod Narrow_length
