@@ -6,3 +6,4 @@ mod Fitting
 mod Outs
 mod Showing
 mod Narrow_length
+mod Admitting

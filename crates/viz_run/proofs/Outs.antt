@@ -1,9 +1,9 @@
 -- What stands of the files that are written.
-use Rattle.std.proofs.Common.{◌≡◌, ◌≢◌, ℕ, ◌+◌, ◌<◌, ◌≤◌, List, [], ◌++◌, length, take, Option, Some, None, IsTrue, refl, sym, ap, subst, ◌∙◌, take_all, arith}
+use Rattle.std.proofs.Common.{◌≡◌, ◌≢◌, ℕ, ◌+◌, ◌<◌, ◌≤◌, List, [], ◌++◌, length, take, Option, Some, None, IsTrue, refl, sym, ap, subst, ◌∙◌, take_all, inl, inr, arith}
 use Rattle.std.proofs.lemmas.List.{length-take}
-use Rattle.vz_outside.specs.Shelved.{Shelved, Text, Writing, IsCall, SameFiles, KeepsOthers, Appends}
+use Rattle.vz_outside.specs.Shelved.{Shelved, Text, Writing, IsCall, SameFiles, KeepsOthers, Appends, AppendsFront}
 use Rattle.vz_outside.proofs.Calls.{tells_after}
-use Rattle.viz_run.specs.Files.{IsReadUpto, IsOut}
+use Rattle.viz_run.specs.Files.{IsReadUpto, IsOut, HasFront}
 
 short : (limit : ℕ) (all bytes : List ℕ) → bytes ≡ take (limit + 1) all → length bytes ≤ limit → all ≡ bytes
 short limit all bytes is low =
@@ -40,3 +40,21 @@ out_more name slot held more a b out call added =
 -- the others of a slot's name are those of the file's name
 pub others_named : (name : Text) (slot : ℕ) (held : List ℕ) (a b : Shelved) → IsOut name slot held a → (IsTrue a.tells → KeepsOthers (a.name slot) a b) → IsTrue a.tells → KeepsOthers name a b
 others_named name slot held a b out kept told = subst (λ n. KeepsOthers n a b) (out.named told) (kept told)
+
+-- where a file holds a front part of some bytes
+pub front_of_out : (name : Text) (slot n : ℕ) (held all : List ℕ) (before after : Shelved) → IsOut name slot held after → held ≡ take n all → IsCall before after → IsTrue before.tells → HasFront name all before after
+front_of_out name slot n held all before after out is call told =
+    inr (n, out.holds (tells_after before after call told) ∙ ap Some is)
+
+-- where a front part of some bytes was written to an empty file
+pub front_of_begun : (name : Text) (slot : ℕ) (all : List ℕ) (before a b : Shelved) → IsOut name slot [] a → IsCall before a → (IsTrue a.tells → AppendsFront all (a.name slot) a b) → IsTrue before.tells → HasFront name all before b
+front_of_begun name slot all before a b out call begun told =
+    let there : IsTrue a.tells = tells_after before a call told in
+    let front = begun there in
+    let holds : a.bytes (a.name slot) ≡ Some [] = ap a.bytes (out.named there) ∙ out.holds there in
+    let P : Text → Type 0 = λ t. b.bytes t ≡ Some (take front.0 all) in
+    inr (front.0, subst P (out.named there) (front.2 [] holds))
+
+-- all of it is a front part
+pub whole_front : (all : List ℕ) → all ≡ take (length all) all
+whole_front all = sym (take_all (length all) all (omega arith))

@@ -5,3 +5,4 @@ pub mod Entries
 pub mod Lines
 pub mod Headline
 pub mod Shown
+pub mod Causes

@@ -1,6 +1,9 @@
 -- The lines that are printed.
-use Rattle.std.specs.Prelude.{ℕ, codes, List, [], ◌∷◌, ◌++◌, length, count_by}
+use Rattle.std.specs.Prelude.{◌≡◌, ◌⊎◌, IsTrue, ℕ, codes, List, [], ◌∷◌, ◌++◌, length, count_by}
+use Rattle.vz_outside.specs.Sunk.{Sunk}
 use Rattle.vz_rules.specs.declared.entry.Entry.{Entry}
+use Rattle.viz_run.specs.declared.stop.Stop.{Stop}
+use Rattle.viz_run.specs.declared.stop.Stop.TheVariants as stop
 use Rattle.vz_rules.specs.Course.{is_drawn}
 use Rattle.vz_rules.specs.Log.{then_number}
 
@@ -20,6 +23,19 @@ done_line h = done_text (length h) (drawn_count h)
 unfoldable pub words_line : List ℕ
 words_line = codes "words refused\n"
 
--- what is printed where a file, by its number, has something that is not built
-unfoldable pub not_built_line : ℕ → List ℕ
-not_built_line file = codes "file" ++ then_number file ++ codes " refused at 0: NotBuilt\n"
+-- what is printed where the client's file has not the form that is taken
+unfoldable pub file_line : List ℕ
+file_line = codes "file 1 refused at 0: NotBuilt\n"
+
+-- what is printed where the schedule is not the one that is taken
+unfoldable pub schedule_line : List ℕ
+schedule_line = codes "file 0 refused at 0: NotBuilt\n"
+
+-- where the sink tells its bytes, a line was put at their end
+abbrev pub IsTold : List ℕ → Sunk → Sunk → Type 0
+IsTold line before after = IsTrue before.tells → after.bytes ≡ before.bytes ++ line
+
+-- a refused file is told by its line
+abbrev pub TellsRefusal : Stop → Sunk → Sunk → Type 0
+TellsRefusal why before after =
+    ((why ≡ stop.File) × IsTold file_line before after) ⊎ ((why ≡ stop.Schedule) × IsTold schedule_line before after)

@@ -1,11 +1,15 @@
 //! What `step` reads: the client's file and the schedule.
-ghost use Rattle.std.specs.Prelude.{◌≡◌, ◌^◌, ◌<◌, ◌≤◌, IsTrue, length, vec_len, IfOk, OnOk, IsErrOf};
+ghost use Rattle.std.specs.Prelude.{◌≡◌, ◌≢◌, ◌^◌, ◌<◌, false, IsTrue, IfOk, IfErr, OnOk, OnErr, IsErrOf};
 ghost use Rattle.vz_codec.specs.Grammar.{Spells};
 ghost use Rattle.vz_outside.specs.Faults.{Rose};
 ghost use Rattle.vz_outside.specs.Shelved.{IsCall, SameFiles};
 ghost use Rattle.vz_outside.specs.declared.shelf.ShelfError.TheVariants.{Failed};
 ghost use Rattle.vz_rules.specs.Narrow.{is_narrow};
 ghost use Rattle.viz_run.specs.Files.{IsReadUpto, narrow_schedule};
+ghost use Rattle.viz_run.specs.Shown.{line_of, IsAdmitted};
+ghost use Rattle.viz_run.specs.Causes.{IsNotNarrow, RefusesFile, RefusesSchedule};
+ghost use Rattle.viz_run.specs.declared.stop.Stop.TheVariants.{Words, File, Schedule, Fault};
+ghost use Rattle.vz_frame.specs.declared.message.ClientFile.{ClientFile};
 
 use crate::narrow;
 use crate::stop::Stop;
@@ -23,13 +27,34 @@ const SCHEDULE: [u8; 4] = [0x01, 0x01, 0x12, 0x13];
 
 /// The bytes that were read.
 #[derive(Drop)]
-pub struct Inputs {
-    pub file: Vec<u8>,
-    pub schedule: Vec<u8>,
+struct Inputs {
+    file: Vec<u8>,
+    schedule: Vec<u8>,
+}
+
+/// Reads the client's file and the schedule that the words name, and answers the file where both are accepted.
+///
+/// `File` and `Schedule` come where the file or the schedule, as it was read, is not what is taken; `Fault` only where
+/// the shelf's count of faults rose.
+pub fn admit<F: Shelf>(
+    alloc: Global,
+    shelf: &mut F,
+    words: &StepWords<'_>,
+) -> Result<ClientFile, Stop>
+    ensures admitted { IfOk result (λ client. (bytes : _) × IsAdmitted (F.shelved shelf.old) words.now client bytes) }
+    ensures no_file { IsErrOf result File → RefusesFile (F.shelved shelf.old) (line_of words.now) }
+    ensures no_schedule { IsErrOf result Schedule → RefusesSchedule (F.shelved shelf.old) (line_of words.now) }
+    ensures words { IsErrOf result Words → ⊥ }
+    ensures files { IsTrue (F.shelved shelf.old).tells → SameFiles (F.shelved shelf.old) (F.shelved shelf.new) }
+    ensures call { IsCall (F.shelved shelf.old) (F.shelved shelf.new) }
+    ensures failed { IsErrOf result Fault → Rose (F.shelved shelf.old).faults (F.shelved shelf.new).faults }
+{
+    let inputs = read_inputs(alloc, shelf, words)?;
+    accepted_file(alloc, &inputs)
 }
 
 /// Reads the client's file and then the schedule, before either is tested.
-pub fn read_inputs<F: Shelf>(
+fn read_inputs<F: Shelf>(
     alloc: Global,
     shelf: &mut F,
     words: &StepWords<'_>,
@@ -64,25 +89,48 @@ fn read_file<F: Shelf>(
 
 /// The client's file that the inputs give, where it has the narrow form and the schedule is the one that is taken.
 /// The file is tested before the schedule.
-pub fn accepted_file(alloc: Global, inputs: &Inputs) -> Result<ClientFile, Stop>
+fn accepted_file(alloc: Global, inputs: &Inputs) -> Result<ClientFile, Stop>
     ensures spelled { IfOk result (λ file. Spells inputs.now.file.items file) }
     ensures narrow { IfOk result (λ file. IsTrue (is_narrow file)) }
-    ensures whole { OnOk result (length inputs.now.file.items ≤ 166) }
     ensures schedule { OnOk result (inputs.now.schedule.items ≡ narrow_schedule) }
+    ensures no_file { IsErrOf result File → IsNotNarrow inputs.now.file.items }
+    ensures no_schedule { IsErrOf result Schedule → (client : ClientFile) × Spells inputs.now.file.items client × IsTrue (is_narrow client) × (inputs.now.schedule.items ≢ narrow_schedule) }
+    ensures words { IsErrOf result Words → ⊥ }
+    ensures fault { IsErrOf result Fault → ⊥ }
 {
-    if inputs.file.len() > FILE_LIMIT {
-        return Err(Stop::NotBuilt { file: 1 });
-    }
-    let file = match vz_codec::decode(alloc, &inputs.file) {
-        Ok(file) => file,
-        Err(DecodeError::Memory) => return Err(Stop::Memory),
-        Err(DecodeError::Refused { .. }) => return Err(Stop::NotBuilt { file: 1 }),
-    };
-    if !narrow::is_narrow(&file) {
-        return Err(Stop::NotBuilt { file: 1 });
-    }
+    let file = narrow_file(alloc, &inputs.file)?;
     if inputs.schedule.as_slice() != SCHEDULE.as_slice() {
-        return Err(Stop::NotBuilt { file: 0 });
+        return Err(Stop::Schedule);
     }
     Ok(file)
+}
+
+/// The file in the narrow form that the bytes spell.
+fn narrow_file(alloc: Global, bytes: &[u8]) -> Result<ClientFile, Stop>
+    ensures spelled { IfOk result (λ file. Spells bytes.now file) }
+    ensures narrow { IfOk result (λ file. IsTrue (is_narrow file)) }
+    ensures no_file { IsErrOf result File → IsNotNarrow bytes.now }
+    ensures schedule { IsErrOf result Schedule → ⊥ }
+    ensures words { IsErrOf result Words → ⊥ }
+    ensures fault { IsErrOf result Fault → ⊥ }
+{
+    match vz_codec::decode(alloc, bytes) {
+        Ok(file) => only_narrow(file),
+        Err(DecodeError::Memory) => Err(Stop::Memory),
+        Err(DecodeError::Refused { .. }) => Err(Stop::File),
+    }
+}
+
+/// The file, where it has the narrow form.
+fn only_narrow(file: ClientFile) -> Result<ClientFile, Stop>
+    ensures same { IfOk result (λ f. f ≡ file) }
+    ensures narrow { OnOk result (IsTrue (is_narrow file)) }
+    ensures no_file { OnErr result (is_narrow file ≡ false) }
+    ensures only { IfErr result (λ e. e ≡ File) }
+{
+    if narrow::is_narrow(&file) {
+        Ok(file)
+    } else {
+        Err(Stop::File)
+    }
 }

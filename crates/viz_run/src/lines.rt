@@ -1,43 +1,73 @@
 //! The lines that are printed.
-ghost use Rattle.std.specs.Prelude.{◌≡◌, ◌≤◌, ◌++◌, IsTrue, IfOk, OnOk, IsErrOf, string_bytes, length};
+ghost use Rattle.std.specs.Prelude.{◌≡◌, ◌<◌, ◌≤◌, ◌⊎◌, ◌++◌, IsTrue, IfOk, OnOk, IsErrOf, string_bytes, length};
 ghost use Rattle.vz_outside.specs.Faults.{Rose};
-ghost use Rattle.viz_run.specs.Lines.{done_line, done_text, drawn_count, words_line, not_built_line};
+ghost use Rattle.viz_run.specs.Lines.{done_line, done_text, drawn_count, words_line, IsTold, TellsRefusal};
+ghost use Rattle.vz_outside.specs.Sunk.{StaysSound};
+ghost use Rattle.viz_run.specs.declared.stop.Stop.TheVariants.{Words, Fault as StopOfFault};
 ghost use Rattle.vz_rules.specs.Course.{is_drawn};
-ghost use Rattle.viz_run.specs.declared.stop.Stop.TheVariants.{Fault};
+ghost use Rattle.viz_run.specs.declared.stop.Halt.TheVariants.{Fault};
 
-use crate::stop::Stop;
+use crate::stop::{Halt, Stop};
 use std::alloc::{AllocError, Global};
 use vz_frame::List;
 use vz_outside::{ShelfError, Sink, print};
 use vz_rules::{Entry, Reply};
 
+/// Where the words are those of no command.
+const WORDS_LINE: &str = "words refused\n";
+
+/// Where the client's file has not the form that is taken.
+const FILE_LINE: &str = "file 1 refused at 0: NotBuilt\n";
+
+/// Where the schedule is not the one that is taken.
+const SCHEDULE_LINE: &str = "file 0 refused at 0: NotBuilt\n";
+
 /// Prints how many entries a history has, and how many frames.
-pub fn print_done<O: Sink>(alloc: Global, out: &mut O, history: &List<Entry>) -> Result<(), Stop>
+pub fn print_done<O: Sink>(alloc: Global, out: &mut O, history: &List<Entry>) -> Result<(), Halt>
     ensures printed { IsTrue (O.sunk out.old).tells → OnOk result ((O.sunk out.new).bytes ≡ (O.sunk out.old).bytes ++ done_line history.now) }
     ensures failed { IsErrOf result Fault → Rose (O.sunk out.old).faults (O.sunk out.new).faults }
+    ensures sound { IsTrue (O.sunk out.old).sound → IsErrOf result Fault → ⊥ }
+    ensures stays { IsTrue (O.sunk out.old).sound → StaysSound (O.sunk out.old) (O.sunk out.new) }
+    ensures faults { (O.sunk out.old).faults ≤ (O.sunk out.new).faults }
+    ensures telling { (O.sunk out.new).tells ≡ (O.sunk out.old).tells }
 {
     let entries = history.as_slice();
     let Ok(line) = done_text(alloc, entries.len(), drawn_count(entries)) else {
-        return Err(Stop::Memory);
+        return Err(Halt::Memory);
     };
     print(out, line.as_bytes())?;
     Ok(())
 }
 
-/// Tells why a run stopped, and answers its status: 2 where the words are refused, 3 where a file is, 4 after a fault,
-/// also in the printing, and 5 for want of memory.
-pub fn tell_stop<O: Sink>(alloc: Global, out: &mut O, stop: Stop) -> u8
-    ensures { 2 ≤ result }
+/// Tells why a call stopped, and answers its status: 2 where the words are refused, 3 where a file is, 4 after a fault,
+/// also of the sink in the telling, and 5 for want of memory. Nothing is printed at 4 and 5.
+#[tactic(auto, unfolding(crate::specs::Lines::words_line, crate::specs::Lines::file_line, crate::specs::Lines::schedule_line))]
+pub fn tell_stop<O: Sink>(out: &mut O, stop: Stop) -> u8
+    ensures words { result ≡ 2 → (stop ≡ Words) × IsTold words_line (O.sunk out.old) (O.sunk out.new) }
+    ensures file { result ≡ 3 → TellsRefusal stop (O.sunk out.old) (O.sunk out.new) }
+    ensures fault { result ≡ 4 → (stop ≡ StopOfFault) ⊎ Rose (O.sunk out.old).faults (O.sunk out.new).faults }
+    ensures range { (2 ≤ result) × (result ≤ 5) }
+    ensures sound { IsTrue (O.sunk out.old).sound → StaysSound (O.sunk out.old) (O.sunk out.new) }
+    ensures faults { (O.sunk out.old).faults ≤ (O.sunk out.new).faults }
 {
-    let (line, status) = match stop {
-        Stop::Words => (words_text(alloc), 2),
-        Stop::NotBuilt { file } => (not_built_text(alloc, file), 3),
-        Stop::Fault => return 4,
-        Stop::Memory => return 5,
-    };
-    let Ok(line) = line else {
-        return 5;
-    };
+    match stop {
+        Stop::Words => tell(out, WORDS_LINE, 2),
+        Stop::File => tell(out, FILE_LINE, 3),
+        Stop::Schedule => tell(out, SCHEDULE_LINE, 3),
+        Stop::Fault => 4,
+        Stop::Memory => 5,
+    }
+}
+
+/// Prints a line, and answers a status: the one that is given where all of it was printed.
+fn tell<O: Sink>(out: &mut O, line: &str, status: u8) -> u8
+    requires { status < 4 }
+    ensures told { result ≡ status → IsTold line.now (O.sunk out.old) (O.sunk out.new) }
+    ensures fault { result ≡ 4 → Rose (O.sunk out.old).faults (O.sunk out.new).faults }
+    ensures range { (result ≡ status) ⊎ (result ≡ 4) ⊎ (result ≡ 5) }
+    ensures sound { IsTrue (O.sunk out.old).sound → StaysSound (O.sunk out.old) (O.sunk out.new) }
+    ensures faults { (O.sunk out.old).faults ≤ (O.sunk out.new).faults }
+{
     match print(out, line.as_bytes()) {
         Ok(()) => status,
         Err(ShelfError::Failed) => 4,
@@ -70,18 +100,4 @@ fn is_drawn(reply: &Reply) -> bool
     ensures { result ≡ is_drawn reply.now }
 {
     matches!(reply, Reply::Drawn(_))
-}
-
-#[tactic(auto, unfolding(crate::specs::Lines::words_line))]
-fn words_text(alloc: Global) -> Result<String, AllocError>
-    ensures { IfOk result (λ text. string_bytes text ≡ words_line) }
-{
-    String::from_str(alloc, "words refused\n")
-}
-
-#[tactic(auto, unfolding(crate::specs::Lines::not_built_line))]
-fn not_built_text(alloc: Global, file: u32) -> Result<String, AllocError>
-    ensures { IfOk result (λ text. string_bytes text ≡ not_built_line file) }
-{
-    format!(in alloc; "file {file} refused at 0: NotBuilt\n")
 }

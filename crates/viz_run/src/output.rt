@@ -1,16 +1,16 @@
 //! What `step` writes: the frames and the log.
-ghost use Rattle.std.specs.Prelude.{◌≡◌, ◌≢◌, ◌++◌, Some, [], IsTrue, IfOk, OnOk, IsErrOf};
+ghost use Rattle.std.specs.Prelude.{◌≡◌, ◌≢◌, ◌++◌, Some, [], IsTrue, IfOk, OnOk, OnErr, IsErrOf};
 ghost use Rattle.std.specs.List.{flat_map};
 ghost use Rattle.vz_outside.specs.Faults.{Rose};
-ghost use Rattle.vz_outside.specs.Shelved.{Writing, IsCall, KeepsOthers, Appends};
+ghost use Rattle.vz_outside.specs.Shelved.{Writing, IsCall, KeepsOthers, Appends, AppendsFront};
 ghost use Rattle.vz_outside.specs.declared.shelf.ShelfError.TheVariants.{Failed};
 ghost use Rattle.vz_rules.specs.Frames.{pixel_bytes};
 ghost use Rattle.vz_rules.specs.Log.{log_text};
 ghost use Rattle.vz_rules.specs.Narrow.{nothing_left};
-ghost use Rattle.viz_run.specs.Files.{IsOut};
-ghost use Rattle.viz_run.specs.declared.stop.Stop.TheVariants.{Fault};
+ghost use Rattle.viz_run.specs.Files.{IsOut, HasFront};
+ghost use Rattle.viz_run.specs.declared.stop.Halt.TheVariants.{Fault};
 
-use crate::stop::Stop;
+use crate::stop::Halt;
 use std::alloc::Global;
 use vz_frame::List;
 use vz_outside::{Shelf, ShelfError, write_all};
@@ -34,6 +34,8 @@ pub fn create_outputs<F: Shelf>(
     ensures frames { IfOk result (λ o. IsOut frames.now o.frames [] (F.shelved shelf.new)) }
     ensures log { IfOk result (λ o. IsOut log.now o.log [] (F.shelved shelf.new)) }
     ensures call { IsCall (F.shelved shelf.old) (F.shelved shelf.new) }
+    ensures frames_front { IsTrue (F.shelved shelf.old).tells → OnErr result (HasFront frames.now [] (F.shelved shelf.old) (F.shelved shelf.new)) }
+    ensures log_front { IsTrue (F.shelved shelf.old).tells → OnErr result (HasFront log.now [] (F.shelved shelf.old) (F.shelved shelf.new)) }
     ensures failed { IsErrOf result Failed → Rose (F.shelved shelf.old).faults (F.shelved shelf.new).faults }
 {
     let frames = shelf.create(frames)?;
@@ -47,9 +49,10 @@ pub fn write_frame<F: Shelf>(
     shelf: &mut F,
     slot: u32,
     pixels: &[Pixel],
-) -> Result<(), Stop>
+) -> Result<(), Halt>
     requires { (F.shelved shelf.old).mode slot ≡ Some Writing }
     ensures appended { IsTrue (F.shelved shelf.old).tells → OnOk result (Appends (flat_map pixel_bytes pixels.now) ((F.shelved shelf.old).name slot) (F.shelved shelf.old) (F.shelved shelf.new)) }
+    ensures begun { IsTrue (F.shelved shelf.old).tells → OnErr result (AppendsFront (flat_map pixel_bytes pixels.now) ((F.shelved shelf.old).name slot) (F.shelved shelf.old) (F.shelved shelf.new)) }
     ensures others { IsTrue (F.shelved shelf.old).tells → KeepsOthers ((F.shelved shelf.old).name slot) (F.shelved shelf.old) (F.shelved shelf.new) }
     ensures call { IsCall (F.shelved shelf.old) (F.shelved shelf.new) }
     ensures failed { IsErrOf result Fault → Rose (F.shelved shelf.old).faults (F.shelved shelf.new).faults }
@@ -65,9 +68,10 @@ pub fn write_log<F: Shelf>(
     shelf: &mut F,
     slot: u32,
     history: &List<Entry>,
-) -> Result<(), Stop>
+) -> Result<(), Halt>
     requires { (F.shelved shelf.old).mode slot ≡ Some Writing }
     ensures appended { IsTrue (F.shelved shelf.old).tells → OnOk result (Appends (log_text history.now nothing_left) ((F.shelved shelf.old).name slot) (F.shelved shelf.old) (F.shelved shelf.new)) }
+    ensures begun { IsTrue (F.shelved shelf.old).tells → OnErr result (AppendsFront (log_text history.now nothing_left) ((F.shelved shelf.old).name slot) (F.shelved shelf.old) (F.shelved shelf.new)) }
     ensures others { IsTrue (F.shelved shelf.old).tells → KeepsOthers ((F.shelved shelf.old).name slot) (F.shelved shelf.old) (F.shelved shelf.new) }
     ensures call { IsCall (F.shelved shelf.old) (F.shelved shelf.new) }
     ensures failed { IsErrOf result Fault → Rose (F.shelved shelf.old).faults (F.shelved shelf.new).faults }

@@ -1,25 +1,30 @@
 //! The top call.
-ghost use Rattle.std.specs.Prelude.{◌≡◌, [], ◌∷◌, IsTrue, OnOk, IsErrOf};
+ghost use Rattle.std.specs.Prelude.{◌≡◌, ◌≤◌, ◌⊎◌, ◌+◌, ◌*◌, [], IsTrue, IfErr, OnOk, OnErr, IsErrOf};
 ghost use Rattle.vz_outside.specs.Faults.{Rose};
 ghost use Rattle.vz_outside.specs.Shelved.{IsCall};
 ghost use Rattle.vz_rules.specs.Command.{fits_command};
-ghost use Rattle.viz_run.specs.Headline.{IsShown, EndsWell};
-ghost use Rattle.viz_run.specs.Words.{texts, command_of};
-ghost use Rattle.viz_run.specs.Shown.{display_size, Shows};
-ghost use Rattle.vz_buffers.specs.Canvas.{IsCanvasSize};
-ghost use Rattle.viz_run.specs.declared.stop.Stop.TheVariants.{Fault};
+ghost use Rattle.viz_run.specs.Headline.{EndsWell};
+ghost use Rattle.vz_frame.specs.Fits.{fits_file};
+ghost use Rattle.vz_rules.specs.Narrow.{is_narrow, narrow_history};
+ghost use Rattle.viz_run.specs.Causes.{IsUnbegun, LeavesFront, RefusesNamedFile, RefusesNamedSchedule, RefusesWords, RefusesInput, IsStatus};
+ghost use Rattle.viz_run.specs.Ends.{IsRefusal};
+ghost use Rattle.viz_run.specs.Words.{texts, command_of, IsNoStep};
+ghost use Rattle.viz_run.specs.declared.stop.Stop.TheVariants.{Words, File, Schedule, Fault as StopOfFault};
+ghost use Rattle.viz_run.specs.Shown.{display_size, IsPut, IsPutInFront, IsMadeInFront};
+ghost use Rattle.vz_buffers.specs.Canvas.{IsCanvasSize, pixel_count};
+ghost use Rattle.viz_run.specs.declared.stop.Halt.TheVariants.{Fault};
 
-use crate::input::{accepted_file, read_inputs};
+use crate::input::admit;
 use crate::lines::{print_done, tell_stop};
 use crate::machine;
 use crate::output::{create_outputs, write_frame, write_log};
 use crate::paint::paint;
-use crate::stop::Stop;
+use crate::stop::{Halt, Stop};
 use crate::words::{StepWords, step_words};
 use std::alloc::Global;
 use std::sync::ledger::Ledger;
 use vz_buffers::Steps;
-use vz_frame::List;
+use vz_frame::{ClientFile, List};
 use vz_geom::Size;
 use vz_outside::{Gate, Shelf, Sink};
 use vz_rules::Entry;
@@ -43,13 +48,28 @@ pub fn viz<F: Shelf + Send, O: Sink, G: Gate + Sync, L: Ledger>(
     gate: &G,
     steps: &mut Steps<L>,
 ) -> Run
+    // Status 0: what was given was shown whole, and the line was printed.
     ensures done { result.status ≡ 0 → EndsWell (texts words.now) (F.shelved shelf.old) (F.shelved shelf.new) (O.sunk out.old) (O.sunk out.new) steps.old steps.new result.history }
+
+    // Status 2: the words are not those of `step`, the line says so, and nothing was begun.
+    ensures words { result.status ≡ 2 → RefusesWords (texts words.now) (F.shelved shelf.old) (F.shelved shelf.new) (O.sunk out.old) (O.sunk out.new) result.history }
+
+    // Status 3: the file or the schedule, as it was read, is not taken, the line says which, and nothing was begun.
+    ensures file { result.status ≡ 3 → RefusesInput (texts words.now) (F.shelved shelf.old) (F.shelved shelf.new) (O.sunk out.old) (O.sunk out.new) result.history }
+
+    // Status 4: a count of faults rose.
+    ensures fault { result.status ≡ 4 → Rose (F.shelved shelf.old).faults (F.shelved shelf.new).faults ⊎ Rose (O.sunk out.old).faults (O.sunk out.new).faults }
+
+    // Status 4 and 5: what was written is a front part of what status 0 would have written, and the history is legal.
+    ensures front { 4 ≤ result.status → LeavesFront (texts words.now) (F.shelved shelf.old) (F.shelved shelf.new) result.history }
+
+    ensures range { IsStatus result.status }
 {
     let mut history = List::new(alloc);
     match step(alloc, words, shelf, out, gate, steps, &mut history) {
         Ok(()) => Run { status: 0, history },
         Err(stop) => Run {
-            status: tell_stop(alloc, out, stop),
+            status: tell_stop(out, stop),
             history,
         },
     }
@@ -66,37 +86,52 @@ fn step<F: Shelf, O: Sink, G: Gate, L: Ledger>(
     history: &mut List<Entry>,
 ) -> Result<(), Stop>
     requires { history.old ≡ [] }
-    ensures { OnOk result (EndsWell (texts words.now) (F.shelved shelf.old) (F.shelved shelf.new) (O.sunk out.old) (O.sunk out.new) steps.old steps.new history.new) }
+    ensures words { IsErrOf result Words → IsNoStep (texts words.now) × IsUnbegun (F.shelved shelf.old) (F.shelved shelf.new) history.new }
+    ensures no_file { IsErrOf result File → RefusesNamedFile (texts words.now) (F.shelved shelf.old) (F.shelved shelf.new) history.new }
+    ensures no_schedule { IsErrOf result Schedule → RefusesNamedSchedule (texts words.now) (F.shelved shelf.old) (F.shelved shelf.new) history.new }
+    ensures failed { IsErrOf result StopOfFault → Rose (F.shelved shelf.old).faults (F.shelved shelf.new).faults ⊎ Rose (O.sunk out.old).faults (O.sunk out.new).faults }
+    ensures front { OnErr result (LeavesFront (texts words.now) (F.shelved shelf.old) (F.shelved shelf.new) history.new) }
+    ensures counts { ((F.shelved shelf.old).faults ≤ (F.shelved shelf.new).faults) × ((O.sunk out.old).faults ≤ (O.sunk out.new).faults) }
+    ensures silent { IfErr result (λ e. IsRefusal e → O.sunk out.new ≡ O.sunk out.old) }
+    ensures done { OnOk result (EndsWell (texts words.now) (F.shelved shelf.old) (F.shelved shelf.new) (O.sunk out.old) (O.sunk out.new) steps.old steps.new history.new) }
 {
     let Some(command) = step_words(words) else {
         return Err(Stop::Words);
     };
-    show(alloc, &command, shelf, gate, steps, history)?;
+    let client = admit(alloc, shelf, &command)?;
+    show(alloc, &command, &client, shelf, gate, steps, history)?;
     print_done(alloc, out, history)?;
     Ok(())
 }
 
-/// Reads the file and the schedule, takes the four steps, and writes the frame and the log.
+/// Takes the four steps, and writes the frame and the log. FRAMES and LOG are made here, once every input is accepted.
 fn show<F: Shelf, G: Gate, L: Ledger>(
     alloc: Global,
     words: &StepWords<'_>,
+    client: &ClientFile,
     shelf: &mut F,
     gate: &G,
     steps: &mut Steps<L>,
     history: &mut List<Entry>,
-) -> Result<(), Stop>
+) -> Result<(), Halt>
     requires words { IsTrue (fits_command (command_of words.now)) }
+    requires fits { IsTrue (fits_file client.now) }
+    requires narrow { IsTrue (is_narrow client.now) }
     requires empty { history.old ≡ [] }
-    ensures shown { OnOk result (Shows words.now (F.shelved shelf.old) (F.shelved shelf.new) steps.old steps.new history.new) }
+    ensures put { OnOk result (IsPut words.now client.now (F.shelved shelf.new)) }
+    ensures history { OnOk result (history.new ≡ narrow_history (display_size words.now)) }
+    ensures counted { OnOk result (steps.new ≡ steps.old + 2 * pixel_count (display_size words.now)) }
+    ensures front { IsPutInFront words.now client.now (F.shelved shelf.old) (F.shelved shelf.new) }
+    ensures made { IsMadeInFront words.now history.new }
+    ensures call { IsCall (F.shelved shelf.old) (F.shelved shelf.new) }
+    ensures failed { IsErrOf result Fault → Rose (F.shelved shelf.old).faults (F.shelved shelf.new).faults }
 {
-    let inputs = read_inputs(alloc, shelf, words)?;
-    let client = accepted_file(alloc, &inputs)?;
     let outputs = create_outputs(shelf, words.frames, words.log)?;
     let size = size_of(words);
     machine::submit(alloc, gate, history)?;
     machine::set_root(alloc, gate, history)?;
     machine::draw(alloc, gate, size, history)?;
-    let buffer = paint(alloc, &client, size, steps)?;
+    let buffer = paint(alloc, client, size, steps)?;
     write_frame(alloc, shelf, outputs.frames, buffer.pixels())?;
     machine::done(alloc, gate, history)?;
     write_log(alloc, shelf, outputs.log, history)?;

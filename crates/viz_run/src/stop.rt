@@ -1,39 +1,69 @@
-//! Why a run stops before its end.
+//! Why a call stops before its end.
 ghost use Rattle.std.specs.Prelude.{◌≡◌};
-ghost use Rattle.viz_run.specs.declared.stop.Stop.TheVariants.{Memory as OfMemory};
-ghost use Rattle.viz_run.specs.Ends.{stop_of};
+ghost use Rattle.viz_run.specs.declared.stop.Halt.TheVariants.{Memory as HaltOfMemory};
+ghost use Rattle.viz_run.specs.Ends.{halt_of, stop_of};
 
 use vz_outside::ShelfError;
 use vz_pixels::Memory;
 
-/// Why a run stops before its end.
+/// Why a call stops before its end.
 #[derive(Clone, Copy, Debug, PartialEq, Eq)]
 pub enum Stop {
     /// The words are those of no command.
     Words,
-    /// A file, by its number, has something that is not built. The schedule is file 0.
-    NotBuilt { file: u32 },
-    /// The shelf failed, and its count of faults rose.
+    /// The client's file has not the form that is taken.
+    File,
+    /// The schedule is not the one that is taken.
+    Schedule,
+    /// The shelf or the sink failed, and its count of faults rose.
     Fault,
     /// Want of memory.
     Memory,
 }
 
-impl From<ShelfError> for Stop {
-    ghost from_gives = { λ e s. s ≡ stop_of e };
+/// Why work on accepted inputs halts.
+#[derive(Clone, Copy, Debug, PartialEq, Eq)]
+pub enum Halt {
+    /// The shelf or the sink failed, and its count of faults rose.
+    Fault,
+    /// Want of memory.
+    Memory,
+}
+
+impl From<ShelfError> for Halt {
+    ghost from_gives = { λ e h. h ≡ halt_of e };
 
     fn from(error: ShelfError) -> Self {
         match error {
-            ShelfError::Failed => Stop::Fault,
-            ShelfError::Memory => Stop::Memory,
+            ShelfError::Failed => Halt::Fault,
+            ShelfError::Memory => Halt::Memory,
         }
     }
 }
 
-impl From<Memory> for Stop {
-    ghost from_gives = { λ _ s. s ≡ OfMemory };
+impl From<Memory> for Halt {
+    ghost from_gives = { λ _ h. h ≡ HaltOfMemory };
 
     fn from(_error: Memory) -> Self {
-        Stop::Memory
+        Halt::Memory
+    }
+}
+
+impl From<Halt> for Stop {
+    ghost from_gives = { λ h s. s ≡ stop_of h };
+
+    fn from(halt: Halt) -> Self {
+        match halt {
+            Halt::Fault => Stop::Fault,
+            Halt::Memory => Stop::Memory,
+        }
+    }
+}
+
+impl From<ShelfError> for Stop {
+    ghost from_gives = { λ e s. s ≡ stop_of (halt_of e) };
+
+    fn from(error: ShelfError) -> Self {
+        Halt::from(error).into()
     }
 }
