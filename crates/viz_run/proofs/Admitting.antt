@@ -1,5 +1,5 @@
 -- When inputs are admitted, and why not.
-use Rattle.std.proofs.Common.{◌≡◌, ◌≢◌, ℕ, ◌≤◌, List, length, Some, Result, Ok, Err, IfOk, OnOk, IsTrue, ap, ◌∙◌, arith}
+use Rattle.std.proofs.Common.{◌≡◌, ℕ, List, length, Some, Result, Ok, Err, IfOk, OnOk, IsTrue, ap, ◌∙◌, arith}
 use Rattle.vz_frame.specs.declared.message.ClientFile.{ClientFile}
 use Rattle.vz_codec.specs.Grammar.{Spells}
 use Rattle.vz_outside.specs.Shelved.{Shelved}
@@ -12,7 +12,7 @@ use Rattle.viz_run.proofs.Narrow_length.{narrow_length}
 use Rattle.viz_run.proofs.Outs.{read_whole}
 
 -- bytes that spell a narrow file are 166
-narrow_bytes : (bytes : List ℕ) (client : ClientFile) → Spells bytes client → IsTrue (is_narrow client) → length bytes ≡ 166
+pub narrow_bytes : (bytes : List ℕ) (client : ClientFile) → Spells bytes client → IsTrue (is_narrow client) → length bytes ≡ 166
 unfolding Spells
 narrow_bytes bytes client spelled narrow = ap length spelled.1 ∙ narrow_length client narrow
 

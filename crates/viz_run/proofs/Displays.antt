@@ -1,10 +1,10 @@
 -- The rectangle of a display.
-use Rattle.std.proofs.Common.{◌≡◌, ◌≤◌, ℤ, pos, negsuc, ◌≤ℤ◌, int_lt, Bool, true, false, ◌||◌, if◌then◌else◌, refl, ap, ◌∙◌, arith}
+use Rattle.std.proofs.Common.{◌≡◌, ◌≤◌, ℤ, pos, negsuc, ◌≤ℤ◌, int_lt, false, ◌||◌, if◌then◌else◌, ap, ◌∙◌, arith}
 use Rattle.std.specs.Int.{w32}
 use mir.Val.{to_z, of_z}
 use Rattle.std.proofs.lemmas.Int.{ints, to_z-of_z}
 use Rattle.vz_geom.specs.declared.Size.{Size}
-use Rattle.vz_geom.specs.Rectangle.{Rectangle, no_rectangle, with_sides, sized}
+use Rattle.vz_geom.specs.Rectangle.{no_rectangle, with_sides, sized}
 use Rattle.vz_buffers.specs.Canvas.{IsCanvasSize}
 
 not_less : (z : ℤ) → pos 1 ≤ℤ z → int_lt z (pos 1) ≡ false

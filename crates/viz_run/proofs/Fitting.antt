@@ -1,8 +1,7 @@
 -- What the words of `step` say of the display and of the names.
-use Rattle.std.proofs.Common.{◌≡◌, ◌≢◌, ℕ, ◌≤◌, ℤ, pos, ◌≤ℤ◌, List, [], ◌∷◌, Bool, true, false, not, ◌&&◌, ◌||◌, IsTrue, refl, sym, ap, subst, ◌∙◌, arith}
+use Rattle.std.proofs.Common.{◌≡◌, ℕ, ◌≤◌, pos, [], ◌∷◌, Bool, true, false, not, ◌||◌, IsTrue, sym, ap, ◌∙◌, arith}
 use Rattle.std.proofs.lemmas.Int.{ints}
 use Rattle.std.specs.List.{list_any, list_all}
-use Rattle.vz_geom.specs.declared.Size.{Size}
 use Rattle.vz_frame.specs.Fits.{within}
 use Rattle.vz_frame.specs.Frame.{has_repeat}
 use Rattle.vz_rules.specs.Plan.{IsDisplaySize}

@@ -7,3 +7,4 @@ mod Outs
 mod Showing
 mod Narrow_length
 mod Admitting
+mod Accepting

@@ -1,7 +1,7 @@
 -- What stands of the files that are written.
-use Rattle.std.proofs.Common.{◌≡◌, ◌≢◌, ℕ, ◌+◌, ◌<◌, ◌≤◌, List, [], ◌++◌, length, take, Option, Some, None, IsTrue, refl, sym, ap, subst, ◌∙◌, take_all, inl, inr, arith}
+use Rattle.std.proofs.Common.{◌≡◌, ◌≢◌, ℕ, ◌+◌, ◌≤◌, List, [], ◌++◌, length, take, Option, Some, None, IsTrue, sym, ap, subst, ◌∙◌, take_all, inr, arith}
 use Rattle.std.proofs.lemmas.List.{length-take}
-use Rattle.vz_outside.specs.Shelved.{Shelved, Text, Writing, IsCall, SameFiles, KeepsOthers, Appends, AppendsFront}
+use Rattle.vz_outside.specs.Shelved.{Shelved, Text, Writing, IsCall, KeepsOthers, Appends, AppendsFront}
 use Rattle.vz_outside.proofs.Calls.{tells_after}
 use Rattle.viz_run.specs.Files.{IsReadUpto, IsOut, HasFront}
 

@@ -1,12 +1,11 @@
 -- That what was done is what `step` asks for.
-use Rattle.std.proofs.Common.{◌≡◌, ◌≢◌, inl, inr, Result, Ok, Err, OnErr, zero, suc, ℕ, ◌+◌, ◌*◌, ◌≤◌, pos, nat_abs, List, [], ◌∷◌, ◌++◌, length, map, take, Some, None, IsTrue, true, ◌&&◌, refl, sym, ap, subst, ◌∙◌, append-nil, mul_comm, arith}
-use Rattle.std.specs.List.{flat_map, list_all}
+use Rattle.std.proofs.Common.{◌≡◌, inl, inr, Result, Ok, Err, OnErr, zero, suc, ℕ, ◌+◌, ◌*◌, List, [], ◌∷◌, ◌++◌, map, take, Some, IsTrue, true, ◌&&◌, refl, sym, ap, subst, ◌∙◌, append-nil, arith}
+use Rattle.std.specs.List.{flat_map}
 use Rattle.vz_geom.specs.declared.Size.{Size}
-use Rattle.vz_geom.specs.Rectangle.{points_of, sized, area_of}
+use Rattle.vz_geom.specs.Rectangle.{points_of}
 use Rattle.vz_pixels.specs.Colour.{Colour}
 use Rattle.vz_frame.specs.declared.message.ClientFile.{ClientFile}
 use Rattle.vz_frame.specs.Fits.{fits_file}
-use Rattle.vz_codec.specs.Grammar.{Spells}
 use Rattle.vz_outside.specs.Shelved.{Shelved, Text, IsCall, SameFiles, KeepsOthers, Appends}
 use Rattle.vz_outside.proofs.Calls.{tells_after}
 use Rattle.vz_rules.specs.Plan.{Plan, IsPlan, first_taken, IsDisplaySize}
@@ -14,20 +13,20 @@ use Rattle.vz_rules.specs.Command.{fits_command, IsCommand}
 use Rattle.vz_rules.specs.declared.entry.Entry.{Entry}
 use Rattle.vz_rules.specs.World.{World, opening}
 use Rattle.vz_rules.specs.Step.{step_in, LegalFrom, Legal}
-use Rattle.vz_rules.specs.Frames.{frames, written, painted, frames_bytes, pixel_bytes}
+use Rattle.vz_rules.specs.Frames.{written, painted, frames_bytes, pixel_bytes}
 use Rattle.vz_rules.specs.Log.{log_text, rest_of}
-use Rattle.vz_rules.specs.Narrow.{is_narrow, narrow_events, narrow_history, nothing_left, narrow_colour}
+use Rattle.vz_rules.specs.Narrow.{is_narrow, narrow_events, narrow_history, narrow_colour}
 use Rattle.vz_rules.proofs.Narrow_whole.{history_is_legal, rest_is, frames_are, written_are, painted_are, area_is}
 use Rattle.vz_buffers.specs.Canvas.{pixel_count}
 use Rattle.viz_run.specs.declared.words.StepWords.{StepWords}
 use Rattle.viz_run.specs.Words.{command_of}
-use Rattle.viz_run.specs.Files.{IsReadUpto, IsOut, HasFront, narrow_schedule}
+use Rattle.viz_run.specs.Files.{IsOut, HasFront}
 use Rattle.viz_run.specs.Entries.{accepted_entry, rooted_entry, drawn_entry, shown_entry}
-use Rattle.viz_run.specs.Headline.{Given, command_for, plan_of, IsRead, events_in, IsStepped, IsWritten, IsShown}
+use Rattle.viz_run.specs.Headline.{Given, command_for, IsRead, events_in, IsShown}
 use Rattle.viz_run.specs.Shown.{display_size, given_by, IsAdmitted, IsPut, IsPutInFront, IsMadeInFront, whole_frames, whole_log}
 use Rattle.viz_run.specs.Causes.{IsCutShort, LeavesFront}
 use Rattle.viz_run.proofs.Fitting.{display_fits, names_differ}
-use Rattle.viz_run.proofs.Outs.{read_whole, out_kept, out_more, others_named}
+use Rattle.viz_run.proofs.Outs.{out_kept, out_more, others_named}
 
 -- the plan of one file that fits
 plan_fits : (client : ClientFile) (size : Size) → IsTrue (fits_file client) → IsDisplaySize size → IsPlan (record { files = client ∷ []; size = size })

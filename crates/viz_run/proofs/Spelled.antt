@@ -1,11 +1,11 @@
 -- When words are those of `step`.
-use Rattle.std.proofs.Common.{◌≡◌, ◌≢◌, ℕ, ◌<◌, List, [], ◌∷◌, length, get_or, take, drop, map, suc, ◌-◌, length-drop, take_all, Bool, true, false, not, ◌&&◌, ◌==◌, ◌≤◌, IsTrue, refl, sym, ap, subst, ◌∙◌, arith}
+use Rattle.std.proofs.Common.{◌≡◌, ℕ, ◌<◌, List, [], ◌∷◌, length, get_or, take, drop, suc, ◌-◌, length-drop, take_all, Bool, true, false, ◌&&◌, ◌==◌, ◌≤◌, IsTrue, refl, sym, ap, subst, ◌∙◌, arith}
 use Rattle.std.specs.Prelude.{codes}
 use Rattle.std.specs.Fmt.{decimal}
 use Rattle.std.specs.declared.string.String.{String}
 use Rattle.std.specs.String.{string_bytes}
 use Rattle.vz_frame.specs.Fits.{within}
-use Rattle.vz_rules.specs.Command.{Text, Command, Step, command_words, fits_command, are_names, same_text, IsCommand}
+use Rattle.vz_rules.specs.Command.{Text, Step, command_words, fits_command, are_names, same_text, IsCommand}
 use Rattle.viz_run.specs.Words.{texts, IsNoStep}
 
 -- a list by its first three elements, and one of four

@@ -1,6 +1,5 @@
 -- Why a call answers what it answers: refusals of files, and what a call leaves that was cut short.
-use Rattle.std.specs.Prelude.{◌≡◌, ◌≢◌, ℕ, ◌≤◌, ◌⊎◌, pos, Some, IsTrue, List, [], take, length}
-use Rattle.vz_geom.specs.declared.Size.{Size}
+use Rattle.std.specs.Prelude.{◌≡◌, ◌≢◌, ℕ, ◌≤◌, ◌⊎◌, Some, IsTrue, List, [], take}
 use Rattle.vz_frame.specs.declared.message.ClientFile.{ClientFile}
 use Rattle.vz_codec.specs.Grammar.{Spells}
 use Rattle.vz_outside.specs.Shelved.{Shelved, Text, SameFiles}
@@ -10,7 +9,7 @@ use Rattle.vz_rules.specs.Step.{Legal}
 use Rattle.vz_rules.specs.Frames.{written, frames_bytes}
 use Rattle.vz_rules.specs.Log.{log_text, rest_of}
 use Rattle.vz_rules.specs.Narrow.{is_narrow, narrow_history}
-use Rattle.viz_run.specs.Files.{IsReadUpto, narrow_schedule, HasFront}
+use Rattle.viz_run.specs.Files.{IsReadUpto, IsThere, narrow_schedule, HasFront}
 use Rattle.vz_outside.specs.Sunk.{Sunk}
 use Rattle.viz_run.specs.Words.{IsNoStep}
 use Rattle.viz_run.specs.Lines.{IsTold, words_line, file_line, schedule_line}
@@ -83,3 +82,16 @@ RefusesInput words before after printed printed_now h =
 -- 0, or 2 to 5
 abbrev pub IsStatus : ℕ → Type 0
 IsStatus status = (status ≡ 0) ⊎ ((2 ≤ status) × (status ≤ 5))
+
+-- the files that the words name to be read are there
+abbrev pub NamesFilesThere : List Text → Shelved → Type 0
+NamesFilesThere words shelf = (l : Line) → IsCommand words (command_for l) → IsThere shelf l.file × IsThere shelf l.schedule
+
+-- the words name files that are read whole and are accepted: the file spells one in the narrow form, and the schedule is the one that is taken
+pub record IsAcceptable (words : List Text) (shelf : Shelved) (g : Given) : Type 0 where
+  pub command : IsCommand words (command_for g.line)
+  pub tells : IsTrue shelf.tells
+  pub file : shelf.bytes g.line.file ≡ Some g.bytes
+  pub spelled : Spells g.bytes g.client
+  pub narrow : IsTrue (is_narrow g.client)
+  pub schedule : shelf.bytes g.line.schedule ≡ Some narrow_schedule

@@ -1,5 +1,5 @@
 -- The files of a call of `step`: what is read of them, and what they hold.
-use Rattle.std.specs.Prelude.{◌≡◌, ◌⊎◌, ℕ, ◌+◌, Option, Some, None, List, [], ◌∷◌, take, IsTrue}
+use Rattle.std.specs.Prelude.{◌≡◌, ◌≢◌, ◌⊎◌, ℕ, ◌+◌, Option, Some, None, List, [], ◌∷◌, take, IsTrue}
 use Rattle.vz_outside.specs.Shelved.{Shelved, Text, Writing}
 
 -- the bytes that are read of a file: all, or of a longer one one byte more than a limit
@@ -21,3 +21,7 @@ pub record IsOut (name : Text) (slot : ℕ) (held : List ℕ) (s : Shelved) : Ty
 abbrev pub HasFront : Text → List ℕ → Shelved → Shelved → Type 0
 HasFront name all before after =
     (after.bytes name ≡ before.bytes name) ⊎ ((n : ℕ) × (after.bytes name ≡ Some (take n all)))
+
+-- a file of this name is there
+abbrev pub IsThere : Shelved → Text → Type 0
+IsThere s name = s.bytes name ≢ None

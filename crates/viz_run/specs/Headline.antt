@@ -1,5 +1,5 @@
 -- What holds of a call that ends well.
-use Rattle.std.specs.Prelude.{◌≡◌, ℕ, ◌+◌, ◌*◌, pos, Option, Some, IsTrue, List, [], ◌∷◌, ◌++◌, map}
+use Rattle.std.specs.Prelude.{◌≡◌, ℕ, ◌+◌, ◌*◌, pos, Some, IsTrue, List, [], ◌∷◌, ◌++◌, map}
 use Rattle.vz_frame.specs.declared.message.ClientFile.{ClientFile}
 use Rattle.vz_codec.specs.Grammar.{Spells}
 use Rattle.vz_outside.specs.Shelved.{Shelved, Text}

@@ -2,10 +2,10 @@
 ghost use Rattle.std.specs.Prelude.{◌≡◌, ◌≢◌, ◌^◌, ◌<◌, false, IsTrue, IfOk, IfErr, OnOk, OnErr, IsErrOf};
 ghost use Rattle.vz_codec.specs.Grammar.{Spells};
 ghost use Rattle.vz_outside.specs.Faults.{Rose};
-ghost use Rattle.vz_outside.specs.Shelved.{IsCall, SameFiles};
+ghost use Rattle.vz_outside.specs.Shelved.{IsCall, SameFiles, StaysSound};
 ghost use Rattle.vz_outside.specs.declared.shelf.ShelfError.TheVariants.{Failed};
 ghost use Rattle.vz_rules.specs.Narrow.{is_narrow};
-ghost use Rattle.viz_run.specs.Files.{IsReadUpto, narrow_schedule};
+ghost use Rattle.viz_run.specs.Files.{IsReadUpto, IsThere, narrow_schedule};
 ghost use Rattle.viz_run.specs.Shown.{line_of, IsAdmitted};
 ghost use Rattle.viz_run.specs.Causes.{IsNotNarrow, RefusesFile, RefusesSchedule};
 ghost use Rattle.viz_run.specs.declared.stop.Stop.TheVariants.{Words, File, Schedule, Fault};
@@ -48,6 +48,7 @@ pub fn admit<F: Shelf>(
     ensures files { IsTrue (F.shelved shelf.old).tells → SameFiles (F.shelved shelf.old) (F.shelved shelf.new) }
     ensures call { IsCall (F.shelved shelf.old) (F.shelved shelf.new) }
     ensures failed { IsErrOf result Fault → Rose (F.shelved shelf.old).faults (F.shelved shelf.new).faults }
+    ensures stays { IsTrue (F.shelved shelf.old).sound → IsThere (F.shelved shelf.old) words.now.file.now → IsThere (F.shelved shelf.old) words.now.schedule.now → StaysSound (F.shelved shelf.old) (F.shelved shelf.new) }
 {
     let inputs = read_inputs(alloc, shelf, words)?;
     accepted_file(alloc, &inputs)
@@ -64,6 +65,7 @@ fn read_inputs<F: Shelf>(
     ensures files { IsTrue (F.shelved shelf.old).tells → SameFiles (F.shelved shelf.old) (F.shelved shelf.new) }
     ensures call { IsCall (F.shelved shelf.old) (F.shelved shelf.new) }
     ensures failed { IsErrOf result Failed → Rose (F.shelved shelf.old).faults (F.shelved shelf.new).faults }
+    ensures stays { IsTrue (F.shelved shelf.old).sound → IsThere (F.shelved shelf.old) words.now.file.now → IsThere (F.shelved shelf.old) words.now.schedule.now → StaysSound (F.shelved shelf.old) (F.shelved shelf.new) }
 {
     let file = read_file(alloc, shelf, words.file, FILE_LIMIT)?;
     let schedule = read_file(alloc, shelf, words.schedule, SCHEDULE.len())?;
@@ -82,6 +84,7 @@ fn read_file<F: Shelf>(
     ensures files { IsTrue (F.shelved shelf.old).tells → SameFiles (F.shelved shelf.old) (F.shelved shelf.new) }
     ensures call { IsCall (F.shelved shelf.old) (F.shelved shelf.new) }
     ensures failed { IsErrOf result Failed → Rose (F.shelved shelf.old).faults (F.shelved shelf.new).faults }
+    ensures stays { IsTrue (F.shelved shelf.old).sound → IsThere (F.shelved shelf.old) name.now → StaysSound (F.shelved shelf.old) (F.shelved shelf.new) }
 {
     let slot = shelf.open(name)?;
     read_upto(alloc, shelf, slot, limit)

@@ -2,7 +2,7 @@
 ghost use Rattle.std.specs.Prelude.{◌≡◌, ◌≢◌, ◌++◌, Some, [], IsTrue, IfOk, OnOk, OnErr, IsErrOf};
 ghost use Rattle.std.specs.List.{flat_map};
 ghost use Rattle.vz_outside.specs.Faults.{Rose};
-ghost use Rattle.vz_outside.specs.Shelved.{Writing, IsCall, KeepsOthers, Appends, AppendsFront};
+ghost use Rattle.vz_outside.specs.Shelved.{Writing, IsCall, KeepsOthers, Appends, AppendsFront, StaysSound};
 ghost use Rattle.vz_outside.specs.declared.shelf.ShelfError.TheVariants.{Failed};
 ghost use Rattle.vz_rules.specs.Frames.{pixel_bytes};
 ghost use Rattle.vz_rules.specs.Log.{log_text};
@@ -37,6 +37,7 @@ pub fn create_outputs<F: Shelf>(
     ensures frames_front { IsTrue (F.shelved shelf.old).tells → OnErr result (HasFront frames.now [] (F.shelved shelf.old) (F.shelved shelf.new)) }
     ensures log_front { IsTrue (F.shelved shelf.old).tells → OnErr result (HasFront log.now [] (F.shelved shelf.old) (F.shelved shelf.new)) }
     ensures failed { IsErrOf result Failed → Rose (F.shelved shelf.old).faults (F.shelved shelf.new).faults }
+    ensures stays { IsTrue (F.shelved shelf.old).sound → StaysSound (F.shelved shelf.old) (F.shelved shelf.new) }
 {
     let frames = shelf.create(frames)?;
     let log = shelf.create(log)?;
@@ -56,6 +57,7 @@ pub fn write_frame<F: Shelf>(
     ensures others { IsTrue (F.shelved shelf.old).tells → KeepsOthers ((F.shelved shelf.old).name slot) (F.shelved shelf.old) (F.shelved shelf.new) }
     ensures call { IsCall (F.shelved shelf.old) (F.shelved shelf.new) }
     ensures failed { IsErrOf result Fault → Rose (F.shelved shelf.old).faults (F.shelved shelf.new).faults }
+    ensures stays { IsTrue (F.shelved shelf.old).sound → StaysSound (F.shelved shelf.old) (F.shelved shelf.new) }
 {
     let bytes = frame_bytes(alloc, pixels)?;
     write_all(shelf, slot, &bytes)?;
@@ -75,6 +77,7 @@ pub fn write_log<F: Shelf>(
     ensures others { IsTrue (F.shelved shelf.old).tells → KeepsOthers ((F.shelved shelf.old).name slot) (F.shelved shelf.old) (F.shelved shelf.new) }
     ensures call { IsCall (F.shelved shelf.old) (F.shelved shelf.new) }
     ensures failed { IsErrOf result Fault → Rose (F.shelved shelf.old).faults (F.shelved shelf.new).faults }
+    ensures stays { IsTrue (F.shelved shelf.old).sound → StaysSound (F.shelved shelf.old) (F.shelved shelf.new) }
 {
     let rest = Rest {
         held: List::new(alloc),

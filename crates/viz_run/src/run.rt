@@ -1,12 +1,13 @@
 //! The top call.
 ghost use Rattle.std.specs.Prelude.{◌≡◌, ◌≤◌, ◌⊎◌, ◌+◌, ◌*◌, [], IsTrue, IfErr, OnOk, OnErr, IsErrOf};
 ghost use Rattle.vz_outside.specs.Faults.{Rose};
-ghost use Rattle.vz_outside.specs.Shelved.{IsCall};
+ghost use Rattle.vz_outside.specs.Shelved.{IsCall, StaysSound};
+ghost use Rattle.vz_outside.specs.Sunk as sinks;
 ghost use Rattle.vz_rules.specs.Command.{fits_command};
-ghost use Rattle.viz_run.specs.Headline.{EndsWell};
+ghost use Rattle.viz_run.specs.Headline.{Given, EndsWell};
 ghost use Rattle.vz_frame.specs.Fits.{fits_file};
 ghost use Rattle.vz_rules.specs.Narrow.{is_narrow, narrow_history};
-ghost use Rattle.viz_run.specs.Causes.{IsUnbegun, LeavesFront, RefusesNamedFile, RefusesNamedSchedule, RefusesWords, RefusesInput, IsStatus};
+ghost use Rattle.viz_run.specs.Causes.{IsAcceptable, IsUnbegun, LeavesFront, RefusesNamedFile, RefusesNamedSchedule, RefusesWords, RefusesInput, NamesFilesThere, IsStatus};
 ghost use Rattle.viz_run.specs.Ends.{IsRefusal};
 ghost use Rattle.viz_run.specs.Words.{texts, command_of, IsNoStep};
 ghost use Rattle.viz_run.specs.declared.stop.Stop.TheVariants.{Words, File, Schedule, Fault as StopOfFault};
@@ -64,6 +65,18 @@ pub fn viz<F: Shelf + Send, O: Sink, G: Gate + Sync, L: Ledger>(
     ensures front { 4 ≤ result.status → LeavesFront (texts words.now) (F.shelved shelf.old) (F.shelved shelf.new) result.history }
 
     ensures range { IsStatus result.status }
+
+    // Words that are refused get no other status than 2, or 4 and 5 in the telling.
+    ensures no_other { IsNoStep (texts words.now) → (result.status ≡ 2) ⊎ (4 ≤ result.status) }
+
+    // What is acceptable is done, where no count rose, unless memory is wanting.
+    ensures complete { (g : Given) → IsAcceptable (texts words.now) (F.shelved shelf.old) g
+        → (Rose (F.shelved shelf.old).faults (F.shelved shelf.new).faults → ⊥) → (Rose (O.sunk out.old).faults (O.sunk out.new).faults → ⊥)
+        → (result.status ≡ 0) ⊎ (result.status ≡ 5) }
+
+    // Where both are sound and the files to be read are there, no count rises.
+    ensures sound { IsTrue (F.shelved shelf.old).sound → IsTrue (O.sunk out.old).sound → NamesFilesThere (texts words.now) (F.shelved shelf.old)
+        → StaysSound (F.shelved shelf.old) (F.shelved shelf.new) × sinks.StaysSound (O.sunk out.old) (O.sunk out.new) }
 {
     let mut history = List::new(alloc);
     match step(alloc, words, shelf, out, gate, steps, &mut history) {
@@ -92,6 +105,8 @@ fn step<F: Shelf, O: Sink, G: Gate, L: Ledger>(
     ensures failed { IsErrOf result StopOfFault → Rose (F.shelved shelf.old).faults (F.shelved shelf.new).faults ⊎ Rose (O.sunk out.old).faults (O.sunk out.new).faults }
     ensures front { OnErr result (LeavesFront (texts words.now) (F.shelved shelf.old) (F.shelved shelf.new) history.new) }
     ensures counts { ((F.shelved shelf.old).faults ≤ (F.shelved shelf.new).faults) × ((O.sunk out.old).faults ≤ (O.sunk out.new).faults) }
+    ensures shelf_stays { IsTrue (F.shelved shelf.old).sound → NamesFilesThere (texts words.now) (F.shelved shelf.old) → StaysSound (F.shelved shelf.old) (F.shelved shelf.new) }
+    ensures sink_stays { IsTrue (O.sunk out.old).sound → sinks.StaysSound (O.sunk out.old) (O.sunk out.new) }
     ensures silent { IfErr result (λ e. IsRefusal e → O.sunk out.new ≡ O.sunk out.old) }
     ensures done { OnOk result (EndsWell (texts words.now) (F.shelved shelf.old) (F.shelved shelf.new) (O.sunk out.old) (O.sunk out.new) steps.old steps.new history.new) }
 {
@@ -125,6 +140,7 @@ fn show<F: Shelf, G: Gate, L: Ledger>(
     ensures made { IsMadeInFront words.now history.new }
     ensures call { IsCall (F.shelved shelf.old) (F.shelved shelf.new) }
     ensures failed { IsErrOf result Fault → Rose (F.shelved shelf.old).faults (F.shelved shelf.new).faults }
+    ensures stays { IsTrue (F.shelved shelf.old).sound → StaysSound (F.shelved shelf.old) (F.shelved shelf.new) }
 {
     let outputs = create_outputs(shelf, words.frames, words.log)?;
     let size = size_of(words);

@@ -1,4 +1,4 @@
-use Rattle.std.proofs.Common.{◌≡◌, ◌∙◌}
+use Rattle.std.proofs.Common.{◌∙◌}
 use Rattle.viz_run.proofs.Displays.{display_read}
 use Rattle.viz_run.proofs.machine.whole_display.Goals as goal
 

@@ -1,7 +1,6 @@
-use Rattle.std.proofs.Common.{◌≡◌, ◌<◌, ◌^◌, pos, Some, arith}
+use Rattle.std.proofs.Common.{◌≡◌, pos, Some, arith}
 use Rattle.std.specs.Int.{w32}
 use Rattle.std.proofs.lemmas.Int.{to_z_pos}
-use Rattle.vz_pixels.specs.Colour.{Colour}
 use Rattle.vz_rules.specs.Narrow.{colour_with}
 use Rattle.viz_run.proofs.Rows.{row_step, pushed}
 use Rattle.viz_run.proofs.paint.fill_row.Goals as goal

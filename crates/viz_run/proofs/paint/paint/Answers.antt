@@ -1,4 +1,4 @@
-use Rattle.std.proofs.Common.{◌≡◌, List, map, Some, Option, ap, ◌∙◌}
+use Rattle.std.proofs.Common.{◌≡◌, map, Some, Option, ap, ◌∙◌}
 use Rattle.vz_geom.specs.Rectangle.{Rectangle, points_of}
 use Rattle.vz_pixels.specs.Colour.{Colour}
 use Rattle.vz_frame.specs.declared.frame.DrawQuad.{DrawQuad}

@@ -1,10 +1,9 @@
-use Rattle.std.proofs.Common.{◌≡◌, ℕ, ◌+◌, ◌-◌, ◌*◌, ◌<◌, ◌≤◌, ◌≤ℤ◌, ◌++◌, List, take, drop, map, pos, nat_abs, length, Some, ap, sym, subst, ◌∙◌, mul_comm, arith}
+use Rattle.std.proofs.Common.{◌≡◌, ◌+◌, ◌*◌, ◌<◌, ◌++◌, take, drop, map, pos, nat_abs, length, Some, ap, ◌∙◌, mul_comm, arith}
 use Rattle.std.specs.Int.{w32}
 use Rattle.std.proofs.lemmas.Int.{to_z_pos}
 use Rattle.vz_geom.specs.declared.Size.{Size}
 use Rattle.vz_geom.specs.Rectangle.{row_points}
-use Rattle.vz_pixels.specs.Colour.{Colour}
-use Rattle.vz_buffers.specs.Canvas.{span_put, place_of, pixel_count}
+use Rattle.vz_buffers.specs.Canvas.{span_put}
 use Rattle.vz_rules.specs.Narrow.{colour_with}
 use Rattle.viz_run.proofs.Rows.{rows_begin, rows_step, rows_end, row_fits, filled, filled_of, length_put_row, put_at_row, count_step}
 use Rattle.viz_run.proofs.paint.paint_rows.Goals as goal

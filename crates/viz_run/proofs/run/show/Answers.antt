@@ -1,9 +1,9 @@
-use Rattle.std.proofs.Common.{◌≡◌, ℕ, ◌∙◌, ◌++◌, List, [], length, map, take, ap, sym, subst, refl, Some, IsTrue}
+use Rattle.std.proofs.Common.{◌≡◌, ◌∙◌, [], length, map, take, ap, sym, subst, refl, Some, IsTrue}
 use Rattle.std.specs.List.{flat_map}
 use Rattle.vz_geom.specs.declared.Size.{Size}
 use Rattle.vz_geom.specs.Rectangle.{points_of}
-use Rattle.vz_outside.specs.Shelved.{Shelved, AppendsFront}
-use Rattle.vz_outside.proofs.Calls.{call_then_call, tells_after}
+use Rattle.vz_outside.specs.Shelved.{AppendsFront}
+use Rattle.vz_outside.proofs.Calls.{call_then_call}
 use Rattle.vz_rules.specs.Frames.{pixel_bytes}
 use Rattle.vz_rules.specs.Log.{log_text}
 use Rattle.vz_rules.specs.Narrow.{narrow_history, narrow_colour, nothing_left}

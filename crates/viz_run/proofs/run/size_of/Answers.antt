@@ -1,9 +1,6 @@
-use Rattle.std.proofs.Common.{◌≡◌, ◌≤◌, ◌<◌, ◌^◌, ◌∙◌, pos, ap, refl, arith}
+use Rattle.std.proofs.Common.{refl, arith}
 use Rattle.std.specs.Int.{w32}
 use Rattle.std.proofs.lemmas.Int.{to_z_pos}
-use Rattle.vz_geom.specs.declared.Size.{Size}
-use Rattle.vz_buffers.specs.Canvas.{IsCanvasSize}
-use Rattle.viz_run.specs.Shown.{display_size}
 use Rattle.viz_run.proofs.Fitting.{wide, high, canvas_fits}
 use Rattle.viz_run.proofs.run.size_of.Goals as goal
 

@@ -1,6 +1,6 @@
 use Rattle.vz_rules.specs.Command.{IsCommand}
 use Rattle.vz_codec.specs.Grammar.{Spells}
-use Rattle.viz_run.specs.Shown.{given_by}
+use Rattle.viz_run.specs.Shown.{given_by, line_of}
 use Rattle.viz_run.proofs.Showing.{shown, cut, leaves_front}
 use Rattle.viz_run.proofs.run.step.Goals as goal
 
@@ -49,3 +49,7 @@ returns-clause-done g c =
         told = c.in_ok-print_done.ensures.printed;
       },
     )
+
+pub returns-in_err-client-clause-shelf_stays : goal.returns-in_err-client-clause-shelf_stays
+returns-in_err-client-clause-shelf_stays g c = λ sound named.
+    (let there = named (line_of c.in-Some.command) c.in-Some.ensures.found in c.admit.ensures.stays sound there.0 there.1)

@@ -1,4 +1,4 @@
-use Rattle.std.proofs.Common.{◌≡◌, ℕ, ◌<◌, ◌^◌, ◌∙◌, sym, ap, subst, Bool, true, false, Option, IfSome, IfNone}
+use Rattle.std.proofs.Common.{◌≡◌, ℕ, ◌<◌, ◌^◌, ◌∙◌, sym, ap, subst, true, false, Option, IfSome, IfNone}
 use Rattle.std.specs.Fmt.{decimal}
 use Rattle.viz_run.specs.Words.{is_plain}
 use Rattle.viz_run.proofs.Numbers.{found, missing, not_plain}

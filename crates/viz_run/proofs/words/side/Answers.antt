@@ -1,4 +1,4 @@
-use Rattle.std.proofs.Common.{◌≡◌, ◌<◌, ◌≤◌, ◌^◌, arith}
+use Rattle.std.proofs.Common.{arith}
 use Rattle.viz_run.proofs.Numbers.{out_of_range}
 use Rattle.viz_run.proofs.words.side.Goals as goal
 
