@@ -27,6 +27,20 @@ pub fn file(alloc: Global, name: &str, bytes: &[u8]) -> Result<(String, Vec<u8>)
     ))
 }
 
+/// A shelf with the client's file `a` and the schedule `s`, whose calls move at most so many bytes, at least one.
+pub fn shelf_of(
+    alloc: Global,
+    client: &[u8],
+    schedule: &[u8],
+    failing: Vec<u64>,
+    piece: usize,
+) -> Result<MemoryShelf, AllocError> {
+    let mut files = Vec::new(alloc);
+    files.push(file(alloc, "s", schedule)?)?;
+    files.push(file(alloc, "a", client)?)?;
+    Ok(MemoryShelf::new(alloc, files, failing, piece.max(1)))
+}
+
 /// The words of a line that are parted by blanks.
 pub fn words(alloc: Global, line: &str) -> Result<Vec<String>, AllocError> {
     let mut words = Vec::new(alloc);

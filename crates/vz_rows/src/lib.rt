@@ -4,7 +4,11 @@
 #[cfg(test)]
 mod bench;
 #[cfg(test)]
+mod faults;
+#[cfg(test)]
 mod files;
 pub mod laws;
+#[cfg(test)]
+mod refusals;
 #[cfg(test)]
 mod rows;
