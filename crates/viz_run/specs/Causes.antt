@@ -2,6 +2,7 @@
 use Rattle.std.specs.Prelude.{◌≡◌, ◌≢◌, ℕ, ◌≤◌, ◌⊎◌, Some, IsTrue, List, [], take}
 use Rattle.vz_frame.specs.declared.message.ClientFile.{ClientFile}
 use Rattle.vz_codec.specs.Grammar.{Spells}
+use Rattle.vz_outside.specs.Faults.{Rose}
 use Rattle.vz_outside.specs.Shelved.{Shelved, Text, SameFiles}
 use Rattle.vz_rules.specs.Command.{IsCommand}
 use Rattle.vz_rules.specs.declared.entry.Entry.{Entry}
@@ -95,3 +96,22 @@ pub record IsAcceptable (words : List Text) (shelf : Shelved) (g : Given) : Type
   pub spelled : Spells g.bytes g.client
   pub narrow : IsTrue (is_narrow g.client)
   pub schedule : shelf.bytes g.line.schedule ≡ Some narrow_schedule
+
+-- no count of faults rose, neither the shelf's nor the sink's
+abbrev pub NoFault : Shelved → Shelved → Sunk → Sunk → Type 0
+NoFault before after printed printed_now =
+    (Rose before.faults after.faults → ⊥) × (Rose printed.faults printed_now.faults → ⊥)
+
+-- a file of this name is there that is not in the narrow form
+abbrev pub HoldsNotNarrow : Shelved → Text → Type 0
+HoldsNotNarrow shelf name = (bytes : List ℕ) × (shelf.bytes name ≡ Some bytes) × IsNotNarrow bytes
+
+-- a file of this name is there that is not the schedule that is taken
+abbrev pub HoldsOtherSchedule : Shelved → Text → Type 0
+HoldsOtherSchedule shelf name = (bytes : List ℕ) × (shelf.bytes name ≡ Some bytes) × (bytes ≢ narrow_schedule)
+
+-- the words name a client's file or a schedule that is there, and is not taken
+pub record IsUnacceptable (words : List Text) (shelf : Shelved) (l : Line) : Type 0 where
+  pub command : IsCommand words (command_for l)
+  pub tells : IsTrue shelf.tells
+  pub other : HoldsNotNarrow shelf l.file ⊎ HoldsOtherSchedule shelf l.schedule

@@ -4,10 +4,10 @@ ghost use Rattle.vz_outside.specs.Faults.{Rose};
 ghost use Rattle.vz_outside.specs.Shelved.{IsCall, StaysSound};
 ghost use Rattle.vz_outside.specs.Sunk as sinks;
 ghost use Rattle.vz_rules.specs.Command.{fits_command};
-ghost use Rattle.viz_run.specs.Headline.{Given, EndsWell};
+ghost use Rattle.viz_run.specs.Headline.{Line, Given, EndsWell};
 ghost use Rattle.vz_frame.specs.Fits.{fits_file};
 ghost use Rattle.vz_rules.specs.Narrow.{is_narrow, narrow_history};
-ghost use Rattle.viz_run.specs.Causes.{IsAcceptable, IsUnbegun, LeavesFront, RefusesNamedFile, RefusesNamedSchedule, RefusesWords, RefusesInput, NamesFilesThere, IsStatus};
+ghost use Rattle.viz_run.specs.Causes.{IsAcceptable, IsUnacceptable, NoFault, IsUnbegun, LeavesFront, RefusesNamedFile, RefusesNamedSchedule, RefusesWords, RefusesInput, NamesFilesThere, IsStatus};
 ghost use Rattle.viz_run.specs.Ends.{IsRefusal};
 ghost use Rattle.viz_run.specs.Words.{texts, command_of, IsNoStep};
 ghost use Rattle.viz_run.specs.declared.stop.Stop.TheVariants.{Words, File, Schedule, Fault as StopOfFault};
@@ -71,8 +71,11 @@ pub fn viz<F: Shelf + Send, O: Sink, G: Gate + Sync, L: Ledger>(
 
     // What is acceptable is done, where no count rose, unless memory is wanting.
     ensures complete { (g : Given) → IsAcceptable (texts words.now) (F.shelved shelf.old) g
-        → (Rose (F.shelved shelf.old).faults (F.shelved shelf.new).faults → ⊥) → (Rose (O.sunk out.old).faults (O.sunk out.new).faults → ⊥)
-        → (result.status ≡ 0) ⊎ (result.status ≡ 5) }
+        → NoFault (F.shelved shelf.old) (F.shelved shelf.new) (O.sunk out.old) (O.sunk out.new) → (result.status ≡ 0) ⊎ (result.status ≡ 5) }
+
+    // A file or a schedule that is not taken is refused, where no count rose, unless memory is wanting.
+    ensures refuses { (l : Line) → IsUnacceptable (texts words.now) (F.shelved shelf.old) l
+        → NoFault (F.shelved shelf.old) (F.shelved shelf.new) (O.sunk out.old) (O.sunk out.new) → (result.status ≡ 3) ⊎ (result.status ≡ 5) }
 
     // Where both are sound and the files to be read are there, no count rises.
     ensures sound { IsTrue (F.shelved shelf.old).sound → IsTrue (O.sunk out.old).sound → NamesFilesThere (texts words.now) (F.shelved shelf.old)
