@@ -7,6 +7,7 @@ ghost use Rattle.vz_codec.specs.Reading.{number_at, limited_at, tag_at, signed_a
 
 use crate::error::ReadError;
 use crate::fault::FileRule;
+use byteorder::{ByteOrder, LittleEndian};
 use std::marker::Model;
 
 /// No coordinate lies further out, and no side is longer.
@@ -73,7 +74,7 @@ impl<'a> Reader<'a> {
         }
         let (front, rest) = self.rest.split_at(2);
         self.rest = rest;
-        Ok(u16::from_le_bytes([front[0], front[1]]))
+        Ok(LittleEndian::read_u16(front))
     }
 
     #[tactic(auto, unfolding(crate::specs::Reading::number_at))]
@@ -85,7 +86,7 @@ impl<'a> Reader<'a> {
         }
         let (front, rest) = self.rest.split_at(4);
         self.rest = rest;
-        Ok(u32::from_le_bytes([front[0], front[1], front[2], front[3]]))
+        Ok(LittleEndian::read_u32(front))
     }
 
     /// Four bytes as they stand.
@@ -109,10 +110,7 @@ impl<'a> Reader<'a> {
         }
         let (front, rest) = self.rest.split_at(16);
         self.rest = rest;
-        Ok(u128::from_le_bytes([
-            front[0], front[1], front[2], front[3], front[4], front[5], front[6], front[7],
-            front[8], front[9], front[10], front[11], front[12], front[13], front[14], front[15],
-        ]))
+        Ok(LittleEndian::read_u128(front))
     }
 
     #[tactic(auto, unfolding(crate::specs::Reading::signed_at))]
