@@ -34,10 +34,11 @@ pub record IsAdmitted (shelf : Shelved) (w : StepWords) (client : ClientFile) (b
   pub file_told : IsTrue shelf.tells → shelf.bytes w.file.now ≡ Some bytes
   pub schedule_told : IsTrue shelf.tells → shelf.bytes w.schedule.now ≡ Some narrow_schedule
 
--- the frames that are to be written of a client's file on a display, and the log
+-- the bytes of the frames that are to be written of a client's file on a display
 abbrev pub whole_frames : Size → ClientFile → List ℕ
 whole_frames size client = flat_map pixel_bytes (map (narrow_colour client) (points_of size))
 
+-- the bytes of the log at the end
 abbrev pub whole_log : Size → List ℕ
 whole_log size = log_text (narrow_history size) nothing_left
 
