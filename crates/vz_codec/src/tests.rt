@@ -39,6 +39,22 @@ fn red_quad(blend: Blend) -> Result<DrawQuad, Fail> {
     })
 }
 
+/// The bytes that spell the file that the bytes spell.
+#[tactic(auto, unfolding(crate::specs::Grammar::Spells))]
+fn again(alloc: Global, bytes: &[u8]) -> Option<Vec<u8>> {
+    match decode(alloc, bytes) {
+        Ok(file) => encode(alloc, &file).ok(),
+        Err(_) => None,
+    }
+}
+
+#[test]
+fn worked_file_is_spelled_again(rt: HostRuntime) -> Result<(), Fail> {
+    let bytes = again(rt.alloc(), &FILE).ok_or("it is a file")?;
+    assert_eq!(rt; bytes.as_slice(), FILE.as_slice());
+    Ok(())
+}
+
 #[test]
 fn worked_file(rt: HostRuntime) -> Result<(), Fail> {
     let file = decode(rt.alloc(), &FILE).ok().ok_or("it is a file")?;
