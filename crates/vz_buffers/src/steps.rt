@@ -1,24 +1,25 @@
 //! The counter of steps.
-ghost use Rattle.std.specs.Prelude.{◌≡◌, ◌+◌};
+ghost use Rattle.std.specs.Prelude.{◌≡◌, ◌+◌, ◌-◌, ◌^◌, min};
 
 use std::marker::Model;
 use std::sync::ledger::{Blank, Book, Ledger, Share};
 
-/// How many steps were taken: a step is one pixel put into a buffer. It takes no bytes at run time, and only counts.
+/// How many steps were taken: a step is one pixel put into a buffer. It only counts: nothing sets it back.
 #[derive(Drop)]
 pub struct Steps<L: Ledger> {
     book: Book<L>,
     share: Share<L>,
+    count: u64,
 }
 
 impl<L: Ledger> Model for Steps<L> {
-    ghost use Rattle.std.specs.Prelude.{ℕ, ◌<◌};
+    ghost use Rattle.std.specs.Prelude.{◌≡◌, ◌-◌, ◌<◌, ◌^◌, ℕ, min};
 
     ghost Value = { ℕ };
 
     ghost view = { λ s. s.book.total };
 
-    ghost invariant = { λ s. 0 < s.share.parts };
+    ghost invariant = { λ s. (0 < s.share.parts) × (s.count ≡ min s.book.total (2 ^ 64 - 1)) };
 }
 
 impl<L: Ledger> Steps<L> {
@@ -32,7 +33,11 @@ impl<L: Ledger> Steps<L> {
         ensures { result ≡ 0 }
     {
         let (book, share) = blank.open();
-        Steps { book, share }
+        Steps {
+            book,
+            share,
+            count: 0,
+        }
     }
 
     /// Counts so many steps more.
@@ -40,5 +45,13 @@ impl<L: Ledger> Steps<L> {
         ensures { self.new ≡ self.old + count }
     {
         self.book.add(&mut self.share, count);
+        self.count = self.count.saturating_add(count);
+    }
+
+    /// All steps so far, or `u64::MAX` where they are more.
+    pub fn count(&self) -> u64
+        ensures { result ≡ min self.now (2 ^ 64 - 1) }
+    {
+        self.count
     }
 }

@@ -17,6 +17,8 @@ pub struct Left {
     pub run: Run,
     pub shelf: MemoryShelf,
     pub sink: MemorySink,
+    /// The steps that were counted.
+    pub steps: u64,
 }
 
 /// A file of a shelf.
@@ -74,5 +76,10 @@ fn counted<L: Ledger>(
 {
     let mut steps = Steps::<L>::new(blank);
     let run = viz(alloc, words, &mut shelf, &mut sink, &OpenGate, &mut steps);
-    Left { run, shelf, sink }
+    Left {
+        run,
+        shelf,
+        sink,
+        steps: steps.count(),
+    }
 }

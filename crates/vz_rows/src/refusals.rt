@@ -33,6 +33,7 @@ fn left_by(alloc: Global, line: &str, client: &[u8], schedule: &[u8]) -> Result<
 fn is_refused(left: &Left, status: u8, line: &str) -> bool {
     left.run.status == status
         && left.run.history.as_slice().is_empty()
+        && left.steps == 0
         && left.sink.bytes() == line.as_bytes()
         && left.shelf.bytes_of("f").is_none()
         && left.shelf.bytes_of("l").is_none()

@@ -24,6 +24,7 @@ fn one_opaque_quad(rt: HostRuntime) -> Result<(), Fail> {
         let sink = MemorySink::new(alloc, Vec::new(alloc));
         let left = call(alloc, "step 4 2 s f l a", shelf, sink)?;
         assert_eq!(rt; left.run.status, 0);
+        assert_eq!(rt; left.steps, 16);
         assert_eq!(rt; left.run.history.as_slice().len(), 4);
         assert_eq!(rt; left.shelf.bytes_of("l"), Some(LOG.as_bytes()));
         let frame = left.shelf.bytes_of("f").unwrap_or_default();
