@@ -1,0 +1,4 @@
+mod Finding
+mod Gaps
+mod Placing
+mod Tabling

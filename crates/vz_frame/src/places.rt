@@ -1,0 +1,158 @@
+//! Where ids stand in a list.
+ghost use Rattle.std.specs.Prelude.{◌≡◌, ◌≤◌, ◌==◌, ℕ, length, map};
+ghost use Rattle.vz_frame.specs.Frame.{has_repeat};
+ghost use Rattle.vz_frame.specs.Pairs.{get};
+ghost use Rattle.vz_frame.specs.Places.{first_place};
+
+use crate::id_map::{IdMap, ROOM};
+use crate::{Listing, RenderPass};
+use std::marker::Model;
+
+/// What has an id.
+pub trait HasId {
+    ghost id_of: { Self → ℕ };
+
+    fn id(&self) -> u32
+        ensures { result ≡ id_of self.now };
+}
+
+impl HasId for RenderPass {
+    ghost id_of = { λ pass. pass.id };
+
+    fn id(&self) -> u32 {
+        self.id
+    }
+}
+
+impl HasId for Listing {
+    ghost id_of = { λ listing. listing.id };
+
+    fn id(&self) -> u32 {
+        self.id
+    }
+}
+
+/// A list whose values are found by their ids, through a map. A list that is longer than the map has room for, which no
+/// message file has, is scanned instead.
+#[derive(Drop)]
+pub struct Places<'a, T: HasId> {
+    items: &'a [T],
+    index: Option<IdMap>,
+    repeats: bool,
+}
+
+impl<'a, T: HasId> Model for Places<'a, T> {
+    ghost use Rattle.std.specs.Prelude.{◌≡◌, ◌==◌, ℕ, List, map, IfSome};
+    ghost use Rattle.vz_frame.specs.Frame.{has_repeat};
+    ghost use Rattle.vz_frame.specs.Pairs.{get};
+    ghost use Rattle.vz_frame.specs.Places.{first_place};
+
+    ghost Value = { List T };
+
+    ghost view = { λ p. p.items.now };
+
+    ghost invariant = { λ p. (p.repeats ≡ has_repeat (λ a b. b == a) (map T.id_of p.items.now)) × IfSome p.index (λ m. (n : ℕ) → get m n ≡ first_place n (map T.id_of p.items.now)) };
+}
+
+impl<'a, T: HasId> Places<'a, T> {
+    ghost use Rattle.std.specs.Prelude.{◌≡◌, ◌==◌, map, take, find};
+    ghost use Rattle.std.specs.List.{list_any};
+    ghost use Rattle.std.specs.Option.{option_copied};
+    ghost use Rattle.vz_frame.specs.Frame.{has_repeat};
+    ghost use Rattle.vz_frame.specs.Places.{first_place};
+
+    pub fn of(items: &'a [T]) -> Places<'a, T>
+        ensures { result ≡ items.now }
+    {
+        if items.len() > ROOM {
+            let repeats = scan_repeats(items);
+            return Places {
+                items,
+                index: None,
+                repeats,
+            };
+        }
+        let (index, repeats) = indexed(items);
+        Places {
+            items,
+            index: Some(index),
+            repeats,
+        }
+    }
+
+    /// Whether two values have one id.
+    pub fn has_repeat(&self) -> bool
+        ensures { result ≡ has_repeat (λ a b. T.id_of b == T.id_of a) self.now }
+    {
+        self.repeats
+    }
+
+    /// The first value that has an id.
+    pub fn find(&self, id: u32) -> Option<&'a T>
+        ensures { option_copied result ≡ find (λ x. T.id_of x == id) self.now }
+    {
+        match self.first(id) {
+            Some(place) => self.items.get(place),
+            None => None,
+        }
+    }
+
+    /// Whether a value before a place has an id.
+    pub fn has_before(&self, id: u32, place: usize) -> bool
+        ensures { result ≡ list_any (λ x. T.id_of x == id) (take place self.now) }
+    {
+        match self.first(id) {
+            Some(first) => first < place,
+            None => false,
+        }
+    }
+
+    /// The first place at which an id stands.
+    fn first(&self, id: u32) -> Option<usize>
+        ensures { result ≡ first_place id (map T.id_of self.now) }
+    {
+        match &self.index {
+            Some(index) => index.get(id),
+            None => scan(self.items, id),
+        }
+    }
+}
+
+/// The ids with their first places, and whether one stands twice.
+fn indexed<T: HasId>(items: &[T]) -> (IdMap, bool)
+    requires { length items.now ≤ ROOM }
+    ensures places { (n : ℕ) → get result.0 n ≡ first_place n (map T.id_of items.now) }
+    ensures repeats { result.1 ≡ has_repeat (λ a b. b == a) (map T.id_of items.now) }
+{
+    let mut index = IdMap::new();
+    let mut repeats = false;
+    for place in 0..items.len() {
+        let is_new = index.insert(items[place].id(), place);
+        repeats |= !is_new;
+    }
+    (index, repeats)
+}
+
+/// Whether an id stands twice.
+fn scan_repeats<T: HasId>(items: &[T]) -> bool
+    ensures { result ≡ has_repeat (λ a b. b == a) (map T.id_of items.now) }
+{
+    let mut repeats = false;
+    for place in 0..items.len() {
+        let earlier = scan(&items[..place], items[place].id());
+        repeats |= earlier.is_some();
+    }
+    repeats
+}
+
+/// The first place at which an id stands.
+fn scan<T: HasId>(items: &[T], id: u32) -> Option<usize>
+    ensures { result ≡ first_place id (map T.id_of items.now) }
+{
+    for place in 0..items.len() {
+        if items[place].id() == id {
+            return Some(place);
+        }
+    }
+    None
+}

@@ -1,0 +1,229 @@
+//! The rules of a frame, tested.
+ghost use Rattle.std.specs.Prelude.{◌≡◌, ◌+ℤ◌, pos, int_lt, not, take, Some, None, IfErr, OnOk};
+ghost use Rattle.std.specs.List.{list_any};
+ghost use Rattle.vz_frame.specs.Checking.{nothing, joined, in_quad, in_quads, in_passes, first_said, reaches_outside};
+ghost use Rattle.vz_frame.specs.Frame.{bad_root, exceeds, first_broken, has_repeat};
+ghost use Rattle.vz_ids.specs.Ids.{is_good, same_surface};
+ghost use Rattle.std.specs.Option.{option_copied};
+
+use crate::places::Places;
+use crate::{CompositorFrame, DrawQuad, Listing, Material, RenderPass, Rule};
+use vz_geom::Rect;
+use vz_ids::{SurfaceId, SurfaceRange};
+
+/// What the passes and quads of a frame break: each field is whether one of them breaks that rule.
+#[derive(Clone, Copy, Debug, PartialEq, Eq)]
+pub struct Found {
+    /// A pass quad names no earlier pass.
+    pub order: bool,
+    /// A visible rectangle has a point outside the quad's rectangle.
+    pub visible: bool,
+    /// A tile names a resource that is not listed.
+    pub unlisted: bool,
+    /// A tile reaches outside the first listing of its resource.
+    pub outside: bool,
+    /// The range of a surface quad starts after its end.
+    pub range: bool,
+    /// A damage rectangle has a point outside its pass's output.
+    pub damage: bool,
+}
+
+impl Found {
+    const NOTHING: Found = Found {
+        order: false,
+        visible: false,
+        unlisted: false,
+        outside: false,
+        range: false,
+        damage: false,
+    };
+
+    /// What is found in the one or in the other.
+    fn join(self, other: Found) -> Found
+        ensures { result ≡ joined self other }
+    {
+        Found {
+            order: self.order | other.order,
+            visible: self.visible | other.visible,
+            unlisted: self.unlisted | other.unlisted,
+            outside: self.outside | other.outside,
+            range: self.range | other.range,
+            damage: self.damage | other.damage,
+        }
+    }
+}
+
+/// Whether a frame keeps the eleven rules; an error is the first one that it breaks, in the order of `Rule`.
+///
+/// Each quad is looked at once. Ids of passes and of resources are found by maps that take no memory; a frame with more
+/// than 64 passes or resources, which no message file has, is scanned for them.
+pub fn check(frame: &CompositorFrame) -> Result<(), Rule>
+    ensures kept { OnOk result (first_broken frame.now ≡ None) }
+    ensures broken { IfErr result (λ rule. first_broken frame.now ≡ Some rule) }
+{
+    match first_broken(frame) {
+        Some(rule) => Err(rule),
+        None => Ok(()),
+    }
+}
+
+/// The first rule that a frame breaks.
+fn first_broken(frame: &CompositorFrame) -> Option<Rule>
+    ensures { result ≡ first_broken frame.now }
+{
+    let passes = frame.passes.as_slice();
+    let by_id = Places::of(passes);
+    let listed = Places::of(frame.resources.as_slice());
+    let found = search_passes(passes, &by_id, &listed);
+    let table = [
+        (passes.is_empty(), Rule::NoPass),
+        (is_bad_root(passes.last()), Rule::BadRoot),
+        (by_id.has_repeat(), Rule::PassIds),
+        (found.order, Rule::PassOrder),
+        (found.visible, Rule::VisibleOutside),
+        (found.unlisted, Rule::UnlistedResource),
+        (listed.has_repeat(), Rule::ListedTwice),
+        (found.outside, Rule::TileOutside),
+        (
+            found.range | has_bad_range(frame.metadata.references.as_slice()),
+            Rule::BadRange,
+        ),
+        (
+            has_repeat(frame.metadata.dependencies.as_slice()),
+            Rule::BadDependency,
+        ),
+        (found.damage, Rule::DamageOutside),
+    ];
+    first_said(&table)
+}
+
+/// The first rule of a table that is said to be broken.
+fn first_said(table: &[(bool, Rule)]) -> Option<Rule>
+    ensures { result ≡ first_said table.now }
+{
+    for (is_broken, rule) in table {
+        if *is_broken {
+            return Some(*rule);
+        }
+    }
+    None
+}
+
+/// Whether there is no root pass, or its output is empty or begins elsewhere than at the first point.
+pub fn is_bad_root(root: Option<&RenderPass>) -> bool
+    ensures { result ≡ bad_root (option_copied root.entry) }
+{
+    let Some(pass) = root else {
+        return true;
+    };
+    let output = &pass.output;
+    output.is_empty() || output.x() > 0 || output.x() < 0 || output.y() > 0 || output.y() < 0
+}
+
+/// Looks at all passes.
+fn search_passes(
+    passes: &[RenderPass],
+    by_id: &Places<RenderPass>,
+    listed: &Places<Listing>,
+) -> Found
+    requires { by_id.now ≡ passes.now }
+    ensures { result ≡ in_passes listed.now passes.now }
+{
+    let mut found = Found::NOTHING;
+    for place in 0..passes.len() {
+        let pass = &passes[place];
+        let in_quads = search_quads(pass.quads.as_slice(), place, by_id, listed);
+        found = found.join(in_quads);
+        found.damage |= !pass.output.covers(&pass.damage);
+    }
+    found
+}
+
+/// Looks at the quads of the pass at a place.
+fn search_quads(
+    quads: &[DrawQuad],
+    place: usize,
+    by_id: &Places<RenderPass>,
+    listed: &Places<Listing>,
+) -> Found
+    ensures { result ≡ in_quads (take place by_id.now) listed.now quads.now }
+{
+    let mut found = Found::NOTHING;
+    for quad in quads {
+        found = found.join(search_quad(quad, place, by_id, listed));
+    }
+    found
+}
+
+/// Looks at a quad of the pass at a place.
+fn search_quad(
+    quad: &DrawQuad,
+    place: usize,
+    by_id: &Places<RenderPass>,
+    listed: &Places<Listing>,
+) -> Found
+    ensures { result ≡ in_quad (take place by_id.now) listed.now quad.now }
+{
+    let mut found = Found::NOTHING;
+    found.visible = !quad.area.covers(&quad.visible);
+    match &quad.material {
+        Material::Solid(_) => {}
+        Material::Tile { resource, tx, ty } => match listed.find(*resource) {
+            None => found.unlisted = true,
+            Some(listing) => found.outside = exceeds(&quad.area, *tx, *ty, listing),
+        },
+        Material::Surface { range, .. } => found.range = !range.is_good(),
+        Material::Pass(id) => found.order = !by_id.has_before(*id, place),
+    }
+    found
+}
+
+/// Whether the last column or row of a tile lies outside what the listing has.
+fn exceeds(area: &Rect, tx: u16, ty: u16, listing: &Listing) -> bool
+    ensures { result ≡ exceeds area.now tx ty listing.now }
+{
+    ends_outside(tx, area.w(), listing.w) || ends_outside(ty, area.h(), listing.h)
+}
+
+/// Whether a side from a texel on ends behind a limit.
+fn ends_outside(from: u16, side: i32, limit: u16) -> bool
+    ensures { result ≡ int_lt (pos limit) (pos from +ℤ side) }
+{
+    i64::from(from) + i64::from(side) > i64::from(limit)
+}
+
+/// Whether a range starts after its end.
+fn has_bad_range(ranges: &[SurfaceRange]) -> bool
+    ensures { result ≡ list_any (λ range. not (is_good range)) ranges.now }
+{
+    for range in ranges {
+        if !range.is_good() {
+            return true;
+        }
+    }
+    false
+}
+
+/// Whether two surfaces are the same.
+fn has_repeat(surfaces: &[SurfaceId]) -> bool
+    ensures { result ≡ has_repeat same_surface surfaces.now }
+{
+    for place in 0..surfaces.len() {
+        if has_surface(&surfaces[place + 1..], &surfaces[place]) {
+            return true;
+        }
+    }
+    false
+}
+
+/// Whether one of them is this surface.
+fn has_surface(surfaces: &[SurfaceId], surface: &SurfaceId) -> bool
+    ensures { result ≡ list_any (same_surface surface.now) surfaces.now }
+{
+    for other in surfaces {
+        if surface == other {
+            return true;
+        }
+    }
+    false
+}
