@@ -1,11 +1,9 @@
 //! The narrow form of a client's file: the only one that the program takes so far.
-ghost use Rattle.std.specs.Prelude.{◌≡◌, Some};
-ghost use Rattle.vz_frame.specs.Frame.{bad_root};
+ghost use Rattle.std.specs.Prelude.{◌≡◌};
 ghost use Rattle.vz_rules.specs.Narrow.{is_narrow, are_narrow_messages, is_plain_frame, stands_alone};
-ghost use Rattle.vz_rules.specs.Narrow.{is_one_pass, is_one_quad, is_opaque_quad, is_opaque, keeps_rules};
+ghost use Rattle.vz_rules.specs.Narrow.{is_one_pass, is_one_quad, is_opaque_quad, is_opaque};
 
-use vz_frame::{ClientFile, CompositorFrame, DrawQuad, Material, Message, RenderPass};
-use vz_rules::narrow_laws::plain_frames;
+use vz_frame::{ClientFile, CompositorFrame, DrawQuad, Material, Message, RenderPass, check};
 
 /// Whether a file has the narrow form: format 1, one submission of a plain frame, and its surface made the root.
 #[tactic(auto, unfolding(vz_rules::specs::Narrow::is_narrow))]
@@ -31,9 +29,7 @@ fn are_narrow_messages(messages: &[Message]) -> bool
 fn is_plain_frame(frame: &CompositorFrame) -> bool
     ensures { result ≡ is_plain_frame frame.now }
 {
-    plain_frames();
-    let passes = frame.passes.as_slice();
-    stands_alone(frame) && is_one_pass(passes) && keeps_rules(passes)
+    stands_alone(frame) && is_one_pass(frame.passes.as_slice()) && check(frame).is_ok()
 }
 
 /// Whether a frame has no dependency, no reference and no resource.
@@ -81,29 +77,4 @@ fn is_opaque(material: &Material) -> bool
         Material::Solid(colour) => colour.a() == 255,
         _ => false,
     }
-}
-
-/// Whether one pass alone with one quad alone keeps the rules of a frame.
-fn keeps_rules(passes: &[RenderPass]) -> bool
-    ensures { result ≡ keeps_rules passes.now }
-{
-    match passes {
-        [pass] => match pass.quads.as_slice() {
-            [quad] => {
-                !is_bad_root(pass)
-                    && quad.area.covers(&quad.visible)
-                    && pass.output.covers(&pass.damage)
-            }
-            _ => false,
-        },
-        _ => false,
-    }
-}
-
-/// Whether the output of the root pass is empty or begins elsewhere than at the first point.
-fn is_bad_root(pass: &RenderPass) -> bool
-    ensures { result ≡ bad_root (Some pass.now) }
-{
-    let output = &pass.output;
-    output.is_empty() || output.x() > 0 || output.x() < 0 || output.y() > 0 || output.y() < 0
 }

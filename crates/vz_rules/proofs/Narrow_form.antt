@@ -20,7 +20,7 @@ use Rattle.vz_frame.specs.declared.message.Message.{Message}
 use Rattle.vz_frame.specs.declared.message.Message.TheVariants.{Submit, SetRoot}
 use Rattle.vz_frame.specs.Frame.{breaks, first_broken, bad_root}
 use Rattle.vz_frame.specs.Fits.{fits_quad, fits_pass, fits_frame, fits_message, fits_file, fits_mode}
-use Rattle.vz_rules.specs.Narrow.{is_nil, is_opaque, is_one_quad, is_one_pass, stands_alone, is_plain_frame, keeps_rules, quad_keeps_rules, are_narrow_messages, is_narrow}
+use Rattle.vz_rules.specs.Narrow.{is_nil, is_opaque, is_one_quad, is_one_pass, stands_alone, is_plain_frame, are_narrow_messages, is_narrow}
 use Rattle.vz_rules.proofs.Geometry.{both, le_true}
 use Rattle.vz_rules.proofs.Narrow_steps.{plain_frame, narrow_file}
 use Rattle.vz_rules.proofs.Narrow_picture.{IsOpaqueQuad}
@@ -99,6 +99,17 @@ frame_is frame passes h e =
 
 -- The rules
 
+-- what the rules ask of one quad alone in the root pass: its output has points and begins at the first one, the visible part is in the quad's rectangle, and the damage is in the output
+abbrev pub quad_keeps_rules : RenderPass → List DrawQuad → Bool
+quad_keeps_rules pass (quad ∷ []) =
+    not (bad_root (Some pass)) && covers_rect quad.area quad.visible && covers_rect pass.output pass.damage
+quad_keeps_rules pass _ = false
+
+-- what they ask of one pass alone, which is the root pass, with one quad alone
+abbrev pub keeps_rules : List RenderPass → Bool
+keeps_rules (pass ∷ []) = quad_keeps_rules pass pass.quads
+keeps_rules _ = false
+
 three_rules : (root seen drawn : Bool) → is_none (cond root (Some BadRoot) (cond (not seen || false) (Some VisibleOutside) (cond (not drawn || false) (Some DamageOutside) None))) ≡ (not root && seen && drawn)
 three_rules true seen drawn = refl
 three_rules false false drawn = refl
@@ -110,18 +121,6 @@ pub rules_are : (token ack : ℕ) (deadline : Option ℕ) (passes : List RenderP
 unfolding first_broken breaks
 rules_are token ack deadline passes one =
     rw one.passes_are (rw (one.alone, one.material) (three_rules (bad_root (Some one.pass)) (covers_rect one.quad.area one.quad.visible) (covers_rect one.pass.output one.pass.damage)))
-
-and_same : (a b x y : Bool) → (a ≡ true → b ≡ true → x ≡ y) → (a && b && x) ≡ (a && b && y)
-and_same true true x y h = h refl refl
-and_same true false x y h = refl
-and_same false b x y h = refl
-
--- a frame is plain where it stands alone, with one pass of one opaque quad, which keep the rules
-pub plain_is : (frame : CompositorFrame) → is_plain_frame frame ≡ (stands_alone frame && is_one_pass frame.passes && keeps_rules frame.passes)
-plain_is frame =
-    and_same (stands_alone frame) (is_one_pass frame.passes) (is_none (first_broken frame)) (keeps_rules frame.passes)
-    (λ alone one. ap (λ f. is_none (first_broken f)) (frame_is frame frame.passes alone refl)
-    ∙ rules_are frame.metadata.token frame.metadata.ack frame.metadata.deadline frame.passes (one_pass_is frame.passes one))
 
 no_or : (a b : Bool) → (a || b) ≡ false → (a ≡ false) × (b ≡ false)
 no_or true b h = absurd (cc)

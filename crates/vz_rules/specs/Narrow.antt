@@ -1,9 +1,9 @@
 -- The narrow form of a client's file, which shows one opaque quad, and the history and the picture that it makes.
-use Rattle.std.specs.Prelude.{Bool, true, false, not, ◌&&◌, ◌==◌, is_none, Option, Some, None, List, [], ◌∷◌, if◌then◌else◌}
+use Rattle.std.specs.Prelude.{Bool, true, false, ◌&&◌, ◌==◌, is_none, Option, Some, None, List, [], ◌∷◌, if◌then◌else◌}
 use Rattle.std.specs.Option.{option_map}
 use Rattle.vz_geom.specs.declared.Point.{Point}
 use Rattle.vz_geom.specs.declared.Size.{Size}
-use Rattle.vz_geom.specs.Rectangle.{Rectangle, has, minus, sized, covers_rect}
+use Rattle.vz_geom.specs.Rectangle.{Rectangle, has, minus, sized}
 use Rattle.vz_ids.specs.declared.Sub.{Sub}
 use Rattle.vz_ids.specs.Ids.{same_local}
 use Rattle.vz_pixels.specs.Colour.{Colour, black}
@@ -15,7 +15,7 @@ use Rattle.vz_frame.specs.declared.frame.Material.TheVariants.{Solid}
 use Rattle.vz_frame.specs.declared.message.ClientFile.{ClientFile}
 use Rattle.vz_frame.specs.declared.message.Message.{Message}
 use Rattle.vz_frame.specs.declared.message.Message.TheVariants.{Submit, SetRoot}
-use Rattle.vz_frame.specs.Frame.{first_broken, bad_root}
+use Rattle.vz_frame.specs.Frame.{first_broken}
 use Rattle.vz_rules.specs.declared.entry.Event.{Event}
 use Rattle.vz_rules.specs.declared.entry.Event.TheVariants as event
 use Rattle.vz_rules.specs.declared.entry.Reply.TheVariants as reply
@@ -56,17 +56,6 @@ stands_alone frame = is_nil frame.metadata.dependencies && is_nil frame.metadata
 -- a frame that stands alone, with one pass of one opaque quad, and that breaks no rule
 abbrev pub is_plain_frame : CompositorFrame → Bool
 is_plain_frame frame = stands_alone frame && is_one_pass frame.passes && is_none (first_broken frame)
-
--- what the rules ask of one quad alone in the root pass: its output has points and begins at the first one, the visible part is in the quad's rectangle, and the damage is in the output
-abbrev pub quad_keeps_rules : RenderPass → List DrawQuad → Bool
-quad_keeps_rules pass (quad ∷ []) =
-    not (bad_root (Some pass)) && covers_rect quad.area quad.visible && covers_rect pass.output pass.damage
-quad_keeps_rules pass _ = false
-
--- what they ask of one pass alone, which is the root pass, with one quad alone
-abbrev pub keeps_rules : List RenderPass → Bool
-keeps_rules (pass ∷ []) = quad_keeps_rules pass pass.quads
-keeps_rules _ = false
 
 -- a plain frame is submitted, and its surface is made the root
 abbrev pub are_narrow_messages : List Message → Bool

@@ -1,9 +1,8 @@
 //! Laws of the narrow form, each the contract of a function that does nothing.
-ghost use Rattle.std.specs.Prelude.{◌≡◌, pos, nat_abs, ◌+◌, ◌*◌, ◌&&◌, IsTrue, IsSomeAnd, codes, List, [], ◌∷◌, ◌++◌, map};
+ghost use Rattle.std.specs.Prelude.{◌≡◌, nat_abs, ◌*◌, IsTrue, IsSomeAnd, codes, List, [], ◌∷◌, ◌++◌, map};
 ghost use Rattle.std.specs.Fmt.{decimal};
 ghost use Rattle.vz_geom.specs.declared.Size.{Size};
 ghost use Rattle.vz_geom.specs.Rectangle.{sized, area_of, points_of, IsOffset};
-ghost use Rattle.vz_frame.specs.declared.frame.CompositorFrame.{CompositorFrame};
 ghost use Rattle.vz_frame.specs.declared.message.ClientFile.{ClientFile};
 ghost use Rattle.vz_frame.specs.Fits.{fits_file};
 ghost use Rattle.vz_rules.specs.Plan.{Plan, IsPlan};
@@ -11,7 +10,7 @@ ghost use Rattle.vz_rules.specs.World.{opening};
 ghost use Rattle.vz_rules.specs.Step.{history_from, Legal};
 ghost use Rattle.vz_rules.specs.Frames.{frames, written, painted};
 ghost use Rattle.vz_rules.specs.Log.{log_text, rest_of};
-ghost use Rattle.vz_rules.specs.Narrow.{stands_alone, is_one_pass, keeps_rules, is_plain_frame, is_narrow, narrow_events, narrow_history, nothing_left, narrow_quad, narrow_colour};
+ghost use Rattle.vz_rules.specs.Narrow.{is_narrow, narrow_events, narrow_history, nothing_left, narrow_quad, narrow_colour};
 
 /// A narrow file alone makes its history, and nothing is left behind it.
 pub fn narrow_histories()
@@ -39,11 +38,6 @@ pub fn narrow_texts()
     ensures { (size : Size) → log_text (narrow_history size) nothing_left
         ≡ codes "c1 accepted 1 1 +1.1\nc1 rooted\ndraw drawn 0 0 " ++ decimal (nat_abs size.w) ++ 32 ∷ decimal (nat_abs size.h)
         ++ codes "\ndone shown p1.1\nend\n" }
-{}
-
-/// A frame is plain where it stands alone, with one pass of one opaque quad, which keep the rules.
-pub fn plain_frames()
-    ensures { (frame : CompositorFrame) → is_plain_frame frame ≡ (stands_alone frame && is_one_pass frame.passes && keeps_rules frame.passes) }
 {}
 
 /// A narrow file that fits has its quad, with an offset that is one.
