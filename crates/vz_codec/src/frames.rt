@@ -15,18 +15,18 @@ use vz_geom::Point;
 /// No side of a resource is longer.
 pub const MOST_SIDE: u16 = 256;
 
-const MOST_DEPENDENCIES: u8 = 16;
+pub const MOST_DEPENDENCIES: u8 = 16;
 
-const MOST_REFERENCES: u8 = 64;
+pub const MOST_REFERENCES: u8 = 64;
 
-const MOST_RESOURCES: u8 = 64;
+pub const MOST_RESOURCES: u8 = 64;
 
-const MOST_PASSES: u8 = 16;
+pub const MOST_PASSES: u8 = 16;
 
 /// No frame has more quads in all of its passes.
-const MOST_QUADS: u16 = 1024;
+pub const MOST_QUADS: u16 = 1024;
 
-const MOST_ROUNDS: u8 = 64;
+pub const MOST_ROUNDS: u8 = 64;
 
 /// The deadline that says that there is none.
 const NO_DEADLINE: u8 = 255;

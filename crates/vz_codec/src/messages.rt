@@ -16,9 +16,9 @@ use vz_pixels::PixelBlock;
 /// The bytes `VIZC` as a number.
 const MAGIC: u32 = 0x435a_4956;
 
-const NEWEST_FORMAT: u16 = 2;
+pub const NEWEST_FORMAT: u16 = 2;
 
-const MOST_MESSAGES: u32 = 4096;
+pub const MOST_MESSAGES: u32 = 4096;
 
 /// All of the bytes as a file.
 #[tactic(auto, unfolding(crate::specs::Reading::file_in))]

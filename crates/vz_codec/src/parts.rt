@@ -68,11 +68,11 @@ pub fn read_rect(input: &mut Reader) -> Result<Rect, ReadError>
 
 /// A place and two sides, of any numbers.
 #[derive(Drop)]
-struct Sides {
-    x: i32,
-    y: i32,
-    w: i32,
-    h: i32,
+pub struct Sides {
+    pub x: i32,
+    pub y: i32,
+    pub w: i32,
+    pub h: i32,
 }
 
 /// The rectangle of these numbers, where they are one.
@@ -80,7 +80,7 @@ fn rect_of(sides: &Sides) -> Option<Rect>
     ensures fits { is_some result ≡ fits_rect (rectangle sides.now) }
     ensures value { IfSome result (λ r. r ≡ rectangle sides.now) }
 {
-    if fits(sides) {
+    if are_rect(sides) {
         Some(Rect::new(sides.x, sides.y, sides.w, sides.h))
     } else {
         None
@@ -88,7 +88,7 @@ fn rect_of(sides: &Sides) -> Option<Rect>
 }
 
 /// Whether all four numbers are 0, or they are a place in reach and two sides.
-fn fits(sides: &Sides) -> bool
+pub fn are_rect(sides: &Sides) -> bool
     ensures { result ≡ fits_rect (rectangle sides.now) }
 {
     is_zero(sides) || is_placed(sides)
