@@ -105,6 +105,10 @@ impl Field for Messages {
 
     ghost value_at = { λ m. message_at m.format };
 
+    fn least_bytes(&self) -> usize {
+        1
+    }
+
     fn read(&self, input: &mut Reader) -> Result<Message, ReadError> {
         read_message(self.alloc, self.format, input)
     }

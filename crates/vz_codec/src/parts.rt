@@ -13,6 +13,15 @@ use vz_geom::Rect;
 use vz_ids::{EmbedToken, FrameSinkId, LocalSurfaceId, SurfaceId, SurfaceRange};
 use vz_pixels::Pixel;
 
+/// The bytes of a surface id.
+const SURFACE_BYTES: usize = 32;
+
+/// The bytes of a rectangle.
+pub const RECT_BYTES: usize = 16;
+
+/// The bytes of a colour.
+pub const COLOUR_BYTES: usize = 4;
+
 #[tactic(auto, unfolding(crate::specs::Reading::sink_at))]
 pub fn read_sink(input: &mut Reader) -> Result<FrameSinkId, ReadError>
     ensures { Gives (λ x. (x, input.new)) result (sink_at input.old) }
@@ -145,6 +154,10 @@ impl Field for Surfaces {
 
     ghost value_at = { λ _. surface_at };
 
+    fn least_bytes(&self) -> usize {
+        SURFACE_BYTES
+    }
+
     fn read(&self, input: &mut Reader) -> Result<SurfaceId, ReadError> {
         read_surface(input)
     }
@@ -157,6 +170,10 @@ impl Field for Ranges {
     type Value = SurfaceRange;
 
     ghost value_at = { λ _. range_at };
+
+    fn least_bytes(&self) -> usize {
+        1 + SURFACE_BYTES
+    }
 
     fn read(&self, input: &mut Reader) -> Result<SurfaceRange, ReadError> {
         read_range(input)
@@ -171,6 +188,10 @@ impl Field for Rects {
 
     ghost value_at = { λ _. rect_at };
 
+    fn least_bytes(&self) -> usize {
+        RECT_BYTES
+    }
+
     fn read(&self, input: &mut Reader) -> Result<Rect, ReadError> {
         read_rect(input)
     }
@@ -183,6 +204,10 @@ impl Field for Colours {
     type Value = Pixel;
 
     ghost value_at = { λ _. colour_at };
+
+    fn least_bytes(&self) -> usize {
+        COLOUR_BYTES
+    }
 
     fn read(&self, input: &mut Reader) -> Result<Pixel, ReadError> {
         read_colour(input)
