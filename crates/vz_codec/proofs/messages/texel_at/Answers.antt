@@ -1,4 +1,3 @@
-use Rattle.std.proofs.Common.{sym, ◌∙◌}
 use Rattle.vz_codec.proofs.Colours.{texel_refused}
 use Rattle.vz_codec.proofs.messages.texel_at.Goals as goal
 
