@@ -1,5 +1,5 @@
 -- What decoding finds and refuses, and which bytes spell a file.
-use Rattle.std.proofs.Common.{◌≡◌, ◌≢◌, ℕ, ◌-◌, ◌<◌, ◌↔◌, Some, None, Result, Ok, Err, List, [], ◌∷◌, ◌++◌, length, All, refl, sym, ap, ◌∙◌, arith, inl, inr}
+use Rattle.std.proofs.Common.{true, ◌≡◌, ◌≢◌, ℕ, ◌-◌, ◌<◌, ◌↔◌, Some, None, Result, Ok, Err, List, [], ◌∷◌, ◌++◌, length, All, refl, sym, ap, ◌∙◌, arith, inl, inr}
 use Rattle.std.proofs.lemmas.Bool.{cases_lt}
 use Rattle.std.proofs.lemmas.List.{get_or_past}
 use Rattle.std.proofs.lemmas.List.Elements.{All-get_or}
@@ -7,6 +7,8 @@ use Rattle.vz_frame.specs.declared.message.ClientFile.{ClientFile}
 use Rattle.vz_codec.specs.declared.fault.FileRule.{FileRule}
 use Rattle.vz_codec.specs.declared.fault.DecodeError.{DecodeError}
 use Rattle.vz_codec.specs.declared.fault.DecodeError.TheVariants.{Refused, Memory}
+use Rattle.vz_frame.specs.Fits.{fits_file}
+use Rattle.vz_codec.specs.Spelling.{file_bytes}
 use Rattle.vz_codec.specs.Reading.{Fault, ended, file_in}
 use Rattle.vz_codec.specs.Grammar.{Spells, Wrong, placed, wrong, Decodes, Finds}
 use Rattle.vz_codec.specs.declared.fault.FileRule.TheVariants as rules
@@ -49,6 +51,23 @@ same_file bytes f g s t =
     let two = spelled_read bytes g t in
     cc
 
+-- a file that fits is spelled by its bytes
+pub own_bytes_spell : (f : ClientFile) → fits_file f ≡ true → Spells (file_bytes f) f
+unfolding Spells
+own_bytes_spell f fits = (fits, refl)
+
+pub spelled_by_own : (bytes : List ℕ) (f : ClientFile) → Spells bytes f → bytes ≡ file_bytes f
+unfolding Spells
+spelled_by_own bytes f s = s.1
+
+pub spelled_fits : (bytes : List ℕ) (f : ClientFile) → Spells bytes f → fits_file f ≡ true
+unfolding Spells
+spelled_fits bytes f s = s.0
+
+-- decoding the bytes of a file that fits
+pub finds_own : (f : ClientFile) → fits_file f ≡ true → (result : Result ClientFile DecodeError) → Decodes (file_bytes f) result → Finds result f
+finds_own f fits result given = finds (file_bytes f) result given f (own_bytes_spell f fits)
+
 trailing : (more : List ℕ) (f g : ClientFile) → ended (f, more) ≡ Ok g → more ≡ []
 unfolding ended
 trailing [] f g e = refl
@@ -67,6 +86,12 @@ bytes_of bytes all i =
       | inl lt ↦ All-get_or (λ b. b < 256) bytes i 0 lt all
       | inr le ↦ rw (get_or_past bytes i 0 le) (omega arith)
     ]
+
+pub decoded_again : (bytes : List ℕ) (f : ClientFile) → All (λ b. b < 256) bytes → file_in bytes ≡ Ok f → file_bytes f ≡ bytes
+decoded_again bytes f all e = sym (spelled_by_own bytes f (is_found bytes f (bytes_of bytes all) e))
+
+pub decoded_fits : (bytes : List ℕ) (f : ClientFile) → All (λ b. b < 256) bytes → file_in bytes ≡ Ok f → fits_file f ≡ true
+decoded_fits bytes f all e = spelled_fits bytes f (is_found bytes f (bytes_of bytes all) e)
 
 right_by : (bytes : List ℕ) (r : Result ClientFile Fault) → placed bytes r ≡ None → (f : ClientFile) × (r ≡ Ok f)
 right_by bytes (Ok f) e = (f, refl)

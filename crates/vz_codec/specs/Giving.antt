@@ -14,6 +14,10 @@ abbrev pub Gives : {X Y : Type 0} → (X → Y) → Result X ReadError → Resul
 Gives view (Ok x) read = read ≡ Ok (view x)
 Gives view (Err e) read = Fails e read
 
+-- so many bytes as they stand
+abbrev pub front_at : ℕ → List ℕ → Read (List ℕ)
+front_at count bytes = if nat_lt (length bytes) count then Err short else Ok (take count bytes, drop count bytes)
+
 -- four bytes as they stand
 abbrev pub four_at : List ℕ → Read (List ℕ)
-four_at bytes = if nat_lt (length bytes) 4 then Err short else Ok (take 4 bytes, drop 4 bytes)
+four_at = front_at 4

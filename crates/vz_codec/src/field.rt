@@ -1,5 +1,5 @@
 //! Fields that stand behind a flag or several in a row.
-ghost use Rattle.std.specs.Prelude.{ℕ, List};
+ghost use Rattle.std.specs.Prelude.{ℕ, ◌<◌, List};
 ghost use Rattle.vz_codec.specs.Giving.{Gives};
 ghost use Rattle.vz_codec.specs.Reading.{Read, optional_at, many_at, counted_at};
 
@@ -7,15 +7,16 @@ use crate::error::ReadError;
 use crate::reader::Reader;
 use std::alloc::Global;
 
-/// The bytes of a texel. No value of which many stand in a row has fewer, but for a message.
-const TEXEL_BYTES: usize = 4;
-
 /// How a kind of field is read.
 pub trait Field {
     type Value: Drop;
 
     /// The value at the front of bytes and the bytes after it, or the first fault.
     ghost value_at: { Self → List ℕ → Read Self.Value };
+
+    /// The fewest bytes that a value takes.
+    fn least_bytes(&self) -> usize
+        ensures { 0 < result };
 
     fn read(&self, input: &mut Reader) -> Result<Self::Value, ReadError>
         ensures { Gives (λ x. (x, input.new)) result (value_at self.now input.old) };
@@ -32,7 +33,7 @@ pub fn optional<F: Field>(field: &F, input: &mut Reader) -> Result<Option<F::Val
     Ok(Some(field.read(input)?))
 }
 
-/// So many values. At first no more room is made than the bytes that are left may hold texels.
+/// So many values. At first room is made for no more of them than the bytes that are left may hold.
 pub fn many<F: Field>(
     alloc: Global,
     field: &F,
@@ -41,7 +42,7 @@ pub fn many<F: Field>(
 ) -> Result<Vec<F::Value>, ReadError>
     ensures { Gives (λ x. (x.items, input.new)) result (many_at (F.value_at field.now) count input.old) }
 {
-    let room = input.left() / TEXEL_BYTES;
+    let room = input.left() / field.least_bytes();
     let mut values = Vec::with_capacity(alloc, count.min(room))?;
 
     // What is left is kept at hand while the values are read.

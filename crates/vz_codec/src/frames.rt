@@ -6,7 +6,7 @@ ghost use Rattle.vz_codec.specs.Reading.{many_at, tile_at, embedding_at, materia
 use crate::error::ReadError;
 use crate::fault::FileRule;
 use crate::field::{Field, counted, many, optional};
-use crate::parts::{Ranges, Rects, Surfaces, read_colour, read_range, read_rect};
+use crate::parts::{RECT_BYTES, Ranges, Rects, Surfaces, read_colour, read_range, read_rect};
 use crate::reader::Reader;
 use std::alloc::Global;
 use vz_frame::{Blend, CompositorFrame, DrawQuad, List, Listing, Material, Metadata, RenderPass};
@@ -15,21 +15,28 @@ use vz_geom::Point;
 /// No side of a resource is longer.
 pub const MOST_SIDE: u16 = 256;
 
-const MOST_DEPENDENCIES: u8 = 16;
+pub const MOST_DEPENDENCIES: u8 = 16;
 
-const MOST_REFERENCES: u8 = 64;
+pub const MOST_REFERENCES: u8 = 64;
 
-const MOST_RESOURCES: u8 = 64;
+pub const MOST_RESOURCES: u8 = 64;
 
-const MOST_PASSES: u8 = 16;
+pub const MOST_PASSES: u8 = 16;
 
 /// No frame has more quads in all of its passes.
-const MOST_QUADS: u16 = 1024;
+pub const MOST_QUADS: u16 = 1024;
 
-const MOST_ROUNDS: u8 = 64;
+pub const MOST_ROUNDS: u8 = 64;
 
 /// The deadline that says that there is none.
 const NO_DEADLINE: u8 = 255;
+
+/// The bytes of a listed resource.
+const LISTING_BYTES: usize = 8;
+
+/// The bytes of a quad without clip and mode: its offset, its rectangles, a flag, the opacity, and
+/// a tag with four bytes behind it.
+const LEAST_QUAD_BYTES: usize = 8 + 2 * RECT_BYTES + 1 + 1 + 1 + 4;
 
 #[tactic(auto, unfolding(crate::specs::Reading::frame_at))]
 pub fn read_frame(
@@ -102,6 +109,10 @@ impl Field for Listings {
     type Value = Listing;
 
     ghost value_at = { λ _. listing_at };
+
+    fn least_bytes(&self) -> usize {
+        LISTING_BYTES
+    }
 
     fn read(&self, input: &mut Reader) -> Result<Listing, ReadError> {
         read_listing(input)
@@ -232,6 +243,10 @@ impl Field for Quads {
     type Value = DrawQuad;
 
     ghost value_at = { λ q. quad_at q.format };
+
+    fn least_bytes(&self) -> usize {
+        LEAST_QUAD_BYTES
+    }
 
     fn read(&self, input: &mut Reader) -> Result<DrawQuad, ReadError> {
         read_quad(self.format, input)

@@ -1,8 +1,11 @@
 //! Laws of the grammar of files, each the contract of a function that does nothing.
-ghost use Rattle.std.specs.Prelude.{◌≡◌, ◌≢◌, ◌<◌, ◌↔◌, ℕ, Some, None, List, [], ◌++◌, length, All};
+ghost use Rattle.std.specs.Prelude.{◌≡◌, ◌≢◌, ◌<◌, ◌↔◌, ℕ, Some, None, Result, Ok, List, [], ◌++◌, length, All, IsTrue};
 ghost use Rattle.vz_frame.specs.declared.message.ClientFile.{ClientFile};
 ghost use Rattle.vz_codec.specs.declared.fault.FileRule.TheVariants as rules;
-ghost use Rattle.vz_codec.specs.Grammar.{Spells, Wrong, wrong};
+ghost use Rattle.vz_frame.specs.Fits.{fits_file};
+ghost use Rattle.vz_codec.specs.declared.fault.DecodeError.{DecodeError};
+ghost use Rattle.vz_codec.specs.Spelling.{file_bytes};
+ghost use Rattle.vz_codec.specs.Grammar.{Spells, Decodes, Finds, Wrong, wrong};
 
 /// A file has one spelling, and what spells a file spells no other.
 pub fn files_have_one_spelling()
@@ -24,4 +27,20 @@ pub fn bytes_without_fault_spell()
 pub fn faults_have_places()
     ensures missing { (bytes : List ℕ) (fault : Wrong) → wrong bytes ≡ Some fault → fault.rule ≡ rules.Short → fault.at ≡ length bytes }
     ensures others { (bytes : List ℕ) (fault : Wrong) → wrong bytes ≡ Some fault → fault.rule ≢ rules.Short → fault.at < length bytes }
+{}
+
+/// A file that fits is spelled by its own bytes. What spells a file is its own bytes, and the file
+/// fits.
+pub fn bytes_of_a_file_spell_it()
+    ensures spelled { (file : ClientFile) → IsTrue (fits_file file) → Spells (file_bytes file) file }
+    ensures own { (bytes : List ℕ) (file : ClientFile) → Spells bytes file → bytes ≡ file_bytes file }
+    ensures fitting { (bytes : List ℕ) (file : ClientFile) → Spells bytes file → IsTrue (fits_file file) }
+{}
+
+/// Decoding the bytes of a file that fits finds that file, unless memory runs out. The bytes of
+/// a file that was decoded are those that it was decoded from, and it fits.
+pub fn decoding_undoes_encoding()
+    ensures found { (file : ClientFile) → IsTrue (fits_file file) → (found : Result ClientFile DecodeError) → Decodes (file_bytes file) found → Finds found file }
+    ensures again { (bytes : List ℕ) (file : ClientFile) → All (λ b. b < 256) bytes → Decodes bytes (Ok file) → file_bytes file ≡ bytes }
+    ensures fitting { (bytes : List ℕ) (file : ClientFile) → All (λ b. b < 256) bytes → Decodes bytes (Ok file) → IsTrue (fits_file file) }
 {}

@@ -13,6 +13,15 @@ use vz_geom::Rect;
 use vz_ids::{EmbedToken, FrameSinkId, LocalSurfaceId, SurfaceId, SurfaceRange};
 use vz_pixels::Pixel;
 
+/// The bytes of a surface id.
+const SURFACE_BYTES: usize = 32;
+
+/// The bytes of a rectangle.
+pub const RECT_BYTES: usize = 16;
+
+/// The bytes of a colour.
+pub const COLOUR_BYTES: usize = 4;
+
 #[tactic(auto, unfolding(crate::specs::Reading::sink_at))]
 pub fn read_sink(input: &mut Reader) -> Result<FrameSinkId, ReadError>
     ensures { Gives (λ x. (x, input.new)) result (sink_at input.old) }
@@ -68,11 +77,11 @@ pub fn read_rect(input: &mut Reader) -> Result<Rect, ReadError>
 
 /// A place and two sides, of any numbers.
 #[derive(Drop)]
-struct Sides {
-    x: i32,
-    y: i32,
-    w: i32,
-    h: i32,
+pub struct Sides {
+    pub x: i32,
+    pub y: i32,
+    pub w: i32,
+    pub h: i32,
 }
 
 /// The rectangle of these numbers, where they are one.
@@ -80,7 +89,7 @@ fn rect_of(sides: &Sides) -> Option<Rect>
     ensures fits { is_some result ≡ fits_rect (rectangle sides.now) }
     ensures value { IfSome result (λ r. r ≡ rectangle sides.now) }
 {
-    if fits(sides) {
+    if are_rect(sides) {
         Some(Rect::new(sides.x, sides.y, sides.w, sides.h))
     } else {
         None
@@ -88,7 +97,7 @@ fn rect_of(sides: &Sides) -> Option<Rect>
 }
 
 /// Whether all four numbers are 0, or they are a place in reach and two sides.
-fn fits(sides: &Sides) -> bool
+pub fn are_rect(sides: &Sides) -> bool
     ensures { result ≡ fits_rect (rectangle sides.now) }
 {
     is_zero(sides) || is_placed(sides)
@@ -145,6 +154,10 @@ impl Field for Surfaces {
 
     ghost value_at = { λ _. surface_at };
 
+    fn least_bytes(&self) -> usize {
+        SURFACE_BYTES
+    }
+
     fn read(&self, input: &mut Reader) -> Result<SurfaceId, ReadError> {
         read_surface(input)
     }
@@ -157,6 +170,10 @@ impl Field for Ranges {
     type Value = SurfaceRange;
 
     ghost value_at = { λ _. range_at };
+
+    fn least_bytes(&self) -> usize {
+        1 + SURFACE_BYTES
+    }
 
     fn read(&self, input: &mut Reader) -> Result<SurfaceRange, ReadError> {
         read_range(input)
@@ -171,6 +188,10 @@ impl Field for Rects {
 
     ghost value_at = { λ _. rect_at };
 
+    fn least_bytes(&self) -> usize {
+        RECT_BYTES
+    }
+
     fn read(&self, input: &mut Reader) -> Result<Rect, ReadError> {
         read_rect(input)
     }
@@ -183,6 +204,10 @@ impl Field for Colours {
     type Value = Pixel;
 
     ghost value_at = { λ _. colour_at };
+
+    fn least_bytes(&self) -> usize {
+        COLOUR_BYTES
+    }
 
     fn read(&self, input: &mut Reader) -> Result<Pixel, ReadError> {
         read_colour(input)

@@ -1,8 +1,8 @@
 //! Bytes that are read from the front, and the numbers at the front of them, low byte first.
-ghost use Rattle.std.specs.Prelude.{◌≡◌, ◌<◌, length};
+ghost use Rattle.std.specs.Prelude.{◌≡◌, ◌<◌, ◌≤◌, length, drop};
 ghost use Rattle.std.specs.Int.{w8, w16, w32, w128};
 ghost use Rattle.vz_frame.specs.Fits.{in_reach};
-ghost use Rattle.vz_codec.specs.Giving.{Gives, four_at};
+ghost use Rattle.vz_codec.specs.Giving.{Gives, front_at, four_at};
 ghost use Rattle.vz_codec.specs.Reading.{number_at, limited_at, tag_at, signed_at, coordinate_at};
 
 use crate::error::ReadError;
@@ -53,15 +53,38 @@ impl<'a> Reader<'a> {
         self.rest.len()
     }
 
+    /// The bytes that are left.
+    pub fn rest(&self) -> &'a [u8]
+        ensures { result.now ≡ self.now }
+    {
+        self.rest
+    }
+
+    /// Leaves so many bytes behind. Condition: they are there.
+    pub fn skip(&mut self, count: usize)
+        requires { count ≤ length self.old }
+        ensures { self.new ≡ drop count self.old }
+    {
+        self.rest = &self.rest[count..];
+    }
+
+    /// So many bytes as they stand.
+    fn front(&mut self, count: usize) -> Result<&'a [u8], ReadError>
+        ensures { Gives (λ front. (front.now, self.new)) result (front_at count self.old) }
+    {
+        if self.rest.len() < count {
+            return Err(SHORT);
+        }
+        let (front, rest) = self.rest.split_at(count);
+        self.rest = rest;
+        Ok(front)
+    }
+
     #[tactic(auto, unfolding(crate::specs::Reading::number_at))]
     pub fn u8(&mut self) -> Result<u8, ReadError>
         ensures { Gives (λ x. (x, self.new)) result (number_at w8 self.old) }
     {
-        if self.rest.len() < 1 {
-            return Err(SHORT);
-        }
-        let (front, rest) = self.rest.split_at(1);
-        self.rest = rest;
+        let front = self.front(1)?;
         Ok(front[0])
     }
 
@@ -69,11 +92,7 @@ impl<'a> Reader<'a> {
     pub fn u16(&mut self) -> Result<u16, ReadError>
         ensures { Gives (λ x. (x, self.new)) result (number_at w16 self.old) }
     {
-        if self.rest.len() < 2 {
-            return Err(SHORT);
-        }
-        let (front, rest) = self.rest.split_at(2);
-        self.rest = rest;
+        let front = self.front(2)?;
         Ok(LittleEndian::read_u16(front))
     }
 
@@ -81,11 +100,7 @@ impl<'a> Reader<'a> {
     pub fn u32(&mut self) -> Result<u32, ReadError>
         ensures { Gives (λ x. (x, self.new)) result (number_at w32 self.old) }
     {
-        if self.rest.len() < 4 {
-            return Err(SHORT);
-        }
-        let (front, rest) = self.rest.split_at(4);
-        self.rest = rest;
+        let front = self.front(4)?;
         Ok(LittleEndian::read_u32(front))
     }
 
@@ -93,11 +108,7 @@ impl<'a> Reader<'a> {
     pub fn four(&mut self) -> Result<[u8; 4], ReadError>
         ensures { Gives (λ x. (x, self.new)) result (four_at self.old) }
     {
-        if self.rest.len() < 4 {
-            return Err(SHORT);
-        }
-        let (front, rest) = self.rest.split_at(4);
-        self.rest = rest;
+        let front = self.front(4)?;
         Ok([front[0], front[1], front[2], front[3]])
     }
 
@@ -105,11 +116,7 @@ impl<'a> Reader<'a> {
     pub fn u128(&mut self) -> Result<u128, ReadError>
         ensures { Gives (λ x. (x, self.new)) result (number_at w128 self.old) }
     {
-        if self.rest.len() < 16 {
-            return Err(SHORT);
-        }
-        let (front, rest) = self.rest.split_at(16);
-        self.rest = rest;
+        let front = self.front(16)?;
         Ok(LittleEndian::read_u128(front))
     }
 
