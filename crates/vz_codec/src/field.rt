@@ -23,6 +23,7 @@ pub trait Field {
 }
 
 /// A flag, and the value behind a 1.
+#[inline(always)]
 #[tactic(auto, unfolding(crate::specs::Reading::optional_at))]
 pub fn optional<F: Field>(field: &F, input: &mut Reader) -> Result<Option<F::Value>, ReadError>
     ensures { Gives (λ x. (x, input.new)) result (optional_at (F.value_at field.now) input.old) }

@@ -38,6 +38,9 @@ const LISTING_BYTES: usize = 8;
 /// a tag with four bytes behind it.
 const LEAST_QUAD_BYTES: usize = 8 + 2 * RECT_BYTES + 1 + 1 + 1 + 4;
 
+/// The bytes of a pass without quads: its id, its rectangles and a count.
+const LEAST_PASS_BYTES: usize = 4 + 2 * RECT_BYTES + 2;
+
 #[tactic(auto, unfolding(crate::specs::Reading::frame_at))]
 pub fn read_frame(
     alloc: Global,
@@ -253,7 +256,8 @@ impl Field for Quads {
     }
 }
 
-/// So many passes, with at most so many quads in all.
+/// So many passes, with at most so many quads in all. At first room is made for no more of them than the bytes that are
+/// left may hold.
 fn read_passes(
     alloc: Global,
     format: u8,
@@ -262,7 +266,8 @@ fn read_passes(
 ) -> Result<List<RenderPass>, ReadError>
     ensures { Gives (λ x. (x, input.new)) result (passes_at format count 0 input.old) }
 {
-    let mut passes = Vec::new(alloc);
+    let room = input.left() / LEAST_PASS_BYTES;
+    let mut passes = Vec::with_capacity(alloc, usize::from(count).min(room))?;
     let mut before = 0;
     for _ in 0..count {
         let pass = read_pass(alloc, format, before, input)?;

@@ -85,6 +85,7 @@ pub struct Sides {
 }
 
 /// The rectangle of these numbers, where they are one.
+#[inline(always)]
 fn rect_of(sides: &Sides) -> Option<Rect>
     ensures fits { is_some result ≡ fits_rect (rectangle sides.now) }
     ensures value { IfSome result (λ r. r ≡ rectangle sides.now) }

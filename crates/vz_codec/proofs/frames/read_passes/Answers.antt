@@ -7,7 +7,7 @@ use Rattle.vz_codec.proofs.frames.read_passes.Goals as goal
 
 pub returns-in_err-pass : goal.returns-in_err-pass
 returns-in_err-pass c =
-    let p = err_from_is_err_and c.from_residual.result c.from_residual.ensures.1 in
+    let p = err_from_is_err_and c.from_residual-in_err-pass.result c.from_residual-in_err-pass.ensures.1 in
     rw (p.1, p.2) (pass_ends c.args.format c.in_err-pass.field-0.0 c.loop.passes.items c.args.count c.loop.counter c.loop.before c.loop.input (passes_at c.args.format c.args.count 0 c.args.input.now) c.loop-test.true c.in_err-pass.ensures c.loop.invariant.read)
 
 pub overflow_cast-before : goal.overflow_cast-before
