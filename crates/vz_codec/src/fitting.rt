@@ -1,5 +1,5 @@
 //! Whether a file fits, part by part.
-ghost use Rattle.std.specs.Prelude.{◌≡◌, ◌&&◌, ◌==◌, not, length, sum_by, nat_le};
+ghost use Rattle.std.specs.Prelude.{◌≡◌, ◌&&◌, ◌==◌, not, length, sum_by, nat_le, nat_lt};
 ghost use Rattle.std.specs.List.{list_all};
 ghost use Rattle.vz_frame.specs.Fits.{within, in_reach, fits_rect, fits_sink, is_number, fits_local, fits_surface, fits_optional, fits_range, fits_colour, fits_material, fits_mode, fits_quad, fits_pass, fits_listing, fits_frame, fits_block, fits_message, fits_file};
 
@@ -265,6 +265,13 @@ fn fits_offset(offset: &Point) -> bool
     in_reach(offset.x) && in_reach(offset.y)
 }
 
+/// Each opacity is a byte.
+fn fits_opacity(opacity: u8) -> bool
+    ensures { result ≡ nat_lt opacity 256 }
+{
+    true
+}
+
 /// Whether a file of this format has the mode.
 fn fits_mode(format: u8, mode: Blend) -> bool
     ensures { result ≡ fits_mode format mode }
@@ -279,11 +286,11 @@ fn fits_mode(format: u8, mode: Blend) -> bool
 fn fits_quad(format: u8, quad: &DrawQuad) -> bool
     ensures { result ≡ fits_quad format quad.now }
 {
-    let _opacity = quad.opacity;
     fits_offset(&quad.offset)
         && fits_rect(&quad.area)
         && fits_rect(&quad.visible)
         && fits_clip(&quad.clip)
+        && fits_opacity(quad.opacity)
         && fits_mode(format, quad.blend)
         && fits_material(&quad.material)
 }

@@ -1,7 +1,7 @@
 //! Messages, and whole files.
-ghost use Rattle.std.specs.Prelude.{◌+◌, ◌*◌, ◌≤◌, length, drop};
+ghost use Rattle.std.specs.Prelude.{◌≤◌};
 ghost use Rattle.vz_codec.specs.Giving.{Gives};
-ghost use Rattle.vz_codec.specs.Reading.{colour_at, many_at, block_at, upload_at, submit_at, hierarchy_at, message_by, message_at, magic_at, version_at, header_at, ended, file_in};
+ghost use Rattle.vz_codec.specs.Reading.{texels_at, block_at, upload_at, submit_at, hierarchy_at, message_by, message_at, magic_at, version_at, header_at, ended, file_in};
 
 use crate::error::ReadError;
 use crate::fault::FileRule;
@@ -12,7 +12,7 @@ use crate::reader::Reader;
 use std::alloc::Global;
 use vz_frame::{ClientFile, List, Message};
 use vz_ids::FrameSinkId;
-use vz_pixels::{Pixel, PixelBlock};
+use vz_pixels::{BlockError, PixelBlock};
 
 /// The bytes `VIZC` as a number.
 const MAGIC: u32 = 0x435a_4956;
@@ -166,54 +166,46 @@ fn read_block(alloc: Global, input: &mut Reader) -> Result<PixelBlock, ReadError
 {
     let w = input.u16_within(1, MOST_SIDE)?;
     let h = input.u16_within(1, MOST_SIDE)?;
+    read_texels(alloc, w, h, input)
+}
+
+/// The block of the texels of these sides.
+fn read_texels(alloc: Global, w: u16, h: u16, input: &mut Reader) -> Result<PixelBlock, ReadError>
+    requires w { (1 ≤ w) × (w ≤ 256) }
+    requires h { (1 ≤ h) × (h ≤ 256) }
+    ensures { Gives (λ x. (x, input.new)) result (texels_at w h input.old) }
+{
     let count = usize::from(w) * usize::from(h);
-    let pixels = read_texels(alloc, count, input)?;
+    let size = COLOUR_BYTES * count;
+    if input.left() < size {
+        return read_each_texel(alloc, w, h, input);
+    }
+    match PixelBlock::of_bytes(alloc, u32::from(w), u32::from(h), &input.rest()[..size]) {
+        Ok(block) => {
+            input.skip(size);
+            Ok(block)
+        }
+        Err(BlockError::Memory) => Err(ReadError::Memory),
+        Err(_) => read_each_texel(alloc, w, h, input),
+    }
+}
+
+/// The block of the texels of these sides, read one by one, which finds the first fault.
+fn read_each_texel(
+    alloc: Global,
+    w: u16,
+    h: u16,
+    input: &mut Reader,
+) -> Result<PixelBlock, ReadError>
+    requires w { (1 ≤ w) × (w ≤ 256) }
+    requires h { (1 ≤ h) × (h ≤ 256) }
+    ensures { Gives (λ x. (x, input.new)) result (texels_at w h input.old) }
+{
+    let count = usize::from(w) * usize::from(h);
+    let pixels = many(alloc, &Colours, count, input)?;
     match PixelBlock::of_pixels(alloc, u32::from(w), u32::from(h), pixels) {
         Ok(block) => Ok(block),
         Err(_) => Err(ReadError::Memory),
-    }
-}
-
-/// So many texels.
-fn read_texels(alloc: Global, count: usize, input: &mut Reader) -> Result<Vec<Pixel>, ReadError>
-    ensures { Gives (λ x. (x.items, input.new)) result (many_at colour_at count input.old) }
-{
-    if input.left() / COLOUR_BYTES < count {
-        // A colour may be refused before bytes are missing.
-        return many(alloc, &Colours, count, input);
-    }
-    let texels = texels_of(alloc, count, input.rest())?;
-    input.skip(COLOUR_BYTES * count);
-    Ok(texels)
-}
-
-/// So many texels. Condition: their bytes are there. All room is made at once.
-fn texels_of(alloc: Global, count: usize, bytes: &[u8]) -> Result<Vec<Pixel>, ReadError>
-    requires { 4 * count ≤ length bytes.now }
-    ensures { Gives (λ x. (x.items, drop (4 * count) bytes.now)) result (many_at colour_at count bytes.now) }
-{
-    let mut texels = Vec::with_capacity(alloc, count)?;
-    for k in 0..count {
-        let texel = texel_at(bytes, COLOUR_BYTES * k)?;
-        texels.push_reserved(texel);
-    }
-    Ok(texels)
-}
-
-/// The texel of the four bytes from a place on. Condition: they are there.
-#[tactic(auto, using(crate::proofs::Colours::texel_there))]
-fn texel_at(bytes: &[u8], place: usize) -> Result<Pixel, ReadError>
-    requires { place + 4 ≤ length bytes.now }
-    ensures { Gives (λ p. (p, drop (place + 4) bytes.now)) result (colour_at (drop place bytes.now)) }
-{
-    match Pixel::new(
-        bytes[place],
-        bytes[place + 1],
-        bytes[place + 2],
-        bytes[place + 3],
-    ) {
-        Some(texel) => Ok(texel),
-        None => Err(ReadError::refused(bytes.len() - place, FileRule::Colour)),
     }
 }
 

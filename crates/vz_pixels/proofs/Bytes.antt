@@ -1,5 +1,5 @@
 -- The colours of bytes, and the texels of blocks.
-use Rattle.std.proofs.Common.{◌≡◌, ℕ, ◌+◌, ◌*◌, ◌<◌, ◌≤◌, ◌/◌, Bool, true, false, ◌&&◌, List, [], ◌∷◌, ◌++◌, length, map, get_or, nat_lt, Option, Some, None, IsSome, IfSome, IsTrue, is_some, nat_le, ◌==◌, ◌↔◌, refl, ap, subst, sym, ◌∙◌, arith}
+use Rattle.std.proofs.Common.{◌≡◌, ℕ, zero, suc, ◌+◌, ◌-◌, ◌*◌, ◌<◌, ◌≤◌, ◌/◌, Bool, true, false, ◌&&◌, List, [], ◌∷◌, ◌++◌, length, map, get_or, nat_lt, Option, Some, None, IsSome, IfSome, IsTrue, is_some, nat_le, ◌==◌, ◌↔◌, refl, ap, subst, sym, ◌∙◌, arith}
 use Rattle.std.specs.List.{range_with_len, list_all}
 use Rattle.std.proofs.Math.Nat.{mul-le-mul_right}
 use Rattle.std.proofs.lemmas.List.{get_or_default}
@@ -122,3 +122,57 @@ makes_block w h bytes pixels size e =
       h_to = true_le h 256 high.1;
       all = ap length e ∙ length_is bytes ∙ omega arith;
     }
+
+-- one more colour is premultiplied or not
+pub upto_more : (bytes : List ℕ) (k : ℕ) → list_all is_premultiplied (colours_upto bytes (k + 1)) ≡ (list_all is_premultiplied (colours_upto bytes k) && is_premultiplied (colour_at bytes k))
+upto_more bytes k =
+    ap (list_all is_premultiplied) (one_more bytes k) ∙ list_all-append is_premultiplied (colours_upto bytes k) (colour_at bytes k ∷ [])
+    ∙ ap (λ t. list_all is_premultiplied (colours_upto bytes k) && t) (single (colour_at bytes k))
+  where
+    and_true : (t : Bool) → (t && true) ≡ t
+    and_true true = refl
+    and_true false = refl
+
+    single : (c : Colour) → list_all is_premultiplied (c ∷ []) ≡ is_premultiplied c
+    single c = and_true (is_premultiplied c)
+
+-- and so with what was found before it
+pub row_more : (bytes : List ℕ) (from k : ℕ) (good t : Bool) → list_all is_premultiplied (colours_upto bytes k) ≡ (list_all is_premultiplied (colours_upto bytes from) && good)
+    → t ≡ is_premultiplied (colour_at bytes k)
+    → list_all is_premultiplied (colours_upto bytes (k + 1)) ≡ (list_all is_premultiplied (colours_upto bytes from) && (good && t))
+row_more bytes from k good t before e =
+    upto_more bytes k ∙ ap (λ x. x && is_premultiplied (colour_at bytes k)) before ∙ assoc (list_all is_premultiplied (colours_upto bytes from)) good (is_premultiplied (colour_at bytes k))
+    ∙ ap (λ x. list_all is_premultiplied (colours_upto bytes from) && (good && x)) (sym e)
+  where
+    assoc : (a b c : Bool) → ((a && b) && c) ≡ (a && (b && c))
+    assoc true b c = refl
+    assoc false b c = refl
+
+-- where not all of the first ones are premultiplied, not all of more are
+pub upto_stays : (bytes : List ℕ) (m d : ℕ) → list_all is_premultiplied (colours_upto bytes m) ≡ false → list_all is_premultiplied (colours_upto bytes (m + d)) ≡ false
+upto_stays bytes m zero h = let same : m + 0 ≡ m = omega arith in rw same h
+upto_stays bytes m (suc d) h =
+    let more : m + suc d ≡ (m + d) + 1 = omega arith in
+    ap (λ n. list_all is_premultiplied (colours_upto bytes n)) more ∙ upto_more bytes (m + d)
+    ∙ ap (λ t. t && is_premultiplied (colour_at bytes (m + d))) (upto_stays bytes m d h)
+
+and_false : (a b : Bool) → b ≡ false → (a && b) ≡ false
+and_false true b h = h
+and_false false b h = refl
+
+-- where not all of the first ones are premultiplied, not all are
+pub upto_fails : (bytes : List ℕ) (m : ℕ) → m ≤ length bytes / 4 → list_all is_premultiplied (colours_upto bytes m) ≡ false → false ≡ are_premultiplied bytes
+upto_fails bytes m below h =
+    let split : length bytes / 4 ≡ m + (length bytes / 4 - m) = omega arith in
+    sym (ap (λ n. list_all is_premultiplied (colours_upto bytes n)) split ∙ upto_stays bytes m (length bytes / 4 - m) h) ∙ all_is bytes (length bytes / 4) refl
+
+-- a row with one that is not
+pub row_fails : (bytes : List ℕ) (from : ℕ) → from + 16 ≤ length bytes / 4 → list_all is_premultiplied (colours_upto bytes (from + 16)) ≡ (list_all is_premultiplied (colours_upto bytes from) && false) → false ≡ are_premultiplied bytes
+row_fails bytes from below e = upto_fails bytes (from + 16) below (e ∙ and_false _ false refl)
+
+-- one that is not
+pub one_fails : (bytes : List ℕ) (k : ℕ) → k < length bytes / 4 → false ≡ is_premultiplied (colour_at bytes k) → false ≡ are_premultiplied bytes
+one_fails bytes k below e = upto_fails bytes (k + 1) (omega arith) (upto_more bytes k ∙ and_false _ _ (sym e))
+
+pub all_hold : (bytes : List ℕ) (k : ℕ) → k ≡ length bytes / 4 → list_all is_premultiplied (colours_upto bytes k) ≡ true → true ≡ are_premultiplied bytes
+all_hold bytes k e h = sym h ∙ all_is bytes k e

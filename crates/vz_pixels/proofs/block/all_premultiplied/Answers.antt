@@ -1,18 +1,15 @@
-use Rattle.std.proofs.Common.{◌∙◌, sym, arith}
-use Rattle.vz_pixels.specs.Colour.{is_premultiplied}
-use Rattle.vz_pixels.specs.Block.{colour_at}
-use Rattle.vz_pixels.proofs.Bytes.{all_more, not_all, all_is, none_fails, some_holds}
+use Rattle.std.proofs.Common.{◌*◌, sym, arith}
+use Rattle.vz_pixels.proofs.Bytes.{row_fails, one_fails, all_more, all_hold}
 use Rattle.vz_pixels.proofs.block.all_premultiplied.Goals as goal
 
-pub returns-then-is_none : goal.returns-then-is_none
-returns-then-is_none c =
-    let fails = none_fails c.pixel_at.result (is_premultiplied (colour_at c.args.bytes.now c.loop-k.k)) c.pixel_at.ensures.when c.if-is_none.ensures in
-    sym (not_all c.args.bytes.now c.loop-k.k _ c.loop-k-test.true fails) ∙ all_is c.args.bytes.now _ (omega arith)
+pub returns-then-not-is_row_premultiplied : goal.returns-then-not-is_row_premultiplied
+returns-then-not-is_row_premultiplied c = row_fails c.args.bytes.now (c.loop-row.row * 16) (omega arith) c.if-not-is_row_premultiplied.ensures
+
+pub returns-then-not-is_premultiplied_at : goal.returns-then-not-is_premultiplied_at
+returns-then-not-is_premultiplied_at c = one_fails c.args.bytes.now c.loop-k.k (omega arith) c.if-not-is_premultiplied_at.ensures
 
 pub loop-k-preserved : goal.loop-k-preserved
-loop-k-preserved c =
-    all_more c.args.bytes.now c.loop-k.k c.loop-k.invariant
-    (some_holds c.pixel_at.result (is_premultiplied (colour_at c.args.bytes.now c.loop-k.k)) c.pixel_at.ensures.when c.if-is_none.ensures)
+loop-k-preserved c = all_more c.args.bytes.now c.loop-k.k c.loop-k.invariant (sym c.if-not-is_premultiplied_at.ensures)
 
 pub returns : goal.returns
-returns c = sym c.loop-k.invariant ∙ all_is c.args.bytes.now c.loop-k.k (omega arith)
+returns c = all_hold c.args.bytes.now c.loop-k.k (omega arith) c.loop-k.invariant
