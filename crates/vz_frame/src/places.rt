@@ -8,7 +8,7 @@ use crate::id_map::{IdMap, ROOM};
 use crate::{Listing, RenderPass};
 use std::marker::Model;
 
-/// What has an id.
+/// What has an id among others of its kind: a pass among those of a frame, a resource among those that it lists.
 pub trait HasId {
     ghost id_of: { Self → ℕ };
 
@@ -61,6 +61,7 @@ impl<'a, T: HasId> Places<'a, T> {
     ghost use Rattle.vz_frame.specs.Frame.{has_repeat};
     ghost use Rattle.vz_frame.specs.Places.{first_place};
 
+    /// A list, and a map of the places of its ids.
     pub fn of(items: &'a [T]) -> Places<'a, T>
         ensures { result ≡ items.now }
     {

@@ -13,7 +13,7 @@ use vz_ids::{SurfaceId, SurfaceRange};
 
 /// What the passes and quads of a frame break: each field is whether one of them breaks that rule.
 #[derive(Clone, Copy, Debug, PartialEq, Eq)]
-pub struct Found {
+struct Found {
     /// A pass quad names no earlier pass.
     pub order: bool,
     /// A visible rectangle has a point outside the quad's rectangle.
@@ -110,7 +110,7 @@ fn first_said(table: &[(bool, Rule)]) -> Option<Rule>
 }
 
 /// Whether there is no root pass, or its output is empty or begins elsewhere than at the first point.
-pub fn is_bad_root(root: Option<&RenderPass>) -> bool
+fn is_bad_root(root: Option<&RenderPass>) -> bool
     ensures { result ≡ bad_root (option_copied root.entry) }
 {
     let Some(pass) = root else {
