@@ -32,8 +32,11 @@ impl HasId for Listing {
     }
 }
 
-/// A list whose values are found by their ids, through a map. A list that is longer than the map has room for, which no
-/// message file has, is scanned instead.
+/// A list of fewer values is scanned sooner than a map of it is made.
+const FEW: usize = 8;
+
+/// A list whose values are found by their ids, through a map. A list of few values is scanned instead, and so is one that
+/// is longer than the map has room for, which no message file has.
 #[derive(Drop)]
 pub struct Places<'a, T: HasId> {
     items: &'a [T],
@@ -65,7 +68,7 @@ impl<'a, T: HasId> Places<'a, T> {
     pub fn of(items: &'a [T]) -> Places<'a, T>
         ensures { result ≡ items.now }
     {
-        if items.len() > ROOM {
+        if items.len() < FEW || items.len() > ROOM {
             let repeats = scan_repeats(items);
             return Places {
                 items,

@@ -55,8 +55,8 @@ impl Found {
 
 /// Whether a frame keeps the eleven rules; an error is the first one that it breaks, in the order of `Rule`.
 ///
-/// Each quad is looked at once. Ids of passes and of resources are found by maps that take no memory; a frame with more
-/// than 64 passes or resources, which no message file has, is scanned for them.
+/// Each quad is looked at once. Ids of passes and of resources are found by maps on the stack, so that no memory is wanted;
+/// few of them, and more than 64, which no message file has, are scanned.
 pub fn check(frame: &CompositorFrame) -> Result<(), Rule>
     ensures kept { OnOk result (first_broken frame.now ≡ None) }
     ensures broken { IfErr result (λ rule. first_broken frame.now ≡ Some rule) }

@@ -199,11 +199,11 @@ fn listings(alloc: Global, count: u32) -> Result<List<Listing>, AllocError> {
     Ok(List::from_vec(listings))
 }
 
-/// Frames that list more than any message file has.
+/// Few resources, as many as a message file may list, and more.
 #[test]
 fn many_listings(rt: HostRuntime) -> Result<(), Fail> {
     let alloc = rt.alloc();
-    for count in [64, 65, 300] {
+    for count in [6, 7, 8, 63, 64, 65, 300] {
         let mut frame = frame_that_breaks(alloc, &[])?;
         frame.resources = listings(alloc, count)?;
         assert_eq!(rt; check(&frame), Err(Rule::TileOutside));
