@@ -27,10 +27,6 @@ shows_outside quad = not (covers_rect quad.area quad.visible)
 abbrev pub damages_outside : RenderPass → Bool
 damages_outside pass = not (covers_rect pass.output pass.damage)
 
--- nothing is found
-abbrev pub nothing : Found
-nothing = record { order = false; visible = false; unlisted = false; outside = false; range = false; damage = false }
-
 -- what is found in the one or in the other
 abbrev pub joined : Found → Found → Found
 joined a b = record {

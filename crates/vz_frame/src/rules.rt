@@ -1,7 +1,7 @@
 //! The rules of a frame, tested.
 ghost use Rattle.std.specs.Prelude.{◌≡◌, ◌+ℤ◌, pos, int_lt, not, take, Some, None, IfErr, OnOk};
 ghost use Rattle.std.specs.List.{list_any};
-ghost use Rattle.vz_frame.specs.Checking.{nothing, joined, in_quad, in_quads, in_passes, first_said, reaches_outside};
+ghost use Rattle.vz_frame.specs.Checking.{joined, in_quad, in_quads, in_passes, first_said};
 ghost use Rattle.vz_frame.specs.Frame.{bad_root, exceeds, first_broken, has_repeat};
 ghost use Rattle.vz_ids.specs.Ids.{is_good, same_surface};
 ghost use Rattle.std.specs.Option.{option_copied};
@@ -12,20 +12,20 @@ use vz_geom::Rect;
 use vz_ids::{SurfaceId, SurfaceRange};
 
 /// What the passes and quads of a frame break: each field is whether one of them breaks that rule.
-#[derive(Clone, Copy, Debug, PartialEq, Eq)]
+#[derive(Clone, Copy)]
 struct Found {
     /// A pass quad names no earlier pass.
-    pub order: bool,
+    order: bool,
     /// A visible rectangle has a point outside the quad's rectangle.
-    pub visible: bool,
+    visible: bool,
     /// A tile names a resource that is not listed.
-    pub unlisted: bool,
+    unlisted: bool,
     /// A tile reaches outside the first listing of its resource.
-    pub outside: bool,
+    outside: bool,
     /// The range of a surface quad starts after its end.
-    pub range: bool,
+    range: bool,
     /// A damage rectangle has a point outside its pass's output.
-    pub damage: bool,
+    damage: bool,
 }
 
 impl Found {
