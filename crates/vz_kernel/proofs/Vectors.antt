@@ -1,0 +1,151 @@
+-- What the operations on the lanes of vectors leave.
+use Rattle.std.proofs.Common.{◌≡◌, ℕ, zero, suc, ◌+◌, ◌-◌, ◌*◌, ◌/◌, ◌%◌, ◌^◌, ◌<◌, ◌≤◌, List, [], ◌∷◌, ◌++◌, length, map, get_or, Fits, w8, refl, ap, ◌∙◌, arith}
+use Rattle.std.specs.Prelude.{replicate}
+use Rattle.std.proofs.Math.Nat.{mul-le-mul_right}
+use lib.Lanes.{zip2, Each1, number_l, digits_l}
+use Rattle.vz_pixels.specs.Colour.{mul}
+use Rattle.vz_pixels.proofs.Parts.{mul_at_most}
+use Rattle.vz_kernel.specs.Lanes.{evens, odds, woven, doubled, AreBytes}
+
+abbrev twice : ℕ → ℕ
+twice zero = zero
+twice (suc n) = suc (suc (twice n))
+
+-- the lowest two bytes of a number, and what is above them
+low : (x y r : ℕ) → x < 256 → y < 256 → ((x + 256 * (y + 256 * r)) % 65536 ≡ x + 256 * y) × ((x + 256 * (y + 256 * r)) / 65536 ≡ r)
+low x y r p q = (omega arith, omega arith)
+
+pub evens_is : (n : ℕ) (xs : List ℕ) → length xs ≡ twice n → Each1 (Fits w8) xs → zip2 (λ a b. a % b) (digits_l 65536 n (number_l 256 xs)) (replicate n 256) ≡ evens xs
+evens_is zero [] e h = refl
+evens_is zero (x ∷ xs) e h = absurd (omega arith)
+evens_is (suc n) [] e h = absurd (omega arith)
+evens_is (suc n) (x ∷ []) e h = absurd (omega arith)
+evens_is (suc n) (x ∷ y ∷ zs) e h =
+    let p = h.0.fits in
+    let q = h.1.0.fits in
+    let r = low x y (number_l 256 zs) p q in
+    let head : (x + 256 * (y + 256 * number_l 256 zs)) % 65536 % 256 ≡ x = let z = r.0 in omega arith in
+    (λ i. head i ∷ zip2 (λ a b. a % b) (digits_l 65536 n (r.1 i)) (replicate n 256)) ∙ ap (λ l. x ∷ l) (evens_is n zs (omega arith) h.1.1)
+
+pub odds_is : (n : ℕ) (xs : List ℕ) → length xs ≡ twice n → Each1 (Fits w8) xs → zip2 (λ a (b : ℕ). a / 2 ^ b) (digits_l 65536 n (number_l 256 xs)) (replicate n 8) ≡ odds xs
+odds_is zero [] e h = refl
+odds_is zero (x ∷ xs) e h = absurd (omega arith)
+odds_is (suc n) [] e h = absurd (omega arith)
+odds_is (suc n) (x ∷ []) e h = absurd (omega arith)
+odds_is (suc n) (x ∷ y ∷ zs) e h =
+    let p = h.0.fits in
+    let q = h.1.0.fits in
+    let r = low x y (number_l 256 zs) p q in
+    let head : (x + 256 * (y + 256 * number_l 256 zs)) % 65536 / 256 ≡ y = let z = r.0 in omega arith in
+    (λ i. head i ∷ zip2 (λ a (b : ℕ). a / 2 ^ b) (digits_l 65536 n (r.1 i)) (replicate n 8)) ∙ ap (λ l. y ∷ l) (odds_is n zs (omega arith) h.1.1)
+
+-- two bytes in one lane, over a number
+two : (x y r : ℕ) → x ≤ 255 → y ≤ 255
+    → (((x + y * 256 % 65536) % 65536 + 65536 * r) % 256 ≡ x) × (((x + y * 256 % 65536) % 65536 + 65536 * r) / 256 % 256 ≡ y) × (((x + y * 256 % 65536) % 65536 + 65536 * r) / 256 / 256 ≡ r)
+two x y r p q = (omega arith, omega arith, omega arith)
+
+-- lanes of which each has two bytes
+abbrev joined : ℕ → List ℕ → List ℕ → List ℕ
+joined n xs ys = zip2 (λ a b. (a + b) % 65536) xs (zip2 (λ a b. a * b % 65536) ys (replicate n 256))
+
+pub woven_is : (n : ℕ) (xs ys : List ℕ) → length xs ≡ n → length ys ≡ n → AreBytes xs → AreBytes ys → digits_l 256 (twice n) (number_l 65536 (joined n xs ys)) ≡ woven xs ys
+woven_is zero [] ys e f p q = refl
+woven_is zero (x ∷ xs) ys e f p q = absurd (omega arith)
+woven_is (suc n) [] ys e f p q = absurd (omega arith)
+woven_is (suc n) (x ∷ xs) [] e f p q = absurd (omega arith)
+woven_is (suc n) (x ∷ xs) (y ∷ ys) e f p q =
+    let t = two x y (number_l 65536 (joined n xs ys)) p.0 q.0 in
+    (λ i. t.0 i ∷ t.1 i ∷ digits_l 256 (twice n) (t.2 i)) ∙ ap (λ l. x ∷ y ∷ l) (woven_is n xs ys (omega arith) (omega arith) p.1 q.1)
+
+-- the second place of each two from a place on, twice
+abbrev places : ℕ → ℕ → List ℕ
+places i zero = []
+places i (suc n) = suc i ∷ suc i ∷ places (suc (suc i)) n
+
+shift : (x y : ℕ) (zs : List ℕ) (i n : ℕ) → map (λ k. get_or (x ∷ y ∷ zs) k 0) (places (suc (suc i)) n) ≡ map (λ k. get_or zs k 0) (places i n)
+shift x y zs i zero = refl
+shift x y zs i (suc n) = ap (λ l. get_or zs (suc i) 0 ∷ get_or zs (suc i) 0 ∷ l) (shift x y zs (suc (suc i)) n)
+
+pub doubled_is : (n : ℕ) (xs ys : List ℕ) → length xs ≡ twice n → map (λ k. get_or (xs ++ ys) k 0) (places 0 n) ≡ doubled xs
+doubled_is zero [] ys e = refl
+doubled_is zero (x ∷ xs) ys e = absurd (omega arith)
+doubled_is (suc n) [] ys e = absurd (omega arith)
+doubled_is (suc n) (x ∷ []) ys e = absurd (omega arith)
+doubled_is (suc n) (x ∷ y ∷ zs) ys e = ap (λ l. y ∷ y ∷ l) (shift x y (zs ++ ys) 0 n ∙ doubled_is n zs ys (omega arith))
+
+-- a product of two bytes as lanes of 16 and of 32 bits compute it
+abbrev lane : ℕ → ℕ → ℕ
+lane a b = ((a * b % 65536 + 128) % 65536 * 257 % 4294967296) / 65536
+
+rounded : (p : ℕ) → p ≤ 65025 → ((p % 65536 + 128) % 65536 * 257 % 4294967296) / 65536 ≡ (p + 127) / 255
+rounded p h = omega arith
+
+bytes_product : (a b : ℕ) → a ≤ 255 → b ≤ 255 → a * b ≤ 65025
+bytes_product a b p q = let h = mul-le-mul_right b p in omega arith
+
+lane_is : (a b : ℕ) → a ≤ 255 → b ≤ 255 → lane a b ≡ mul a b
+unfolding mul
+lane_is a b p q = rounded (a * b) (bytes_product a b p q)
+
+lane_small : (a b : ℕ) → lane a b < 65536
+lane_small a b = omega arith
+
+-- the lanes before the last cast
+abbrev pub lanes_of : ℕ → List ℕ → List ℕ → List ℕ
+lanes_of n xs ys =
+    zip2 (λ a (b : ℕ). a / 2 ^ b) (zip2 (λ a b. a * b % 4294967296) (map (λ a. a) (zip2 (λ a b. (a + b) % 65536) (zip2 (λ a b. a * b % 65536) xs ys) (replicate n 128))) (replicate n 257)) (replicate n 16)
+
+pub parts_small : (n : ℕ) (xs ys : List ℕ) → Each1 (λ x. x < 65536) (lanes_of n xs ys)
+parts_small zero [] ys = tt
+parts_small zero (x ∷ xs) [] = tt
+parts_small zero (x ∷ xs) (y ∷ ys) = tt
+parts_small (suc n) [] ys = tt
+parts_small (suc n) (x ∷ xs) [] = tt
+parts_small (suc n) (x ∷ xs) (y ∷ ys) = (lane_small x y, parts_small n xs ys)
+
+pub parts_is : (n : ℕ) (xs ys : List ℕ) → length xs ≡ n → AreBytes xs → AreBytes ys → map (λ a. a) (lanes_of n xs ys) ≡ zip2 mul xs ys
+parts_is zero [] ys e p q = refl
+parts_is zero (x ∷ xs) ys e p q = absurd (omega arith)
+parts_is (suc n) [] ys e p q = absurd (omega arith)
+parts_is (suc n) (x ∷ xs) [] e p q = refl
+parts_is (suc n) (x ∷ xs) (y ∷ ys) e p q = (λ i. lane_is x y p.0 q.0 i ∷ parts_is n xs ys (omega arith) p.1 q.1 i)
+
+left : (x : ℕ) → x ≤ 255 → (255 + (65536 - x)) % 65536 ≡ 255 - x
+left x h = omega arith
+
+pub rest_is : (n : ℕ) (xs : List ℕ) → length xs ≡ n → AreBytes xs → zip2 (λ a b. (a + (65536 - b)) % 65536) (replicate n 255) xs ≡ map (λ x. 255 - x) xs
+rest_is zero [] e h = refl
+rest_is zero (x ∷ xs) e h = absurd (omega arith)
+rest_is (suc n) [] e h = absurd (omega arith)
+rest_is (suc n) (x ∷ xs) e h = (λ i. left x h.0 i ∷ rest_is n xs (omega arith) h.1 i)
+
+pub bytes_fit : (xs : List ℕ) → Each1 (Fits w8) xs → AreBytes xs
+bytes_fit [] h = tt
+bytes_fit (x ∷ xs) h = ((let f = h.0.fits in omega arith), bytes_fit xs h.1)
+
+pub bytes_evens : (xs : List ℕ) → AreBytes xs → AreBytes (evens xs)
+bytes_evens [] h = tt
+bytes_evens (x ∷ []) h = tt
+bytes_evens (x ∷ y ∷ zs) h = (h.0, bytes_evens zs h.1.1)
+
+pub bytes_odds : (xs : List ℕ) → AreBytes xs → AreBytes (odds xs)
+bytes_odds [] h = tt
+bytes_odds (x ∷ []) h = tt
+bytes_odds (x ∷ y ∷ zs) h = (h.1.0, bytes_odds zs h.1.1)
+
+pub bytes_doubled : (xs : List ℕ) → AreBytes xs → AreBytes (doubled xs)
+bytes_doubled [] h = tt
+bytes_doubled (x ∷ []) h = tt
+bytes_doubled (x ∷ y ∷ zs) h = (h.1.0, (h.1.0, bytes_doubled zs h.1.1))
+
+pub bytes_rest : (xs : List ℕ) → AreBytes (map (λ x. 255 - x) xs)
+bytes_rest [] = tt
+bytes_rest (x ∷ xs) = (omega arith, bytes_rest xs)
+
+small_part : (a b : ℕ) → a ≤ 255 → b ≤ 255 → mul a b ≤ 255
+small_part a b p q = let h = mul_at_most a b p in omega arith
+
+pub bytes_parts : (xs ys : List ℕ) → AreBytes xs → AreBytes ys → AreBytes (zip2 mul xs ys)
+bytes_parts [] ys p q = tt
+bytes_parts (x ∷ xs) [] p q = tt
+bytes_parts (x ∷ xs) (y ∷ ys) p q = (small_part x y p.0 q.0, bytes_parts xs ys p.1 q.1)
