@@ -1,0 +1,11 @@
+pub mod Chosen
+pub mod Numerals
+pub mod Damages
+pub mod Took
+pub mod Took_lines
+pub mod Again
+pub mod Again_lines
+pub mod Feeds
+pub mod Prefixes
+pub mod Found
+pub mod Rows

@@ -1,0 +1,23 @@
+-- What the reading of a log answers.
+use Rattle.std.specs.Prelude.{◌≡◌, ℕ, Result, Ok, Err, List}
+use Rattle.vz_journal.specs.declared.stop.LogError.{LogError}
+use Rattle.vz_journal.specs.declared.stop.LogError.TheVariants as errors
+use Rattle.vz_rules.specs.declared.entry.Entry.{Entry}
+use Rattle.vz_rules.specs.declared.entry.Rest.{Rest}
+use Rattle.vz_rules.specs.Log.{Spellable, log_text, IsFirstBadLine}
+
+-- a text is the log of a history and a rest
+abbrev pub IsLog : List ℕ → List Entry → Rest → Type 0
+IsLog bytes h rest = Spellable h rest × (bytes ≡ log_text h rest)
+
+-- the history and the rest that the text stands for, or its first bad line; nothing is said for want of memory
+abbrev pub IsReading : List ℕ → Result (List Entry × Rest) LogError → Type 0
+IsReading bytes (Ok x) = IsLog bytes x.0 x.1
+IsReading bytes (Err errors.Memory) = Unit {0}
+IsReading bytes (Err (errors.Refused line)) = IsFirstBadLine bytes line
+
+-- the history and the rest are found, unless memory runs out
+abbrev pub Finds : Result (List Entry × Rest) LogError → List Entry → Rest → Type 0
+Finds (Ok x) h rest = x ≡ (h, rest)
+Finds (Err errors.Memory) h rest = Unit {0}
+Finds (Err (errors.Refused line)) h rest = ⊥

@@ -1,0 +1,45 @@
+//! Items that stand in a row.
+ghost use Rattle.std.specs.Prelude.{ℕ, List, Some, length};
+ghost use Rattle.vz_journal.specs.Giving.{Gives};
+ghost use Rattle.vz_journal.specs.Reading.{Read, all_at};
+
+use crate::reader::Reader;
+use crate::stop::Stop;
+use std::alloc::Global;
+use vz_frame::List;
+
+/// How a kind of item is read.
+pub trait Item {
+    type Value: Drop;
+
+    /// The value at the front of bytes and the bytes after it, where there is one.
+    ghost value_at: { Self → List ℕ → Read Self.Value };
+
+    fn read(&self, input: &mut Reader) -> Result<Self::Value, Stop>
+        ensures { Gives (λ x. (x, input.new)) result (value_at self.now input.old) };
+}
+
+/// As many values as there are.
+pub fn all<I: Item>(alloc: Global, item: &I, input: &mut Reader) -> Result<List<I::Value>, Stop>
+    ensures { Gives (λ xs. (xs, input.new)) result (Some (all_at (I.value_at item.now) input.old)) }
+{
+    let mut values = Vec::new(alloc);
+    let mut here = input.ahead();
+    let most = input.left();
+    for _ in 0..most {
+        let mut ahead = here.ahead();
+        match item.read(&mut ahead) {
+            Ok(value) => {
+                values.push(value)?;
+                here = ahead;
+            }
+            Err(Stop::Memory) => return Err(Stop::Memory),
+            Err(Stop::Unlike) => {
+                *input = here;
+                return Ok(List::from_vec(values));
+            }
+        }
+    }
+    *input = here;
+    Ok(List::from_vec(values))
+}

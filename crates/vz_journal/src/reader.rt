@@ -1,0 +1,168 @@
+//! Bytes that are read from the front, and the words and numbers at the front of them.
+ghost use Rattle.std.specs.Prelude.{◌≡◌, ◌≤◌, ℕ, Bool, length, drop, slice_index, if◌then◌else◌};
+ghost use Rattle.vz_journal.specs.Giving.{Gives};
+ghost use Rattle.vz_journal.specs.Reading.{begins, after, word_at, is_digit, digits_at, number_at};
+ghost use Rattle.vz_journal.specs.Reading.{count_at, client_at, next_number_at, next_count_at};
+
+use crate::stop::Stop;
+use std::marker::Model;
+
+/// The highest number of a client.
+const MOST_CLIENTS: u32 = 16;
+
+/// The highest number that is written.
+const GREATEST: u64 = 4_294_967_295;
+
+/// Bytes that are still to be read. After an error what is left of them is not said.
+#[derive(Drop)]
+pub struct Reader<'a> {
+    rest: &'a [u8],
+}
+
+impl<'a> Model for Reader<'a> {
+    ghost use Rattle.std.specs.Prelude.{ℕ, List};
+
+    ghost Value = { List ℕ };
+
+    ghost view = { λ r. r.rest.now };
+}
+
+impl<'a> Reader<'a> {
+    pub fn new(bytes: &'a [u8]) -> Reader<'a>
+        ensures { result ≡ bytes.entry.now }
+    {
+        Reader { rest: bytes }
+    }
+
+    /// A reader of the same bytes.
+    pub fn ahead(&self) -> Reader<'a>
+        ensures { result ≡ self.now }
+    {
+        Reader { rest: self.rest }
+    }
+
+    /// How many bytes are left.
+    pub fn left(&self) -> usize
+        ensures { result ≡ length self.now }
+    {
+        self.rest.len()
+    }
+
+    /// Whether the bytes begin with this word, which is then left behind.
+    pub fn has(&mut self, word: &[u8]) -> bool
+        ensures found { result ≡ begins word.now self.old }
+        ensures rest { self.new ≡ (if begins word.now self.old then after word.now self.old else self.old) }
+    {
+        let found = self.rest.starts_with(word);
+        if found {
+            self.rest = &self.rest[word.len()..];
+        }
+        found
+    }
+
+    #[tactic(auto, unfolding(crate::specs::Reading::word_at))]
+    pub fn word(&mut self, word: &[u8]) -> Result<(), Stop>
+        ensures { Gives (λ _. (tt, self.new)) result (word_at word.now self.old) }
+    {
+        if !self.has(word) {
+            return Err(Stop::Unlike);
+        }
+        Ok(())
+    }
+
+    /// The first byte, and 0 where there is none.
+    fn first(&self) -> u8
+        ensures { result ≡ slice_index self.now 0 }
+    {
+        match self.rest.first() {
+            Some(&byte) => byte,
+            None => 0,
+        }
+    }
+
+    /// A number in decimal, without a leading zero.
+    #[tactic(auto, unfolding(crate::specs::Reading::number_at))]
+    pub fn number(&mut self) -> Result<u32, Stop>
+        ensures { Gives (λ x. (x, self.new)) result (number_at self.old) }
+    {
+        let first = self.first();
+        if first == b'0' {
+            self.rest = &self.rest[1..];
+            return Ok(0);
+        }
+        if !is_digit(first) {
+            return Err(Stop::Unlike);
+        }
+        self.rest = &self.rest[1..];
+        self.digits(first - b'0')
+    }
+
+    /// A number that begins with this digit.
+    fn digits(&mut self, first: u8) -> Result<u32, Stop>
+        requires { first ≤ 9 }
+        ensures { Gives (λ x. (x, self.new)) result (digits_at first self.old) }
+    {
+        let bytes = self.rest;
+        let mut number = u64::from(first);
+        'digits: for (place, &byte) in bytes.iter().enumerate() {
+            if !is_digit(byte) {
+                self.rest = &bytes[place..];
+                return Ok(number as u32);
+            }
+            number = 10 * number + u64::from(byte - b'0');
+            if number > GREATEST {
+                return Err(Stop::Unlike);
+            }
+        }
+        self.rest = &bytes[bytes.len()..];
+        Ok(number as u32)
+    }
+
+    /// A number that is not 0.
+    #[tactic(auto, unfolding(crate::specs::Reading::count_at))]
+    pub fn count(&mut self) -> Result<u32, Stop>
+        ensures { Gives (λ x. (x, self.new)) result (count_at self.old) }
+    {
+        let number = self.number()?;
+        if number < 1 {
+            return Err(Stop::Unlike);
+        }
+        Ok(number)
+    }
+
+    /// The number of a client.
+    #[tactic(auto, unfolding(crate::specs::Reading::client_at))]
+    pub fn client(&mut self) -> Result<u32, Stop>
+        ensures { Gives (λ x. (x, self.new)) result (client_at self.old) }
+    {
+        let number = self.number()?;
+        if number < 1 || number > MOST_CLIENTS {
+            return Err(Stop::Unlike);
+        }
+        Ok(number)
+    }
+
+    /// A blank and a number.
+    #[tactic(auto, unfolding(crate::specs::Reading::next_number_at))]
+    pub fn next_number(&mut self) -> Result<u32, Stop>
+        ensures { Gives (λ x. (x, self.new)) result (next_number_at self.old) }
+    {
+        self.word(b" ")?;
+        self.number()
+    }
+
+    /// A blank and a number that is not 0.
+    #[tactic(auto, unfolding(crate::specs::Reading::next_count_at))]
+    pub fn next_count(&mut self) -> Result<u32, Stop>
+        ensures { Gives (λ x. (x, self.new)) result (next_count_at self.old) }
+    {
+        self.word(b" ")?;
+        self.count()
+    }
+}
+
+fn is_digit(byte: u8) -> bool
+    ensures { result ≡ is_digit byte }
+{
+    byte >= b'0' && byte <= b'9'
+}

@@ -1,0 +1,37 @@
+//! Why a text is not read.
+ghost use Rattle.std.specs.Prelude.{◌≡◌};
+ghost use Rattle.vz_journal.specs.declared.stop.Stop.TheVariants.{Memory};
+
+use std::alloc::{AllocError, AllocFailed};
+
+/// Why a log is not read.
+#[derive(Clone, Copy, Debug, PartialEq, Eq)]
+pub enum LogError {
+    /// The first line, counted from 1, that is not in the grammar at its place.
+    Refused { line: u64 },
+    /// Want of memory.
+    Memory,
+}
+
+/// Why a part of a line is not read: for want of memory, or since the bytes are unlike it.
+#[derive(Clone, Copy, Debug, PartialEq, Eq)]
+pub enum Stop {
+    Memory,
+    Unlike,
+}
+
+impl From<AllocError> for Stop {
+    ghost from_gives = { λ _ e. e ≡ Memory };
+
+    fn from(_e: AllocError) -> Stop {
+        Stop::Memory
+    }
+}
+
+impl<T: Drop> From<AllocFailed<T>> for Stop {
+    ghost from_gives = { λ _ e. e ≡ Memory };
+
+    fn from(_e: AllocFailed<T>) -> Stop {
+        Stop::Memory
+    }
+}
