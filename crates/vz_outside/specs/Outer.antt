@@ -1,5 +1,5 @@
 -- What can be known of the files of the system and of standard output: which slots are open, and the count of faults.
-use Rattle.std.specs.Prelude.{ℕ, false, None, List, [], slice_get}
+use Rattle.std.specs.Prelude.{ℕ, false, Option, None, List, [], slice_get}
 use Rattle.vz_outside.specs.Shelved.{Shelved, Mode, Reading, Writing}
 use Rattle.vz_outside.specs.Sunk.{Sunk}
 use Rattle.vz_outside.specs.declared.real.Handle.{Handle}
@@ -16,6 +16,11 @@ pub record Outer : Type 0 where
 abbrev pub handle_mode : {F : Type 0} → Handle F → Mode
 handle_mode (Source file) = Reading
 handle_mode (Target file) = Writing
+
+-- the known bytes of a handle's file
+abbrev pub handle_bytes : {F : Type 0} → (F → Option (List ℕ)) → Handle F → Option (List ℕ)
+handle_bytes known (Source file) = known file
+handle_bytes known (Target file) = known file
 
 -- what can be known of the files of the system
 abbrev pub outer_shelf : Outer → Shelved

@@ -8,7 +8,7 @@ ghost use Rattle.vz_outside.specs.declared.shelf.ShelfError.TheVariants.{Failed}
 use crate::opening::room_for_slot;
 use crate::{Shelf, ShelfError, Sink};
 use std::fs;
-use std::io::{self, Read, Write};
+use std::io::{Read, Write};
 use std::marker::Model;
 use std::rt::Files;
 
@@ -81,39 +81,55 @@ impl<R: Files + AllocGlobal + Drop> Shelf for RealShelf<R> {
     }
 
     fn read(&mut self, slot: u32, into: &mut [u8]) -> Result<usize, ShelfError> {
-        match self.slots[slot as usize].read(into) {
-            Ok(count) => Ok(count),
-            Err(_) => Err(fail(&mut self.faults)),
-        }
+        let count = self.slots[slot as usize].read(into, &mut self.faults)?;
+        Ok(count)
     }
 
     fn write(&mut self, slot: u32, from: &[u8]) -> Result<usize, ShelfError> {
-        match self.slots[slot as usize].write(from) {
-            Ok(count) if count > 0 => Ok(count),
-            _ => Err(fail(&mut self.faults)),
-        }
+        let count = self.slots[slot as usize].write(from, &mut self.faults)?;
+        Ok(count)
     }
 }
 
 impl<F: Read + Write + Drop> Handle<F> {
-    fn read(&mut self, into: &mut [u8]) -> io::Result<usize>
+    ghost use Rattle.std.specs.Io.KnownBytes.{ReadConsumes, WriteAppends};
+    ghost use Rattle.vz_outside.specs.Outer.{handle_bytes};
+
+    /// Reads the next bytes of the file. Where the file tells what is left, exactly what is answered is taken from it, and
+    /// nothing at an error. Each error of the system is a fault.
+    fn read(&mut self, into: &mut [u8], faults: &mut u64) -> Result<usize, ShelfError>
         requires { handle_mode self.old ≡ Reading }
         ensures mode { handle_mode self.new ≡ handle_mode self.old }
         ensures count { IfOk result (λ n. n ≤ length into.old) }
+        ensures bytes { ReadConsumes (handle_bytes F.remaining self.old) (handle_bytes F.remaining self.new) result into.new }
+        ensures least { faults.old ≤ faults.new }
+        ensures failed { IsErrOf result Failed → Rose faults.old faults.new }
     {
         match self {
-            Handle::Source(file) => file.read(into),
+            Handle::Source(file) => match file.read(into) {
+                Ok(count) => Ok(count),
+                Err(_) => Err(fail(faults)),
+            },
             Handle::Target(_) => unreachable!(),
         }
     }
 
-    fn write(&mut self, from: &[u8]) -> io::Result<usize>
+    /// Writes some bytes to the file, at least one. Where the file tells what it holds, exactly those that are answered are
+    /// put at its end, and none at an error. Each error of the system is a fault, and so is a write that takes nothing.
+    fn write(&mut self, from: &[u8], faults: &mut u64) -> Result<usize, ShelfError>
         requires { handle_mode self.old ≡ Writing }
         ensures mode { handle_mode self.new ≡ handle_mode self.old }
         ensures count { IfOk result (λ n. n ≤ length from.now) }
+        ensures some { IfOk result (λ n. 0 < n) }
+        ensures bytes { WriteAppends (handle_bytes F.contents self.old) (handle_bytes F.contents self.new) result from.now }
+        ensures least { faults.old ≤ faults.new }
+        ensures failed { IsErrOf result Failed → Rose faults.old faults.new }
     {
         match self {
-            Handle::Target(file) => file.write(from),
+            Handle::Target(file) => match file.write(from) {
+                Ok(count) if count > 0 => Ok(count),
+                _ => Err(fail(faults)),
+            },
             Handle::Source(_) => unreachable!(),
         }
     }

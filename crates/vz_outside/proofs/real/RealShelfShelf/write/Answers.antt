@@ -3,16 +3,16 @@ use Rattle.vz_outside.proofs.OuterCalls.{outer_call, same_modes}
 use Rattle.vz_outside.specs.Outer.{Outer}
 use Rattle.vz_outside.proofs.real.RealShelfShelf.write.Goals as goal
 
-pub returns-in-Ok-clause-call : goal.returns-in-Ok-clause-call
-returns-in-Ok-clause-call g c =
+pub returns-in_err-count-clause-call : goal.returns-in_err-count-clause-call
+returns-in_err-count-clause-call g c =
     outer_call c.args.self.now _
     (same_modes c.self.inside.slots.items c.args.slot c.index_mut.result.now c.write.new.self c.args.self.now.modes
     c.index_mut.ensures.value c.write.ensures.mode (ap (λ (outer : Outer). outer.modes) c.self.view_is))
-    (omega (arith, ap (λ (outer : Outer). outer.faults) c.self.view_is))
+    (omega (arith, ap (λ (outer : Outer). outer.faults) c.self.view_is, c.write.ensures.least))
 
-pub returns-in_default-clause-call : goal.returns-in_default-clause-call
-returns-in_default-clause-call g c =
+pub returns-clause-call : goal.returns-clause-call
+returns-clause-call g c =
     outer_call c.args.self.now _
     (same_modes c.self.inside.slots.items c.args.slot c.index_mut.result.now c.write.new.self c.args.self.now.modes
     c.index_mut.ensures.value c.write.ensures.mode (ap (λ (outer : Outer). outer.modes) c.self.view_is))
-    (omega (arith, ap (λ (outer : Outer). outer.faults) c.self.view_is, c.fail.ensures.least))
+    (omega (arith, ap (λ (outer : Outer). outer.faults) c.self.view_is, c.write.ensures.least))
