@@ -1,9 +1,9 @@
 -- What stands of the files that are written.
 use Rattle.std.proofs.Common.{◌≡◌, ◌≢◌, ℕ, ◌+◌, ◌≤◌, List, [], ◌++◌, length, take, Option, Some, None, IsTrue, sym, ap, subst, ◌∙◌, take_all, inr, arith}
 use Rattle.std.proofs.lemmas.List.{length-take}
-use Rattle.vz_outside.specs.Shelved.{Shelved, Text, Writing, IsCall, KeepsOthers, Appends, AppendsFront}
+use Rattle.vz_outside.specs.Shelved.{Shelved, Text, Writing, IsCall, SameFiles, KeepsOthers, Appends, AppendsFront}
 use Rattle.vz_outside.proofs.Calls.{tells_after}
-use Rattle.viz_run.specs.Files.{IsReadUpto, IsOut, HasFront}
+use Rattle.viz_run.specs.Files.{IsReadUpto, IsOut, HasFront, KeepsAllBut}
 
 short : (limit : ℕ) (all bytes : List ℕ) → bytes ≡ take (limit + 1) all → length bytes ≤ limit → all ≡ bytes
 short limit all bytes is low =
@@ -58,3 +58,21 @@ front_of_begun name slot all before a b out call begun told =
 -- all of it is a front part
 pub whole_front : (all : List ℕ) → all ≡ take (length all) all
 whole_front all = sym (take_all (length all) all (omega arith))
+
+-- every name but two stays where nothing was written before
+pub all_but_before : (one other : Text) (a b c : Shelved) → IsCall a b → (IsTrue a.tells → SameFiles a b) → (IsTrue b.tells → KeepsAllBut one other b c)
+    → IsTrue a.tells → KeepsAllBut one other a c
+all_but_before one other a b c call same kept told name not_one not_other =
+    kept (tells_after a b call told) name not_one not_other ∙ same told name
+
+-- and where the first of the two is written then
+pub all_but_first : (one other : Text) (a b c : Shelved) → IsCall a b → (IsTrue a.tells → KeepsAllBut one other a b) → (IsTrue b.tells → KeepsOthers one b c)
+    → IsTrue a.tells → KeepsAllBut one other a c
+all_but_first one other a b c call kept then told name not_one not_other =
+    (then (tells_after a b call told)).files name not_one ∙ kept told name not_one not_other
+
+-- and where the second one is
+pub all_but_second : (one other : Text) (a b c : Shelved) → IsCall a b → (IsTrue a.tells → KeepsAllBut one other a b) → (IsTrue b.tells → KeepsOthers other b c)
+    → IsTrue a.tells → KeepsAllBut one other a c
+all_but_second one other a b c call kept then told name not_one not_other =
+    (then (tells_after a b call told)).files name not_other ∙ kept told name not_one not_other

@@ -20,13 +20,13 @@ use Rattle.vz_rules.proofs.Narrow_whole.{history_is_legal, rest_is, frames_are, 
 use Rattle.vz_buffers.specs.Canvas.{pixel_count}
 use Rattle.viz_run.specs.declared.words.StepWords.{StepWords}
 use Rattle.viz_run.specs.Words.{command_of}
-use Rattle.viz_run.specs.Files.{IsOut, HasFront}
+use Rattle.viz_run.specs.Files.{IsOut, HasFront, KeepsAllBut}
 use Rattle.viz_run.specs.Entries.{accepted_entry, rooted_entry, drawn_entry, shown_entry}
 use Rattle.viz_run.specs.Headline.{Given, command_for, IsRead, events_in, IsShown}
 use Rattle.viz_run.specs.Shown.{display_size, given_by, IsAdmitted, IsPut, IsPutInFront, IsMadeInFront, whole_frames, whole_log}
 use Rattle.viz_run.specs.Causes.{IsCutShort, LeavesFront}
 use Rattle.viz_run.proofs.Fitting.{display_fits, names_differ}
-use Rattle.viz_run.proofs.Outs.{out_kept, out_more, others_named}
+use Rattle.viz_run.proofs.Outs.{out_kept, out_more, others_named, all_but_before}
 
 -- the plan of one file that fits
 plan_fits : (client : ClientFile) (size : Size) → IsTrue (fits_file client) → IsDisplaySize size → IsPlan (record { files = client ∷ []; size = size })
@@ -91,9 +91,10 @@ module _ (w : StepWords) (client : ClientFile) (fits : IsTrue (fits_command (com
   read s bytes is = record { plan = is_plan; spelled = is.spelled; narrow = is.narrow; file_told = is.file_told; schedule_told = is.schedule_told }
 
   -- what was read, stepped, painted and written is what is to be shown
-  pub shown : (before after : Shelved) (bytes : List ℕ) (start total : ℕ) (h : List Entry) → IsAdmitted before w client bytes → IsPut w client after
-      → h ≡ narrow_history size → total ≡ start + 2 * pixel_count size → IsShown before after start total h (given_by w bytes client)
-  shown before after bytes start total h admitted put history counted =
+  pub shown : (before mid after : Shelved) (bytes : List ℕ) (start total : ℕ) (h : List Entry) → IsAdmitted before w client bytes → IsPut w client after
+      → h ≡ narrow_history size → total ≡ start + 2 * pixel_count size → IsCall before mid → (IsTrue before.tells → SameFiles before mid)
+      → (IsTrue mid.tells → KeepsAllBut w.frames.now w.log.now mid after) → IsShown before after start total h (given_by w bytes client)
+  shown before mid after bytes start total h admitted put history counted call same kept =
       let P : List Entry → Type 0 = λ k. IsShown before after start total k (given_by w bytes client) in
       let twice : painted plan (narrow_history size) 2 ≡ 2 * pixel_count size = painted_are plan client is_plan refl narrow ∙ ap (λ n. 2 * n) (area_is size) in
       let told : IsShown before after start total (narrow_history size) (given_by w bytes client) =
@@ -107,13 +108,14 @@ module _ (w : StepWords) (client : ClientFile) (fits : IsTrue (fits_command (com
         whole = written_are plan client is_plan refl narrow ∙ sym (frames_are plan client is_plan refl narrow);
         counted = counted ∙ ap (λ n. start + n) (sym twice);
         twice = twice;
+        others = all_but_before w.frames.now w.log.now before mid after call same kept;
       } in
       subst P (sym history) told
 
   -- what was admitted and then halted was cut short
   pub cut : (before mid after : Shelved) (bytes : List ℕ) (h : List Entry) → IsAdmitted before w client bytes → IsCall before mid → (IsTrue before.tells → SameFiles before mid)
-      → IsPutInFront w client mid after → IsMadeInFront w h → IsCutShort before after h (given_by w bytes client)
-  cut before mid after bytes h admitted call same front made =
+      → IsPutInFront w client mid after → IsMadeInFront w h → (IsTrue mid.tells → KeepsAllBut w.frames.now w.log.now mid after) → IsCutShort before after h (given_by w bytes client)
+  cut before mid after bytes h admitted call same front made kept =
       record {
         read = read before bytes admitted;
         legal = subst (Legal plan) (sym made.1) (legal_front plan made.0 (narrow_history size) (history_is_legal plan client is_plan refl narrow));
@@ -124,6 +126,7 @@ module _ (w : StepWords) (client : ClientFile) (fits : IsTrue (fits_command (com
         log = λ told.
             subst (λ f. HasFront w.log.now f before after) text_is
             (front_before w.log.now (whole_log size) before mid after (same told w.log.now) (front.log (tells_after before mid call told)));
+        others = all_but_before w.frames.now w.log.now before mid after call same kept;
       }
 
 -- the four entries are the history

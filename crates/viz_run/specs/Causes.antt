@@ -10,7 +10,7 @@ use Rattle.vz_rules.specs.Step.{Legal}
 use Rattle.vz_rules.specs.Frames.{written, frames_bytes}
 use Rattle.vz_rules.specs.Log.{log_text, rest_of}
 use Rattle.vz_rules.specs.Narrow.{is_narrow, narrow_history}
-use Rattle.viz_run.specs.Files.{IsReadUpto, IsThere, narrow_schedule, HasFront}
+use Rattle.viz_run.specs.Files.{IsReadUpto, IsThere, narrow_schedule, HasFront, KeepsAllBut}
 use Rattle.vz_outside.specs.Sunk.{Sunk}
 use Rattle.viz_run.specs.Words.{IsNoStep}
 use Rattle.viz_run.specs.Lines.{IsTold, words_line, file_line, schedule_line}
@@ -48,6 +48,7 @@ pub record IsCutShort (before after : Shelved) (h : List Entry) (g : Given) : Ty
   pub history : (n : ℕ) × (h ≡ take n (history_for g))
   pub frames : IsTrue before.tells → HasFront g.line.frames (frames_bytes (written (plan_of g) (history_for g) 2)) before after
   pub log : IsTrue before.tells → HasFront g.line.log (log_text (history_for g) (rest_of (plan_of g) (history_for g))) before after
+  pub others : IsTrue before.tells → KeepsAllBut g.line.frames g.line.log before after
 
 -- nothing was begun: the history is empty, and the bytes of every name stay
 pub record IsUnbegun (before after : Shelved) (h : List Entry) : Type 0 where

@@ -25,3 +25,7 @@ HasFront name all before after =
 -- a file of this name is there
 abbrev pub IsThere : Shelved → Text → Type 0
 IsThere s name = s.bytes name ≢ None
+
+-- the bytes of every name but two stay
+abbrev pub KeepsAllBut : Text → Text → Shelved → Shelved → Type 0
+KeepsAllBut one other before after = (name : Text) → name ≢ one → name ≢ other → after.bytes name ≡ before.bytes name

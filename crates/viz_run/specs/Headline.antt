@@ -12,7 +12,7 @@ use Rattle.vz_rules.specs.Step.{Legal}
 use Rattle.vz_rules.specs.Frames.{frames, written, painted, frames_bytes}
 use Rattle.vz_rules.specs.Log.{log_text, rest_of}
 use Rattle.vz_rules.specs.Narrow.{is_narrow, narrow_events}
-use Rattle.viz_run.specs.Files.{narrow_schedule}
+use Rattle.viz_run.specs.Files.{narrow_schedule, KeepsAllBut}
 use Rattle.viz_run.specs.Lines.{done_line}
 
 -- what the words of `step` name: the sides of the display, and the files
@@ -70,6 +70,8 @@ pub record IsShown (before after : Shelved) (start total : ℕ) (h : List Entry)
   -- each pixel of the display is made once and painted once
   pub counted : total ≡ start + painted (plan_of g) h 2
   pub twice : painted (plan_of g) h 2 ≡ 2 * (g.line.width * g.line.height)
+  -- where the shelf tells its bytes, those of every other name stay
+  pub others : IsTrue before.tells → KeepsAllBut g.line.frames g.line.log before after
 
 -- a call of `step` that ended well for what its words name: from the shelf, the sink and the count of steps before and after, and the history
 pub record EndsWellFor (words : List Text) (before after : Shelved) (printed printed_now : Sunk) (start total : ℕ) (h : List Entry) (g : Given) : Type 0 where

@@ -3,7 +3,7 @@ ghost use Rattle.std.specs.Prelude.{◌≡◌, ◌<◌, ◌≤◌, ◌⊎◌, �
 ghost use Rattle.vz_outside.specs.Faults.{Rose};
 ghost use Rattle.viz_run.specs.Lines.{done_line, done_text, drawn_count, words_line, IsTold, TellsRefusal};
 ghost use Rattle.vz_outside.specs.Sunk.{StaysSound};
-ghost use Rattle.viz_run.specs.declared.stop.Stop.TheVariants.{Words, Fault as StopOfFault};
+ghost use Rattle.viz_run.specs.declared.stop.Stop.TheVariants.{Words, Fault as StopOfFault, Memory as StopOfMemory};
 ghost use Rattle.vz_rules.specs.Course.{is_drawn};
 ghost use Rattle.viz_run.specs.declared.stop.Halt.TheVariants.{Fault};
 
@@ -46,6 +46,9 @@ pub fn tell_stop<O: Sink>(out: &mut O, stop: Stop) -> u8
     ensures words { result ≡ 2 → (stop ≡ Words) × IsTold words_line (O.sunk out.old) (O.sunk out.new) }
     ensures file { result ≡ 3 → TellsRefusal stop (O.sunk out.old) (O.sunk out.new) }
     ensures fault { result ≡ 4 → (stop ≡ StopOfFault) ⊎ Rose (O.sunk out.old).faults (O.sunk out.new).faults }
+    ensures at_fault { stop ≡ StopOfFault → result ≡ 4 }
+    ensures at_memory { stop ≡ StopOfMemory → result ≡ 5 }
+    ensures silent { (stop ≡ StopOfFault) ⊎ (stop ≡ StopOfMemory) → O.sunk out.new ≡ O.sunk out.old }
     ensures range { (2 ≤ result) × (result ≤ 5) }
     ensures sound { IsTrue (O.sunk out.old).sound → StaysSound (O.sunk out.old) (O.sunk out.new) }
     ensures faults { (O.sunk out.old).faults ≤ (O.sunk out.new).faults }

@@ -7,7 +7,7 @@ ghost use Rattle.vz_outside.specs.declared.shelf.ShelfError.TheVariants.{Failed}
 ghost use Rattle.vz_rules.specs.Frames.{pixel_bytes};
 ghost use Rattle.vz_rules.specs.Log.{log_text};
 ghost use Rattle.vz_rules.specs.Narrow.{nothing_left};
-ghost use Rattle.viz_run.specs.Files.{IsOut, HasFront};
+ghost use Rattle.viz_run.specs.Files.{IsOut, HasFront, KeepsAllBut};
 ghost use Rattle.viz_run.specs.declared.stop.Halt.TheVariants.{Fault};
 
 use crate::stop::Halt;
@@ -33,6 +33,7 @@ pub fn create_outputs<F: Shelf>(
     requires { frames.now ≢ log.now }
     ensures frames { IfOk result (λ o. IsOut frames.now o.frames [] (F.shelved shelf.new)) }
     ensures log { IfOk result (λ o. IsOut log.now o.log [] (F.shelved shelf.new)) }
+    ensures others { IsTrue (F.shelved shelf.old).tells → KeepsAllBut frames.now log.now (F.shelved shelf.old) (F.shelved shelf.new) }
     ensures call { IsCall (F.shelved shelf.old) (F.shelved shelf.new) }
     ensures frames_front { IsTrue (F.shelved shelf.old).tells → OnErr result (HasFront frames.now [] (F.shelved shelf.old) (F.shelved shelf.new)) }
     ensures log_front { IsTrue (F.shelved shelf.old).tells → OnErr result (HasFront log.now [] (F.shelved shelf.old) (F.shelved shelf.new)) }

@@ -9,6 +9,7 @@ ghost use Rattle.vz_frame.specs.Fits.{fits_file};
 ghost use Rattle.vz_rules.specs.Narrow.{is_narrow, narrow_history};
 ghost use Rattle.viz_run.specs.Causes.{IsAcceptable, IsUnacceptable, NoFault, IsUnbegun, LeavesFront, RefusesNamedFile, RefusesNamedSchedule, RefusesWords, RefusesInput, NamesFilesThere, IsStatus};
 ghost use Rattle.viz_run.specs.Ends.{IsRefusal};
+ghost use Rattle.viz_run.specs.Files.{KeepsAllBut};
 ghost use Rattle.viz_run.specs.Words.{texts, command_of, IsNoStep};
 ghost use Rattle.viz_run.specs.declared.stop.Stop.TheVariants.{Words, File, Schedule, Fault as StopOfFault};
 ghost use Rattle.viz_run.specs.Shown.{display_size, IsPut, IsPutInFront, IsMadeInFront};
@@ -141,6 +142,7 @@ fn show<F: Shelf, G: Gate, L: Ledger>(
     ensures counted { OnOk result (steps.new ≡ steps.old + 2 * pixel_count (display_size words.now)) }
     ensures front { IsPutInFront words.now client.now (F.shelved shelf.old) (F.shelved shelf.new) }
     ensures made { IsMadeInFront words.now history.new }
+    ensures others { IsTrue (F.shelved shelf.old).tells → KeepsAllBut words.now.frames.now words.now.log.now (F.shelved shelf.old) (F.shelved shelf.new) }
     ensures call { IsCall (F.shelved shelf.old) (F.shelved shelf.new) }
     ensures failed { IsErrOf result Fault → Rose (F.shelved shelf.old).faults (F.shelved shelf.new).faults }
     ensures stays { IsTrue (F.shelved shelf.old).sound → StaysSound (F.shelved shelf.old) (F.shelved shelf.new) }

@@ -9,7 +9,7 @@ use Rattle.vz_rules.specs.Log.{log_text}
 use Rattle.vz_rules.specs.Narrow.{narrow_history, narrow_colour, nothing_left}
 use Rattle.viz_run.specs.Shown.{display_size, whole_frames, whole_log}
 use Rattle.viz_run.proofs.Fitting.{names_differ}
-use Rattle.viz_run.proofs.Outs.{out_kept, out_more, others_named, front_of_out, front_of_begun, whole_front}
+use Rattle.viz_run.proofs.Outs.{out_kept, out_more, others_named, front_of_out, front_of_begun, whole_front, all_but_first, all_but_second}
 use Rattle.viz_run.proofs.Showing.{history_of, one_made, two_made, three_made, all_made}
 use Rattle.viz_run.proofs.run.show.Goals as goal
 
@@ -225,3 +225,59 @@ returns-clause-front g c =
       frames = front_of_out w.frames.now slots.frames _ frame (whole_frames size client) a e frames_e frames_whole ae;
       log = front_of_out w.log.now slots.log _ text (whole_log size) a e log_e text_whole ae;
     }
+
+-- The other names
+
+pub returns-in_err-write_frame-clause-others : goal.returns-in_err-write_frame-clause-others
+returns-in_err-write_frame-clause-others g c =
+    let w = c.args.words.now in
+    let shelved = g.F.Shelf.shelved in
+    let a = shelved c.args.shelf.now in
+    let b = shelved c.create_outputs.new.shelf in
+    let d = shelved c.write_frame.new.shelf in
+    let slots = c.in_ok-outputs.outputs in
+    all_but_first w.frames.now w.log.now a b d c.in_ok-outputs.ensures.call c.in_ok-outputs.ensures.others
+    (others_named w.frames.now slots.frames [] b d c.in_ok-outputs.ensures.frames c.write_frame.ensures.others)
+
+pub returns-in_err-done-clause-others : goal.returns-in_err-done-clause-others
+returns-in_err-done-clause-others g c =
+    let w = c.args.words.now in
+    let shelved = g.F.Shelf.shelved in
+    let a = shelved c.args.shelf.now in
+    let b = shelved c.create_outputs.new.shelf in
+    let d = shelved c.write_frame.new.shelf in
+    let slots = c.in_ok-outputs.outputs in
+    all_but_first w.frames.now w.log.now a b d c.in_ok-outputs.ensures.call c.in_ok-outputs.ensures.others
+    (others_named w.frames.now slots.frames [] b d c.in_ok-outputs.ensures.frames c.write_frame.ensures.others)
+
+pub returns-in_err-write_log-clause-others : goal.returns-in_err-write_log-clause-others
+returns-in_err-write_log-clause-others g c =
+    let w = c.args.words.now in
+    let shelved = g.F.Shelf.shelved in
+    let a = shelved c.args.shelf.now in
+    let b = shelved c.create_outputs.new.shelf in
+    let d = shelved c.write_frame.new.shelf in
+    let e = shelved c.write_log.new.shelf in
+    let slots = c.in_ok-outputs.outputs in
+    let apart = names_differ w.width w.height w.schedule.now w.frames.now w.log.now w.file.now c.requires.words in
+    let frames_others = others_named w.frames.now slots.frames [] b d c.in_ok-outputs.ensures.frames c.write_frame.ensures.others in
+    let log_d = out_kept w.log.now w.frames.now slots.log [] b d c.in_ok-outputs.ensures.log c.write_frame.ensures.call (λ is. apart (sym is)) frames_others in
+    let kept = all_but_first w.frames.now w.log.now a b d c.in_ok-outputs.ensures.call c.in_ok-outputs.ensures.others frames_others in
+    let ad = call_then_call a b d c.in_ok-outputs.ensures.call c.write_frame.ensures.call in
+    all_but_second w.frames.now w.log.now a d e ad kept (others_named w.log.now slots.log [] d e log_d c.write_log.ensures.others)
+
+pub returns-clause-others : goal.returns-clause-others
+returns-clause-others g c =
+    let w = c.args.words.now in
+    let shelved = g.F.Shelf.shelved in
+    let a = shelved c.args.shelf.now in
+    let b = shelved c.create_outputs.new.shelf in
+    let d = shelved c.write_frame.new.shelf in
+    let e = shelved c.write_log.new.shelf in
+    let slots = c.in_ok-outputs.outputs in
+    let apart = names_differ w.width w.height w.schedule.now w.frames.now w.log.now w.file.now c.requires.words in
+    let frames_others = others_named w.frames.now slots.frames [] b d c.in_ok-outputs.ensures.frames c.write_frame.ensures.others in
+    let log_d = out_kept w.log.now w.frames.now slots.log [] b d c.in_ok-outputs.ensures.log c.write_frame.ensures.call (λ is. apart (sym is)) frames_others in
+    let kept = all_but_first w.frames.now w.log.now a b d c.in_ok-outputs.ensures.call c.in_ok-outputs.ensures.others frames_others in
+    let ad = call_then_call a b d c.in_ok-outputs.ensures.call c.write_frame.ensures.call in
+    all_but_second w.frames.now w.log.now a d e ad kept (others_named w.log.now slots.log [] d e log_d c.write_log.ensures.others)

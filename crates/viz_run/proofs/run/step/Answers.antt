@@ -21,7 +21,7 @@ returns-in_err-show-clause-front g c =
     let admitted = c.in_ok-client.ensures.admitted in
     leaves_front _ _ _ _ _ (given_by w admitted.0 client) c.in-Some.ensures.found
     (cut w client c.in-Some.ensures.found.0 admitted.1.spelled.0 admitted.1.narrow (shelved c.args.shelf.now) (shelved c.admit.new.shelf) (shelved c.show.new.shelf) admitted.0 c.show.new.history
-    admitted.1 c.admit.ensures.call c.admit.ensures.files c.show.ensures.front c.show.ensures.made)
+    admitted.1 c.admit.ensures.call c.admit.ensures.files c.show.ensures.front c.show.ensures.made c.show.ensures.others)
 
 pub returns-in_err-print_done-clause-front : goal.returns-in_err-print_done-clause-front
 unfolding IsCommand Spells
@@ -32,7 +32,7 @@ returns-in_err-print_done-clause-front g c =
     let admitted = c.in_ok-client.ensures.admitted in
     leaves_front _ _ _ _ _ (given_by w admitted.0 client) c.in-Some.ensures.found
     (cut w client c.in-Some.ensures.found.0 admitted.1.spelled.0 admitted.1.narrow (shelved c.args.shelf.now) (shelved c.admit.new.shelf) (shelved c.show.new.shelf) admitted.0 c.show.new.history
-    admitted.1 c.admit.ensures.call c.admit.ensures.files c.show.ensures.front c.show.ensures.made)
+    admitted.1 c.admit.ensures.call c.admit.ensures.files c.show.ensures.front c.show.ensures.made c.show.ensures.others)
 
 pub returns-clause-done : goal.returns-clause-done
 unfolding IsCommand Spells
@@ -44,8 +44,8 @@ returns-clause-done g c =
       given_by w admitted.0 client,
       record {
         command = c.in-Some.ensures.found;
-        shown = shown w client c.in-Some.ensures.found.0 admitted.1.spelled.0 admitted.1.narrow (shelved c.args.shelf.now) (shelved c.show.new.shelf) admitted.0 c.args.steps.now c.show.new.steps c.show.new.history
-            admitted.1 c.in_ok-show.ensures.put c.in_ok-show.ensures.history c.in_ok-show.ensures.counted;
+        shown = shown w client c.in-Some.ensures.found.0 admitted.1.spelled.0 admitted.1.narrow (shelved c.args.shelf.now) (shelved c.admit.new.shelf) (shelved c.show.new.shelf) admitted.0 c.args.steps.now c.show.new.steps c.show.new.history
+            admitted.1 c.in_ok-show.ensures.put c.in_ok-show.ensures.history c.in_ok-show.ensures.counted c.admit.ensures.call c.admit.ensures.files c.show.ensures.others;
         told = c.in_ok-print_done.ensures.printed;
       },
     )
