@@ -1,0 +1,17 @@
+pub mod Flagged
+pub mod Rounds
+pub mod Placed
+pub mod Putting
+pub mod Answering
+pub mod Ends
+pub mod Submitting
+pub mod Closing
+pub mod Newest
+pub mod Losing
+pub mod Returning
+pub mod Following
+pub mod Stacking
+pub mod Rooting
+pub mod Claiming
+pub mod Sizing
+pub mod Drawing

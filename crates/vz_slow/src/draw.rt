@@ -1,0 +1,76 @@
+//! A drawing: what is drawn, or why it is not.
+ghost use Rattle.std.specs.Prelude.{◌≡◌, ◌&&◌, is_some, IfOk};
+ghost use Rattle.vz_geom.specs.Rectangle.{is_empty_rect};
+ghost use Rattle.vz_rules.specs.Messages.{says};
+ghost use Rattle.vz_rules.specs.Step.{scene_answer, draw_answer};
+
+use crate::claims::drawn_damage;
+use crate::damage::{remember, walked_subs};
+use crate::images::{active_images, image_on};
+use crate::submission::Still;
+use crate::walk::walk_of;
+use crate::world::{Past, World};
+use std::alloc::AllocError;
+use vz_frame::List;
+use vz_geom::Rect;
+use vz_ids::SurfaceId;
+use vz_rules::{Plan, Reply};
+
+/// Whether there was an aggregation and the damage is empty.
+fn is_unchanged(last: &Option<Past>, damage: &Rect) -> bool
+    ensures { result ≡ (is_some last.now && is_empty_rect damage.now) }
+{
+    match last {
+        None => false,
+        Some(_) => damage.is_empty(),
+    }
+}
+
+impl<'a> World<'a> {
+    /// What is drawn of a scene, or why it is not.
+    fn draw_scene(
+        &mut self,
+        plan: &Plan,
+        root: SurfaceId,
+        images: &[Still<'a>],
+    ) -> Result<Reply, AllocError>
+        ensures { IfOk result (λ r. says r self.new ≡ scene_answer plan.now self.old (record { root = root; images = images.now })) }
+    {
+        let size = plan.size();
+        match walk_of(self.alloc, images, &root, size)? {
+            None => Ok(Reply::TooMuch),
+            Some(tally) => {
+                let met = tally.met();
+                let damage = drawn_damage(self.alloc, size, &self.last, &self.subs, &root, met)?;
+                let past = remember(self.alloc, root, images, met)?;
+                let subs = walked_subs(self.alloc, images, met)?;
+                if is_unchanged(&self.last, &damage) {
+                    self.last = Some(past);
+                    return Ok(Reply::Unchanged);
+                }
+                self.last = Some(past);
+                self.in_flight = Some(List::from_vec(subs));
+                Ok(Reply::Drawn(damage))
+            }
+        }
+    }
+
+    /// A drawing: busy while a frame is in flight, no root where nothing can be seen.
+    pub fn draw(&mut self, plan: &Plan) -> Result<Reply, AllocError>
+        ensures { IfOk result (λ r. says r self.new ≡ draw_answer plan.now self.old) }
+    {
+        if self.in_flight.is_some() {
+            return Ok(Reply::Busy);
+        }
+        match self.root {
+            None => Ok(Reply::NoRoot),
+            Some(root) => {
+                let images = active_images(self.alloc, &self.subs)?;
+                match image_on(&images, &root) {
+                    None => Ok(Reply::NoRoot),
+                    Some(_) => Ok(self.draw_scene(plan, root, &images)?),
+                }
+            }
+        }
+    }
+}
