@@ -1,0 +1,21 @@
+-- When what is set and what is temporary is as the machine's state has it.
+use Rattle.std.specs.Prelude.{◌≡◌, Option, Some, None, List, []}
+use Rattle.vz_ids.specs.declared.SurfaceId.{SurfaceId}
+use Rattle.vz_ids.specs.declared.SurfaceRange.{SurfaceRange}
+use Rattle.vz_rules.specs.World.{World, Image, active_images, image_on}
+use Rattle.vz_rules.specs.Reach.{has_id, roots}
+use Rattle.vz_refs.specs.declared.references.Temporary.{Temporary}
+use Rattle.vz_refs.specs.Referring.{Ranged, ranges_of, starts}
+
+-- the references of an image's frame, if there is one
+abbrev pub references_of : Option Image → List SurfaceRange
+references_of None = []
+references_of (Some i) = i.frame.metadata.references
+
+-- for each surface the references of its active frame are set
+abbrev pub AreReferences : World → List Ranged → Type 0
+AreReferences w sets = (id : SurfaceId) → ranges_of sets id ≡ references_of (image_on id (active_images w.subs))
+
+-- reaching starts at the roots
+abbrev pub AreRoots : World → Option SurfaceId → List Temporary → Type 0
+AreRoots w root kept = (id : SurfaceId) → has_id (starts root kept) id ≡ has_id (roots w) id

@@ -1,0 +1,14 @@
+//! What keeps surfaces alive: the ranges that active frames reference, and the new surfaces
+//! that are kept for a while until somebody references them.
+//!
+//! A surface is reached from the root and from the temporary ones, over the surfaces that
+//! the ranges show.
+#![tactic(auto)]
+
+pub mod laws;
+mod marking;
+mod naming;
+mod references;
+mod surfaces;
+
+pub use references::{References, Shows};

@@ -1,0 +1,177 @@
+-- Which submissions wait when one is opened or fed.
+use Rattle.std.proofs.Common.{◌≡◌, ℕ, zero, suc, ◌+◌, Bool, true, false, not, ◌==◌, ◌&&◌, ◌||◌, List, [], ◌∷◌, ◌++◌, filter, map, insert, refl, ap, sym, ◌∙◌, arith, cond}
+use Rattle.std.specs.List.{list_any, list_all}
+use Rattle.std.proofs.lemmas.Bool.Decides.{nat_tests}
+use Rattle.vz_ids.specs.declared.Sub.{Sub}
+use Rattle.vz_ids.specs.Ids.{same_sub}
+use Rattle.std.proofs.lemmas.List.Folds.{list_any-append}
+use Rattle.vz_rules.specs.World.{Submission, sub_of}
+use Rattle.vz_rules.proofs.Counts.{count_cons}
+use Rattle.vz_returns.specs.Feeding.{before, in_order, is_open, place_in, opened, fed, AreUnfed, mark_of}
+
+both : (a b : Bool) → (a && b) ≡ true → (a ≡ true) × (b ≡ true)
+both true b h = (refl, h)
+both false b h = absurd (cc)
+
+from_eqb : (a b : ℕ) → (a == b) ≡ true → a ≡ b
+from_eqb a b h = grind (arith, nat_tests)
+
+same_numbers : {c c' o o' : ℕ} → c ≡ c' → o ≡ o' → ◌≡◌ {A = Sub} (record { client = c; ordinal = o }) (record { client = c'; ordinal = o' })
+same_numbers p q = cc
+
+from_same_sub : (a b : Sub) → same_sub a b ≡ true → a ≡ b
+from_same_sub a b h = let parts = both (a.client == b.client) (a.ordinal == b.ordinal) h in same_numbers (from_eqb _ _ parts.0) (from_eqb _ _ parts.1)
+
+in_front : (a b c : Bool) → (b || (a || c)) ≡ (a || (b || c))
+in_front true true c = refl
+in_front true false c = refl
+in_front false b c = refl
+
+opened_at : (list : List Sub) (s t : Sub) (n : ℕ) → is_open (insert list n s) t ≡ (same_sub s t || is_open list t)
+opened_at [] s t zero = refl
+opened_at [] s t (suc n) = refl
+opened_at (x ∷ list) s t zero = refl
+opened_at (x ∷ list) s t (suc n) = ap (λ b. same_sub x t || b) (opened_at list s t n) ∙ in_front (same_sub s t) (same_sub x t) (is_open list t)
+
+pub opened_has : (list : List Sub) (s t : Sub) → is_open (opened s list) t ≡ (same_sub s t || is_open list t)
+opened_has list s t = opened_at list s t (place_in list s)
+
+-- one that is the same as what is fed, and one that is another
+of_same : (a b r : Bool) → a ≡ b → (not b && r) ≡ (not b && (a || r))
+of_same true true r e = refl
+of_same false false r e = refl
+of_same true false r e = absurd (cc)
+of_same false true r e = absurd (cc)
+
+of_other : (a b r : Bool) → (b ≡ true → a ≡ false) → (a || (not b && r)) ≡ (not b && (a || r))
+of_other true true r f = let e : true ≡ false = f refl in absurd (cc)
+of_other false true r f = refl
+of_other a false r f = refl
+
+not_both : (x s t : Sub) → same_sub x s ≡ false → same_sub s t ≡ true → same_sub x t ≡ false
+not_both x s t other same = sym (ap (same_sub x) (from_same_sub s t same)) ∙ other
+
+pub fed_has : (list : List Sub) (s t : Sub) → is_open (fed s list) t ≡ (not (same_sub s t) && is_open list t)
+fed_has [] s t = elim (same_sub s t) as (λ (b : Bool). false ≡ (not b && false)) [ true ↦ refl | false ↦ refl ]
+fed_has (x ∷ list) s t =
+    elim (same_sub x s) as (λ (b : Bool). same_sub x s ≡ b → is_open (cond (not b) (x ∷ fed s list) (fed s list)) t ≡ (not (same_sub s t) && (same_sub x t || is_open list t))) [
+      | true ↦ λ e. fed_has list s t ∙ of_same (same_sub x t) (same_sub s t) (is_open list t) (ap (λ (z : Sub). same_sub z t) (from_same_sub x s e))
+      | false ↦ λ e. ap (λ b. same_sub x t || b) (fed_has list s t) ∙ of_other (same_sub x t) (same_sub s t) (is_open list t) (not_both x s t e)
+    ] refl
+
+-- The order
+
+over : (a b c : Sub) → before a b ≡ true → before b c ≡ true → before a c ≡ true
+over a b c h k = grind (arith, nat_tests)
+
+or_after : (a b : Sub) → before a b ≡ false → same_sub a b ≡ false → before b a ≡ true
+or_after a b h k = grind (arith, nat_tests)
+
+not_after : (a b : Sub) → before a b ≡ true → before b a ≡ false
+not_after a b h = grind (arith, nat_tests)
+
+two_false : (a b : Bool) → (a || b) ≡ false → (a ≡ false) × (b ≡ false)
+two_false true b h = absurd (cc)
+two_false false b h = (refl, h)
+
+two_true : (a b : Bool) → a ≡ true → b ≡ true → (a && b) ≡ true
+two_true a b p q = rw (p, q)
+
+-- what one comes before, an earlier one comes before
+all_over : (a b : Sub) (list : List Sub) → before a b ≡ true → list_all (before b) list ≡ true → list_all (before a) list ≡ true
+all_over a b [] h k = refl
+all_over a b (x ∷ list) h k = let parts = both (before b x) (list_all (before b) list) k in two_true _ _ (over a b x h parts.0) (all_over a b list h parts.1)
+
+-- none comes before one that comes before all
+none_before : (s : Sub) (list : List Sub) → list_all (before s) list ≡ true → place_in list s ≡ 0
+none_before s [] h = refl
+none_before s (x ∷ list) h =
+    let parts = both (before s x) (list_all (before s) list) h in
+    count_cons (λ t. before t s) x list ∙ (λ i. cond (not_after s x parts.0 i) 1 0 + none_before s list parts.1 i)
+
+all_in : (a s : Sub) (list : List Sub) (n : ℕ) → before a s ≡ true → list_all (before a) list ≡ true → list_all (before a) (insert list n s) ≡ true
+all_in a s [] zero h k = two_true _ _ h refl
+all_in a s [] (suc n) h k = two_true _ _ h refl
+all_in a s (x ∷ list) zero h k = two_true _ _ h k
+all_in a s (x ∷ list) (suc n) h k = let parts = both (before a x) (list_all (before a) list) k in two_true _ _ parts.0 (all_in a s list n h parts.1)
+
+one_more : (n : ℕ) → 1 + n ≡ suc n
+one_more n = omega arith
+
+pub opened_in_order : (list : List Sub) (s : Sub) → in_order list ≡ true → is_open list s ≡ false → in_order (opened s list) ≡ true
+unfolding in_order
+opened_in_order [] s sorted none = refl
+opened_in_order (x ∷ list) s sorted none =
+    let order = both (list_all (before x) list) (in_order list) sorted in
+    let other = two_false (same_sub x s) (is_open list s) none in
+    elim (before x s) as (λ (t : Bool). before x s ≡ t → in_order (opened s (x ∷ list)) ≡ true) [
+      | true ↦ λ e.
+          let place : place_in (x ∷ list) s ≡ suc (place_in list s) = count_cons (λ t. before t s) x list ∙ ap (λ t. cond t 1 0 + place_in list s) e ∙ one_more (place_in list s) in
+          ap (λ n. in_order (insert (x ∷ list) n s)) place
+          ∙ two_true _ _ (all_in x s list (place_in list s) e order.0) (opened_in_order list s order.1 other.1)
+      | false ↦ λ e.
+          let first : before s x ≡ true = or_after x s e other.0 in
+          let all : list_all (before s) (x ∷ list) ≡ true = two_true _ _ first (all_over s x list first order.0) in
+          ap (λ n. in_order (insert (x ∷ list) n s)) (none_before s (x ∷ list) all) ∙ two_true _ _ all sorted
+    ] refl
+
+all_left : (a : Sub) (p : Sub → Bool) (list : List Sub) → list_all (before a) list ≡ true → list_all (before a) (filter p list) ≡ true
+all_left a p [] h = refl
+all_left a p (x ∷ list) h =
+    let parts = both (before a x) (list_all (before a) list) h in
+    elim (p x) as (λ (t : Bool). list_all (before a) (cond t (x ∷ filter p list) (filter p list)) ≡ true) [
+      | true ↦ two_true _ _ parts.0 (all_left a p list parts.1)
+      | false ↦ all_left a p list parts.1
+    ]
+
+pub fed_in_order : (list : List Sub) (s : Sub) → in_order list ≡ true → in_order (fed s list) ≡ true
+unfolding in_order
+fed_in_order [] s sorted = refl
+fed_in_order (x ∷ list) s sorted =
+    let order = both (list_all (before x) list) (in_order list) sorted in
+    elim (same_sub x s) as (λ (t : Bool). in_order (cond (not t) (x ∷ fed s list) (fed s list)) ≡ true) [
+      | true ↦ fed_in_order list s order.1
+      | false ↦ two_true _ _ (all_left x (λ t. not (same_sub t s)) list order.0) (fed_in_order list s order.1)
+    ]
+
+-- The machine's state
+
+pub accepted_unfed : (subs : List Submission) (list : List Sub) (s : Submission) → s.fed ≡ false → AreUnfed subs list → AreUnfed (subs ++ s ∷ []) (opened (sub_of s) list)
+accepted_unfed subs list s new are t =
+    opened_has list (sub_of s) t ∙ ap (λ b. same_sub (sub_of s) t || b) (are t)
+    ∙ by_end (same_sub (sub_of s) t) (list_any (λ x. not x.fed && same_sub (sub_of x) t) subs) s.fed new
+    ∙ sym (list_any-append (λ (x : Submission). not x.fed && same_sub (sub_of x) t) subs (s ∷ []))
+  where
+    by_end : (a b f : Bool) → f ≡ false → (a || b) ≡ (b || ((not f && a) || false))
+    by_end true true f e = refl
+    by_end false true f e = refl
+    by_end true false true e = e
+    by_end true false false e = refl
+    by_end false false true e = refl
+    by_end false false false e = refl
+
+one_marked : (s : Submission) (f t : Sub) (rest : Bool) (b : Bool) → same_sub (sub_of s) f ≡ b
+    → (not (same_sub f t) && ((not s.fed && same_sub (sub_of s) t) || rest)) ≡ ((not (cond b (record s { fed = true }) s).fed && same_sub (sub_of (cond b (record s { fed = true }) s)) t) || (not (same_sub f t) && rest))
+one_marked s f t rest true e = gone s.fed (same_sub (sub_of s) t) (same_sub f t) rest (ap (λ (z : Sub). same_sub z t) (from_same_sub (sub_of s) f e))
+  where
+    gone : (d a b r : Bool) → a ≡ b → (not b && ((not d && a) || r)) ≡ (not b && r)
+    gone d a true r h = refl
+    gone true a false r h = refl
+    gone false false false r h = refl
+    gone false true false r h = absurd (cc)
+one_marked s f t rest false e = stays (not s.fed) (same_sub (sub_of s) t) (same_sub f t) rest (not_both (sub_of s) f t e)
+  where
+    stays : (d a b r : Bool) → (b ≡ true → a ≡ false) → (not b && ((d && a) || r)) ≡ ((d && a) || (not b && r))
+    stays d a false r h = refl
+    stays false a true r h = refl
+    stays true false true r h = refl
+    stays true true true r h = let e : true ≡ false = h refl in absurd (cc)
+
+pub marked_unfed : (subs : List Submission) (list : List Sub) (f : Sub) → AreUnfed subs list → AreUnfed (map (mark_of f) subs) (fed f list)
+marked_unfed subs list f are t = fed_has list f t ∙ ap (λ b. not (same_sub f t) && b) (are t) ∙ each subs
+  where
+    each : (subs : List Submission) → (not (same_sub f t) && list_any (λ x. not x.fed && same_sub (sub_of x) t) subs) ≡ list_any (λ x. not x.fed && same_sub (sub_of x) t) (map (mark_of f) subs)
+    each [] = elim (same_sub f t) as (λ (b : Bool). (not b && false) ≡ false) [ true ↦ refl | false ↦ refl ]
+    each (s ∷ subs) =
+        one_marked s f t (list_any (λ x. not x.fed && same_sub (sub_of x) t) subs) (same_sub (sub_of s) f) refl
+        ∙ ap (λ b. (not (mark_of f s).fed && same_sub (sub_of (mark_of f s)) t) || b) (each subs)

@@ -1,0 +1,148 @@
+//! The submissions that wait for feedback.
+ghost use Rattle.std.specs.Prelude.{◌≡◌, ◌≤◌, ◌<◌, ◌+◌, [], ◌++◌, length, IsTrue, IsFalse, IsOk, OnOk, OnErr};
+ghost use Rattle.vz_ids.specs.Ids.{same_sub};
+ghost use Rattle.vz_returns.specs.Feeding.{before, is_open, place_in, opened, fed};
+
+use std::alloc::Global;
+use std::marker::Model;
+use vz_frame::Room;
+use vz_ids::Sub;
+use vz_pixels::Memory;
+
+/// The submissions that wait for feedback, by client and ordinal. Contracts see their list
+/// and, beside it, the room that was made before.
+#[derive(Drop)]
+pub struct Feedbacks {
+    list: Vec<Sub>,
+}
+
+impl Model for Feedbacks {
+    ghost use Rattle.std.specs.Prelude.{◌-◌, vec_len, vec_capacity};
+    ghost use Rattle.vz_returns.specs.Feeding.{Unfed};
+
+    ghost Value = { Unfed };
+
+    ghost view = { λ a. record { list = a.list.items; spare = vec_capacity a.list - vec_len a.list } };
+}
+
+impl Feedbacks {
+    /// None waits. It takes no memory.
+    pub fn new(alloc: Global) -> Feedbacks
+        ensures { result.list ≡ [] }
+    {
+        Feedbacks {
+            list: Vec::new(alloc),
+        }
+    }
+
+    /// Makes room for at least so many more. Memory is the only error. Nothing else changes
+    /// in any case, and no room is lost.
+    pub fn ready(&mut self, n: usize) -> Result<(), Memory>
+        ensures list { self.new.list ≡ self.old.list }
+        ensures ok { OnOk result (n ≤ self.new.spare) }
+        ensures err { OnErr result (self.new ≡ self.old) }
+        ensures succeeds { n ≤ self.old.spare → IsOk result }
+        ensures spare { self.old.spare ≤ self.new.spare }
+    {
+        match self.list.try_reserve(n) {
+            Ok(()) => Ok(()),
+            Err(_) => Err(Memory),
+        }
+    }
+
+    /// A submission waits for feedback from now on. For want of memory, and only then, it
+    /// answers Memory and the list stays. Where there is room for one it answers Ok; it uses
+    /// no more of it. Condition: the submission does not wait.
+    pub fn add(&mut self, s: Sub) -> Result<(), Memory>
+        requires { IsFalse (is_open self.old.list s) }
+        ensures list { OnOk result (self.new.list ≡ opened s self.old.list) }
+        ensures err { OnErr result (self.new.list ≡ self.old.list) }
+        ensures succeeds { 0 < self.old.spare → IsOk result }
+        ensures spare { self.old.spare ≤ self.new.spare + 1 }
+    {
+        let place = place_in(&self.list, &s);
+        match self.list.insert(place, s) {
+            Ok(()) => Ok(()),
+            Err(_) => Err(Memory),
+        }
+    }
+
+    /// Whether a submission waited. It waits no longer.
+    pub fn feed(&mut self, s: Sub) -> bool
+        ensures value { result ≡ is_open self.old.list s }
+        ensures list { self.new.list ≡ fed s self.old.list }
+        ensures spare { self.old.spare ≤ self.new.spare }
+    {
+        let was_open = is_open(&self.list, &s);
+        self.list.retain(|t| !is_same(t, &s));
+        was_open
+    }
+
+    /// How many wait.
+    pub fn unfed(&self) -> usize
+        ensures { result ≡ length self.now.list }
+    {
+        self.list.len()
+    }
+
+    /// Appends those that wait, by client and ordinal. It takes no memory. Condition: `out`
+    /// has room for all.
+    pub fn subs(&self, out: &mut Room<Sub>)
+        requires { length self.now.list ≤ out.old.spare }
+        ensures list { out.new.list ≡ out.old.list ++ self.now.list }
+        ensures room { out.old.spare ≡ out.new.spare + length self.now.list }
+    {
+        put_all(&self.list, out);
+    }
+}
+
+/// Whether two submissions are the same.
+fn is_same(a: &Sub, b: &Sub) -> bool
+    ensures { result ≡ same_sub a.now b.now }
+{
+    a == b
+}
+
+/// Whether one comes before another.
+fn is_before(a: &Sub, b: &Sub) -> bool
+    ensures { result ≡ before a.now b.now }
+{
+    a.client < b.client || (a.client == b.client && a.ordinal < b.ordinal)
+}
+
+/// Whether one of them is this submission.
+fn is_open(list: &[Sub], s: &Sub) -> bool
+    ensures { result ≡ is_open list.now s.now }
+{
+    for t in list {
+        if is_same(t, s) {
+            return true;
+        }
+    }
+    false
+}
+
+/// How many come before a submission.
+fn place_in(list: &[Sub], s: &Sub) -> usize
+    ensures value { result ≡ place_in list.now s.now }
+    ensures bound { result ≤ length list.now }
+{
+    let mut place = 0;
+    for t in list {
+        if is_before(t, s) {
+            place += 1;
+        }
+    }
+    place
+}
+
+/// Appends all of a list.
+fn put_all(list: &[Sub], out: &mut Room<Sub>)
+    requires { length list.now ≤ out.old.spare }
+    ensures list { out.new.list ≡ out.old.list ++ list.now }
+    ensures room { out.old.spare ≡ out.new.spare + length list.now }
+{
+    for s in list {
+        out.put(*s);
+    }
+}

@@ -1,0 +1,3 @@
+pub mod Followed
+pub mod Seated
+pub mod Same_seats

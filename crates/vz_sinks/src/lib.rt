@@ -1,0 +1,10 @@
+//! The hierarchy of sinks: which sink stands under which, and which clients get begin-frames.
+//!
+//! A client is attached where the first client's sink reaches its sink over the relations.
+#![tactic(auto)]
+
+pub mod laws;
+mod reaching;
+mod sinks;
+
+pub use sinks::{SinkError, Sinks};
