@@ -1,1 +1,3 @@
 mod Places
+pub mod Turning
+pub mod Displays

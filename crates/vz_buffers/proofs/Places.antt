@@ -4,8 +4,7 @@ use Rattle.std.proofs.Math.Nat.{mul-le-mul_right}
 use Rattle.std.proofs.lemmas.Int.{ints}
 use Rattle.std.proofs.lemmas.Option.{slice_get_read}
 use Rattle.vz_pixels.specs.Colour.{Colour}
-use Rattle.vz_geom.specs.declared.Size.{Size}
-use Rattle.vz_buffers.specs.Canvas.{Canvas, IsCanvas, place_of, pixel_count}
+use Rattle.vz_buffers.specs.Canvas.{Canvas, IsCanvas, place_of}
 
 -- a span of a row ends inside that many rows
 row_ends : (x y n w h : ℕ) → x + n ≤ w → y < h → (y * w + x) + n ≤ h * w

@@ -1,7 +1,7 @@
 //! The buffer.
 ghost use Rattle.std.specs.Prelude.{◌≡◌, ◌+◌, ◌≤◌, ◌≤ℤ◌, ◌<ℤ◌, ◌+ℤ◌, pos, length, replicate, slice_get, Some, IfOk, OnOk, OnErr};
 ghost use Rattle.vz_pixels.specs.Colour.{black};
-ghost use Rattle.vz_buffers.specs.Canvas.{IsCanvasSize, pixel_count, span_put, place_of};
+ghost use Rattle.vz_buffers.specs.Canvas.{IsCanvas, IsCanvasSize, pixel_count, span_put, place_of};
 
 use crate::Steps;
 use std::alloc::Global;
@@ -42,6 +42,14 @@ impl Buffer {
         };
         steps.add(count as u64);
         Ok(Buffer { size, pixels })
+    }
+
+    /// The width and the height in pixels.
+    pub fn size(&self) -> Size
+        ensures value { result ≡ self.now.size }
+        ensures proper { IsCanvas self.now }
+    {
+        self.size
     }
 
     /// Puts a span of pixels into row `y`, from column `x` on. Each of them is a step.

@@ -1,0 +1,4 @@
+pub mod Keeps
+pub mod Drawings
+pub mod Histories
+mod Rows

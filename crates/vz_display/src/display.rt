@@ -1,0 +1,190 @@
+//! The display.
+ghost use Rattle.std.specs.Prelude.{◌≡◌, ◌+◌, ◌-◌, ◌^◌, ◌≤◌, ◌*◌, ◌++◌, ◌≤ℤ◌, ◌<ℤ◌, pos, nat_abs, take, drop, length, replicate, None, Some, ◌∷◌, IfOk, OnOk, IsSome, IfSome};
+ghost use Rattle.std.specs.List.{flat_map};
+ghost use Rattle.vz_buffers.specs.Canvas.{IsCanvasSize};
+ghost use Rattle.vz_rules.specs.Frames.{pixel_bytes};
+ghost use Rattle.vz_display.specs.Displayed.{HaveSize, current, row_at, first_displayed, last_in, pixels_in, making_in, shown, steps_for};
+
+use arrayvec::ArrayVec;
+use std::alloc::Global;
+use std::marker::Model;
+use std::sync::ledger::Ledger;
+use vz_buffers::{Buffer, Queue, Steps};
+use vz_geom::Size;
+use vz_machine::Picture;
+use vz_pixels::{Memory, Pixel};
+
+/// How many buffers a display has at most.
+const MOST: usize = 4;
+
+/// A display of 1 to 4 buffers that are painted in turn. A buffer is made at its first use, and
+/// painted where it is stale alone.
+#[derive(Drop)]
+pub struct Display {
+    size: Size,
+    queue: Queue,
+    kept: ArrayVec<Option<Buffer>, MOST>,
+    painted: u64,
+}
+
+impl Model for Display {
+    ghost use Rattle.vz_display.specs.Displayed.{Displayed, IsDisplayed};
+    ghost use Rattle.std.specs.Prelude.{◌≡◌};
+
+    ghost Value = { Displayed };
+
+    ghost view = { λ d. record { turns = d.queue; kept = d.kept.items; painted = d.painted } };
+
+    ghost invariant = { λ d. IsDisplayed (record { turns = d.queue; kept = d.kept.items; painted = d.painted }) × (d.size ≡ d.queue.size) };
+}
+
+impl Display {
+    /// A display that shows nothing yet. Conditions: 1 to 4 buffers, and a display's size.
+    pub fn new(size: Size, buffers: u32) -> Display
+        requires from { 1 ≤ buffers }
+        requires upto { buffers ≤ 4 }
+        requires size { IsCanvasSize size }
+        ensures { result ≡ first_displayed size buffers }
+    {
+        Display {
+            size,
+            queue: Queue::new(buffers, size),
+            kept: never_made(buffers),
+            painted: 0,
+        }
+    }
+
+    /// Shows a picture: its damage is added to what is stale of each buffer, and the next buffer is
+    /// painted where it is stale and becomes the current one. Condition: the picture has the
+    /// display's size. At want of memory the display is of no further use.
+    pub fn show<P: Picture, L: Ledger>(
+        &mut self,
+        alloc: Global,
+        p: &P,
+        steps: &mut Steps<L>,
+    ) -> Result<(), Memory>
+        requires { (P.pictured p.now).size ≡ self.old.turns.size }
+        ensures shown { OnOk result (self.new ≡ shown self.old (P.pictured p.now)) }
+        ensures counted { OnOk result (steps.new ≡ steps.old + steps_for self.old (P.pictured p.now).changed) }
+    {
+        let _proper = p.size();
+        let damage = p.damage();
+        self.queue.add_damage(&damage);
+        let area = self.queue.stale();
+        let (mut buffer, made) = next_buffer(alloc, self.size, &mut self.kept, steps)?;
+        p.paint(alloc, area, &mut buffer, steps)?;
+        self.queue.painted();
+        self.kept.insert(0, Some(buffer));
+        self.painted = self
+            .painted
+            .saturating_add(made)
+            .saturating_add(area.area());
+        Ok(())
+    }
+
+    /// The bytes of a row of the current buffer, four a pixel. Conditions: a picture was shown, the
+    /// row is one of the display, and there are four bytes for each of its pixels.
+    pub fn row(&self, y: i32, into: &mut [u8])
+        requires current { IsSome (current self.now) }
+        requires top { pos 0 ≤ℤ y }
+        requires bottom { y <ℤ self.now.turns.size.h }
+        requires bytes { length into.old ≡ 4 * nat_abs self.now.turns.size.w }
+        ensures { IfSome (current self.now) (λ b. into.new ≡ flat_map pixel_bytes (row_at b y)) }
+    {
+        if let Some(Some(buffer)) = self.kept.first() {
+            copy_row(buffer, &self.size, y, into);
+        }
+    }
+
+    /// All steps of the pictures shown so far, or `u64::MAX` where they are more.
+    pub fn painted(&self) -> u64
+        ensures { result ≡ self.now.painted }
+    {
+        self.painted
+    }
+}
+
+/// So many buffers that were never made.
+fn never_made(count: u32) -> ArrayVec<Option<Buffer>, MOST>
+    requires { count ≤ 4 }
+    ensures { result.items ≡ replicate count None }
+{
+    let mut kept = ArrayVec::new();
+    for _ in 0..count {
+        kept.push(None);
+    }
+    kept
+}
+
+/// Takes the next buffer, and makes it where it was never made; and the steps for making it.
+fn next_buffer<L: Ledger>(
+    alloc: Global,
+    size: Size,
+    kept: &mut ArrayVec<Option<Buffer>, MOST>,
+    steps: &mut Steps<L>,
+) -> Result<(Buffer, u64), Memory>
+    requires size { IsCanvasSize size }
+    requires sizes { HaveSize size kept.old.items }
+    ensures rest { kept.new.items ≡ take (length kept.old.items - 1) kept.old.items }
+    ensures size { IfOk result (λ r. r.0.size ≡ size) }
+    ensures pixels { IfOk result (λ r. r.0.pixels ≡ pixels_in size (last_in kept.old.items)) }
+    ensures made { IfOk result (λ r. r.1 ≡ making_in size (last_in kept.old.items)) }
+    ensures counted { OnOk result (steps.new ≡ steps.old + making_in size (last_in kept.old.items)) }
+{
+    match kept.pop() {
+        Some(Some(buffer)) => Ok((buffer, 0)),
+        _ => make(alloc, size, steps),
+    }
+}
+
+/// Makes a buffer, and tells the steps for it.
+fn make<L: Ledger>(alloc: Global, size: Size, steps: &mut Steps<L>) -> Result<(Buffer, u64), Memory>
+    requires size { IsCanvasSize size }
+    ensures size { IfOk result (λ r. r.0.size ≡ size) }
+    ensures pixels { IfOk result (λ r. r.0.pixels ≡ pixels_in size None) }
+    ensures made { IfOk result (λ r. r.1 ≡ making_in size None) }
+    ensures counted { OnOk result (steps.new ≡ steps.old + making_in size None) }
+{
+    let buffer = Buffer::new(alloc, size, steps)?;
+    let made = size.w.unsigned_abs() as u64 * size.h.unsigned_abs() as u64;
+    Ok((buffer, made))
+}
+
+/// Copies the bytes of a row of a buffer.
+fn copy_row(buffer: &Buffer, size: &Size, y: i32, into: &mut [u8])
+    requires same { buffer.now.size ≡ size.now }
+    requires top { pos 0 ≤ℤ y }
+    requires bottom { y <ℤ size.now.h }
+    requires bytes { length into.old ≡ 4 * nat_abs size.now.w }
+    ensures { into.new ≡ flat_map pixel_bytes (row_at buffer.now y) }
+{
+    let width = buffer.size().w.unsigned_abs() as usize;
+    let from = y.unsigned_abs() as usize * width;
+    copy_pixels(span(buffer.pixels(), from, width), into);
+}
+
+/// So many pixels from a place on.
+fn span(pixels: &[Pixel], from: usize, count: usize) -> &[Pixel]
+    requires { (from + count) ≤ length pixels.now }
+    ensures { result.now ≡ take count (drop from pixels.now) }
+{
+    &pixels[from..from + count]
+}
+
+/// Copies the bytes of pixels.
+fn copy_pixels(row: &[Pixel], into: &mut [u8])
+    requires { length into.old ≡ 4 * length row.now }
+    ensures { into.new ≡ flat_map pixel_bytes row.now }
+{
+    for k in 0..row.len() {
+        put(into, 4 * k, row[k]);
+    }
+}
+
+/// Puts the bytes of a pixel from a place on.
+fn put(into: &mut [u8], at: usize, p: Pixel)
+    requires { (at + 4) ≤ length into.old }
+    ensures { into.new ≡ take at into.old ++ pixel_bytes p ++ drop (at + 4) into.old }
+{
+    into[at..at + 4].copy_from_slice(&[p.r(), p.g(), p.b(), p.a()]);
+}

@@ -1,0 +1,2 @@
+mod Small
+mod Rounds

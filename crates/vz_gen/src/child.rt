@@ -1,0 +1,131 @@
+//! A child: a tile that moves on, in front of one colour.
+ghost use Rattle.std.specs.Prelude.{◌≡◌, ◌≤◌, ◌<◌, ◌+◌, ◌++◌, [], ◌∷◌, IfOk, OnOk};
+ghost use Rattle.vz_gen.specs.Make.{child_frame, child_file, round_of, rounds_from, resource_of, damage_of, block_of, child_quads};
+
+use crate::parts::{Shape, colour, frame, listed, local, quad, rect, sink};
+use std::alloc::Global;
+use vz_frame::{ClientFile, CompositorFrame, DrawQuad, List, Listing, Material, Message};
+use vz_geom::Rect;
+use vz_pixels::{Memory, PixelBlock};
+
+/// The resource of a round.
+fn resource(r: u32) -> u32
+    ensures { result ≡ resource_of r }
+{
+    1 + r % 2
+}
+
+/// What changes in a round: all in the first one, and then the tile's places before and now.
+fn damage(r: u32) -> Rect
+    requires { 1 ≤ r }
+    ensures { result ≡ damage_of r }
+{
+    if r == 1 {
+        rect(0, 0, 32, 32)
+    } else if r % 8 == 0 {
+        rect(0, 0, 32, 4)
+    } else {
+        rect(4 * ((r - 1) % 8) as i32, 0, 8, 4)
+    }
+}
+
+/// The block of a round: 4 by 4 pixels of one red.
+fn block(alloc: Global, r: u32) -> Result<PixelBlock, Memory>
+    ensures { IfOk result (λ b. b ≡ block_of r) }
+{
+    let red = colour((r % 256) as u8, 0, 0);
+    let Ok(pixels) = vec![in alloc; red; 16] else {
+        return Err(Memory);
+    };
+    PixelBlock::of_pixels(alloc, 4, 4, pixels)
+}
+
+/// The quads of a round, front to back.
+fn quads(alloc: Global, k: u32, r: u32) -> Result<List<DrawQuad>, Memory>
+    requires { (2 ≤ k) × (k ≤ 3) }
+    ensures { IfOk result (λ l. l ≡ child_quads k r) }
+{
+    let tile = Material::Tile {
+        resource: resource(r),
+        tx: 0,
+        ty: 0,
+    };
+    let ground = Material::Solid(colour(0, 0, (64 * (k - 1)) as u8));
+    listed(
+        alloc,
+        [
+            quad(4 * (r % 8) as i32, &rect(0, 0, 4, 4), 255, tile),
+            quad(0, &rect(0, 0, 32, 32), 255, ground),
+        ],
+    )
+}
+
+/// The frame of a round.
+fn child_frame(alloc: Global, k: u32, r: u32) -> Result<CompositorFrame, Memory>
+    requires client { (2 ≤ k) × (k ≤ 3) }
+    requires round { 1 ≤ r }
+    ensures { IfOk result (λ f. f ≡ child_frame k r) }
+{
+    let shape = Shape {
+        token: r,
+        ack: r,
+        output: rect(0, 0, 32, 32),
+        damage: damage(r),
+    };
+    let listing = Listing {
+        id: resource(r),
+        w: 4,
+        h: 4,
+    };
+    let resources = listed(alloc, [listing])?;
+    let quads = quads(alloc, k, r)?;
+    frame(alloc, &shape, List::new(alloc), resources, quads)
+}
+
+/// Adds a message at the end.
+fn add(messages: &mut List<Message>, message: Message) -> Result<(), Memory>
+    ensures { OnOk result (messages.new ≡ messages.old ++ message ∷ []) }
+{
+    match messages.push(message) {
+        Ok(()) => Ok(()),
+        Err(_) => Err(Memory),
+    }
+}
+
+/// Adds the messages of a round.
+fn add_round(alloc: Global, k: u32, r: u32, messages: &mut List<Message>) -> Result<(), Memory>
+    requires client { (2 ≤ k) × (k ≤ 3) }
+    requires round { 1 ≤ r }
+    ensures { OnOk result (messages.new ≡ messages.old ++ round_of k r) }
+{
+    let upload = Message::Upload {
+        id: resource(r),
+        block: block(alloc, r)?,
+    };
+    let submit = Message::Submit {
+        local: local(k),
+        frame: child_frame(alloc, k, r)?,
+    };
+    add(messages, Message::Await)?;
+    add(messages, Message::Reclaim)?;
+    add(messages, upload)?;
+    add(messages, submit)?;
+    Ok(())
+}
+
+/// The file of a child.
+pub fn child_file(alloc: Global, n: u32, k: u32) -> Result<ClientFile, Memory>
+    requires rounds { n ≤ 1000 }
+    requires client { (2 ≤ k) × (k ≤ 3) }
+    ensures { IfOk result (λ f. f ≡ child_file n k) }
+{
+    let mut messages = List::new(alloc);
+    for r in 0..n {
+        add_round(alloc, k, r + 1, &mut messages)?;
+    }
+    Ok(ClientFile {
+        format: 1,
+        sink: sink(k),
+        messages,
+    })
+}

@@ -1,0 +1,22 @@
+//! The three files.
+ghost use Rattle.std.specs.Prelude.{◌≡◌, ◌≤◌, IfOk};
+ghost use Rattle.vz_gen.specs.Make.{make};
+
+use crate::child::child_file;
+use crate::page::page_file;
+use crate::parts::listed;
+use std::alloc::Global;
+use vz_frame::{ClientFile, List};
+use vz_pixels::Memory;
+
+/// The files of a page and its two children, for `n` rounds. Condition: at most 1,000 rounds.
+#[tactic(auto, unfolding(crate::specs::Make::make))]
+pub fn make(alloc: Global, n: u32) -> Result<List<ClientFile>, Memory>
+    requires { n ≤ 1000 }
+    ensures { IfOk result (λ files. files ≡ make n) }
+{
+    let page = page_file(alloc)?;
+    let second = child_file(alloc, n, 2)?;
+    let third = child_file(alloc, n, 3)?;
+    listed(alloc, [page, second, third])
+}

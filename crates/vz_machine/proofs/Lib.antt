@@ -1,0 +1,4 @@
+pub mod Points
+pub mod Spans
+pub mod Rows
+pub mod Whole

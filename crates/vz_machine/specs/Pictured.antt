@@ -1,0 +1,56 @@
+-- What can be known of a picture of a display.
+use Rattle.std.specs.Prelude.{◌≡◌, ℕ, pos, ◌+ℤ◌, ◌≤ℤ◌, List, length, map, get_or}
+use Rattle.vz_geom.specs.declared.Point.{Point}
+use Rattle.vz_geom.specs.declared.Size.{Size}
+use Rattle.vz_geom.specs.Rectangle.{Rectangle, Covers, sized, points_of}
+use Rattle.vz_pixels.specs.Colour.{Colour, black}
+use Rattle.vz_buffers.specs.Canvas.{IsCanvasSize, pixel_count, place_of}
+
+-- a picture: its size, the colour at each point, and the rectangle that changed since the last one
+pub record Pictured : Type 0 where
+  pub size : Size
+  pub colour : Point → Colour
+  pub changed : Rectangle
+
+-- a picture is of a display, and what changed is on it
+pub record IsPictured (p : Pictured) : Type 0 where
+  pub sides : IsCanvasSize p.size
+  pub inside : Covers (sized p.size) p.changed
+
+-- the colours of all points, row by row
+abbrev pub colours_in : Pictured → List Colour
+colours_in p = map p.colour (points_of p.size)
+
+-- all pixels of a picture, row by row, and the rectangle that changed
+pub record Pixelled : Type 0 where
+  pub size : Size
+  pub pixels : List Colour
+  pub changed : Rectangle
+
+-- a pixel for each point of a display
+pub record IsPixelled (p : Pixelled) : Type 0 where
+  pub sides : IsCanvasSize p.size
+  pub all : length p.pixels ≡ pixel_count p.size
+  pub inside : Covers (sized p.size) p.changed
+
+-- the picture of these pixels
+abbrev pub picture_with : Pixelled → Pictured
+picture_with p =
+    record { size = p.size; colour = λ q. get_or p.pixels (place_of p.size q.x q.y) black; changed = p.changed }
+
+-- the row of an area that is so many rows below its first one
+abbrev pub row_of : Rectangle → ℕ → Rectangle
+row_of area below = record { x = area.x; y = area.y +ℤ pos below; w = area.w; h = pos 1 }
+
+-- the first so many rows of an area
+abbrev pub first_rows : Rectangle → ℕ → Rectangle
+first_rows area count = record { x = area.x; y = area.y; w = area.w; h = pos count }
+
+-- no edge of an area lies outside
+pub record IsInside (outer inner : Rectangle) : Type 0 where
+  pub left : outer.x ≤ℤ inner.x
+  pub top : outer.y ≤ℤ inner.y
+  pub right : (inner.x +ℤ inner.w) ≤ℤ (outer.x +ℤ outer.w)
+  pub bottom : (inner.y +ℤ inner.h) ≤ℤ (outer.y +ℤ outer.h)
+  pub wide : pos 1 ≤ℤ inner.w
+  pub high : pos 1 ≤ℤ inner.h

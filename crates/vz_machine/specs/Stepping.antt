@@ -1,0 +1,60 @@
+-- What a step of a machine answers and leaves, and what is asked of its world.
+use Rattle.std.specs.Prelude.{◌≡◌, ℕ, Bool, false, Option, Some, None}
+use Rattle.vz_geom.specs.declared.Point.{Point}
+use Rattle.vz_rules.specs.declared.entry.Event.{Event}
+use Rattle.vz_rules.specs.declared.entry.Event.TheVariants as event
+use Rattle.vz_rules.specs.declared.entry.Reply.{Reply}
+use Rattle.vz_rules.specs.declared.entry.Reply.TheVariants.{Drawn}
+use Rattle.vz_rules.specs.World.{Machine, Client, Scene, client_at}
+use Rattle.vz_rules.specs.Scene.{scene_of}
+use Rattle.vz_rules.specs.Paint.{full}
+use Rattle.vz_rules.specs.Step.{step_in, is_attached, NamesClient}
+use Rattle.vz_rules.specs.Course.{waits, is_idle, has_answered}
+use Rattle.vz_machine.specs.Pictured.{Pictured}
+use Rattle.vz_machine.specs.declared.machine.Step.{Step}
+
+-- the plan has a client of this number
+abbrev pub HasClient : Machine → ℕ → Type 0
+HasClient m c = NamesClient m.plan (event.Client c)
+
+-- a step answers what the definitions answer
+pub record Answers (m : Machine) (e : Event) (s : Step) : Type 0 where
+  pub reply : s.reply ≡ (step_in m.plan m.world e).reply
+  pub effects : s.effects ≡ (step_in m.plan m.world e).effects
+
+-- a step leaves the world that the definitions leave, and the plan
+abbrev pub Goes : Machine → Event → Machine → Type 0
+Goes old e new = new ≡ record { plan = old.plan; world = (step_in old.plan old.world e).world }
+
+-- a picture of what was to be seen
+pub record IsPictureOf (m : Machine) (scene : Scene) (p : Pictured) : Type 0 where
+  pub size : p.size ≡ m.plan.size
+  pub colours : (q : Point) → p.colour q ≡ full scene q
+
+-- there is a picture exactly where something is drawn: of what is to be seen then, and what changed is the damage
+abbrev pub ShowsDrawn : Machine → Reply → Option Pictured → Type 0
+ShowsDrawn m (Drawn r) (Some p) = (scene : Scene) × (scene_of m.world ≡ Some scene) × IsPictureOf m scene p × (p.changed ≡ r)
+ShowsDrawn m (Drawn r) None = ⊥
+ShowsDrawn m _ (Some p) = ⊥
+ShowsDrawn m _ None = Unit {0}
+
+-- a test of a client, false where there is none of this number
+abbrev pub asked : Option Client → (Client → Bool) → Bool
+asked None test = false
+asked (Some x) test = test x
+
+-- the next answer of a client would be NotYet
+abbrev pub waits_at : Machine → ℕ → Bool
+waits_at m c = asked (client_at m.world c) (waits m.plan m.world)
+
+-- a client is closed, has no message left or waits
+abbrev pub idle_at : Machine → ℕ → Bool
+idle_at m c = asked (client_at m.world c) (is_idle m.plan m.world)
+
+-- a client has answered the tick
+abbrev pub answered_at : Machine → ℕ → Bool
+answered_at m c = asked (client_at m.world c) (has_answered m.world)
+
+-- a client is attached
+abbrev pub attached_at : Machine → ℕ → Bool
+attached_at m c = asked (client_at m.world c) (is_attached m.plan m.world)
