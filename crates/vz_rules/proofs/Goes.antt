@@ -27,7 +27,7 @@ use Rattle.vz_rules.specs.Messages.{Answer, says, refused, unless_refused, first
 use Rattle.vz_rules.specs.Walk.{walk_of, too_much}
 use Rattle.vz_rules.specs.Damage.{drawn_damage}
 use Rattle.vz_rules.specs.Step.{begin_answer, scene_answer, draw_answer, done_answer, answer_to, step_in, presented_by, accepted_images}
-use Rattle.vz_rules.specs.Kept.{KeepsAlways, is_open}
+use Rattle.vz_rules.specs.Kept.{HasSize, KeepsAlways, is_open}
 use Rattle.vz_rules.proofs.Members.{contains_push, contains_at, contains_cases, contains_none, at_contains, push_contains, push_contains_last, find_at}
 use Rattle.vz_rules.proofs.Counts.{count_at}
 use Rattle.vz_rules.proofs.Reached.{from_same, self_same, self_same_sink}
@@ -35,7 +35,7 @@ use Rattle.vz_rules.proofs.Kept_accepted.{replaces}
 use Rattle.vz_rules.proofs.Kept_last.{last_at}
 use Rattle.vz_rules.proofs.Kept_states.{open_before}
 use Rattle.vz_rules.proofs.Kept_submits.{one_of_number}
-use Rattle.vz_rules.proofs.Stays.{Stays, WasOpen, HasSize, KeepsSize, image_of, images_mapped, opens_same, opens_mapped, sizes_mapped, stays_after}
+use Rattle.vz_rules.proofs.Stays.{Stays, WasOpen, KeepsSize, image_of, images_mapped, opens_same, opens_mapped, sizes_mapped, stays_after}
 
 -- no submission on its surface has a greater number
 abbrev pub IsLatest : List Submission → Submission → Type 0

@@ -11,7 +11,7 @@ use Rattle.vz_rules.specs.declared.entry.Event.{Event}
 use Rattle.vz_rules.specs.World.{World, Image, Created, Submission, Scene, is_on, is_waiting, is_active, active_images, image_on, opening}
 use Rattle.vz_rules.specs.Scene.{scene_of, scene_at}
 use Rattle.vz_rules.specs.Step.{step_in, accepted_images}
-use Rattle.vz_rules.specs.Kept.{KeepsAlways, KeepsStates, is_open}
+use Rattle.vz_rules.specs.Kept.{HasSize, KeepsAlways, KeepsStates, is_open}
 use Rattle.vz_rules.proofs.Members.{contains_none, contains_map, map_contains, contains_at, at_map, at_same, filter_at, append_contains}
 use Rattle.vz_rules.proofs.Counts.{count_same, take_map, one_place}
 use Rattle.vz_rules.proofs.Reached.{from_same, self_same}
@@ -21,7 +21,7 @@ use Rattle.vz_rules.proofs.Kept_steps.{always_step}
 use Rattle.vz_rules.proofs.Between.{IsAccepted, on_surface}
 use Rattle.vz_rules.proofs.Remembered.{AreAlone}
 use Rattle.vz_rules.proofs.Redrawn.{AreLater}
-use Rattle.vz_rules.proofs.Stays.{HasSize, image_of}
+use Rattle.vz_rules.proofs.Stays.{image_of}
 use Rattle.vz_rules.proofs.Goes.{Goes, goes_step}
 
 -- What always holds

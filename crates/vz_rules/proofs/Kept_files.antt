@@ -40,7 +40,7 @@ file_parts f h =
     (leb-true (length f.messages) 4096 (and_parts start (nat_le (length f.messages) 4096) all.0).1, all.1)
 
 -- a client's next message fits
-next_fits : (p : Plan) (c : Client) (m : Message) → IsPlan p → next_message p c ≡ Some m → (f : ClientFile) × (fits_message f.format m ≡ true)
+pub next_fits : (p : Plan) (c : Client) (m : Message) → IsPlan p → next_message p c ≡ Some m → (f : ClientFile) × (fits_message f.format m ≡ true)
 next_fits p c m is e =
     let r = is_in_file p c m (file_of p c.number) e in
     let file = at_contains p.files (c.number - 1) r.0 r.1 in

@@ -12,7 +12,7 @@ use Rattle.vz_rules.specs.Reach.{name_one, naming, is_named_now, reach, is_lost,
 use Rattle.vz_rules.specs.Returns.{mark_fed, give_back, feed}
 use Rattle.vz_rules.specs.Messages.{Answer}
 use Rattle.vz_rules.specs.Step.{outcome_of, accepted_images}
-use Rattle.vz_rules.specs.Kept.{is_open}
+use Rattle.vz_rules.specs.Kept.{HasSize, is_open}
 use Rattle.vz_rules.proofs.Members.{contains_map, map_contains}
 use Rattle.vz_rules.proofs.Kept_states.{open_before}
 use Rattle.vz_rules.proofs.Kept_clears.{drops}
@@ -24,10 +24,6 @@ image_of s = s.image
 -- one of these submissions is open and was accepted as this one
 abbrev pub WasOpen : List Submission → Submission → Type 0
 WasOpen xs t = (s : Submission) × Contains xs s × (is_open s ≡ true) × (s.image ≡ t.image)
-
--- a surface of this id and size was created
-abbrev pub HasSize : List Created → SurfaceId → Size → Type 0
-HasSize ss id size = (c : Created) × Contains ss c × (c.id ≡ id) × (c.size ≡ size)
 
 -- the second world has the submissions of the first, none of them open that was not, and its surfaces
 pub record Stays (w v : World) : Type 0 where

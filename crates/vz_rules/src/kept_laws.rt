@@ -22,7 +22,7 @@ ghost use Rattle.vz_rules.specs.Messages.{Answer, refused, taking, answer_tick, 
 ghost use Rattle.vz_rules.specs.Step.{answer_to, draw_answer, outcome_of, step_in, world, Legal};
 ghost use Rattle.vz_rules.specs.Log.{Spellable, rest_of};
 ghost use Rattle.vz_rules.specs.Singly.{all_rising, all_going};
-ghost use Rattle.vz_rules.specs.Kept.{Keeps, KeepsAlways, KeepsPlan, HasSmallClient, IsSmallReturn, IsSmallResource, IsSmallSubmission, IsSmallSurface, count_of, is_open, no_effects, out_of};
+ghost use Rattle.vz_rules.specs.Kept.{Keeps, KeepsAlways, KeepsPlan, KeepsMessages, HasSmallClient, IsSmallReturn, IsSmallResource, IsSmallSubmission, IsSmallSurface, count_of, is_open, no_effects, out_of};
 
 /// What is kept between steps holds at first and after every history, and each step leads to it.
 pub fn steps_keep()
@@ -36,6 +36,13 @@ pub fn steps_keep_the_plan()
     ensures opening { (p : Plan) → KeepsPlan p (opening p) }
     ensures step { (p : Plan) (w : World) (e : Event) → IsPlan p → KeepsAlways w → KeepsPlan p w → KeepsPlan p (step_in p w e).world }
     ensures history { (p : Plan) (h : List Entry) → IsPlan p → KeepsPlan p (world p h) }
+{}
+
+/// So does what is kept of the messages that clients sent.
+pub fn steps_keep_the_messages()
+    ensures opening { (p : Plan) → KeepsMessages (opening p) }
+    ensures step { (p : Plan) (w : World) (e : Event) → IsPlan p → KeepsAlways w → KeepsMessages w → KeepsMessages (step_in p w e).world }
+    ensures history { (p : Plan) (h : List Entry) → IsPlan p → KeepsMessages (world p h) }
 {}
 
 /// Within a step the own change of an event and each part of what follows keep what holds all the time.
