@@ -39,13 +39,13 @@ activated_none_over zero w none = refl
 activated_none_over (suc n) w none =
     ap (λ l. map sub_of l ++ activated_over n (round w)) none ∙ (ap (activated_over n) (round_stays w none) ∙ activated_none_over n w none)
 
-activated_none : (w : World) → ready w ≡ [] → activated_in w ≡ []
+pub activated_none : (w : World) → ready w ≡ [] → activated_in w ≡ []
 unfolding activated_in
 activated_none w none = activated_none_over (length w.subs) w none
 
 -- Collection
 
-destroyed_none : (w : World) → naming w ≡ w → lost_in w ≡ [] → destroyed_in w ≡ []
+pub destroyed_none : (w : World) → naming w ≡ w → lost_in w ≡ [] → destroyed_in w ≡ []
 unfolding destroyed_in
 destroyed_none w named none =
     flat_map_none (lost_of (lost_in (naming w))) w.clients (λ c p. ap (λ l. lost_of l c) (ap lost_in named ∙ none))

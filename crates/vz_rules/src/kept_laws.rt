@@ -1,5 +1,5 @@
 //! Laws of what is kept of the world, each the contract of a function that does nothing.
-ghost use Rattle.std.specs.Prelude.{◌≡◌, ℕ, ◌+◌, ◌<◌, ◌≤◌, ◌⊎◌, Some, None, List, [], slice_get, IsTrue, IsFalse};
+ghost use Rattle.std.specs.Prelude.{◌≡◌, true, ℕ, ◌+◌, ◌<◌, ◌≤◌, ◌⊎◌, Some, None, List, [], slice_get, IsTrue, IsFalse};
 ghost use Rattle.std.specs.List.{Contains, list_all, sum_by};
 ghost use Rattle.vz_pixels.specs.Block.{Block};
 ghost use Rattle.vz_ids.specs.declared.FrameSinkId.{FrameSinkId};
@@ -22,6 +22,8 @@ ghost use Rattle.vz_rules.specs.Messages.{Answer, refused, taking, answer_tick, 
 ghost use Rattle.vz_rules.specs.Step.{answer_to, draw_answer, outcome_of, step_in, world, Legal};
 ghost use Rattle.vz_rules.specs.Log.{Spellable, rest_of};
 ghost use Rattle.vz_rules.specs.Singly.{all_rising, all_going};
+ghost use Rattle.vz_rules.specs.declared.entry.Reply.TheVariants as reply;
+ghost use Rattle.vz_rules.specs.Ends.{landed, presenting};
 ghost use Rattle.vz_rules.specs.Kept.{Keeps, KeepsAlways, KeepsPlan, KeepsMessages, HasSmallClient, IsSmallReturn, IsSmallResource, IsSmallSubmission, IsSmallSurface, count_of, is_open, no_effects, out_of};
 
 /// What is kept between steps holds at first and after every history, and each step leads to it.
@@ -117,6 +119,14 @@ pub fn nothing_is_late()
 /// Where an answer leaves what is kept between steps, nothing follows: it has no effects and its world stays.
 pub fn nothing_follows()
     ensures { (a : Answer) → Keeps a.world → outcome_of [] a ≡ record { reply = a.reply; effects = no_effects; world = a.world } }
+{}
+
+/// Between steps Done only gives back and feeds, Done with no frame in flight leaves the world, and Over notes that it is over: none
+/// of these makes a submission active or destroys a surface.
+pub fn ends_take_no_room()
+    ensures shown { (p : Plan) (w : World) (drawn : List Sub) → Keeps w → w.in_flight ≡ Some drawn → step_in p w event.Done ≡ presenting drawn (landed w) }
+    ensures nothing { (p : Plan) (w : World) → Keeps w → w.in_flight ≡ None → step_in p w event.Done ≡ record { reply = reply.Nothing; effects = no_effects; world = w } }
+    ensures over { (p : Plan) (w : World) → Keeps w → step_in p w event.Over ≡ record { reply = reply.Ended; effects = no_effects; world = record w { over = true } } }
 {}
 
 /// So it is with a refused message, with each message that is no submission, root or closing, with drawings and with the end.
