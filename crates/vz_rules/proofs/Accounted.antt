@@ -193,7 +193,7 @@ client_goes p w n =
       noted = λ m at. keeps (answer_tick w.tick m) _ (λ x. tick_stock (m == w.tick) w.tick x) refl refl refl;
       reclaimed = λ at. takes_on w n z reclaim _ (λ k. 0) e number (λ x. refl) refl same (λ k up. answered_reclaimed k z up);
       rooted = λ local root at. keeps (λ x. x) _ plain refl refl refl;
-      joined = λ parent child relations at. keeps (λ x. x) _ plain refl refl refl;
+      joined = λ parent child good at. keeps (λ x. x) _ plain refl refl refl;
       began = λ m d at. keeps (λ x. record x { delivered = None }) _ (λ x. record { number = refl; resources = refl; queue = refl }) refl refl refl;
       over = λ at. keeps (λ x. x) _ plain refl refl refl;
       left = λ at. keeps (λ x. record x { closed = true }) _ (λ x. record { number = refl; resources = refl; queue = refl }) refl refl refl;

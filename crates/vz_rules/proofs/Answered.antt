@@ -52,7 +52,7 @@ client_tick p w n =
       noted = λ m at. refl;
       reclaimed = λ at. refl;
       rooted = λ local root at. refl;
-      joined = λ parent child relations at. refl;
+      joined = λ parent child good at. refl;
       began = λ m d at. refl;
       over = λ at. refl;
       left = λ at. refl;
@@ -179,7 +179,7 @@ client_answers p w n c =
       noted = λ m at. sets (answer_tick w.tick m) (m == w.tick) (DidNotProduce m) reply.Noted (λ y. (tick_answers (m == w.tick) w.tick y).0) (λ y. (tick_answers (m == w.tick) w.tick y).1) refl at;
       reclaimed = λ at. sets reclaim false Reclaim (reply.Reclaimed x.queue) (λ y. refl) (λ y. refl) refl at;
       rooted = λ local root at. sets plain false (SetRoot local) reply.Rooted (λ y. refl) (λ y. refl) refl at;
-      joined = λ parent child relations at. sets plain false (Hierarchy parent child) reply.Joined (λ y. refl) (λ y. refl) refl at;
+      joined = λ parent child good at. sets plain false (Hierarchy parent child) reply.Joined (λ y. refl) (λ y. refl) refl at;
       began = λ m d at. sets (λ y. record y { delivered = None }) false Await (reply.Began m) (λ y. refl) (λ y. refl) refl at;
       over = λ at. sets plain false Await reply.Over (λ y. refl) (λ y. refl) refl at;
       left = λ at. sets (λ y. record y { closed = true }) false Close reply.Left (λ y. refl) (λ y. refl) refl at;

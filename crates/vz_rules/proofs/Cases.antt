@@ -25,7 +25,7 @@ use Rattle.vz_rules.specs.declared.entry.Refusal.{Refusal}
 use Rattle.vz_rules.specs.declared.entry.Refusal.TheVariants as refusal
 use Rattle.vz_rules.specs.World.{World, Client, Scene, Aggregation, client_at, next_message, last_created}
 use Rattle.vz_rules.specs.Scene.{scene_of}
-use Rattle.vz_rules.specs.Messages.{Answer, says, taking, refused, unless_refused, first_some, when, in_use, put_resource, submit_refusal, accepted, hierarchy_refusal, reclaim, answer_tick, mark_of, is_unknown, violates, has_other_size, reaches, is_known}
+use Rattle.vz_rules.specs.Messages.{Answer, says, taking, refused, unless_refused, first_some, when, in_use, put_resource, submit_refusal, accepted, hierarchy_refusal, relate, reclaim, answer_tick, mark_of, is_unknown, violates, has_other_size, reaches, is_known}
 use Rattle.vz_rules.specs.Messages.{upload_answer, submit_answer, root_answer, hierarchy_answer, await_answer, message_answer, known_client_answer, client_answer}
 use Rattle.vz_rules.specs.Step.{begin_answer, scene_answer, draw_answer, done_answer, answer_to}
 use Rattle.vz_rules.specs.Step.{accepted_images}
@@ -93,8 +93,8 @@ pub record MessageCases (w : World) (c : Client) (Q : Message → Answer → Typ
   pub noted : (n : ℕ) → Q (DidNotProduce n) (says reply.Noted (taking (answer_tick w.tick n) c w))
   pub reclaimed : Q Reclaim (says (reply.Reclaimed c.queue) (taking reclaim c w))
   pub rooted : (local : LocalSurfaceId) (root : Option SurfaceId) → Q (SetRoot local) (says reply.Rooted (record (taking (λ x. x) c w) { root = root }))
-  pub joined : (parent child : FrameSinkId) (relations : List (FrameSinkId × FrameSinkId))
-      → Q (Hierarchy parent child) (says reply.Joined (record (taking (λ x. x) c w) { relations = relations }))
+  pub joined : (parent child : FrameSinkId) → hierarchy_refusal w c parent child ≡ None
+      → Q (Hierarchy parent child) (says reply.Joined (record (taking (λ x. x) c w) { relations = relate parent child w.relations }))
   pub began : (n : ℕ) → c.delivered ≡ Some n → Q Await (says (reply.Began n) (taking (λ (x : Client). record x { delivered = None }) c w))
   pub over : Q Await (says reply.Over (taking (λ x. x) c w))
   pub left : Q Close (says reply.Left (record (taking (λ (x : Client). record x { closed = true }) c w) { surfaces = map (mark_of c.number) w.surfaces }))
@@ -129,7 +129,7 @@ message_cases w c Q h (SetRoot local) =
 message_cases w c Q h (Hierarchy parent child) =
     by_refusal w c (Q (Hierarchy parent child)) (hierarchy_refusal w c parent child) _
     (turns_hierarchy (reaches w.relations child parent) (not (is_known w parent && is_known w child)) (not (same_sink parent c.sink)))
-    (h.turned (Hierarchy parent child)) (λ e. h.joined parent child _)
+    (h.turned (Hierarchy parent child)) (h.joined parent child)
 message_cases w c Q h Await = awaits_by (Q Await) c.delivered _ w.over _ _ h.began h.over h.not_yet
 message_cases w c Q h Close = h.left
 

@@ -19,7 +19,7 @@ use Rattle.vz_rules.specs.Reach.{collect}
 use Rattle.vz_rules.specs.Settle.{settle}
 use Rattle.vz_rules.specs.Messages.{Answer, taking, submitting, lend, answer_tick, new_submission, id_of, replace_on, reclaim, accepted, client_answer}
 use Rattle.vz_rules.specs.Step.{next_tick, is_attached, deliver, begin_answer, answer_to, accepted_images, outcome_of, step_in, presented_by, world_from, world}
-use Rattle.vz_rules.specs.Kept.{KeepsAlways, Keeps, IsWhole, HasSize, KeepsBlocks, KeepsMessages}
+use Rattle.vz_rules.specs.Kept.{KeepsAlways, Keeps, IsWhole, HasSize, KeepsBlocks, KeepsRelations, KeepsMessages}
 use Rattle.vz_rules.proofs.Members.{contains_none, contains_at, contains_map, contains_push, map_contains, find_at, append_contains}
 use Rattle.vz_rules.proofs.Stays.{image_of}
 use Rattle.vz_rules.proofs.Goes.{Goes, goes_step}
@@ -28,17 +28,24 @@ use Rattle.vz_rules.proofs.Cases.{client_cases, answer_cases}
 use Rattle.vz_rules.proofs.Kept_first.{client_at_first, keeps_first}
 use Rattle.vz_rules.proofs.Kept_between.{keeps_step}
 use Rattle.vz_rules.proofs.Kept_files.{next_fits}
+use Rattle.vz_rules.proofs.Kept_related.{relations_map, relations_taking, relations_joined, relations_after}
 use Rattle.vz_rules.proofs.Kept_sent.{Sends, submit_fits, upload_fits, new_whole, sends_same, sends_map, sends_upload, blocks_taking}
 
 -- what is kept but for the sizes of surfaces
 record Sent (w : World) : Type 0 where
   images : (s : Submission) → Contains w.subs s → IsWhole s.image
   blocks : (c : Client) → Contains w.clients c → KeepsBlocks c
+  relations : KeepsRelations w.clients w.relations
 
 -- The answers
 
 sent_taking : (w : World) (c : Client) (f : Client → Client) → ((x : Client) → Contains w.clients x → Sends x (f x)) → Sent w → Sent (taking f c w)
-sent_taking w c f sends h = record { images = h.images; blocks = blocks_taking w c f sends h.blocks }
+sent_taking w c f sends h =
+    record {
+      images = h.images;
+      blocks = blocks_taking w c f sends h.blocks;
+      relations = relations_taking w c f (λ x q. (sends x q).sink) h.relations;
+    }
 
 -- clients that change neither sink nor resources
 sent_plain : (w : World) (c : Client) (f : Client → Client) → ((x : Client) → (f x).sink ≡ x.sink) → ((x : Client) → (f x).resources ≡ x.resources)
@@ -80,6 +87,7 @@ sent_accepted w c local frame whole h =
         | inr e ↦ subst (λ (x : Submission). IsWhole x.image) e whole
       ];
       blocks = blocks_taking w c (submitting w frame) (λ x q. submit_sends w frame x (h.blocks x q)) h.blocks;
+      relations = relations_taking w c (submitting w frame) (λ x q. (submit_sends w frame x (h.blocks x q)).sink) h.relations;
     }
 
 sent_client : (p : Plan) (w : World) (n : ℕ) → IsPlan p → KeepsAlways w → Sent w → Sent (client_answer p w n).world
@@ -98,18 +106,24 @@ sent_client p w n is a h =
           sent_accepted w c local frame (new_whole w c local frame (a.shelves c here).rising (h.blocks c here) both.0 both.1 good) h;
       noted = λ k at. sent_taking w c (answer_tick w.tick k) (λ x q. tick_sends (k == w.tick) w.tick x x (sends_same x x refl refl refl (h.blocks x q))) h;
       reclaimed = λ at. sent_taking w c reclaim (λ x q. sends_map (λ s. record s { reclaimed = s.queued }) x (reclaim x) (λ s. refl) refl refl refl (h.blocks x q)) h;
-      rooted = λ local root at. let k = sent_plain w c (λ x. x) (λ x. refl) (λ x. refl) (λ x. refl) h in record { images = k.images; blocks = k.blocks };
-      joined = λ parent child relations at. let k = sent_plain w c (λ x. x) (λ x. refl) (λ x. refl) (λ x. refl) h in record { images = k.images; blocks = k.blocks };
+      rooted = λ local root at. let k = sent_plain w c (λ x. x) (λ x. refl) (λ x. refl) (λ x. refl) h in record { images = k.images; blocks = k.blocks; relations = k.relations };
+      joined = λ parent child good at.
+          let k = sent_plain w c (λ x. x) (λ x. refl) (λ x. refl) (λ x. refl) h in
+          record { images = k.images; blocks = k.blocks; relations = relations_joined w c parent child good h.relations };
       began = λ k d at. sent_plain w c (λ (x : Client). record x { delivered = None }) (λ x. refl) (λ x. refl) (λ x. refl) h;
       over = λ at. sent_plain w c (λ x. x) (λ x. refl) (λ x. refl) (λ x. refl) h;
       left = λ at.
           let k = sent_plain w c (λ (x : Client). record x { closed = true }) (λ x. refl) (λ x. refl) (λ x. refl) h in
-          record { images = k.images; blocks = k.blocks };
+          record { images = k.images; blocks = k.blocks; relations = k.relations };
     })
 
 delivered_blocks : (t : Bool) (now : ℕ) (c : Client) → KeepsBlocks c → KeepsBlocks (cond t (record c { delivered = Some now }) c)
 delivered_blocks true now c h = record { fit = h.fit; few = h.few }
 delivered_blocks false now c h = h
+
+delivered_sink : (t : Bool) (now : ℕ) (c : Client) → (cond t (record c { delivered = Some now }) c).sink ≡ c.sink
+delivered_sink true now c = refl
+delivered_sink false now c = refl
 
 sent_begin : (p : Plan) (w : World) → Sent w → Sent (begin_answer p w).world
 unfolding begin_answer
@@ -120,15 +134,16 @@ sent_begin p w h =
       blocks = λ d q.
           let m = contains_map (deliver p w next) w.clients d q in
           subst KeepsBlocks m.2 (delivered_blocks (is_attached p w m.0 && not m.0.closed) next m.0 (h.blocks m.0 m.1));
+      relations = relations_map (deliver p w next) w.clients w.relations (λ c q. delivered_sink (is_attached p w c && not c.closed) next c) h.relations;
     }
 
 sent_answer : (p : Plan) (w : World) (e : Event) → IsPlan p → KeepsAlways w → Sent w → Sent (answer_to p w e).world
 sent_answer p w e is a h =
     answer_cases p w (λ x y. Sent y.world) (λ n. sent_client p w n is a h) (record {
       begins = sent_begin p w h;
-      draws = λ r f last drawn. record { images = h.images; blocks = h.blocks };
-      dones = λ r f drawn. record { images = h.images; blocks = h.blocks };
-      overs = record { images = h.images; blocks = h.blocks };
+      draws = λ r f last drawn. record { images = h.images; blocks = h.blocks; relations = h.relations };
+      dones = λ r f drawn. record { images = h.images; blocks = h.blocks; relations = h.relations };
+      overs = record { images = h.images; blocks = h.blocks; relations = h.relations };
     }) e
 
 -- What follows
@@ -161,6 +176,7 @@ sent_end presented a h =
       blocks = λ c p.
           let m = contains_map (queue_returns (collect (settle a.world))) a.world.clients c (subst (λ l. Contains l c) (outcome_clients presented a) p) in
           subst KeepsBlocks m.2 (queued_blocks (collect (settle a.world)) m.0 (h.blocks m.0 m.1));
+      relations = relations_after presented a h.relations;
     }
 
 -- The world
@@ -181,8 +197,8 @@ sent_step p w e is a h = sent_end (presented_by w e) (answer_to p w e) (sent_ans
 -- a step keeps it
 pub messages_step : (p : Plan) (w : World) (e : Event) → IsPlan p → KeepsAlways w → KeepsMessages w → KeepsMessages (step_in p w e).world
 messages_step p w e is a h =
-    let kept = sent_step p w e is a (record { images = h.images; blocks = h.blocks }) in
-    record { images = kept.images; sizes = λ s q. size_after w (step_in p w e).world s (goes_step p w e a) h q; blocks = kept.blocks }
+    let kept = sent_step p w e is a (record { images = h.images; blocks = h.blocks; relations = h.relations }) in
+    record { images = kept.images; relations = kept.relations; sizes = λ s q. size_after w (step_in p w e).world s (goes_step p w e a) h q; blocks = kept.blocks }
 
 -- the first world does
 pub messages_first : (p : Plan) → KeepsMessages (opening p)
@@ -198,6 +214,7 @@ messages_first p =
             fit = λ s i. absurd (contains_none s (subst (λ (x : Client). Contains x.resources s) m.2 i));
             few = omega (arith, ap (λ (x : Client). length x.resources) m.2);
           };
+      relations = record { known = λ r q. absurd (contains_none r q); once = λ parent child. omega arith };
     }
 
 messages_from : (p : Plan) (w : World) (h : List Entry) → IsPlan p → Keeps w → KeepsMessages w → KeepsMessages (world_from p w h)

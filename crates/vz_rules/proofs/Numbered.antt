@@ -98,7 +98,7 @@ client_numbers p w n =
       noted = λ m at. keeps (answer_tick w.tick m) (λ x. either_number (m == w.tick) x (record x { answered = w.tick }) refl);
       reclaimed = λ at. keeps reclaim (λ x. refl);
       rooted = λ local root at. keeps plain (λ x. refl);
-      joined = λ parent child relations at. keeps plain (λ x. refl);
+      joined = λ parent child good at. keeps plain (λ x. refl);
       began = λ m d at. keeps (λ x. record x { delivered = None }) (λ x. refl);
       over = λ at. keeps plain (λ x. refl);
       left = λ at. keeps (λ x. record x { closed = true }) (λ x. refl);

@@ -107,7 +107,7 @@ client_counts p w n c =
       noted = λ m at. keeps (answer_tick w.tick m) (λ y. (ticks_same w.tick m y).0) (λ y. (ticks_same w.tick m y).1);
       reclaimed = λ at. keeps reclaim (λ y. refl) (λ y. refl);
       rooted = λ local root at. keeps plain (λ y. refl) (λ y. refl);
-      joined = λ parent child relations at. keeps plain (λ y. refl) (λ y. refl);
+      joined = λ parent child good at. keeps plain (λ y. refl) (λ y. refl);
       began = λ m d at. keeps (λ y. record y { delivered = None }) (λ y. refl) (λ y. refl);
       over = λ at. keeps plain (λ y. refl) (λ y. refl);
       left = λ at. keeps (λ y. record y { closed = true }) (λ y. refl) (λ y. refl);

@@ -24,7 +24,7 @@ ghost use Rattle.vz_rules.specs.Log.{Spellable, rest_of};
 ghost use Rattle.vz_rules.specs.Singly.{all_rising, all_going};
 ghost use Rattle.vz_rules.specs.declared.entry.Reply.TheVariants as reply;
 ghost use Rattle.vz_rules.specs.Ends.{landed, presenting};
-ghost use Rattle.vz_rules.specs.Kept.{Keeps, KeepsAlways, KeepsPlan, KeepsMessages, HasSmallClient, IsSmallReturn, IsSmallResource, IsSmallSubmission, IsSmallSurface, count_of, is_open, no_effects, out_of};
+ghost use Rattle.vz_rules.specs.Kept.{Keeps, KeepsAlways, KeepsPlan, KeepsMessages, AreShort, HasSmallClient, IsSmallReturn, IsSmallResource, IsSmallSubmission, IsSmallSurface, count_of, is_open, no_effects, out_of};
 
 /// What is kept between steps holds at first and after every history, and each step leads to it.
 pub fn steps_keep()
@@ -85,6 +85,11 @@ pub fn numbers_are_small()
     ensures submissions { (p : Plan) (w : World) → IsPlan p → KeepsAlways w → KeepsPlan p w → (s : Submission) → Contains w.subs s → IsSmallSubmission s }
     ensures resources { (p : Plan) (w : World) → IsPlan p → KeepsAlways w → KeepsPlan p w → (c : Client) (s : Resource) → Contains w.clients c → Contains c.resources s → IsSmallResource s }
     ensures returns { (p : Plan) (w : World) → IsPlan p → KeepsAlways w → KeepsPlan p w → (c : Client) (r : Returned) → Contains w.clients c → Contains c.queue r → IsSmallReturn r }
+{}
+
+/// No list of a world gets long.
+pub fn lists_are_short()
+    ensures { (p : Plan) (w : World) → IsPlan p → KeepsAlways w → KeepsPlan p w → KeepsMessages w → AreShort w }
 {}
 
 /// What was lent is queued or out, what was queued is reclaimed or stands in the queue, and
