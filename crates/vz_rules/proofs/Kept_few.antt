@@ -1,16 +1,22 @@
--- How long the lists of a world get.
-use Rattle.std.proofs.Common.{◌≡◌, ℕ, ◌+◌, ◌*◌, ◌≤◌, Bool, true, false, inl, inr, List, [], ◌∷◌, length, refl, ap, sym, ◌∙◌, arith, cond, Contains, count_by, sum_by}
-use Rattle.std.proofs.lemmas.Bool.{eq-eqb, and_from}
+-- How long the lists of a world get, and which sizes its surfaces and blocks have.
+use Rattle.std.proofs.Common.{◌≡◌, ℕ, ◌+◌, ◌*◌, ◌≤◌, Bool, true, false, inl, inr, List, [], ◌∷◌, length, refl, ap, sym, ◌∙◌, arith, cond, Contains, count_by, sum_by, ◌&&◌, ◌==◌}
+use Rattle.std.specs.Prelude.{nat_le}
+use Rattle.std.specs.List.{list_all}
+use Rattle.std.proofs.lemmas.Bool.{and_parts, eqb-true, leb-true, eq-eqb, and_from}
 use Rattle.std.proofs.lemmas.List.Sums.{sum_by-cons}
 use Rattle.vz_ids.specs.declared.FrameSinkId.{FrameSinkId}
-use Rattle.vz_ids.specs.Ids.{same_sink}
+use Rattle.vz_ids.specs.Ids.{same_sink, same_surface}
+use Rattle.vz_pixels.specs.Block.{Block, IsBlock}
+use Rattle.vz_frame.specs.Fits.{within, fits_colour, fits_block}
+use Rattle.vz_frame.specs.Frame.{frame_size}
 use Rattle.vz_rules.specs.Plan.{Plan, IsPlan}
-use Rattle.vz_rules.specs.World.{World, Client, Created, Submission}
+use Rattle.vz_rules.specs.World.{World, Client, Created, Resource, Submission}
 use Rattle.vz_rules.specs.Kept.{KeepsAlways, KeepsPlan, KeepsMessages, AreShort, is_by, is_surface_of, relates}
-use Rattle.vz_rules.proofs.Members.{contains_here, contains_there, contains_cases, contains_none}
+use Rattle.vz_rules.proofs.Kept_last.{surfaces_differ}
+use Rattle.vz_rules.proofs.Members.{contains_at, at_same, at_within, contains_here, contains_there, contains_cases, contains_none}
 use Rattle.vz_rules.proofs.Counts.{count_cons}
 use Rattle.vz_rules.proofs.Reached.{self_same_sink}
-use Rattle.vz_rules.proofs.Kept_small.{small_client}
+use Rattle.vz_rules.proofs.Kept_small.{at_there, small_client}
 
 -- Sums over what something passes with
 
@@ -120,3 +126,47 @@ lists_short p w is a h k =
       relations = relations_few p w is h k;
       resources = λ c q. omega (arith, (k.blocks c q).few, (small_client p w is a h c q).1);
     }
+
+-- Sizes
+
+-- a surface has the size of each frame that was accepted on it
+pub surface_size : (w : World) (s : Submission) (c : Created) → KeepsAlways w → KeepsMessages w → Contains w.subs s → Contains w.surfaces c → same_surface c.id s.image.id ≡ true
+    → c.size ≡ frame_size s.image.frame
+surface_size w s c a k p q same =
+    let made = k.sizes s p in
+    let n = contains_at w.surfaces c q in
+    let m = contains_at w.surfaces made.0 made.1 in
+    let place = surfaces_differ w.clients w.surfaces a.clients a.surfaces n.0 m.0 c made.0 n.1 m.1 (ap (same_surface c.id) made.2 ∙ same) in
+    ap (λ (x : Created). x.size) (at_same w.surfaces n.0 m.0 c made.0 n.1 m.1 place) ∙ made.3
+
+-- so all these have one size
+pub frames_size : (w : World) (s t : Submission) → KeepsAlways w → KeepsMessages w → Contains w.subs s → Contains w.subs t → same_surface s.image.id t.image.id ≡ true
+    → frame_size s.image.frame ≡ frame_size t.image.frame
+frames_size w s t a k p q same =
+    let made = k.sizes s p in
+    sym made.3 ∙ surface_size w t made.0 a k q made.1 (ap (λ i. same_surface i t.image.id) made.2 ∙ same)
+
+block_fits : (b : Block) → fits_block b ≡ true → IsBlock b
+block_fits b h =
+    let all = and_parts (within 1 256 b.w && within 1 256 b.h && (length b.pixels == b.w * b.h)) (list_all fits_colour b.pixels) h in
+    let many = and_parts (within 1 256 b.w && within 1 256 b.h) (length b.pixels == b.w * b.h) all.0 in
+    let sides = and_parts (within 1 256 b.w) (within 1 256 b.h) many.0 in
+    let w = and_parts (nat_le 1 b.w) (nat_le b.w 256) sides.0 in
+    let h = and_parts (nat_le 1 b.h) (nat_le b.h 256) sides.1 in
+    record {
+      w_from = leb-true 1 b.w w.0;
+      w_to = leb-true b.w 256 w.1;
+      h_from = leb-true 1 b.h h.0;
+      h_to = leb-true b.h 256 h.1;
+      all = eqb-true (length b.pixels) (b.w * b.h) many.1;
+    }
+
+pub stored_block : (w : World) (c : Client) (s : Resource) → KeepsMessages w → Contains w.clients c → Contains c.resources s → IsBlock s.block
+stored_block w c s k p q = block_fits s.block ((k.blocks c p).fit s q)
+
+pub listed_block : (w : World) (s : Submission) (b : Block) → KeepsMessages w → Contains w.subs s → Contains s.image.blocks b → IsBlock b
+listed_block w s b k p q =
+    let whole = k.images s p in
+    let n = contains_at s.image.blocks b q in
+    let l = at_there s.image.frame.resources n.0 (omega (arith, at_within s.image.blocks n.0 b n.1, whole.as_many)) in
+    block_fits b (whole.blocks n.0 l.0 b l.1 n.1).fits

@@ -1,7 +1,8 @@
 //! Laws of what is kept of the world, each the contract of a function that does nothing.
 ghost use Rattle.std.specs.Prelude.{◌≡◌, true, ℕ, ◌+◌, ◌<◌, ◌≤◌, ◌⊎◌, Some, None, List, [], slice_get, IsTrue, IsFalse};
 ghost use Rattle.std.specs.List.{Contains, list_all, sum_by};
-ghost use Rattle.vz_pixels.specs.Block.{Block};
+ghost use Rattle.vz_pixels.specs.Block.{Block, IsBlock};
+ghost use Rattle.vz_frame.specs.Frame.{frame_size};
 ghost use Rattle.vz_ids.specs.declared.FrameSinkId.{FrameSinkId};
 ghost use Rattle.vz_ids.specs.declared.SurfaceId.{SurfaceId};
 ghost use Rattle.vz_ids.specs.declared.SurfaceRange.{SurfaceRange};
@@ -90,6 +91,16 @@ pub fn numbers_are_small()
 /// No list of a world gets long.
 pub fn lists_are_short()
     ensures { (p : Plan) (w : World) → IsPlan p → KeepsAlways w → KeepsPlan p w → KeepsMessages w → AreShort w }
+{}
+
+/// A surface has one size, that of each frame accepted on it, and blocks have sides of 1 to 256.
+pub fn sizes_are_kept()
+    ensures surface { (w : World) (s : Submission) (c : Created) → KeepsAlways w → KeepsMessages w → Contains w.subs s → Contains w.surfaces c
+        → IsTrue (same_surface c.id s.image.id) → c.size ≡ frame_size s.image.frame }
+    ensures frames { (w : World) (s t : Submission) → KeepsAlways w → KeepsMessages w → Contains w.subs s → Contains w.subs t
+        → IsTrue (same_surface s.image.id t.image.id) → frame_size s.image.frame ≡ frame_size t.image.frame }
+    ensures stored { (w : World) (c : Client) (s : Resource) → KeepsMessages w → Contains w.clients c → Contains c.resources s → IsBlock s.block }
+    ensures listed { (w : World) (s : Submission) (b : Block) → KeepsMessages w → Contains w.subs s → Contains s.image.blocks b → IsBlock b }
 {}
 
 /// What was lent is queued or out, what was queued is reclaimed or stands in the queue, and
