@@ -37,20 +37,23 @@ pub fn steps_keep()
 /// So does what is kept of the plan.
 pub fn steps_keep_the_plan()
     ensures opening { (p : Plan) → KeepsPlan p (opening p) }
-    ensures step { (p : Plan) (w : World) (e : Event) → IsPlan p → KeepsAlways w → KeepsPlan p w → KeepsPlan p (step_in p w e).world }
+    ensures step { (p : Plan) (w : World) (e : Event) → IsPlan p → KeepsAlways w → KeepsPlan p w
+        → KeepsPlan p (step_in p w e).world }
     ensures history { (p : Plan) (h : List Entry) → IsPlan p → KeepsPlan p (world p h) }
 {}
 
 /// So does what is kept of the messages that clients sent.
 pub fn steps_keep_the_messages()
     ensures opening { (p : Plan) → KeepsMessages (opening p) }
-    ensures step { (p : Plan) (w : World) (e : Event) → IsPlan p → KeepsAlways w → KeepsMessages w → KeepsMessages (step_in p w e).world }
+    ensures step { (p : Plan) (w : World) (e : Event) → IsPlan p → KeepsAlways w → KeepsMessages w
+        → KeepsMessages (step_in p w e).world }
     ensures history { (p : Plan) (h : List Entry) → IsPlan p → KeepsMessages (world p h) }
 {}
 
 /// Within a step the own change of an event and each part of what follows keep what holds all the time.
 pub fn changes_keep()
-    ensures answer { (p : Plan) (w : World) (e : Event) → KeepsAlways w → KeepsAlways (answer_to p w e).world }
+    ensures answer { (p : Plan) (w : World) (e : Event) → KeepsAlways w
+        → KeepsAlways (answer_to p w e).world }
     ensures round { (w : World) → KeepsAlways w → KeepsAlways (round w) }
     ensures settle { (w : World) → KeepsAlways w → KeepsAlways (settle w) }
     ensures naming { (w : World) → KeepsAlways w → KeepsAlways (naming w) }
@@ -61,97 +64,136 @@ pub fn changes_keep()
 
 /// No two clients, surfaces or submissions have one name.
 pub fn names_differ()
-    ensures clients { (w : World) (c d : Client) → KeepsAlways w → Contains w.clients c → Contains w.clients d → c.number ≡ d.number → c ≡ d }
-    ensures sinks { (w : World) (c d : Client) → KeepsAlways w → Contains w.clients c → Contains w.clients d → c.sink ≡ d.sink → c ≡ d }
-    ensures surfaces { (w : World) (n m : ℕ) (s t : Created) → KeepsAlways w → slice_get w.surfaces n ≡ Some s → slice_get w.surfaces m ≡ Some t
+    ensures clients { (w : World) (c d : Client) → KeepsAlways w → Contains w.clients c
+        → Contains w.clients d → c.number ≡ d.number → c ≡ d }
+    ensures sinks { (w : World) (c d : Client) → KeepsAlways w → Contains w.clients c
+        → Contains w.clients d → c.sink ≡ d.sink → c ≡ d }
+    ensures surfaces { (w : World) (n m : ℕ) (s t : Created) → KeepsAlways w
+        → slice_get w.surfaces n ≡ Some s → slice_get w.surfaces m ≡ Some t
         → IsTrue (same_surface s.id t.id) → n ≡ m }
-    ensures submissions { (w : World) (n m : ℕ) (s t : Submission) → KeepsAlways w → slice_get w.subs n ≡ Some s → slice_get w.subs m ≡ Some t
+    ensures submissions { (w : World) (n m : ℕ) (s t : Submission) → KeepsAlways w
+        → slice_get w.subs n ≡ Some s → slice_get w.subs m ≡ Some t
         → IsTrue (same_sub (sub_of s) (sub_of t)) → n ≡ m }
 {}
 
 /// What is of one sink or on one surface is of one client, whose last surface has the greatest
 /// number, and an active submission is the one that is seen on its surface.
 pub fn surfaces_are_owned()
-    ensures sinks { (w : World) (s t : Created) → KeepsAlways w → Contains w.surfaces s → Contains w.surfaces t → IsTrue (same_sink s.id.sink t.id.sink) → s.client ≡ t.client }
-    ensures submissions { (w : World) (s t : Submission) → KeepsAlways w → Contains w.subs s → Contains w.subs t → IsTrue (same_surface s.image.id t.image.id)
+    ensures sinks { (w : World) (s t : Created) → KeepsAlways w → Contains w.surfaces s
+        → Contains w.surfaces t → IsTrue (same_sink s.id.sink t.id.sink) → s.client ≡ t.client }
+    ensures submissions { (w : World) (s t : Submission) → KeepsAlways w → Contains w.subs s
+        → Contains w.subs t → IsTrue (same_surface s.image.id t.image.id)
         → s.image.sub.client ≡ t.image.sub.client }
-    ensures last { (w : World) (c : ℕ) (s t : Created) → KeepsAlways w → last_created w c ≡ Some s → Contains w.surfaces t → t.client ≡ c → t.number ≤ s.number }
-    ensures seen { (w : World) (s : Submission) → KeepsAlways w → Contains w.subs s → IsTrue (is_active s) → image_on s.image.id (active_images w.subs) ≡ Some s.image }
+    ensures last { (w : World) (c : ℕ) (s t : Created) → KeepsAlways w → last_created w c ≡ Some s
+        → Contains w.surfaces t → t.client ≡ c → t.number ≤ s.number }
+    ensures seen { (w : World) (s : Submission) → KeepsAlways w → Contains w.subs s
+        → IsTrue (is_active s) → image_on s.image.id (active_images w.subs) ≡ Some s.image }
 {}
 
 /// No number gets great.
 pub fn numbers_are_small()
-    ensures clients { (p : Plan) (w : World) → IsPlan p → KeepsAlways w → KeepsPlan p w → (c : Client) → Contains w.clients c → HasSmallClient c.number × (c.taken ≤ 4096) }
-    ensures surfaces { (p : Plan) (w : World) → IsPlan p → KeepsAlways w → KeepsPlan p w → (s : Created) → Contains w.surfaces s → IsSmallSurface s }
-    ensures submissions { (p : Plan) (w : World) → IsPlan p → KeepsAlways w → KeepsPlan p w → (s : Submission) → Contains w.subs s → IsSmallSubmission s }
-    ensures resources { (p : Plan) (w : World) → IsPlan p → KeepsAlways w → KeepsPlan p w → (c : Client) (s : Resource) → Contains w.clients c → Contains c.resources s → IsSmallResource s }
-    ensures returns { (p : Plan) (w : World) → IsPlan p → KeepsAlways w → KeepsPlan p w → (c : Client) (r : Returned) → Contains w.clients c → Contains c.queue r → IsSmallReturn r }
+    ensures clients { (p : Plan) (w : World) → IsPlan p → KeepsAlways w → KeepsPlan p w → (c : Client)
+        → Contains w.clients c → HasSmallClient c.number × (c.taken ≤ 4096) }
+    ensures surfaces { (p : Plan) (w : World) → IsPlan p → KeepsAlways w → KeepsPlan p w
+        → (s : Created) → Contains w.surfaces s → IsSmallSurface s }
+    ensures submissions { (p : Plan) (w : World) → IsPlan p → KeepsAlways w → KeepsPlan p w
+        → (s : Submission) → Contains w.subs s → IsSmallSubmission s }
+    ensures resources { (p : Plan) (w : World) → IsPlan p → KeepsAlways w → KeepsPlan p w
+        → (c : Client) (s : Resource) → Contains w.clients c → Contains c.resources s
+        → IsSmallResource s }
+    ensures returns { (p : Plan) (w : World) → IsPlan p → KeepsAlways w → KeepsPlan p w
+        → (c : Client) (r : Returned) → Contains w.clients c → Contains c.queue r → IsSmallReturn r }
 {}
 
 /// No list of a world gets long.
 pub fn lists_are_short()
-    ensures { (p : Plan) (w : World) → IsPlan p → KeepsAlways w → KeepsPlan p w → KeepsMessages w → AreShort w }
+    ensures { (p : Plan) (w : World) → IsPlan p → KeepsAlways w → KeepsPlan p w → KeepsMessages w
+        → AreShort w }
 {}
 
 /// A surface has one size, that of each frame accepted on it, and blocks have sides of 1 to 256.
 pub fn sizes_are_kept()
-    ensures surface { (w : World) (s : Submission) (c : Created) → KeepsAlways w → KeepsMessages w → Contains w.subs s → Contains w.surfaces c
-        → IsTrue (same_surface c.id s.image.id) → c.size ≡ frame_size s.image.frame }
-    ensures frames { (w : World) (s t : Submission) → KeepsAlways w → KeepsMessages w → Contains w.subs s → Contains w.subs t
-        → IsTrue (same_surface s.image.id t.image.id) → frame_size s.image.frame ≡ frame_size t.image.frame }
-    ensures stored { (w : World) (c : Client) (s : Resource) → KeepsMessages w → Contains w.clients c → Contains c.resources s → IsBlock s.block }
-    ensures listed { (w : World) (s : Submission) (b : Block) → KeepsMessages w → Contains w.subs s → Contains s.image.blocks b → IsBlock b }
+    ensures surface { (w : World) (s : Submission) (c : Created) → KeepsAlways w → KeepsMessages w
+        → Contains w.subs s → Contains w.surfaces c → IsTrue (same_surface c.id s.image.id)
+        → c.size ≡ frame_size s.image.frame }
+    ensures frames { (w : World) (s t : Submission) → KeepsAlways w → KeepsMessages w
+        → Contains w.subs s → Contains w.subs t → IsTrue (same_surface s.image.id t.image.id)
+        → frame_size s.image.frame ≡ frame_size t.image.frame }
+    ensures stored { (w : World) (c : Client) (s : Resource) → KeepsMessages w → Contains w.clients c
+        → Contains c.resources s → IsBlock s.block }
+    ensures listed { (w : World) (s : Submission) (b : Block) → KeepsMessages w → Contains w.subs s
+        → Contains s.image.blocks b → IsBlock b }
 {}
 
 /// What was lent is queued or out, what was queued is reclaimed or stands in the queue, and
 /// between steps exactly what is held is out.
 pub fn references_are_counted()
-    ensures lent { (w : World) (c : Client) (s : Resource) → KeepsAlways w → Contains w.clients c → Contains c.resources s → s.lent ≡ s.queued + out_of s }
-    ensures queued { (w : World) (c : Client) (s : Resource) → KeepsAlways w → Contains w.clients c → Contains c.resources s → s.queued ≡ s.reclaimed + sum_by (count_of s.id) c.queue }
-    ensures held { (w : World) (c : Client) (s : Resource) → KeepsAlways w → Contains w.clients c → Contains c.resources s → IsTrue (is_held w c.number s.id) → 1 ≤ out_of s }
-    ensures unheld { (w : World) (c : Client) (s : Resource) → Keeps w → Contains w.clients c → Contains c.resources s → IsFalse (is_held w c.number s.id) → out_of s ≡ 0 }
+    ensures lent { (w : World) (c : Client) (s : Resource) → KeepsAlways w → Contains w.clients c
+        → Contains c.resources s → s.lent ≡ s.queued + out_of s }
+    ensures queued { (w : World) (c : Client) (s : Resource) → KeepsAlways w → Contains w.clients c
+        → Contains c.resources s → s.queued ≡ s.reclaimed + sum_by (count_of s.id) c.queue }
+    ensures held { (w : World) (c : Client) (s : Resource) → KeepsAlways w → Contains w.clients c
+        → Contains c.resources s → IsTrue (is_held w c.number s.id) → 1 ≤ out_of s }
+    ensures unheld { (w : World) (c : Client) (s : Resource) → Keeps w → Contains w.clients c
+        → Contains c.resources s → IsFalse (is_held w c.number s.id) → out_of s ≡ 0 }
 {}
 
-/// Destroying what is not reached changes nothing of what is reached, so that one collection is enough. What is reached exists.
+/// Destroying what is not reached changes nothing of what is reached, so that one collection is enough.
+/// What is reached exists.
 pub fn one_collection_is_enough()
-    ensures shown { (w : World) (id : SurfaceId) (i : Image) (range : SurfaceRange) → KeepsAlways w → IsTrue (has_id (reach w) id) → image_on id (active_images w.subs) ≡ Some i
+    ensures shown { (w : World) (id : SurfaceId) (i : Image) (range : SurfaceRange) → KeepsAlways w
+        → IsTrue (has_id (reach w) id) → image_on id (active_images w.subs) ≡ Some i
         → Contains i.frame.metadata.references range → shown (clearing w) range ≡ shown w range }
-    ensures image { (w : World) (id : SurfaceId) → IsTrue (has_id (reach w) id) → image_on id (active_images (clearing w).subs) ≡ image_on id (active_images w.subs) }
-    ensures reached { (w : World) (id : SurfaceId) → KeepsAlways w → has_id (reach (clearing w)) id ≡ has_id (reach w) id }
+    ensures image { (w : World) (id : SurfaceId) → IsTrue (has_id (reach w) id)
+        → image_on id (active_images (clearing w).subs) ≡ image_on id (active_images w.subs) }
+    ensures reached { (w : World) (id : SurfaceId) → KeepsAlways w
+        → has_id (reach (clearing w)) id ≡ has_id (reach w) id }
     ensures once { (w : World) → KeepsAlways w → collect (collect w) ≡ collect w }
-    ensures exists { (w : World) (id : SurfaceId) → KeepsAlways w → IsTrue (has_id (reach w) id) → IsTrue (exists w id) }
+    ensures exists { (w : World) (id : SurfaceId) → KeepsAlways w → IsTrue (has_id (reach w) id)
+        → IsTrue (exists w id) }
 {}
 
-/// Between steps what waits has not come, as a dependency is not met and its deadline is to come, what is marked and exists is reached, and what had
-/// no feedback is waiting, active or in flight.
+/// Between steps what waits has not come, as a dependency is not met and its deadline is to come, what
+/// is marked and exists is reached, and what had no feedback is waiting, active or in flight.
 pub fn nothing_is_late()
-    ensures waits { (w : World) (s : Submission) → Keeps w → Contains w.subs s → IsTrue (is_waiting s) → IsFalse (has_come w s) }
+    ensures waits { (w : World) (s : Submission) → Keeps w → Contains w.subs s → IsTrue (is_waiting s)
+        → IsFalse (has_come w s) }
     ensures due { (w : World) (s : Submission) → Keeps w → Contains w.subs s → IsTrue (is_waiting s)
         → IsFalse (list_all (met w) s.image.frame.metadata.dependencies) × (w.tick < s.due) }
-    ensures marked { (w : World) (s : Created) → Keeps w → Contains w.surfaces s → IsTrue s.marked → IsFalse s.destroyed → IsTrue (has_id (reach w) s.id) }
-    ensures unfed { (w : World) (s : Submission) → Keeps w → Contains w.subs s → IsFalse s.fed → IsTrue (is_open s) ⊎ IsTrue (is_in_flight w.in_flight (sub_of s)) }
+    ensures marked { (w : World) (s : Created) → Keeps w → Contains w.surfaces s → IsTrue s.marked
+        → IsFalse s.destroyed → IsTrue (has_id (reach w) s.id) }
+    ensures unfed { (w : World) (s : Submission) → Keeps w → Contains w.subs s → IsFalse s.fed
+        → IsTrue (is_open s) ⊎ IsTrue (is_in_flight w.in_flight (sub_of s)) }
 {}
 
 /// Where an answer leaves what is kept between steps, nothing follows: it has no effects and its world stays.
 pub fn nothing_follows()
-    ensures { (a : Answer) → Keeps a.world → outcome_of [] a ≡ record { reply = a.reply; effects = no_effects; world = a.world } }
+    ensures { (a : Answer) → Keeps a.world
+        → outcome_of [] a ≡ record { reply = a.reply; effects = no_effects; world = a.world } }
 {}
 
-/// Between steps Done only gives back and feeds, Done with no frame in flight leaves the world, and Over notes that it is over: none
-/// of these makes a submission active or destroys a surface.
+/// Between steps Done only gives back and feeds, Done with no frame in flight leaves the world, and
+/// Over notes that it is over: none of these makes a submission active or destroys a surface.
 pub fn ends_take_no_room()
-    ensures shown { (p : Plan) (w : World) (drawn : List Sub) → Keeps w → w.in_flight ≡ Some drawn → step_in p w event.Done ≡ presenting drawn (landed w) }
-    ensures nothing { (p : Plan) (w : World) → Keeps w → w.in_flight ≡ None → step_in p w event.Done ≡ record { reply = reply.Nothing; effects = no_effects; world = w } }
-    ensures over { (p : Plan) (w : World) → Keeps w → step_in p w event.Over ≡ record { reply = reply.Ended; effects = no_effects; world = record w { over = true } } }
+    ensures shown { (p : Plan) (w : World) (drawn : List Sub) → Keeps w → w.in_flight ≡ Some drawn
+        → step_in p w event.Done ≡ presenting drawn (landed w) }
+    ensures nothing { (p : Plan) (w : World) → Keeps w → w.in_flight ≡ None
+        → step_in p w event.Done ≡ record { reply = reply.Nothing; effects = no_effects; world = w } }
+    ensures over { (p : Plan) (w : World) → Keeps w
+        → step_in p w event.Over
+        ≡ record { reply = reply.Ended; effects = no_effects; world = record w { over = true } } }
 {}
 
-/// So it is with a refused message, with each message that is no submission, root or closing, with drawings and with the end.
+/// So it is with a refused message, with each message that is no submission, root or closing, with
+/// drawings and with the end.
 pub fn idle_changes_keep()
     ensures refused { (w : World) (c : Client) (r : Refusal) → Keeps w → Keeps (refused w c r).world }
-    ensures upload { (w : World) (c : Client) (id : ℕ) (block : Block) → Keeps w → Keeps (upload_answer w c id block).world }
+    ensures upload { (w : World) (c : Client) (id : ℕ) (block : Block) → Keeps w
+        → Keeps (upload_answer w c id block).world }
     ensures noted { (w : World) (c : Client) (n : ℕ) → Keeps w → Keeps (taking (answer_tick w.tick n) c w) }
     ensures reclaimed { (w : World) (c : Client) → Keeps w → Keeps (taking reclaim c w) }
-    ensures hierarchy { (w : World) (c : Client) (parent child : FrameSinkId) → Keeps w → Keeps (hierarchy_answer w c parent child).world }
+    ensures hierarchy { (w : World) (c : Client) (parent child : FrameSinkId) → Keeps w
+        → Keeps (hierarchy_answer w c parent child).world }
     ensures begun { (w : World) (c : Client) → Keeps w → Keeps (await_answer w c).world }
     ensures draw { (p : Plan) (w : World) → Keeps w → Keeps (draw_answer p w).world }
     ensures over { (p : Plan) (w : World) → Keeps w → Keeps (answer_to p w event.Over).world }
@@ -164,27 +206,38 @@ pub fn histories_are_spelled()
 
 /// The surfaces of a group are a chain: of two one is the other or newer.
 pub fn groups_are_chains()
-    ensures surfaces { (w : World) (s t : Created) → KeepsAlways w → Contains w.surfaces s → Contains w.surfaces t → IsTrue (same_group s.id t.id)
+    ensures surfaces { (w : World) (s t : Created) → KeepsAlways w → Contains w.surfaces s
+        → Contains w.surfaces t → IsTrue (same_group s.id t.id)
         → IsTrue (at_least s.id t.id) ⊎ IsTrue (at_least t.id s.id) }
-    ensures submissions { (w : World) (s t : Submission) → KeepsAlways w → Contains w.subs s → Contains w.subs t → IsTrue (same_group s.image.id t.image.id)
+    ensures submissions { (w : World) (s t : Submission) → KeepsAlways w → Contains w.subs s
+        → Contains w.subs t → IsTrue (same_group s.image.id t.image.id)
         → IsTrue (at_least s.image.id t.image.id) ⊎ IsTrue (at_least t.image.id s.image.id) }
 {}
 
-/// A range shows the active surface at its end or older that is newer than all others there; where there is none, that at
-/// its start or newer; and else none.
+/// A range shows the active surface at its end or older that is newer than all others there; where
+/// there is none, that at its start or newer; and else none.
 pub fn ranges_show_the_newest()
-    ensures end { (w : World) (range : SurfaceRange) (i : Image) → KeepsAlways w → Contains (active_images w.subs) i → IsTrue (in_range range i)
-        → ((j : Image) → Contains (active_images w.subs) j → IsTrue (in_range range j) → (j ≡ i) ⊎ IsTrue (newer i.id.local j.id.local)) → shown w range ≡ Some i.id }
-    ensures start { (w : World) (range : SurfaceRange) (i : Image) → KeepsAlways w → ((j : Image) → Contains (active_images w.subs) j → IsFalse (in_range range j))
+    ensures end { (w : World) (range : SurfaceRange) (i : Image) → KeepsAlways w
+        → Contains (active_images w.subs) i → IsTrue (in_range range i) → ((j : Image)
+        → Contains (active_images w.subs) j → IsTrue (in_range range j)
+        → (j ≡ i) ⊎ IsTrue (newer i.id.local j.id.local)) → shown w range ≡ Some i.id }
+    ensures start { (w : World) (range : SurfaceRange) (i : Image) → KeepsAlways w → ((j : Image)
+        → Contains (active_images w.subs) j → IsFalse (in_range range j))
         → Contains (active_images w.subs) i → IsTrue (after_start range.start range.end i)
-        → ((j : Image) → Contains (active_images w.subs) j → IsTrue (after_start range.start range.end j) → (j ≡ i) ⊎ IsTrue (newer i.id.local j.id.local)) → shown w range ≡ Some i.id }
-    ensures neither { (w : World) (range : SurfaceRange) → ((j : Image) → Contains (active_images w.subs) j → IsFalse (in_range range j))
-        → ((j : Image) → Contains (active_images w.subs) j → IsFalse (after_start range.start range.end j)) → shown w range ≡ None }
+        → ((j : Image) → Contains (active_images w.subs) j
+        → IsTrue (after_start range.start range.end j)
+        → (j ≡ i) ⊎ IsTrue (newer i.id.local j.id.local)) → shown w range ≡ Some i.id }
+    ensures neither { (w : World) (range : SurfaceRange) → ((j : Image)
+        → Contains (active_images w.subs) j → IsFalse (in_range range j)) → ((j : Image)
+        → Contains (active_images w.subs) j → IsFalse (after_start range.start range.end j))
+        → shown w range ≡ None }
 {}
 
-/// A round makes what is ready active one after another, and a collection destroys what is lost one after another in any order.
+/// A round makes what is ready active one after another, and a collection destroys what is lost one
+/// after another in any order.
 pub fn changes_go_one_by_one()
     ensures round { (w : World) → KeepsAlways w → round w ≡ all_rising (ready w) w }
-    ensures clearing { (w : World) (cs : List Created) → KeepsAlways w → ((c : Created) → Contains cs c → Contains (lost_in w) c)
-        → ((c : Created) → Contains (lost_in w) c → Contains cs c) → clearing w ≡ all_going cs w }
+    ensures clearing { (w : World) (cs : List Created) → KeepsAlways w → ((c : Created)
+        → Contains cs c → Contains (lost_in w) c) → ((c : Created) → Contains (lost_in w) c
+        → Contains cs c) → clearing w ≡ all_going cs w }
 {}

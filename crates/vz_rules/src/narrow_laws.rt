@@ -35,12 +35,13 @@ pub fn narrow_pictures()
 
 /// The text of its history, with nothing left.
 pub fn narrow_texts()
-    ensures { (size : Size) → log_text (narrow_history size) nothing_left
-        ≡ codes "c1 accepted 1 1 +1.1\nc1 rooted\ndraw drawn 0 0 " ++ decimal (nat_abs size.w) ++ 32 ∷ decimal (nat_abs size.h)
-        ++ codes "\ndone shown p1.1\nend\n" }
+    ensures { (size : Size)
+        → log_text (narrow_history size) nothing_left
+        ≡ codes "c1 accepted 1 1 +1.1\nc1 rooted\ndraw drawn 0 0 " ++ decimal (nat_abs size.w) ++ 32 ∷ decimal (nat_abs size.h) ++ codes "\ndone shown p1.1\nend\n" }
 {}
 
 /// A narrow file that fits has its quad, with an offset that is one.
 pub fn narrow_quads()
-    ensures { (f : ClientFile) → IsTrue (fits_file f) → IsTrue (is_narrow f) → IsSomeAnd (narrow_quad f) (λ drawn. IsOffset drawn.1.offset) }
+    ensures { (f : ClientFile) → IsTrue (fits_file f) → IsTrue (is_narrow f)
+        → IsSomeAnd (narrow_quad f) (λ drawn. IsOffset drawn.1.offset) }
 {}
