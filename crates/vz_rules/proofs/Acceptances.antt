@@ -24,22 +24,22 @@ use Rattle.vz_rules.proofs.Cases.{is_acceptance, DisplayCases, client_cases, ans
 -- One answer
 
 -- an answer by which a client's submission is accepted
-record Accepts (p : Plan) (w : World) (e : Event) (a : Answer) : Type 0 where
-  client : Client
-  new : Image
-  found : client_at w client.number ≡ Some client
-  event : e ≡ event.Client client.number
-  client_is : new.sub.client ≡ client.number
-  next : next_message p client ≡ Some (Submit new.id.local new.frame)
-  images : images_of a.world.subs ≡ images_of w.subs ++ new ∷ []
-  reply : a.reply ≡ reply.Accepted new.sub.ordinal new.index
+pub record Accepts (p : Plan) (w : World) (e : Event) (a : Answer) : Type 0 where
+  pub client : Client
+  pub new : Image
+  pub found : client_at w client.number ≡ Some client
+  pub event : e ≡ event.Client client.number
+  pub client_is : new.sub.client ≡ client.number
+  pub next : next_message p client ≡ Some (Submit new.id.local new.frame)
+  pub images : images_of a.world.subs ≡ images_of w.subs ++ new ∷ []
+  pub reply : a.reply ≡ reply.Accepted new.sub.ordinal new.index
 
 -- one by which none is
-record AcceptsNone (w : World) (a : Answer) : Type 0 where
-  images : images_of a.world.subs ≡ images_of w.subs
-  reply : is_acceptance a.reply ≡ false
+pub record AcceptsNone (w : World) (a : Answer) : Type 0 where
+  pub images : images_of a.world.subs ≡ images_of w.subs
+  pub reply : is_acceptance a.reply ≡ false
 
-abbrev Either : Plan → World → Event → Answer → Type 0
+abbrev pub Either : Plan → World → Event → Answer → Type 0
 Either p w e a = AcceptsNone w a ⊎ Accepts p w e a
 
 images_push : (xs : List Submission) (s : Submission) → images_of (xs ++ s ∷ []) ≡ images_of xs ++ s.image ∷ []
@@ -94,7 +94,7 @@ display_either p w =
       overs = inl (record { images = refl; reply = refl });
     }
 
-answer_either : (p : Plan) (w : World) (e : Event) → Either p w e (answer_to p w e)
+pub answer_either : (p : Plan) (w : World) (e : Event) → Either p w e (answer_to p w e)
 answer_either p w e = answer_cases p w (Either p w) (client_either p w) (display_either p w) e
 
 -- Along a history

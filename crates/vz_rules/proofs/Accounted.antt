@@ -36,6 +36,7 @@ use Rattle.vz_rules.proofs.Given.{number_of, id_of, size_of, given_of, amount_in
 use Rattle.vz_rules.proofs.Totals.{IsAnswered, IsGivenBack, in_queue_of, unchanged, storing, answered_stored, answered_lent, known_listed, answered_reclaimed, given_back}
 use Rattle.vz_rules.proofs.Prefixes.{Steps, along}
 use Rattle.vz_rules.proofs.Follow_ups.{collected_clients, outcome_clients, images_kept, outcome_images, count_kept}
+use Rattle.vz_rules.proofs.Lent.{borrowed_are_lent}
 use Rattle.vz_rules.proofs.Numbered.{answer_numbers, HasNumbers, steps_numbers, numbers_rise, client_there, rising_keys, changed_number}
 use Rattle.vz_rules.proofs.Cases.{is_event_of, DisplayCases, client_cases, answer_cases, number_at}
 
@@ -399,7 +400,8 @@ accounts_are p h c id l names =
     let waiting = at (λ y. sum_by (count_of id) y.queue) in
     let held = held_share w c id x (numbers_rise p w i.numbers) there.1 (i.rising c x there.1) t.paid in
     record {
-      lent = lent ∙ t.lent;
+      lent = lent ∙ (t.lent ∙ borrowed_are_lent p h c id l);
+      borrowed = lent ∙ t.lent;
       queued = queued ∙ t.queued;
       reclaimed = reclaimed ∙ t.reclaimed;
       in_queue = omega (arith, queued, reclaimed, waiting, t.in_queue);

@@ -8,6 +8,7 @@ use Rattle.vz_ids.specs.Ids.{same_sub}
 use Rattle.vz_frame.specs.declared.message.ClientFile.{ClientFile}
 use Rattle.vz_frame.specs.declared.message.Message.{Message}
 use Rattle.vz_frame.specs.declared.message.Message.TheVariants.{Submit, DidNotProduce}
+use Rattle.vz_frame.specs.Frame.{lists}
 use Rattle.vz_rules.specs.Plan.{Plan}
 use Rattle.vz_rules.specs.declared.entry.Event.TheVariants as event
 use Rattle.vz_rules.specs.declared.entry.Refusal.TheVariants as refusal
@@ -20,7 +21,7 @@ use Rattle.vz_rules.specs.Settle.{has_come}
 use Rattle.vz_rules.specs.Returns.{is_held}
 use Rattle.vz_rules.specs.Messages.{Answer, refused, message_answer}
 use Rattle.vz_rules.specs.Step.{outcome_of, world, NamesClient}
-use Rattle.vz_rules.specs.Whole.{mine, is_in_time}
+use Rattle.vz_rules.specs.Whole.{is_of, mine, is_in_time}
 use Rattle.vz_rules.specs.Log.{rest_of}
 use Rattle.vz_rules.specs.Course.{is_begin}
 use Rattle.vz_rules.specs.Kept.{count_of, borrows}
@@ -85,6 +86,24 @@ pub record IsAcceptance (p : Plan) (h : List Entry) (n : ℕ) (i : Image) : Type
 abbrev pub share_of : ℕ → ℕ → Returned → ℕ
 share_of c id r = if r.client == c then count_of id r else 0
 
+-- a message submits a frame that lists a resource
+abbrev pub submits : ℕ → Option Message → Bool
+submits id (Some (Submit local frame)) = list_any (lists id) frame.resources
+submits id _ = false
+
+-- an entry behind a history lends a reference of a client's resource: it accepts a frame of the client that lists it
+abbrev pub lends : Plan → List Entry → ℕ → ℕ → Entry → Bool
+lends p h c id e = accepts e && is_of c e && submits id (message_at p c (length (takes h c)))
+
+-- the references of a client's resource that these entries lent, behind a history
+abbrev pub lent_from : Plan → List Entry → ℕ → ℕ → List Entry → ℕ
+lent_from p h c id [] = 0
+lent_from p h c id (e ∷ es) = (if lends p h c id e then 1 else 0) + lent_from p (h ++ e ∷ []) c id es
+
+-- those that the entries of a history lent
+unfoldable pub lent_over : Plan → List Entry → ℕ → ℕ → ℕ
+lent_over p h c id = lent_from p [] c id h
+
 -- the references of a client's resource that the steps of a history queued
 unfoldable pub returned_over : List Entry → ℕ → ℕ → ℕ
 returned_over h c id = sum_by (λ e. sum_by (share_of c id) e.effects.returned) h
@@ -122,11 +141,12 @@ reclaimed_in w c id = of_client (total_of (λ s. s.reclaimed) id) (client_at w c
 abbrev pub waiting_in : World → ℕ → ℕ → ℕ
 waiting_in w c id = of_client (λ x. sum_by (count_of id) x.queue) (client_at w c)
 
--- the accounts of a client's resource after a history: it was lent once to each accepted submission that lists it. What
+-- the accounts of a client's resource after a history: its entries lent it once to each accepted submission that lists it. What
 -- was queued are the returns of all steps, and what was reclaimed those of the client's replies. The others of the
 -- queued stand in the queue, and the others of the lent are held at the end
 pub record AreAccounts (p : Plan) (h : List Entry) (c id : ℕ) : Type 0 where
-  pub lent : lent_in (world p h) c id ≡ count_by (borrows c id) (world p h).subs
+  pub lent : lent_in (world p h) c id ≡ lent_over p h c id
+  pub borrowed : lent_in (world p h) c id ≡ count_by (borrows c id) (world p h).subs
   pub queued : queued_in (world p h) c id ≡ returned_over h c id
   pub reclaimed : reclaimed_in (world p h) c id ≡ handed_over h c id
   pub in_queue : queued_in (world p h) c id ≡ reclaimed_in (world p h) c id + waiting_in (world p h) c id
