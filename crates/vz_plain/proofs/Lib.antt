@@ -1,3 +1,2 @@
 pub mod Pointing
 pub mod Filling
-pub mod Replaying

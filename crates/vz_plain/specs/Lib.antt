@@ -1,4 +1,4 @@
 pub mod Paths
 pub mod Points
-pub mod Standing
+pub mod Painting
 pub mod Shown

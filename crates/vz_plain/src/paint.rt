@@ -1,12 +1,15 @@
 //! The colour at a point, over quads, passes and surfaces.
 ghost use Rattle.std.specs.Prelude.{◌≡◌, true, false, MatchOption};
-ghost use Rattle.vz_geom.specs.Rectangle.{has, sized, IsNear};
+ghost use Rattle.vz_geom.specs.Rectangle.{has, sized};
 ghost use Rattle.vz_frame.specs.Frame.{frame_size};
-ghost use Rattle.vz_rules.specs.Paint.{covers, in_clip, local_point, material_painted, quads_painted, pass_painted, group_laid, content_at, content_laid, is_absent, is_straight, full, pix};
+ghost use Rattle.vz_rules.specs.Paint.{covers, in_clip, local_point, content_laid, is_absent, is_straight};
+ghost use Rattle.vz_rules.specs.Paint.{full, pix};
 ghost use Rattle.vz_plain.specs.Paths.{ids};
 ghost use Rattle.vz_plain.specs.Points.{IsClose};
-ghost use Rattle.vz_plain.specs.Standing.{content, ranges, passes_in};
+ghost use Rattle.vz_plain.specs.Painting.{ranges, passes_in};
+ghost use Rattle.vz_plain.specs.Painting.{quad_here, pass_here, group_here, content_here};
 
+use crate::blending::laid;
 use crate::path::Path;
 use crate::point::{found_in, from_corner, in_rectangle};
 use crate::tile::tile_colour;
@@ -15,193 +18,213 @@ use vz_frame::{Blend, DrawQuad, Material, RenderPass};
 use vz_geom::{Point, Rect};
 use vz_ids::{SurfaceId, SurfaceRange};
 use vz_pixels::Pixel;
-use vz_slow::images::{image_on, shown_image};
-use vz_slow::paint::laid;
-use vz_slow::submission::Still;
-use vz_slow::submit::root_pass;
+use vz_scene::SubmittedFrame;
+use vz_scene::frame::root_pass;
+use vz_scene::scene::{image_on, shown_image};
 
-/// Where the painter stands: in the frame of an image, behind the surfaces of a path and
-/// with so many surfaces left.
+/// A painter in the frame of an image, behind the surfaces of a path and with so many
+/// surfaces left.
 #[derive(Drop)]
-pub struct Standing<'b, 'a> {
-    images: &'b [Still<'a>],
+struct Painter<'b, 'a> {
+    images: &'b [SubmittedFrame<'a>],
     levels: u32,
     path: &'b Path<'b>,
-    image: &'b Still<'a>,
+    image: &'b SubmittedFrame<'a>,
 }
 
-impl<'b, 'a> Model for Standing<'b, 'a> {
-    ghost use Rattle.vz_plain.specs.Standing.{Standing as Stand};
+impl<'b, 'a> Model for Painter<'b, 'a> {
+    ghost use Rattle.vz_plain.specs.Painting.{Painter as Stand};
     ghost use Rattle.vz_plain.specs.Paths.{ids};
 
     ghost Value = { Stand };
 
-    ghost view = { λ s. record { images = s.images.now; levels = s.levels; path = ids s.path.now; image = s.image.now } };
+    ghost view = { λ p. record { images = p.images.now; levels = p.levels; path = ids p.path.now; image = p.image.now } };
 }
 
 /// Whether a point is inside the size of an image's frame.
-fn is_inside(image: &Still<'_>, l: Point) -> bool
-    ensures { result ≡ has (sized (frame_size image.now.frame)) l }
+fn is_inside(image: &SubmittedFrame<'_>, point: Point) -> bool
+    ensures { result ≡ has (sized (frame_size image.now.frame)) point }
 {
     match root_pass(image.frame()) {
         None => false,
-        Some(root) => (0 <= l.x && l.x < root.output.w()) && (0 <= l.y && l.y < root.output.h()),
+        Some(root) => {
+            (0 <= point.x && point.x < root.output.w())
+                && (0 <= point.y && point.y < root.output.h())
+        }
     }
 }
 
 /// Whether the content is absent: outside the size of the range's end.
 #[tactic(auto, unfolding(vz_rules::specs::Paint::is_absent))]
-fn is_absent(range: &SurfaceRange, image: &Still<'_>, l: Point) -> bool
-    ensures { result ≡ is_absent range.now image.now l }
+fn is_absent(range: &SurfaceRange, image: &SubmittedFrame<'_>, point: Point) -> bool
+    ensures { result ≡ is_absent range.now image.now point }
 {
-    !is_inside(image, l) && image.id() == range.end
+    !is_inside(image, point) && image.id() == range.end
 }
 
 /// Whether a colour is laid as it is: over another, at the full opacity.
-fn is_straight(m: Blend, o: u8) -> bool
-    ensures { result ≡ is_straight m o }
+fn is_straight(mode: Blend, opacity: u8) -> bool
+    ensures { result ≡ is_straight mode opacity }
 {
-    match m {
-        Blend::Over => o == 255,
+    match mode {
+        Blend::Over => opacity == 255,
         Blend::Src => false,
         Blend::DstIn => false,
     }
 }
 
-fn is_in_clip(clip: &Option<Rect>, q: Point) -> bool
-    ensures { result ≡ in_clip clip.now q }
+/// Whether the clip has a point, or there is none.
+fn is_in_clip(clip: &Option<Rect>, point: Point) -> bool
+    ensures { result ≡ in_clip clip.now point }
 {
     match clip {
         None => true,
-        Some(r) => r.contains(q),
+        Some(r) => r.contains(point),
     }
 }
 
-/// The point from the first point of a quad's rectangle on, where the quad covers the point.
+/// The point counted from the first point of a quad's rectangle, where the quad covers it.
 #[tactic(auto, unfolding(vz_rules::specs::Paint::covers))]
-fn point_of(pass: &RenderPass, quad: &DrawQuad, q: Point) -> Option<Point>
-    ensures { MatchOption result (covers pass.now quad.now q ≡ false) (λ l. (covers pass.now quad.now q ≡ true) × (l ≡ local_point quad.now q) × IsClose l) }
+fn point_of(pass: &RenderPass, quad: &DrawQuad, point: Point) -> Option<Point>
+    ensures { MatchOption result (covers pass.now quad.now point ≡ false)
+        (λ l. (covers pass.now quad.now point ≡ true)
+        × (l ≡ local_point quad.now point) × IsClose l) }
 {
-    if !pass.output.contains(q) || !is_in_clip(&quad.clip, q) {
+    if !pass.output.contains(point) || !is_in_clip(&quad.clip, point) {
         return None;
     }
-    match found_in(&quad.visible, q, quad.offset) {
+    match found_in(&quad.visible, point, quad.offset) {
         None => None,
-        Some(p) => Some(from_corner(p, &quad.area)),
+        Some(found) => Some(from_corner(found, &quad.area)),
     }
 }
 
-/// What a surface leaves at its point on a colour, behind the surfaces of a path and with so
-/// many surfaces left.
+/// What a surface leaves at its point on the colour under it, behind the surfaces of a path
+/// and with so many surfaces left.
 #[tactic(auto, unfolding(vz_rules::specs::Paint::pix, vz_rules::specs::Paint::root_painted))]
 #[cycle(paint)]
-pub fn pix(
-    images: &[Still<'_>],
+pub fn pix<'a>(
+    images: &[SubmittedFrame<'a>],
     levels: u32,
     path: &Path<'_>,
-    image: &Still<'_>,
-    q: Point,
-    d: Pixel,
+    image: &SubmittedFrame<'a>,
+    point: Point,
+    under: Pixel,
 ) -> Pixel
-    ensures { result ≡ pix levels images.now (ids path.now) image.now q d }
+    ensures { result ≡ pix levels images.now (ids path.now) image.now point under }
 {
     if levels == 0 {
-        return d;
+        return under;
     }
-    let before = Path::Behind {
+    let behind = Path::Behind {
         id: image.id(),
         before: &*path,
     };
-    let at = Standing {
+    let painter = Painter {
         images: &*images,
         levels: levels - 1,
-        path: &before,
+        path: &behind,
         image: &*image,
     };
     match image.frame().passes.as_slice().split_last() {
-        None => d,
-        Some((root, earlier)) => at.pass(earlier, root, q, d),
+        None => under,
+        Some((root, earlier)) => painter.pass(earlier, root, point, under),
     }
 }
 
-impl<'b, 'a> Standing<'b, 'a> {
-    /// A pass at a point on a colour, over the earlier ones.
+impl<'b, 'a> Painter<'b, 'a> {
+    /// A pass at a point on the colour under it, over the earlier passes.
     #[tactic(auto, unfolding(vz_rules::specs::Paint::pass_painted, vz_rules::specs::Paint::quads_painted))]
     #[cycle(paint)]
-    fn pass(&self, earlier: &[RenderPass], pass: &RenderPass, q: Point, d: Pixel) -> Pixel
-        ensures { result ≡ pass_painted self.now.image (passes_in self.now earlier.now) (ranges self.now) pass.now q d }
+    fn pass(&self, earlier: &[RenderPass], pass: &RenderPass, point: Point, under: Pixel) -> Pixel
+        ensures { result ≡ pass_here self.now earlier.now pass.now point under }
     {
         let quads = pass.quads.as_slice();
-        let mut colour = d;
+        let mut colour = under;
         let mut k = quads.len();
         while k > 0 {
             k -= 1;
-            colour = self.quad(earlier, pass, &quads[k], q, colour);
+            colour = self.quad(earlier, pass, &quads[k], point, colour);
         }
         colour
     }
 
-    /// A quad at a point of its pass on a colour, which stays where the quad does not cover.
+    /// A quad at a point of its pass on the colour under it, which stays where the quad does
+    /// not cover the point.
     #[cycle(paint)]
     fn quad(
         &self,
         earlier: &[RenderPass],
         pass: &RenderPass,
         quad: &DrawQuad,
-        q: Point,
-        d: Pixel,
+        point: Point,
+        under: Pixel,
     ) -> Pixel
-        ensures { result ≡ (elim (covers pass.now quad.now q) [ true ↦ material_painted self.now.image (passes_in self.now earlier.now) (ranges self.now) quad.now q d | false ↦ d ]) }
+        ensures { result ≡ (elim (covers pass.now quad.now point) [
+          | true ↦ quad_here self.now earlier.now quad.now point under
+          | false ↦ under
+        ]) }
     {
-        match point_of(pass, quad, q) {
-            None => d,
-            Some(l) => self.material(earlier, quad, q, l, d),
+        match point_of(pass, quad, point) {
+            None => under,
+            Some(local) => self.material(earlier, quad, point, local, under),
         }
     }
 
-    /// A quad that covers a point of its pass, on a colour. Condition: the point is counted
-    /// from the first point of the quad's rectangle, and close.
+    /// A quad that covers a point of its pass, on the colour under it. Conditions: the local
+    /// point is counted from the first point of the quad's rectangle, and close.
     #[tactic(auto, unfolding(vz_rules::specs::Paint::material_painted))]
     #[cycle(paint)]
     fn material(
         &self,
         earlier: &[RenderPass],
         quad: &DrawQuad,
-        q: Point,
-        l: Point,
-        d: Pixel,
+        point: Point,
+        local: Point,
+        under: Pixel,
     ) -> Pixel
-        requires local { l ≡ local_point quad.now q }
-        requires close { IsClose l }
-        ensures { result ≡ material_painted self.now.image (passes_in self.now earlier.now) (ranges self.now) quad.now q d }
+        requires local { local ≡ local_point quad.now point }
+        requires close { IsClose local }
+        ensures { result ≡ quad_here self.now earlier.now quad.now point under }
     {
         match quad.material {
-            Material::Solid(c) => laid(quad.blend, c, quad.opacity, d),
+            Material::Solid(colour) => laid(quad.blend, colour, quad.opacity, under),
             Material::Tile { resource, tx, ty } => {
-                let c = tile_colour(self.image, resource, tx, ty, l);
-                laid(quad.blend, c, quad.opacity, d)
+                let colour = tile_colour(self.image, resource, tx, ty, local);
+                laid(quad.blend, colour, quad.opacity, under)
             }
             Material::Surface { range, background } => {
-                self.range(&range, background, quad.blend, quad.opacity, l, d)
+                self.range(&range, background, quad.blend, quad.opacity, local, under)
             }
-            Material::Pass(id) => self.named(earlier, id, quad.blend, quad.opacity, l, d),
+            Material::Pass(id) => {
+                self.named(earlier, id, quad.blend, quad.opacity, local, under)
+            }
         }
     }
 
     /// What the pass of an id does, over the earlier ones. Condition: the point is close.
     #[tactic(auto, unfolding(vz_rules::specs::Paint::groups))]
     #[cycle(paint)]
-    fn named(&self, passes: &[RenderPass], id: u32, m: Blend, o: u8, l: Point, d: Pixel) -> Pixel
-        requires { IsClose l }
-        ensures { result ≡ passes_in self.now passes.now id m o l d }
+    fn named(
+        &self,
+        passes: &[RenderPass],
+        id: u32,
+        mode: Blend,
+        opacity: u8,
+        local: Point,
+        under: Pixel,
+    ) -> Pixel
+        requires { IsClose local }
+        ensures { result ≡ passes_in self.now passes.now id mode opacity local under }
     {
         match passes.split_last() {
-            None => d,
+            None => under,
             Some((pass, earlier)) => {
                 if pass.id == id {
-                    self.group(earlier, pass, m, o, in_rectangle(l, &pass.output), d)
+                    let point = in_rectangle(local, &pass.output);
+                    self.group(earlier, pass, mode, opacity, point, under)
                 } else {
-                    self.named(earlier, id, m, o, l, d)
+                    self.named(earlier, id, mode, opacity, local, under)
                 }
             }
         }
@@ -215,42 +238,42 @@ impl<'b, 'a> Standing<'b, 'a> {
         &self,
         earlier: &[RenderPass],
         pass: &RenderPass,
-        m: Blend,
-        o: u8,
-        l: Point,
-        d: Pixel,
+        mode: Blend,
+        opacity: u8,
+        point: Point,
+        under: Pixel,
     ) -> Pixel
-        ensures { result ≡ group_laid self.now.image (passes_in self.now earlier.now) (ranges self.now) pass.now m o l d }
+        ensures { result ≡ group_here self.now earlier.now pass.now mode opacity point under }
     {
-        if pass.output.contains(l) {
-            let c = self.pass(earlier, pass, l, Pixel::transparent());
-            laid(m, c, o, d)
+        if pass.output.contains(point) {
+            let colour = self.pass(earlier, pass, point, Pixel::transparent());
+            laid(mode, colour, opacity, under)
         } else {
-            d
+            under
         }
     }
 
-    /// What a range does.
+    /// What a range does: nothing where the surface that it shows is on the path.
     #[tactic(auto, unfolding(vz_rules::specs::Paint::embeds))]
     #[cycle(paint)]
     fn range(
         &self,
         range: &SurfaceRange,
         background: Pixel,
-        m: Blend,
-        o: u8,
-        l: Point,
-        d: Pixel,
+        mode: Blend,
+        opacity: u8,
+        local: Point,
+        under: Pixel,
     ) -> Pixel
-        ensures { result ≡ ranges self.now range.now background m o l d }
+        ensures { result ≡ ranges self.now range.now background mode opacity local under }
     {
         match shown_image(self.images, range) {
-            None => laid(m, background, o, d),
+            None => laid(mode, background, opacity, under),
             Some(image) => {
-                if self.path.has(&image.id()) || is_absent(range, image, l) {
-                    d
+                if self.path.has(&image.id()) || is_absent(range, image, local) {
+                    under
                 } else {
-                    self.shown(image, background, m, o, l, d)
+                    self.shown(image, background, mode, opacity, local, under)
                 }
             }
         }
@@ -261,20 +284,21 @@ impl<'b, 'a> Standing<'b, 'a> {
     #[cycle(paint)]
     fn shown(
         &self,
-        image: &Still<'a>,
+        image: &SubmittedFrame<'a>,
         background: Pixel,
-        m: Blend,
-        o: u8,
-        l: Point,
-        d: Pixel,
+        mode: Blend,
+        opacity: u8,
+        local: Point,
+        under: Pixel,
     ) -> Pixel
-        ensures { result ≡ content_laid (content_at (content self.now) self.now.path background image.now l) m o d }
+        ensures { result
+            ≡ content_laid (content_here self.now background image.now local) mode opacity under }
     {
-        if is_straight(m, o) {
-            self.content(image, background, l, d)
+        if is_straight(mode, opacity) {
+            self.content(image, background, local, under)
         } else {
-            let c = self.content(image, background, l, Pixel::transparent());
-            laid(m, c, o, d)
+            let colour = self.content(image, background, local, Pixel::transparent());
+            laid(mode, colour, opacity, under)
         }
     }
 
@@ -282,27 +306,33 @@ impl<'b, 'a> Standing<'b, 'a> {
     /// the background.
     #[tactic(auto, unfolding(vz_rules::specs::Paint::content_at))]
     #[cycle(paint)]
-    fn content(&self, image: &Still<'a>, background: Pixel, l: Point, d: Pixel) -> Pixel
-        ensures { result ≡ content_at (content self.now) self.now.path background image.now l d }
+    fn content(
+        &self,
+        image: &SubmittedFrame<'a>,
+        background: Pixel,
+        local: Point,
+        under: Pixel,
+    ) -> Pixel
+        ensures { result ≡ content_here self.now background image.now local under }
     {
-        if is_inside(image, l) {
-            pix(self.images, self.levels, self.path, image, l, d)
+        if is_inside(image, local) {
+            pix(self.images, self.levels, self.path, image, local, under)
         } else {
-            background.over(d)
+            background.over(under)
         }
     }
 }
 
 /// The colour at a point of the display, black where nothing can be seen.
 #[tactic(auto, unfolding(vz_rules::specs::Paint::full, vz_rules::specs::Paint::levels))]
-pub fn full(images: &[Still<'_>], root: &SurfaceId, p: Point) -> Pixel
-    ensures { result ≡ full (record { root = root.now; images = images.now }) p }
+pub fn full(images: &[SubmittedFrame<'_>], root: &SurfaceId, point: Point) -> Pixel
+    ensures { result ≡ full (record { root = root.now; images = images.now }) point }
 {
     match image_on(images, root) {
         None => Pixel::black(),
         Some(image) => {
-            if is_inside(image, p) {
-                pix(images, 65, &Path::Start, image, p, Pixel::black())
+            if is_inside(image, point) {
+                pix(images, 65, &Path::Start, image, point, Pixel::black())
             } else {
                 Pixel::black()
             }

@@ -13,7 +13,7 @@ use std::alloc::{AllocError, Global};
 use vz_geom::{Point, Size};
 use vz_ids::SurfaceId;
 use vz_pixels::Pixel;
-use vz_slow::submission::Still;
+use vz_scene::SubmittedFrame;
 
 /// The point of a column and a row. Condition: both are a display's.
 fn point_at(x: u32, y: u32) -> Point
@@ -28,7 +28,7 @@ fn point_at(x: u32, y: u32) -> Point
 }
 
 /// The colour at a point of the display, black where there is no root.
-fn colour_at(images: &[Still<'_>], root: &Option<SurfaceId>, p: Point) -> Pixel
+fn colour_at(images: &[SubmittedFrame<'_>], root: &Option<SurfaceId>, p: Point) -> Pixel
     ensures { result ≡ colour_of images.now root.now p }
 {
     match root {
@@ -40,7 +40,7 @@ fn colour_at(images: &[Still<'_>], root: &Option<SurfaceId>, p: Point) -> Pixel
 /// The colours of a row are put behind others, from the first column on. Condition: it is a
 /// row of a display.
 pub fn row(
-    images: &[Still<'_>],
+    images: &[SubmittedFrame<'_>],
     root: &Option<SurfaceId>,
     w: u32,
     y: u32,
@@ -48,7 +48,8 @@ pub fn row(
 ) -> Result<(), AllocError>
     requires across { w ≤ 2048 }
     requires down { y ≤ 2048 }
-    ensures { OnOk result (into.new.items ≡ into.old.items ++ map (colour_of images.now root.now) (row_points w (pos 0) (pos y))) }
+    ensures { OnOk result (into.new.items
+        ≡ into.old.items ++ map (colour_of images.now root.now) (row_points w (pos 0) (pos y))) }
 {
     for x in 0..w {
         into.push(colour_at(images, root, point_at(x, y)))?;
@@ -60,7 +61,7 @@ pub fn row(
 #[tactic(auto, unfolding(vz_geom::specs::Rectangle::points_of))]
 fn rows(
     alloc: Global,
-    images: &[Still<'_>],
+    images: &[SubmittedFrame<'_>],
     root: &Option<SurfaceId>,
     size: Size,
 ) -> Result<Vec<Pixel>, AllocError>
@@ -80,12 +81,13 @@ fn rows(
 /// be. Condition: the size is a display's.
 pub fn picture(
     alloc: Global,
-    images: &[Still<'_>],
+    images: &[SubmittedFrame<'_>],
     root: &Option<SurfaceId>,
     size: Size,
 ) -> Result<Vec<Pixel>, AllocError>
     requires { IsDisplaySize size }
-    ensures { IfOk result (λ v. v.items ≡ picture_of size (option_and_then (λ (r : Root). scene_at r images.now) root.now)) }
+    ensures { IfOk result (λ v. v.items
+        ≡ picture_of size (option_and_then (λ (r : Root). scene_at r images.now) root.now)) }
 {
     Ok(rows(alloc, images, root, size)?)
 }

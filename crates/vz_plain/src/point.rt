@@ -7,12 +7,13 @@ ghost use Rattle.vz_plain.specs.Points.{IsClose};
 use vz_geom::{Point, Rect};
 
 /// A point moved back by an offset, where the numbers have 32 bits.
-fn moved_back(p: Point, by: Point) -> Option<Point>
-    ensures { SomeIff result (FitsSigned w32 (p.x -ℤ by.x) × FitsSigned w32 (p.y -ℤ by.y)) (minus p by) }
+fn moved_back(point: Point, by: Point) -> Option<Point>
+    ensures { SomeIff result (FitsSigned w32 (point.x -ℤ by.x) × FitsSigned w32 (point.y -ℤ by.y))
+        (minus point by) }
 {
-    match p.x.checked_sub(by.x) {
+    match point.x.checked_sub(by.x) {
         None => None,
-        Some(x) => match p.y.checked_sub(by.y) {
+        Some(x) => match point.y.checked_sub(by.y) {
             None => None,
             Some(y) => Some(Point { x, y }),
         },
@@ -21,7 +22,8 @@ fn moved_back(p: Point, by: Point) -> Option<Point>
 
 /// The point moved back by an offset, where a rectangle has it.
 pub fn found_in(r: &Rect, q: Point, by: Point) -> Option<Point>
-    ensures { MatchOption result (has r.now (minus q by) ≡ false) (λ p. (has r.now (minus q by) ≡ true) × (p ≡ minus q by) × IsNear p) }
+    ensures { MatchOption result (has r.now (minus q by) ≡ false)
+        (λ p. (has r.now (minus q by) ≡ true) × (p ≡ minus q by) × IsNear p) }
 {
     let _ = r.is_empty();
     match moved_back(q, by) {

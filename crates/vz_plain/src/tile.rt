@@ -8,7 +8,7 @@ ghost use Rattle.vz_plain.specs.Points.{IsClose};
 use vz_frame::Listing;
 use vz_geom::Point;
 use vz_pixels::{Pixel, PixelBlock};
-use vz_slow::submission::Still;
+use vz_scene::SubmittedFrame;
 
 /// The block of a listed resource.
 fn block_of<'a>(id: u32, listings: &[Listing], blocks: &[&'a PixelBlock]) -> Option<&'a PixelBlock>
@@ -61,7 +61,7 @@ fn texel_of(block: Option<&PixelBlock>, p: Point) -> Pixel
 /// The colour of a tile whose texel (tx, ty) stands at the first point. Condition: the point
 /// is close.
 #[tactic(auto, unfolding(vz_rules::specs::Paint::tile_colour))]
-pub fn tile_colour(image: &Still<'_>, id: u32, tx: u16, ty: u16, p: Point) -> Pixel
+pub fn tile_colour(image: &SubmittedFrame<'_>, id: u32, tx: u16, ty: u16, p: Point) -> Pixel
     requires { IsClose p }
     ensures { result ≡ tile_colour image.now id tx ty p }
 {

@@ -1,5 +1,0 @@
-use Rattle.vz_plain.proofs.Replaying.{legal_names}
-use Rattle.vz_plain.proofs.laws.histories_name_clients.Goals as goal
-
-pub returns : goal.returns
-returns c = legal_names

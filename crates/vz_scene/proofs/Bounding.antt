@@ -1,0 +1,84 @@
+-- The smallest rectangle round some in reach, and the damages of images from one on.
+use Rattle.std.proofs.Common.{◌≡◌, ℕ, ℤ, pos, ◌+◌, ◌+ℤ◌, ◌-ℤ◌, ◌<◌, ◌≤◌, int_lt, Bool, true, false, cond, ◌||◌, List, ◌∷◌, map, filter, drop, length, get_or, sym, ap, ◌∙◌, arith, if◌then◌else◌}
+use Rattle.std.specs.Int.{int_min, int_max}
+use Rattle.std.proofs.lemmas.Int.{ints, clamps}
+use Rattle.std.proofs.lemmas.List.{drop_all, drop_more}
+use Rattle.vz_geom.specs.Rectangle.{Rectangle, is_empty_rect, no_rectangle, with_sides, hull, join, bound}
+use Rattle.vz_rules.specs.World.{Image}
+use Rattle.vz_rules.specs.Damage.{root_damage, is_between}
+use Rattle.vz_scene.specs.Limits.{IsInReach}
+
+pub nothing_in_reach : IsInReach no_rectangle
+nothing_in_reach =
+    record {
+      first = record { left = omega (arith, ints); right = omega (arith, ints); top = omega (arith, ints); bottom = omega (arith, ints) };
+      wide = omega (arith, ints);
+      high = omega (arith, ints);
+      right = omega (arith, ints);
+      bottom = omega (arith, ints);
+    }
+
+sides_in_reach : (x y w h : ℤ) → IsInReach (record { x = x; y = y; w = w; h = h }) → IsInReach (with_sides x y w h)
+unfolding with_sides
+sides_in_reach x y w h is = by_test (int_lt w (pos 1) || int_lt h (pos 1))
+  where
+    by_test : (t : Bool) → IsInReach (if t then no_rectangle else record { x = x; y = y; w = w; h = h })
+    by_test true = nothing_in_reach
+    by_test false = is
+
+hull_in_reach : (a b : Rectangle) → IsInReach a → IsInReach b → IsInReach (hull a b)
+unfolding hull
+hull_in_reach a b p q =
+    let left = int_min a.x b.x in
+    let top = int_min a.y b.y in
+    let right = int_max (a.x +ℤ a.w) (b.x +ℤ b.w) in
+    let bottom = int_max (a.y +ℤ a.h) (b.y +ℤ b.h) in
+    sides_in_reach left top (right -ℤ left) (bottom -ℤ top)
+    (record {
+      first = record { left = omega (arith, ints, clamps); right = omega (arith, ints, clamps); top = omega (arith, ints, clamps); bottom = omega (arith, ints, clamps) };
+      wide = omega (arith, ints, clamps);
+      high = omega (arith, ints, clamps);
+      right = omega (arith, ints, clamps);
+      bottom = omega (arith, ints, clamps);
+    })
+
+-- the smallest rectangle round two in reach
+pub join_in_reach : (a b : Rectangle) → IsInReach a → IsInReach b → IsInReach (join a b)
+unfolding join
+join_in_reach a b p q = by_tests (is_empty_rect a) (is_empty_rect b)
+  where
+    by_tests : (s t : Bool) → IsInReach (if s then b else (if t then a else hull a b))
+    by_tests true t = q
+    by_tests false true = p
+    by_tests false false = hull_in_reach a b p q
+
+-- the damages of those images from a place on that are between
+abbrev pub damages_from : ℕ → Image → List Image → ℕ → List Rectangle
+damages_from from i accepted k = map (λ (j : Image). root_damage j.frame) (filter (is_between from i) (drop k accepted))
+
+-- one more to the front that is between
+pub damages_step : (from : ℕ) (i : Image) (accepted : List Image) (k m : ℕ) (d : Image) (best new r : Rectangle) → m + 1 ≡ k → m < length accepted → is_between from i (get_or accepted m d) ≡ true
+    → best ≡ bound (damages_from from i accepted k) → r ≡ root_damage (get_or accepted m d).frame → new ≡ join r best → new ≡ bound (damages_from from i accepted m)
+unfolding bound
+damages_step from i accepted k m d best new r e h between was damage is =
+    let j = get_or accepted m d in
+    let front : drop m accepted ≡ j ∷ drop k accepted = drop_more accepted m d h ∙ ap (λ n. j ∷ drop n accepted) e in
+    let chosen : filter (is_between from i) (j ∷ drop k accepted) ≡ j ∷ filter (is_between from i) (drop k accepted) =
+    ap (λ t. cond t (j ∷ filter (is_between from i) (drop k accepted)) (filter (is_between from i) (drop k accepted))) between in
+    let all : damages_from from i accepted m ≡ root_damage j.frame ∷ damages_from from i accepted k = ap (λ l. map (λ (j : Image). root_damage j.frame) l) (ap (filter (is_between from i)) front ∙ chosen) in
+    is ∙ (ap (λ x. join x best) damage ∙ (ap (join (root_damage j.frame)) was ∙ sym (ap bound all)))
+
+-- one that is not
+pub damages_skip : (from : ℕ) (i : Image) (accepted : List Image) (k m : ℕ) (d : Image) (best : Rectangle) → m + 1 ≡ k → m < length accepted → is_between from i (get_or accepted m d) ≡ false
+    → best ≡ bound (damages_from from i accepted k) → best ≡ bound (damages_from from i accepted m)
+damages_skip from i accepted k m d best e h between was =
+    let j = get_or accepted m d in
+    let front : drop m accepted ≡ j ∷ drop k accepted = drop_more accepted m d h ∙ ap (λ n. j ∷ drop n accepted) e in
+    let chosen : filter (is_between from i) (j ∷ drop k accepted) ≡ filter (is_between from i) (drop k accepted) =
+    ap (λ t. cond t (j ∷ filter (is_between from i) (drop k accepted)) (filter (is_between from i) (drop k accepted))) between in
+    was ∙ sym (ap (λ l. bound (map (λ (j : Image). root_damage j.frame) l)) (ap (filter (is_between from i)) front ∙ chosen))
+
+-- behind the last there is none
+pub damages_none : (from : ℕ) (i : Image) (accepted : List Image) (k : ℕ) → length accepted ≤ k → no_rectangle ≡ bound (damages_from from i accepted k)
+unfolding bound
+damages_none from i accepted k h = sym (ap (λ l. bound (map (λ (j : Image). root_damage j.frame) (filter (is_between from i) l))) (drop_all k accepted h))

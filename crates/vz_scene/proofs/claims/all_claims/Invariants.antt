@@ -1,0 +1,8 @@
+use Rattle.std.proofs.Common.{◌≡◌, take}
+use Rattle.std.specs.List.{flat_map}
+use Rattle.vz_rules.specs.Damage.{claims_of}
+use Rattle.vz_scene.proofs.claims.all_claims.Given as goal
+
+-- the claims of the meetings so far
+abbrev pub invariant-loop-meeting : goal.invariant-loop-meeting
+invariant-loop-meeting l = l.all.items ≡ flat_map (claims_of l.last l.accepted) (take l.meeting-index l.met)

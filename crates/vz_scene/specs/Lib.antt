@@ -1,0 +1,5 @@
+pub mod Walking
+pub mod Meetings
+pub mod Counted
+pub mod Limits
+pub mod Order

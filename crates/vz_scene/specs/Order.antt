@@ -1,0 +1,37 @@
+-- Orders of surfaces, submissions and ranges, and what trees in these orders have.
+use Rattle.std.specs.Prelude.{◌≡◌, List, find}
+use Rattle.std.specs.Option.{option_map}
+use Rattle.std.specs.BTreeMap.{BTreeMap, get}
+use Rattle.std.specs.declared.cmp.Ordering.{Ordering}
+use Rattle.vz_ids.specs.declared.Sub.{Sub}
+use Rattle.vz_ids.specs.declared.SurfaceId.{SurfaceId}
+use Rattle.vz_ids.specs.declared.SurfaceRange.{SurfaceRange}
+use Rattle.vz_ids.specs.contracts.SubOrd.TheImpl as sub_ord
+use Rattle.vz_ids.specs.contracts.SurfaceIdOrd.TheImpl as surface_ord
+use Rattle.vz_ids.specs.Ids.{same_surface, same_range}
+use Rattle.vz_scene.specs.declared.key.RangeKey.{RangeKey}
+use Rattle.vz_scene.specs.contracts.key.RangeKeyOrd.TheImpl as range_ord
+
+-- by client and ordinal
+abbrev pub by_sub : Sub → Sub → Ordering
+by_sub = (sub_ord.ghosts).cmp
+
+-- by sink and local id
+abbrev pub by_surface : SurfaceId → SurfaceId → Ordering
+by_surface = (surface_ord.ghosts).cmp
+
+-- by start and end
+abbrev pub by_range : RangeKey → RangeKey → Ordering
+by_range = (range_ord.ghosts).cmp
+
+-- the key of a range
+abbrev pub key_of : SurfaceRange → RangeKey
+key_of r = record { start = r.start; end = r.end }
+
+-- a map has the number of the first pair of each surface
+abbrev pub HasNumbers : {A : Type 0} → BTreeMap SurfaceId A → List (SurfaceId × A) → Type 0
+HasNumbers {A} m pairs = (id : SurfaceId) → get by_surface m id ≡ option_map (λ (x : SurfaceId × A). x.1) (find (λ (x : SurfaceId × A). same_surface x.0 id) pairs)
+
+-- a map has what the first pair of each range says
+abbrev pub HasShown : {A : Type 0} → BTreeMap RangeKey A → List (SurfaceRange × A) → Type 0
+HasShown {A} m pairs = (r : SurfaceRange) → get by_range m (key_of r) ≡ option_map (λ (x : SurfaceRange × A). x.1) (find (λ (x : SurfaceRange × A). same_range x.0 r) pairs)

@@ -1,0 +1,36 @@
+//! What is remembered of an aggregation.
+ghost use Rattle.std.specs.Prelude.{◌≡◌, IfOk};
+
+use std::alloc::{AllocError, Global};
+use std::marker::Model;
+use vz_ids::{SurfaceId, SurfaceRange};
+
+/// What is remembered of the last aggregation: the root, the number of each image that was
+/// active, and what each range that the walk met showed.
+#[derive(Drop)]
+pub struct Aggregation {
+    pub(crate) root: SurfaceId,
+    pub(crate) indices: Vec<(SurfaceId, u32)>,
+    pub(crate) ranges: Vec<(SurfaceRange, Option<SurfaceId>)>,
+}
+
+impl Model for Aggregation {
+    ghost use Rattle.vz_rules.specs.World.{Aggregation};
+
+    ghost Value = { Aggregation };
+
+    ghost view = { λ a. record { root = a.root; indices = a.indices.items; ranges = a.ranges.items } };
+}
+
+impl Aggregation {
+    /// The same one.
+    pub fn copy(&self, alloc: Global) -> Result<Aggregation, AllocError>
+        ensures { IfOk result (λ a. a ≡ self.now) }
+    {
+        Ok(Aggregation {
+            root: self.root,
+            indices: self.indices.iter().copied().collect(alloc)?,
+            ranges: self.ranges.iter().copied().collect(alloc)?,
+        })
+    }
+}

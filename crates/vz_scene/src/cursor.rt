@@ -1,0 +1,247 @@
+//! Cursors of the walk: quads that are still to be walked.
+ghost use Rattle.std.specs.Prelude.{◌≡◌, ◌≤◌, ◌<◌, ◌^◌, length, List, ◌+◌, ◌++◌, ◌∷◌, []};
+ghost use Rattle.std.specs.Prelude.{false, take, reverse, IsSome, IfSome, IfOk, OnOk, MatchOption};
+ghost use Rattle.std.specs.Arc.{arc_value};
+ghost use Rattle.vz_rules.specs.World.{Image};
+ghost use Rattle.vz_rules.specs.Paint.{on_path};
+ghost use Rattle.vz_rules.specs.Walk.{Place as Standing, WalkRange};
+ghost use Rattle.vz_rules.specs.Walk.{place_in, groups_walked, walk, weight, too_much};
+ghost use Rattle.vz_scene.specs.Limits.{HasRoom, IsPassInReach, IsQuadInReach, room_for};
+ghost use Rattle.vz_scene.specs.Walking.{ranges_of, named_of, walked_at};
+ghost use Rattle.vz_scene.specs.Walking.{cursor_walked, maybe_walked, group_at, next_cursor};
+
+use crate::meeting::Walked;
+use crate::place::Place;
+use crate::scene::shown_image;
+use crate::submitted::SubmittedFrame;
+use std::alloc::{AllocError, Global};
+use std::marker::Model;
+use std::sync::Arc;
+use vz_frame::{DrawQuad, Material, RenderPass};
+use vz_ids::{SurfaceId, SurfaceRange};
+
+/// Quads that are still to be walked: in the pass at a place of an image's frame, from a quad
+/// on, behind the surfaces of a path and with so many surfaces left. The place has room for
+/// all passes that may still be gone into.
+#[derive(Drop)]
+pub struct Cursor<'b, 'a> {
+    levels: u32,
+    path: Arc<Vec<SurfaceId>, Global>,
+    image: &'b SubmittedFrame<'a>,
+    pass: usize,
+    quad: usize,
+    place: Place,
+}
+
+impl<'b, 'a> Model for Cursor<'b, 'a> {
+    ghost use Rattle.std.specs.Arc.{arc_value};
+    ghost use Rattle.vz_scene.specs.Walking.{Cursor as Waiting, IsBounded};
+
+    ghost Value = { Waiting };
+
+    ghost view = { λ c. record {
+      levels = c.levels;
+      path = (arc_value c.path).items;
+      image = c.image.now;
+      pass = c.pass;
+      quad = c.quad;
+      place = c.place;
+    } };
+
+    ghost invariant = { λ c. IsBounded c.levels c.image.now c.pass c.place };
+}
+
+/// The pass of an id before a place, the last one.
+fn pass_of(passes: &[RenderPass], before: usize, id: u32) -> Option<usize>
+    requires { before ≤ length passes.now }
+    ensures found { (ranges : WalkRange) (place : Standing)
+        → groups_walked ranges (reverse (take before passes.now)) id place
+        ≡ group_at ranges passes.now place result }
+    ensures before { IfSome result (λ k. k < before) }
+{
+    let mut k = before;
+    while k > 0 {
+        k -= 1;
+        if passes[k].id == id {
+            return Some(k);
+        }
+    }
+    None
+}
+
+/// A path with a surface in front.
+fn behind(
+    alloc: Global,
+    id: SurfaceId,
+    path: &[SurfaceId],
+) -> Result<Arc<Vec<SurfaceId>, Global>, AllocError>
+    ensures { IfOk result (λ p. (arc_value p).items ≡ id ∷ path.now) }
+{
+    let mut ids = Vec::new(alloc);
+    ids.push(id)?;
+    ids.extend_from_slice(path)?;
+    match Arc::new(alloc, ids) {
+        Ok(shared) => Ok(shared),
+        Err(_) => Err(AllocError),
+    }
+}
+
+/// Whether the image's surface is on the path.
+fn is_on_path(path: &[SurfaceId], image: &SubmittedFrame<'_>) -> bool
+    ensures { result ≡ on_path path.now image.now }
+{
+    path.iter().any(|id| image.id == *id)
+}
+
+/// What is to be walked in a surface, behind the surfaces of a path and with so many left.
+/// Condition: the place has room for the passes of all of them.
+pub fn enter<'b, 'a>(
+    alloc: Global,
+    levels: u32,
+    path: &[SurfaceId],
+    image: &'b SubmittedFrame<'a>,
+    place: Place,
+) -> Result<Option<Cursor<'b, 'a>>, AllocError>
+    requires { HasRoom (room_for levels 0) place.shift }
+    ensures { (images : List Image)
+        → IfOk result (λ o. maybe_walked images o ≡ walk levels images path.now image.now place) }
+{
+    if levels == 0 {
+        return Ok(None);
+    }
+    let count = image.frame().passes.as_slice().len();
+    if count == 0 {
+        return Ok(None);
+    }
+    let path = behind(alloc, image.id, path)?;
+    Ok(Some(Cursor {
+        levels: levels - 1,
+        path,
+        image,
+        pass: count - 1,
+        quad: 0,
+        place,
+    }))
+}
+
+impl<'b, 'a> Cursor<'b, 'a> {
+    /// The next quad with its pass, if there is one.
+    pub fn quad_of(&self) -> Option<(&'a RenderPass, &'a DrawQuad)>
+        ensures walked { (images : List Image)
+            → MatchOption result (cursor_walked images self.now ≡ [])
+            (λ r. cursor_walked images self.now ≡ walked_at images self.now r.0.now r.1.now
+            ++ cursor_walked images (next_cursor self.now)) }
+        ensures reach { IfSome result (λ r. IsPassInReach r.0.now × IsQuadInReach r.1.now) }
+        ensures more { IsSome result → self.now.quad + 1 < 2 ^ 64 }
+    {
+        let pass = &self.image.frame().passes.as_slice()[self.pass];
+        let quads = pass.quads.as_slice();
+        if self.quad < quads.len() {
+            Some((pass, &quads[self.quad]))
+        } else {
+            None
+        }
+    }
+
+    /// The cursor goes on to the next quad. Condition: there are numbers left.
+    pub fn go_on(&mut self)
+        requires { self.old.quad + 1 < 2 ^ 64 }
+        ensures { self.new ≡ next_cursor self.old }
+    {
+        self.quad += 1;
+    }
+
+    /// The place of what a quad of its pass draws: it has room for the earlier passes and all
+    /// surfaces that are left. Conditions: the pass and the quad are in reach.
+    fn place_of(&self, pass: &RenderPass, quad: &DrawQuad) -> Place
+        requires pass { IsPassInReach pass.now }
+        requires quad { IsQuadInReach quad.now }
+        ensures value { result ≡ place_in self.now.place pass.now quad.now }
+        ensures room { HasRoom (room_for self.now.levels self.now.pass + 16384) result.shift }
+    {
+        self.place.place_in(pass, quad)
+    }
+
+    /// What is to be walked in a pass of an id before the cursor's, seen as a group from a place.
+    /// Condition: the place has room for the earlier passes and all surfaces that are left.
+    fn group(&self, id: u32, place: &Place) -> Result<Option<Cursor<'b, 'a>>, AllocError>
+        requires { HasRoom (room_for self.now.levels self.now.pass + 16384) place.now.shift }
+        ensures { (images : List Image)
+            → IfOk result (λ o. maybe_walked images o ≡ named_of images self.now id place.now) }
+    {
+        let passes = self.image.frame().passes.as_slice();
+        match pass_of(passes, self.pass, id) {
+            None => Ok(None),
+            Some(k) => {
+                let path = Arc::try_clone(&self.path)?;
+                Ok(Some(Cursor {
+                    levels: self.levels,
+                    path,
+                    image: self.image,
+                    pass: k,
+                    quad: 0,
+                    place: place.inside(&passes[k]),
+                }))
+            }
+        }
+    }
+
+    /// A range is met. The answer is what is to be walked in the surface that it shows.
+    /// Condition: the place has room for all surfaces that are left.
+    fn range(
+        &self,
+        alloc: Global,
+        images: &'b [SubmittedFrame<'a>],
+        range: SurfaceRange,
+        place: Place,
+        walked: &mut Walked<'b, 'a>,
+    ) -> Result<Option<Cursor<'b, 'a>>, AllocError>
+        requires { HasRoom (room_for self.now.levels 0) place.shift }
+        ensures walked { IfOk result (λ o. walked.new ++ maybe_walked images.now o
+            ≡ walked.old ++ ranges_of images.now self.now range place) }
+        ensures weight { OnOk result (weight walked.new ≡ weight walked.old) }
+    {
+        let shown = shown_image(images, &range);
+        walked.add_shows(range, shown, place.window)?;
+        match shown {
+            None => Ok(None),
+            Some(image) => {
+                let path = self.path.as_slice();
+                if is_on_path(path, image) {
+                    return Ok(None);
+                }
+                walked.add_enters(path.len() + 1, image, place)?;
+                Ok(enter(alloc, self.levels, path, image, place)?)
+            }
+        }
+    }
+
+    /// A quad is met. The answer is what is to be walked in what it draws. Conditions: it was not
+    /// too much before, and the pass and the quad are in reach.
+    pub fn quad(
+        &self,
+        alloc: Global,
+        images: &'b [SubmittedFrame<'a>],
+        pass: &RenderPass,
+        quad: &DrawQuad,
+        walked: &mut Walked<'b, 'a>,
+    ) -> Result<Option<Cursor<'b, 'a>>, AllocError>
+        requires few { too_much walked.old ≡ false }
+        requires pass { IsPassInReach pass.now }
+        requires quad { IsQuadInReach quad.now }
+        ensures walked { IfOk result (λ o. walked.new ++ maybe_walked images.now o
+            ≡ walked.old ++ walked_at images.now self.now pass.now quad.now) }
+        ensures weight { OnOk result (weight walked.new ≡ weight walked.old + 1) }
+    {
+        walked.add_quad()?;
+        match quad.material {
+            Material::Pass(id) => Ok(self.group(id, &self.place_of(pass, quad))?),
+            Material::Surface { range, .. } => {
+                let place = self.place_of(pass, quad);
+                Ok(self.range(alloc, images, range, place, walked)?)
+            }
+            Material::Solid(_) => Ok(None),
+            Material::Tile { .. } => Ok(None),
+        }
+    }
+}

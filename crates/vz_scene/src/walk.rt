@@ -1,0 +1,104 @@
+//! The walk through a scene, quad by quad. What is still to be walked stands on a stack.
+ghost use Rattle.std.specs.Prelude.{◌≡◌, ◌≤◌, length, List, ◌+◌, ◌*◌, ◌++◌, false, IfOk, OnOk};
+ghost use Rattle.std.specs.Option.{option_to_list};
+ghost use Rattle.vz_rules.specs.Walk.{Meeting, walk_of, weight, too_much};
+ghost use Rattle.vz_rules.specs.Plan.{IsDisplaySize};
+ghost use Rattle.vz_scene.specs.Walking.{cursor_walked, stack_walked, IsWalk};
+
+use crate::cursor::{Cursor, enter};
+use crate::meeting::Walked;
+use crate::place::whole;
+use crate::scene::image_on;
+use crate::submitted::SubmittedFrame;
+use std::alloc::{AllocError, Global};
+use vz_geom::Size;
+use vz_ids::SurfaceId;
+
+/// A cursor is put on the stack, if there is one.
+fn push_some<'b, 'a>(
+    stack: &mut Vec<Cursor<'b, 'a>>,
+    cursor: Option<Cursor<'b, 'a>>,
+) -> Result<(), AllocError>
+    ensures { OnOk result (stack.new.items ≡ stack.old.items ++ option_to_list cursor.entry) }
+{
+    match cursor {
+        None => Ok(()),
+        Some(inner) => {
+            stack.push(inner)?;
+            Ok(())
+        }
+    }
+}
+
+/// The cursor is walked by one quad; what is then still to be walked stands on the stack. A
+/// quad more is met for each two cursors that the stack gains, and at most one. Condition: it
+/// was not too much before.
+fn advance<'b, 'a>(
+    alloc: Global,
+    images: &'b [SubmittedFrame<'a>],
+    mut cursor: Cursor<'b, 'a>,
+    stack: &mut Vec<Cursor<'b, 'a>>,
+    walked: &mut Walked<'b, 'a>,
+) -> Result<(), AllocError>
+    requires { too_much walked.old ≡ false }
+    ensures walked { OnOk result (walked.new ++ stack_walked images.now stack.new.items ≡ walked.old
+        ++ (cursor_walked images.now cursor.entry ++ stack_walked images.now stack.old.items)) }
+    ensures stack { OnOk result (length stack.new.items + 2 * weight walked.old
+        ≤ length stack.old.items + 2 * weight walked.new) }
+    ensures weight { OnOk result (weight walked.new ≤ weight walked.old + 1) }
+{
+    match cursor.quad_of() {
+        None => Ok(()),
+        Some((pass, quad)) => {
+            let inner = cursor.quad(alloc, images, pass, quad, walked)?;
+            cursor.go_on();
+            stack.push(cursor)?;
+            push_some(stack, inner)?;
+            Ok(())
+        }
+    }
+}
+
+/// The walk over a stack, cursor by cursor. None is answered where it is too much.
+fn run<'b, 'a>(
+    alloc: Global,
+    images: &'b [SubmittedFrame<'a>],
+    mut stack: Vec<Cursor<'b, 'a>>,
+    mut walked: Walked<'b, 'a>,
+) -> Result<Option<Walked<'b, 'a>>, AllocError>
+    ensures { (all : List Meeting) → all ≡ walked.entry ++ stack_walked images.now stack.entry.items
+        → IfOk result (IsWalk all) }
+{
+    'quads: while !walked.is_too_much() {
+        match stack.pop() {
+            None => return Ok(Some(walked)),
+            Some(cursor) => advance(alloc, images, cursor, &mut stack, &mut walked)?,
+        }
+    }
+    Ok(None)
+}
+
+/// The walk from the root pass of the root. None is answered where it is too much, after at most
+/// 65,537 quads. Condition: the size is a display's.
+pub fn walk_of<'b, 'a>(
+    alloc: Global,
+    images: &'b [SubmittedFrame<'a>],
+    root: &SurfaceId,
+    size: Size,
+) -> Result<Option<Walked<'b, 'a>>, AllocError>
+    requires { IsDisplaySize size }
+    ensures { IfOk result
+        (IsWalk (walk_of size (record { root = root.now; images = images.now }))) }
+{
+    let mut walked = Walked::new(alloc);
+    match image_on(images, root) {
+        None => Ok(Some(walked)),
+        Some(image) => {
+            let place = whole(size);
+            walked.add_enters(1, image, place)?;
+            let mut stack = Vec::new(alloc);
+            push_some(&mut stack, enter(alloc, 65, &[], image, place)?)?;
+            Ok(run(alloc, images, stack, walked)?)
+        }
+    }
+}
