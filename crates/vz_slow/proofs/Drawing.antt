@@ -29,11 +29,11 @@ scene_too_much p w scene h =
     ap (λ t. scene_by w scene walked damage t (is_some w.last && is_empty_rect damage)) (sym h)
 
 -- nothing changed
-pub scene_unchanged : (p : Plan) (w v : World) (scene : Scene) (met : List Meeting) (damage : Rectangle) (rows : List Submission) (past : Aggregation) → v ≡ w → met ≡ walk_of p.size scene → too_much (walk_of p.size scene) ≡ false
-    → rows ≡ v.subs → damage ≡ drawn_damage p.size v.last (map (λ (s : Submission). s.image) rows) scene.root met → past ≡ aggregation_of scene met → (is_some v.last && is_empty_rect damage) ≡ true
+pub scene_unchanged : (p : Plan) (w v : World) (scene : Scene) (met : List Meeting) (damage : Rectangle) (submissions : List Submission) (past : Aggregation) → v ≡ w → met ≡ walk_of p.size scene → too_much (walk_of p.size scene) ≡ false
+    → submissions ≡ v.subs → damage ≡ drawn_damage p.size v.last (map (λ (s : Submission). s.image) submissions) scene.root met → past ≡ aggregation_of scene met → (is_some v.last && is_empty_rect damage) ≡ true
     → says reply.Unchanged (record v { last = Some past }) ≡ scene_answer p w scene
 unfolding scene_answer
-scene_unchanged p w v scene met damage rows past e is little subs damaged remembered other =
+scene_unchanged p w v scene met damage submissions past e is little subs damaged remembered other =
     let walked = walk_of p.size scene in
     let d = drawn_damage p.size v.last (accepted_images v) scene.root walked in
     let same : damage ≡ d = damaged ∙ (ap (λ l. drawn_damage p.size v.last (map (λ (s : Submission). s.image) l) scene.root met) subs ∙ ap (drawn_damage p.size v.last (accepted_images v) scene.root) is) in
@@ -42,11 +42,11 @@ scene_unchanged p w v scene met damage rows past e is little subs damaged rememb
     ∙ (ap (scene_by v scene walked d false) (sym test) ∙ (ap (λ t. scene_by v scene walked d t (is_some v.last && is_empty_rect d)) (sym little) ∙ ap (λ u. scene_answer p u scene) e))
 
 -- it is drawn
-pub scene_drawn : (p : Plan) (w v : World) (scene : Scene) (met : List Meeting) (damage : Rectangle) (rows : List Submission) (past : Aggregation) (drawn : List Sub) → v ≡ w → met ≡ walk_of p.size scene → too_much (walk_of p.size scene) ≡ false
-    → rows ≡ v.subs → damage ≡ drawn_damage p.size v.last (map (λ (s : Submission). s.image) rows) scene.root met → past ≡ aggregation_of scene met → drawn ≡ walked_subs scene met
+pub scene_drawn : (p : Plan) (w v : World) (scene : Scene) (met : List Meeting) (damage : Rectangle) (submissions : List Submission) (past : Aggregation) (drawn : List Sub) → v ≡ w → met ≡ walk_of p.size scene → too_much (walk_of p.size scene) ≡ false
+    → submissions ≡ v.subs → damage ≡ drawn_damage p.size v.last (map (λ (s : Submission). s.image) submissions) scene.root met → past ≡ aggregation_of scene met → drawn ≡ walked_subs scene met
     → (is_some v.last && is_empty_rect damage) ≡ false → says (reply.Drawn damage) (record v { last = Some past; in_flight = Some drawn }) ≡ scene_answer p w scene
 unfolding scene_answer
-scene_drawn p w v scene met damage rows past drawn e is little subs damaged remembered walks other =
+scene_drawn p w v scene met damage submissions past drawn e is little subs damaged remembered walks other =
     let walked = walk_of p.size scene in
     let d = drawn_damage p.size v.last (accepted_images v) scene.root walked in
     let same : damage ≡ d = damaged ∙ (ap (λ l. drawn_damage p.size v.last (map (λ (s : Submission). s.image) l) scene.root met) subs ∙ ap (drawn_damage p.size v.last (accepted_images v) scene.root) is) in
@@ -82,16 +82,16 @@ pub draw_unnamed : (p : Plan) (w : World) → is_some w.in_flight ≡ false → 
 draw_unnamed p w h e = draw_seen p w None h (scene_nowhere w e)
 
 -- nothing is active on the root
-pub draw_nothing : (p : Plan) (w : World) (root : SurfaceId) (images : List Image) (rows : List Submission) (o : Option Image) → is_some w.in_flight ≡ false → w.root ≡ Some root → images ≡ active_images rows → rows ≡ w.subs
+pub draw_nothing : (p : Plan) (w : World) (root : SurfaceId) (images : List Image) (submissions : List Submission) (o : Option Image) → is_some w.in_flight ≡ false → w.root ≡ Some root → images ≡ active_images submissions → submissions ≡ w.subs
     → o ≡ image_on root images → o ≡ None → says reply.NoRoot w ≡ draw_answer p w
-draw_nothing p w root images rows o h e f g found none =
+draw_nothing p w root images submissions o h e f g found none =
     let seen : image_on root (active_images w.subs) ≡ None = sym (ap (image_on root) (f ∙ ap active_images g)) ∙ (sym found ∙ none) in
     draw_seen p w None h (scene_root w root e ∙ ap (λ (k : Option Image). elim k [ Some i ↦ Some (record { root = root; images = active_images w.subs }) | None ↦ None ]) seen)
 
 -- the scene is drawn
-pub draw_scene_is : (p : Plan) (w : World) (root : SurfaceId) (images : List Image) (rows : List Submission) (o : Option Image) (i : Image) → is_some w.in_flight ≡ false → w.root ≡ Some root → images ≡ active_images rows
-    → rows ≡ w.subs → o ≡ image_on root images → o ≡ Some i → scene_answer p w (record { root = root; images = images }) ≡ draw_answer p w
-draw_scene_is p w root images rows o i h e f g found some =
+pub draw_scene_is : (p : Plan) (w : World) (root : SurfaceId) (images : List Image) (submissions : List Submission) (o : Option Image) (i : Image) → is_some w.in_flight ≡ false → w.root ≡ Some root → images ≡ active_images submissions
+    → submissions ≡ w.subs → o ≡ image_on root images → o ≡ Some i → scene_answer p w (record { root = root; images = images }) ≡ draw_answer p w
+draw_scene_is p w root images submissions o i h e f g found some =
     let same : images ≡ active_images w.subs = f ∙ ap active_images g in
     let seen : image_on root (active_images w.subs) ≡ Some i = sym (ap (image_on root) same) ∙ (sym found ∙ some) in
     ap (λ l. scene_answer p w (record { root = root; images = l })) same

@@ -1,12 +1,13 @@
 -- Begin-frames, and what follows a step.
-use Rattle.std.proofs.Common.{◌≡◌, ℕ, Bool, false, ◌&&◌, not, Option, Some, None, List, map, refl, ap, ◌∙◌, if◌then◌else◌}
+use Rattle.std.proofs.Common.{◌≡◌, ℕ, Bool, false, ◌&&◌, not, Option, Some, None, List, [], map, refl, sym, ap, subst, ◌∙◌, if◌then◌else◌}
 use Rattle.vz_ids.specs.declared.FrameSinkId.{FrameSinkId}
 use Rattle.vz_ids.specs.declared.Sub.{Sub}
 use Rattle.vz_rules.specs.Plan.{Plan, has_sink}
-use Rattle.vz_rules.specs.World.{World, Client, first_sink}
-use Rattle.vz_rules.specs.Messages.{says, reaches}
-use Rattle.vz_rules.specs.Step.{is_attached, next_tick, deliver, begin_answer, outcome_of, Outcome, answer_to, presented_by, step_in}
+use Rattle.vz_rules.specs.World.{World, Client, Machine, first_sink}
+use Rattle.vz_rules.specs.Messages.{says, reaches, client_answer}
+use Rattle.vz_rules.specs.Step.{is_attached, next_tick, deliver, begin_answer, draw_answer, outcome_of, Outcome, answer_to, step_in}
 use Rattle.vz_rules.specs.declared.entry.Event.{Event}
+use Rattle.vz_rules.specs.declared.entry.Event.TheVariants as event
 use Rattle.vz_rules.specs.Settle.{settle, activated_in}
 use Rattle.vz_rules.specs.Reach.{collect, destroyed_in}
 use Rattle.vz_rules.specs.Returns.{give_back, returned_in, feed, fed_in}
@@ -16,7 +17,9 @@ use Rattle.vz_rules.specs.declared.entry.Effects.{Effects}
 use Rattle.vz_rules.specs.declared.entry.Lost.{Lost}
 use Rattle.vz_rules.specs.declared.entry.Returned.{Returned}
 use Rattle.vz_rules.specs.declared.entry.Fed.{Fed}
-use Rattle.vz_slow.specs.Attached.{sinks_from, attached_sinks, deliver_by}
+use Rattle.vz_slow.specs.Reaching.{IsReached}
+use Rattle.vz_slow.proofs.Reaching.{reached_step}
+use Rattle.vz_state.specs.Attached.{sinks_from, attached_sinks, deliver_by}
 
 attached_by : (w : World) (c : Client) (o : Option FrameSinkId) → has_sink (sinks_from w.relations o) c.sink ≡ (elim o [ Some sink ↦ reaches w.relations sink c.sink | None ↦ false ])
 unfolding reaches
@@ -31,17 +34,17 @@ delivers p w tick = λ i c. given c (attached_by w c (first_sink p) i)
     given c t = if t && not c.closed then record c { delivered = Some tick } else c
 
 -- what was done is a begin-frame
-pub begin_is : (p : Plan) (w v : World) → v ≡ w → (sinks : List FrameSinkId) (tick : ℕ) (seats : List Client) → sinks ≡ attached_sinks p w → tick ≡ next_tick v.tick
-    → seats ≡ map (deliver_by sinks tick) v.clients → says (reply.Ticked tick) (record v { tick = tick; clients = seats }) ≡ begin_answer p w
+pub begin_is : (p : Plan) (w v : World) → v ≡ w → (sinks : List FrameSinkId) (tick : ℕ) (clients : List Client) → sinks ≡ attached_sinks p w → tick ≡ next_tick v.tick
+    → clients ≡ map (deliver_by sinks tick) v.clients → says (reply.Ticked tick) (record v { tick = tick; clients = clients }) ≡ begin_answer p w
 unfolding begin_answer
-begin_is p w v e sinks tick seats f g is =
+begin_is p w v e sinks tick clients f g is =
     let now = next_tick w.tick in
     let same : tick ≡ now = g ∙ ap (λ (u : World). next_tick u.tick) e in
-    let clients : seats ≡ map (deliver p w now) w.clients =
+    let delivered : clients ≡ map (deliver p w now) w.clients =
     is ∙ (ap (λ s. map (deliver_by s tick) v.clients) f ∙ (ap (λ (u : World). map (deliver_by (attached_sinks p w) tick) u.clients) e
     ∙ (ap (λ t. map (deliver_by (attached_sinks p w) t) w.clients) same ∙ ap (λ h. map h w.clients) (delivers p w now)))) in
-    ap (λ (u : World). says (reply.Ticked tick) (record u { tick = tick; clients = seats })) e
-    ∙ (ap (λ l. says (reply.Ticked tick) (record w { tick = tick; clients = l })) clients
+    ap (λ (u : World). says (reply.Ticked tick) (record u { tick = tick; clients = clients })) e
+    ∙ (ap (λ l. says (reply.Ticked tick) (record w { tick = tick; clients = l })) delivered
     ∙ ap (λ t. says (reply.Ticked t) (record w { tick = t; clients = map (deliver p w now) w.clients })) same)
 
 -- the four parts of what follows
@@ -69,10 +72,25 @@ reply_same : (l : List Sub) (q : Reply) (x : World) → q ≡ (outcome_of l (say
 unfolding outcome_of
 reply_same l q x = refl
 
--- a step: its answer, and what follows
-pub step_is : (p : Plan) (w v u : World) (event : Event) (r : Reply) (e : Effects) (presented subs : List Sub) → presented ≡ presented_by w event → subs ≡ presented → says r v ≡ answer_to p w event
-    → e ≡ (outcome_of subs (says r v)).effects → u ≡ (outcome_of subs (says r v)).world → ◌≡◌ {A = Outcome} (record { reply = r; effects = e; world = u }) (step_in p w event)
-unfolding step_in
-step_is p w v u event r e presented subs f g a h k =
-    let whole : ◌≡◌ {A = Outcome} (record { reply = r; effects = e; world = u }) (outcome_of subs (says r v)) = λ i. record { reply = reply_same subs r v i; effects = h i; world = k i } in
-    whole ∙ (ap (λ l. outcome_of l (says r v)) (g ∙ f) ∙ ap (outcome_of (presented_by w event)) a)
+-- what follows an answer, by its parts
+pub outcome_is : (presented : List Sub) (r : Reply) (w v : World) (e : Effects) → e ≡ (outcome_of presented (says r w)).effects → v ≡ (outcome_of presented (says r w)).world
+    → ◌≡◌ {A = Outcome} (record { reply = r; effects = e; world = v }) (outcome_of presented (says r w))
+outcome_is presented r w v e a b = λ i. record { reply = reply_same presented r w i; effects = a i; world = b i }
+
+-- the steps that present nothing
+pub client_step : (p : Plan) (w v : World) (c : ℕ) (r : Reply) → says r v ≡ client_answer p w c → outcome_of [] (says r v) ≡ step_in p w (event.Client c)
+unfolding step_in answer_to
+client_step p w v c r a = ap (outcome_of []) a
+
+pub begin_step : (p : Plan) (w v : World) (r : Reply) → says r v ≡ begin_answer p w → outcome_of [] (says r v) ≡ step_in p w event.Begin
+unfolding step_in answer_to
+begin_step p w v r a = ap (outcome_of []) a
+
+pub draw_step : (p : Plan) (w v : World) (r : Reply) → says r v ≡ draw_answer p w → outcome_of [] (says r v) ≡ step_in p w event.Draw
+unfolding step_in answer_to
+draw_step p w v r a = ap (outcome_of []) a
+
+-- the world that a machine goes on to
+pub reached_after : (m : Machine) (e : Event) (r : Reply) (v : World) → IsReached m.plan m.world → outcome_of [] (says r v) ≡ step_in m.plan m.world e
+    → IsReached m.plan (outcome_of [] (says r v)).world
+reached_after m e r v h s = subst (λ (o : Outcome). IsReached m.plan o.world) (sym s) (reached_step m.plan m.world e h)

@@ -6,8 +6,8 @@ use Rattle.vz_rules.specs.World.{World, Submission, Created, is_active, is_on, s
 use Rattle.vz_rules.specs.Settle.{is_ready, ready, is_before, round, rounds, activated_over}
 use Rattle.vz_rules.specs.declared.entry.State.TheVariants.{Active, Past}
 use Rattle.vz_rules.proofs.Settled.{round_stays, rounds_stay}
-use Rattle.vz_slow.specs.declared.settle.Risen.{Risen}
-use Rattle.vz_slow.specs.Rising.{risen_of, on_same, on_later}
+use Rattle.vz_state.specs.declared.risen.Risen.{Risen}
+use Rattle.vz_state.specs.Rising.{risen_of, on_same, on_later}
 
 -- a test of what was noted is one of what it was noted of
 pub any_map : {A B : Type 0} (p : B → Bool) (f : A → B) (xs : List A) → list_any p (map f xs) ≡ list_any (λ x. p (f x)) xs
@@ -30,23 +30,23 @@ marked_if p c = if p c then record c { marked = true } else c
 -- what the flags make of a world is a round
 pub round_is : (w v : World) → v ≡ w → (rs : List Risen) → rs ≡ map (risen_of w.surfaces) (ready w)
     → (bs : List Bool) → bs ≡ map (is_ready w) w.subs → (ts : List Bool) → ts ≡ map (on_same rs) w.subs → (ms : List Bool) → ms ≡ map (on_later rs) w.surfaces
-    → (rows : List Submission) → ((p q : Submission → Bool) → bs ≡ map p v.subs → ts ≡ map q v.subs → rows ≡ map (gone_on p q) v.subs)
-    → (spots : List Created) → ((p : Created → Bool) → ms ≡ map p v.surfaces → spots ≡ map (marked_if p) v.surfaces)
-    → ◌≡◌ {A = World} (record v { subs = rows; surfaces = spots }) (round w)
+    → (submissions : List Submission) → ((p q : Submission → Bool) → bs ≡ map p v.subs → ts ≡ map q v.subs → submissions ≡ map (gone_on p q) v.subs)
+    → (surfaces : List Created) → ((p : Created → Bool) → ms ≡ map p v.surfaces → surfaces ≡ map (marked_if p) v.surfaces)
+    → ◌≡◌ {A = World} (record v { subs = submissions; surfaces = surfaces }) (round w)
 unfolding round
-round_is w v e rs rises bs becomes ts replaced ms marked rows rows_are spots spots_are =
+round_is w v e rs rises bs becomes ts replaced ms marked submissions submissions_are surfaces surfaces_are =
     let q : Submission → Bool = λ s. list_any (is_on s.image.id) (ready w) in
     let same : on_same rs ≡ q = λ i s. (ap (λ (l : List Risen). on_same l s) rises ∙ any_map (λ (r : Risen). same_surface r.id s.image.id) (risen_of w.surfaces) (ready w)) i in
     let m : Created → Bool = λ c. list_any (is_before w.surfaces c) (ready w) in
     let later : on_later rs ≡ m = λ i c. (ap (λ (l : List Risen). on_later l c) rises ∙ any_map (λ (r : Risen). (c.client == r.sub.client) && nat_lt c.number r.number) (risen_of w.surfaces) (ready w)) i in
-    let one : rows ≡ map (gone_on (is_ready w) q) w.subs =
-    rows_are (is_ready w) (on_same rs) (becomes ∙ ap (λ (x : World). map (is_ready w) x.subs) (sym e)) (replaced ∙ ap (λ (x : World). map (on_same rs) x.subs) (sym e))
+    let one : submissions ≡ map (gone_on (is_ready w) q) w.subs =
+    submissions_are (is_ready w) (on_same rs) (becomes ∙ ap (λ (x : World). map (is_ready w) x.subs) (sym e)) (replaced ∙ ap (λ (x : World). map (on_same rs) x.subs) (sym e))
     ∙ (ap (λ (x : World). map (gone_on (is_ready w) (on_same rs)) x.subs) e ∙ ap (λ (h : Submission → Bool). map (gone_on (is_ready w) h) w.subs) same) in
-    let two : spots ≡ map (marked_if m) w.surfaces =
-    spots_are (on_later rs) (marked ∙ ap (λ (x : World). map (on_later rs) x.surfaces) (sym e))
+    let two : surfaces ≡ map (marked_if m) w.surfaces =
+    surfaces_are (on_later rs) (marked ∙ ap (λ (x : World). map (on_later rs) x.surfaces) (sym e))
     ∙ (ap (λ (x : World). map (marked_if (on_later rs)) x.surfaces) e ∙ ap (λ (h : Created → Bool). map (marked_if h) w.surfaces) later) in
-    let with_both : World → World = λ x. record x { subs = rows; surfaces = spots } in
-    let with_subs : List Submission → World = λ l. record w { subs = l; surfaces = spots } in
+    let with_both : World → World = λ x. record x { subs = submissions; surfaces = surfaces } in
+    let with_subs : List Submission → World = λ l. record w { subs = l; surfaces = surfaces } in
     let with_surfaces : List Created → World = λ l. record w { subs = map (gone_on (is_ready w) q) w.subs; surfaces = l } in
     ap with_both e ∙ (ap with_subs one ∙ ap with_surfaces two)
 

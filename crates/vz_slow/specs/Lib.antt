@@ -1,8 +1,2 @@
-pub mod Rising
-pub mod Changes
-pub mod Losing
-pub mod Holding
-pub mod Attached
-pub mod Walking
-pub mod Meetings
-pub mod Counted
+pub mod Reaching
+pub mod Replaying

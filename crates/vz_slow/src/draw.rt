@@ -4,20 +4,21 @@ ghost use Rattle.vz_geom.specs.Rectangle.{is_empty_rect};
 ghost use Rattle.vz_rules.specs.Messages.{says};
 ghost use Rattle.vz_rules.specs.Step.{scene_answer, draw_answer};
 
-use crate::claims::drawn_damage;
-use crate::damage::{remember, walked_subs};
-use crate::images::{active_images, image_on};
-use crate::submission::Still;
-use crate::walk::walk_of;
-use crate::world::{Past, World};
+use crate::world::World;
 use std::alloc::AllocError;
 use vz_frame::List;
 use vz_geom::Rect;
 use vz_ids::SurfaceId;
 use vz_rules::{Plan, Reply};
+use vz_scene::claims::drawn_damage;
+use vz_scene::damage::{remember, walked_subs};
+use vz_scene::scene::image_on;
+use vz_scene::walk::walk_of;
+use vz_scene::{Aggregation, SubmittedFrame};
+use vz_state::{accepted_frames, active_images};
 
 /// Whether there was an aggregation and the damage is empty.
-fn is_unchanged(last: &Option<Past>, damage: &Rect) -> bool
+fn is_unchanged(last: &Option<Aggregation>, damage: &Rect) -> bool
     ensures { result ≡ (is_some last.now && is_empty_rect damage.now) }
 {
     match last {
@@ -32,23 +33,25 @@ impl<'a> World<'a> {
         &mut self,
         plan: &Plan,
         root: SurfaceId,
-        images: &[Still<'a>],
+        images: &[SubmittedFrame<'a>],
     ) -> Result<Reply, AllocError>
-        ensures { IfOk result (λ r. says r self.new ≡ scene_answer plan.now self.old (record { root = root; images = images.now })) }
+        ensures { IfOk result (λ r. says r self.new
+            ≡ scene_answer plan.now self.old (record { root = root; images = images.now })) }
     {
         let size = plan.size();
         match walk_of(self.alloc, images, &root, size)? {
             None => Ok(Reply::TooMuch),
-            Some(tally) => {
-                let met = tally.met();
-                let damage = drawn_damage(self.alloc, size, &self.last, &self.subs, &root, met)?;
-                let past = remember(self.alloc, root, images, met)?;
+            Some(walked) => {
+                let met = walked.met();
+                let accepted = accepted_frames(self.alloc, &self.subs)?;
+                let damage = drawn_damage(self.alloc, size, &self.last, &accepted, &root, met)?;
+                let aggregation = remember(self.alloc, root, images, met)?;
                 let subs = walked_subs(self.alloc, images, met)?;
                 if is_unchanged(&self.last, &damage) {
-                    self.last = Some(past);
+                    self.last = Some(aggregation);
                     return Ok(Reply::Unchanged);
                 }
-                self.last = Some(past);
+                self.last = Some(aggregation);
                 self.in_flight = Some(List::from_vec(subs));
                 Ok(Reply::Drawn(damage))
             }

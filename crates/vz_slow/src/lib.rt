@@ -1,31 +1,25 @@
-//! The plain machine and the plain painter.
+//! The plain machine.
 //!
-//! Their contracts are the definitions of `vz_rules`, and their bodies follow these line by
-//! line: they keep every submission and scan all of them. They check what faster bodies
-//! made, and answer what a definition says of a plan and a history.
+//! Its contracts are the definitions of `vz_rules`, and its bodies stay close to these: it
+//! keeps every submission and scans all of them. It checks what faster bodies made, and answers
+//! what a definition says of a plan and a history.
 #![tactic(auto)]
 
-pub mod claims;
-pub mod client;
-pub mod collect;
-pub mod damage;
-pub mod display;
-pub mod draw;
-pub mod flags;
-pub mod images;
-pub mod meeting;
-pub mod messages;
-pub mod paint;
-pub mod place;
-pub mod rest;
-pub mod returns;
-pub mod settle;
-pub mod sinks;
-pub mod slow;
-pub mod submission;
-pub mod submit;
-pub mod surface;
-pub mod walk;
-pub mod world;
+mod collect;
+mod copy;
+mod display;
+mod draw;
+pub mod laws;
+mod messages;
+mod naming;
+mod reach;
+mod replay;
+mod rest;
+mod returns;
+mod settle;
+mod slow;
+mod submit;
+mod world;
 
+pub use replay::plain_frame;
 pub use slow::Slow;

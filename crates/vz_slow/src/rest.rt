@@ -1,103 +1,23 @@
 //! The opening world, and what is still out.
-ghost use Rattle.std.specs.Prelude.{◌≡◌, ◌==◌, ◌&&◌, ◌∷◌, [], not, map, filter, IfOk, OnOk};
-ghost use Rattle.std.specs.List.{flat_map, filter_map};
-ghost use Rattle.vz_rules.specs.World.{Client, opening, new_client, new_clients, sub_of};
-ghost use Rattle.vz_rules.specs.Log.{held_resource, unfed_of, rest_in};
+ghost use Rattle.std.specs.Prelude.{◌≡◌, IfOk};
+ghost use Rattle.std.specs.List.{flat_map};
+ghost use Rattle.vz_rules.specs.World.{opening};
+ghost use Rattle.vz_rules.specs.Log.{unfed_of, rest_in};
 
-use crate::client::{Seat, Stored};
-use crate::submission::Row;
-use crate::submit::number_after;
 use crate::world::World;
 use std::alloc::{AllocError, Global};
-use vz_frame::{ClientFile, List};
-use vz_ids::{FrameSinkId, Sub};
-use vz_rules::{Plan, Rest, Returned};
-
-/// A client before its first message.
-fn new_seat<'a>(alloc: Global, number: u32, sink: FrameSinkId) -> Seat<'a>
-    ensures { result ≡ new_client number sink }
-{
-    Seat {
-        number,
-        sink,
-        taken: 0,
-        closed: false,
-        resources: Vec::new(alloc),
-        queue: Vec::new(alloc),
-        delivered: None,
-        answered: 0,
-    }
-}
-
-/// The clients of files, numbered from 1 on.
-fn new_seats<'a>(alloc: Global, files: &[ClientFile]) -> Result<Vec<Seat<'a>>, AllocError>
-    ensures { IfOk result (λ v. v.items ≡ new_clients 1 files.now) }
-{
-    let mut seats = Vec::new(alloc);
-    let mut k = 0;
-    while k < files.len() {
-        let number = number_after(k)?;
-        seats.push(new_seat(alloc, number, files[k].sink))?;
-        k += 1;
-    }
-    Ok(seats)
-}
-
-impl<'a> Stored<'a> {
-    /// The references that are lent and not queued, where there are any.
-    fn held(&self, c: u32) -> Option<Returned>
-        ensures { result ≡ held_resource c self.now }
-    {
-        if self.queued < self.lent {
-            Some(Returned {
-                client: c,
-                id: self.id,
-                count: self.lent - self.queued,
-            })
-        } else {
-            None
-        }
-    }
-}
-
-/// The references of a client that are lent and not queued.
-fn held_by(alloc: Global, seat: &Seat<'_>) -> Result<Vec<Returned>, AllocError>
-    ensures { IfOk result (λ v. v.items ≡ filter_map (held_resource seat.now.number) seat.now.resources) }
-{
-    seat.resources
-        .iter()
-        .filter_map(|stored| stored.held(seat.number))
-        .collect(alloc)
-}
-
-/// The references that are lent and not queued, by client and id.
-fn all_held(alloc: Global, seats: &[Seat<'_>]) -> Result<Vec<Returned>, AllocError>
-    ensures { IfOk result (λ v. v.items ≡ flat_map (λ (c : Client). filter_map (held_resource c.number) c.resources) seats.now) }
-{
-    let mut all = Vec::new(alloc);
-    for seat in seats {
-        let mut some = held_by(alloc, seat)?;
-        all.append(&mut some)?;
-    }
-    Ok(all)
-}
-
-impl<'a> Row<'a> {
-    /// Whether it is a client's and has no feedback.
-    fn is_unfed(&self, c: u32) -> bool
-        ensures { result ≡ ((self.now.image.sub.client == c) && not self.now.fed) }
-    {
-        self.sub().client == c && !self.fed
-    }
-}
+use vz_frame::List;
+use vz_ids::Sub;
+use vz_rules::{Plan, Rest};
+use vz_state::{Client, all_held, new_clients};
 
 impl<'a> World<'a> {
-    /// The world before the first step.
+    /// The world before the first step, where the Over mark may stand already.
     #[tactic(auto, unfolding(vz_rules::specs::World::opening))]
-    pub fn new(alloc: Global, plan: &Plan) -> Result<World<'a>, AllocError>
-        ensures { IfOk result (λ w. w ≡ opening plan.now) }
+    pub fn new(alloc: Global, plan: &Plan, over: bool) -> Result<World<'a>, AllocError>
+        ensures { IfOk result (λ w. w ≡ record (opening plan.now) { over = over }) }
     {
-        let clients = new_seats(alloc, plan.files())?;
+        let clients = new_clients(alloc, plan.files())?;
         Ok(World {
             alloc,
             clients,
@@ -108,28 +28,28 @@ impl<'a> World<'a> {
             relations: Vec::new(alloc),
             in_flight: None,
             last: None,
-            over: false,
+            over,
         })
     }
 
     /// A client's submissions without feedback.
-    fn unfed_of(&self, seat: &Seat<'_>) -> Result<Vec<Sub>, AllocError>
-        ensures { IfOk result (λ v. v.items ≡ unfed_of self.now seat.now) }
+    fn unfed_of(&self, client: &Client<'_>) -> Result<Vec<Sub>, AllocError>
+        ensures { IfOk result (λ v. v.items ≡ unfed_of self.now client.now) }
     {
         self.subs
             .iter()
-            .filter(|row| row.is_unfed(seat.number))
-            .map(|row| row.sub())
+            .filter(|submission| submission.is_unfed(client.number()))
+            .map(|submission| submission.sub())
             .collect(self.alloc)
     }
 
     /// Submissions without feedback, by the clients given.
-    fn all_unfed(&self, seats: &[Seat<'_>]) -> Result<Vec<Sub>, AllocError>
-        ensures { IfOk result (λ v. v.items ≡ flat_map (unfed_of self.now) seats.now) }
+    fn all_unfed(&self, clients: &[Client<'_>]) -> Result<Vec<Sub>, AllocError>
+        ensures { IfOk result (λ v. v.items ≡ flat_map (unfed_of self.now) clients.now) }
     {
         let mut all = Vec::new(self.alloc);
-        for seat in seats {
-            let mut some = self.unfed_of(seat)?;
+        for client in clients {
+            let mut some = self.unfed_of(client)?;
             all.append(&mut some)?;
         }
         Ok(all)

@@ -1,88 +1,17 @@
 //! Activation, in rounds.
-ghost use Rattle.std.specs.Prelude.{◌≡◌, ◌==◌, ◌&&◌, nat_lt, map, find, [], length, IsTrue, IfOk, OnOk};
+ghost use Rattle.std.specs.Prelude.{◌≡◌, ◌==◌, ◌&&◌, nat_lt, map, [], length, IsTrue, IfOk, OnOk};
 ghost use Rattle.std.specs.List.{list_any, list_all};
-ghost use Rattle.std.specs.Option.{option_copied};
-ghost use Rattle.vz_ids.specs.Ids.{at_least, same_sink, same_surface};
-ghost use Rattle.vz_rules.specs.World.{sub_of};
-ghost use Rattle.vz_rules.specs.Settle.{met, has_come, is_ready, ready, number_of, round, settle, activated_in};
-ghost use Rattle.vz_slow.specs.Rising.{risen_of, AreSigns};
+ghost use Rattle.vz_ids.specs.Ids.{same_surface};
+ghost use Rattle.vz_rules.specs.Settle.{met, has_come, is_ready, ready, round, settle, activated_in};
+ghost use Rattle.vz_state.specs.Rising.{risen_of, AreSigns};
 
-use crate::client::Seat;
-use crate::flags::{go_on, mark};
-use crate::submission::Row;
-use crate::surface::Spot;
 use crate::world::World;
 use std::alloc::{AllocError, Global};
-use vz_ids::{FrameSinkId, Sub, SurfaceId};
-
-/// Whether some submission was active on a surface or a newer one of its group.
-pub fn was_met(rows: &[Row<'_>], d: &SurfaceId) -> bool
-    ensures { result ≡ list_any (λ s. s.was_active && at_least s.image.id d.now) rows.now }
-{
-    rows.iter().any(|row| row.meets(d))
-}
-
-/// Whether the client of a sink is closed.
-pub fn is_gone(seats: &[Seat<'_>], sink: FrameSinkId) -> bool
-    ensures { result ≡ list_any (λ c. c.closed && same_sink c.sink sink) seats.now }
-{
-    seats.iter().any(|seat| seat.has_gone(sink))
-}
-
-/// What is noted of a submission that becomes active in a round.
-#[derive(Clone, Copy, Debug, PartialEq, Eq)]
-pub struct Risen {
-    /// The surface that it is on.
-    pub id: SurfaceId,
-    /// Its client and ordinal.
-    pub sub: Sub,
-    /// The number of the surface among those that the client created.
-    pub number: u32,
-}
-
-/// What is found of a round before it changes anything.
-#[derive(Drop)]
-pub struct Signs {
-    /// What becomes active.
-    pub risen: Vec<Risen>,
-    /// For each submission, whether it becomes active.
-    pub becomes: Vec<bool>,
-    /// For each submission, whether one that rose is on its surface.
-    pub replaced: Vec<bool>,
-    /// For each surface, whether one that rose is on a later one of its client.
-    pub marked: Vec<bool>,
-}
-
-/// The surface that a submission is on.
-fn surface_of<'b>(spots: &'b [Spot], row: &Row<'_>) -> Option<&'b Spot>
-    ensures { option_copied result ≡ find (λ c. same_surface c.id row.now.image.id) spots.now }
-{
-    spots.iter().find(|spot| spot.id == row.still.id)
-}
-
-/// The number of the surface of a submission among those of its client.
-fn number_of(spots: &[Spot], row: &Row<'_>) -> u32
-    ensures { result ≡ number_of spots.now row.now }
-{
-    match surface_of(spots, row) {
-        None => 0,
-        Some(spot) => spot.number,
-    }
-}
-
-/// Whether one of those that rose is on the surface.
-fn is_one_on(risen: &[Risen], id: &SurfaceId) -> bool
-    ensures { result ≡ list_any (λ r. same_surface r.id id.now) risen.now }
-{
-    risen.iter().any(|other| other.id == *id)
-}
-
-/// Whether one of those that rose is on a later surface of the client.
-fn is_before_one(risen: &[Risen], spot: &Spot) -> bool
-    ensures { result ≡ list_any (λ r. (spot.now.client == r.sub.client) && nat_lt spot.now.number r.number) risen.now }
-{
-    risen.iter().any(|other| spot.client == other.sub.client && spot.number < other.number)
-}
+use vz_ids::{Sub, SurfaceId};
+use vz_state::{
+    Risen, Signs, Submission, go_on_by, is_before_one, is_gone, is_one_on, mark_by, number_of,
+    was_met,
+};
 
 impl<'a> World<'a> {
     /// Whether a dependency is met.
@@ -95,11 +24,11 @@ impl<'a> World<'a> {
 
     /// Whether the dependencies of a submission are all met, or its deadline has come.
     #[tactic(auto, unfolding(vz_rules::specs::Settle::has_come))]
-    fn has_come(&self, row: &Row<'_>) -> bool
-        ensures { result ≡ has_come self.now row.now }
+    fn has_come(&self, submission: &Submission<'_>) -> bool
+        ensures { result ≡ has_come self.now submission.now }
     {
-        self.are_met(row.frame().metadata.dependencies.as_slice())
-            || row.due <= u64::from(self.tick)
+        self.are_met(submission.frame().metadata.dependencies.as_slice())
+            || submission.due() <= u64::from(self.tick)
     }
 
     /// Whether dependencies are all met.
@@ -111,32 +40,33 @@ impl<'a> World<'a> {
 
     /// Whether a submission becomes active in the round that begins now.
     #[tactic(auto, unfolding(vz_rules::specs::Settle::is_ready))]
-    fn is_ready(&self, row: &Row<'_>) -> bool
-        ensures { result ≡ is_ready self.now row.now }
+    fn is_ready(&self, submission: &Submission<'_>) -> bool
+        ensures { result ≡ is_ready self.now submission.now }
     {
-        row.is_waiting() && self.has_come(row)
+        submission.is_waiting() && self.has_come(submission)
     }
 
     /// What is noted of a submission.
-    fn risen_of(&self, row: &Row<'_>) -> Risen
-        ensures { result ≡ risen_of self.now.surfaces row.now }
+    fn risen_of(&self, submission: &Submission<'_>) -> Risen
+        ensures { result ≡ risen_of self.now.surfaces submission.now }
     {
         Risen {
-            id: row.id(),
-            sub: row.sub(),
-            number: number_of(&self.surfaces, row),
+            id: submission.id(),
+            sub: submission.sub(),
+            number: number_of(&self.surfaces, submission),
         }
     }
 
     /// What becomes active in the round that begins now.
     #[tactic(auto, unfolding(vz_rules::specs::Settle::ready))]
     fn risen(&self) -> Result<Vec<Risen>, AllocError>
-        ensures { IfOk result (λ v. v.items ≡ map (risen_of self.now.surfaces) (ready self.now)) }
+        ensures { IfOk result (λ v. v.items
+            ≡ map (risen_of self.now.surfaces) (ready self.now)) }
     {
         self.subs
             .iter()
-            .filter(|row| self.is_ready(row))
-            .map(|row| self.risen_of(row))
+            .filter(|submission| self.is_ready(submission))
+            .map(|submission| self.risen_of(submission))
             .collect(self.alloc)
     }
 
@@ -146,28 +76,30 @@ impl<'a> World<'a> {
     {
         self.subs
             .iter()
-            .map(|row| self.is_ready(row))
+            .map(|submission| self.is_ready(submission))
             .collect(self.alloc)
     }
 
     /// For each submission, whether one that rose is on its surface.
     fn replaced_flags(&self, risen: &[Risen]) -> Result<Vec<bool>, AllocError>
-        ensures { IfOk result (λ v. v.items ≡ map (λ s. list_any (λ r. same_surface r.id s.image.id) risen.now) self.now.subs) }
+        ensures { IfOk result (λ v. v.items
+            ≡ map (λ s. list_any (λ r. same_surface r.id s.image.id) risen.now) self.now.subs) }
     {
         self.subs
             .iter()
-            .map(|row| is_one_on(risen, &row.still.id))
+            .map(|submission| is_one_on(risen, &submission.id()))
             .collect(self.alloc)
     }
 
     /// For each surface, whether one that rose is on a later one of its client.
     fn marked_flags(&self, risen: &[Risen]) -> Result<Vec<bool>, AllocError>
         ensures { IfOk result (λ v. v.items
-            ≡ map (λ c. list_any (λ r. (c.client == r.sub.client) && nat_lt c.number r.number) risen.now) self.now.surfaces) }
+            ≡ map (λ c. list_any (λ r. (c.client == r.sub.client)
+            && nat_lt c.number r.number) risen.now) self.now.surfaces) }
     {
         self.surfaces
             .iter()
-            .map(|spot| is_before_one(risen, spot))
+            .map(|surface| is_before_one(risen, surface))
             .collect(self.alloc)
     }
 
@@ -192,8 +124,8 @@ impl<'a> World<'a> {
         requires { AreSigns self.old signs.now }
         ensures { self.new ≡ round self.old }
     {
-        go_on(&mut self.subs, &signs.becomes, &signs.replaced);
-        mark(&mut self.surfaces, &signs.marked);
+        go_on_by(&mut self.subs, &signs.becomes, &signs.replaced);
+        mark_by(&mut self.surfaces, &signs.marked);
     }
 
     /// How many submissions were accepted.

@@ -1,126 +1,240 @@
 //! The plain machine, step by step.
-ghost use Rattle.std.specs.Prelude.{◌≡◌, [], unwrap_or, IfOk};
+ghost use Rattle.std.specs.Prelude.{◌≡◌, ◌≤◌, None, true, [], IfOk, OnOk, OnErr};
+ghost use Rattle.vz_rules.specs.declared.entry.Event.TheVariants as event;
 ghost use Rattle.vz_rules.specs.World.{opening, active_images};
 ghost use Rattle.vz_rules.specs.Messages.{says};
-ghost use Rattle.vz_rules.specs.Step.{answer_to, presented_by, step_in, NamesClient};
+ghost use Rattle.vz_rules.specs.Step.{outcome_of, step_in, NamesClient};
 ghost use Rattle.vz_rules.specs.Log.{rest_in};
+ghost use Rattle.vz_rules.specs.Kept.{Keeps, no_effects};
+ghost use Rattle.vz_rules.specs.Plan.{Plan as Planned};
+ghost use Rattle.vz_slow.specs.Reaching.{IsReached, IsOutcome, HasRoom, world_at};
 
-use crate::images::active_images;
-use crate::submission::Still;
 use crate::world::World;
 use std::alloc::{AllocError, Global};
 use std::marker::Model;
-use vz_frame::List;
-use vz_ids::{Sub, SurfaceId};
+use std::mem;
+use vz_frame::{List, Room};
+use vz_ids::SurfaceId;
 use vz_pixels::Memory;
-use vz_rules::{Effects, Event, Plan, Reply, Rest};
+use vz_rules::{Effects, Event, Fed, Plan, Reply, Rest, Returned};
+use vz_scene::SubmittedFrame;
+use vz_state::{Client, active_images, make_room};
 
-/// A copy of submissions.
-fn copy_of(alloc: Global, subs: &[Sub]) -> Result<Vec<Sub>, AllocError>
-    ensures { IfOk result (λ v. v.items ≡ subs.now) }
-{
-    subs.iter().copied().collect(alloc)
+/// Where the machine stands: at the opening of its plan, for which no memory was taken yet, or
+/// in a world that it has gone on to.
+#[derive(Drop)]
+pub(crate) enum Stage<'a> {
+    /// The opening world, with the Over mark or without it.
+    Opening {
+        /// Whether the Over mark stands.
+        over: bool,
+    },
+    /// Another world.
+    Running(World<'a>),
 }
 
-impl<'a> World<'a> {
-    /// The submissions in flight, none where no frame is.
-    fn in_flight(&self) -> Result<Vec<Sub>, AllocError>
-        ensures { IfOk result (λ v. v.items ≡ unwrap_or self.now.in_flight []) }
-    {
-        match &self.in_flight {
-            None => Ok(Vec::new(self.alloc)),
-            Some(subs) => Ok(copy_of(self.alloc, subs.as_slice())?),
-        }
-    }
-
-    /// The submissions that a step presents: at Done those in flight.
-    fn presented_by(&self, event: Event) -> Result<Vec<Sub>, AllocError>
-        ensures { IfOk result (λ v. v.items ≡ presented_by self.now event) }
-    {
-        match event {
-            Event::Done => Ok(self.in_flight()?),
-            Event::Client(_) => Ok(Vec::new(self.alloc)),
-            Event::Begin => Ok(Vec::new(self.alloc)),
-            Event::Draw => Ok(Vec::new(self.alloc)),
-            Event::Over => Ok(Vec::new(self.alloc)),
-        }
-    }
-
-    /// What an event answers and changes by itself.
-    #[tactic(auto, unfolding(vz_rules::specs::Step::answer_to))]
-    fn answer(&mut self, plan: &'a Plan, event: Event) -> Result<Reply, AllocError>
-        ensures { IfOk result (λ r. says r self.new ≡ answer_to plan.now self.old event) }
-    {
-        match event {
-            Event::Client(c) => Ok(self.client(plan, c)?),
-            Event::Begin => Ok(self.begin(plan)?),
-            Event::Done => Ok(self.done()),
-            Event::Over => {
-                self.end();
-                Ok(Reply::Ended)
-            }
-            Event::Draw => Ok(self.draw(plan)?),
-        }
-    }
-
-    /// A step: its reply and its effects.
-    fn step(&mut self, plan: &'a Plan, event: Event) -> Result<(Reply, Effects), AllocError>
-        ensures { IfOk result (λ o. record { reply = o.0; effects = o.1; world = self.new } ≡ step_in plan.now self.old event) }
-    {
-        let presented = self.presented_by(event)?;
-        let reply = self.answer(plan, event)?;
-        let effects = self.follow(&presented)?;
-        Ok((reply, effects))
-    }
-}
-
-/// The plain machine over a plan. Contracts see the plan and the world.
+/// The plain machine over a plan. Contracts see the plan and the world. While a frame is in
+/// flight it keeps room for all that its end gives back and feeds.
 #[derive(Drop)]
 pub struct Slow<'a> {
+    alloc: Global,
     plan: &'a Plan,
-    world: World<'a>,
+    stage: Stage<'a>,
+    returned: Room<Returned>,
+    fed: Room<Fed>,
 }
 
 impl<'a> Model for Slow<'a> {
     ghost use Rattle.vz_rules.specs.World.{Machine};
+    ghost use Rattle.vz_slow.specs.Reaching.{world_at, IsSlow};
 
     ghost Value = { Machine };
 
-    ghost view = { λ m. record { plan = m.plan.now; world = m.world } };
+    ghost view = { λ m. record { plan = m.plan.now; world = world_at m.plan.now m.stage } };
+
+    ghost invariant = { λ m. IsSlow m.plan.now (world_at m.plan.now m.stage) m.returned m.fed };
+}
+
+/// Nothing follows.
+fn nothing(alloc: Global) -> Effects
+    ensures { result ≡ no_effects }
+{
+    Effects {
+        activated: List::new(alloc),
+        destroyed: List::new(alloc),
+        returned: List::new(alloc),
+        fed: List::new(alloc),
+    }
+}
+
+/// Room for so many.
+fn room_for<T: Drop>(alloc: Global, n: usize) -> Result<Room<T>, AllocError>
+    ensures { IfOk result (λ r. (r.list ≡ []) × (n ≤ r.spare)) }
+{
+    let mut room = Room::new(alloc);
+    make_room(&mut room, n)?;
+    Ok(room)
+}
+
+/// Room for all that the end of a frame gives back and feeds, where one is in flight.
+fn rooms_for(alloc: Global, world: &World<'_>) -> Result<(Room<Returned>, Room<Fed>), AllocError>
+    ensures { IfOk result (λ r. HasRoom world.now r.0 r.1) }
+{
+    if !world.in_flight.is_some() {
+        return Ok((Room::new(alloc), Room::new(alloc)));
+    }
+    let returned = room_for(alloc, world.outs()?)?;
+    let fed = room_for(alloc, world.unfed())?;
+    Ok((returned, fed))
 }
 
 impl<'a> Slow<'a> {
-    /// The machine in the opening world of a plan.
-    pub fn new(alloc: Global, plan: &'a Plan) -> Result<Slow<'a>, Memory>
-        ensures { IfOk result (λ m. m ≡ record { plan = plan.now; world = opening plan.now }) }
+    /// The machine in the opening world of a plan. It takes no memory.
+    pub fn new(alloc: Global, plan: &'a Plan) -> Slow<'a>
+        ensures { result ≡ record { plan = plan.now; world = opening plan.now } }
     {
-        match World::new(alloc, plan) {
-            Ok(world) => Ok(Slow { plan, world }),
-            Err(_) => Err(Memory),
+        let _ = plan.files();
+        Slow {
+            alloc,
+            plan,
+            stage: Stage::Opening { over: false },
+            returned: Room::new(alloc),
+            fed: Room::new(alloc),
         }
     }
 
-    /// A step: its reply and its effects. At Memory the machine is given up: its world may
-    /// be any, and its plan is as it was. Condition: a client's event names a client of the
-    /// plan.
-    pub fn step(&mut self, event: Event) -> Result<(Reply, Effects), Memory>
-        requires { NamesClient self.old.plan event }
-        ensures step { IfOk result (λ o. record { reply = o.0; effects = o.1; world = self.new.world } ≡ step_in self.old.plan self.old.world event) }
+    /// A copy of the world, on which a step works until nothing can fail any more.
+    fn copy(&self) -> Result<World<'a>, AllocError>
+        ensures { IfOk result (λ w. w ≡ self.now.world) }
+    {
+        match &self.stage {
+            Stage::Opening { over } => Ok(World::new(self.alloc, self.plan, *over)?),
+            Stage::Running(world) => Ok(world.copy()?),
+        }
+    }
+
+    /// The machine stands for another world, and has room for the end of a frame in flight. At
+    /// an error it stands for the world before. Condition: the plan leads to that world.
+    fn go_on(&mut self, next: World<'a>) -> Result<(), AllocError>
+        requires { IsReached self.old.plan next }
+        ensures ok { OnOk result (self.new ≡ record self.old { world = next.entry }) }
+        ensures err { OnErr result (self.new ≡ self.old) }
+    {
+        let (returned, fed) = rooms_for(self.alloc, &next)?;
+        self.returned = returned;
+        self.fed = fed;
+        self.stage = Stage::Running(next);
+        Ok(())
+    }
+
+    /// What follows an answer that presents nothing. Condition: the plan leads to the world that
+    /// is then left.
+    fn finish(&mut self, mut next: World<'a>, reply: Reply) -> Result<(Reply, Effects), AllocError>
+        requires { IsReached self.old.plan (outcome_of [] (says reply next)).world }
+        ensures ok { IfOk result (λ o. IsOutcome (outcome_of [] (says reply next.entry)) o self.new.world) }
+        ensures plan { self.new.plan ≡ self.old.plan }
+        ensures err { OnErr result (self.new ≡ self.old) }
+    {
+        let effects = next.follow()?;
+        self.go_on(next)?;
+        Ok((reply, effects))
+    }
+}
+
+impl<'a> Slow<'a> {
+    /// The next message of a client. Condition: the plan has that client.
+    fn client(&mut self, c: u32) -> Result<(Reply, Effects), AllocError>
+        requires { NamesClient self.old.plan (event.Client c) }
+        ensures ok { IfOk result (λ o. IsOutcome (step_in self.old.plan self.old.world (event.Client c)) o self.new.world) }
+        ensures plan { self.new.plan ≡ self.old.plan }
+        ensures err { OnErr result (self.new ≡ self.old) }
+    {
+        let mut next = self.copy()?;
+        let reply = next.client(self.plan, c)?;
+        Ok(self.finish(next, reply)?)
+    }
+
+    /// A begin-frame.
+    fn begin(&mut self) -> Result<(Reply, Effects), AllocError>
+        ensures ok { IfOk result (λ o. IsOutcome (step_in self.old.plan self.old.world event.Begin) o self.new.world) }
+        ensures plan { self.new.plan ≡ self.old.plan }
+        ensures err { OnErr result (self.new ≡ self.old) }
+    {
+        let mut next = self.copy()?;
+        let reply = next.begin(self.plan)?;
+        Ok(self.finish(next, reply)?)
+    }
+
+    /// A drawing.
+    fn draw(&mut self) -> Result<(Reply, Effects), AllocError>
+        ensures ok { IfOk result (λ o. IsOutcome (step_in self.old.plan self.old.world event.Draw) o self.new.world) }
+        ensures plan { self.new.plan ≡ self.old.plan }
+        ensures err { OnErr result (self.new ≡ self.old) }
+    {
+        let mut next = self.copy()?;
+        let reply = next.draw(self.plan)?;
+        Ok(self.finish(next, reply)?)
+    }
+
+    /// Ends the drawn frame, if there is one. It takes no memory: nothing becomes active and no
+    /// surface is destroyed, and for what is given back and fed there is room.
+    pub fn done(&mut self) -> (Reply, Effects)
+        ensures step { IsOutcome (step_in self.old.plan self.old.world event.Done) result self.new.world }
         ensures plan { self.new.plan ≡ self.old.plan }
     {
-        match self.world.step(self.plan, event) {
+        match &mut self.stage {
+            Stage::Opening { .. } => (Reply::Nothing, nothing(self.alloc)),
+            Stage::Running(world) => { done(self.alloc, world, &mut self.returned, &mut self.fed) }
+        }
+    }
+
+    /// No begin-frame will be waited for from now on. It takes no memory, since nothing follows.
+    pub fn over(&mut self) -> (Reply, Effects)
+        ensures step { IsOutcome (step_in self.old.plan self.old.world event.Over) result self.new.world }
+        ensures plan { self.new.plan ≡ self.old.plan }
+    {
+        mark_over(&mut self.stage);
+        (Reply::Ended, nothing(self.alloc))
+    }
+
+    /// A step: its reply and its effects. At Memory, the only error, the machine stands for the
+    /// world before. Condition: a client's event names a client of the plan.
+    pub fn step(&mut self, event: Event) -> Result<(Reply, Effects), Memory>
+        requires { NamesClient self.old.plan event }
+        ensures step { IfOk result (λ o. IsOutcome (step_in self.old.plan self.old.world event) o self.new.world) }
+        ensures plan { self.new.plan ≡ self.old.plan }
+        ensures err { OnErr result (self.new ≡ self.old) }
+    {
+        let outcome = match event {
+            Event::Client(c) => self.client(c),
+            Event::Begin => self.begin(),
+            Event::Draw => self.draw(),
+            Event::Done => Ok(self.done()),
+            Event::Over => Ok(self.over()),
+        };
+        match outcome {
             Ok(outcome) => Ok(outcome),
             Err(_) => Err(Memory),
         }
     }
 
-    /// The active images, in the order of acceptance.
-    pub fn images(&self, alloc: Global) -> Result<Vec<Still<'a>>, Memory>
+    /// The active frames, in the order of acceptance.
+    pub fn images(&self) -> Result<Vec<SubmittedFrame<'a>>, Memory>
         ensures { IfOk result (λ v. v.items ≡ active_images self.now.world.subs) }
     {
-        match active_images(alloc, &self.world.subs) {
+        match self.images_of_world() {
             Ok(images) => Ok(images),
             Err(_) => Err(Memory),
+        }
+    }
+
+    /// The same, of the world as it is kept.
+    fn images_of_world(&self) -> Result<Vec<SubmittedFrame<'a>>, AllocError>
+        ensures { IfOk result (λ v. v.items ≡ active_images self.now.world.subs) }
+    {
+        match &self.stage {
+            Stage::Opening { .. } => Ok(Vec::new(self.alloc)),
+            Stage::Running(world) => Ok(active_images(self.alloc, &world.subs)?),
         }
     }
 
@@ -128,16 +242,76 @@ impl<'a> Slow<'a> {
     pub fn root(&self) -> Option<SurfaceId>
         ensures { result ≡ self.now.world.root }
     {
-        self.world.root
+        match &self.stage {
+            Stage::Opening { .. } => None,
+            Stage::Running(world) => world.root,
+        }
     }
 
-    /// What is still out.
+    /// What is still out: references that were lent and not queued, and submissions without
+    /// feedback. Memory is the only error.
     pub fn rest(&self) -> Result<Rest, Memory>
         ensures { IfOk result (λ r. r ≡ rest_in self.now.world) }
     {
-        match self.world.rest() {
+        match self.rest_of_world() {
             Ok(rest) => Ok(rest),
             Err(_) => Err(Memory),
+        }
+    }
+
+    /// The same, of the world as it is kept.
+    fn rest_of_world(&self) -> Result<Rest, AllocError>
+        ensures { IfOk result (λ r. r ≡ rest_in self.now.world) }
+    {
+        match &self.stage {
+            Stage::Opening { .. } => {
+                let world = self.copy()?;
+                Ok(world.rest()?)
+            }
+            Stage::Running(world) => Ok(world.rest()?),
+        }
+    }
+}
+
+/// The Over mark stands.
+fn mark_over(stage: &mut Stage<'_>)
+    ensures { (p : Planned) → world_at p stage.new ≡ record (world_at p stage.old) { over = true } }
+{
+    match stage {
+        Stage::Opening { over } => *over = true,
+        Stage::Running(world) => world.end(),
+    }
+}
+
+/// Ends the drawn frame of a world, if there is one. Conditions: nothing is ready, named or lost
+/// in the world, and where a frame is in flight there is room for its end.
+fn done(
+    alloc: Global,
+    world: &mut World<'_>,
+    returned: &mut Room<Returned>,
+    fed: &mut Room<Fed>,
+) -> (Reply, Effects)
+    requires kept { Keeps world.old }
+    requires room { HasRoom world.old returned.old fed.old }
+    ensures step { (p : Planned) → IsOutcome (step_in p world.old event.Done) result world.new }
+    ensures none { world.new.in_flight ≡ None }
+    ensures returned { returned.new.list ≡ [] }
+    ensures fed { fed.new.list ≡ [] }
+{
+    match world.in_flight.take() {
+        None => (Reply::Nothing, nothing(alloc)),
+        Some(presented) => {
+            let mut queued = mem::replace(returned, Room::new(alloc));
+            let mut told = mem::replace(fed, Room::new(alloc));
+            world.give_back(&mut queued);
+            world.feed(presented.as_slice(), &mut told);
+            let effects = Effects {
+                activated: List::new(alloc),
+                destroyed: List::new(alloc),
+                returned: queued.into_list(),
+                fed: told.into_list(),
+            };
+            (Reply::Shown, effects)
         }
     }
 }

@@ -1,45 +1,28 @@
 //! Where the machine stands.
-use crate::client::Seat;
-use crate::submission::Row;
-use crate::surface::Spot;
 use std::alloc::Global;
 use std::marker::Model;
 use vz_frame::List;
-use vz_ids::{FrameSinkId, Sub, SurfaceId, SurfaceRange};
+use vz_ids::{FrameSinkId, Sub, SurfaceId};
+use vz_scene::Aggregation;
+use vz_state::{Client, Submission, Surface};
 
-/// What is remembered of the last aggregation.
-#[derive(Drop)]
-pub struct Past {
-    pub(crate) root: SurfaceId,
-    pub(crate) indices: Vec<(SurfaceId, u32)>,
-    pub(crate) ranges: Vec<(SurfaceRange, Option<SurfaceId>)>,
-}
-
-impl Model for Past {
-    ghost use Rattle.vz_rules.specs.World.{Aggregation};
-
-    ghost Value = { Aggregation };
-
-    ghost view = { λ v. record { root = v.root; indices = v.indices.items; ranges = v.ranges.items } };
-}
-
-/// The state of the machine. The tick stays where a deadline behind it has 32 bits.
+/// The state of the machine. Surfaces stand in the order of creation, submissions in that of
+/// acceptance.
 #[derive(Drop)]
 pub struct World<'a> {
     pub(crate) alloc: Global,
-    pub(crate) clients: Vec<Seat<'a>>,
-    pub(crate) surfaces: Vec<Spot>,
-    pub(crate) subs: Vec<Row<'a>>,
+    pub(crate) clients: Vec<Client<'a>>,
+    pub(crate) surfaces: Vec<Surface>,
+    pub(crate) subs: Vec<Submission<'a>>,
     pub(crate) tick: u32,
     pub(crate) root: Option<SurfaceId>,
     pub(crate) relations: Vec<(FrameSinkId, FrameSinkId)>,
     pub(crate) in_flight: Option<List<Sub>>,
-    pub(crate) last: Option<Past>,
+    pub(crate) last: Option<Aggregation>,
     pub(crate) over: bool,
 }
 
 impl<'a> Model for World<'a> {
-    ghost use Rattle.std.specs.Prelude.{◌≤◌};
     ghost use Rattle.vz_rules.specs.World.{World as Standing};
 
     ghost Value = { Standing };
@@ -55,6 +38,4 @@ impl<'a> Model for World<'a> {
       last = m.last;
       over = m.over;
     } };
-
-    ghost invariant = { λ m. m.tick ≤ 4294967231 };
 }

@@ -15,11 +15,12 @@ returns-then-is_unchanged c =
     let p = c.args.plan.now in
     let w = c.args.self.now in
     let scene : Scene = record { root = c.args.root; images = c.args.images.now } in
-    let walked = walked_some c.size-size.result p scene c.in_ok-walk_of.field-0 c.in-Some.tally c.size-size.ensures.value c.in_ok-walk_of.ensures c.in-Some.is in
+    let walked = walked_some c.size-size.result p scene c.in_ok-walk_of.field-0 c.in-Some.walked c.size-size.ensures.value c.in_ok-walk_of.ensures c.in-Some.is in
     let damage = c.in_ok-damage-in-Some.ensures
-    ∙ ap (λ s. drawn_damage s c.self.inside.last (map (λ (x : Submission). x.image) c.deref.result.now) c.args.root c.met-met.result.now) c.size-size.ensures.value in
+    ∙ (ap (λ l. drawn_damage c.size-size.result c.self.inside.last l c.args.root c.met-met.result.now) (c.deref-in-Some.ensures.value ∙ c.in_ok-accepted-in-Some.ensures)
+    ∙ ap (λ s. drawn_damage s c.self.inside.last (map (λ (x : Submission). x.image) c.deref.result.now) c.args.root c.met-met.result.now) c.size-size.ensures.value) in
     scene_unchanged p w _ scene c.met-met.result.now c.in_ok-damage-in-Some.damage c.deref.result.now _ c.self.view_is (c.met-met.ensures ∙ walked.0) walked.1 c.deref.ensures.value damage
-    c.in_ok-past-in-Some.ensures (sym c.is_unchanged.ensures ∙ c.if-is_unchanged.true)
+    c.in_ok-aggregation-in-Some.ensures (sym c.is_unchanged.ensures ∙ c.if-is_unchanged.true)
 
 pub returns-else-is_unchanged : goal.returns-else-is_unchanged
 unfolding walked_subs
@@ -27,8 +28,9 @@ returns-else-is_unchanged c =
     let p = c.args.plan.now in
     let w = c.args.self.now in
     let scene : Scene = record { root = c.args.root; images = c.args.images.now } in
-    let walked = walked_some c.size-size.result p scene c.in_ok-walk_of.field-0 c.in-Some.tally c.size-size.ensures.value c.in_ok-walk_of.ensures c.in-Some.is in
+    let walked = walked_some c.size-size.result p scene c.in_ok-walk_of.field-0 c.in-Some.walked c.size-size.ensures.value c.in_ok-walk_of.ensures c.in-Some.is in
     let damage = c.in_ok-damage-in-Some.ensures
-    ∙ ap (λ s. drawn_damage s c.self.inside.last (map (λ (x : Submission). x.image) c.deref.result.now) c.args.root c.met-met.result.now) c.size-size.ensures.value in
+    ∙ (ap (λ l. drawn_damage c.size-size.result c.self.inside.last l c.args.root c.met-met.result.now) (c.deref-in-Some.ensures.value ∙ c.in_ok-accepted-in-Some.ensures)
+    ∙ ap (λ s. drawn_damage s c.self.inside.last (map (λ (x : Submission). x.image) c.deref.result.now) c.args.root c.met-met.result.now) c.size-size.ensures.value) in
     scene_drawn p w _ scene c.met-met.result.now c.in_ok-damage-in-Some.damage c.deref.result.now _ _ c.self.view_is (c.met-met.ensures ∙ walked.0) walked.1 c.deref.ensures.value damage
-    c.in_ok-past-in-Some.ensures (c.from_vec.ensures ∙ c.in_ok-subs-in-Some.ensures) (sym c.is_unchanged.ensures ∙ c.if-is_unchanged.false)
+    c.in_ok-aggregation-in-Some.ensures (c.from_vec.ensures ∙ c.in_ok-subs-in-Some.ensures) (sym c.is_unchanged.ensures ∙ c.if-is_unchanged.false)

@@ -1,7 +1,7 @@
 use Rattle.std.proofs.Common.{◌-◌, ◌++◌, List, sym, ap, ◌∙◌, map, arith}
 use Rattle.vz_rules.specs.World.{sub_of}
 use Rattle.vz_rules.specs.Settle.{settle, activated_in, rounds, activated_over, ready}
-use Rattle.vz_slow.specs.declared.settle.Risen.{Risen}
+use Rattle.vz_state.specs.declared.risen.Risen.{Risen}
 use Rattle.vz_slow.proofs.Rounds.{rounds_next, activated_next, rounds_end, activated_end, none_risen, subs_noted, append_none, rounds_zero, activated_zero, joined}
 use Rattle.vz_slow.proofs.world.World.settle.Goals as goal
 

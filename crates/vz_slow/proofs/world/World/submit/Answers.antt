@@ -1,5 +1,5 @@
 use Rattle.std.proofs.Common.{◌∙◌}
-use Rattle.vz_slow.proofs.Submitting.{submit_refused, submit_accepted}
+use Rattle.vz_slow.proofs.Accepting.{submit_refused, submit_accepted}
 use Rattle.vz_slow.proofs.world.World.submit.Goals as goal
 
 pub returns-in_ok-refuse-in-Some : goal.returns-in_ok-refuse-in-Some

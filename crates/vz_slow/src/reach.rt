@@ -1,0 +1,141 @@
+//! Which surfaces are reached: from the root, and from every temporary one.
+ghost use Rattle.std.specs.Prelude.{◌≡◌, ◌∷◌, [], map, filter, length, IfOk};
+ghost use Rattle.std.specs.List.{flat_map};
+ghost use Rattle.vz_ids.specs.Ids.{same_surface};
+ghost use Rattle.vz_rules.specs.World.{active_images};
+ghost use Rattle.vz_rules.specs.Closure.{closure};
+ghost use Rattle.vz_rules.specs.Reach.{is_temporary, root_list, roots, referenced, reach};
+
+use crate::world::World;
+use std::alloc::{AllocError, Global};
+use vz_ids::SurfaceId;
+use vz_scene::SubmittedFrame;
+use vz_scene::scene::image_on;
+use vz_state::{Surface, active_images, add_ids, all_shown, exists, has_closed};
+
+impl<'a> World<'a> {
+    /// Whether a surface is temporary: it exists, was not named, its client is not closed, and
+    /// it is younger than 16 begin-frames.
+    fn is_temporary(&self, surface: &Surface) -> bool
+        ensures { result ≡ is_temporary self.now surface.now }
+    {
+        !surface.is_destroyed()
+            && !surface.is_named()
+            && !has_closed(&self.clients, surface.client())
+            && u64::from(self.tick) < u64::from(surface.born()) + 16
+    }
+
+    /// The temporary surfaces.
+    fn temporary(&self) -> Result<Vec<SurfaceId>, AllocError>
+        ensures { IfOk result (λ v. v.items
+            ≡ map (λ c. c.id) (filter (is_temporary self.now) self.now.surfaces)) }
+    {
+        self.surfaces
+            .iter()
+            .filter(|surface| self.is_temporary(surface))
+            .map(|surface| surface.id())
+            .collect(self.alloc)
+    }
+
+    /// The root, where it exists.
+    fn root_list(&self) -> Result<Vec<SurfaceId>, AllocError>
+        ensures { IfOk result (λ v. v.items ≡ root_list self.now) }
+    {
+        match self.root {
+            None => Ok(Vec::new(self.alloc)),
+            Some(id) => {
+                if !exists(&self.surfaces, &id) {
+                    return Ok(Vec::new(self.alloc));
+                }
+                Ok(one(self.alloc, id)?)
+            }
+        }
+    }
+
+    /// The root, where it exists, and every temporary surface.
+    #[tactic(auto, unfolding(vz_rules::specs::Reach::roots))]
+    fn roots(&self) -> Result<Vec<SurfaceId>, AllocError>
+        ensures { IfOk result (λ v. v.items ≡ roots self.now) }
+    {
+        let mut ids = self.root_list()?;
+        let others = self.temporary()?;
+        add_ids(&mut ids, &others)?;
+        Ok(ids)
+    }
+
+    /// What the active frame of a surface references, as it is shown. Condition: these are the
+    /// active images.
+    #[tactic(auto, unfolding(vz_rules::specs::Scene::shown))]
+    fn referenced(
+        &self,
+        images: &[SubmittedFrame<'a>],
+        id: &SurfaceId,
+    ) -> Result<Vec<SurfaceId>, AllocError>
+        requires { images.now ≡ active_images self.now.subs }
+        ensures { IfOk result (λ v. v.items ≡ referenced self.now id.now) }
+    {
+        match image_on(images, id) {
+            None => Ok(Vec::new(self.alloc)),
+            Some(image) => Ok(all_shown(
+                self.alloc,
+                images,
+                image.frame().metadata.references.as_slice(),
+            )?),
+        }
+    }
+
+    /// What the active frames of surfaces reference. Condition: these are the active images.
+    fn all_referenced(
+        &self,
+        images: &[SubmittedFrame<'a>],
+        ids: &[SurfaceId],
+    ) -> Result<Vec<SurfaceId>, AllocError>
+        requires { images.now ≡ active_images self.now.subs }
+        ensures { IfOk result (λ v. v.items ≡ flat_map (referenced self.now) ids.now) }
+    {
+        let mut all = Vec::new(self.alloc);
+        for id in ids {
+            let mut some = self.referenced(images, id)?;
+            all.append(&mut some)?;
+        }
+        Ok(all)
+    }
+
+    /// The reached surfaces. A step that adds none is the last. Condition: these are the active
+    /// images.
+    fn reach_over(&self, images: &[SubmittedFrame<'a>]) -> Result<Vec<SurfaceId>, AllocError>
+        requires { images.now ≡ active_images self.now.subs }
+        ensures { IfOk result (λ v. v.items
+            ≡ closure same_surface (referenced self.now) (length images.now) (roots self.now)) }
+    {
+        let mut ids = self.roots()?;
+        let mut left = images.len();
+        while left > 0 {
+            left -= 1;
+            let others = self.all_referenced(images, &ids)?;
+            let before = ids.len();
+            add_ids(&mut ids, &others)?;
+            if ids.len() == before {
+                return Ok(ids);
+            }
+        }
+        Ok(ids)
+    }
+
+    /// The reached surfaces.
+    pub fn reach(&self) -> Result<Vec<SurfaceId>, AllocError>
+        ensures { IfOk result (λ v. v.items ≡ reach self.now) }
+    {
+        let images = active_images(self.alloc, &self.subs)?;
+        Ok(self.reach_over(&images)?)
+    }
+}
+
+/// One surface alone.
+fn one(alloc: Global, id: SurfaceId) -> Result<Vec<SurfaceId>, AllocError>
+    ensures { IfOk result (λ v. v.items ≡ id ∷ []) }
+{
+    let mut ids = Vec::new(alloc);
+    ids.push(id)?;
+    Ok(ids)
+}

@@ -1,0 +1,9 @@
+pub mod Flagged
+pub mod Placed
+pub mod Putting
+pub mod Submitting
+pub mod Closing
+pub mod Lending
+pub mod Rooming
+pub mod Activating
+pub mod Ends

@@ -1,0 +1,15 @@
+use Rattle.std.proofs.Common.{◌<◌, ◌∙◌, arith, length}
+use Rattle.std.proofs.lemmas.List.{length-set}
+use Rattle.vz_rules.specs.Messages.{replace_on}
+use Rattle.vz_state.proofs.Flagged.{changed}
+use Rattle.vz_state.proofs.accept.replace_all.Goals as goal
+
+pub loop-k-preserved : goal.loop-k-preserved
+loop-k-preserved c =
+    let k = c.loop-k.k in
+    let old = c.args.submissions.now in
+    let within : k < length old = omega arith in
+    record {
+      count = length-set c.loop-k.submissions k c.replace.new.self ∙ c.loop-k.invariant.count;
+      same = changed (replace_on c.args.id.now) old c.loop-k.submissions k c.index-submissions-k.result c.replace.new.self within c.loop-k.invariant.same (λ _. c.replace.ensures);
+    }

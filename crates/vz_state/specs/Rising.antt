@@ -1,0 +1,27 @@
+-- What is found of a round before it changes anything.
+use Rattle.std.specs.Prelude.{◌≡◌, ◌==◌, nat_lt, Bool, ◌&&◌, List, map}
+use Rattle.std.specs.List.{list_any}
+use Rattle.vz_ids.specs.Ids.{same_surface}
+use Rattle.vz_rules.specs.World.{World, Submission, Created}
+use Rattle.vz_rules.specs.Settle.{number_of, is_ready, ready}
+use Rattle.vz_state.specs.declared.risen.Risen.{Risen}
+use Rattle.vz_state.specs.declared.risen.Signs.{Signs}
+
+-- what is noted of a submission: its surface, its name, and the number of the surface among those of its client
+abbrev pub risen_of : List Created → Submission → Risen
+risen_of surfaces s = record { id = s.image.id; sub = s.image.sub; number = number_of surfaces s }
+
+-- one that rose is on the surface of a submission
+abbrev pub on_same : List Risen → Submission → Bool
+on_same rs s = list_any (λ (r : Risen). same_surface r.id s.image.id) rs
+
+-- one that rose is on a later surface of the client
+abbrev pub on_later : List Risen → Created → Bool
+on_later rs c = list_any (λ (r : Risen). (c.client == r.sub.client) && nat_lt c.number r.number) rs
+
+-- what becomes active, and what each submission and each surface has to do with it
+pub record AreSigns (w : World) (s : Signs) : Type 0 where
+  pub risen : s.risen.items ≡ map (risen_of w.surfaces) (ready w)
+  pub becomes : s.becomes.items ≡ map (is_ready w) w.subs
+  pub replaced : s.replaced.items ≡ map (on_same s.risen.items) w.subs
+  pub marked : s.marked.items ≡ map (on_later s.risen.items) w.surfaces

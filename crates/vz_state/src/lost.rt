@@ -1,0 +1,108 @@
+//! Surfaces that are lost, and the submissions on them.
+ghost use Rattle.std.specs.Prelude.{◌≡◌, ◌==◌, map, if◌then◌else◌, Some, None, IfOk};
+ghost use Rattle.std.specs.List.{list_any, flat_map};
+ghost use Rattle.vz_rules.specs.World.{is_on};
+ghost use Rattle.vz_rules.specs.Reach.{is_lost, destroy, drop_on, lost_of};
+
+use crate::client::Client;
+use crate::names::has_id;
+use crate::submission::Submission;
+use crate::surface::Surface;
+use std::alloc::{AllocError, Global};
+use vz_ids::SurfaceId;
+use vz_rules::{Lost, State};
+
+impl Surface {
+    /// It is destroyed where it is marked and is not among those that are kept.
+    fn destroy(&mut self, kept: &[SurfaceId])
+        ensures { self.new ≡ destroy kept.now self.old }
+    {
+        if self.is_lost(kept) {
+            self.destroyed = true;
+        }
+    }
+
+    /// Whether it is marked, exists and is not among those that are kept.
+    pub fn is_lost(&self, kept: &[SurfaceId]) -> bool
+        ensures { result ≡ is_lost kept.now self.now }
+    {
+        self.marked && !self.destroyed && !has_id(kept, &self.id)
+    }
+
+    /// Its name, where it is this client's: the client, and its number among those that the
+    /// client created.
+    fn name_of(&self, c: u32) -> Option<Lost>
+        ensures { result ≡ (if self.now.client == c
+            then Some (record { client = self.now.client; surface = self.now.number }) else None) }
+    {
+        if self.client == c {
+            Some(Lost {
+                client: self.client,
+                surface: self.number,
+            })
+        } else {
+            None
+        }
+    }
+}
+
+/// Every marked surface that is not kept is destroyed.
+pub fn destroy_all(surfaces: &mut [Surface], kept: &[SurfaceId])
+    ensures { surfaces.new ≡ map (destroy kept.now) surfaces.old }
+{
+    for k in 0..surfaces.len() {
+        surfaces[k].destroy(kept);
+    }
+}
+
+/// Whether a submission is on one of these surfaces.
+fn is_on_one(submission: &Submission<'_>, surfaces: &[Surface]) -> bool
+    ensures { result ≡ list_any (λ c. is_on c.id submission.now) surfaces.now }
+{
+    surfaces.iter().any(|surface| submission.is_on(&surface.id))
+}
+
+impl<'a> Submission<'a> {
+    /// It ends where it is on one of these surfaces.
+    fn drop_on(&mut self, lost: &[Surface])
+        ensures { self.new ≡ drop_on lost.now self.old }
+    {
+        if (self.is_waiting() || self.is_active()) && is_on_one(self, lost) {
+            self.state = State::Dropped;
+        }
+    }
+}
+
+/// The submissions on these surfaces end.
+pub fn drop_all(submissions: &mut [Submission<'_>], lost: &[Surface])
+    ensures { submissions.new ≡ map (drop_on lost.now) submissions.old }
+{
+    for k in 0..submissions.len() {
+        submissions[k].drop_on(lost);
+    }
+}
+
+/// Those of the lost surfaces that are a client's, by their numbers.
+fn lost_of(alloc: Global, lost: &[Surface], client: &Client<'_>) -> Result<Vec<Lost>, AllocError>
+    ensures { IfOk result (λ v. v.items ≡ lost_of lost.now client.now) }
+{
+    lost.iter()
+        .filter_map(|surface| surface.name_of(client.number))
+        .collect(alloc)
+}
+
+/// The lost surfaces, by client and creation.
+pub fn by_client(
+    alloc: Global,
+    clients: &[Client<'_>],
+    lost: &[Surface],
+) -> Result<Vec<Lost>, AllocError>
+    ensures { IfOk result (λ v. v.items ≡ flat_map (lost_of lost.now) clients.now) }
+{
+    let mut all = Vec::new(alloc);
+    for client in clients {
+        let mut some = lost_of(alloc, lost, client)?;
+        all.append(&mut some)?;
+    }
+    Ok(all)
+}

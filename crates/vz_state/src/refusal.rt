@@ -1,0 +1,96 @@
+//! Why a submission is refused.
+ghost use Rattle.std.specs.Prelude.{◌≡◌};
+ghost use Rattle.std.specs.List.{list_any};
+ghost use Rattle.std.specs.Option.{option_copied};
+ghost use Rattle.vz_rules.specs.Messages.{is_unknown, violates, is_last, has_other_size, submit_refusal};
+ghost use Rattle.vz_ids.specs.Ids.{goes_on};
+ghost use Rattle.vz_frame.specs.Frame.{same_size};
+
+use crate::resource::{Resource, is_unknown};
+use crate::surface::Surface;
+use vz_frame::{CompositorFrame, Listing, check};
+use vz_geom::Size;
+use vz_ids::LocalSurfaceId;
+use vz_rules::Refusal;
+use vz_scene::frame::frame_size;
+
+/// Whether both sides are equal.
+fn is_same_size(a: Size, b: Size) -> bool
+    ensures { result ≡ same_size a b }
+{
+    !(a.w < b.w) && !(b.w < a.w) && !(a.h < b.h) && !(b.h < a.h)
+}
+
+/// Whether no number of the new one is smaller, and one is greater.
+fn goes_on(old: &LocalSurfaceId, new: &LocalSurfaceId) -> bool
+    ensures { result ≡ goes_on old.now new.now }
+{
+    old.parent <= new.parent
+        && old.child <= new.child
+        && (old.parent < new.parent || old.child < new.child)
+}
+
+/// Whether the id is not the last one and does not go on from it.
+fn violates(last: Option<&Surface>, local: &LocalSurfaceId) -> bool
+    ensures { result ≡ violates (option_copied last.entry) local.now }
+{
+    match last {
+        None => false,
+        Some(surface) => surface.id.local != *local && !goes_on(&surface.id.local, local),
+    }
+}
+
+/// Whether the id is that of the last created surface.
+pub fn is_last(last: Option<&Surface>, local: &LocalSurfaceId) -> bool
+    ensures { result ≡ is_last (option_copied last.entry) local.now }
+{
+    match last {
+        None => false,
+        Some(surface) => surface.id.local == *local,
+    }
+}
+
+/// Whether the id is that of the last created surface, which has another size.
+fn has_other_size(last: Option<&Surface>, local: &LocalSurfaceId, frame: &CompositorFrame) -> bool
+    ensures { result ≡ has_other_size (option_copied last.entry) local.now frame.now }
+{
+    match last {
+        None => false,
+        Some(surface) => surface.id.local == *local
+            && !is_same_size(surface.size, frame_size(frame)),
+    }
+}
+
+/// Whether a listing has no stored block of its size.
+fn has_unknown(resources: &[Resource<'_>], listings: &[Listing]) -> bool
+    ensures { result ≡ list_any (is_unknown resources.now) listings.now }
+{
+    listings
+        .iter()
+        .any(|listing| is_unknown(resources, listing))
+}
+
+/// Why a submission is refused, if it is.
+pub fn submit_refusal(
+    last: Option<&Surface>,
+    resources: &[Resource<'_>],
+    local: &LocalSurfaceId,
+    frame: &CompositorFrame,
+) -> Option<Refusal>
+    ensures { result ≡ submit_refusal (option_copied last.entry) resources.now local.now frame.now }
+{
+    match check(frame) {
+        Err(rule) => return Some(Refusal::Malformed(rule)),
+        Ok(()) => {}
+    }
+    if has_unknown(resources, frame.resources.as_slice()) {
+        return Some(Refusal::UnknownResource);
+    }
+    if violates(last, local) {
+        return Some(Refusal::InvariantsViolation);
+    }
+    if has_other_size(last, local, frame) {
+        return Some(Refusal::SizeMismatch);
+    }
+    None
+}

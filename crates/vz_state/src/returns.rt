@@ -1,0 +1,299 @@
+//! References that are given back, and feedback.
+ghost use Rattle.std.specs.Prelude.{◌≡◌, ◌&&◌, ◌==◌, ◌<◌, ◌≤◌, map, IfOk, true, false};
+ghost use Rattle.std.specs.List.{list_any, flat_map, filter_map};
+ghost use Rattle.vz_frame.specs.Frame.{lists};
+ghost use Rattle.vz_state.specs.Outs.{outs, is_out, all_outs, unfed, IsPutInto};
+ghost use Rattle.std.specs.Option.{option_to_list};
+ghost use Rattle.vz_rules.specs.World.{has_sub, is_in_flight};
+ghost use Rattle.vz_rules.specs.Returns.{holds, is_held, goes_back, return_of, queue_resource, returns_of, queue_returns};
+ghost use Rattle.vz_state.specs.Holding.{holding, feedback_by, fed_by};
+
+use crate::client::Client;
+use crate::resource::{Resource, is_listed};
+use crate::submission::Submission;
+use crate::surface::{Surface, exists};
+use std::alloc::AllocError;
+use std::marker::Model;
+use vz_frame::{List, Room};
+use vz_ids::Sub;
+use vz_rules::{Fed, Returned};
+
+/// Whether a submission is one of these.
+fn has_sub(subs: &[Sub], sub: Sub) -> bool
+    ensures { result ≡ has_sub subs.now sub }
+{
+    subs.iter().any(|other| sub == *other)
+}
+
+/// Whether a submission is in the drawn frame that is not done.
+fn is_in_flight(in_flight: &Option<List<Sub>>, sub: Sub) -> bool
+    ensures { result ≡ is_in_flight in_flight.now sub }
+{
+    match in_flight {
+        None => false,
+        Some(subs) => has_sub(subs.as_slice(), sub),
+    }
+}
+
+/// What holds resources: the submissions, the surfaces, and the frame in flight.
+#[derive(Drop)]
+pub struct Holders<'b, 'a> {
+    submissions: &'b [Submission<'a>],
+    surfaces: &'b [Surface],
+    in_flight: &'b Option<List<Sub>>,
+}
+
+impl<'b, 'a> Model for Holders<'b, 'a> {
+    ghost use Rattle.vz_rules.specs.World.{World as Standing};
+    ghost use Rattle.vz_state.specs.Holding.{holding};
+
+    ghost Value = { Standing };
+
+    ghost view = { λ h. holding h.submissions.now h.surfaces.now h.in_flight.now };
+}
+
+impl<'b, 'a> Holders<'b, 'a> {
+    /// The holders of these parts of a world.
+    pub fn new(
+        submissions: &'b [Submission<'a>],
+        surfaces: &'b [Surface],
+        in_flight: &'b Option<List<Sub>>,
+    ) -> Holders<'b, 'a>
+        ensures { result ≡ holding submissions.now surfaces.now in_flight.now }
+    {
+        Holders {
+            submissions,
+            surfaces,
+            in_flight,
+        }
+    }
+
+    /// Whether a submission holds what it lists.
+    fn holds(&self, submission: &Submission<'_>) -> bool
+        ensures { result ≡ holds self.now submission.now }
+    {
+        ((submission.is_waiting() || submission.is_active())
+            && exists(self.surfaces, &submission.id()))
+            || is_in_flight(self.in_flight, submission.sub())
+    }
+
+    /// Whether a submission of a client holds a resource.
+    fn holds_of(&self, submission: &Submission<'_>, c: u32, id: u32) -> bool
+        ensures { result ≡ ((submission.now.image.sub.client == c) && holds self.now submission.now
+            && list_any (lists id) submission.now.image.frame.resources) }
+    {
+        submission.sub().client == c
+            && self.holds(submission)
+            && is_listed(id, submission.frame().resources.as_slice())
+    }
+
+    /// Whether a resource of a client is held.
+    #[tactic(auto, unfolding(vz_rules::specs::Returns::is_held))]
+    fn is_held(&self, c: u32, id: u32) -> bool
+        ensures { result ≡ is_held self.now c id }
+    {
+        self.submissions
+            .iter()
+            .any(|submission| self.holds_of(submission, c, id))
+    }
+
+    /// Whether a resource goes back: more of its references were lent than queued, and nothing holds it.
+    fn goes_back(&self, c: u32, resource: &Resource<'_>) -> bool
+        ensures { result ≡ goes_back self.now c resource.now }
+    {
+        resource.queued < resource.lent && !self.is_held(c, resource.id)
+    }
+
+    /// What is queued of a resource now.
+    fn return_of(&self, c: u32, resource: &Resource<'_>) -> Option<Returned>
+        ensures { result ≡ return_of self.now c resource.now }
+    {
+        if self.goes_back(c, resource) {
+            Some(Returned {
+                client: c,
+                id: resource.id,
+                count: resource.lent - resource.queued,
+            })
+        } else {
+            None
+        }
+    }
+}
+
+impl<'a> Resource<'a> {
+    /// It is queued where it goes back: its return stands in the queue, and is told. Conditions:
+    /// where its references are out, both have a place to spare.
+    fn give_back(
+        &mut self,
+        holders: &Holders<'_, '_>,
+        c: u32,
+        queue: &mut Room<Returned>,
+        told: &mut Room<Returned>,
+    )
+        requires queue { is_out self.old ≡ true → 0 < queue.old.spare }
+        requires told { is_out self.old ≡ true → 0 < told.old.spare }
+        ensures resource { self.new ≡ queue_resource holders.now c self.old }
+        ensures queued { IsPutInto queue.old queue.new (option_to_list (return_of holders.now c self.old)) }
+        ensures told { IsPutInto told.old told.new (option_to_list (return_of holders.now c self.old)) }
+    {
+        match holders.return_of(c, self) {
+            None => {}
+            Some(returned) => {
+                queue.put(returned);
+                told.put(returned);
+                self.queued = self.lent;
+            }
+        }
+    }
+}
+
+/// What is not used any more is queued, and told. Condition: both lists have room for a return
+/// of each resource of which references are out.
+fn give_back_all(
+    resources: &mut [Resource<'_>],
+    holders: &Holders<'_, '_>,
+    c: u32,
+    queue: &mut Room<Returned>,
+    told: &mut Room<Returned>,
+)
+    requires queue { outs resources.old ≤ queue.old.spare }
+    requires told { outs resources.old ≤ told.old.spare }
+    ensures resources { resources.new ≡ map (queue_resource holders.now c) resources.old }
+    ensures queued { IsPutInto queue.old queue.new (filter_map (return_of holders.now c) resources.old) }
+    ensures told { IsPutInto told.old told.new (filter_map (return_of holders.now c) resources.old) }
+{
+    for k in 0..resources.len() {
+        resources[k].give_back(holders, c, queue, told);
+    }
+}
+
+impl<'a> Client<'a> {
+    /// Its returns stand at the end of its queue, and are told. Condition: what is told has
+    /// room for a return of each resource of which references are out.
+    fn give_back(&mut self, holders: &Holders<'_, '_>, told: &mut Room<Returned>)
+        requires { outs self.old.resources ≤ told.old.spare }
+        ensures client { self.new ≡ queue_returns holders.now self.old }
+        ensures told { IsPutInto told.old told.new (returns_of holders.now self.old) }
+    {
+        let number = self.number;
+        give_back_all(&mut self.resources, holders, number, &mut self.queue, told);
+    }
+
+    /// How many of its resources have references out.
+    #[tactic(auto, unfolding(crate::specs::Outs::outs))]
+    fn outs(&self) -> usize
+        ensures { result ≡ outs self.now.resources }
+    {
+        self.resources
+            .iter()
+            .filter(|resource| resource.is_out())
+            .count()
+    }
+}
+
+impl<'a> Resource<'a> {
+    /// Whether more of its references were lent than queued.
+    fn is_out(&self) -> bool
+        ensures { result ≡ is_out self.now }
+    {
+        self.queued < self.lent
+    }
+}
+
+/// The returns of all clients are queued, and told, by client and rising id. Condition: there
+/// is room for them.
+pub fn give_back_clients(
+    clients: &mut [Client<'_>],
+    holders: &Holders<'_, '_>,
+    told: &mut Room<Returned>,
+)
+    requires { all_outs clients.old ≤ told.old.spare }
+    ensures clients { clients.new ≡ map (queue_returns holders.now) clients.old }
+    ensures told { IsPutInto told.old told.new (flat_map (returns_of holders.now) clients.old) }
+{
+    for k in 0..clients.len() {
+        clients[k].give_back(holders, told);
+    }
+}
+
+/// How many resources of clients have references out.
+pub fn outs_of(clients: &[Client<'_>]) -> Result<usize, AllocError>
+    ensures { IfOk result (λ n. n ≡ all_outs clients.now) }
+{
+    let mut total: usize = 0;
+    for client in clients {
+        match total.checked_add(client.outs()) {
+            Some(sum) => total = sum,
+            None => return Err(AllocError),
+        }
+    }
+    Ok(total)
+}
+
+impl<'a> Submission<'a> {
+    /// The feedback that it gets now.
+    fn feedback(&self, in_flight: &Option<List<Sub>>, presented: &[Sub]) -> Option<Fed>
+        ensures { result ≡ feedback_by in_flight.now presented.now self.now }
+    {
+        if self.fed {
+            return None;
+        }
+        if has_sub(presented, self.sub()) {
+            return Some(Fed {
+                sub: self.sub(),
+                presented: true,
+            });
+        }
+        if !self.is_waiting() && !self.is_active() && !is_in_flight(in_flight, self.sub()) {
+            return Some(Fed {
+                sub: self.sub(),
+                presented: false,
+            });
+        }
+        None
+    }
+
+    /// Where it gets feedback now, it has it from now on, and this is told. Condition: there is
+    /// a place to spare where it has none yet.
+    fn feed(&mut self, in_flight: &Option<List<Sub>>, presented: &[Sub], told: &mut Room<Fed>)
+        requires { self.old.fed ≡ false → 0 < told.old.spare }
+        ensures submission { self.new ≡ fed_by in_flight.now presented.now self.old }
+        ensures told { IsPutInto told.old told.new (option_to_list (feedback_by in_flight.now presented.now self.old)) }
+    {
+        match self.feedback(in_flight, presented) {
+            None => {}
+            Some(fed) => {
+                told.put(fed);
+                self.fed = true;
+            }
+        }
+    }
+}
+
+/// Each submission that is due for feedback gets it, and it is told, in the order of
+/// acceptance. Condition: there is room for all that have none yet.
+pub fn feed_all(
+    submissions: &mut [Submission<'_>],
+    in_flight: &Option<List<Sub>>,
+    presented: &[Sub],
+    told: &mut Room<Fed>,
+)
+    requires { unfed submissions.old ≤ told.old.spare }
+    ensures submissions { submissions.new ≡ map (fed_by in_flight.now presented.now) submissions.old }
+    ensures told { IsPutInto told.old told.new (filter_map (feedback_by in_flight.now presented.now) submissions.old) }
+{
+    for k in 0..submissions.len() {
+        submissions[k].feed(in_flight, presented, told);
+    }
+}
+
+/// How many submissions have no feedback.
+#[tactic(auto, unfolding(crate::specs::Outs::unfed))]
+pub fn unfed_of(submissions: &[Submission<'_>]) -> usize
+    ensures { result ≡ unfed submissions.now }
+{
+    submissions
+        .iter()
+        .filter(|submission| !submission.fed)
+        .count()
+}

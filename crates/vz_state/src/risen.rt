@@ -1,0 +1,46 @@
+//! What becomes active in a round.
+ghost use Rattle.std.specs.Prelude.{◌≡◌, ◌&&◌, ◌==◌, nat_lt};
+ghost use Rattle.std.specs.List.{list_any};
+ghost use Rattle.vz_ids.specs.Ids.{same_surface};
+
+use crate::surface::Surface;
+use vz_ids::{Sub, SurfaceId};
+
+/// What is noted of a submission that becomes active in a round.
+#[derive(Clone, Copy, Debug, PartialEq, Eq)]
+pub struct Risen {
+    /// The surface that it is on.
+    pub id: SurfaceId,
+    /// Its client and ordinal.
+    pub sub: Sub,
+    /// The number of the surface among those that the client created.
+    pub number: u32,
+}
+
+/// What is found of a round before it changes anything.
+#[derive(Drop)]
+pub struct Signs {
+    /// What becomes active.
+    pub risen: Vec<Risen>,
+    /// For each submission, whether it becomes active.
+    pub becomes: Vec<bool>,
+    /// For each submission, whether one that rose is on its surface.
+    pub replaced: Vec<bool>,
+    /// For each surface, whether one that rose is on a later one of its client.
+    pub marked: Vec<bool>,
+}
+
+/// Whether one of those that rose is on the surface.
+pub fn is_one_on(risen: &[Risen], id: &SurfaceId) -> bool
+    ensures { result ≡ list_any (λ r. same_surface r.id id.now) risen.now }
+{
+    risen.iter().any(|other| other.id == *id)
+}
+
+/// Whether one of those that rose is on a later surface of the client.
+pub fn is_before_one(risen: &[Risen], surface: &Surface) -> bool
+    ensures { result ≡ list_any (λ r. (surface.now.client == r.sub.client)
+        && nat_lt surface.now.number r.number) risen.now }
+{
+    risen.iter().any(|other| surface.client == other.sub.client && surface.number < other.number)
+}

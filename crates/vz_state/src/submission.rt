@@ -1,0 +1,178 @@
+//! Submissions that were accepted, and where they stand.
+ghost use Rattle.std.specs.Prelude.{◌≡◌, ◌&&◌, ◌++◌, map, OnOk, IfOk, [], ◌∷◌, false, cond};
+ghost use Rattle.std.specs.List.{list_any};
+ghost use Rattle.vz_rules.specs.World.{is_active, is_waiting, is_on, active_images, sub_of};
+ghost use Rattle.vz_ids.specs.Ids.{at_least};
+ghost use Rattle.vz_rules.specs.declared.entry.State.TheVariants.{Waiting as Waits};
+
+use std::alloc::{AllocError, Global};
+use std::marker::Model;
+use vz_frame::CompositorFrame;
+use vz_ids::{Sub, SurfaceId};
+use vz_rules::State;
+use vz_scene::{SubmittedFrame, is_at_least};
+
+/// An accepted submission.
+#[derive(Drop)]
+pub struct Submission<'a> {
+    pub(crate) submitted: SubmittedFrame<'a>,
+    pub(crate) due: u64,
+    pub(crate) state: State,
+    pub(crate) was_active: bool,
+    pub(crate) fed: bool,
+}
+
+impl<'a> Model for Submission<'a> {
+    ghost use Rattle.vz_rules.specs.World.{Submission as SubmissionState};
+
+    ghost Value = { SubmissionState };
+
+    ghost view = { λ r. record {
+      image = r.submitted;
+      due = r.due;
+      state = r.state;
+      was_active = r.was_active;
+      fed = r.fed;
+    } };
+}
+
+impl<'a> Submission<'a> {
+    /// A submission that waits until it is due: it was never active and has no feedback.
+    pub fn new(submitted: SubmittedFrame<'a>, due: u64) -> Submission<'a>
+        ensures { result ≡ record {
+          image = submitted.entry;
+          due = due;
+          state = Waits;
+          was_active = false;
+          fed = false;
+        } }
+    {
+        Submission {
+            submitted,
+            due,
+            state: State::Waiting,
+            was_active: false,
+            fed: false,
+        }
+    }
+
+    /// Whether it waits to become active.
+    pub fn is_waiting(&self) -> bool
+        ensures { result ≡ is_waiting self.now }
+    {
+        match self.state {
+            State::Waiting => true,
+            _ => false,
+        }
+    }
+
+    /// Whether it is the active one of its surface.
+    pub fn is_active(&self) -> bool
+        ensures { result ≡ is_active self.now }
+    {
+        match self.state {
+            State::Active => true,
+            _ => false,
+        }
+    }
+
+    /// Whether it is on this surface.
+    pub fn is_on(&self, id: &SurfaceId) -> bool
+        ensures { result ≡ is_on id.now self.now }
+    {
+        self.submitted.id() == *id
+    }
+
+    /// The client and the ordinal.
+    pub fn sub(&self) -> Sub
+        ensures { result ≡ sub_of self.now }
+    {
+        self.submitted.sub()
+    }
+
+    /// The surface that it is on.
+    pub fn id(&self) -> SurfaceId
+        ensures { result ≡ self.now.image.id }
+    {
+        self.submitted.id()
+    }
+
+    /// Its number among those that were accepted on the surface.
+    pub fn index(&self) -> u32
+        ensures { result ≡ self.now.image.index }
+    {
+        self.submitted.index()
+    }
+
+    /// Its frame.
+    pub fn frame(&self) -> &'a CompositorFrame
+        ensures { result.now ≡ self.now.image.frame }
+    {
+        self.submitted.frame()
+    }
+
+    /// Whether it was active on the surface or a newer one of its group.
+    pub fn meets(&self, d: &SurfaceId) -> bool
+        ensures { result ≡ (self.now.was_active && at_least self.now.image.id d.now) }
+    {
+        self.was_active && is_at_least(&self.submitted.id(), d)
+    }
+
+    /// The tick at which its deadline has come.
+    pub fn due(&self) -> u64
+        ensures { result ≡ self.now.due }
+    {
+        self.due
+    }
+}
+
+/// Whether some submission was active on a surface or a newer one of its group.
+pub fn was_met(submissions: &[Submission<'_>], d: &SurfaceId) -> bool
+    ensures { result
+        ≡ list_any (λ s. s.was_active && at_least s.image.id d.now) submissions.now }
+{
+    submissions.iter().any(|submission| submission.meets(d))
+}
+
+/// The image of a submission is added where it is active.
+fn add_active<'a>(
+    alloc: Global,
+    images: &mut Vec<SubmittedFrame<'a>>,
+    submission: &Submission<'a>,
+) -> Result<(), AllocError>
+    ensures { OnOk result (images.new.items
+        ≡ images.old.items ++ cond (is_active submission.now) (submission.now.image ∷ []) []) }
+{
+    if submission.is_active() {
+        images.push(submission.submitted.share()?)?;
+    }
+    Ok(())
+}
+
+/// The active images, in the order of acceptance.
+pub fn active_images<'a>(
+    alloc: Global,
+    submissions: &[Submission<'a>],
+) -> Result<Vec<SubmittedFrame<'a>>, AllocError>
+    ensures { IfOk result (λ v. v.items ≡ active_images submissions.now) }
+{
+    let mut images = Vec::new(alloc);
+    for submission in submissions {
+        add_active(alloc, &mut images, submission)?;
+    }
+    Ok(images)
+}
+
+/// What was submitted, in the order of acceptance.
+pub fn accepted_frames<'a>(
+    alloc: Global,
+    submissions: &[Submission<'a>],
+) -> Result<Vec<SubmittedFrame<'a>>, AllocError>
+    ensures { IfOk result (λ v. v.items ≡ map (λ s. s.image) submissions.now) }
+{
+    let mut frames = Vec::with_capacity(alloc, submissions.len())?;
+    for submission in submissions {
+        frames.push(submission.submitted.share()?)?;
+    }
+    Ok(frames)
+}
