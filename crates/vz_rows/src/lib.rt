@@ -9,6 +9,8 @@ mod faults;
 mod files;
 pub mod laws;
 #[cfg(test)]
+mod plain;
+#[cfg(test)]
 mod refusals;
 #[cfg(test)]
 mod rows;
