@@ -12,10 +12,8 @@ use Rattle.vz_codec.specs.Spelling.{file_bytes}
 use Rattle.vz_codec.specs.Reading.{Fault, ended, file_in}
 use Rattle.vz_codec.specs.Grammar.{Spells, Wrong, placed, wrong, Decodes, Finds}
 use Rattle.vz_codec.specs.declared.fault.FileRule.TheVariants as rules
-use Rattle.vz_codec.proofs.Places.{fault_placed}
 use Rattle.vz_codec.proofs.Numbers.{IsBytes}
-use Rattle.vz_codec.proofs.Taken_messages.{file_took}
-use Rattle.vz_codec.proofs.Again_messages.{file_again, file_read}
+use Rattle.vz_codec.proofs.Whole.{file_took, file_again, file_read, fault_placed}
 
 pub is_found : (bytes : List ℕ) (f : ClientFile) → IsBytes bytes → file_in bytes ≡ Ok f → Spells bytes f
 unfolding Spells
@@ -77,7 +75,7 @@ pub no_beginning : (a more : List ℕ) (f g : ClientFile) → Spells a f → Spe
 unfolding Spells
 no_beginning a more f g s t =
     let whole : file_in (a ++ more) ≡ Ok g = spelled_read (a ++ more) g t in
-    let front : file_in (a ++ more) ≡ ended (f, more) = ap (λ (b : List ℕ). file_in (b ++ more)) s.1 ∙ file_read f more (ended (f, more)) s.0 refl in
+    let front : file_in (a ++ more) ≡ ended (f, more) = ap (λ (b : List ℕ). file_in (b ++ more)) s.1 ∙ file_read f more s.0 in
     trailing more f g (sym front ∙ whole)
 
 bytes_of : (bytes : List ℕ) → All (λ b. b < 256) bytes → IsBytes bytes

@@ -9,10 +9,10 @@ use Rattle.vz_pixels.proofs.Bytes.{colours_upto, one_more, one_of_all, all_is, w
 use Rattle.vz_pixels.specs.Block.{Block}
 use Rattle.vz_pixels.specs.declared.block.BlockError.{BlockError}
 use Rattle.vz_pixels.specs.declared.block.BlockError.TheVariants.{BadSize, NotPremultiplied}
-use Rattle.vz_codec.specs.Reading.{Read, ◌>>=◌, colour_at, many_at, texels_at}
+use Rattle.vz_codec.specs.Reading.{Read, ◌>>=◌, colour_of, colour_at, many_at, texels_at}
 use Rattle.vz_codec.specs.Giving.{four_at}
 use Rattle.vz_codec.proofs.Loop.{with_front, goes_on, is_done}
-use Rattle.vz_codec.proofs.Colours.{colour_of, colour_from}
+use Rattle.vz_codec.proofs.Colours.{colour_from}
 
 four_there : (bytes : List ℕ) → 4 ≤ length bytes → four_at bytes ≡ Ok (take 4 bytes, drop 4 bytes)
 four_there bytes h = let long : ltb (length bytes) 4 ≡ false = le-ltb _ _ (omega arith) in rw long refl
@@ -71,7 +71,7 @@ some bytes n (suc k) there below good =
     let next : suc k ≡ k + 1 = omega arith in
     ap (λ m. with_front (colours_upto front m) (many_at colour_at (n - m) (drop (4 * m) bytes))) next
     ∙ ap (λ xs. with_front xs (many_at colour_at (n - (k + 1)) (drop (4 * (k + 1)) bytes))) (one_more front k)
-    ∙ goes_on colour_at (colours_upto front k) n k (drop (4 * k) bytes) (texel_at front k) (drop (4 * (k + 1)) bytes) (many_at colour_at n bytes) (omega arith) step so_far
+    ∙ goes_on {S = Unit {0}} (λ _. colour_at) (λ s _. s) (colours_upto front k) n k tt (drop (4 * k) bytes) (many_at colour_at n bytes) (texel_at front k) (drop (4 * (k + 1)) bytes) (omega arith) step so_far
 
 -- all of them
 pub texels : (bytes : List ℕ) (n : ℕ) (pixels : List Colour) → 4 * n ≤ length bytes → are_premultiplied (take (4 * n) bytes) ≡ true → pixels ≡ colours_of (take (4 * n) bytes)
@@ -80,7 +80,7 @@ texels bytes n pixels there good e =
     let front = take (4 * n) bytes in
     let long : length (take (4 * n) bytes) ≡ 4 * n = length-take-le (4 * n) bytes there in
     let count : n ≡ length front / 4 = omega arith in
-    is_done colour_at (colours_upto front n) n n (drop (4 * n) bytes) (many_at colour_at n bytes) (omega arith) (some bytes n n there (omega arith) (all_is front n count ∙ good))
+    is_done {S = Unit {0}} (λ _. colour_at) (λ s _. s) (colours_upto front n) n n tt (drop (4 * n) bytes) (many_at colour_at n bytes) (omega arith) (some bytes n n there (omega arith) (all_is front n count ∙ good))
     ∙ ap (λ (xs : List Colour). Ok (xs, drop (4 * n) bytes)) (whole_is front n count ∙ sym e)
 
 -- what is not refused is premultiplied

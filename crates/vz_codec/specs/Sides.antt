@@ -1,6 +1,6 @@
 -- Four numbers as a rectangle.
 use Rattle.vz_geom.specs.Rectangle.{Rectangle}
-use Rattle.vz_codec.specs.declared.parts.Sides.{Sides}
+use Rattle.vz_codec.specs.declared.shapes.Sides.{Sides}
 
 -- the rectangle of these numbers
 abbrev pub rectangle : Sides → Rectangle

@@ -5,7 +5,7 @@ ghost use Rattle.vz_codec.specs.Grammar.{Spells, Decodes, Finds};
 
 use crate::error::ReadError;
 use crate::fault::DecodeError;
-use crate::messages::read_file;
+use crate::file::read_file;
 use std::alloc::Global;
 use vz_frame::ClientFile;
 

@@ -1,278 +1,314 @@
-//! Frames: what stands with them, their resources, passes and quads.
-ghost use Rattle.std.specs.Prelude.{◌≤◌};
+//! Frames: what stands with them, their resources and passes.
+ghost use Rattle.std.specs.Prelude.{◌≡◌, ◌≤◌, ◌++◌, ◌&&◌, nat_le, length, sum_by, OnOk};
+ghost use Rattle.std.specs.List.{list_all};
+ghost use Rattle.vz_frame.specs.Fits.{fits_optional, fits_surface, fits_range, is_number, fits_listing, fits_pass, fits_frame, within};
+ghost use Rattle.vz_codec.specs.Fitting.{fits_metadata};
 ghost use Rattle.vz_codec.specs.Giving.{Gives};
-ghost use Rattle.vz_codec.specs.Reading.{many_at, tile_at, embedding_at, material_by, material_at, mode_at, quad_at, pass_at, passes_at, listing_at, deadline_at, metadata_at, frame_at};
+ghost use Rattle.vz_codec.specs.Reading.{pass_at, passes_at, listing_at, deadline_at, metadata_at, frame_at};
+ghost use Rattle.vz_codec.specs.Spelling.{counted_bytes, deadline_bytes, listing_bytes, pass_bytes, metadata_bytes, frame_bytes};
 
 use crate::error::ReadError;
 use crate::fault::FileRule;
-use crate::field::{Field, counted, many, optional};
-use crate::parts::{RECT_BYTES, Ranges, Rects, Surfaces, read_colour, read_range, read_rect};
+use crate::field::{Counted, Field, fit_all, read_many, write_many};
+use crate::ids::{Ranges, Surfaces, is_number};
+use crate::limits::{
+    MOST_DEPENDENCIES, MOST_PASSES, MOST_QUADS, MOST_REFERENCES, MOST_RESOURCES, MOST_ROUNDS,
+    MOST_SIDE,
+};
+use crate::quads::Quads;
 use crate::reader::Reader;
-use std::alloc::Global;
-use vz_frame::{Blend, CompositorFrame, DrawQuad, List, Listing, Material, Metadata, RenderPass};
-use vz_geom::Point;
+use crate::shapes::Rects;
+use crate::writer::Writer;
+use std::alloc::AllocError;
+use vz_frame::{CompositorFrame, List, Listing, Metadata, RenderPass};
 
-/// No side of a resource is longer.
-pub const MOST_SIDE: u16 = 256;
+const DEPENDENCIES: Counted<Surfaces> = Counted {
+    limit: MOST_DEPENDENCIES,
+    field: Surfaces,
+};
 
-pub const MOST_DEPENDENCIES: u8 = 16;
+const REFERENCES: Counted<Ranges> = Counted {
+    limit: MOST_REFERENCES,
+    field: Ranges,
+};
 
-pub const MOST_REFERENCES: u8 = 64;
+const RESOURCES: Counted<Listings> = Counted {
+    limit: MOST_RESOURCES,
+    field: Listings,
+};
 
-pub const MOST_RESOURCES: u8 = 64;
+/// The frames of a file of this format.
+#[derive(Drop)]
+pub struct Frames {
+    pub format: u8,
+}
 
-pub const MOST_PASSES: u8 = 16;
+#[tactic(auto, unfolding(crate::specs::Reading::frame_at, crate::specs::Reading::all_passes_at, crate::specs::Spelling::frame_bytes, vz_frame::specs::Fits::fits_frame), using(crate::proofs::Appended::appended))]
+impl Field for Frames {
+    type Value = CompositorFrame;
 
-/// No frame has more quads in all of its passes.
-pub const MOST_QUADS: u16 = 1024;
+    ghost value_at = { λ f. frame_at f.format };
 
-pub const MOST_ROUNDS: u8 = 64;
+    ghost spelling = { λ f. frame_bytes f.format };
+
+    ghost is_fitting = { λ f. fits_frame f.format };
+
+    fn read(&self, input: &mut Reader) -> Result<CompositorFrame, ReadError> {
+        let metadata = Metadatas.read(input)?;
+        let resources = RESOURCES.read(input)?;
+        let count = input.u8_within(0, MOST_PASSES)?;
+        let passes = read_passes(self.format, count, input)?;
+        let frame = CompositorFrame {
+            metadata,
+            resources,
+            passes,
+        };
+        Ok(frame)
+    }
+
+    fn write(&self, frame: &CompositorFrame, out: &mut Writer) -> Result<(), AllocError> {
+        let passes = Counted {
+            limit: MOST_PASSES,
+            field: self.passes(),
+        };
+        Metadatas.write(&frame.metadata, out)?;
+        RESOURCES.write(&frame.resources, out)?;
+        passes.write(&frame.passes, out)
+    }
+
+    fn fits(&self, frame: &CompositorFrame) -> bool {
+        let passes = frame.passes.as_slice();
+        Metadatas.fits(&frame.metadata)
+            && RESOURCES.fits(&frame.resources)
+            && passes.len() <= usize::from(MOST_PASSES)
+            && have_few_quads(passes)
+            && fit_all(&self.passes(), passes)
+    }
+}
+
+impl Frames {
+    /// The first pass of a frame.
+    fn passes(&self) -> Passes
+        ensures { result.format ≡ self.now.format }
+    {
+        Passes {
+            format: self.format,
+            room: MOST_QUADS,
+        }
+    }
+}
+
+#[derive(Drop)]
+struct Metadatas;
+
+#[tactic(auto, unfolding(crate::specs::Reading::metadata_at), using(crate::proofs::Appended::appended))]
+impl Field for Metadatas {
+    type Value = Metadata;
+
+    ghost value_at = { λ _. metadata_at };
+
+    ghost spelling = { λ _. metadata_bytes };
+
+    ghost is_fitting = { λ _. fits_metadata };
+
+    fn read(&self, input: &mut Reader) -> Result<Metadata, ReadError> {
+        let token = input.u32()?;
+        let ack = input.u32()?;
+        let deadline = Deadlines.read(input)?;
+        let dependencies = DEPENDENCIES.read(input)?;
+        let references = REFERENCES.read(input)?;
+        let metadata = Metadata {
+            token,
+            ack,
+            deadline,
+            dependencies,
+            references,
+        };
+        Ok(metadata)
+    }
+
+    fn write(&self, metadata: &Metadata, out: &mut Writer) -> Result<(), AllocError> {
+        out.u32(metadata.token)?;
+        out.u32(metadata.ack)?;
+        Deadlines.write(&metadata.deadline, out)?;
+        DEPENDENCIES.write(&metadata.dependencies, out)?;
+        REFERENCES.write(&metadata.references, out)
+    }
+
+    fn fits(&self, metadata: &Metadata) -> bool {
+        is_number(metadata.token)
+            && is_number(metadata.ack)
+            && Deadlines.fits(&metadata.deadline)
+            && DEPENDENCIES.fits(&metadata.dependencies)
+            && REFERENCES.fits(&metadata.references)
+    }
+}
 
 /// The deadline that says that there is none.
 const NO_DEADLINE: u8 = 255;
 
-/// The bytes of a listed resource.
-const LISTING_BYTES: usize = 8;
-
-/// The bytes of a quad without clip and mode: its offset, its rectangles, a flag, the opacity, and
-/// a tag with four bytes behind it.
-const LEAST_QUAD_BYTES: usize = 8 + 2 * RECT_BYTES + 1 + 1 + 1 + 4;
-
-/// The bytes of a pass without quads: its id, its rectangles and a count.
-const LEAST_PASS_BYTES: usize = 4 + 2 * RECT_BYTES + 2;
-
-#[tactic(auto, unfolding(crate::specs::Reading::frame_at))]
-pub fn read_frame(
-    alloc: Global,
-    format: u8,
-    input: &mut Reader,
-) -> Result<CompositorFrame, ReadError>
-    ensures { Gives (λ x. (x, input.new)) result (frame_at format input.old) }
-{
-    let metadata = read_metadata(alloc, input)?;
-    let resources = counted(alloc, &Listings, MOST_RESOURCES, input)?;
-    let count = input.u8_within(0, MOST_PASSES)?;
-    let passes = read_passes(alloc, format, count, input)?;
-    let frame = CompositorFrame {
-        metadata,
-        resources,
-        passes,
-    };
-    Ok(frame)
-}
-
-#[tactic(auto, unfolding(crate::specs::Reading::metadata_at))]
-fn read_metadata(alloc: Global, input: &mut Reader) -> Result<Metadata, ReadError>
-    ensures { Gives (λ x. (x, input.new)) result (metadata_at input.old) }
-{
-    let token = input.u32()?;
-    let ack = input.u32()?;
-    let deadline = read_deadline(input)?;
-    let dependencies = counted(alloc, &Surfaces, MOST_DEPENDENCIES, input)?;
-    let references = counted(alloc, &Ranges, MOST_REFERENCES, input)?;
-    let metadata = Metadata {
-        token,
-        ack,
-        deadline,
-        dependencies,
-        references,
-    };
-    Ok(metadata)
-}
+#[derive(Drop)]
+struct Deadlines;
 
 #[tactic(auto, unfolding(crate::specs::Reading::deadline_at))]
-fn read_deadline(input: &mut Reader) -> Result<Option<u8>, ReadError>
-    ensures { Gives (λ x. (x, input.new)) result (deadline_at input.old) }
-{
-    let left = input.left();
-    let rounds = input.u8()?;
-    if rounds == NO_DEADLINE {
-        return Ok(None);
+impl Field for Deadlines {
+    type Value = Option<u8>;
+
+    ghost value_at = { λ _. deadline_at };
+
+    ghost spelling = { λ _. deadline_bytes };
+
+    ghost is_fitting = { λ _. fits_optional (λ d. nat_le d 64) };
+
+    fn read(&self, input: &mut Reader) -> Result<Option<u8>, ReadError> {
+        let left = input.left();
+        let rounds = input.u8()?;
+        if rounds == NO_DEADLINE {
+            return Ok(None);
+        }
+        if rounds > MOST_ROUNDS {
+            return Err(ReadError::refused(left, FileRule::Limit));
+        }
+        Ok(Some(rounds))
     }
-    if rounds > MOST_ROUNDS {
-        return Err(ReadError::refused(left, FileRule::Limit));
+
+    fn write(&self, deadline: &Option<u8>, out: &mut Writer) -> Result<(), AllocError> {
+        out.u8(deadline.unwrap_or(NO_DEADLINE))
     }
-    Ok(Some(rounds))
+
+    fn fits(&self, deadline: &Option<u8>) -> bool {
+        match deadline {
+            None => true,
+            Some(rounds) => *rounds <= MOST_ROUNDS,
+        }
+    }
 }
 
-#[tactic(auto, unfolding(crate::specs::Reading::listing_at))]
-fn read_listing(input: &mut Reader) -> Result<Listing, ReadError>
-    ensures { Gives (λ x. (x, input.new)) result (listing_at input.old) }
-{
-    let id = input.u32_within(1, u32::MAX)?;
-    let w = input.u16_within(1, MOST_SIDE)?;
-    let h = input.u16_within(1, MOST_SIDE)?;
-    Ok(Listing { id, w, h })
-}
-
+/// A listed resource: its id and its sides.
 #[derive(Drop)]
 struct Listings;
 
+#[tactic(auto, unfolding(crate::specs::Reading::listing_at), using(crate::proofs::Appended::appended))]
 impl Field for Listings {
     type Value = Listing;
 
     ghost value_at = { λ _. listing_at };
 
-    fn least_bytes(&self) -> usize {
-        LISTING_BYTES
-    }
+    ghost spelling = { λ _. listing_bytes };
+
+    ghost is_fitting = { λ _. fits_listing };
 
     fn read(&self, input: &mut Reader) -> Result<Listing, ReadError> {
-        read_listing(input)
+        let id = input.u32_within(1, u32::MAX)?;
+        let w = input.u16_within(1, MOST_SIDE)?;
+        let h = input.u16_within(1, MOST_SIDE)?;
+        Ok(Listing { id, w, h })
+    }
+
+    fn write(&self, listing: &Listing, out: &mut Writer) -> Result<(), AllocError> {
+        out.u32(listing.id)?;
+        out.u16(listing.w)?;
+        out.u16(listing.h)
+    }
+
+    fn fits(&self, listing: &Listing) -> bool {
+        1 <= listing.id && is_short_side(listing.w) && is_short_side(listing.h)
     }
 }
 
-/// A pass of a frame whose passes before it have so many quads.
-#[tactic(auto, unfolding(crate::specs::Reading::pass_at))]
-fn read_pass(
-    alloc: Global,
-    format: u8,
-    before: u16,
-    input: &mut Reader,
-) -> Result<RenderPass, ReadError>
-    requires { before ≤ MOST_QUADS }
-    ensures { Gives (λ x. (x, input.new)) result (pass_at format before input.old) }
+/// Whether a number is 1 to 256.
+fn is_short_side(number: u16) -> bool
+    ensures { result ≡ within 1 256 number }
 {
-    let id = input.u32()?;
-    let output = read_rect(input)?;
-    let damage = read_rect(input)?;
-    let count = input.u16_within(0, MOST_QUADS - before)?;
-    let quads = many(alloc, &Quads { format }, usize::from(count), input)?;
-    let pass = RenderPass {
-        id,
-        output,
-        damage,
-        quads: List::from_vec(quads),
-    };
-    Ok(pass)
+    1 <= number && number <= MOST_SIDE
 }
 
-#[tactic(auto, unfolding(crate::specs::Reading::quad_at))]
-fn read_quad(format: u8, input: &mut Reader) -> Result<DrawQuad, ReadError>
-    ensures { Gives (λ x. (x, input.new)) result (quad_at format input.old) }
-{
-    let x = input.coordinate()?;
-    let y = input.coordinate()?;
-    let area = read_rect(input)?;
-    let visible = read_rect(input)?;
-    let clip = optional(&Rects, input)?;
-    let opacity = input.u8()?;
-    let blend = read_mode(format, input)?;
-    let material = read_material(input)?;
-    let quad = DrawQuad {
-        offset: Point { x, y },
-        area,
-        visible,
-        clip,
-        opacity,
-        blend,
-        material,
-    };
-    Ok(quad)
-}
-
-/// A mode, which a file of format 1 does not spell.
-#[tactic(auto, unfolding(crate::specs::Reading::mode_at))]
-fn read_mode(format: u8, input: &mut Reader) -> Result<Blend, ReadError>
-    ensures { Gives (λ x. (x, input.new)) result (mode_at format input.old) }
-{
-    if format == 1 {
-        return Ok(Blend::Over);
-    }
-    let number = input.tag(0, 2)?;
-    let mode = match number {
-        0 => Blend::Over,
-        1 => Blend::Src,
-        _ => Blend::DstIn,
-    };
-    Ok(mode)
-}
-
-#[tactic(auto, unfolding(crate::specs::Reading::material_at))]
-fn read_material(input: &mut Reader) -> Result<Material, ReadError>
-    ensures { Gives (λ x. (x, input.new)) result (material_at input.old) }
-{
-    let tag = input.tag(1, 4)?;
-    read_material_by(tag, input)
-}
-
-/// The material of a tag.
-#[tactic(auto, unfolding(crate::specs::Reading::material_by))]
-fn read_material_by(tag: u8, input: &mut Reader) -> Result<Material, ReadError>
-    ensures { Gives (λ x. (x, input.new)) result (material_by tag input.old) }
-{
-    match tag {
-        1 => {
-            let colour = read_colour(input)?;
-            Ok(Material::Solid(colour))
-        }
-        2 => read_tile(input),
-        3 => read_embedding(input),
-        _ => {
-            let id = input.u32()?;
-            Ok(Material::Pass(id))
-        }
-    }
-}
-
-/// A resource, and the place in it of the area's first point.
-#[tactic(auto, unfolding(crate::specs::Reading::tile_at))]
-fn read_tile(input: &mut Reader) -> Result<Material, ReadError>
-    ensures { Gives (λ x. (x, input.new)) result (tile_at input.old) }
-{
-    let resource = input.u32_within(1, u32::MAX)?;
-    let tx = input.u16_within(0, MOST_SIDE - 1)?;
-    let ty = input.u16_within(0, MOST_SIDE - 1)?;
-    Ok(Material::Tile { resource, tx, ty })
-}
-
-/// A range of surfaces, and the colour where none is shown.
-#[tactic(auto, unfolding(crate::specs::Reading::embedding_at))]
-fn read_embedding(input: &mut Reader) -> Result<Material, ReadError>
-    ensures { Gives (λ x. (x, input.new)) result (embedding_at input.old) }
-{
-    let range = read_range(input)?;
-    let background = read_colour(input)?;
-    Ok(Material::Surface { range, background })
-}
-
-/// The quads of a file of this format.
+/// The passes of a frame in a file of this format, which has room for so many more quads.
 #[derive(Drop)]
-struct Quads {
+struct Passes {
     format: u8,
+    room: u16,
 }
 
-impl Field for Quads {
-    type Value = DrawQuad;
+#[tactic(auto, unfolding(crate::specs::Reading::pass_at, crate::specs::Reading::counted_at, crate::specs::Spelling::pass_bytes, vz_frame::specs::Fits::fits_pass), using(crate::proofs::Appended::appended))]
+impl Field for Passes {
+    type Value = RenderPass;
 
-    ghost value_at = { λ q. quad_at q.format };
+    ghost value_at = { λ p. pass_at p.format p.room };
 
-    fn least_bytes(&self) -> usize {
-        LEAST_QUAD_BYTES
+    ghost spelling = { λ p. pass_bytes p.format };
+
+    ghost is_fitting = { λ p. fits_pass p.format };
+
+    fn read(&self, input: &mut Reader) -> Result<RenderPass, ReadError> {
+        let id = input.u32()?;
+        let output = Rects.read(input)?;
+        let damage = Rects.read(input)?;
+        let count = input.u16_within(0, self.room)?;
+        let quads = Quads {
+            format: self.format,
+        };
+        let quads = read_many(&quads, usize::from(count), input)?;
+        let pass = RenderPass {
+            id,
+            output,
+            damage,
+            quads: List::from_vec(quads),
+        };
+        Ok(pass)
     }
 
-    fn read(&self, input: &mut Reader) -> Result<DrawQuad, ReadError> {
-        read_quad(self.format, input)
+    fn write(&self, pass: &RenderPass, out: &mut Writer) -> Result<(), AllocError> {
+        let quads = pass.quads.as_slice();
+        out.u32(pass.id)?;
+        Rects.write(&pass.output, out)?;
+        Rects.write(&pass.damage, out)?;
+        out.u16_count(quads.len())?;
+        write_many(
+            &Quads {
+                format: self.format,
+            },
+            quads,
+            out,
+        )
+    }
+
+    fn fits(&self, pass: &RenderPass) -> bool {
+        let quads = Quads {
+            format: self.format,
+        };
+        is_number(pass.id)
+            && Rects.fits(&pass.output)
+            && Rects.fits(&pass.damage)
+            && fit_all(&quads, pass.quads.as_slice())
     }
 }
 
-/// So many passes, with at most so many quads in all. At first room is made for no more of them than the bytes that are
-/// left may hold.
-fn read_passes(
-    alloc: Global,
-    format: u8,
-    count: u8,
-    input: &mut Reader,
-) -> Result<List<RenderPass>, ReadError>
-    ensures { Gives (λ x. (x, input.new)) result (passes_at format count 0 input.old) }
+/// So many passes, each with no more quads than those before it leave of all.
+fn read_passes(format: u8, count: u8, input: &mut Reader) -> Result<List<RenderPass>, ReadError>
+    ensures { Gives (λ x. (x, input.new)) result (passes_at format count 1024 input.old) }
 {
-    let room = input.left() / LEAST_PASS_BYTES;
-    let mut passes = Vec::with_capacity(alloc, usize::from(count).min(room))?;
-    let mut before = 0;
+    let mut passes = Vec::with_capacity(input.alloc(), usize::from(count).min(input.left()))?;
+    let mut room = MOST_QUADS;
     for _ in 0..count {
-        let pass = read_pass(alloc, format, before, input)?;
-        before += pass.quads.as_slice().len() as u16;
+        let pass = Passes { format, room }.read(input)?;
+        room -= pass.quads.as_slice().len() as u16;
         passes.push(pass)?;
     }
     Ok(List::from_vec(passes))
+}
+
+/// Whether the passes have at most 1,024 quads in all.
+fn have_few_quads(passes: &[RenderPass]) -> bool
+    ensures { result ≡ nat_le (sum_by (λ p. length p.quads) passes.now) 1024 }
+{
+    let mut room = usize::from(MOST_QUADS);
+    for pass in passes {
+        let count = pass.quads.as_slice().len();
+        if count > room {
+            return false;
+        }
+        room -= count;
+    }
+    true
 }

@@ -1,220 +1,149 @@
-//! Messages, and whole files.
+//! Messages, and blocks of pixels.
 ghost use Rattle.std.specs.Prelude.{◌≤◌};
+ghost use Rattle.vz_frame.specs.Fits.{fits_block, fits_message};
 ghost use Rattle.vz_codec.specs.Giving.{Gives};
-ghost use Rattle.vz_codec.specs.Reading.{texels_at, block_at, upload_at, submit_at, hierarchy_at, message_by, message_at, magic_at, version_at, header_at, ended, file_in};
+ghost use Rattle.vz_codec.specs.Reading.{texels_at, block_at, upload_at, submit_at, hierarchy_at, message_by, message_at};
+ghost use Rattle.vz_codec.specs.Spelling.{block_bytes, message_bytes};
 
 use crate::error::ReadError;
-use crate::fault::FileRule;
-use crate::field::{Field, many};
-use crate::frames::{MOST_SIDE, read_frame};
-use crate::parts::{COLOUR_BYTES, Colours, read_local, read_sink};
+use crate::field::{Field, fit_all, read_many, write_many};
+use crate::frames::Frames;
+use crate::ids::{Locals, Sinks, is_number};
+use crate::limits::MOST_SIDE;
 use crate::reader::Reader;
-use std::alloc::Global;
-use vz_frame::{ClientFile, List, Message};
-use vz_ids::FrameSinkId;
+use crate::shapes::Colours;
+use crate::writer::Writer;
+use std::alloc::AllocError;
+use vz_frame::Message;
 use vz_pixels::{BlockError, PixelBlock};
 
-/// The bytes `VIZC` as a number.
-const MAGIC: u32 = 0x435a_4956;
+/// The bytes of a texel.
+const TEXEL_BYTES: usize = 4;
 
-pub const NEWEST_FORMAT: u16 = 2;
+const UPLOAD: u8 = 1;
 
-pub const MOST_MESSAGES: u32 = 4096;
+const SUBMIT: u8 = 2;
 
-/// All of the bytes as a file.
-#[tactic(auto, unfolding(crate::specs::Reading::file_in))]
-pub fn read_file(alloc: Global, bytes: &[u8]) -> Result<ClientFile, ReadError>
-    ensures { Gives (λ f. f) result (file_in bytes.now) }
-{
-    let mut input = Reader::new(bytes);
-    read_magic(&mut input)?;
-    let format = read_version(&mut input)?;
-    let sink = read_header(&mut input)?;
-    let count = input.u32_within(0, MOST_MESSAGES)?;
-    let messages = many(
-        alloc,
-        &Messages { alloc, format },
-        count as usize,
-        &mut input,
-    )?;
-    let file = ClientFile {
-        format,
-        sink,
-        messages: List::from_vec(messages),
-    };
-    ended(file, &input)
-}
+const DID_NOT_PRODUCE: u8 = 3;
 
-/// The file, where no byte is left.
-#[tactic(auto, using(crate::proofs::Steps::ended_there, crate::proofs::Steps::ended_before))]
-fn ended(file: ClientFile, input: &Reader) -> Result<ClientFile, ReadError>
-    ensures { Gives (λ f. f) result (ended (file, input.now)) }
-{
-    let left = input.left();
-    if left > 0 {
-        return Err(ReadError::refused(left, FileRule::Trailing));
-    }
-    Ok(file)
-}
+const RECLAIM: u8 = 4;
 
-#[tactic(auto, unfolding(crate::specs::Reading::magic_at))]
-fn read_magic(input: &mut Reader) -> Result<u32, ReadError>
-    ensures { Gives (λ x. (x, input.new)) result (magic_at input.old) }
-{
-    let left = input.left();
-    let magic = input.u32()?;
-    if magic != MAGIC {
-        return Err(ReadError::refused(left, FileRule::Magic));
-    }
-    Ok(magic)
-}
+const SET_ROOT: u8 = 5;
 
-#[tactic(auto, unfolding(crate::specs::Reading::version_at))]
-fn read_version(input: &mut Reader) -> Result<u8, ReadError>
-    ensures { Gives (λ x. (x, input.new)) result (version_at input.old) }
-{
-    let left = input.left();
-    let version = input.u16()?;
-    if version < 1 || version > NEWEST_FORMAT {
-        return Err(ReadError::refused(left, FileRule::Version));
-    }
-    Ok(version as u8)
-}
+const HIERARCHY: u8 = 6;
 
-/// The sink of a file.
-#[tactic(auto, unfolding(crate::specs::Reading::header_at))]
-fn read_header(input: &mut Reader) -> Result<FrameSinkId, ReadError>
-    ensures { Gives (λ x. (x, input.new)) result (header_at input.old) }
-{
-    let left = input.left();
-    let sink = read_sink(input)?;
-    if sink.client_id == 0 && sink.sink_id == 0 {
-        return Err(ReadError::refused(left, FileRule::Limit));
-    }
-    Ok(sink)
-}
+const AWAIT: u8 = 7;
 
-/// The messages of a file of this format.
+const CLOSE: u8 = 8;
+
+/// The messages of a file of this format, each with a tag.
 #[derive(Drop)]
-struct Messages {
-    alloc: Global,
-    format: u8,
+pub struct Messages {
+    pub format: u8,
 }
 
+#[tactic(auto, unfolding(crate::specs::Reading::message_at, crate::specs::Spelling::message_bytes, vz_frame::specs::Fits::fits_message), using(crate::proofs::Appended::appended))]
 impl Field for Messages {
     type Value = Message;
 
     ghost value_at = { λ m. message_at m.format };
 
-    fn least_bytes(&self) -> usize {
-        1
-    }
+    ghost spelling = { λ m. message_bytes m.format };
+
+    ghost is_fitting = { λ m. fits_message m.format };
 
     fn read(&self, input: &mut Reader) -> Result<Message, ReadError> {
-        read_message(self.alloc, self.format, input)
+        let tag = input.tag(UPLOAD, CLOSE)?;
+        read_message_by(self.format, tag, input)
     }
-}
 
-#[tactic(auto, unfolding(crate::specs::Reading::message_at))]
-fn read_message(alloc: Global, format: u8, input: &mut Reader) -> Result<Message, ReadError>
-    ensures { Gives (λ x. (x, input.new)) result (message_at format input.old) }
-{
-    let tag = input.tag(1, 8)?;
-    read_message_by(alloc, format, tag, input)
+    fn write(&self, message: &Message, out: &mut Writer) -> Result<(), AllocError> {
+        match message {
+            Message::Upload { id, block } => {
+                out.u8(UPLOAD)?;
+                out.u32(*id)?;
+                Blocks.write(block, out)
+            }
+            Message::Submit { local, frame } => {
+                out.u8(SUBMIT)?;
+                Locals.write(local, out)?;
+                Frames {
+                    format: self.format,
+                }
+                .write(frame, out)
+            }
+            Message::DidNotProduce(number) => {
+                out.u8(DID_NOT_PRODUCE)?;
+                out.u32(*number)
+            }
+            Message::Reclaim => out.u8(RECLAIM),
+            Message::SetRoot(local) => {
+                out.u8(SET_ROOT)?;
+                Locals.write(local, out)
+            }
+            Message::Hierarchy { parent, child } => {
+                out.u8(HIERARCHY)?;
+                Sinks.write(parent, out)?;
+                Sinks.write(child, out)
+            }
+            Message::Await => out.u8(AWAIT),
+            Message::Close => out.u8(CLOSE),
+        }
+    }
+
+    fn fits(&self, message: &Message) -> bool {
+        let frames = Frames {
+            format: self.format,
+        };
+        match message {
+            Message::Upload { id, block } => 1 <= *id && Blocks.fits(block),
+            Message::Submit { local, frame } => Locals.fits(local) && frames.fits(frame),
+            Message::DidNotProduce(number) => is_number(*number),
+            Message::SetRoot(local) => Locals.fits(local),
+            Message::Hierarchy { parent, child } => Sinks.fits(parent) && Sinks.fits(child),
+            Message::Reclaim | Message::Await | Message::Close => true,
+        }
+    }
 }
 
 /// The message of a tag.
 #[tactic(auto, unfolding(crate::specs::Reading::message_by))]
-fn read_message_by(
-    alloc: Global,
-    format: u8,
-    tag: u8,
-    input: &mut Reader,
-) -> Result<Message, ReadError>
+fn read_message_by(format: u8, tag: u8, input: &mut Reader) -> Result<Message, ReadError>
     ensures { Gives (λ x. (x, input.new)) result (message_by format tag input.old) }
 {
     match tag {
-        1 => read_upload(alloc, input),
-        2 => read_submit(alloc, format, input),
-        3 => {
+        UPLOAD => read_upload(input),
+        SUBMIT => read_submit(format, input),
+        DID_NOT_PRODUCE => {
             let number = input.u32()?;
             Ok(Message::DidNotProduce(number))
         }
-        4 => Ok(Message::Reclaim),
-        5 => {
-            let local = read_local(input)?;
+        RECLAIM => Ok(Message::Reclaim),
+        SET_ROOT => {
+            let local = Locals.read(input)?;
             Ok(Message::SetRoot(local))
         }
-        6 => read_hierarchy(input),
-        7 => Ok(Message::Await),
+        HIERARCHY => read_hierarchy(input),
+        AWAIT => Ok(Message::Await),
         _ => Ok(Message::Close),
     }
 }
 
 #[tactic(auto, unfolding(crate::specs::Reading::upload_at))]
-fn read_upload(alloc: Global, input: &mut Reader) -> Result<Message, ReadError>
+fn read_upload(input: &mut Reader) -> Result<Message, ReadError>
     ensures { Gives (λ x. (x, input.new)) result (upload_at input.old) }
 {
     let id = input.u32_within(1, u32::MAX)?;
-    let block = read_block(alloc, input)?;
+    let block = Blocks.read(input)?;
     Ok(Message::Upload { id, block })
 }
 
-#[tactic(auto, unfolding(crate::specs::Reading::block_at))]
-fn read_block(alloc: Global, input: &mut Reader) -> Result<PixelBlock, ReadError>
-    ensures { Gives (λ x. (x, input.new)) result (block_at input.old) }
-{
-    let w = input.u16_within(1, MOST_SIDE)?;
-    let h = input.u16_within(1, MOST_SIDE)?;
-    read_texels(alloc, w, h, input)
-}
-
-/// The block of the texels of these sides.
-fn read_texels(alloc: Global, w: u16, h: u16, input: &mut Reader) -> Result<PixelBlock, ReadError>
-    requires w { (1 ≤ w) × (w ≤ 256) }
-    requires h { (1 ≤ h) × (h ≤ 256) }
-    ensures { Gives (λ x. (x, input.new)) result (texels_at w h input.old) }
-{
-    let count = usize::from(w) * usize::from(h);
-    let size = COLOUR_BYTES * count;
-    if input.left() < size {
-        return read_each_texel(alloc, w, h, input);
-    }
-    match PixelBlock::of_bytes(alloc, u32::from(w), u32::from(h), &input.rest()[..size]) {
-        Ok(block) => {
-            input.skip(size);
-            Ok(block)
-        }
-        Err(BlockError::Memory) => Err(ReadError::Memory),
-        Err(_) => read_each_texel(alloc, w, h, input),
-    }
-}
-
-/// The block of the texels of these sides, read one by one, which finds the first fault.
-fn read_each_texel(
-    alloc: Global,
-    w: u16,
-    h: u16,
-    input: &mut Reader,
-) -> Result<PixelBlock, ReadError>
-    requires w { (1 ≤ w) × (w ≤ 256) }
-    requires h { (1 ≤ h) × (h ≤ 256) }
-    ensures { Gives (λ x. (x, input.new)) result (texels_at w h input.old) }
-{
-    let count = usize::from(w) * usize::from(h);
-    let pixels = many(alloc, &Colours, count, input)?;
-    match PixelBlock::of_pixels(alloc, u32::from(w), u32::from(h), pixels) {
-        Ok(block) => Ok(block),
-        Err(_) => Err(ReadError::Memory),
-    }
-}
-
 #[tactic(auto, unfolding(crate::specs::Reading::submit_at))]
-fn read_submit(alloc: Global, format: u8, input: &mut Reader) -> Result<Message, ReadError>
+fn read_submit(format: u8, input: &mut Reader) -> Result<Message, ReadError>
     ensures { Gives (λ x. (x, input.new)) result (submit_at format input.old) }
 {
-    let local = read_local(input)?;
-    let frame = read_frame(alloc, format, input)?;
+    let local = Locals.read(input)?;
+    let frame = Frames { format }.read(input)?;
     Ok(Message::Submit { local, frame })
 }
 
@@ -222,7 +151,81 @@ fn read_submit(alloc: Global, format: u8, input: &mut Reader) -> Result<Message,
 fn read_hierarchy(input: &mut Reader) -> Result<Message, ReadError>
     ensures { Gives (λ x. (x, input.new)) result (hierarchy_at input.old) }
 {
-    let parent = read_sink(input)?;
-    let child = read_sink(input)?;
+    let parent = Sinks.read(input)?;
+    let child = Sinks.read(input)?;
     Ok(Message::Hierarchy { parent, child })
+}
+
+/// The sides of a block, and its texels row by row.
+#[derive(Drop)]
+struct Blocks;
+
+#[tactic(auto, unfolding(crate::specs::Reading::block_at, crate::specs::Spelling::block_bytes), using(crate::proofs::Appended::appended))]
+impl Field for Blocks {
+    type Value = PixelBlock;
+
+    ghost value_at = { λ _. block_at };
+
+    ghost spelling = { λ _. block_bytes };
+
+    ghost is_fitting = { λ _. fits_block };
+
+    fn read(&self, input: &mut Reader) -> Result<PixelBlock, ReadError> {
+        let w = input.u16_within(1, MOST_SIDE)?;
+        let h = input.u16_within(1, MOST_SIDE)?;
+        read_texels(w, h, input)
+    }
+
+    fn write(&self, block: &PixelBlock, out: &mut Writer) -> Result<(), AllocError> {
+        let pixels = block.pixels();
+        out.u16(block.w() as u16)?;
+        out.u16(block.h() as u16)?;
+        write_many(&Colours, pixels, out)
+    }
+
+    /// The sides of a block are 1 to 256.
+    fn fits(&self, block: &PixelBlock) -> bool {
+        let pixels = block.pixels();
+        pixels.len() == block.w() as usize * block.h() as usize && fit_all(&Colours, pixels)
+    }
+}
+
+/// The block of the texels of these sides.
+fn read_texels(w: u16, h: u16, input: &mut Reader) -> Result<PixelBlock, ReadError>
+    requires w { (1 ≤ w) × (w ≤ 256) }
+    requires h { (1 ≤ h) × (h ≤ 256) }
+    ensures { Gives (λ x. (x, input.new)) result (texels_at w h input.old) }
+{
+    let count = usize::from(w) * usize::from(h);
+    let size = TEXEL_BYTES * count;
+    if input.left() < size {
+        return read_each_texel(w, h, input);
+    }
+    match PixelBlock::of_bytes(
+        input.alloc(),
+        u32::from(w),
+        u32::from(h),
+        &input.rest()[..size],
+    ) {
+        Ok(block) => {
+            input.skip(size);
+            Ok(block)
+        }
+        Err(BlockError::Memory) => Err(ReadError::Memory),
+        Err(_) => read_each_texel(w, h, input),
+    }
+}
+
+/// The block of the texels of these sides, read one by one, which finds the first fault.
+fn read_each_texel(w: u16, h: u16, input: &mut Reader) -> Result<PixelBlock, ReadError>
+    requires w { (1 ≤ w) × (w ≤ 256) }
+    requires h { (1 ≤ h) × (h ≤ 256) }
+    ensures { Gives (λ x. (x, input.new)) result (texels_at w h input.old) }
+{
+    let count = usize::from(w) * usize::from(h);
+    let pixels = read_many(&Colours, count, input)?;
+    match PixelBlock::of_pixels(input.alloc(), u32::from(w), u32::from(h), pixels) {
+        Ok(block) => Ok(block),
+        Err(_) => Err(ReadError::Memory),
+    }
 }

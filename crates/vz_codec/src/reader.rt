@@ -2,25 +2,26 @@
 ghost use Rattle.std.specs.Prelude.{◌≡◌, ◌<◌, ◌≤◌, length, drop};
 ghost use Rattle.std.specs.Int.{w8, w16, w32, w128};
 ghost use Rattle.vz_frame.specs.Fits.{in_reach};
-ghost use Rattle.vz_codec.specs.Giving.{Gives, front_at, four_at};
-ghost use Rattle.vz_codec.specs.Reading.{number_at, limited_at, tag_at, signed_at, coordinate_at};
+ghost use Rattle.vz_codec.specs.Giving.{Gives, four_at};
+ghost use Rattle.vz_codec.specs.Reading.{front_at, number_at, limited_at, tag_at, signed_at, coordinate_at};
 
 use crate::error::ReadError;
 use crate::fault::FileRule;
+use crate::limits::REACH;
 use byteorder::{ByteOrder, LittleEndian};
+use std::alloc::Global;
 use std::marker::Model;
-
-/// No coordinate lies further out, and no side is longer.
-pub const REACH: i32 = 16384;
 
 const SHORT: ReadError = ReadError::Wrong {
     left: 0,
     rule: FileRule::Short,
 };
 
-/// Bytes that are still to be read. After an error what is left of them is not said.
+/// Bytes that are still to be read, and the allocator for what is read. After an error what is left
+/// of the bytes is not said.
 #[derive(Drop)]
 pub struct Reader<'a> {
+    alloc: Global,
     rest: &'a [u8],
 }
 
@@ -33,17 +34,24 @@ impl<'a> Model for Reader<'a> {
 }
 
 impl<'a> Reader<'a> {
-    pub fn new(bytes: &'a [u8]) -> Reader<'a>
+    pub fn new(alloc: Global, bytes: &'a [u8]) -> Reader<'a>
         ensures { result ≡ bytes.entry.now }
     {
-        Reader { rest: bytes }
+        Reader { alloc, rest: bytes }
+    }
+
+    pub fn alloc(&self) -> Global {
+        self.alloc
     }
 
     /// A reader of the same bytes.
     pub fn ahead(&self) -> Reader<'a>
         ensures { result ≡ self.now }
     {
-        Reader { rest: self.rest }
+        Reader {
+            alloc: self.alloc,
+            rest: self.rest,
+        }
     }
 
     /// How many bytes are left.

@@ -1,7 +1,6 @@
 //! Bytes that are written field by field, the numbers low byte first.
 ghost use Rattle.std.specs.Prelude.{◌≡◌, [], ◌++◌, OnOk};
-ghost use Rattle.std.specs.Int.{w128, to_le_bytes};
-ghost use Rattle.vz_codec.specs.Spelling.{u8_bytes, u16_bytes, u32_bytes, i32_bytes};
+ghost use Rattle.vz_codec.specs.Spelling.{u8_bytes, u16_bytes, u32_bytes, u128_bytes, i32_bytes};
 
 use std::alloc::{AllocError, Global};
 use std::marker::Model;
@@ -20,6 +19,7 @@ impl Model for Writer {
     ghost view = { λ w. w.bytes.items };
 }
 
+#[tactic(auto, unfolding(crate::specs::Spelling::u16_bytes, crate::specs::Spelling::u32_bytes, crate::specs::Spelling::u128_bytes, crate::specs::Spelling::i32_bytes))]
 impl Writer {
     pub fn new(alloc: Global) -> Writer
         ensures { result ≡ [] }
@@ -46,7 +46,28 @@ impl Writer {
     pub fn u8(&mut self, n: u8) -> Result<(), AllocError>
         ensures { OnOk result (self.new ≡ self.old ++ u8_bytes n) }
     {
-        self.all(&[n])
+        self.all(&n.to_le_bytes())
+    }
+
+    /// The low byte of a count.
+    pub fn u8_count(&mut self, n: usize) -> Result<(), AllocError>
+        ensures { OnOk result (self.new ≡ self.old ++ u8_bytes n) }
+    {
+        self.all(&n.to_le_bytes()[..1])
+    }
+
+    /// The low two bytes of a count.
+    pub fn u16_count(&mut self, n: usize) -> Result<(), AllocError>
+        ensures { OnOk result (self.new ≡ self.old ++ u16_bytes n) }
+    {
+        self.all(&n.to_le_bytes()[..2])
+    }
+
+    /// The low four bytes of a count.
+    pub fn u32_count(&mut self, n: usize) -> Result<(), AllocError>
+        ensures { OnOk result (self.new ≡ self.old ++ u32_bytes n) }
+    {
+        self.all(&n.to_le_bytes()[..4])
     }
 
     pub fn u16(&mut self, n: u16) -> Result<(), AllocError>
@@ -62,7 +83,7 @@ impl Writer {
     }
 
     pub fn u128(&mut self, n: u128) -> Result<(), AllocError>
-        ensures { OnOk result (self.new ≡ self.old ++ to_le_bytes w128 n) }
+        ensures { OnOk result (self.new ≡ self.old ++ u128_bytes n) }
     {
         self.all(&n.to_le_bytes())
     }

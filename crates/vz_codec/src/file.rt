@@ -1,0 +1,151 @@
+//! Whole files.
+ghost use Rattle.std.specs.Prelude.{◌≡◌, ◌++◌, ◌&&◌, ◌==◌, not, nat_le, length, OnOk};
+ghost use Rattle.std.specs.List.{list_all};
+ghost use Rattle.vz_frame.specs.Fits.{within, fits_sink, fits_message, fits_file};
+ghost use Rattle.vz_codec.specs.Giving.{Gives};
+ghost use Rattle.vz_codec.specs.Reading.{magic_at, version_at, header_at, ended, file_in};
+ghost use Rattle.vz_codec.specs.Spelling.{magic, file_bytes};
+
+use crate::error::ReadError;
+use crate::fault::FileRule;
+use crate::field::{Field, fit_all, read_many, write_many};
+use crate::ids::Sinks;
+use crate::limits::{MOST_MESSAGES, NEWEST_FORMAT};
+use crate::messages::Messages;
+use crate::reader::Reader;
+use crate::writer::Writer;
+use std::alloc::{AllocError, Global};
+use vz_frame::{ClientFile, List};
+use vz_ids::FrameSinkId;
+
+/// The bytes `VIZC` as a number.
+const MAGIC: u32 = 0x435a_4956;
+
+/// All of the bytes as a file.
+#[tactic(auto, unfolding(crate::specs::Reading::file_in, crate::specs::Reading::file_at, crate::specs::Reading::counted_at))]
+pub fn read_file(alloc: Global, bytes: &[u8]) -> Result<ClientFile, ReadError>
+    ensures { Gives (λ f. f) result (file_in bytes.now) }
+{
+    let mut input = Reader::new(alloc, bytes);
+    read_magic(&mut input)?;
+    let format = read_version(&mut input)?;
+    let sink = read_header(&mut input)?;
+    let count = input.u32_within(0, MOST_MESSAGES)?;
+    let messages = read_many(&Messages { format }, count as usize, &mut input)?;
+    let file = ClientFile {
+        format,
+        sink,
+        messages: List::from_vec(messages),
+    };
+    ended(file, &input)
+}
+
+/// The file, where no byte is left.
+#[tactic(auto, using(crate::proofs::Steps::ended_there, crate::proofs::Steps::ended_before))]
+fn ended(file: ClientFile, input: &Reader) -> Result<ClientFile, ReadError>
+    ensures { Gives (λ f. f) result (ended (file, input.now)) }
+{
+    let left = input.left();
+    if left > 0 {
+        return Err(ReadError::refused(left, FileRule::Trailing));
+    }
+    Ok(file)
+}
+
+#[tactic(auto, unfolding(crate::specs::Reading::magic_at))]
+fn read_magic(input: &mut Reader) -> Result<u32, ReadError>
+    ensures { Gives (λ x. (x, input.new)) result (magic_at input.old) }
+{
+    let left = input.left();
+    let magic = input.u32()?;
+    if magic != MAGIC {
+        return Err(ReadError::refused(left, FileRule::Magic));
+    }
+    Ok(magic)
+}
+
+#[tactic(auto, unfolding(crate::specs::Reading::version_at))]
+fn read_version(input: &mut Reader) -> Result<u8, ReadError>
+    ensures { Gives (λ x. (x, input.new)) result (version_at input.old) }
+{
+    let left = input.left();
+    let version = input.u16()?;
+    if version < 1 || version > u16::from(NEWEST_FORMAT) {
+        return Err(ReadError::refused(left, FileRule::Version));
+    }
+    Ok(version as u8)
+}
+
+/// The sink of a file.
+#[tactic(auto, unfolding(crate::specs::Reading::header_at))]
+fn read_header(input: &mut Reader) -> Result<FrameSinkId, ReadError>
+    ensures { Gives (λ x. (x, input.new)) result (header_at input.old) }
+{
+    let left = input.left();
+    let sink = Sinks.read(input)?;
+    if sink.client_id == 0 && sink.sink_id == 0 {
+        return Err(ReadError::refused(left, FileRule::Limit));
+    }
+    Ok(sink)
+}
+
+#[tactic(auto, unfolding(crate::specs::Spelling::file_bytes), using(crate::proofs::Appended::appended))]
+pub fn write_file(file: &ClientFile, out: &mut Writer) -> Result<(), AllocError>
+    ensures { OnOk result (out.new ≡ out.old ++ file_bytes file.now) }
+{
+    let messages = file.messages.as_slice();
+    write_magic(out)?;
+    out.u16(u16::from(file.format))?;
+    Sinks.write(&file.sink, out)?;
+    out.u32_count(messages.len())?;
+    write_many(
+        &Messages {
+            format: file.format,
+        },
+        messages,
+        out,
+    )
+}
+
+#[tactic(auto, unfolding(crate::specs::Spelling::u32_bytes))]
+fn write_magic(out: &mut Writer) -> Result<(), AllocError>
+    ensures { OnOk result (out.new ≡ out.old ++ magic) }
+{
+    out.u32(MAGIC)
+}
+
+/// Whether a file fits, that is, every number of it is in the range that a message file has for it:
+///
+/// - The format is 1 or 2, and in format 1 every mode is Over. The sink is not (0, 0).
+/// - There are at most 4,096 messages.
+/// - A frame has at most 16 dependencies, 64 references, 64 resources and 16 passes, and 1,024
+///   quads in all of them. Its deadline is at most 64.
+/// - No number of a local id is 0, nor is its token. No resource is 0.
+/// - A rectangle's numbers are all 0, or its place is within 16,384 either way and its sides are
+///   1 to 16,384. A quad's offset is within 16,384 either way.
+/// - The sides of blocks and resources are 1 to 256, and a tile's first texel is at most (255, 255).
+#[tactic(auto, unfolding(vz_frame::specs::Fits::fits_file))]
+pub fn fits(file: &ClientFile) -> bool
+    ensures { result ≡ fits_file file.now }
+{
+    let format = file.format;
+    let messages = file.messages.as_slice();
+    is_format(format)
+        && is_file_sink(file.sink)
+        && messages.len() <= MOST_MESSAGES as usize
+        && fit_all(&Messages { format }, messages)
+}
+
+/// Whether a number is that of a format.
+fn is_format(format: u8) -> bool
+    ensures { result ≡ within 1 2 format }
+{
+    1 <= format && format <= NEWEST_FORMAT
+}
+
+/// Whether a sink may be that of a file.
+fn is_file_sink(sink: FrameSinkId) -> bool
+    ensures { result ≡ (fits_sink sink && not ((sink.client_id == 0) && (sink.sink_id == 0))) }
+{
+    sink.client_id != 0 || sink.sink_id != 0
+}

@@ -1,0 +1,265 @@
+//! Quads, their blend modes and their materials.
+ghost use Rattle.std.specs.Prelude.{◌≡◌, ◌++◌, ◌&&◌, ◌==◌, nat_lt, nat_le, ◌^◌, OnOk};
+ghost use Rattle.vz_frame.specs.Fits.{in_reach, fits_mode, fits_material, fits_quad};
+ghost use Rattle.vz_codec.specs.Giving.{Gives};
+ghost use Rattle.vz_codec.specs.Reading.{tile_at, embedding_at, material_by, material_at, mode_at, quad_at};
+ghost use Rattle.vz_codec.specs.Spelling.{place_bytes, material_bytes, mode_bytes, quad_bytes};
+
+use crate::error::ReadError;
+use crate::fault::FileRule;
+use crate::field::{Field, Optional};
+use crate::ids::{Ranges, is_number};
+use crate::limits::MOST_SIDE;
+use crate::reader::{Reader, in_reach};
+use crate::shapes::{Colours, Rects};
+use crate::writer::Writer;
+use std::alloc::AllocError;
+use vz_frame::{Blend, DrawQuad, Material};
+use vz_geom::Point;
+
+/// The quads of a file of this format.
+#[derive(Drop)]
+pub struct Quads {
+    pub format: u8,
+}
+
+#[tactic(auto, unfolding(crate::specs::Reading::quad_at, crate::specs::Spelling::quad_bytes, vz_frame::specs::Fits::fits_quad), using(crate::proofs::Appended::appended))]
+impl Field for Quads {
+    type Value = DrawQuad;
+
+    ghost value_at = { λ q. quad_at q.format };
+
+    ghost spelling = { λ q. quad_bytes q.format };
+
+    ghost is_fitting = { λ q. fits_quad q.format };
+
+    fn read(&self, input: &mut Reader) -> Result<DrawQuad, ReadError> {
+        let x = input.coordinate()?;
+        let y = input.coordinate()?;
+        let area = Rects.read(input)?;
+        let visible = Rects.read(input)?;
+        let clip = Optional(Rects).read(input)?;
+        let opacity = input.u8()?;
+        let blend = Modes {
+            format: self.format,
+        }
+        .read(input)?;
+        let material = Materials.read(input)?;
+        let quad = DrawQuad {
+            offset: Point { x, y },
+            area,
+            visible,
+            clip,
+            opacity,
+            blend,
+            material,
+        };
+        Ok(quad)
+    }
+
+    fn write(&self, quad: &DrawQuad, out: &mut Writer) -> Result<(), AllocError> {
+        let modes = Modes {
+            format: self.format,
+        };
+        write_place(quad, out)?;
+        out.u8(quad.opacity)?;
+        modes.write(&quad.blend, out)?;
+        Materials.write(&quad.material, out)
+    }
+
+    fn fits(&self, quad: &DrawQuad) -> bool {
+        let modes = Modes {
+            format: self.format,
+        };
+        fits_offset(&quad.offset)
+            && Rects.fits(&quad.area)
+            && Rects.fits(&quad.visible)
+            && Optional(Rects).fits(&quad.clip)
+            && is_byte(quad.opacity)
+            && modes.fits(&quad.blend)
+            && Materials.fits(&quad.material)
+    }
+}
+
+fn fits_offset(offset: &Point) -> bool
+    ensures { result ≡ (in_reach offset.now.x && in_reach offset.now.y) }
+{
+    in_reach(offset.x) && in_reach(offset.y)
+}
+
+/// A quad's offset, its rectangles and its clip.
+#[tactic(auto, using(crate::proofs::Appended::appended))]
+fn write_place(quad: &DrawQuad, out: &mut Writer) -> Result<(), AllocError>
+    ensures { OnOk result (out.new ≡ out.old ++ place_bytes quad.now) }
+{
+    out.i32(quad.offset.x)?;
+    out.i32(quad.offset.y)?;
+    Rects.write(&quad.area, out)?;
+    Rects.write(&quad.visible, out)?;
+    Optional(Rects).write(&quad.clip, out)
+}
+
+/// Each `u8` is a byte.
+fn is_byte(number: u8) -> bool
+    ensures { result ≡ nat_lt number 256 }
+{
+    true
+}
+
+const OVER: u8 = 0;
+
+const SRC: u8 = 1;
+
+const DST_IN: u8 = 2;
+
+/// Modes by their numbers, which a file of format 1 does not spell.
+#[derive(Drop)]
+struct Modes {
+    format: u8,
+}
+
+#[tactic(auto, unfolding(crate::specs::Reading::mode_at))]
+impl Field for Modes {
+    type Value = Blend;
+
+    ghost value_at = { λ m. mode_at m.format };
+
+    ghost spelling = { λ m. mode_bytes m.format };
+
+    ghost is_fitting = { λ m. fits_mode m.format };
+
+    fn read(&self, input: &mut Reader) -> Result<Blend, ReadError> {
+        if self.format == 1 {
+            return Ok(Blend::Over);
+        }
+        let number = input.tag(OVER, DST_IN)?;
+        let mode = match number {
+            OVER => Blend::Over,
+            SRC => Blend::Src,
+            _ => Blend::DstIn,
+        };
+        Ok(mode)
+    }
+
+    fn write(&self, mode: &Blend, out: &mut Writer) -> Result<(), AllocError> {
+        if self.format == 1 {
+            return Ok(());
+        }
+        match mode {
+            Blend::Over => out.u8(OVER),
+            Blend::Src => out.u8(SRC),
+            Blend::DstIn => out.u8(DST_IN),
+        }
+    }
+
+    fn fits(&self, mode: &Blend) -> bool {
+        match mode {
+            Blend::Over => true,
+            Blend::Src | Blend::DstIn => self.format != 1,
+        }
+    }
+}
+
+const SOLID: u8 = 1;
+
+const TILE: u8 = 2;
+
+const SURFACE: u8 = 3;
+
+const PASS: u8 = 4;
+
+/// A tag, and what the material of the tag has.
+#[derive(Drop)]
+struct Materials;
+
+#[tactic(auto, unfolding(crate::specs::Reading::material_at, crate::specs::Spelling::material_bytes, vz_frame::specs::Fits::fits_material), using(crate::proofs::Appended::appended))]
+impl Field for Materials {
+    type Value = Material;
+
+    ghost value_at = { λ _. material_at };
+
+    ghost spelling = { λ _. material_bytes };
+
+    ghost is_fitting = { λ _. fits_material };
+
+    fn read(&self, input: &mut Reader) -> Result<Material, ReadError> {
+        let tag = input.tag(SOLID, PASS)?;
+        read_material_by(tag, input)
+    }
+
+    fn write(&self, material: &Material, out: &mut Writer) -> Result<(), AllocError> {
+        match material {
+            Material::Solid(colour) => {
+                out.u8(SOLID)?;
+                Colours.write(colour, out)
+            }
+            Material::Tile { resource, tx, ty } => {
+                out.u8(TILE)?;
+                out.u32(*resource)?;
+                out.u16(*tx)?;
+                out.u16(*ty)
+            }
+            Material::Surface { range, background } => {
+                out.u8(SURFACE)?;
+                Ranges.write(range, out)?;
+                Colours.write(background, out)
+            }
+            Material::Pass(id) => {
+                out.u8(PASS)?;
+                out.u32(*id)
+            }
+        }
+    }
+
+    fn fits(&self, material: &Material) -> bool {
+        match material {
+            Material::Solid(colour) => Colours.fits(colour),
+            Material::Tile { resource, tx, ty } => 1 <= *resource
+                && *tx < MOST_SIDE
+                && *ty < MOST_SIDE,
+            Material::Surface { range, background } => Ranges.fits(range)
+                && Colours.fits(background),
+            Material::Pass(id) => is_number(*id),
+        }
+    }
+}
+
+/// The material of a tag.
+#[tactic(auto, unfolding(crate::specs::Reading::material_by))]
+fn read_material_by(tag: u8, input: &mut Reader) -> Result<Material, ReadError>
+    ensures { Gives (λ x. (x, input.new)) result (material_by tag input.old) }
+{
+    match tag {
+        SOLID => {
+            let colour = Colours.read(input)?;
+            Ok(Material::Solid(colour))
+        }
+        TILE => read_tile(input),
+        SURFACE => read_embedding(input),
+        _ => {
+            let id = input.u32()?;
+            Ok(Material::Pass(id))
+        }
+    }
+}
+
+/// A resource, and the place in it of the area's first point.
+#[tactic(auto, unfolding(crate::specs::Reading::tile_at))]
+fn read_tile(input: &mut Reader) -> Result<Material, ReadError>
+    ensures { Gives (λ x. (x, input.new)) result (tile_at input.old) }
+{
+    let resource = input.u32_within(1, u32::MAX)?;
+    let tx = input.u16_within(0, MOST_SIDE - 1)?;
+    let ty = input.u16_within(0, MOST_SIDE - 1)?;
+    Ok(Material::Tile { resource, tx, ty })
+}
+
+/// A range of surfaces, and the colour where none is shown.
+#[tactic(auto, unfolding(crate::specs::Reading::embedding_at))]
+fn read_embedding(input: &mut Reader) -> Result<Material, ReadError>
+    ensures { Gives (λ x. (x, input.new)) result (embedding_at input.old) }
+{
+    let range = Ranges.read(input)?;
+    let background = Colours.read(input)?;
+    Ok(Material::Surface { range, background })
+}

@@ -1,0 +1,162 @@
+//! Rectangles and colours.
+ghost use Rattle.std.specs.Prelude.{◌≡◌, ◌++◌, ◌&&◌, is_some, IfSome, OnOk};
+ghost use Rattle.vz_codec.specs.Reading.{rect_at, colour_at};
+ghost use Rattle.vz_codec.specs.Sides.{rectangle};
+ghost use Rattle.vz_codec.specs.Spelling.{rect_bytes, colour_bytes};
+ghost use Rattle.vz_frame.specs.Fits.{fits_rect, fits_colour, in_reach, is_side, is_zero};
+
+use crate::error::ReadError;
+use crate::fault::FileRule;
+use crate::field::Field;
+use crate::limits::REACH;
+use crate::reader::{Reader, in_reach};
+use crate::writer::Writer;
+use std::alloc::AllocError;
+use vz_geom::Rect;
+use vz_pixels::Pixel;
+
+/// A place and two sides, all four 0 or in their ranges.
+#[derive(Drop)]
+pub struct Rects;
+
+#[tactic(auto, unfolding(crate::specs::Reading::rect_at), using(crate::proofs::Appended::appended))]
+impl Field for Rects {
+    type Value = Rect;
+
+    ghost value_at = { λ _. rect_at };
+
+    ghost spelling = { λ _. rect_bytes };
+
+    ghost is_fitting = { λ _. fits_rect };
+
+    fn read(&self, input: &mut Reader) -> Result<Rect, ReadError> {
+        let left = input.left();
+        let x = input.i32()?;
+        let y = input.i32()?;
+        let w = input.i32()?;
+        let h = input.i32()?;
+        match rect_of(&Sides { x, y, w, h }) {
+            Some(rect) => Ok(rect),
+            None => Err(ReadError::refused(left, FileRule::Limit)),
+        }
+    }
+
+    fn write(&self, rect: &Rect, out: &mut Writer) -> Result<(), AllocError> {
+        write_sides(&sides_of(rect), out)
+    }
+
+    fn fits(&self, rect: &Rect) -> bool {
+        are_rect(&sides_of(rect))
+    }
+}
+
+/// A place and two sides, of any numbers.
+#[derive(Drop)]
+struct Sides {
+    x: i32,
+    y: i32,
+    w: i32,
+    h: i32,
+}
+
+/// The numbers of a rectangle.
+fn sides_of(rect: &Rect) -> Sides
+    ensures { rectangle result ≡ rect.now }
+{
+    Sides {
+        x: rect.x(),
+        y: rect.y(),
+        w: rect.w(),
+        h: rect.h(),
+    }
+}
+
+#[tactic(auto, using(crate::proofs::Appended::appended))]
+fn write_sides(sides: &Sides, out: &mut Writer) -> Result<(), AllocError>
+    ensures { OnOk result (out.new ≡ out.old ++ rect_bytes (rectangle sides.now)) }
+{
+    out.i32(sides.x)?;
+    out.i32(sides.y)?;
+    out.i32(sides.w)?;
+    out.i32(sides.h)
+}
+
+/// The rectangle of these numbers, where they are one.
+#[inline(always)]
+fn rect_of(sides: &Sides) -> Option<Rect>
+    ensures fits { is_some result ≡ fits_rect (rectangle sides.now) }
+    ensures value { IfSome result (λ r. r ≡ rectangle sides.now) }
+{
+    if are_rect(sides) {
+        Some(Rect::new(sides.x, sides.y, sides.w, sides.h))
+    } else {
+        None
+    }
+}
+
+/// Whether all four numbers are 0, or they are a place in reach and two sides.
+fn are_rect(sides: &Sides) -> bool
+    ensures { result ≡ fits_rect (rectangle sides.now) }
+{
+    is_zero(sides) || is_placed(sides)
+}
+
+/// Whether all four numbers are 0.
+fn is_zero(sides: &Sides) -> bool
+    ensures { result ≡ (is_zero sides.now.x && is_zero sides.now.y && is_zero sides.now.w && is_zero sides.now.h) }
+{
+    sides.x == 0 && sides.y == 0 && sides.w == 0 && sides.h == 0
+}
+
+/// Whether they are a place in reach and two sides.
+fn is_placed(sides: &Sides) -> bool
+    ensures { result ≡ (in_reach sides.now.x && in_reach sides.now.y && is_side sides.now.w && is_side sides.now.h) }
+{
+    in_reach(sides.x) && in_reach(sides.y) && is_side(sides.w) && is_side(sides.h)
+}
+
+/// Whether a number may be a side.
+fn is_side(number: i32) -> bool
+    ensures { result ≡ is_side number }
+{
+    1 <= number && number <= REACH
+}
+
+/// Red, green, blue and alpha, premultiplied.
+#[derive(Drop)]
+pub struct Colours;
+
+impl Field for Colours {
+    type Value = Pixel;
+
+    ghost value_at = { λ _. colour_at };
+
+    ghost spelling = { λ _. colour_bytes };
+
+    ghost is_fitting = { λ _. fits_colour };
+
+    #[tactic(auto, unfolding(crate::specs::Reading::colour_at))]
+    fn read(&self, input: &mut Reader) -> Result<Pixel, ReadError> {
+        let left = input.left();
+        let [r, g, b, a] = input.four()?;
+        match Pixel::new(r, g, b, a) {
+            Some(colour) => Ok(colour),
+            None => Err(ReadError::refused(left, FileRule::Colour)),
+        }
+    }
+
+    fn write(&self, colour: &Pixel, out: &mut Writer) -> Result<(), AllocError> {
+        out.all(&[colour.r(), colour.g(), colour.b(), colour.a()])
+    }
+
+    fn fits(&self, colour: &Pixel) -> bool {
+        fits_colour(*colour)
+    }
+}
+
+/// Each pixel is premultiplied.
+fn fits_colour(colour: Pixel) -> bool
+    ensures { result ≡ fits_colour colour }
+{
+    true
+}
