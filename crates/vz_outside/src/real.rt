@@ -1,8 +1,9 @@
 //! The files of the system and standard output, as a shelf and a sink: no bytes are known, and faults are counted.
-ghost use Rattle.std.specs.Prelude.{◌≡◌, ◌<◌, ◌≤◌, [], Ok, Err, IfOk, IfErr, OnOk, IsErrOf, MatchResult, length, vec_len, vec_capacity};
+ghost use Rattle.std.specs.Prelude.{◌≡◌, ◌<◌, ◌≤◌, [], Some, Ok, Err, IfOk, IfErr, OnOk, OnErr, IsErrOf, MatchResult, length, take, vec_len, vec_capacity};
 ghost use Rattle.vz_outside.specs.Faults.{HasCause, one_more};
-ghost use Rattle.vz_outside.specs.Outer.{handle_mode};
-ghost use Rattle.vz_outside.specs.Shelved.{Reading, Writing};
+ghost use Rattle.vz_outside.specs.Outer.{handle_mode, outer_shelf, outer_sink};
+ghost use Rattle.vz_outside.specs.Shelved.{Reading, Writing, IsAtEnd, Consumes, Appends, ReadsOnly, KeepsOthers, IsUntouched, Behaves};
+ghost use Rattle.vz_outside.specs.Sunk as sinks;
 ghost use Rattle.vz_outside.specs.declared.shelf.ShelfError.TheVariants.{Failed};
 
 use crate::opening::room_for_slot;
@@ -76,11 +77,37 @@ impl<R: Files + AllocGlobal + Drop> Shelf for RealShelf<R> {
         Ok(slot)
     }
 
-    fn read(&mut self, slot: u32, into: &mut [u8]) -> Result<usize, ShelfError> {
+    /// Its only error is `Failed`.
+    fn read(&mut self, slot: u32, into: &mut [u8]) -> Result<usize, ShelfError>
+        requires open { (outer_shelf self.old).mode slot ≡ Some Reading }
+        requires piece { 0 < length into.old }
+        ensures error { IfErr result (λ e. e ≡ Failed) }
+        ensures count { IfOk result (λ n. n ≤ length into.old) }
+        ensures moved { IfOk result (λ n.
+            Consumes (take n into.new) slot (outer_shelf self.old) (outer_shelf self.new)) }
+        ensures ended { IfOk result (λ n. n ≡ 0 → IsAtEnd slot (outer_shelf self.old)) }
+        ensures kept { ReadsOnly slot (outer_shelf self.old) (outer_shelf self.new) }
+        ensures untouched { OnErr result (IsUntouched (outer_shelf self.old) (outer_shelf self.new)) }
+        ensures behaves { Behaves (outer_shelf self.old) (outer_shelf self.new) result }
+    {
         self.slots[slot as usize].read(into, &mut self.faults)
     }
 
-    fn write(&mut self, slot: u32, from: &[u8]) -> Result<usize, ShelfError> {
+    /// Its only error is `Failed`.
+    fn write(&mut self, slot: u32, from: &[u8]) -> Result<usize, ShelfError>
+        requires open { (outer_shelf self.old).mode slot ≡ Some Writing }
+        requires piece { 0 < length from.now }
+        ensures error { IfErr result (λ e. e ≡ Failed) }
+        ensures some { IfOk result (λ n. 0 < n) }
+        ensures count { IfOk result (λ n. n ≤ length from.now) }
+        ensures appended { IfOk result (λ n.
+            Appends (take n from.now) ((outer_shelf self.old).name slot)
+            (outer_shelf self.old) (outer_shelf self.new)) }
+        ensures others { KeepsOthers ((outer_shelf self.old).name slot)
+            (outer_shelf self.old) (outer_shelf self.new) }
+        ensures untouched { OnErr result (IsUntouched (outer_shelf self.old) (outer_shelf self.new)) }
+        ensures behaves { Behaves (outer_shelf self.old) (outer_shelf self.new) result }
+    {
         self.slots[slot as usize].write(from, &mut self.faults)
     }
 }
@@ -181,7 +208,17 @@ impl<R: Print + Drop> Sink for RealSink<R> {
 
     ghost faultless_known = { λ sink faultless. absurd (false≢true faultless) };
 
-    fn write(&mut self, from: &[u8]) -> Result<usize, ShelfError> {
+    /// Its only error is `Failed`.
+    fn write(&mut self, from: &[u8]) -> Result<usize, ShelfError>
+        requires piece { 0 < length from.now }
+        ensures error { IfErr result (λ e. e ≡ Failed) }
+        ensures some { IfOk result (λ n. 0 < n) }
+        ensures count { IfOk result (λ n. n ≤ length from.now) }
+        ensures taken { IfOk result (λ n.
+            sinks.Takes (take n from.now) (outer_sink self.old) (outer_sink self.new)) }
+        ensures untouched { OnErr result (sinks.KeepsBytes (outer_sink self.old) (outer_sink self.new)) }
+        ensures behaves { sinks.Behaves (outer_sink self.old) (outer_sink self.new) result }
+    {
         match self.rt.write_some(from) {
             Ok(count) if count > 0 => Ok(count),
             _ => Err(fail(&mut self.faults)),
