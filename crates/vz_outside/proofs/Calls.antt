@@ -42,8 +42,8 @@ bytes_then_bytes a b c call first then = record {
 pub reads_then_reads : (one : ℕ) (a b c : Shelved) → IsCall a b → ReadsOnly one a b → ReadsOnly one b c → ReadsOnly one a c
 reads_then_reads one a b c call first then = record {
   files = files_then_files a b c call first.files then.files;
-  rests = λ told slot mode other is.
-      then.rests (known_after a b call told) slot mode other (call.slots slot mode is) ∙ first.rests told slot mode other is;
+  rests = λ told slot mode is other.
+      then.rests (known_after a b call told) slot mode (call.slots slot mode is) other ∙ first.rests told slot mode is other;
 }
 
 -- no call keeps the others

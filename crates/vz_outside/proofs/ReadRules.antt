@@ -38,7 +38,7 @@ read_ok shelf slot room piece n file next kept wide stood many moved = record {
   ended = λ none told. before ∙ drop_all next (file_at shelf.files file).1 (short none);
   kept = record {
     files = λ told name. refl;
-    rests = λ told k mode other is.
+    rests = λ told k mode is other.
         ap (λ o. option_map_or (slot_rest shelf.files) o []) (get-set_other shelf.slots slot (reading_from file (next + n)) k other);
   };
   untouched = tt;
@@ -88,7 +88,7 @@ read_stopped error old new slot room piece stops =
       count = tt;
       moved = tt;
       ended = tt;
-      kept = record { files = same.bytes.files; rests = λ told k mode other is. same.bytes.rests told k mode is };
+      kept = record { files = same.bytes.files; rests = λ told k mode is other. same.bytes.rests told k mode is };
       untouched = same;
       behaves = stopped_behaves error old new stops;
     }

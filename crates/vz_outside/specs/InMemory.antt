@@ -104,13 +104,14 @@ with_slot shelf slot = record shelf { slots = shelf.slots ++ slot ∷ []; calls 
 
 -- the files with that of a name emptied, or made where it was not there
 abbrev pub emptied : List File → Name → List File
-emptied files name = option_map_or (λ place. slice_set files place (name, [])) (first_named files name) (files ++ (name, []) ∷ [])
+emptied files name =
+    option_map_or (λ place. slice_set files place (name, [])) (first_named files name) (files ++ (name, []) ∷ [])
 
 -- the files with more bytes at the end of one of them
 abbrev pub extended : List File → ℕ → List ℕ → List File
 extended files place more = slice_set files place ((file_at files place).0, (file_at files place).1 ++ more)
 
--- what a call answers and leaves that stops before its work: its number is one of those that fail, or there is no memory
+-- what a call leaves that stops before its work: its number is one of those that fail, or there is no memory
 abbrev pub Stops : InMemory → ShelfError → InMemory → Type 0
 Stops old Failed new = (is_failing old.calls ≡ true) × (new ≡ after_fault old)
 Stops old Memory new = (is_failing old.calls ≡ false) × (new ≡ after_call old)
@@ -141,7 +142,10 @@ pub record Moves (old : InMemory) (slot : ℕ) (room : ℕ) (piece : List ℕ) (
   pub stood : slice_get old.slots slot ≡ Some (reading_from file next)
   pub many : n ≡ min old.piece (min room (length (file_at old.files file).1 - next))
   pub moved : drop next (file_at old.files file).1 ≡ take n piece ++ drop (next + n) (file_at old.files file).1
-  pub left : new ≡ record old { slots = slice_set old.slots slot (reading_from file (next + n)); calls = after_one_call old.calls }
+  pub left : new ≡ record old {
+    slots = slice_set old.slots slot (reading_from file (next + n));
+    calls = after_one_call old.calls;
+  }
 
 -- what a read of a slot to a piece of so many bytes answers and leaves
 abbrev pub Reads : InMemory → ℕ → ℕ → List ℕ → Result ℕ ShelfError → InMemory → Type 0

@@ -34,6 +34,10 @@ pub record Shelved : Type 0 where
 abbrev pub IfKnown : Shelved → Type 0 → Type 0
 IfKnown shelf P = IsTrue shelf.is_known → P
 
+-- something holds of each open slot
+abbrev pub EachOpen : Shelved → (ℕ → Type 0) → Type 0
+EachOpen shelf P = (slot : ℕ) (mode : Mode) → shelf.mode slot ≡ Some mode → P slot
+
 -- a name has these bytes
 abbrev pub Holds : List ℕ → Name → Shelved → Type 0
 Holds bytes name shelf = IfKnown shelf (shelf.bytes name ≡ Some bytes)
@@ -82,17 +86,17 @@ SameFiles old new = IfKnown old ((name : Name) → new.bytes name ≡ old.bytes 
 -- the bytes of every name stay, and the rests of the slots that were open
 pub record KeepsBytes (old new : Shelved) : Type 0 where
   pub files : SameFiles old new
-  pub rests : IfKnown old ((slot : ℕ) (mode : Mode) → old.mode slot ≡ Some mode → new.rest slot ≡ old.rest slot)
+  pub rests : IfKnown old (EachOpen old (λ slot. new.rest slot ≡ old.rest slot))
 
 -- the bytes of every name stay, and the rests of the other slots that were open
 pub record ReadsOnly (one : ℕ) (old new : Shelved) : Type 0 where
   pub files : SameFiles old new
-  pub rests : IfKnown old ((slot : ℕ) (mode : Mode) → slot ≢ one → old.mode slot ≡ Some mode → new.rest slot ≡ old.rest slot)
+  pub rests : IfKnown old (EachOpen old (λ slot. slot ≢ one → new.rest slot ≡ old.rest slot))
 
 -- of names other than one the bytes stay, and the rests of their slots
 pub record KeepsOthers (one : Name) (old new : Shelved) : Type 0 where
   pub files : IfKnown old ((name : Name) → name ≢ one → new.bytes name ≡ old.bytes name)
-  pub rests : IfKnown old ((slot : ℕ) (mode : Mode) → old.mode slot ≡ Some mode → old.name slot ≢ one → new.rest slot ≡ old.rest slot)
+  pub rests : IfKnown old (EachOpen old (λ slot. old.name slot ≢ one → new.rest slot ≡ old.rest slot))
 
 -- no slot was opened, and no bytes and no rest changed: what a failed call leaves
 pub record IsUntouched (old new : Shelved) : Type 0 where
@@ -104,7 +108,7 @@ pub record IsCall (old new : Shelved) : Type 0 where
   -- the slots that were open stay open as they were
   pub slots : (slot : ℕ) (mode : Mode) → old.mode slot ≡ Some mode → new.mode slot ≡ Some mode
   -- under their names
-  pub names : IfKnown old ((slot : ℕ) (mode : Mode) → old.mode slot ≡ Some mode → new.name slot ≡ old.name slot)
+  pub names : IfKnown old (EachOpen old (λ slot. new.name slot ≡ old.name slot))
   -- names and bytes are known where they were before
   pub known : new.is_known ≡ old.is_known
   -- the count never falls

@@ -87,7 +87,8 @@ impl<R: Files + AllocGlobal + Drop> Shelf for RealShelf<R> {
             Consumes (take n into.new) slot (outer_shelf self.old) (outer_shelf self.new)) }
         ensures ended { IfOk result (λ n. n ≡ 0 → IsAtEnd slot (outer_shelf self.old)) }
         ensures kept { ReadsOnly slot (outer_shelf self.old) (outer_shelf self.new) }
-        ensures untouched { OnErr result (IsUntouched (outer_shelf self.old) (outer_shelf self.new)) }
+        ensures untouched { OnErr result
+            (IsUntouched (outer_shelf self.old) (outer_shelf self.new)) }
         ensures behaves { Behaves (outer_shelf self.old) (outer_shelf self.new) result }
     {
         self.slots[slot as usize].read(into, &mut self.faults)
@@ -105,7 +106,8 @@ impl<R: Files + AllocGlobal + Drop> Shelf for RealShelf<R> {
             (outer_shelf self.old) (outer_shelf self.new)) }
         ensures others { KeepsOthers ((outer_shelf self.old).name slot)
             (outer_shelf self.old) (outer_shelf self.new) }
-        ensures untouched { OnErr result (IsUntouched (outer_shelf self.old) (outer_shelf self.new)) }
+        ensures untouched { OnErr result
+            (IsUntouched (outer_shelf self.old) (outer_shelf self.new)) }
         ensures behaves { Behaves (outer_shelf self.old) (outer_shelf self.new) result }
     {
         self.slots[slot as usize].write(from, &mut self.faults)
@@ -123,7 +125,8 @@ impl<F: Read + Write + Drop> Handle<F> {
         ensures mode { handle_mode self.new ≡ handle_mode self.old }
         ensures count { IfOk result (λ n. n ≤ length into.old) }
         ensures bytes { ReadConsumes
-            (handle_bytes F.remaining self.old) (handle_bytes F.remaining self.new) result into.new }
+            (handle_bytes F.remaining self.old) (handle_bytes F.remaining self.new)
+            result into.new }
         ensures error { IfErr result (λ e. e ≡ Failed) }
         ensures cause { HasCause faults.old faults.new result }
     {
@@ -216,7 +219,8 @@ impl<R: Print + Drop> Sink for RealSink<R> {
         ensures count { IfOk result (λ n. n ≤ length from.now) }
         ensures taken { IfOk result (λ n.
             sinks.Takes (take n from.now) (outer_sink self.old) (outer_sink self.new)) }
-        ensures untouched { OnErr result (sinks.KeepsBytes (outer_sink self.old) (outer_sink self.new)) }
+        ensures untouched { OnErr result
+            (sinks.KeepsBytes (outer_sink self.old) (outer_sink self.new)) }
         ensures behaves { sinks.Behaves (outer_sink self.old) (outer_sink self.new) result }
     {
         match self.rt.write_some(from) {

@@ -18,7 +18,8 @@ pub trait Sink {
         requires piece { 0 < length from.now }
         ensures some { IfOk result (λ n. 0 < n) }
         ensures count { IfOk result (λ n. n ≤ length from.now) }
-        ensures taken { IfOk result (λ n. Takes (take n from.now) (sunk self.old) (sunk self.new)) }
+        ensures taken { IfOk result (λ n.
+            Takes (take n from.now) (sunk self.old) (sunk self.new)) }
         ensures untouched { OnErr result (KeepsBytes (sunk self.old) (sunk self.new)) }
         ensures behaves { Behaves (sunk self.old) (sunk self.new) result };
 

@@ -73,7 +73,8 @@ pub fn write_all<F: Shelf>(shelf: &mut F, slot: u32, bytes: &[u8]) -> Result<(),
         (F.shelved shelf.old) (F.shelved shelf.new)) }
     ensures begun { OnErr result (AppendsFront bytes.now ((F.shelved shelf.old).name slot)
         (F.shelved shelf.old) (F.shelved shelf.new)) }
-    ensures others { KeepsOthers ((F.shelved shelf.old).name slot) (F.shelved shelf.old) (F.shelved shelf.new) }
+    ensures others { KeepsOthers ((F.shelved shelf.old).name slot)
+        (F.shelved shelf.old) (F.shelved shelf.new) }
     ensures behaves { Behaves (F.shelved shelf.old) (F.shelved shelf.new) result }
 {
     let mut written = 0;
