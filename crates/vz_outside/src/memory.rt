@@ -43,9 +43,19 @@ impl Model for MemoryShelf {
 
     ghost Value = { InMemory };
 
-    ghost view = { λ s. record { files = files_of s.files.items; slots = s.slots.items; calls = s.calls; piece = s.piece } };
+    ghost view = { λ s. record {
+      files = files_of s.files.items;
+      slots = s.slots.items;
+      calls = s.calls;
+      piece = s.piece;
+    } };
 
-    ghost invariant = { λ s. IsKept (record { files = files_of s.files.items; slots = s.slots.items; calls = s.calls; piece = s.piece }) };
+    ghost invariant = { λ s. IsKept (record {
+      files = files_of s.files.items;
+      slots = s.slots.items;
+      calls = s.calls;
+      piece = s.piece;
+    }) };
 }
 
 impl MemoryShelf {
