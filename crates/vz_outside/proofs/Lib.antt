@@ -1,6 +1,5 @@
 pub mod Rises
 pub mod Calls
-pub mod Fronts
 mod Writes
 mod Prints
 mod Fills
@@ -15,3 +14,4 @@ mod CreateRules
 mod ReadRules
 mod WriteRules
 mod OuterCalls
+mod CollectRules
