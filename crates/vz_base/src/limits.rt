@@ -71,7 +71,8 @@ pub const MOST_ROUNDS: u32 = 1_000;
 /// How many quads a drawing meets at most, with repetition. It is too much where there are more.
 pub const MOST_WEIGHT: u32 = 65_536;
 
-/// How many surfaces a path from the root of a drawing has at most. It is too much where one has more.
+/// How many surfaces a path from the root of a drawing has at most. It is too much where one has
+/// more.
 pub const MOST_ON_PATH: usize = 64;
 
 /// For how many begin-frames a surface that was not named is temporary.
@@ -79,3 +80,12 @@ pub const TEMPORARY_TICKS: u32 = 16;
 
 /// The last number of a begin-frame. It is repeated, so that a deadline after it has a number too.
 pub const LAST_TICK: u32 = 4_294_967_231;
+
+/// The greatest number that a message file or a log has.
+pub const GREATEST_NUMBER: u32 = 4_294_967_295;
+
+/// The newest format of a message file. The oldest is 1.
+pub const NEWEST_FORMAT: u8 = 2;
+
+/// How many bytes the name of a file has at most. It has at least one.
+pub const MOST_NAME_BYTES: usize = 255;

@@ -6,8 +6,8 @@ use Rattle.std.proofs.lemmas.List.Sums.{sum_by-cons}
 use Rattle.vz_frame.specs.declared.frame.CompositorFrame.{CompositorFrame}
 use Rattle.vz_frame.specs.declared.frame.Metadata.{Metadata}
 use Rattle.vz_frame.specs.declared.frame.RenderPass.{RenderPass}
-use Rattle.vz_frame.specs.declared.frame.Blend.{Blend}
-use Rattle.vz_frame.specs.declared.frame.Blend.TheVariants.{Over}
+use Rattle.vz_frame.specs.declared.blend.Blend.{Blend}
+use Rattle.vz_frame.specs.declared.blend.Blend.TheVariants.{Over}
 use Rattle.vz_frame.specs.declared.frame.Material.{Material}
 use Rattle.vz_frame.specs.declared.frame.Material.TheVariants as material
 use Rattle.vz_frame.specs.Fits.{within, is_number, fits_surface, fits_optional, fits_range, fits_colour, fits_material, fits_mode, fits_quad, fits_pass, fits_listing, fits_frame}
