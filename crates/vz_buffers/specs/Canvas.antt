@@ -1,5 +1,6 @@
 -- The pixels of a display.
 use Rattle.std.specs.Prelude.{◌≡◌, ℕ, ℤ, pos, nat_abs, ◌+◌, ◌*◌, ◌≤ℤ◌, List, ◌++◌, length, take, drop}
+use Rattle.vz_base.specs.declared.limits.TheConstants.{GREATEST_DISPLAY_SIDE}
 use Rattle.vz_geom.specs.declared.Size.{Size}
 use Rattle.vz_pixels.specs.Colour.{Colour}
 
@@ -8,12 +9,12 @@ pub record Canvas : Type 0 where
   pub size : Size
   pub pixels : List Colour
 
--- both sides are 1 to 2,048 pixels
+-- both sides are from 1 to the limit
 pub record IsCanvasSize (size : Size) : Type 0 where
   pub wide : pos 1 ≤ℤ size.w
-  pub not_too_wide : size.w ≤ℤ pos 2048
+  pub not_too_wide : size.w ≤ℤ pos GREATEST_DISPLAY_SIDE
   pub high : pos 1 ≤ℤ size.h
-  pub not_too_high : size.h ≤ℤ pos 2048
+  pub not_too_high : size.h ≤ℤ pos GREATEST_DISPLAY_SIDE
 
 -- how many pixels there are
 abbrev pub pixel_count : Size → ℕ

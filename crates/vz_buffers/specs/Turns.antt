@@ -2,6 +2,7 @@
 use Rattle.std.specs.Prelude.{ℕ, ◌+◌, ◌-◌, ◌%◌, ◌<◌, ◌≤◌, nat_le, Option, Some, None, unwrap_or, List, [], ◌∷◌, length, map, take, replicate}
 use Rattle.std.specs.Prelude.{slice_get, if◌then◌else◌}
 use Rattle.std.specs.Option.{option_map}
+use Rattle.vz_base.specs.declared.limits.TheConstants.{MOST_BUFFERS}
 use Rattle.vz_geom.specs.declared.Size.{Size}
 use Rattle.vz_geom.specs.Rectangle.{Rectangle, no_rectangle, sized, join, bound}
 use Rattle.vz_buffers.specs.Canvas.{IsCanvasSize}
@@ -12,11 +13,11 @@ pub record Turns : Type 0 where
   pub next : ℕ
   pub stales : List (Option Rectangle)
 
--- 1 to 4 buffers of a display, of which one is next
+-- from 1 to the most buffers of a display, of which one is next
 pub record AreTurns (t : Turns) : Type 0 where
   pub sides : IsCanvasSize t.size
   pub from : 1 ≤ length t.stales
-  pub upto : length t.stales ≤ 4
+  pub upto : length t.stales ≤ MOST_BUFFERS
   pub next : t.next < length t.stales
 
 -- so many buffers that were never painted

@@ -7,8 +7,9 @@ use crate::Steps;
 use std::alloc::Global;
 use std::marker::Model;
 use std::sync::ledger::Ledger;
+use vz_base::Memory;
 use vz_geom::Size;
-use vz_pixels::{Memory, Pixel};
+use vz_pixels::Pixel;
 
 /// The pixels of a display, row by row from the top, each row from left to right.
 #[derive(Drop)]
@@ -37,9 +38,7 @@ impl Buffer {
         ensures err { OnErr result (steps.new ≡ steps.old) }
     {
         let count = pixels_of(&size);
-        let Ok(pixels) = vec![in alloc; Pixel::black(); count] else {
-            return Err(Memory);
-        };
+        let pixels = vec![in alloc; Pixel::black(); count]?;
         steps.add(count as u64);
         Ok(Buffer { size, pixels })
     }
@@ -59,7 +58,8 @@ impl Buffer {
         requires top { pos 0 ≤ℤ y }
         requires bottom { y <ℤ self.old.size.h }
         ensures size { self.new.size ≡ self.old.size }
-        ensures put { self.new.pixels ≡ span_put self.old.pixels (place_of self.old.size x y) row.now }
+        ensures put { self.new.pixels
+            ≡ span_put self.old.pixels (place_of self.old.size x y) row.now }
         ensures counted { steps.new ≡ steps.old + length row.now }
     {
         let at = place(&self.size, x, y);

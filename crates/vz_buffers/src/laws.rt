@@ -9,6 +9,8 @@ ghost use Rattle.vz_buffers.specs.Turns.{stale_of, damaged, turns_after, stale_w
 /// last one, and the buffers are next in turn.
 pub fn damages_accumulate()
     ensures stale { (size : Size) (count : ℕ) (r : Rectangle) (before : List Rectangle) → 1 ≤ count
-        → stale_of (damaged (turns_after size count before) r) ≡ stale_with size count (r ∷ before) }
-    ensures next { (size : Size) (count : ℕ) (damages : List Rectangle) → 1 ≤ count → (turns_after size count damages).next ≡ length damages % count }
+        → stale_of (damaged (turns_after size count before) r)
+        ≡ stale_with size count (r ∷ before) }
+    ensures next { (size : Size) (count : ℕ) (damages : List Rectangle) → 1 ≤ count
+        → (turns_after size count damages).next ≡ length damages % count }
 {}

@@ -1,10 +1,11 @@
-//! A display's buffers of pixels, the queue in which they are used, and the counter of the pixels that are put into it.
+//! A display's buffers of pixels, the queue in which they are used, and the counter of the pixels
+//! that are put into them.
 #![tactic(auto)]
 
-pub mod buffer;
+mod buffer;
 pub mod laws;
-pub mod queue;
-pub mod steps;
+mod queue;
+mod steps;
 
 pub use buffer::Buffer;
 pub use queue::Queue;

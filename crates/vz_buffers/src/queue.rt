@@ -7,10 +7,8 @@ ghost use Rattle.vz_buffers.specs.Turns.{AreTurns, first_turns, stale_of, damage
 
 use arrayvec::ArrayVec;
 use std::marker::Model;
+use vz_base::limits::MOST_BUFFERS;
 use vz_geom::{Rect, Size};
-
-/// How many buffers a display has at most.
-pub const MOST: usize = 4;
 
 /// The buffers of a display, which are used in turn: which one is next, and what of each is
 /// stale, since it changed after the buffer was painted.
@@ -18,7 +16,7 @@ pub const MOST: usize = 4;
 pub struct Queue {
     size: Size,
     next: u32,
-    stales: ArrayVec<Option<Rect>, MOST>,
+    stales: ArrayVec<Option<Rect>, MOST_BUFFERS>,
 }
 
 impl Model for Queue {
@@ -28,14 +26,19 @@ impl Model for Queue {
 
     ghost view = { λ q. record { size = q.size; next = q.next; stales = q.stales.items } };
 
-    ghost invariant = { λ q. AreTurns (record { size = q.size; next = q.next; stales = q.stales.items }) };
+    ghost invariant = { λ q. AreTurns (record {
+      size = q.size;
+      next = q.next;
+      stales = q.stales.items;
+    }) };
 }
 
 impl Queue {
-    /// So many buffers that were never painted. Conditions: 1 to 4 buffers, and a display's size.
+    /// So many buffers that were never painted. Conditions: 1 to `MOST_BUFFERS` buffers, and
+    /// a display's size.
     pub fn new(count: u32, size: Size) -> Queue
         requires from { 1 ≤ count }
-        requires upto { count ≤ 4 }
+        requires upto { count ≤ MOST_BUFFERS }
         requires size { IsCanvasSize size }
         ensures { result ≡ first_turns size count }
     {
@@ -85,8 +88,8 @@ impl Queue {
 }
 
 /// So many buffers of which all is stale.
-fn never_painted(count: u32) -> ArrayVec<Option<Rect>, MOST>
-    requires { count ≤ 4 }
+fn never_painted(count: u32) -> ArrayVec<Option<Rect>, MOST_BUFFERS>
+    requires { count ≤ MOST_BUFFERS }
     ensures { result.items ≡ replicate count None }
 {
     let mut stales = ArrayVec::new();
@@ -97,10 +100,11 @@ fn never_painted(count: u32) -> ArrayVec<Option<Rect>, MOST>
 }
 
 /// The last of them comes first, with nothing stale.
-fn turn(stales: &mut ArrayVec<Option<Rect>, MOST>)
+fn turn(stales: &mut ArrayVec<Option<Rect>, MOST_BUFFERS>)
     requires some { 1 ≤ length stales.old.items }
-    requires room { length stales.old.items ≤ MOST }
-    ensures { stales.new.items ≡ Some no_rectangle ∷ take (length stales.old.items - 1) stales.old.items }
+    requires room { length stales.old.items ≤ MOST_BUFFERS }
+    ensures { stales.new.items
+        ≡ Some no_rectangle ∷ take (length stales.old.items - 1) stales.old.items }
 {
     stales.pop();
     stales.insert(0, Some(nothing()));

@@ -4,7 +4,8 @@ ghost use Rattle.std.specs.Prelude.{◌≡◌, ◌+◌, ◌-◌, ◌^◌, min};
 use std::marker::Model;
 use std::sync::ledger::{Blank, Book, Ledger, Share};
 
-/// How many steps were taken: a step is one pixel put into a buffer. It only counts: nothing sets it back.
+/// How many steps were taken: a step is one pixel put into a buffer. It only counts: nothing sets
+/// it back, and only a buffer counts in it.
 #[derive(Drop)]
 pub struct Steps<L: Ledger> {
     book: Book<L>,
@@ -40,8 +41,8 @@ impl<L: Ledger> Steps<L> {
         }
     }
 
-    /// Counts so many steps more.
-    pub fn add(&mut self, count: u64)
+    /// Counts so many steps more. The buffer alone does: it counts what it puts.
+    pub(crate) fn add(&mut self, count: u64)
         ensures { self.new ≡ self.old + count }
     {
         self.book.add(&mut self.share, count);

@@ -9,8 +9,8 @@ use Rattle.vz_ids.specs.declared.SurfaceRange.{SurfaceRange}
 use Rattle.vz_pixels.specs.Colour.{Colour}
 use Rattle.vz_frame.specs.declared.frame.CompositorFrame.{CompositorFrame}
 use Rattle.vz_frame.specs.declared.frame.RenderPass.{RenderPass}
-use Rattle.vz_frame.specs.declared.frame.Blend.{Blend}
-use Rattle.vz_frame.specs.declared.frame.Blend.TheVariants.{Over, Src, DstIn}
+use Rattle.vz_frame.specs.declared.blend.Blend.{Blend}
+use Rattle.vz_frame.specs.declared.blend.Blend.TheVariants.{Over, Src, DstIn}
 use Rattle.vz_frame.specs.declared.frame.Material.{Material}
 use Rattle.vz_frame.specs.declared.frame.Material.TheVariants as material
 use Rattle.vz_frame.specs.Fits.{within, fits_rect, is_number, fits_surface, fits_range, fits_colour, fits_optional, fits_material, fits_mode, fits_quad, fits_pass, fits_listing, fits_frame}

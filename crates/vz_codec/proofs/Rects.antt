@@ -2,7 +2,8 @@
 use Rattle.std.proofs.Common.{◌≡◌, ℤ, pos, ◌+ℤ◌, ◌-ℤ◌, ◌≤ℤ◌, int_lt, Bool, true, false, ◌&&◌, inl, inr, arith, w32, to_z, of_z, SFits}
 use Rattle.std.proofs.lemmas.Bool.{and_parts, or_cases}
 use Rattle.std.proofs.lemmas.Int.{ints, to_z-of_z}
-use Rattle.vz_geom.specs.Rectangle.{Rectangle, with_sides, edge_limit}
+use Rattle.vz_base.specs.declared.limits.TheConstants.{GREATEST_EDGE}
+use Rattle.vz_geom.specs.Rectangle.{Rectangle, with_sides}
 use Rattle.vz_frame.specs.Fits.{fits_rect, is_zero, in_reach, is_side}
 
 abbrev pub rectangle : ℤ → ℤ → ℤ → ℤ → Rectangle
@@ -12,10 +13,10 @@ rectangle x y w h = record { x = x; y = y; w = w; h = h }
 pub record HasRoom (x y w h : ℤ) : Type 0 where
   pub wide : pos 0 ≤ℤ w
   pub high : pos 0 ≤ℤ h
-  pub left : (pos 0 -ℤ edge_limit) ≤ℤ x
-  pub top : (pos 0 -ℤ edge_limit) ≤ℤ y
-  pub right : (x +ℤ w) ≤ℤ edge_limit
-  pub bottom : (y +ℤ h) ≤ℤ edge_limit
+  pub left : (pos 0 -ℤ GREATEST_EDGE) ≤ℤ x
+  pub top : (pos 0 -ℤ GREATEST_EDGE) ≤ℤ y
+  pub right : (x +ℤ w) ≤ℤ GREATEST_EDGE
+  pub bottom : (y +ℤ h) ≤ℤ GREATEST_EDGE
   pub own : with_sides x y w h ≡ rectangle x y w h
 
 zero_is : (z : ℤ) → is_zero z ≡ true → z ≡ pos 0

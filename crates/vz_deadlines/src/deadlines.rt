@@ -6,9 +6,9 @@ ghost use Rattle.vz_deadlines.specs.Timing.{waits, without, due_at, left_at};
 
 use std::alloc::Global;
 use std::marker::Model;
+use vz_base::Memory;
 use vz_frame::Room;
 use vz_ids::Sub;
-use vz_pixels::Memory;
 
 /// A submission that waits, and the tick at which it is due.
 #[derive(Clone, Copy)]
@@ -57,10 +57,8 @@ impl Deadlines {
         ensures succeeds { n ≤ self.old.spare → IsOk result }
         ensures spare { self.old.spare ≤ self.new.spare }
     {
-        match self.list.try_reserve(n) {
-            Ok(()) => Ok(()),
-            Err(_) => Err(Memory),
-        }
+        self.list.try_reserve(n)?;
+        Ok(())
     }
 
     /// A submission waits until a tick. For want of memory, and only then, it answers Memory
@@ -73,14 +71,10 @@ impl Deadlines {
         ensures succeeds { 0 < self.old.spare → IsOk result }
         ensures spare { self.old.spare ≤ self.new.spare + 1 }
     {
-        match self.list.try_reserve(1) {
-            Ok(()) => {
-                self.list.push_reserved(Due { sub: s, tick });
-                self.soonest = smaller(self.soonest, tick);
-                Ok(())
-            }
-            Err(_) => Err(Memory),
-        }
+        self.list.try_reserve(1)?;
+        self.list.push_reserved(Due { sub: s, tick });
+        self.soonest = smaller(self.soonest, tick);
+        Ok(())
     }
 
     /// A submission waits no longer. Nothing changes where it does not wait.

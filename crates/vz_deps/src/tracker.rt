@@ -7,9 +7,9 @@ ghost use Rattle.vz_deps.specs.Tracking.{is_blocked, without, freed, still, meet
 use crate::meeting::{free, is_of_sink, is_same, meets, meets_any};
 use std::alloc::Global;
 use std::marker::Model;
+use vz_base::Memory;
 use vz_frame::Room;
 use vz_ids::{FrameSinkId, Sub, SurfaceId};
-use vz_pixels::Memory;
 
 /// A dependency that a submission lacks.
 #[derive(Clone, Copy)]
@@ -55,13 +55,9 @@ impl Tracker {
         ensures succeeds { n ≤ self.old.spare → IsOk result }
         ensures spare { self.old.spare ≤ self.new.spare }
     {
-        if self.subs.try_reserve(n).is_err() {
-            return Err(Memory);
-        }
-        match self.lacks.try_reserve(n) {
-            Ok(()) => Ok(()),
-            Err(_) => Err(Memory),
-        }
+        self.subs.try_reserve(n)?;
+        self.lacks.try_reserve(n)?;
+        Ok(())
     }
 
     /// How many are blocked.

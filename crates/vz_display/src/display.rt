@@ -9,21 +9,20 @@ use arrayvec::ArrayVec;
 use std::alloc::Global;
 use std::marker::Model;
 use std::sync::ledger::Ledger;
+use vz_base::Memory;
+use vz_base::limits::MOST_BUFFERS;
 use vz_buffers::{Buffer, Queue, Steps};
 use vz_geom::Size;
 use vz_machine::Picture;
-use vz_pixels::{Memory, Pixel};
+use vz_pixels::Pixel;
 
-/// How many buffers a display has at most.
-const MOST: usize = 4;
-
-/// A display of 1 to 4 buffers that are painted in turn. A buffer is made at its first use, and
-/// painted where it is stale alone.
+/// A display of 1 to `MOST_BUFFERS` buffers that are painted in turn. A buffer is made at its
+/// first use, and painted where it is stale alone.
 #[derive(Drop)]
 pub struct Display {
     size: Size,
     queue: Queue,
-    kept: ArrayVec<Option<Buffer>, MOST>,
+    kept: ArrayVec<Option<Buffer>, MOST_BUFFERS>,
     painted: u64,
 }
 
@@ -35,14 +34,19 @@ impl Model for Display {
 
     ghost view = { λ d. record { turns = d.queue; kept = d.kept.items; painted = d.painted } };
 
-    ghost invariant = { λ d. IsDisplayed (record { turns = d.queue; kept = d.kept.items; painted = d.painted }) × (d.size ≡ d.queue.size) };
+    ghost invariant = { λ d. IsDisplayed (record {
+      turns = d.queue;
+      kept = d.kept.items;
+      painted = d.painted;
+    }) × (d.size ≡ d.queue.size) };
 }
 
 impl Display {
-    /// A display that shows nothing yet. Conditions: 1 to 4 buffers, and a display's size.
+    /// A display that shows nothing yet. Conditions: 1 to `MOST_BUFFERS` buffers, and a
+    /// display's size.
     pub fn new(size: Size, buffers: u32) -> Display
         requires from { 1 ≤ buffers }
-        requires upto { buffers ≤ 4 }
+        requires upto { buffers ≤ MOST_BUFFERS }
         requires size { IsCanvasSize size }
         ensures { result ≡ first_displayed size buffers }
     {
@@ -65,7 +69,8 @@ impl Display {
     ) -> Result<(), Memory>
         requires { (P.pictured p.now).size ≡ self.old.turns.size }
         ensures shown { OnOk result (self.new ≡ shown self.old (P.pictured p.now)) }
-        ensures counted { OnOk result (steps.new ≡ steps.old + steps_for self.old (P.pictured p.now).changed) }
+        ensures counted { OnOk result
+            (steps.new ≡ steps.old + steps_for self.old (P.pictured p.now).changed) }
     {
         let _proper = p.size();
         let damage = p.damage();
@@ -105,8 +110,8 @@ impl Display {
 }
 
 /// So many buffers that were never made.
-fn never_made(count: u32) -> ArrayVec<Option<Buffer>, MOST>
-    requires { count ≤ 4 }
+fn never_made(count: u32) -> ArrayVec<Option<Buffer>, MOST_BUFFERS>
+    requires { count ≤ MOST_BUFFERS }
     ensures { result.items ≡ replicate count None }
 {
     let mut kept = ArrayVec::new();
@@ -120,7 +125,7 @@ fn never_made(count: u32) -> ArrayVec<Option<Buffer>, MOST>
 fn next_buffer<L: Ledger>(
     alloc: Global,
     size: Size,
-    kept: &mut ArrayVec<Option<Buffer>, MOST>,
+    kept: &mut ArrayVec<Option<Buffer>, MOST_BUFFERS>,
     steps: &mut Steps<L>,
 ) -> Result<(Buffer, u64), Memory>
     requires size { IsCanvasSize size }
@@ -129,7 +134,8 @@ fn next_buffer<L: Ledger>(
     ensures size { IfOk result (λ r. r.0.size ≡ size) }
     ensures pixels { IfOk result (λ r. r.0.pixels ≡ pixels_in size (last_in kept.old.items)) }
     ensures made { IfOk result (λ r. r.1 ≡ making_in size (last_in kept.old.items)) }
-    ensures counted { OnOk result (steps.new ≡ steps.old + making_in size (last_in kept.old.items)) }
+    ensures counted { OnOk result
+        (steps.new ≡ steps.old + making_in size (last_in kept.old.items)) }
 {
     match kept.pop() {
         Some(Some(buffer)) => Ok((buffer, 0)),

@@ -1,47 +1,56 @@
 //! Laws of a display, each the contract of a function that does nothing.
-ghost use Rattle.std.specs.Prelude.{◌≡◌, ℕ, ◌+◌, ◌≤◌, Some, List, [], ◌∷◌};
+ghost use Rattle.std.specs.Prelude.{◌≡◌, ℕ, ◌+◌, ◌≤◌, Some, List, [], ◌∷◌, ◌++◌};
 ghost use Rattle.vz_geom.specs.declared.Point.{Point};
 ghost use Rattle.vz_geom.specs.declared.Size.{Size};
 ghost use Rattle.vz_geom.specs.Rectangle.{Rectangle};
 ghost use Rattle.vz_pixels.specs.Colour.{Colour};
 ghost use Rattle.vz_buffers.specs.Canvas.{IsCanvasSize};
+ghost use Rattle.vz_rules.specs.declared.entry.Entry.{Entry};
+ghost use Rattle.vz_rules.specs.declared.entry.Reply.TheVariants.{Drawn};
+ghost use Rattle.vz_rules.specs.Plan.{Plan};
+ghost use Rattle.vz_rules.specs.Step.{world};
+ghost use Rattle.vz_rules.specs.Scene.{scene_of};
 ghost use Rattle.vz_rules.specs.World.{Scene};
 ghost use Rattle.vz_rules.specs.Paint.{full};
-ghost use Rattle.vz_rules.specs.Frames.{Shot, written_of, painted_of};
+ghost use Rattle.vz_rules.specs.Frames.{Shot, shot_of, written, painted, written_of, painted_of};
 ghost use Rattle.vz_machine.specs.Pictured.{Pictured};
 ghost use Rattle.vz_display.specs.Displayed.{first_displayed, display_after, shown, steps_for, current, buffer_with};
+ghost use Rattle.vz_display.specs.Displayed.{display_at, IsNext};
 
 /// A display that shows the pictures of drawings one after the other has the newest frame that is
 /// written in its current buffer, and takes one step for each point that is painted.
 pub fn drawings_are_shown()
-    ensures first { (size : Size) (count : ℕ) → display_after size count [] ≡ first_displayed size count }
-    ensures more { (size : Size) (count : ℕ) (before : List Shot) (scene : Scene) (p : Pictured) → IsCanvasSize size → 1 ≤ count → p.size ≡ size → ((q : Point) → p.colour q ≡ full scene q)
-        → shown (display_after size count before) p ≡ display_after size count (record { scene = Some scene; damage = p.changed } ∷ before) }
+    ensures first { (size : Size) (count : ℕ)
+        → display_after size count [] ≡ first_displayed size count }
+    ensures more { (size : Size) (count : ℕ) (before : List Shot) (scene : Scene) (p : Pictured)
+        → IsCanvasSize size → 1 ≤ count → p.size ≡ size → ((q : Point) → p.colour q ≡ full scene q)
+        → shown (display_after size count before) p
+        ≡ display_after size count (record { scene = Some scene; damage = p.changed } ∷ before) }
     ensures steps { (size : Size) (count : ℕ) (before : List Shot) (s : Shot) → 1 ≤ count
-        → steps_for (display_after size count before) s.damage + painted_of size count before ≡ painted_of size count (s ∷ before) }
-    ensures current { (size : Size) (count : ℕ) (drawn : List Shot) (frame : List Colour) (earlier : List (List Colour)) → 1 ≤ count → written_of size count drawn ≡ frame ∷ earlier
+        → steps_for (display_after size count before) s.damage + painted_of size count before
+        ≡ painted_of size count (s ∷ before) }
+    ensures current { (size : Size) (count : ℕ) (drawn : List Shot) (frame : List Colour)
+        (earlier : List (List Colour)) → 1 ≤ count → written_of size count drawn ≡ frame ∷ earlier
         → current (display_after size count drawn) ≡ buffer_with size frame }
 {}
-
-ghost use Rattle.std.specs.Prelude.{◌++◌};
-ghost use Rattle.vz_rules.specs.Plan.{Plan};
-ghost use Rattle.vz_rules.specs.declared.entry.Entry.{Entry};
-ghost use Rattle.vz_rules.specs.declared.entry.Reply.TheVariants.{Drawn};
-ghost use Rattle.vz_rules.specs.Step.{world};
-ghost use Rattle.vz_rules.specs.Scene.{scene_of};
-ghost use Rattle.vz_rules.specs.Frames.{shot_of, written, painted};
-ghost use Rattle.vz_display.specs.Displayed.{display_at, IsNext};
 
 /// A display that shows the picture of each drawing of a history, as it comes about, has the newest
 /// frame that the history writes, and takes the steps that it paints; an entry that draws nothing
 /// leaves all as it is.
 pub fn histories_are_shown()
-    ensures drawn { (p : Plan) (h : List Entry) (e : Entry) (count : ℕ) (r : Rectangle) (scene : Scene) (picture : Pictured) → IsCanvasSize p.size → 1 ≤ count → e.reply ≡ Drawn r → scene_of (world p h) ≡ Some scene
-        → picture.size ≡ p.size → ((q : Point) → picture.colour q ≡ full scene q) → picture.changed ≡ r
+    ensures drawn { (p : Plan) (h : List Entry) (e : Entry) (count : ℕ) (r : Rectangle)
+        (scene : Scene) (picture : Pictured) → IsCanvasSize p.size → 1 ≤ count
+        → e.reply ≡ Drawn r → scene_of (world p h) ≡ Some scene → picture.size ≡ p.size
+        → ((q : Point) → picture.colour q ≡ full scene q) → picture.changed ≡ r
         → shown (display_at p h count) picture ≡ display_at p (h ++ e ∷ []) count }
-    ensures written { (p : Plan) (h : List Entry) (e : Entry) (count : ℕ) (r : Rectangle) → 1 ≤ count → e.reply ≡ Drawn r → IsNext p h e count }
-    ensures steps { (p : Plan) (h : List Entry) (e : Entry) (count : ℕ) (r : Rectangle) → 1 ≤ count → e.reply ≡ Drawn r
+    ensures written { (p : Plan) (h : List Entry) (e : Entry) (count : ℕ) (r : Rectangle)
+        → 1 ≤ count → e.reply ≡ Drawn r → IsNext p h e count }
+    ensures steps { (p : Plan) (h : List Entry) (e : Entry) (count : ℕ) (r : Rectangle)
+        → 1 ≤ count → e.reply ≡ Drawn r
         → steps_for (display_at p h count) r + painted p h count ≡ painted p (h ++ e ∷ []) count }
-    ensures other { (p : Plan) (h : List Entry) (e : Entry) (count : ℕ) → shot_of (scene_of (world p h)) e.reply ≡ []
-        → (display_at p (h ++ e ∷ []) count ≡ display_at p h count) × (written p (h ++ e ∷ []) count ≡ written p h count) × (painted p (h ++ e ∷ []) count ≡ painted p h count) }
+    ensures other { (p : Plan) (h : List Entry) (e : Entry) (count : ℕ)
+        → shot_of (scene_of (world p h)) e.reply ≡ []
+        → (display_at p (h ++ e ∷ []) count ≡ display_at p h count)
+        × (written p (h ++ e ∷ []) count ≡ written p h count)
+        × (painted p (h ++ e ∷ []) count ≡ painted p h count) }
 {}

@@ -1,7 +1,7 @@
 //! A display that repaints its buffers in turn, each where it is stale.
 #![tactic(auto)]
 
-pub mod display;
+mod display;
 pub mod laws;
 
 pub use display::Display;

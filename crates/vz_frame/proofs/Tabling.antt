@@ -16,8 +16,8 @@ use Rattle.vz_frame.specs.declared.frame.Listing.{Listing}
 use Rattle.vz_frame.specs.declared.frame.RenderPass.{RenderPass}
 use Rattle.vz_frame.specs.declared.frame.Material.{Material}
 use Rattle.vz_frame.specs.declared.frame.Material.TheVariants.{Solid, Tile, Surface, Pass}
-use Rattle.vz_frame.specs.declared.frame.Rule.{Rule}
-use Rattle.vz_frame.specs.declared.frame.Rule.TheVariants.{NoPass, BadRoot, PassIds, PassOrder, VisibleOutside, UnlistedResource, ListedTwice, TileOutside, BadRange, BadDependency, DamageOutside}
+use Rattle.vz_frame.specs.declared.rules.Rule.{Rule}
+use Rattle.vz_frame.specs.declared.rules.Rule.TheVariants.{NoPass, BadRoot, PassIds, PassOrder, VisibleOutside, UnlistedResource, ListedTwice, TileOutside, BadRange, BadDependency, DamageOutside}
 
 -- the first line of a table
 pub said : (table : List (Bool × Rule)) (i : ℕ) (d : Bool × Rule) → i < length table → (get_or table i d).0 ≡ true → first_said table ≡ first_said (drop i table) → Some (get_or table i d).1 ≡ first_said table

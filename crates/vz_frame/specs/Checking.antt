@@ -7,7 +7,7 @@ use Rattle.vz_frame.specs.declared.rules.Found.{Found}
 use Rattle.vz_frame.specs.declared.frame.DrawQuad.{DrawQuad}
 use Rattle.vz_frame.specs.declared.frame.Listing.{Listing}
 use Rattle.vz_frame.specs.declared.frame.RenderPass.{RenderPass}
-use Rattle.vz_frame.specs.declared.frame.Rule.{Rule}
+use Rattle.vz_frame.specs.declared.rules.Rule.{Rule}
 use Rattle.vz_frame.specs.declared.frame.Material.TheVariants.{Tile}
 
 -- the test holds of the listing, where there is one

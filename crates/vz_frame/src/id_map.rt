@@ -4,14 +4,13 @@ ghost use Rattle.vz_frame.specs.Pairs.{get, IsAt, IsGapFor, GetsAfterSet};
 
 use arrayvec::ArrayVec;
 use std::marker::Model;
+use vz_base::limits::MOST_RESOURCES;
 
-/// How many ids a map has at most: as many as a frame of a message file lists.
-pub const ROOM: usize = 64;
-
-/// A map from ids to places, in the order of the ids.
+/// A map from ids to places, in the order of the ids. It has room for as many as a frame of a
+/// message file lists.
 #[derive(Drop)]
 pub struct IdMap {
-    pairs: ArrayVec<(u32, usize), ROOM>,
+    pairs: ArrayVec<(u32, usize), MOST_RESOURCES>,
 }
 
 impl Model for IdMap {
@@ -45,7 +44,7 @@ impl IdMap {
 
     /// Gives an id its place, and answers whether it had none. A place that it has stays.
     pub fn insert(&mut self, id: u32, place: usize) -> bool
-        requires { length self.old < ROOM }
+        requires { length self.old < MOST_RESOURCES }
         ensures answer { result ≡ is_none (get self.old id) }
         ensures new { IsTrue result → (GetsAfterSet self.old self.new id place) }
         ensures longer { IsTrue result → (length self.new ≡ length self.old + 1) }

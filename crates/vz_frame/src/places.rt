@@ -4,11 +4,13 @@ ghost use Rattle.vz_frame.specs.Frame.{has_repeat};
 ghost use Rattle.vz_frame.specs.Pairs.{get};
 ghost use Rattle.vz_frame.specs.Places.{first_place};
 
-use crate::id_map::{IdMap, ROOM};
+use crate::id_map::IdMap;
 use crate::{Listing, RenderPass};
 use std::marker::Model;
+use vz_base::limits::MOST_RESOURCES;
 
-/// What has an id among others of its kind: a pass among those of a frame, a resource among those that it lists.
+/// What has an id among others of its kind: a pass among those of a frame, a resource among those
+/// that it lists.
 pub trait HasId {
     ghost id_of: { Self → ℕ };
 
@@ -35,8 +37,8 @@ impl HasId for Listing {
 /// A list of fewer values is scanned sooner than a map of it is made.
 const FEW: usize = 8;
 
-/// A list whose values are found by their ids, through a map. A list of few values is scanned instead, and so is one that
-/// is longer than the map has room for, which no message file has.
+/// A list whose values are found by their ids, through a map. A list of few values is scanned
+/// instead, and so is one that is longer than the map has room for, which no message file has.
 #[derive(Drop)]
 pub struct Places<'a, T: HasId> {
     items: &'a [T],
@@ -54,7 +56,8 @@ impl<'a, T: HasId> Model for Places<'a, T> {
 
     ghost view = { λ p. p.items.now };
 
-    ghost invariant = { λ p. (p.repeats ≡ has_repeat (λ a b. b == a) (map T.id_of p.items.now)) × IfSome p.index (λ m. (n : ℕ) → get m n ≡ first_place n (map T.id_of p.items.now)) };
+    ghost invariant = { λ p. (p.repeats ≡ has_repeat (λ a b. b == a) (map T.id_of p.items.now))
+        × IfSome p.index (λ m. (n : ℕ) → get m n ≡ first_place n (map T.id_of p.items.now)) };
 }
 
 impl<'a, T: HasId> Places<'a, T> {
@@ -68,7 +71,7 @@ impl<'a, T: HasId> Places<'a, T> {
     pub fn of(items: &'a [T]) -> Places<'a, T>
         ensures { result ≡ items.now }
     {
-        if items.len() < FEW || items.len() > ROOM {
+        if items.len() < FEW || items.len() > MOST_RESOURCES {
             let repeats = scan_repeats(items);
             return Places {
                 items,
@@ -124,7 +127,7 @@ impl<'a, T: HasId> Places<'a, T> {
 
 /// The ids with their first places, and whether one stands twice.
 fn indexed<T: HasId>(items: &[T]) -> (IdMap, bool)
-    requires { length items.now ≤ ROOM }
+    requires { length items.now ≤ MOST_RESOURCES }
     ensures places { (n : ℕ) → get result.0 n ≡ first_place n (map T.id_of items.now) }
     ensures repeats { result.1 ≡ has_repeat (λ a b. b == a) (map T.id_of items.now) }
 {

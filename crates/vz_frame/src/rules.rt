@@ -1,4 +1,4 @@
-//! The rules of a frame, tested.
+//! The rules of a frame: what they are, what they are called, and their test.
 ghost use Rattle.std.specs.Prelude.{◌≡◌, ◌+ℤ◌, pos, int_lt, not, take, Some, None, IfErr, OnOk};
 ghost use Rattle.std.specs.List.{list_any};
 ghost use Rattle.vz_frame.specs.Checking.{joined, in_quad, in_quads, in_passes, first_said};
@@ -7,9 +7,66 @@ ghost use Rattle.vz_ids.specs.Ids.{is_good, same_surface};
 ghost use Rattle.std.specs.Option.{option_copied};
 
 use crate::places::Places;
-use crate::{CompositorFrame, DrawQuad, Listing, Material, RenderPass, Rule};
+use crate::{CompositorFrame, DrawQuad, Listing, Material, RenderPass};
+use std::error::Error;
+use std::fmt;
 use vz_geom::Rect;
 use vz_ids::{SurfaceId, SurfaceRange};
+
+/// The rules that a frame has to keep, in the order in which they are tested. Each says
+/// what breaks it.
+#[derive(Clone, Copy, Debug, PartialEq, Eq, Hash)]
+pub enum Rule {
+    /// There is no pass.
+    NoPass,
+    /// The output of the root pass is empty or does not start at (0, 0).
+    BadRoot,
+    /// Two passes have one id.
+    PassIds,
+    /// A pass quad names no pass that stands earlier in the list than its own.
+    PassOrder,
+    /// A visible rectangle has a point outside the quad's rectangle.
+    VisibleOutside,
+    /// A tile names a resource that is not listed.
+    UnlistedResource,
+    /// A resource id is listed twice.
+    ListedTwice,
+    /// A tile reaches outside the listed width or height.
+    TileOutside,
+    /// A range has start and end in one group, and the start is newer.
+    BadRange,
+    /// Two dependencies are equal.
+    BadDependency,
+    /// A damage rectangle has a point outside its pass's output.
+    DamageOutside,
+}
+
+impl Rule {
+    /// What breaks the rule, in words.
+    fn text(self) -> &'static str {
+        match self {
+            Rule::NoPass => "there is no pass",
+            Rule::BadRoot => "the output of the root pass is empty or does not start at (0, 0)",
+            Rule::PassIds => "two passes have one id",
+            Rule::PassOrder => "a pass quad names no earlier pass",
+            Rule::VisibleOutside => "a visible rectangle has a point outside the quad's rectangle",
+            Rule::UnlistedResource => "a tile names a resource that is not listed",
+            Rule::ListedTwice => "a resource is listed twice",
+            Rule::TileOutside => "a tile reaches outside the listed width or height",
+            Rule::BadRange => "a range starts after its end",
+            Rule::BadDependency => "two dependencies are equal",
+            Rule::DamageOutside => "a damage rectangle has a point outside its pass's output",
+        }
+    }
+}
+
+impl fmt::Display for Rule {
+    fn fmt<W: fmt::Write>(&self, f: &mut fmt::Formatter<W>) -> fmt::Result {
+        f.write_str(self.text())
+    }
+}
+
+impl Error for Rule {}
 
 /// What the passes and quads of a frame break: each field is whether one of them breaks that rule.
 #[derive(Clone, Copy)]
@@ -53,10 +110,11 @@ impl Found {
     }
 }
 
-/// Whether a frame keeps the eleven rules; an error is the first one that it breaks, in the order of `Rule`.
+/// Whether a frame keeps the eleven rules; an error is the first one that it breaks, in the
+/// order of `Rule`.
 ///
-/// Each quad is looked at once. Ids of passes and of resources are found by maps on the stack, so that no memory is wanted;
-/// few of them, and more than 64, which no message file has, are scanned.
+/// Each quad is looked at once. Ids of passes and of resources are found by maps on the stack, so
+/// that no memory is wanted; few of them, and more than a frame of a file may list, are scanned.
 pub fn check(frame: &CompositorFrame) -> Result<(), Rule>
     ensures kept { OnOk result (first_broken frame.now ≡ None) }
     ensures broken { IfErr result (λ rule. first_broken frame.now ≡ Some rule) }
@@ -109,7 +167,8 @@ fn first_said(table: &[(bool, Rule)]) -> Option<Rule>
     None
 }
 
-/// Whether there is no root pass, or its output is empty or begins elsewhere than at the first point.
+/// Whether there is no root pass, or its output is empty or begins elsewhere than at the first
+/// point.
 fn is_bad_root(root: Option<&RenderPass>) -> bool
     ensures { result ≡ bad_root (option_copied root.entry) }
 {

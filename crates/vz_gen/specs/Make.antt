@@ -9,7 +9,7 @@ use Rattle.vz_pixels.specs.Block.{Block}
 use Rattle.vz_frame.specs.declared.frame.CompositorFrame.{CompositorFrame}
 use Rattle.vz_frame.specs.declared.frame.Listing.{Listing}
 use Rattle.vz_frame.specs.declared.frame.DrawQuad.{DrawQuad}
-use Rattle.vz_frame.specs.declared.frame.Blend.TheVariants.{Over}
+use Rattle.vz_frame.specs.declared.blend.Blend.TheVariants.{Over}
 use Rattle.vz_frame.specs.declared.frame.Material.{Material}
 use Rattle.vz_frame.specs.declared.frame.Material.TheVariants.{Solid, Tile, Surface}
 use Rattle.vz_frame.specs.declared.message.ClientFile.{ClientFile}

@@ -4,9 +4,11 @@ ghost use Rattle.vz_gen.specs.Make.{child_frame, child_file, round_of, rounds_fr
 
 use crate::parts::{Shape, colour, frame, listed, local, quad, rect, sink};
 use std::alloc::Global;
+use vz_base::Memory;
+use vz_base::limits::MOST_ROUNDS;
 use vz_frame::{ClientFile, CompositorFrame, DrawQuad, List, Listing, Material, Message};
 use vz_geom::Rect;
-use vz_pixels::{Memory, PixelBlock};
+use vz_pixels::PixelBlock;
 
 /// The resource of a round.
 fn resource(r: u32) -> u32
@@ -34,9 +36,7 @@ fn block(alloc: Global, r: u32) -> Result<PixelBlock, Memory>
     ensures { IfOk result (λ b. b ≡ block_of r) }
 {
     let red = colour((r % 256) as u8, 0, 0);
-    let Ok(pixels) = vec![in alloc; red; 16] else {
-        return Err(Memory);
-    };
+    let pixels = vec![in alloc; red; 16]?;
     PixelBlock::of_pixels(alloc, 4, 4, pixels)
 }
 
@@ -82,21 +82,11 @@ fn child_frame(alloc: Global, k: u32, r: u32) -> Result<CompositorFrame, Memory>
     frame(alloc, &shape, List::new(alloc), resources, quads)
 }
 
-/// Adds a message at the end.
-fn add(messages: &mut List<Message>, message: Message) -> Result<(), Memory>
-    ensures { OnOk result (messages.new ≡ messages.old ++ message ∷ []) }
-{
-    match messages.push(message) {
-        Ok(()) => Ok(()),
-        Err(_) => Err(Memory),
-    }
-}
-
 /// Adds the messages of a round.
-fn add_round(alloc: Global, k: u32, r: u32, messages: &mut List<Message>) -> Result<(), Memory>
+fn add_round(alloc: Global, k: u32, r: u32, messages: &mut Vec<Message>) -> Result<(), Memory>
     requires client { (2 ≤ k) × (k ≤ 3) }
     requires round { 1 ≤ r }
-    ensures { OnOk result (messages.new ≡ messages.old ++ round_of k r) }
+    ensures { OnOk result (messages.new.items ≡ messages.old.items ++ round_of k r) }
 {
     let upload = Message::Upload {
         id: resource(r),
@@ -106,26 +96,26 @@ fn add_round(alloc: Global, k: u32, r: u32, messages: &mut List<Message>) -> Res
         local: local(k),
         frame: child_frame(alloc, k, r)?,
     };
-    add(messages, Message::Await)?;
-    add(messages, Message::Reclaim)?;
-    add(messages, upload)?;
-    add(messages, submit)?;
+    messages.push(Message::Await)?;
+    messages.push(Message::Reclaim)?;
+    messages.push(upload)?;
+    messages.push(submit)?;
     Ok(())
 }
 
 /// The file of a child.
 pub fn child_file(alloc: Global, n: u32, k: u32) -> Result<ClientFile, Memory>
-    requires rounds { n ≤ 1000 }
+    requires rounds { n ≤ MOST_ROUNDS }
     requires client { (2 ≤ k) × (k ≤ 3) }
     ensures { IfOk result (λ f. f ≡ child_file n k) }
 {
-    let mut messages = List::new(alloc);
+    let mut messages = Vec::new(alloc);
     for r in 0..n {
         add_round(alloc, k, r + 1, &mut messages)?;
     }
     Ok(ClientFile {
         format: 1,
         sink: sink(k),
-        messages,
+        messages: List::from_vec(messages),
     })
 }

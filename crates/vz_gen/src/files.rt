@@ -6,13 +6,15 @@ use crate::child::child_file;
 use crate::page::page_file;
 use crate::parts::listed;
 use std::alloc::Global;
+use vz_base::Memory;
+use vz_base::limits::MOST_ROUNDS;
 use vz_frame::{ClientFile, List};
-use vz_pixels::Memory;
 
-/// The files of a page and its two children, for `n` rounds. Condition: at most 1,000 rounds.
+/// The files of a page and its two children, for `n` rounds. Condition: at most
+/// `MOST_ROUNDS` rounds.
 #[tactic(auto, unfolding(crate::specs::Make::make))]
 pub fn make(alloc: Global, n: u32) -> Result<List<ClientFile>, Memory>
-    requires { n ≤ 1000 }
+    requires { n ≤ MOST_ROUNDS }
     ensures { IfOk result (λ files. files ≡ make n) }
 {
     let page = page_file(alloc)?;

@@ -2,9 +2,9 @@
 //! begin-frames.
 #![tactic(auto)]
 
-pub mod child;
-pub mod files;
-pub mod page;
-pub mod parts;
+mod child;
+mod files;
+mod page;
+mod parts;
 
 pub use files::make;

@@ -4,8 +4,8 @@ ghost use Rattle.vz_gen.specs.Make.{page, page_file, page_quads};
 
 use crate::parts::{Shape, colour, frame, listed, local, quad, range, rect, sink};
 use std::alloc::Global;
+use vz_base::Memory;
 use vz_frame::{ClientFile, CompositorFrame, DrawQuad, List, Material, Message};
-use vz_pixels::Memory;
 
 /// The quads, front to back.
 fn quads(alloc: Global) -> Result<List<DrawQuad>, Memory>

@@ -3,19 +3,18 @@ ghost use Rattle.std.specs.Prelude.{◌≡◌, ◌≤ℤ◌, pos, IfOk, None};
 ghost use Rattle.vz_gen.specs.Make.{colour, sink_of, local_of, range_of, frame_of};
 
 use std::alloc::Global;
+use vz_base::Memory;
 use vz_frame::{Blend, CompositorFrame, DrawQuad, List, Listing, Material, Metadata, RenderPass};
 use vz_geom::{Point, Rect};
 use vz_ids::{EmbedToken, FrameSinkId, LocalSurfaceId, ParentAllocator, SurfaceId, SurfaceRange};
-use vz_pixels::{Memory, Pixel};
+use vz_pixels::Pixel;
 
 /// A list of these values.
 pub fn listed<T: Drop, const N: usize>(alloc: Global, values: [T; N]) -> Result<List<T>, Memory>
     ensures { IfOk result (λ list. list ≡ values) }
 {
-    match Vec::from_array(alloc, values) {
-        Ok(all) => Ok(List::from_vec(all)),
-        Err(_) => Err(Memory),
-    }
+    let all = Vec::from_array(alloc, values)?;
+    Ok(List::from_vec(all))
 }
 
 /// A rectangle. Conditions: it is within 64 by 64 pixels, and no side is 0.
@@ -71,7 +70,15 @@ pub fn range(k: u32) -> SurfaceRange
 
 /// A quad without a clip, visible whole.
 pub fn quad(x: i32, area: &Rect, opacity: u8, material: Material) -> DrawQuad
-    ensures { result ≡ record { offset = record { x = x; y = pos 0 }; area = area.now; visible = area.now; clip = None; opacity = opacity; blend = Blend.Over; material = material } }
+    ensures { result ≡ record {
+      offset = record { x = x; y = pos 0 };
+      area = area.now;
+      visible = area.now;
+      clip = None;
+      opacity = opacity;
+      blend = Blend.Over;
+      material = material;
+    } }
 {
     DrawQuad {
         offset: Point { x, y: 0 },
@@ -105,7 +112,8 @@ pub fn frame(
     resources: List<Listing>,
     quads: List<DrawQuad>,
 ) -> Result<CompositorFrame, Memory>
-    ensures { IfOk result (λ f. f ≡ frame_of shape.now.token shape.now.ack references resources shape.now.output shape.now.damage quads) }
+    ensures { IfOk result (λ f. f ≡ frame_of shape.now.token shape.now.ack references resources
+        shape.now.output shape.now.damage quads) }
 {
     let pass = RenderPass {
         id: 1,

@@ -3,7 +3,8 @@ use Rattle.std.proofs.Common.{◌≡◌, ℤ, ◌+ℤ◌, ◌-ℤ◌, ◌≤ℤ�
 use Rattle.std.specs.Int.{w32, int_max, int_min}
 use Rattle.std.specs.Int.Signed.{mag}
 use Rattle.std.proofs.lemmas.Int.{ints, clamps, to_z-of_z}
-use Rattle.vz_geom.specs.Rectangle.{Rectangle, IsRectangle, edge_limit, meet, hull, with_sides}
+use Rattle.vz_base.specs.declared.limits.TheConstants.{GREATEST_EDGE}
+use Rattle.vz_geom.specs.Rectangle.{Rectangle, IsRectangle, meet, hull, with_sides}
 
 -- a number as a call is given it
 abbrev pub given : ℤ → ℤ
@@ -76,8 +77,8 @@ min_above : (l a b : ℤ) → l ≤ℤ a → l ≤ℤ b → l ≤ℤ int_min a b
 min_above l a b p q = omega (arith, ints, clamps)
 
 -- the smaller of two first numbers is within the limit, as a call is given it
-pub first_within : (r a b : ℤ) → mag r < 2147483648 → r ≡ int_min a b → (pos 0 -ℤ edge_limit) ≤ℤ a → (pos 0 -ℤ edge_limit) ≤ℤ b → (pos 0 -ℤ edge_limit) ≤ℤ given r
-first_within r a b m e p q = subst (λ z. (pos 0 -ℤ edge_limit) ≤ℤ z) (sym (fits_stays r m ∙ e)) (min_above (pos 0 -ℤ edge_limit) a b p q)
+pub first_within : (r a b : ℤ) → mag r < 2147483648 → r ≡ int_min a b → (pos 0 -ℤ GREATEST_EDGE) ≤ℤ a → (pos 0 -ℤ GREATEST_EDGE) ≤ℤ b → (pos 0 -ℤ GREATEST_EDGE) ≤ℤ given r
+first_within r a b m e p q = subst (λ z. (pos 0 -ℤ GREATEST_EDGE) ≤ℤ z) (sym (fits_stays r m ∙ e)) (min_above (pos 0 -ℤ GREATEST_EDGE) a b p q)
 
 -- a first number and an offset, as calls are given them
 pub sum_given : (x by : ℤ) → given x ≡ x → given by ≡ by → (pos 0 -ℤ pos 1073741824) ≤ℤ (x +ℤ by) → (x +ℤ by) ≤ℤ pos 1073741824 → given (given x +ℤ given by) ≡ x +ℤ by

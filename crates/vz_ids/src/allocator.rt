@@ -4,11 +4,21 @@ ghost use Rattle.std.specs.Prelude.{◌≡◌, ◌+◌, ◌<◌, IsOk, IsErr, If
 ghost use Rattle.vz_ids.specs.Allocating.{first_id, with_parent, with_child, adopted, adopts};
 
 use crate::{EmbedToken, LocalSurfaceId};
+use std::error::Error;
+use std::fmt;
 use std::marker::Model;
 
 /// No number is left to raise.
-#[derive(Clone, Copy, Debug, PartialEq, Eq)]
+#[derive(Clone, Copy, Debug, PartialEq, Eq, Hash)]
 pub struct Spent;
+
+impl fmt::Display for Spent {
+    fn fmt<W: fmt::Write>(&self, f: &mut fmt::Formatter<W>) -> fmt::Result {
+        f.write_str("no number is left to raise")
+    }
+}
+
+impl Error for Spent {}
 
 /// The allocator of an embedder: contracts see the id that it allocated last.
 #[derive(Drop)]

@@ -10,7 +10,8 @@ ghost use Rattle.vz_ids.specs.Allocating.{with_parent, with_child};
 /// newer one is newer, and no two are newer than one another.
 pub fn newer_is_an_order()
     ensures irreflexive { (a : LocalSurfaceId) → IsTrue (newer a a) → ⊥ }
-    ensures transitive { (a b c : LocalSurfaceId) → IsTrue (newer a b) → IsTrue (newer b c) → IsTrue (newer a c) }
+    ensures transitive { (a b c : LocalSurfaceId) → IsTrue (newer a b) → IsTrue (newer b c)
+        → IsTrue (newer a c) }
     ensures asymmetric { (a b : LocalSurfaceId) → IsTrue (newer a b) → IsTrue (newer b a) → ⊥ }
 {}
 
@@ -18,7 +19,8 @@ pub fn newer_is_an_order()
 pub fn groups_are_classes()
     ensures reflexive { (a : SurfaceId) → IsTrue (same_group a a) }
     ensures symmetric { (a b : SurfaceId) → IsTrue (same_group a b) → IsTrue (same_group b a) }
-    ensures transitive { (a b c : SurfaceId) → IsTrue (same_group a b) → IsTrue (same_group b c) → IsTrue (same_group a c) }
+    ensures transitive { (a b c : SurfaceId) → IsTrue (same_group a b) → IsTrue (same_group b c)
+        → IsTrue (same_group a c) }
 {}
 
 /// What an allocator gives next is newer than what it gave last.

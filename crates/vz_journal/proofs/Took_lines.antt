@@ -3,8 +3,8 @@ use Rattle.std.proofs.Common.{◌≡◌, ℕ, zero, suc, ◌+◌, Bool, true, �
 use Rattle.std.specs.Fmt.{digits}
 use Rattle.std.specs.List.{list_all, flat_map}
 use Rattle.std.proofs.lemmas.Bool.{and_parts, and_from}
-use Rattle.vz_frame.specs.declared.frame.Rule.{Rule}
-use Rattle.vz_frame.specs.declared.frame.Rule.TheVariants.{NoPass, BadRoot, PassIds, PassOrder, VisibleOutside, UnlistedResource, ListedTwice, TileOutside, BadRange, BadDependency, DamageOutside}
+use Rattle.vz_frame.specs.declared.rules.Rule.{Rule}
+use Rattle.vz_frame.specs.declared.rules.Rule.TheVariants.{NoPass, BadRoot, PassIds, PassOrder, VisibleOutside, UnlistedResource, ListedTwice, TileOutside, BadRange, BadDependency, DamageOutside}
 use Rattle.vz_rules.specs.declared.entry.Event.{Event}
 use Rattle.vz_rules.specs.declared.entry.Event.TheVariants as event
 use Rattle.vz_rules.specs.declared.entry.Reply.{Reply}

@@ -2,11 +2,12 @@
 use Rattle.std.specs.Prelude.{ℕ, zero, suc, ◌+◌, ◌-◌, ◌*◌, ◌==◌, pos, Bool, true, false, ◌&&◌, nat_lt, nat_le, codes}
 use Rattle.std.specs.Prelude.{Option, Some, None, Result, Ok, Err, List, [], ◌∷◌, length, drop, slice_index, if◌then◌else◌}
 use Rattle.std.specs.List.{starts_with}
+use Rattle.vz_base.specs.declared.limits.TheConstants.{GREATEST_DISPLAY_SIDE, GREATEST_NUMBER}
 use Rattle.vz_geom.specs.Rectangle.{Rectangle}
 use Rattle.vz_ids.specs.declared.Sub.{Sub}
-use Rattle.vz_frame.specs.declared.frame.Rule.{Rule}
-use Rattle.vz_frame.specs.declared.frame.Rule.TheVariants.{NoPass, BadRoot, PassIds, PassOrder, VisibleOutside, UnlistedResource}
-use Rattle.vz_frame.specs.declared.frame.Rule.TheVariants.{ListedTwice, TileOutside, BadRange, BadDependency, DamageOutside}
+use Rattle.vz_frame.specs.declared.rules.Rule.{Rule}
+use Rattle.vz_frame.specs.declared.rules.Rule.TheVariants.{NoPass, BadRoot, PassIds, PassOrder, VisibleOutside, UnlistedResource}
+use Rattle.vz_frame.specs.declared.rules.Rule.TheVariants.{ListedTwice, TileOutside, BadRange, BadDependency, DamageOutside}
 use Rattle.vz_rules.specs.declared.entry.Event.{Event}
 use Rattle.vz_rules.specs.declared.entry.Event.TheVariants as event
 use Rattle.vz_rules.specs.declared.entry.Reply.{Reply}
@@ -78,7 +79,7 @@ with_digit n b = 10 * n + (b - 48)
 unfoldable pub digits_at : ℕ → List ℕ → Read ℕ
 digits_at n [] = Some (n, [])
 digits_at n (b ∷ bs) =
-    if is_digit b then (if nat_le (with_digit n b) 4294967295 then digits_at (with_digit n b) bs else None) else Some (n, b ∷ bs)
+    if is_digit b then (if nat_le (with_digit n b) GREATEST_NUMBER then digits_at (with_digit n b) bs else None) else Some (n, b ∷ bs)
 
 -- a number without a leading zero
 unfoldable pub number_at : List ℕ → Read ℕ
@@ -280,9 +281,9 @@ ticked_at bytes = do
 abbrev pub drawn_on : ℕ → ℕ → ℕ → ℕ → Rectangle
 drawn_on x y w h = record { x = pos x; y = pos y; w = pos w; h = pos h }
 
--- a rectangle with points and no edge beyond 2,048
+-- a rectangle with points and no edge beyond the greatest display
 abbrev pub is_drawn : ℕ → ℕ → ℕ → ℕ → Bool
-is_drawn x y w h = nat_lt 0 w && nat_lt 0 h && nat_le (x + w) 2048 && nat_le (y + h) 2048
+is_drawn x y w h = nat_lt 0 w && nat_lt 0 h && nat_le (x + w) GREATEST_DISPLAY_SIDE && nat_le (y + h) GREATEST_DISPLAY_SIDE
 
 -- the damage of a drawn frame
 unfoldable pub drawn_at : List ℕ → Read Reply

@@ -21,7 +21,8 @@ pub trait Item {
 
 /// As many values as there are.
 pub fn all<I: Item>(alloc: Global, item: &I, input: &mut Reader) -> Result<List<I::Value>, Stop>
-    ensures { Gives (λ xs. (xs, input.new)) result (Some (all_at (I.value_at item.now) input.old)) }
+    ensures { Gives (λ xs. (xs, input.new)) result
+        (Some (all_at (I.value_at item.now) input.old)) }
 {
     let mut values = Vec::new(alloc);
     let mut here = input.ahead();

@@ -9,7 +9,7 @@ mod reader;
 mod reading;
 mod replies;
 mod stop;
-pub mod writer;
+mod writer;
 
 pub use reading::read;
 pub use stop::LogError;

@@ -6,12 +6,10 @@ ghost use Rattle.vz_journal.specs.Reading.{count_at, client_at, next_number_at, 
 
 use crate::stop::Stop;
 use std::marker::Model;
+use vz_base::limits::{GREATEST_NUMBER, MOST_FILES};
 
-/// The highest number of a client.
-const MOST_CLIENTS: u32 = 16;
-
-/// The highest number that is written.
-const GREATEST: u64 = 4_294_967_295;
+/// The greatest number of a log, as wide as the numbers that are gathered from digits.
+const GREATEST: u64 = GREATEST_NUMBER as u64;
 
 /// Bytes that are still to be read. After an error what is left of them is not said.
 #[derive(Drop)]
@@ -51,7 +49,8 @@ impl<'a> Reader<'a> {
     /// Whether the bytes begin with this word, which is then left behind.
     pub fn has(&mut self, word: &[u8]) -> bool
         ensures found { result ≡ begins word.now self.old }
-        ensures rest { self.new ≡ (if begins word.now self.old then after word.now self.old else self.old) }
+        ensures rest { self.new
+            ≡ (if begins word.now self.old then after word.now self.old else self.old) }
     {
         let found = self.rest.starts_with(word);
         if found {
@@ -136,7 +135,7 @@ impl<'a> Reader<'a> {
         ensures { Gives (λ x. (x, self.new)) result (client_at self.old) }
     {
         let number = self.number()?;
-        if number < 1 || number > MOST_CLIENTS {
+        if number < 1 || number as usize > MOST_FILES {
             return Err(Stop::Unlike);
         }
         Ok(number)

@@ -14,7 +14,8 @@ use std::alloc::Global;
 use vz_frame::List;
 use vz_rules::{Entry, Rest};
 
-/// The history and the rest that the text of a log stands for. Its lists are made on this allocator.
+/// The history and the rest that the text of a log stands for. Its lists are made on this
+/// allocator.
 ///
 /// `Refused` comes with the first line, counted from 1, that is not in the grammar at its place,
 /// or that does not end with a line feed; where the text ends without the line `end`, it is the
@@ -24,7 +25,8 @@ pub fn read(alloc: Global, bytes: &[u8]) -> Result<(List<Entry>, Rest), LogError
     ensures exact { IsReading bytes.now result }
 
     // What a text stands for is found.
-    ensures only { (h : Row Entry) (rest : Rest) → IsLog bytes.now h rest → Finds result h rest }
+    ensures only { (h : Row Entry) (rest : Rest) → IsLog bytes.now h rest
+        → Finds result h rest }
 {
     read_log(alloc, bytes)
 }
@@ -74,10 +76,7 @@ fn line_count(entries: &List<Entry>, rest: &Rest) -> u64
     requires { line_count (entries.now, rest.now) < 2 ^ 64 }
     ensures { result ≡ line_count (entries.now, rest.now) }
 {
-    let entries = entries.as_slice().len();
-    let held = rest.held.as_slice().len();
-    let unfed = rest.unfed.as_slice().len();
-    (entries + held + unfed) as u64
+    (entries.len() + rest.held.len() + rest.unfed.len()) as u64
 }
 
 #[cfg(test)]

@@ -9,12 +9,10 @@ use crate::item::{Item, all};
 use crate::reader::Reader;
 use crate::stop::Stop;
 use std::alloc::Global;
+use vz_base::limits::GREATEST_DISPLAY_SIDE;
 use vz_frame::Rule;
 use vz_geom::Rect;
 use vz_rules::{Event, Refusal, Reply, Returned};
-
-/// The longest side of a display.
-const MOST_SIDE: u32 = 2048;
 
 /// The rule of a number, in the order in which the rules are tested.
 #[tactic(auto, unfolding(crate::specs::Reading::rule_of))]
@@ -200,8 +198,8 @@ fn is_drawn(x: u32, y: u32, w: u32, h: u32) -> bool
 {
     0 < w
         && 0 < h
-        && u64::from(x) + u64::from(w) <= u64::from(MOST_SIDE)
-        && u64::from(y) + u64::from(h) <= u64::from(MOST_SIDE)
+        && u64::from(x) + u64::from(w) <= u64::from(GREATEST_DISPLAY_SIDE)
+        && u64::from(y) + u64::from(h) <= u64::from(GREATEST_DISPLAY_SIDE)
 }
 
 /// A reply to a draw.

@@ -3,6 +3,8 @@ ghost use Rattle.std.specs.Prelude.{◌≡◌};
 ghost use Rattle.vz_journal.specs.declared.stop.Stop.TheVariants.{Memory};
 
 use std::alloc::{AllocError, AllocFailed};
+use std::error::Error;
+use std::fmt;
 
 /// Why a log is not read.
 #[derive(Clone, Copy, Debug, PartialEq, Eq)]
@@ -12,6 +14,17 @@ pub enum LogError {
     /// Want of memory.
     Memory,
 }
+
+impl fmt::Display for LogError {
+    fn fmt<W: fmt::Write>(&self, f: &mut fmt::Formatter<W>) -> fmt::Result {
+        match self {
+            LogError::Refused { line } => write!(f, "line {line} of the log is refused"),
+            LogError::Memory => vz_base::Memory.fmt(f),
+        }
+    }
+}
+
+impl Error for LogError {}
 
 /// Why a part of a line is not read: for want of memory, or since the bytes are unlike it.
 #[derive(Clone, Copy, Debug, PartialEq, Eq)]

@@ -8,10 +8,10 @@ ghost use Rattle.vz_rules.specs.Log.{effects_text, activated_text, destroyed_tex
 ghost use Rattle.vz_rules.specs.Log.{fed_text, held_text, open_text, rule_number as rule_number_of};
 
 use std::alloc::{AllocError, Global};
+use vz_base::Memory;
 use vz_frame::{List, Rule};
 use vz_geom::Rect;
 use vz_ids::Sub;
-use vz_pixels::Memory;
 use vz_rules::{Effects, Entry, Event, Fed, Lost, Refusal, Reply, Rest, Returned};
 
 /// The text of a log, in ASCII: a line for each entry of the history, the `held` and the `open`
@@ -20,10 +20,8 @@ pub fn write(alloc: Global, history: &List<Entry>, rest: &Rest) -> Result<String
     ensures { IfOk result (λ text. string_bytes text ≡ log_text history.now rest.now) }
 {
     let mut text = String::new(alloc);
-    match push_log(&mut text, history.as_slice(), rest) {
-        Ok(()) => Ok(text),
-        Err(AllocError) => Err(Memory),
-    }
+    push_log(&mut text, history.as_slice(), rest)?;
+    Ok(text)
 }
 
 #[tactic(auto, unfolding(vz_rules::specs::Log::log_text))]
@@ -156,7 +154,8 @@ fn push_drawn(out: &mut String, damage: &Rect) -> Result<(), AllocError>
 
 /// Its numbers as they are printed, without signs: a drawn damage has none.
 fn numbers_of(damage: &Rect) -> [u32; 4]
-    ensures { result ≡ map nat_abs (damage.now.x ∷ damage.now.y ∷ damage.now.w ∷ damage.now.h ∷ []) }
+    ensures { result
+        ≡ map nat_abs (damage.now.x ∷ damage.now.y ∷ damage.now.w ∷ damage.now.h ∷ []) }
 {
     [
         damage.x().unsigned_abs(),

@@ -2,9 +2,9 @@
 //! its pixels.
 #![tactic(auto)]
 
-pub mod machine;
-pub mod picture;
-pub mod pixels;
+mod machine;
+mod picture;
+mod pixels;
 
 pub use machine::{Machine, Step};
 pub use picture::Picture;

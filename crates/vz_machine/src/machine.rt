@@ -9,7 +9,7 @@ ghost use Rattle.vz_machine.specs.Stepping.{Answers, Goes, HasClient, waits_at, 
 
 use crate::Picture;
 use std::alloc::Global;
-use vz_pixels::Memory;
+use vz_base::Memory;
 use vz_rules::{Effects, Reply, Rest};
 
 /// What a step answers, and what followed from it.
@@ -47,7 +47,8 @@ pub trait Machine {
     /// plan's size, the colours of what was to be seen and the damage of the answer.
     fn draw(&mut self, alloc: Global) -> Result<(Step, Option<Self::Image>), Memory>
         ensures answer { IfOk result (λ d. Answers (state self.old) Draw d.0) }
-        ensures picture { IfOk result (λ d. ShowsDrawn (state self.old) d.0.reply (option_map Self.Image.pictured d.1)) }
+        ensures picture { IfOk result (λ d. ShowsDrawn (state self.old) d.0.reply
+            (option_map Self.Image.pictured d.1)) }
         ensures world { OnOk result (Goes (state self.old) Draw (state self.new)) }
         ensures err { OnErr result (state self.new ≡ state self.old) };
 
@@ -66,7 +67,8 @@ pub trait Machine {
         requires { HasClient (state self.now) c }
         ensures { result ≡ waits_at (state self.now) c };
 
-    /// Whether a client is closed, has no message left or waits. Condition: the plan has that client.
+    /// Whether a client is closed, has no message left or waits. Condition: the plan has that
+    /// client.
     fn idle(&self, c: u32) -> bool
         requires { HasClient (state self.now) c }
         ensures { result ≡ idle_at (state self.now) c };

@@ -6,9 +6,9 @@ ghost use Rattle.vz_machine.specs.Pictured.{Pictured, IsPictured, colours_in};
 
 use std::alloc::Global;
 use std::sync::ledger::Ledger;
+use vz_base::Memory;
 use vz_buffers::{Buffer, Steps};
 use vz_geom::{Rect, Size};
-use vz_pixels::Memory;
 
 /// What a display is to show: a colour for each of its points, and the rectangle of the points
 /// that changed since the picture before.
@@ -25,9 +25,9 @@ pub trait Picture {
     fn damage(&self) -> Rect
         ensures { result ≡ (pictured self.now).changed };
 
-    /// Paints an area of a buffer: exactly its points get their colours, and each of them is a step.
-    /// Conditions: the buffer has the picture's size, and the area is inside. At want of memory
-    /// some points of the area may have their colours.
+    /// Paints an area of a buffer: exactly its points get their colours, and each of them is a
+    /// step. Conditions: the buffer has the picture's size, and the area is inside. At want of
+    /// memory some points of the area may have their colours.
     fn paint<L: Ledger>(
         &self,
         alloc: Global,
@@ -38,6 +38,8 @@ pub trait Picture {
         requires same { buffer.old.size ≡ (pictured self.now).size }
         requires inside { Covers (sized (pictured self.now).size) area }
         ensures size { buffer.new.size ≡ buffer.old.size }
-        ensures painted { OnOk result (buffer.new.pixels ≡ patched area (points_of (pictured self.now).size) (colours_in (pictured self.now)) buffer.old.pixels) }
+        ensures painted { OnOk result (buffer.new.pixels ≡ patched area
+            (points_of (pictured self.now).size) (colours_in (pictured self.now))
+            buffer.old.pixels) }
         ensures counted { OnOk result (steps.new ≡ steps.old + area_of area) };
 }

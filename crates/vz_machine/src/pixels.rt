@@ -1,5 +1,6 @@
 //! A picture that has all its pixels.
 ghost use Rattle.std.specs.Prelude.{◌≡◌, ◌+◌, ◌<◌, ◌≤◌, ◌≤ℤ◌, ◌<ℤ◌, ◌+ℤ◌, pos, nat_abs, length, take, drop};
+ghost use Rattle.vz_base.specs.declared.limits.TheConstants.{GREATEST_DISPLAY_SIDE};
 ghost use Rattle.vz_geom.specs.Rectangle.{Covers, sized, points_of, area_of};
 ghost use Rattle.vz_rules.specs.Frames.{patched};
 ghost use Rattle.vz_buffers.specs.Canvas.{IsCanvas, IsCanvasSize, pixel_count, place_of};
@@ -9,9 +10,10 @@ use crate::Picture;
 use std::alloc::Global;
 use std::marker::Model;
 use std::sync::ledger::Ledger;
+use vz_base::Memory;
 use vz_buffers::{Buffer, Steps};
 use vz_geom::{Rect, Size};
-use vz_pixels::{Memory, Pixel};
+use vz_pixels::Pixel;
 
 /// A picture of a display with all its pixels, row by row.
 #[derive(Drop)]
@@ -28,7 +30,11 @@ impl Model for PixelPicture {
 
     ghost view = { λ p. record { size = p.size; pixels = p.pixels.items; changed = p.changed } };
 
-    ghost invariant = { λ p. IsPixelled (record { size = p.size; pixels = p.pixels.items; changed = p.changed }) };
+    ghost invariant = { λ p. IsPixelled (record {
+      size = p.size;
+      pixels = p.pixels.items;
+      changed = p.changed;
+    }) };
 }
 
 impl PixelPicture {
@@ -88,7 +94,8 @@ fn paint_area<L: Ledger>(
     requires same { buffer.old.size ≡ size.now }
     requires inside { Covers (sized size.now) area.now }
     ensures size { buffer.new.size ≡ size.now }
-    ensures painted { buffer.new.pixels ≡ patched area.now (points_of size.now) pixels.now buffer.old.pixels }
+    ensures painted { buffer.new.pixels
+        ≡ patched area.now (points_of size.now) pixels.now buffer.old.pixels }
     ensures counted { steps.new ≡ steps.old + area_of area.now }
 {
     if area.is_empty() {
@@ -111,7 +118,8 @@ fn paint_rows<L: Ledger>(
     requires same { buffer.old.size ≡ size.now }
     requires inside { IsInside (sized size.now) area.now }
     ensures size { buffer.new.size ≡ size.now }
-    ensures painted { buffer.new.pixels ≡ patched area.now (points_of size.now) pixels.now buffer.old.pixels }
+    ensures painted { buffer.new.pixels
+        ≡ patched area.now (points_of size.now) pixels.now buffer.old.pixels }
     ensures counted { steps.new ≡ steps.old + area_of area.now }
 {
     for below in 0..height(area) {
@@ -135,7 +143,8 @@ fn paint_row<L: Ledger>(
     requires inside { IsInside (sized size.now) area.now }
     requires row { below < nat_abs area.now.h }
     ensures size { buffer.new.size ≡ size.now }
-    ensures painted { buffer.new.pixels ≡ patched (row_of area.now below) (points_of size.now) pixels.now buffer.old.pixels }
+    ensures painted { buffer.new.pixels
+        ≡ patched (row_of area.now below) (points_of size.now) pixels.now buffer.old.pixels }
     ensures counted { steps.new ≡ steps.old + nat_abs area.now.w }
 {
     let x = area.x();
@@ -172,7 +181,7 @@ fn span(pixels: &[Pixel], from: usize, count: usize) -> &[Pixel]
 /// The row of an area that is `below` its first one.
 fn row_below(area: &Rect, below: u32) -> i32
     requires top { pos 0 ≤ℤ area.now.y }
-    requires bottom { (area.now.y +ℤ pos below) <ℤ pos 2048 }
+    requires bottom { (area.now.y +ℤ pos below) <ℤ pos GREATEST_DISPLAY_SIDE }
     ensures value { result ≡ area.now.y +ℤ pos below }
 {
     area.y() + below as i32

@@ -5,7 +5,8 @@ ghost use Rattle.vz_pixels.specs.Colour.{Colour, IsPremultiplied, mul, scale, ov
 
 /// Premultiplied colours stay so, and within 8 bits.
 pub fn results_are_premultiplied()
-    ensures over { (s d : Colour) → s.a ≤ 255 → IsPremultiplied s → IsPremultiplied d → IsPremultiplied (over s d) }
+    ensures over { (s d : Colour) → s.a ≤ 255 → IsPremultiplied s → IsPremultiplied d
+        → IsPremultiplied (over s d) }
     ensures over_alpha { (s d : Colour) → s.a ≤ 255 → d.a ≤ 255 → (over s d).a ≤ 255 }
     ensures scale { (c : Colour) (o : ℕ) → IsPremultiplied c → IsPremultiplied (scale c o) }
     ensures scale_alpha { (c : Colour) (o : ℕ) → o ≤ 255 → (scale c o).a ≤ c.a }

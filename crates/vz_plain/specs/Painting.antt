@@ -1,7 +1,7 @@
 -- Where a painter stands in a scene.
 use Rattle.std.specs.Prelude.{ℕ, List, reverse}
 use Rattle.vz_ids.specs.declared.SurfaceId.{SurfaceId}
-use Rattle.vz_frame.specs.declared.frame.Blend.{Blend}
+use Rattle.vz_frame.specs.declared.blend.Blend.{Blend}
 use Rattle.vz_frame.specs.declared.frame.DrawQuad.{DrawQuad}
 use Rattle.vz_frame.specs.declared.frame.RenderPass.{RenderPass}
 use Rattle.vz_geom.specs.declared.Point.{Point}

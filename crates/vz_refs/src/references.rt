@@ -11,9 +11,9 @@ use crate::naming::{is_named_by, is_named_in};
 use crate::surfaces::{has_surface, is_same};
 use std::alloc::Global;
 use std::marker::Model;
+use vz_base::Memory;
 use vz_frame::Room;
 use vz_ids::{FrameSinkId, SurfaceId, SurfaceRange};
-use vz_pixels::Memory;
 
 /// What knows which surface a range shows.
 pub trait Shows {
@@ -83,13 +83,9 @@ impl References {
         ensures spare { self.old.spare ≤ self.new.spare }
         ensures room { self.new.room ≡ self.old.room }
     {
-        if self.ids.try_reserve(n).is_err() {
-            return Err(Memory);
-        }
-        match self.edges.try_reserve(n) {
-            Ok(()) => Ok(()),
-            Err(_) => Err(Memory),
-        }
+        self.ids.try_reserve(n)?;
+        self.edges.try_reserve(n)?;
+        Ok(())
     }
 
     /// Makes room for one temporary surface. Memory is the only error. Nothing else changes
@@ -102,10 +98,8 @@ impl References {
         ensures spare { self.new.spare ≡ self.old.spare }
         ensures room { self.old.room ≤ self.new.room }
     {
-        match self.temporary.try_reserve(1) {
-            Ok(()) => Ok(()),
-            Err(_) => Err(Memory),
-        }
+        self.temporary.try_reserve(1)?;
+        Ok(())
     }
 
     /// Sets the ranges of a surface in the place of those that it had, and ends each

@@ -5,9 +5,9 @@ ghost use Rattle.vz_returns.specs.Feeding.{before, is_open, place_in, opened, fe
 
 use std::alloc::Global;
 use std::marker::Model;
+use vz_base::Memory;
 use vz_frame::Room;
 use vz_ids::Sub;
-use vz_pixels::Memory;
 
 /// The submissions that wait for feedback, by client and ordinal. Contracts see their list
 /// and, beside it, the room that was made before.
@@ -44,10 +44,8 @@ impl Feedbacks {
         ensures succeeds { n ≤ self.old.spare → IsOk result }
         ensures spare { self.old.spare ≤ self.new.spare }
     {
-        match self.list.try_reserve(n) {
-            Ok(()) => Ok(()),
-            Err(_) => Err(Memory),
-        }
+        self.list.try_reserve(n)?;
+        Ok(())
     }
 
     /// A submission waits for feedback from now on. For want of memory, and only then, it
@@ -61,10 +59,8 @@ impl Feedbacks {
         ensures spare { self.old.spare ≤ self.new.spare + 1 }
     {
         let place = place_in(&self.list, &s);
-        match self.list.insert(place, s) {
-            Ok(()) => Ok(()),
-            Err(_) => Err(Memory),
-        }
+        self.list.insert(place, s)?;
+        Ok(())
     }
 
     /// Whether a submission waited. It waits no longer.

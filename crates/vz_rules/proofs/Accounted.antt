@@ -8,7 +8,7 @@ use Rattle.std.proofs.lemmas.List.Sums.{sum_by_push, sum_by-append, sum_by-cons}
 use Rattle.std.proofs.lemmas.List.Elements.{filter-append}
 use Rattle.vz_ids.specs.declared.LocalSurfaceId.{LocalSurfaceId}
 use Rattle.vz_frame.specs.declared.frame.CompositorFrame.{CompositorFrame}
-use Rattle.vz_frame.specs.declared.frame.Rule.{Rule}
+use Rattle.vz_frame.specs.declared.rules.Rule.{Rule}
 use Rattle.vz_frame.specs.declared.message.ClientFile.{ClientFile}
 use Rattle.vz_frame.specs.Frame.{first_broken, lists}
 use Rattle.vz_rules.specs.Plan.{Plan}

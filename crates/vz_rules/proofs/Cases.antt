@@ -12,7 +12,7 @@ use Rattle.vz_ids.specs.declared.SurfaceId.{SurfaceId}
 use Rattle.vz_ids.specs.declared.Sub.{Sub}
 use Rattle.vz_pixels.specs.Block.{Block}
 use Rattle.vz_frame.specs.declared.frame.CompositorFrame.{CompositorFrame}
-use Rattle.vz_frame.specs.declared.frame.Rule.{Rule}
+use Rattle.vz_frame.specs.declared.rules.Rule.{Rule}
 use Rattle.vz_frame.specs.declared.message.Message.{Message}
 use Rattle.vz_frame.specs.declared.message.Message.TheVariants.{Upload, Submit, DidNotProduce, Reclaim, SetRoot, Hierarchy, Await, Close}
 use Rattle.vz_frame.specs.Frame.{first_broken}

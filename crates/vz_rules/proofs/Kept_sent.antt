@@ -6,13 +6,13 @@ use Rattle.std.proofs.lemmas.Bool.{and_parts, eqb-true, ltb-true, both_ways, not
 use Rattle.std.proofs.lemmas.List.{length-map}
 use Rattle.vz_pixels.specs.Block.{Block}
 use Rattle.vz_ids.specs.declared.LocalSurfaceId.{LocalSurfaceId}
-use Rattle.vz_frame.specs.declared.frame.Blend.{Blend}
-use Rattle.vz_frame.specs.declared.frame.Blend.TheVariants.{Over, Src, DstIn}
+use Rattle.vz_frame.specs.declared.blend.Blend.{Blend}
+use Rattle.vz_frame.specs.declared.blend.Blend.TheVariants.{Over, Src, DstIn}
 use Rattle.vz_frame.specs.declared.frame.CompositorFrame.{CompositorFrame}
 use Rattle.vz_frame.specs.declared.frame.DrawQuad.{DrawQuad}
 use Rattle.vz_frame.specs.declared.frame.Listing.{Listing}
 use Rattle.vz_frame.specs.declared.frame.RenderPass.{RenderPass}
-use Rattle.vz_frame.specs.declared.frame.Rule.{Rule}
+use Rattle.vz_frame.specs.declared.rules.Rule.{Rule}
 use Rattle.vz_frame.specs.declared.message.Message.TheVariants.{Upload, Submit}
 use Rattle.vz_frame.specs.Fits.{fits_mode, fits_material, fits_quad, fits_pass, fits_frame, fits_local, fits_block, fits_message}
 use Rattle.vz_frame.specs.Frame.{first_broken}

@@ -10,11 +10,11 @@ use Rattle.vz_pixels.specs.Colour.{Colour}
 use Rattle.vz_frame.specs.declared.frame.CompositorFrame.{CompositorFrame}
 use Rattle.vz_frame.specs.declared.frame.RenderPass.{RenderPass}
 use Rattle.vz_frame.specs.declared.frame.DrawQuad.{DrawQuad}
-use Rattle.vz_frame.specs.declared.frame.Blend.{Blend}
-use Rattle.vz_frame.specs.declared.frame.Blend.TheVariants.{Over, Src, DstIn}
+use Rattle.vz_frame.specs.declared.blend.Blend.{Blend}
+use Rattle.vz_frame.specs.declared.blend.Blend.TheVariants.{Over, Src, DstIn}
 use Rattle.vz_frame.specs.declared.frame.Material.{Material}
 use Rattle.vz_frame.specs.declared.frame.Material.TheVariants.{Solid}
-use Rattle.vz_frame.specs.declared.frame.Rule.TheVariants.{BadRoot, VisibleOutside, DamageOutside}
+use Rattle.vz_frame.specs.declared.rules.Rule.TheVariants.{BadRoot, VisibleOutside, DamageOutside}
 use Rattle.vz_frame.specs.declared.message.ClientFile.{ClientFile}
 use Rattle.vz_frame.specs.declared.message.Message.{Message}
 use Rattle.vz_frame.specs.declared.message.Message.TheVariants.{Submit, SetRoot}

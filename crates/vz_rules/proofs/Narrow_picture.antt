@@ -8,7 +8,7 @@ use Rattle.vz_ids.specs.declared.LocalSurfaceId.{LocalSurfaceId}
 use Rattle.vz_pixels.specs.Colour.{Colour, black, mul, scale, over}
 use Rattle.vz_frame.specs.declared.frame.RenderPass.{RenderPass}
 use Rattle.vz_frame.specs.declared.frame.DrawQuad.{DrawQuad}
-use Rattle.vz_frame.specs.declared.frame.Blend.TheVariants.{Over}
+use Rattle.vz_frame.specs.declared.blend.Blend.TheVariants.{Over}
 use Rattle.vz_frame.specs.declared.frame.Material.TheVariants.{Solid}
 use Rattle.vz_frame.specs.Blending.{blend, laid}
 use Rattle.vz_frame.specs.Frame.{frame_size}

@@ -11,17 +11,18 @@ ghost use Rattle.vz_rules.specs.Step.{world, step_in, entry_in, NamesClient, Leg
 ghost use Rattle.vz_rules.specs.Whole.{is_in_time};
 ghost use Rattle.vz_rules.specs.Accounts.{takes, taken_in, IsTaking, accepts, IsAcceptance, AreAccounts, ReturnsEachOnce, TellsEachOnce, IsTimely, answered_in, AnswersTick};
 
-/// What stands before the rest of a legal history is legal, and each entry is the one that the machine
-/// makes at its place.
+/// What stands before the rest of a legal history is legal, and each entry is the one that the
+/// machine makes at its place.
 pub fn prefixes_are_legal()
     ensures front { (p : Plan) (h k : List Entry) → Legal p (h ++ k) → Legal p h }
-    ensures entries { (p : Plan) (h : List Entry) (e : Entry) (k : List Entry) → Legal p (h ++ e ∷ k)
+    ensures entries { (p : Plan) (h : List Entry) (e : Entry) (k : List Entry)
+        → Legal p (h ++ e ∷ k)
         → NamesClient p e.event × (e ≡ entry_in p (world p h) e.event) }
 {}
 
-/// A client took as many messages as it has entries that are not refused as too early or as none being
-/// left. They are the first messages of its file: the entry at a place among these answers the message
-/// of that place.
+/// A client took as many messages as it has entries that are not refused as too early or as none
+/// being left. They are the first messages of its file: the entry at a place among these answers
+/// the message of that place.
 pub fn messages_are_taken_in_order()
     ensures count { (p : Plan) (h : List Entry) (c : ℕ) → Legal p h
         → taken_in (world p h) c ≡ length (takes h c) }
@@ -31,26 +32,27 @@ pub fn messages_are_taken_in_order()
 
 /// The submissions of the world are those that the accepting entries took from the files, in order.
 pub fn submissions_are_those_accepted()
-    ensures count { (p : Plan) (h : List Entry) → Legal p h → length (world p h).subs ≡ count_by accepts h }
+    ensures count { (p : Plan) (h : List Entry) → Legal p h
+        → length (world p h).subs ≡ count_by accepts h }
     ensures order { (p : Plan) (h : List Entry) (n : ℕ) (s : Submission) → Legal p h
         → slice_get (world p h).subs n ≡ Some s → IsAcceptance p h n s.image }
 {}
 
-/// The accounts of each client's resources agree with the history: what was lent, queued, reclaimed,
-/// and is held.
+/// The accounts of each client's resources agree with the history: what was lent, queued,
+/// reclaimed, and is held.
 pub fn references_are_accounted()
     ensures { (p : Plan) (h : List Entry) (c id : ℕ) → Legal p h → NamesClient p (event.Client c)
         → AreAccounts p h c id }
 {}
 
-/// Each lent reference is returned once, at the step after which no surface or drawn frame holds its
-/// resource. What is still held at the end is in the rest.
+/// Each lent reference is returned once, at the step after which no surface or drawn frame holds
+/// its resource. What is still held at the end is in the rest.
 pub fn references_are_returned_once()
     ensures { (p : Plan) (h : List Entry) → IsPlan p → Legal p h → ReturnsEachOnce p h }
 {}
 
-/// Each accepted submission has feedback once where it had any, and becomes active once where it was
-/// ever active.
+/// Each accepted submission has feedback once where it had any, and becomes active once where it
+/// was ever active.
 pub fn feedback_is_given_once()
     ensures { (p : Plan) (h : List Entry) → Legal p h → TellsEachOnce p h }
 {}
@@ -58,7 +60,8 @@ pub fn feedback_is_given_once()
 /// A submission becomes active at the step after which its dependencies are met or its deadline has
 /// come. What waits after a step has not come.
 pub fn activations_are_timely()
-    ensures activated { (p : Plan) (h : List Entry) (e : Entry) (k : List Entry) (n : ℕ) (s : Submission)
+    ensures activated { (p : Plan) (h : List Entry) (e : Entry) (k : List Entry) (n : ℕ)
+        (s : Submission)
         → IsPlan p → Legal p (h ++ e ∷ k) → slice_get (world p (h ++ e ∷ [])).subs n ≡ Some s
         → IsTrue (has_sub e.effects.activated (sub_of s)) → IsTimely p h e n s }
     ensures waiting { (p : Plan) (h : List Entry) (n : ℕ) (s : Submission) → IsPlan p
@@ -66,8 +69,9 @@ pub fn activations_are_timely()
         → IsFalse (has_come (world p h) s) }
 {}
 
-/// Where the tick is above 0, a client has answered it exactly where an entry behind a begin-frame that
-/// ticked it is this client's accepted submission, or its note that no frame comes, that carries it.
+/// Where the tick is above 0, a client has answered it exactly where an entry behind a begin-frame
+/// that ticked it is this client's accepted submission, or its note that no frame comes, that
+/// carries it.
 pub fn ticks_are_answered()
     ensures { (p : Plan) (h : List Entry) (c : ℕ) → Legal p h → NamesClient p (event.Client c)
         → 0 < (world p h).tick
@@ -91,8 +95,8 @@ pub fn refusals_change_nothing()
 ghost use Rattle.vz_geom.specs.Rectangle.{Rectangle, is_empty_rect};
 ghost use Rattle.vz_rules.specs.Whole.{damage_after};
 
-/// A drawing tells the damage after the history before it, and where it answers that all is unchanged
-/// that damage is empty.
+/// A drawing tells the damage after the history before it, and where it answers that all is
+/// unchanged that damage is empty.
 pub fn drawings_tell_the_damage()
     ensures drawn { (p : Plan) (h : List Entry) (e : Entry) (k : List Entry) (damage : Rectangle)
         → Legal p (h ++ e ∷ k) → e.reply ≡ reply.Drawn damage → damage ≡ damage_after p h }

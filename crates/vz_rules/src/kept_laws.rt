@@ -1,6 +1,7 @@
 //! Laws of what is kept of the world, each the contract of a function that does nothing.
 ghost use Rattle.std.specs.Prelude.{◌≡◌, true, ℕ, ◌+◌, ◌<◌, ◌≤◌, ◌⊎◌, Some, None, List, [], slice_get, IsTrue, IsFalse};
 ghost use Rattle.std.specs.List.{Contains, list_all, sum_by};
+ghost use Rattle.vz_base.specs.declared.limits.TheConstants.{MOST_MESSAGES};
 ghost use Rattle.vz_pixels.specs.Block.{Block, IsBlock};
 ghost use Rattle.vz_frame.specs.Frame.{frame_size};
 ghost use Rattle.vz_ids.specs.declared.FrameSinkId.{FrameSinkId};
@@ -30,7 +31,8 @@ ghost use Rattle.vz_rules.specs.Kept.{Keeps, KeepsAlways, KeepsPlan, KeepsMessag
 /// What is kept between steps holds at first and after every history, and each step leads to it.
 pub fn steps_keep()
     ensures opening { (p : Plan) → IsPlan p → Keeps (opening p) }
-    ensures step { (p : Plan) (w : World) (e : Event) → KeepsAlways w → Keeps (step_in p w e).world }
+    ensures step { (p : Plan) (w : World) (e : Event) → KeepsAlways w
+        → Keeps (step_in p w e).world }
     ensures history { (p : Plan) (h : List Entry) → IsPlan p → Keeps (world p h) }
 {}
 
@@ -50,7 +52,8 @@ pub fn steps_keep_the_messages()
     ensures history { (p : Plan) (h : List Entry) → IsPlan p → KeepsMessages (world p h) }
 {}
 
-/// Within a step the own change of an event and each part of what follows keep what holds all the time.
+/// Within a step the own change of an event and each part of what follows keep what holds all the
+/// time.
 pub fn changes_keep()
     ensures answer { (p : Plan) (w : World) (e : Event) → KeepsAlways w
         → KeepsAlways (answer_to p w e).world }
@@ -59,7 +62,8 @@ pub fn changes_keep()
     ensures naming { (w : World) → KeepsAlways w → KeepsAlways (naming w) }
     ensures clearing { (w : World) → KeepsAlways w → KeepsAlways (clearing w) }
     ensures returns { (w : World) → KeepsAlways w → KeepsAlways (give_back w) }
-    ensures feedback { (presented : List Sub) (w : World) → KeepsAlways w → KeepsAlways (feed presented w) }
+    ensures feedback { (presented : List Sub) (w : World) → KeepsAlways w
+        → KeepsAlways (feed presented w) }
 {}
 
 /// No two clients, surfaces or submissions have one name.
@@ -92,8 +96,9 @@ pub fn surfaces_are_owned()
 
 /// No number gets great.
 pub fn numbers_are_small()
-    ensures clients { (p : Plan) (w : World) → IsPlan p → KeepsAlways w → KeepsPlan p w → (c : Client)
-        → Contains w.clients c → HasSmallClient c.number × (c.taken ≤ 4096) }
+    ensures clients { (p : Plan) (w : World) → IsPlan p → KeepsAlways w → KeepsPlan p w
+        → (c : Client)
+        → Contains w.clients c → HasSmallClient c.number × (c.taken ≤ MOST_MESSAGES) }
     ensures surfaces { (p : Plan) (w : World) → IsPlan p → KeepsAlways w → KeepsPlan p w
         → (s : Created) → Contains w.surfaces s → IsSmallSurface s }
     ensures submissions { (p : Plan) (w : World) → IsPlan p → KeepsAlways w → KeepsPlan p w
@@ -102,7 +107,8 @@ pub fn numbers_are_small()
         → (c : Client) (s : Resource) → Contains w.clients c → Contains c.resources s
         → IsSmallResource s }
     ensures returns { (p : Plan) (w : World) → IsPlan p → KeepsAlways w → KeepsPlan p w
-        → (c : Client) (r : Returned) → Contains w.clients c → Contains c.queue r → IsSmallReturn r }
+        → (c : Client) (r : Returned) → Contains w.clients c → Contains c.queue r
+        → IsSmallReturn r }
 {}
 
 /// No list of a world gets long.
@@ -111,7 +117,7 @@ pub fn lists_are_short()
         → AreShort w }
 {}
 
-/// A surface has one size, that of each frame accepted on it, and blocks have sides of 1 to 256.
+/// A surface has one size, that of each frame accepted on it, and blocks have the sides of blocks.
 pub fn sizes_are_kept()
     ensures surface { (w : World) (s : Submission) (c : Created) → KeepsAlways w → KeepsMessages w
         → Contains w.subs s → Contains w.surfaces c → IsTrue (same_surface c.id s.image.id)
@@ -119,7 +125,8 @@ pub fn sizes_are_kept()
     ensures frames { (w : World) (s t : Submission) → KeepsAlways w → KeepsMessages w
         → Contains w.subs s → Contains w.subs t → IsTrue (same_surface s.image.id t.image.id)
         → frame_size s.image.frame ≡ frame_size t.image.frame }
-    ensures stored { (w : World) (c : Client) (s : Resource) → KeepsMessages w → Contains w.clients c
+    ensures stored { (w : World) (c : Client) (s : Resource) → KeepsMessages w
+        → Contains w.clients c
         → Contains c.resources s → IsBlock s.block }
     ensures listed { (w : World) (s : Submission) (b : Block) → KeepsMessages w → Contains w.subs s
         → Contains s.image.blocks b → IsBlock b }
@@ -138,8 +145,8 @@ pub fn references_are_counted()
         → Contains c.resources s → IsFalse (is_held w c.number s.id) → out_of s ≡ 0 }
 {}
 
-/// Destroying what is not reached changes nothing of what is reached, so that one collection is enough.
-/// What is reached exists.
+/// Destroying what is not reached changes nothing of what is reached, so that one collection is
+/// enough. What is reached exists.
 pub fn one_collection_is_enough()
     ensures shown { (w : World) (id : SurfaceId) (i : Image) (range : SurfaceRange) → KeepsAlways w
         → IsTrue (has_id (reach w) id) → image_on id (active_images w.subs) ≡ Some i
@@ -153,10 +160,11 @@ pub fn one_collection_is_enough()
         → IsTrue (exists w id) }
 {}
 
-/// Between steps what waits has not come, as a dependency is not met and its deadline is to come, what
-/// is marked and exists is reached, and what had no feedback is waiting, active or in flight.
+/// Between steps what waits has not come, as a dependency is not met and its deadline is to come,
+/// what is marked and exists is reached, and what had no feedback is waiting, active or in flight.
 pub fn nothing_is_late()
-    ensures waits { (w : World) (s : Submission) → Keeps w → Contains w.subs s → IsTrue (is_waiting s)
+    ensures waits { (w : World) (s : Submission) → Keeps w → Contains w.subs s
+        → IsTrue (is_waiting s)
         → IsFalse (has_come w s) }
     ensures due { (w : World) (s : Submission) → Keeps w → Contains w.subs s → IsTrue (is_waiting s)
         → IsFalse (list_all (met w) s.image.frame.metadata.dependencies) × (w.tick < s.due) }
@@ -166,7 +174,8 @@ pub fn nothing_is_late()
         → IsTrue (is_open s) ⊎ IsTrue (is_in_flight w.in_flight (sub_of s)) }
 {}
 
-/// Where an answer leaves what is kept between steps, nothing follows: it has no effects and its world stays.
+/// Where an answer leaves what is kept between steps, nothing follows: it has no effects and its
+/// world stays.
 pub fn nothing_follows()
     ensures { (a : Answer) → Keeps a.world
         → outcome_of [] a ≡ record { reply = a.reply; effects = no_effects; world = a.world } }
@@ -178,7 +187,8 @@ pub fn ends_take_no_room()
     ensures shown { (p : Plan) (w : World) (drawn : List Sub) → Keeps w → w.in_flight ≡ Some drawn
         → step_in p w event.Done ≡ presenting drawn (landed w) }
     ensures nothing { (p : Plan) (w : World) → Keeps w → w.in_flight ≡ None
-        → step_in p w event.Done ≡ record { reply = reply.Nothing; effects = no_effects; world = w } }
+        → step_in p w event.Done
+        ≡ record { reply = reply.Nothing; effects = no_effects; world = w } }
     ensures over { (p : Plan) (w : World) → Keeps w
         → step_in p w event.Over
         ≡ record { reply = reply.Ended; effects = no_effects; world = record w { over = true } } }
@@ -187,10 +197,12 @@ pub fn ends_take_no_room()
 /// So it is with a refused message, with each message that is no submission, root or closing, with
 /// drawings and with the end.
 pub fn idle_changes_keep()
-    ensures refused { (w : World) (c : Client) (r : Refusal) → Keeps w → Keeps (refused w c r).world }
+    ensures refused { (w : World) (c : Client) (r : Refusal) → Keeps w
+        → Keeps (refused w c r).world }
     ensures upload { (w : World) (c : Client) (id : ℕ) (block : Block) → Keeps w
         → Keeps (upload_answer w c id block).world }
-    ensures noted { (w : World) (c : Client) (n : ℕ) → Keeps w → Keeps (taking (answer_tick w.tick n) c w) }
+    ensures noted { (w : World) (c : Client) (n : ℕ) → Keeps w
+        → Keeps (taking (answer_tick w.tick n) c w) }
     ensures reclaimed { (w : World) (c : Client) → Keeps w → Keeps (taking reclaim c w) }
     ensures hierarchy { (w : World) (c : Client) (parent child : FrameSinkId) → Keeps w
         → Keeps (hierarchy_answer w c parent child).world }
@@ -199,7 +211,8 @@ pub fn idle_changes_keep()
     ensures over { (p : Plan) (w : World) → Keeps w → Keeps (answer_to p w event.Over).world }
 {}
 
-/// A legal history and what is still out behind it can be spelled: the text has every number of theirs.
+/// A legal history and what is still out behind it can be spelled: the text has every number of
+/// theirs.
 pub fn histories_are_spelled()
     ensures { (p : Plan) (h : List Entry) → IsPlan p → Legal p h → Spellable h (rest_of p h) }
 {}

@@ -14,7 +14,8 @@ ghost use Rattle.vz_rules.specs.Narrow.{is_narrow, narrow_events, narrow_history
 
 /// A narrow file alone makes its history, and nothing is left behind it.
 pub fn narrow_histories()
-    ensures history { (p : Plan) (f : ClientFile) → IsPlan p → p.files ≡ f ∷ [] → IsTrue (is_narrow f)
+    ensures history { (p : Plan) (f : ClientFile) → IsPlan p → p.files ≡ f ∷ []
+        → IsTrue (is_narrow f)
         → history_from p (opening p) narrow_events ≡ narrow_history p.size }
     ensures legal { (p : Plan) (f : ClientFile) → IsPlan p → p.files ≡ f ∷ [] → IsTrue (is_narrow f)
         → Legal p (narrow_history p.size) }
@@ -24,11 +25,14 @@ pub fn narrow_histories()
 
 /// It is drawn once, as one picture, and with two buffers each of its points is painted twice.
 pub fn narrow_pictures()
-    ensures frames { (p : Plan) (f : ClientFile) → IsPlan p → p.files ≡ f ∷ [] → IsTrue (is_narrow f)
+    ensures frames { (p : Plan) (f : ClientFile) → IsPlan p → p.files ≡ f ∷ []
+        → IsTrue (is_narrow f)
         → frames p (narrow_history p.size) ≡ map (narrow_colour f) (points_of p.size) ∷ [] }
-    ensures written { (p : Plan) (f : ClientFile) → IsPlan p → p.files ≡ f ∷ [] → IsTrue (is_narrow f)
+    ensures written { (p : Plan) (f : ClientFile) → IsPlan p → p.files ≡ f ∷ []
+        → IsTrue (is_narrow f)
         → written p (narrow_history p.size) 2 ≡ map (narrow_colour f) (points_of p.size) ∷ [] }
-    ensures painted { (p : Plan) (f : ClientFile) → IsPlan p → p.files ≡ f ∷ [] → IsTrue (is_narrow f)
+    ensures painted { (p : Plan) (f : ClientFile) → IsPlan p → p.files ≡ f ∷ []
+        → IsTrue (is_narrow f)
         → painted p (narrow_history p.size) 2 ≡ 2 * area_of (sized p.size) }
     ensures area { (size : Size) → area_of (sized size) ≡ nat_abs size.w * nat_abs size.h }
 {}
@@ -37,7 +41,8 @@ pub fn narrow_pictures()
 pub fn narrow_texts()
     ensures { (size : Size)
         → log_text (narrow_history size) nothing_left
-        ≡ codes "c1 accepted 1 1 +1.1\nc1 rooted\ndraw drawn 0 0 " ++ decimal (nat_abs size.w) ++ 32 ∷ decimal (nat_abs size.h) ++ codes "\ndone shown p1.1\nend\n" }
+        ≡ codes "c1 accepted 1 1 +1.1\nc1 rooted\ndraw drawn 0 0 " ++ decimal (nat_abs size.w)
+        ++ 32 ∷ decimal (nat_abs size.h) ++ codes "\ndone shown p1.1\nend\n" }
 {}
 
 /// A narrow file that fits has its quad, with an offset that is one.

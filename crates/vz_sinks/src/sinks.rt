@@ -11,10 +11,13 @@ ghost use Rattle.vz_sinks.specs.Relating.{seats_from, is_known_in, holds_of, is_
 
 use crate::reaching::{has_sink, is_same, put_reached};
 use std::alloc::Global;
+use std::error::Error;
+use std::fmt;
 use std::marker::Model;
+use vz_base::Memory;
+use vz_base::limits::MOST_FILES;
 use vz_frame::{List, Room};
 use vz_ids::FrameSinkId;
-use vz_pixels::Memory;
 
 /// Why a relation is not registered.
 #[derive(Clone, Copy, Debug, PartialEq, Eq)]
@@ -25,8 +28,29 @@ pub enum SinkError {
     UnknownSink,
     /// The parent is not the client's sink.
     ParentOfOther,
-    /// No memory was had.
+    /// Want of memory.
     Memory,
+}
+
+impl fmt::Display for SinkError {
+    fn fmt<W: fmt::Write>(&self, f: &mut fmt::Formatter<W>) -> fmt::Result {
+        match self {
+            SinkError::Loop => f.write_str("the child reaches the parent"),
+            SinkError::UnknownSink => f.write_str("no client has the parent or the child"),
+            SinkError::ParentOfOther => f.write_str("the parent is another client's sink"),
+            SinkError::Memory => Memory.fmt(f),
+        }
+    }
+}
+
+impl Error for SinkError {}
+
+impl From<Memory> for SinkError {
+    ghost from_gives = { λ _ e. e ≡ error.Memory };
+
+    fn from(_error: Memory) -> SinkError {
+        SinkError::Memory
+    }
 }
 
 /// A client with its sink.
@@ -63,17 +87,15 @@ impl Model for Sinks {
 
 impl Sinks {
     /// The clients of these sinks, numbered from 1 on, without a relation. Memory is the only
-    /// error. Conditions: 1 to 16 sinks.
+    /// error. Conditions: 1 to `MOST_FILES` sinks.
     pub fn new(sinks: &[FrameSinkId], alloc: Global) -> Result<Sinks, Memory>
         requires some { 0 < length sinks.now }
-        requires few { length sinks.now ≤ 16 }
+        requires few { length sinks.now ≤ MOST_FILES }
         ensures { IfOk result (λ s. (slice_get sinks.now 0 ≡ Some s.first) × (s.seats ≡ seats_from 1 sinks.now) × (s.relations ≡ [])) }
     {
         let first = sinks[0];
         let mut seats = Vec::new(alloc);
-        if seats.try_reserve(sinks.len()).is_err() {
-            return Err(Memory);
-        }
+        seats.try_reserve(sinks.len())?;
         put_seats(&mut seats, sinks);
         let relations = Vec::new(alloc);
         let mut reached = Room::new(alloc);
@@ -104,11 +126,11 @@ impl Sinks {
         ensures relations { OnOk result (self.new.relations ≡ relate parent child self.old.relations) }
         ensures err { OnErr result (self.new.relations ≡ self.old.relations) }
     {
-        match self.refusal(by, parent, child, alloc) {
-            Err(_) => Err(SinkError::Memory),
-            Ok(Some(reason)) => Err(reason),
-            Ok(None) => self.relate(parent, child, alloc),
+        if let Some(reason) = self.refusal(by, parent, child, alloc)? {
+            return Err(reason);
         }
+        self.relate(parent, child, alloc)?;
+        Ok(())
     }
 
     /// Why a relation is refused, if it is. Memory is the only error.
@@ -136,8 +158,7 @@ impl Sinks {
         parent: FrameSinkId,
         child: FrameSinkId,
         alloc: Global,
-    ) -> Result<(), SinkError>
-        ensures refused { IfErr result (λ e. e ≡ error.Memory) }
+    ) -> Result<(), Memory>
         ensures first { self.new.first ≡ self.old.first }
         ensures seats { self.new.seats ≡ self.old.seats }
         ensures relations { OnOk result (self.new.relations ≡ relate parent child self.old.relations) }
@@ -204,7 +225,7 @@ impl Sinks {
 /// Puts a client for each sink, numbered from 1 on.
 fn put_seats(seats: &mut Vec<Seat>, sinks: &[FrameSinkId])
     requires empty { seats.old.items ≡ [] }
-    requires few { length sinks.now ≤ 16 }
+    requires few { length sinks.now ≤ MOST_FILES }
     requires room { vec_len seats.old + length sinks.now ≤ vec_capacity seats.old }
     ensures { seats.new.items ≡ seats_from 1 sinks.now }
 {
@@ -229,19 +250,14 @@ fn put_relation(
     parent: FrameSinkId,
     child: FrameSinkId,
     alloc: Global,
-) -> Result<(), SinkError>
-    ensures refused { IfErr result (λ e. e ≡ error.Memory) }
+) -> Result<(), Memory>
     ensures items { OnOk result (relations.new.items ≡ relations.old.items ++ (parent, child) ∷ []) }
     ensures reached { OnOk result ((sink : Id) → has_sink reached.new sink ≡ reaches relations.new.items first sink) }
     ensures err { OnErr result ((relations.new.items ≡ relations.old.items) × (reached.new ≡ reached.old)) }
 {
     let mut room = Room::new(alloc);
-    if room.reserve(relations.len() + 2).is_err() {
-        return Err(SinkError::Memory);
-    }
-    if relations.try_reserve(1).is_err() {
-        return Err(SinkError::Memory);
-    }
+    room.reserve(relations.len() + 2)?;
+    relations.try_reserve(1)?;
     relations.push_reserved((parent, child));
     put_reached(relations, first, &mut room);
     *reached = room.into_list();

@@ -8,7 +8,7 @@ use Rattle.vz_ids.specs.declared.LocalSurfaceId.{LocalSurfaceId}
 use Rattle.vz_pixels.specs.Block.{Block}
 use Rattle.vz_frame.specs.declared.frame.CompositorFrame.{CompositorFrame}
 use Rattle.vz_frame.specs.declared.frame.Listing.{Listing}
-use Rattle.vz_frame.specs.declared.frame.Rule.{Rule}
+use Rattle.vz_frame.specs.declared.rules.Rule.{Rule}
 use Rattle.vz_frame.specs.Frame.{first_broken}
 use Rattle.vz_rules.specs.World.{Created, Resource}
 use Rattle.vz_rules.specs.Messages.{first_some, when, is_unknown, violates, has_other_size, submit_refusal}

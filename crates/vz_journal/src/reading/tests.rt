@@ -67,9 +67,9 @@ fn each_front_is_refused(alloc: Global, bytes: &[u8]) -> bool {
 /// Whether this became active and nothing else followed.
 fn has_activated(effects: &Effects, sub: Sub) -> bool {
     effects.activated.as_slice() == [sub].as_slice()
-        && effects.destroyed.as_slice().is_empty()
-        && effects.returned.as_slice().is_empty()
-        && effects.fed.as_slice().is_empty()
+        && effects.destroyed.is_empty()
+        && effects.returned.is_empty()
+        && effects.fed.is_empty()
 }
 
 fn is_accepted(entry: &Entry) -> bool {

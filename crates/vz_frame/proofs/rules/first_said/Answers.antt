@@ -1,5 +1,5 @@
 use Rattle.std.proofs.Common.{sym, false, arith}
-use Rattle.vz_frame.specs.declared.frame.Rule.TheVariants.{NoPass}
+use Rattle.vz_frame.specs.declared.rules.Rule.TheVariants.{NoPass}
 use Rattle.vz_frame.proofs.Tabling.{said, unsaid, none_said}
 use Rattle.vz_frame.proofs.rules.first_said.Goals as goal
 

@@ -4,4 +4,4 @@ use Rattle.vz_gen.proofs.child.child_file.Given as goal
 
 -- the rounds so far and those to come are all rounds
 abbrev pub invariant-loop-r : goal.invariant-loop-r
-invariant-loop-r l = l.messages ++ rounds_from l.k (l.n - l.r) (l.r + 1) ≡ rounds_from l.k l.n 1
+invariant-loop-r l = l.messages.items ++ rounds_from l.k (l.n - l.r) (l.r + 1) ≡ rounds_from l.k l.n 1
