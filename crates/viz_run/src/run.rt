@@ -59,6 +59,9 @@ pub fn viz<F: Shelf + Send, O: Sink, G: Gate + Sync, L: Ledger>(
     // Status 3: the file or the schedule, as it was read, is not taken, the line says which, and nothing was begun.
     ensures file { result.status ≡ 3 → RefusesInput (texts words.now) (F.shelved shelf.old) (F.shelved shelf.new) (O.sunk out.old) (O.sunk out.new) result.history }
 
+    // Status 2 and 3: nothing was painted.
+    ensures unpainted { (result.status ≡ 2) ⊎ (result.status ≡ 3) → steps.new ≡ steps.old }
+
     // Status 4: a count of faults rose.
     ensures fault { result.status ≡ 4 → Rose (F.shelved shelf.old).faults (F.shelved shelf.new).faults ⊎ Rose (O.sunk out.old).faults (O.sunk out.new).faults }
 
@@ -112,6 +115,7 @@ fn step<F: Shelf, O: Sink, G: Gate, L: Ledger>(
     ensures shelf_stays { IsTrue (F.shelved shelf.old).sound → NamesFilesThere (texts words.now) (F.shelved shelf.old) → StaysSound (F.shelved shelf.old) (F.shelved shelf.new) }
     ensures sink_stays { IsTrue (O.sunk out.old).sound → sinks.StaysSound (O.sunk out.old) (O.sunk out.new) }
     ensures silent { IfErr result (λ e. IsRefusal e → O.sunk out.new ≡ O.sunk out.old) }
+    ensures unpainted { IfErr result (λ stop. IsRefusal stop → steps.new ≡ steps.old) }
     ensures done { OnOk result (EndsWell (texts words.now) (F.shelved shelf.old) (F.shelved shelf.new) (O.sunk out.old) (O.sunk out.new) steps.old steps.new history.new) }
 {
     let Some(command) = step_words(words) else {
