@@ -1,14 +1,10 @@
 -- Laws on numbered calls.
-use Rattle.std.proofs.Common.{◌≡◌, ℕ, ◌+◌, ◌<◌, ◌≤◌, ◌==◌, sym, ◌∙◌, nat_lt, Bool, true, false, ◌||◌, List, [], ◌∷◌, IsTrue, refl, ap, arith}
+use Rattle.std.proofs.Common.{◌≡◌, ℕ, ◌≤◌, ◌==◌, sym, ◌∙◌, nat_lt, Bool, true, false, ◌||◌, List, [], ◌∷◌, IsTrue, refl, ap, arith}
 use Rattle.std.specs.List.{list_all, list_any}
-use Rattle.std.proofs.lemmas.Bool.{and_parts, and_from, cond_both, ltb-true, lt-ltb, ne_eqb}
-use Rattle.vz_outside.specs.Faults.{greatest_count}
-use Rattle.vz_outside.specs.Numbered.{Numbered, one_more, counted, is_failing, is_sound}
-
--- one more is not less
-pub one_more_least : (n : ℕ) → n ≤ one_more n
-one_more_least n =
-    cond_both (nat_lt n greatest_count) (n + 1) n (λ m. n ≤ m) (λ low. omega arith) (λ high. omega arith)
+use Rattle.std.proofs.lemmas.Bool.{and_parts, and_from, both_ways, ltb-true, lt-ltb, ne_eqb}
+use Rattle.vz_outside.proofs.Rises.{one_more_least}
+use Rattle.vz_outside.specs.Faults.{one_more}
+use Rattle.vz_outside.specs.Numbered.{Numbered, after_one_call, is_failing, is_faultless}
 
 -- of numbers below another none is equal to it
 none_equal : (numbers : List ℕ) (next : ℕ) → list_all (λ n. nat_lt n next) numbers ≡ true → list_any (λ n. n == next) numbers ≡ false
@@ -29,27 +25,27 @@ still_below (n ∷ numbers) next later le below =
     and_from (nat_lt n later) (list_all (λ m. nat_lt m later) numbers) (lt-ltb n later (omega arith))
     (still_below numbers next later le parts.1)
 
--- the next of sound calls is none of those that fail
-pub sound_passes : (calls : Numbered) → IsTrue (is_sound calls) → is_failing calls ≡ false
-sound_passes calls sound = none_equal calls.failing calls.next (and_parts _ _ sound).0
+-- the next of faultless calls is none of those that fail
+pub faultless_passes : (calls : Numbered) → IsTrue (is_faultless calls) → is_failing calls ≡ false
+faultless_passes calls faultless = none_equal calls.failing calls.next (and_parts _ _ faultless).0
 
--- sound calls are sound after one more
-pub sound_counted : (calls : Numbered) → IsTrue (is_sound calls) → IsTrue (is_sound (counted calls))
-sound_counted calls sound =
+-- a faultless device does not fail by its number
+pub faultless_not_failing : {P : Type 0} (calls : Numbered) → IsTrue (is_faultless calls) → is_failing calls ≡ true → P
+faultless_not_failing calls faultless fails = absurd (both_ways (is_failing calls) (faultless_passes calls faultless) fails)
+
+-- faultless calls are faultless after one more
+pub faultless_counted : (calls : Numbered) → IsTrue (is_faultless calls) → IsTrue (is_faultless (after_one_call calls))
+faultless_counted calls faultless =
     and_from _ _
-    (still_below calls.failing calls.next (one_more calls.next) (one_more_least calls.next) (and_parts _ _ sound).0)
-    (and_parts _ _ sound).1
+    (still_below calls.failing calls.next (one_more calls.next) (one_more_least calls.next) (and_parts _ _ faultless).0)
+    (and_parts _ _ faultless).1
 
--- the count of sound calls can rise
-pub sound_low : (calls : Numbered) → IsTrue (is_sound calls) → calls.faults < greatest_count
-sound_low calls sound = ltb-true calls.faults greatest_count (and_parts _ _ sound).1
-
--- the next call is one of those that fail, where its number was found among theirs
+-- the next call is one of those that fail, or is not, as its number was looked up among theirs
 pub failing_found :
-    (calls : Numbered) (numbers : List ℕ) (number : ℕ) (answer : Bool) →
-    numbers ≡ calls.failing → number ≡ calls.next → answer ≡ list_any (λ n. n == number) numbers → answer ≡ true →
-    is_failing calls ≡ true
-failing_found calls numbers number answer same next found hit =
+    (calls : Numbered) (numbers : List ℕ) (number : ℕ) (answer known : Bool) →
+    numbers ≡ calls.failing → number ≡ calls.next → answer ≡ list_any (λ n. n == number) numbers → answer ≡ known →
+    is_failing calls ≡ known
+failing_found calls numbers number answer known same next found hit =
     ap (λ (ns : List ℕ). list_any (λ n. n == calls.next) ns) (sym same) ∙
     ap (λ (m : ℕ). list_any (λ n. n == m) numbers) (sym next) ∙
     sym found ∙ hit

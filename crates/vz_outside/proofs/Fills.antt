@@ -1,21 +1,19 @@
 -- What stands while a file is read piece by piece.
-use Rattle.std.proofs.Common.{◌≡◌, ℕ, ◌+◌, ◌-◌, ◌<◌, ◌≤◌, List, [], Some, length, take, drop, ◌++◌, IsTrue, sym, ap, ◌∙◌, arith, length-drop, length-append, append_assoc}
+use Rattle.std.proofs.Common.{◌≡◌, ℕ, ◌+◌, ◌-◌, ◌<◌, ◌≤◌, List, [], Some, length, take, drop, ◌++◌, Ok, sym, ap, ◌∙◌, arith, length-drop, length-append, append_assoc}
 use Rattle.std.proofs.lemmas.List.{take_at, drop_all, append-nil, length-take-le}
 use Rattle.std.proofs.Math.Seq.{take-append-add}
 use borrow.Rule.Slice.PartMut.{post_of}
-use Rattle.vz_outside.proofs.Calls.{call_then_call, tells_after, files_then_files, other_rests_then_other_rests, sound_then_sound}
-use Rattle.vz_outside.specs.Shelved.{Shelved, Reading, IsCall, SameFiles, KeepsOtherRests, StaysSound}
+use Rattle.vz_outside.proofs.Calls.{Ran, ran_one, ran_then_ran, known_after, reads_then_reads}
+use Rattle.vz_outside.specs.Shelved.{Shelved, Reading, Consumes, ReadsOnly, Behaves}
 
 -- so many bytes of a slot's rest were read, to the front of the room for them
 pub record HasRead (limit slot filled : ℕ) (room : List ℕ) (old new : Shelved) : Type 0 where
   pub within : filled ≤ length room
   pub bounded : length room ≤ limit + 1
   pub opened : old.mode slot ≡ Some Reading
-  pub call : IsCall old new
-  pub moved : IsTrue old.tells → old.rest slot ≡ take filled room ++ new.rest slot
-  pub files : IsTrue old.tells → SameFiles old new
-  pub rests : IsTrue old.tells → KeepsOtherRests slot old new
-  pub stays : IsTrue old.sound → StaysSound old new
+  pub ran : Ran old new
+  pub moved : Consumes (take filled room) slot old new
+  pub kept : ReadsOnly slot old new
 
 -- what a list holds after its part from a place on was written through a slice
 pub written_through :
@@ -43,27 +41,20 @@ pub read_more :
     HasRead limit slot filled before old mid →
     take filled room ≡ take filled before → filled < length room → length room ≤ limit + 1 →
     length piece ≡ length room - filled → after ≡ take filled room ++ piece → more ≤ length piece →
-    IsCall mid new →
-    (IsTrue mid.tells → mid.rest slot ≡ take more piece ++ new.rest slot) →
-    (IsTrue mid.tells → SameFiles mid new) →
-    (IsTrue mid.tells → KeepsOtherRests slot mid new) →
-    (IsTrue mid.sound → StaysSound mid new) →
+    Consumes (take more piece) slot mid new → ReadsOnly slot mid new → Behaves {T = ℕ} mid new (Ok more) →
     HasRead limit slot (filled + more) after old new
-read_more limit slot filled more before room piece after old mid new was kept low bounded is_piece is_after few call moved files rests stays =
+read_more limit slot filled more before room piece after old mid new was kept low bounded is_piece is_after few moved only behaves =
     record {
       within = omega (arith, long);
       bounded = omega (arith, long);
       opened = was.opened;
-      call = call_then_call old mid new was.call call;
+      ran = ran_then_ran old mid new was.ran (ran_one more mid new behaves);
       moved = λ told.
           was.moved told ∙
-          ap (λ (xs : List ℕ). take filled before ++ xs) (moved (tells_after old mid was.call told)) ∙
+          ap (λ (xs : List ℕ). take filled before ++ xs) (moved (known_after old mid was.ran.call told)) ∙
           sym (append_assoc (take filled before) (take more piece) (new.rest slot)) ∙
           ap (λ (xs : List ℕ). xs ++ new.rest slot) (sym front);
-      files = λ told. files_then_files old mid new (was.files told) (files (tells_after old mid was.call told));
-      rests = λ told.
-          other_rests_then_other_rests slot old mid new was.call (was.rests told) (rests (tells_after old mid was.call told));
-      stays = λ sound. sound_then_sound old mid new (was.stays sound) (stays (was.stays sound).sound);
+      kept = reads_then_reads slot old mid new was.ran.call was.kept only;
     }
   where
     taken : length (take filled room) ≡ filled

@@ -1,35 +1,35 @@
 -- Laws on what a shelf in memory holds: what files and slots keep, and what always holds of it.
-use Rattle.std.proofs.Common.{◌≡◌, ◌≢◌, ℕ, ◌+◌, ◌-◌, min, ◌<◌, ◌⊎◌, inl, inr, Option, Some, None, List, [], ◌∷◌, ◌++◌, length, set, take, drop, slice_get, get_or, refl, sym, ◌∙◌, ap, subst, arith, get_or-set_same, get_or-set_other}
+use Rattle.std.proofs.Common.{◌≡◌, ◌≢◌, ℕ, ◌+◌, ◌-◌, min, ◌<◌, ◌⊎◌, inl, inr, false, Option, Some, None, List, [], ◌∷◌, ◌++◌, length, set, take, drop, slice_get, get_or, refl, sym, ◌∙◌, ap, subst, arith, get_or-set_same, get_or-set_other}
 use Rattle.std.specs.Option.{option_map}
 use Rattle.std.proofs.lemmas.Bool.{cases_eq}
 use Rattle.std.proofs.lemmas.List.{get_or_append_left}
 use Rattle.std.proofs.lemmas.Option.{none-some, same_Some, slice_get_read, slice_get_within}
 use Rattle.vz_outside.proofs.Places.{place_low, place_named, place-set, place-append, place_other, emptied_there, emptied_new, bytes_found, bytes_missing}
 use Rattle.vz_outside.proofs.Slots.{get_push, get_set_cases}
-use Rattle.vz_outside.specs.InMemory.{File, InMemory, IsKept, Moves, Puts, file_at, mode_of, place_of, bytes_in, emptied, extended, slot_name}
-use Rattle.vz_outside.specs.Numbered.{Numbered, counted}
-use Rattle.vz_outside.specs.Shelved.{Text, Mode, Writing}
+use Rattle.vz_outside.specs.InMemory.{File, InMemory, IsKept, Moves, Puts, file_at, mode_of, first_named, bytes_in, emptied, extended, slot_name}
+use Rattle.vz_outside.specs.Numbered.{Numbered, after_one_call, is_failing}
+use Rattle.vz_outside.specs.Shelved.{Name, Mode, Writing}
 use Rattle.vz_outside.specs.declared.memory.Slot.{Slot}
 use Rattle.vz_outside.specs.declared.memory.Place.{Place}
 use Rattle.vz_outside.specs.declared.memory.Place.TheVariants.{At, End}
 
 -- files changed in the bytes of one name alone, which may be new
-pub record ChangesOne (name : Text) (old new : List File) : Type 0 where
-  pub places : (n : Text) (i : ℕ) → place_of old n ≡ Some i → place_of new n ≡ Some i
+pub record ChangesOne (name : Name) (old new : List File) : Type 0 where
+  pub places : (n : Name) (i : ℕ) → first_named old n ≡ Some i → first_named new n ≡ Some i
   pub names : (i : ℕ) → i < length old → (file_at new i).0 ≡ (file_at old i).0
   pub others : (i : ℕ) → i < length old → (file_at old i).0 ≢ name → file_at new i ≡ file_at old i
-  pub missing : (n : Text) → n ≢ name → place_of old n ≡ None → place_of new n ≡ None
+  pub missing : (n : Name) → n ≢ name → first_named old n ≡ None → first_named new n ≡ None
 
 -- a place is known, or there is none
-pub place_cases : (files : List File) (name : Text) → ((i : ℕ) × (place_of files name ≡ Some i)) ⊎ (place_of files name ≡ None)
-place_cases files name = split (place_of files name) refl
+pub place_cases : (files : List File) (name : Name) → ((i : ℕ) × (first_named files name ≡ Some i)) ⊎ (first_named files name ≡ None)
+place_cases files name = split (first_named files name) refl
   where
-    split : (place : Option ℕ) → place_of files name ≡ place → ((i : ℕ) × (place_of files name ≡ Some i)) ⊎ (place_of files name ≡ None)
+    split : (place : Option ℕ) → first_named files name ≡ place → ((i : ℕ) × (first_named files name ≡ Some i)) ⊎ (first_named files name ≡ None)
     split None is = inr is
     split (Some i) is = inl (i, is)
 
 -- the bytes of other names stay
-pub other_bytes : (name other : Text) (old new : List File) → ChangesOne name old new → other ≢ name → bytes_in new other ≡ bytes_in old other
+pub other_bytes : (name other : Name) (old new : List File) → ChangesOne name old new → other ≢ name → bytes_in new other ≡ bytes_in old other
 other_bytes name other old new change differs =
     elim (place_cases old other) [
       | inl found ↦
@@ -59,7 +59,7 @@ change-set files i bytes = record {
 }
 
 -- a file of a new name behind the others changes this name alone
-pub change-append : (files : List File) (name : Text) (bytes : List ℕ) → ChangesOne name files (files ++ (name, bytes) ∷ [])
+pub change-append : (files : List File) (name : Name) (bytes : List ℕ) → ChangesOne name files (files ++ (name, bytes) ∷ [])
 change-append files name bytes = record {
   places = λ n j found. place-append files ((name, bytes) ∷ []) n j found;
   names = λ j low. ap (λ (f : File). f.0) (get_or_append_left files _ _ j low);
@@ -68,24 +68,24 @@ change-append files name bytes = record {
 }
 
 -- a name is emptied or made, and no other changes
-pub change_emptied : (files : List File) (name : Text) → ChangesOne name files (emptied files name)
+pub change_emptied : (files : List File) (name : Name) → ChangesOne name files (emptied files name)
 change_emptied files name =
     elim (place_cases files name) [
       | inl found ↦
           subst (λ (new : List File). ChangesOne name files new) (sym (emptied_there files name found.0 found.1))
-          (subst (λ (n : Text). ChangesOne n files (set files found.0 (n, []))) (place_named files name found.0 found.1)
+          (subst (λ (n : Name). ChangesOne n files (set files found.0 (n, []))) (place_named files name found.0 found.1)
           (change-set files found.0 []))
       | inr none ↦ subst (λ (new : List File). ChangesOne name files new) (sym (emptied_new files name none)) (change-append files name [])
     ]
 
 -- with one file changed all slots keep theirs
 pub kept_files :
-    (name : Text) (shelf : InMemory) (files : List File) (calls : Numbered) →
+    (name : Name) (shelf : InMemory) (files : List File) (calls : Numbered) →
     IsKept shelf → ChangesOne name shelf.files files → IsKept (record shelf { files = files; calls = calls })
 kept_files name shelf files calls kept change = record {
   first = λ k slot at.
       let found = kept.first k slot at in
-      ap (λ (n : Text). place_of files n) (change.names slot.file (place_low shelf.files _ _ found)) ∙
+      ap (λ (n : Name). first_named files n) (change.names slot.file (place_low shelf.files _ _ found)) ∙
       change.places (slot_name shelf.files slot) slot.file found;
   some = kept.some;
 }
@@ -93,13 +93,13 @@ kept_files name shelf files calls kept change = record {
 -- with one more slot all slots have the first file of a name
 pub kept_push :
     (shelf : InMemory) (slot : Slot) (calls : Numbered) →
-    IsKept shelf → place_of shelf.files (slot_name shelf.files slot) ≡ Some slot.file →
+    IsKept shelf → first_named shelf.files (slot_name shelf.files slot) ≡ Some slot.file →
     IsKept (record shelf { slots = shelf.slots ++ slot ∷ []; calls = calls })
 kept_push shelf slot calls kept first = record {
   first = λ k one at.
       elim (get_push shelf.slots slot k one at) [
         | inl before ↦ kept.first k one before
-        | inr same ↦ subst (λ (s : Slot). place_of shelf.files (slot_name shelf.files s) ≡ Some s.file) (sym same) first
+        | inr same ↦ subst (λ (s : Slot). first_named shelf.files (slot_name shelf.files s) ≡ Some s.file) (sym same) first
       ];
   some = kept.some;
 }
@@ -114,8 +114,8 @@ kept-set shelf k slot moved calls kept at same = record {
       elim (get_set_cases shelf.slots k moved j one there) [
         | inl before ↦ kept.first j one before
         | inr is ↦
-            subst (λ (s : Slot). place_of shelf.files (slot_name shelf.files s) ≡ Some s.file) (sym is)
-            (subst (λ (file : ℕ). place_of shelf.files (file_at shelf.files file).0 ≡ Some file) (sym same) (kept.first k slot at))
+            subst (λ (s : Slot). first_named shelf.files (slot_name shelf.files s) ≡ Some s.file) (sym is)
+            (subst (λ (file : ℕ). first_named shelf.files (file_at shelf.files file).0 ≡ Some file) (sym same) (kept.first k slot at))
       ];
   some = kept.some;
 }
@@ -151,12 +151,13 @@ pub moves_made :
     (shelf : InMemory) (k room n : ℕ) (piece bytes : List ℕ) (next : ℕ) (slot : Slot) (calls : Numbered) →
     slice_get shelf.slots k ≡ Some slot → slot.place ≡ At next → (file_at shelf.files slot.file).1 ≡ bytes →
     n ≡ min shelf.piece (min room (length bytes - next)) →
-    drop next bytes ≡ take n piece ++ drop (next + n) bytes → calls ≡ counted shelf.calls →
+    drop next bytes ≡ take n piece ++ drop (next + n) bytes → is_failing shelf.calls ≡ false → calls ≡ after_one_call shelf.calls →
     Moves shelf k room piece n
     (record shelf { slots = set shelf.slots k (record { file = slot.file; place = At (next + n) }); calls = calls })
-moves_made shelf k room n piece bytes next slot calls at stands holds many moved after = record {
+moves_made shelf k room n piece bytes next slot calls at stands holds many moved passes after = record {
   file = slot.file;
   next = next;
+  passes = passes;
   stood = at ∙ ap (λ (place : Place). Some (record { file = slot.file; place = place })) stands;
   many = subst (λ (b : List ℕ). n ≡ min shelf.piece (min room (length b - next))) (sym holds) many;
   moved = subst (λ (b : List ℕ). drop next b ≡ take n piece ++ drop (next + n) b) (sym holds) moved;
@@ -169,10 +170,11 @@ moves_made shelf k room n piece bytes next slot calls at stands holds many moved
 pub puts_made :
     (shelf : InMemory) (k n : ℕ) (piece : List ℕ) (slot : Slot) (files : List File) (calls : Numbered) →
     slice_get shelf.slots k ≡ Some slot → slot.place ≡ End → n ≡ min shelf.piece (length piece) →
-    files ≡ extended shelf.files slot.file (take n piece) → calls ≡ counted shelf.calls →
+    files ≡ extended shelf.files slot.file (take n piece) → is_failing shelf.calls ≡ false → calls ≡ after_one_call shelf.calls →
     Puts shelf k piece n (record shelf { files = files; calls = calls })
-puts_made shelf k n piece slot files calls at stands many longer after = record {
+puts_made shelf k n piece slot files calls at stands many longer passes after = record {
   file = slot.file;
+  passes = passes;
   stood = at ∙ ap (λ (place : Place). Some (record { file = slot.file; place = place })) stands;
   many = many;
   left =

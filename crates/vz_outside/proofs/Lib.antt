@@ -15,3 +15,4 @@ mod CreateRules
 mod ReadRules
 mod WriteRules
 mod OuterCalls
+mod CollectRules

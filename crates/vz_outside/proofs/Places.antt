@@ -8,8 +8,8 @@ use Rattle.std.specs.Str.{bytes_eq}
 use Rattle.std.proofs.lemmas.Bool.{cases_Bool, cases_lt, lt-ltb, le-ltb}
 use Rattle.std.proofs.lemmas.Option.{none-some, same_Some}
 use Rattle.std.proofs.lemmas.Slice.Eq.{bytes_eq-Decides}
-use Rattle.vz_outside.specs.InMemory.{File, bytes_in, emptied, extended, file_at, files_of, place_of}
-use Rattle.vz_outside.specs.Shelved.{Text}
+use Rattle.vz_outside.specs.InMemory.{File, bytes_in, emptied, extended, file_at, files_of, first_named}
+use Rattle.vz_outside.specs.Shelved.{Name}
 
 -- the place in a list, from whether its first element is meant and from the place in its tail
 abbrev step : Bool → Option ℕ → Option ℕ
@@ -30,62 +30,62 @@ step_none false None none = (refl, refl)
 step_none false (Some j) none = absurd (none-some (suc j) (sym none))
 
 -- two names that differ are told apart
-told_apart : (a b : Text) → b ≢ a → bytes_eq a b ≡ false
+told_apart : (a b : Name) → b ≢ a → bytes_eq a b ≡ false
 told_apart a b differs =
     elim (cases_Bool (bytes_eq a b)) [ inl same ↦ absurd (differs (sym ((bytes_eq-Decides a b).0 same))) | inr other ↦ other ]
 
 -- a place is within the list
-pub place_low : (files : List File) (name : Text) (i : ℕ) → place_of files name ≡ Some i → i < length files
-unfolding place_of
+pub place_low : (files : List File) (name : Name) (i : ℕ) → first_named files name ≡ Some i → i < length files
+unfolding first_named
 place_low [] name i found = absurd (none-some i found)
 place_low (file ∷ files) name i found =
-    step_some (bytes_eq file.0 name) (place_of files name) i found (λ hit first. omega arith)
+    step_some (bytes_eq file.0 name) (first_named files name) i found (λ hit first. omega arith)
     (λ j later is. let low = place_low files name j later in omega arith)
 
 -- the file at a name's place has that name
-pub place_named : (files : List File) (name : Text) (i : ℕ) → place_of files name ≡ Some i → (file_at files i).0 ≡ name
-unfolding place_of
+pub place_named : (files : List File) (name : Name) (i : ℕ) → first_named files name ≡ Some i → (file_at files i).0 ≡ name
+unfolding first_named
 place_named [] name i found = absurd (none-some i found)
 place_named (file ∷ files) name i found =
-    step_some (bytes_eq file.0 name) (place_of files name) i found
+    step_some (bytes_eq file.0 name) (first_named files name) i found
     (λ hit first. subst (λ (k : ℕ). (file_at (file ∷ files) k).0 ≡ name) (sym first) ((bytes_eq-Decides file.0 name).0 hit))
     (λ j later is. subst (λ (k : ℕ). (file_at (file ∷ files) k).0 ≡ name) (sym is) (place_named files name j later))
 
 -- other bytes in a file change no place
 pub place-set :
-    (files : List File) (i : ℕ) (bytes : List ℕ) (name : Text) →
-    place_of (set files i ((file_at files i).0, bytes)) name ≡ place_of files name
-unfolding place_of
+    (files : List File) (i : ℕ) (bytes : List ℕ) (name : Name) →
+    first_named (set files i ((file_at files i).0, bytes)) name ≡ first_named files name
+unfolding first_named
 place-set [] i bytes name = refl
 place-set (file ∷ files) zero bytes name = refl
 place-set (file ∷ files) (suc i) bytes name = ap (λ (later : Option ℕ). step (bytes_eq file.0 name) later) (place-set files i bytes name)
 
 -- a file behind takes no place
-pub place-append : (files more : List File) (name : Text) (i : ℕ) → place_of files name ≡ Some i → place_of (files ++ more) name ≡ Some i
-unfolding place_of
+pub place-append : (files more : List File) (name : Name) (i : ℕ) → first_named files name ≡ Some i → first_named (files ++ more) name ≡ Some i
+unfolding first_named
 place-append [] more name i found = absurd (none-some i found)
 place-append (file ∷ files) more name i found =
-    step_some (bytes_eq file.0 name) (place_of files name) i found
-    (λ hit first. ap (λ (b : Bool). step b (place_of (files ++ more) name)) hit ∙ ap Some (sym first))
+    step_some (bytes_eq file.0 name) (first_named files name) i found
+    (λ hit first. ap (λ (b : Bool). step b (first_named (files ++ more) name)) hit ∙ ap Some (sym first))
     (λ j later is.
     ap (λ (rest : Option ℕ). step (bytes_eq file.0 name) rest) (place-append files more name j later ∙ sym later) ∙ found)
 
 -- a file behind is the first of a name that was not there
 pub place_new :
-    (files : List File) (name : Text) (bytes : List ℕ) → place_of files name ≡ None →
-    place_of (files ++ (name, bytes) ∷ []) name ≡ Some (length files)
-unfolding place_of
+    (files : List File) (name : Name) (bytes : List ℕ) → first_named files name ≡ None →
+    first_named (files ++ (name, bytes) ∷ []) name ≡ Some (length files)
+unfolding first_named
 place_new [] name bytes none = ap (λ (b : Bool). step b None) ((bytes_eq-Decides name name).1 refl)
 place_new (file ∷ files) name bytes none =
-    let parts = step_none (bytes_eq file.0 name) (place_of files name) none in
-    ap (λ (b : Bool). step b (place_of (files ++ (name, bytes) ∷ []) name)) parts.0 ∙
+    let parts = step_none (bytes_eq file.0 name) (first_named files name) none in
+    ap (λ (b : Bool). step b (first_named (files ++ (name, bytes) ∷ []) name)) parts.0 ∙
     ap (λ (later : Option ℕ). option_map suc later) (place_new files name bytes parts.1)
 
 -- a file behind is none of another name
 pub place_other :
-    (files : List File) (name other : Text) (bytes : List ℕ) → other ≢ name →
-    place_of (files ++ (name, bytes) ∷ []) other ≡ place_of files other
-unfolding place_of
+    (files : List File) (name other : Name) (bytes : List ℕ) → other ≢ name →
+    first_named (files ++ (name, bytes) ∷ []) other ≡ first_named files other
+unfolding first_named
 place_other [] name other bytes differs = ap (λ (b : Bool). step b None) (told_apart name other differs)
 place_other (file ∷ files) name other bytes differs =
     ap (λ (later : Option ℕ). step (bytes_eq file.0 other) later) (place_other files name other bytes differs)
@@ -109,9 +109,9 @@ position_step false k n =
 
 -- what a search by position finds
 pub place_found :
-    (files : List (String Global × Vec ℕ Global)) (name : Text) →
-    position (λ file. bytes_eq (string_bytes file.0) name) files ≡ place_of (files_of files) name
-unfolding place_of
+    (files : List (String Global × Vec ℕ Global)) (name : Name) →
+    position (λ file. bytes_eq (string_bytes file.0) name) files ≡ first_named (files_of files) name
+unfolding first_named
 place_found [] name = refl
 place_found (file ∷ files) name =
     position_step (bytes_eq (string_bytes file.0) name) (position_or_len (λ file. bytes_eq (string_bytes file.0) name) files) (length files) ∙
@@ -119,7 +119,7 @@ place_found (file ∷ files) name =
 
 -- a place among files as a program holds them is within them
 pub stored_low :
-    (files : List (String Global × Vec ℕ Global)) (name : Text) (i : ℕ) → place_of (files_of files) name ≡ Some i → i < length files
+    (files : List (String Global × Vec ℕ Global)) (name : Name) (i : ℕ) → first_named (files_of files) name ≡ Some i → i < length files
 stored_low files name i found =
     let low = place_low (files_of files) name i found in
     let long : length (files_of files) ≡ length files =
@@ -136,8 +136,8 @@ stored_at (first ∷ files) (suc i) d low = stored_at files i d (omega arith)
 
 -- the bytes of a name that is there
 pub bytes_stored :
-    (files : List (String Global × Vec ℕ Global)) (seen : List File) (name : Text) (i : ℕ) (d : String Global × Vec ℕ Global) →
-    files_of files ≡ seen → place_of (files_of files) name ≡ Some i →
+    (files : List (String Global × Vec ℕ Global)) (seen : List File) (name : Name) (i : ℕ) (d : String Global × Vec ℕ Global) →
+    files_of files ≡ seen → first_named (files_of files) name ≡ Some i →
     bytes_in seen name ≡ Some (get_or files i d).1.items
 bytes_stored files seen name i d same found =
     ap (λ (all : List File). bytes_in all name) (sym same) ∙
@@ -145,15 +145,15 @@ bytes_stored files seen name i d same found =
     ap (λ (f : File). Some f.1) (stored_at files i d (stored_low files name i found))
 
 -- the bytes of a name whose place is known
-pub bytes_found : (files : List File) (name : Text) (i : ℕ) → place_of files name ≡ Some i → bytes_in files name ≡ Some (file_at files i).1
+pub bytes_found : (files : List File) (name : Name) (i : ℕ) → first_named files name ≡ Some i → bytes_in files name ≡ Some (file_at files i).1
 bytes_found files name i found = ap (λ (place : Option ℕ). option_map (λ p. (file_at files p).1) place) found
 
 -- a place that was found is the first of its file's name
-pub place_first : (files : List File) (name : Text) (i : ℕ) → place_of files name ≡ Some i → place_of files (file_at files i).0 ≡ Some i
-place_first files name i found = ap (λ (n : Text). place_of files n) (place_named files name i found) ∙ found
+pub place_first : (files : List File) (name : Name) (i : ℕ) → first_named files name ≡ Some i → first_named files (file_at files i).0 ≡ Some i
+place_first files name i found = ap (λ (n : Name). first_named files n) (place_named files name i found) ∙ found
 
 -- no bytes of a name that is not there
-pub bytes_missing : (files : List File) (name : Text) → place_of files name ≡ None → bytes_in files name ≡ None
+pub bytes_missing : (files : List File) (name : Name) → first_named files name ≡ None → bytes_in files name ≡ None
 bytes_missing files name none = ap (λ (place : Option ℕ). option_map (λ p. (file_at files p).1) place) none
 
 -- a file was put in a place
@@ -190,13 +190,13 @@ stored_extended files i old bytes more low at longer =
 
 -- the first file of a name was emptied
 pub stored_emptied :
-    (files : List (String Global × Vec ℕ Global)) (name : Text) (i : ℕ) (old : String Global × Vec ℕ Global) (bytes : Vec ℕ Global) →
-    place_of (files_of files) name ≡ Some i → old ≡ get_or files i old → bytes.items ≡ [] →
+    (files : List (String Global × Vec ℕ Global)) (name : Name) (i : ℕ) (old : String Global × Vec ℕ Global) (bytes : Vec ℕ Global) →
+    first_named (files_of files) name ≡ Some i → old ≡ get_or files i old → bytes.items ≡ [] →
     files_of (set files i (old.0, bytes)) ≡ set (files_of files) i (name, [])
 stored_emptied files name i old bytes found at empty =
     stored_set files i (old.0, bytes) ∙
     ap (λ (b : List ℕ). set (files_of files) i (string_bytes old.0, b)) empty ∙
-    ap (λ (n : Text). set (files_of files) i (n, [])) named
+    ap (λ (n : Name). set (files_of files) i (n, [])) named
   where
     named : string_bytes old.0 ≡ name
     named =
@@ -206,19 +206,19 @@ stored_emptied files name i old bytes found at empty =
 
 -- with its first file emptied a name has the same place
 pub place_emptied :
-    (files : List File) (name : Text) (i : ℕ) → place_of files name ≡ Some i → place_of (set files i (name, [])) name ≡ Some i
+    (files : List File) (name : Name) (i : ℕ) → first_named files name ≡ Some i → first_named (set files i (name, [])) name ≡ Some i
 place_emptied files name i found =
-    ap (λ (n : Text). place_of (set files i (n, [])) name) (sym (place_named files name i found)) ∙
+    ap (λ (n : Name). first_named (set files i (n, [])) name) (sym (place_named files name i found)) ∙
     place-set files i [] name ∙ found
 
 -- the files with the first of a name emptied, where it is there
 pub emptied_there :
-    (files : List File) (name : Text) (i : ℕ) → place_of files name ≡ Some i → emptied files name ≡ set files i (name, [])
+    (files : List File) (name : Name) (i : ℕ) → first_named files name ≡ Some i → emptied files name ≡ set files i (name, [])
 emptied_there files name i found =
     ap (λ (place : Option ℕ). option_map_or (λ p. set files p (name, [])) place (files ++ (name, []) ∷ [])) found
 
 -- the files with the first of a name made, where it is not there
-pub emptied_new : (files : List File) (name : Text) → place_of files name ≡ None → emptied files name ≡ files ++ (name, []) ∷ []
+pub emptied_new : (files : List File) (name : Name) → first_named files name ≡ None → emptied files name ≡ files ++ (name, []) ∷ []
 emptied_new files name none =
     ap (λ (place : Option ℕ). option_map_or (λ p. set files p (name, [])) place (files ++ (name, []) ∷ [])) none
 
@@ -229,25 +229,25 @@ on_err (Err e) p = p
 
 -- what was found among files as a program holds them
 pub found_there :
-    (seen files : List (String Global × Vec ℕ Global)) (name : Text) (place answer : Option ℕ) →
-    seen ≡ files → answer ≡ place_of (files_of seen) name → answer ≡ place → place_of (files_of files) name ≡ place
+    (seen files : List (String Global × Vec ℕ Global)) (name : Name) (place answer : Option ℕ) →
+    seen ≡ files → answer ≡ first_named (files_of seen) name → answer ≡ place → first_named (files_of files) name ≡ place
 found_there seen files name place answer same found is =
-    ap (λ (all : List (String Global × Vec ℕ Global)). place_of (files_of all) name) (sym same) ∙ sym found ∙ is
+    ap (λ (all : List (String Global × Vec ℕ Global)). first_named (files_of all) name) (sym same) ∙ sym found ∙ is
 
 -- a file of a new name was put behind the others
 pub stored_new :
-    (files : List (String Global × Vec ℕ Global)) (name : Text) (file : String Global × Vec ℕ Global) →
-    place_of (files_of files) name ≡ None → string_bytes file.0 ≡ name → file.1.items ≡ [] →
-    place_of (files_of (files ++ file ∷ [])) name ≡ Some (length files)
+    (files : List (String Global × Vec ℕ Global)) (name : Name) (file : String Global × Vec ℕ Global) →
+    first_named (files_of files) name ≡ None → string_bytes file.0 ≡ name → file.1.items ≡ [] →
+    first_named (files_of (files ++ file ∷ [])) name ≡ Some (length files)
 stored_new files name file none named empty =
-    ap (λ (all : List File). place_of all name) behind ∙
+    ap (λ (all : List File). first_named all name) behind ∙
     place_new (files_of files) name [] none ∙
     ap Some (length-map files (λ (f : String Global × Vec ℕ Global). (string_bytes f.0, f.1.items)))
   where
     behind : files_of (files ++ file ∷ []) ≡ files_of files ++ (name, []) ∷ []
     behind =
         map-append (λ (f : String Global × Vec ℕ Global). (string_bytes f.0, f.1.items)) files (file ∷ []) ∙
-        ap (λ (n : Text). files_of files ++ (n, file.1.items) ∷ []) named ∙
+        ap (λ (n : Name). files_of files ++ (n, file.1.items) ∷ []) named ∙
         ap (λ (b : List ℕ). files_of files ++ (name, b) ∷ []) empty
 
 -- there are as many files as a program holds

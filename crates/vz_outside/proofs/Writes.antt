@@ -1,50 +1,49 @@
 -- What stands while a text is written piece by piece.
-use Rattle.std.proofs.Common.{◌≡◌, ℕ, ◌+◌, ◌≤◌, List, Some, length, take, drop, ◌++◌, IsTrue, refl, subst, ap, arith, length-drop}
+use Rattle.std.proofs.Common.{◌≡◌, ℕ, ◌+◌, ◌≤◌, List, Some, length, take, drop, ◌++◌, IsTrue, take_all, Ok, Err, refl, ◌∙◌, subst, ap, arith, length-drop}
 use Rattle.std.proofs.Math.Seq.{take-add}
-use Rattle.vz_outside.proofs.Calls.{call_same, call_then_call, tells_after, kept_same, kept_then_kept, append_nothing, append_then_append, sound_same, sound_then_sound}
-use Rattle.vz_outside.specs.Shelved.{Shelved, Text, Writing, IsCall, KeepsOthers, Appends, StaysSound}
+use Rattle.vz_outside.proofs.Calls.{Ran, ran_none, ran_one, ran_then_ran, ran_behaves, ran_then_failed, known_after, kept_same, kept_then_kept, kept_of_untouched, append_nothing, append_then_append}
+use Rattle.vz_outside.specs.Shelved.{Shelved, Name, Writing, KeepsOthers, Appends, AppendsFront, IsUntouched, Behaves, with_more}
+use Rattle.vz_outside.specs.declared.shelf.ShelfError.{ShelfError}
 
 -- so many bytes of a text were written
 pub record HasWritten (text : List ℕ) (slot written : ℕ) (old new : Shelved) : Type 0 where
   pub within : written ≤ length text
   pub opened : old.mode slot ≡ Some Writing
-  pub call : IsCall old new
-  pub appended : IsTrue old.tells → Appends (take written text) (old.name slot) old new
-  pub others : IsTrue old.tells → KeepsOthers (old.name slot) old new
-  pub stays : IsTrue old.sound → StaysSound old new
+  pub ran : Ran old new
+  pub appended : Appends (take written text) (old.name slot) old new
+  pub others : KeepsOthers (old.name slot) old new
 
 -- a call wrote so many more, from the front of what was left
 pub written_more :
     (text part : List ℕ) (slot written more : ℕ) (old mid new : Shelved) →
-    HasWritten text slot written old mid → part ≡ drop written text → more ≤ length part → IsCall mid new →
-    (IsTrue mid.tells → Appends (take more part) (mid.name slot) mid new) →
-    (IsTrue mid.tells → KeepsOthers (mid.name slot) mid new) →
-    (IsTrue mid.sound → StaysSound mid new) →
+    HasWritten text slot written old mid → part ≡ drop written text → more ≤ length part →
+    Appends (take more part) (mid.name slot) mid new → KeepsOthers (mid.name slot) mid new →
+    Behaves {T = ℕ} mid new (Ok more) →
     HasWritten text slot (written + more) old new
-written_more text part slot written more old mid new before is_part few call appended others stays = record {
+written_more text part slot written more old mid new before is_part few appended others behaves = record {
   within = omega (arith, length-drop written text, ap length is_part, before.within);
   opened = before.opened;
-  call = call_then_call old mid new before.call call;
-  appended = λ told.
-      subst (λ (all : List ℕ). Appends all (old.name slot) old new) (joined told) (chain told);
-  others = λ told.
-      kept_then_kept (old.name slot) old mid new told before.call (before.others told)
-      (subst (λ (name : Text). KeepsOthers name mid new) (named told) (others (tells_after old mid before.call told)));
-  stays = λ sound.
-      sound_then_sound old mid new (before.stays sound) (stays (before.stays sound).sound);
+  ran = ran_then_ran old mid new before.ran (ran_one more mid new behaves);
+  appended = λ told. subst (λ (all : List ℕ). new.bytes (old.name slot) ≡ with_more (old.bytes (old.name slot)) all) joined (chain told told);
+  others = record {
+    files = λ told. (kept_then_kept (old.name slot) old mid new before.ran.call before.others (moved told)).files told;
+    rests = λ told. (kept_then_kept (old.name slot) old mid new before.ran.call before.others (moved told)).rests told;
+  };
 }
   where
-    named : IsTrue old.tells → mid.name slot ≡ old.name slot
-    named told = before.call.names told slot Writing before.opened
+    named : IsTrue old.is_known → mid.name slot ≡ old.name slot
+    named told = before.ran.call.names told slot Writing before.opened
 
-    chain : IsTrue old.tells → Appends (take written text ++ take more part) (old.name slot) old new
+    moved : IsTrue old.is_known → KeepsOthers (old.name slot) mid new
+    moved told = subst (λ (name : Name). KeepsOthers name mid new) (named told) others
+
+    chain : IsTrue old.is_known → Appends (take written text ++ take more part) (old.name slot) old new
     chain told =
-        append_then_append (take written text) (take more part) (old.name slot) old mid new (before.appended told)
-        (subst (λ (name : Text). Appends (take more part) name mid new) (named told)
-        (appended (tells_after old mid before.call told)))
+        append_then_append (take written text) (take more part) (old.name slot) old mid new before.ran.call before.appended
+        (subst (λ (name : Name). Appends (take more part) name mid new) (named told) appended)
 
-    joined : IsTrue old.tells → take written text ++ take more part ≡ take (written + more) text
-    joined told = rw (is_part, take-add written more text) refl
+    joined : take written text ++ take more part ≡ take (written + more) text
+    joined = rw (is_part, take-add written more text) refl
 
 -- nothing was written yet
 pub written_none :
@@ -52,8 +51,43 @@ pub written_none :
 written_none text slot s writing = record {
   within = omega arith;
   opened = writing;
-  call = call_same s;
-  appended = λ told. append_nothing (s.name slot) s;
-  others = λ told. kept_same (s.name slot) s;
-  stays = λ sound. sound_same s sound;
+  ran = ran_none s;
+  appended = append_nothing (s.name slot) s;
+  others = kept_same (s.name slot) s;
 }
+
+-- all of it was written
+pub written_all :
+    (text : List ℕ) (slot written : ℕ) (old new : Shelved) → HasWritten text slot written old new → length text ≤ written →
+    Appends text (old.name slot) old new
+written_all text slot written old new before all told =
+    before.appended told ∙ ap (λ (part : List ℕ). with_more (old.bytes (old.name slot)) part) (take_all written text all)
+
+-- all calls behaved
+pub written_behaves :
+    {T : Type 0} (text : List ℕ) (slot written : ℕ) (x : T) (old new : Shelved) → HasWritten text slot written old new →
+    Behaves old new (Ok x)
+written_behaves text slot written x old new before = ran_behaves x old new before.ran
+
+-- a call that failed leaves a front part
+pub written_front :
+    (text : List ℕ) (slot written : ℕ) (old mid new : Shelved) → HasWritten text slot written old mid → IsUntouched mid new →
+    AppendsFront text (old.name slot) old new
+written_front text slot written old mid new before untouched told = (
+  written,
+  before.within,
+  untouched.bytes.files (known_after old mid before.ran.call told) (old.name slot) ∙ before.appended told,
+)
+
+-- and what belongs to other names
+pub written_others :
+    (text : List ℕ) (slot written : ℕ) (old mid new : Shelved) → HasWritten text slot written old mid → IsUntouched mid new →
+    KeepsOthers (old.name slot) old new
+written_others text slot written old mid new before untouched =
+    kept_then_kept (old.name slot) old mid new before.ran.call before.others (kept_of_untouched (old.name slot) mid new untouched)
+
+-- and all calls behaved, the last one too
+pub written_then :
+    {T U : Type 0} (text : List ℕ) (slot written : ℕ) (e : ShelfError) (old mid new : Shelved) →
+    HasWritten text slot written old mid → Behaves {T = T} mid new (Err e) → Behaves {T = U} old new (Err e)
+written_then text slot written e old mid new before behaves = ran_then_failed e old mid new before.ran behaves

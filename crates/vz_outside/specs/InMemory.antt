@@ -3,9 +3,8 @@ use Rattle.std.specs.Prelude.{ℕ, suc, ◌+◌, ◌-◌, ◌<◌, ◌≡◌, mi
 use Rattle.std.specs.Option.{option_map, option_map_or}
 use Rattle.std.specs.Global.{Global}
 use Rattle.std.specs.Str.{bytes_eq}
-use Rattle.vz_outside.specs.Faults.{Rose}
-use Rattle.vz_outside.specs.Numbered.{Numbered, counted, faulted, is_failing, is_sound}
-use Rattle.vz_outside.specs.Shelved.{Shelved, Text, Mode, Reading, Writing}
+use Rattle.vz_outside.specs.Numbered.{Numbered, after_one_call, after_one_fault, is_failing, is_faultless}
+use Rattle.vz_outside.specs.Shelved.{Shelved, Name, Mode, Reading, Writing}
 use Rattle.vz_outside.specs.Sunk.{Sunk}
 use Rattle.vz_outside.specs.declared.memory.Slot.{Slot}
 use Rattle.vz_outside.specs.declared.memory.Place.{Place}
@@ -15,7 +14,7 @@ use Rattle.vz_outside.specs.declared.shelf.ShelfError.TheVariants.{Failed, Memor
 
 -- a file: its name and its bytes
 abbrev pub File : Type 0
-File = Text × List ℕ
+File = Name × List ℕ
 
 -- files as a program holds them
 abbrev pub files_of : List (String Global × Vec ℕ Global) → List File
@@ -37,13 +36,13 @@ abbrev pub file_at : List File → ℕ → File
 file_at files place = slice_index_or files place ([], [])
 
 -- the place of the first file of a name
-unfoldable pub place_of : List File → Text → Option ℕ
-place_of [] name = None
-place_of (file ∷ files) name = if bytes_eq file.0 name then Some 0 else option_map suc (place_of files name)
+unfoldable pub first_named : List File → Name → Option ℕ
+first_named [] name = None
+first_named (file ∷ files) name = if bytes_eq file.0 name then Some 0 else option_map suc (first_named files name)
 
 -- the bytes of the first file of a name
-abbrev pub bytes_in : List File → Text → Option (List ℕ)
-bytes_in files name = option_map (λ place. (file_at files place).1) (place_of files name)
+abbrev pub bytes_in : List File → Name → Option (List ℕ)
+bytes_in files name = option_map (λ place. (file_at files place).1) (first_named files name)
 
 -- what a slot that stands there is open for
 abbrev pub mode_of : Place → Mode
@@ -56,7 +55,7 @@ unread bytes (At next) = drop next bytes
 unread bytes End = []
 
 -- the name of a slot's file
-abbrev pub slot_name : List File → Slot → Text
+abbrev pub slot_name : List File → Slot → Name
 slot_name files slot = (file_at files slot.file).0
 
 -- what was not yet read of a slot's file
@@ -67,19 +66,19 @@ slot_rest files slot = unread (file_at files slot.file).1 slot.place
 abbrev pub shelved_of : InMemory → Shelved
 shelved_of shelf = record {
   mode = λ slot. option_map (λ open_slot. mode_of open_slot.place) (slice_get shelf.slots slot);
-  tells = true;
+  is_known = true;
   name = λ slot. option_map_or (slot_name shelf.files) (slice_get shelf.slots slot) [];
   bytes = bytes_in shelf.files;
   rest = λ slot. option_map_or (slot_rest shelf.files) (slice_get shelf.slots slot) [];
   faults = shelf.calls.faults;
-  sound = is_sound shelf.calls;
+  is_faultless = is_faultless shelf.calls;
 }
 
 -- what always holds of a shelf in memory
 pub record IsKept (shelf : InMemory) : Type 0 where
   -- each slot's file is the first of its name
   pub first : (k : ℕ) (slot : Slot) → slice_get shelf.slots k ≡ Some slot →
-      place_of shelf.files (slot_name shelf.files slot) ≡ Some slot.file
+      first_named shelf.files (slot_name shelf.files slot) ≡ Some slot.file
   -- a call can move a byte
   pub some : 0 < shelf.piece
 
@@ -93,74 +92,75 @@ writing_to file = record { file = file; place = End }
 
 -- after a call that changed nothing
 abbrev pub after_call : InMemory → InMemory
-after_call shelf = record shelf { calls = counted shelf.calls }
+after_call shelf = record shelf { calls = after_one_call shelf.calls }
 
 -- after a call that failed
 abbrev pub after_fault : InMemory → InMemory
-after_fault shelf = record shelf { calls = faulted (counted shelf.calls) }
+after_fault shelf = record shelf { calls = after_one_fault shelf.calls }
 
 -- after a call that opened one more slot
 abbrev pub with_slot : InMemory → Slot → InMemory
-with_slot shelf slot = record shelf { slots = shelf.slots ++ slot ∷ []; calls = counted shelf.calls }
+with_slot shelf slot = record shelf { slots = shelf.slots ++ slot ∷ []; calls = after_one_call shelf.calls }
 
 -- the files with that of a name emptied, or made where it was not there
-abbrev pub emptied : List File → Text → List File
-emptied files name = option_map_or (λ place. slice_set files place (name, [])) (place_of files name) (files ++ (name, []) ∷ [])
+abbrev pub emptied : List File → Name → List File
+emptied files name = option_map_or (λ place. slice_set files place (name, [])) (first_named files name) (files ++ (name, []) ∷ [])
 
 -- the files with more bytes at the end of one of them
 abbrev pub extended : List File → ℕ → List ℕ → List File
 extended files place more = slice_set files place ((file_at files place).0, (file_at files place).1 ++ more)
 
--- a call failed because of its number
-abbrev pub FailsByNumber : InMemory → InMemory → Type 0
-FailsByNumber old new = (new ≡ after_fault old) × Rose old.calls.faults new.calls.faults × (is_failing old.calls ≡ true)
+-- what a call answers and leaves that stops before its work: its number is one of those that fail, or there is no memory
+abbrev pub Stops : InMemory → ShelfError → InMemory → Type 0
+Stops old Failed new = (is_failing old.calls ≡ true) × (new ≡ after_fault old)
+Stops old Memory new = (is_failing old.calls ≡ false) × (new ≡ after_call old)
 
 -- what an open of a name answers and leaves
-abbrev pub Opens : InMemory → Text → Result ℕ ShelfError → InMemory → Type 0
+abbrev pub Opens : InMemory → Name → Result ℕ ShelfError → InMemory → Type 0
 Opens old name (Ok slot) new =
-    (slot ≡ length old.slots) × ((file : ℕ) × (place_of old.files name ≡ Some file) × (new ≡ with_slot old (reading_from file 0)))
+    (is_failing old.calls ≡ false) × (slot ≡ length old.slots) ×
+    ((file : ℕ) × (first_named old.files name ≡ Some file) × (new ≡ with_slot old (reading_from file 0)))
 Opens old name (Err Failed) new =
-    (new ≡ after_fault old) × Rose old.calls.faults new.calls.faults × (is_failing old.calls ≡ false → place_of old.files name ≡ None)
-Opens old name (Err Memory) new = new ≡ after_call old
+    (is_failing old.calls ≡ false → first_named old.files name ≡ None) × (new ≡ after_fault old)
+Opens old name (Err Memory) new = Stops old Memory new × ((file : ℕ) × (first_named old.files name ≡ Some file))
 
 -- what a create of a name answers and leaves
-abbrev pub Creates : InMemory → Text → Result ℕ ShelfError → InMemory → Type 0
+abbrev pub Creates : InMemory → Name → Result ℕ ShelfError → InMemory → Type 0
 Creates old name (Ok slot) new =
-    (slot ≡ length old.slots) ×
-    ((file : ℕ) × (place_of (emptied old.files name) name ≡ Some file) ×
+    (is_failing old.calls ≡ false) × (slot ≡ length old.slots) ×
+    ((file : ℕ) × (first_named (emptied old.files name) name ≡ Some file) ×
     (new ≡ record (with_slot old (writing_to file)) { files = emptied old.files name }))
-Creates old name (Err Failed) new = FailsByNumber old new
-Creates old name (Err Memory) new = new ≡ after_call old
+Creates old name (Err error) new = Stops old error new
 
 -- so many bytes moved from a slot's file to the front of a piece
 pub record Moves (old : InMemory) (slot : ℕ) (room : ℕ) (piece : List ℕ) (n : ℕ) (new : InMemory) : Type 0 where
   -- the slot's file, and the next byte of it
   pub file : ℕ
   pub next : ℕ
+  pub passes : is_failing old.calls ≡ false
   pub stood : slice_get old.slots slot ≡ Some (reading_from file next)
   pub many : n ≡ min old.piece (min room (length (file_at old.files file).1 - next))
   pub moved : drop next (file_at old.files file).1 ≡ take n piece ++ drop (next + n) (file_at old.files file).1
-  pub left : new ≡ record old { slots = slice_set old.slots slot (reading_from file (next + n)); calls = counted old.calls }
+  pub left : new ≡ record old { slots = slice_set old.slots slot (reading_from file (next + n)); calls = after_one_call old.calls }
 
 -- what a read of a slot to a piece of so many bytes answers and leaves
 abbrev pub Reads : InMemory → ℕ → ℕ → List ℕ → Result ℕ ShelfError → InMemory → Type 0
 Reads old slot room piece (Ok n) new = Moves old slot room piece n new
-Reads old slot room piece (Err Failed) new = FailsByNumber old new
-Reads old slot room piece (Err Memory) new = new ≡ after_call old
+Reads old slot room piece (Err error) new = Stops old error new
 
 -- so many bytes of a piece were put at the end of a slot's file
 pub record Puts (old : InMemory) (slot : ℕ) (piece : List ℕ) (n : ℕ) (new : InMemory) : Type 0 where
   -- the slot's file
   pub file : ℕ
+  pub passes : is_failing old.calls ≡ false
   pub stood : slice_get old.slots slot ≡ Some (writing_to file)
   pub many : n ≡ min old.piece (length piece)
-  pub left : new ≡ record old { files = extended old.files file (take n piece); calls = counted old.calls }
+  pub left : new ≡ record old { files = extended old.files file (take n piece); calls = after_one_call old.calls }
 
 -- what a write of a piece to a slot answers and leaves
 abbrev pub Writes : InMemory → ℕ → List ℕ → Result ℕ ShelfError → InMemory → Type 0
 Writes old slot piece (Ok n) new = Puts old slot piece n new
-Writes old slot piece (Err Failed) new = FailsByNumber old new
-Writes old slot piece (Err Memory) new = new ≡ after_call old
+Writes old slot piece (Err error) new = Stops old error new
 
 -- what a sink in memory holds
 pub record Collected : Type 0 where
@@ -171,4 +171,19 @@ pub record Collected : Type 0 where
 
 -- what can be known of a sink in memory: everything
 abbrev pub sunk_of : Collected → Sunk
-sunk_of sink = record { tells = true; bytes = sink.bytes; faults = sink.calls.faults; sound = is_sound sink.calls }
+sunk_of sink = record {
+  is_known = true;
+  bytes = sink.bytes;
+  faults = sink.calls.faults;
+  is_faultless = is_faultless sink.calls;
+}
+
+-- what a write of a piece to a sink in memory answers and leaves
+abbrev pub Collects : Collected → List ℕ → Result ℕ ShelfError → Collected → Type 0
+Collects old piece (Ok n) new =
+    (is_failing old.calls ≡ false) × (n ≡ length piece) ×
+    (new ≡ record { bytes = old.bytes ++ piece; calls = after_one_call old.calls })
+Collects old piece (Err Failed) new =
+    (is_failing old.calls ≡ true) × (new ≡ record old { calls = after_one_fault old.calls })
+Collects old piece (Err Memory) new =
+    (is_failing old.calls ≡ false) × (new ≡ record old { calls = after_one_call old.calls })

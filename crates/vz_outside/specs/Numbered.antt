@@ -1,7 +1,7 @@
 -- Calls that are numbered from 1, some of which fail.
-use Rattle.std.specs.Prelude.{ℕ, ◌+◌, ◌==◌, nat_lt, Bool, ◌&&◌, List, if◌then◌else◌}
+use Rattle.std.specs.Prelude.{ℕ, ◌==◌, nat_lt, Bool, ◌&&◌, List}
 use Rattle.std.specs.List.{list_any, list_all}
-use Rattle.vz_outside.specs.Faults.{greatest_count}
+use Rattle.vz_outside.specs.Faults.{greatest_count, one_more}
 
 -- what is known of the calls of a device
 pub record Numbered : Type 0 where
@@ -12,22 +12,22 @@ pub record Numbered : Type 0 where
   -- how many faults there were
   pub faults : ℕ
 
--- one more, until the greatest count is reached
-abbrev pub one_more : ℕ → ℕ
-one_more n = if nat_lt n greatest_count then n + 1 else n
+-- no call was made yet, and those of these numbers will fail
+abbrev pub numbered_from_1 : List ℕ → Numbered
+numbered_from_1 failing = record { failing = failing; next = 1; faults = 0 }
 
 -- the calls after one more of them
-abbrev pub counted : Numbered → Numbered
-counted calls = record calls { next = one_more calls.next }
+abbrev pub after_one_call : Numbered → Numbered
+after_one_call calls = record calls { next = one_more calls.next }
 
--- the calls after one more fault
-abbrev pub faulted : Numbered → Numbered
-faulted calls = record calls { faults = one_more calls.faults }
+-- the calls after one more of them, which failed
+abbrev pub after_one_fault : Numbered → Numbered
+after_one_fault calls = record calls { next = one_more calls.next; faults = one_more calls.faults }
 
 -- the next call is one of those that fail
 abbrev pub is_failing : Numbered → Bool
 is_failing calls = list_any (λ n. n == calls.next) calls.failing
 
 -- no call to come is one of those that fail, and the count of faults can rise
-abbrev pub is_sound : Numbered → Bool
-is_sound calls = list_all (λ n. nat_lt n calls.next) calls.failing && nat_lt calls.faults greatest_count
+abbrev pub is_faultless : Numbered → Bool
+is_faultless calls = list_all (λ n. nat_lt n calls.next) calls.failing && nat_lt calls.faults greatest_count

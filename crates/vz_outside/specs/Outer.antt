@@ -26,14 +26,14 @@ handle_bytes known (Target file) = known file
 abbrev pub outer_shelf : Outer → Shelved
 outer_shelf outer = record {
   mode = λ slot. slice_get outer.modes slot;
-  tells = false;
+  is_known = false;
   name = λ slot. [];
   bytes = λ name. None;
   rest = λ slot. [];
   faults = outer.faults;
-  sound = false;
+  is_faultless = false;
 }
 
 -- what can be known of standard output, by its count of faults
 abbrev pub outer_sink : ℕ → Sunk
-outer_sink faults = record { tells = false; bytes = []; faults = faults; sound = false }
+outer_sink faults = record { is_known = false; bytes = []; faults = faults; is_faultless = false }

@@ -1,9 +1,12 @@
 -- What can be known of a shelf of named files, and what a call may change of it.
-use Rattle.std.specs.Prelude.{◌≡◌, ◌≢◌, ◌≤◌, ℕ, Bool, Option, Some, None, List, ◌++◌, length, take, IsTrue}
+use Rattle.std.specs.Prelude.{◌≡◌, ◌≢◌, ◌≤◌, ℕ, Bool, Option, Some, None, List, [], ◌++◌, ◌∷◌, length, take, IsTrue, Result, IsErrOf}
+use Rattle.vz_outside.specs.Faults.{HasCause}
+use Rattle.vz_outside.specs.declared.shelf.ShelfError.{ShelfError}
+use Rattle.vz_outside.specs.declared.shelf.ShelfError.TheVariants.{Failed}
 
--- a name, or text, as its bytes
-abbrev pub Text : Type 0
-Text = List ℕ
+-- a name, as its bytes
+abbrev pub Name : Type 0
+Name = List ℕ
 
 -- what an open slot is for
 pub data Mode : Type 0 where
@@ -14,69 +17,116 @@ pub data Mode : Type 0 where
 pub record Shelved : Type 0 where
   -- what each slot is open for
   pub mode : ℕ → Option Mode
-  -- whether it tells the names of its slots, the bytes of each name and the unread rests
-  pub tells : Bool
+  -- whether the names of its slots, the bytes of each name and the unread rests are known
+  pub is_known : Bool
   -- the name of each open slot
-  pub name : ℕ → Text
+  pub name : ℕ → Name
   -- the bytes of each name that is there
-  pub bytes : Text → Option (List ℕ)
+  pub bytes : Name → Option (List ℕ)
   -- what was not yet read of each open slot
   pub rest : ℕ → List ℕ
   -- how many faults there were
   pub faults : ℕ
-  -- no call fails but the open of a name that is not there
-  pub sound : Bool
+  -- whether no call fails but the open of a name that is not there
+  pub is_faultless : Bool
 
--- what holds of every call
-pub record IsCall (old new : Shelved) : Type 0 where
-  -- the slots that were open stay open as they were
-  pub slots : (slot : ℕ) (mode : Mode) → old.mode slot ≡ Some mode → new.mode slot ≡ Some mode
-  -- where names are told they stay
-  pub names : IsTrue old.tells → (slot : ℕ) (mode : Mode) → old.mode slot ≡ Some mode → new.name slot ≡ old.name slot
-  -- it tells its bytes now where it did before
-  pub telling : new.tells ≡ old.tells
-  -- the count never falls
-  pub faults : old.faults ≤ new.faults
+-- what is said of the names and bytes of a shelf holds where they are known
+abbrev pub IfKnown : Shelved → Type 0 → Type 0
+IfKnown shelf P = IsTrue shelf.is_known → P
 
--- a slot was not open, and is now
-pub record IsOpened (mode : Mode) (old new : Shelved) (slot : ℕ) : Type 0 where
+-- a name has these bytes
+abbrev pub Holds : List ℕ → Name → Shelved → Type 0
+Holds bytes name shelf = IfKnown shelf (shelf.bytes name ≡ Some bytes)
+
+-- a name is known not to be there
+abbrev pub IsMissing : Name → Shelved → Type 0
+IsMissing name shelf = IsTrue shelf.is_known × (shelf.bytes name ≡ None)
+
+-- all of a slot's file was read
+abbrev pub IsAtEnd : ℕ → Shelved → Type 0
+IsAtEnd slot shelf = IfKnown shelf (shelf.rest slot ≡ [])
+
+-- a slot was not open, and is now, under this name
+pub record IsOpened (mode : Mode) (name : Name) (slot : ℕ) (old new : Shelved) : Type 0 where
   pub free : old.mode slot ≡ None
   pub taken : new.mode slot ≡ Some mode
+  pub named : IfKnown old (new.name slot ≡ name)
+
+-- these bytes were the front of a slot's unread rest, and are read
+abbrev pub Consumes : List ℕ → ℕ → Shelved → Shelved → Type 0
+Consumes piece slot old new = IfKnown old (old.rest slot ≡ piece ++ new.rest slot)
+
+-- the first bytes of a slot's unread rest are these, at most so many of them
+abbrev pub IsFront : ℕ → List ℕ → ℕ → Shelved → Type 0
+IsFront most bytes slot shelf = IfKnown shelf (bytes ≡ take most (shelf.rest slot))
+
+-- the bytes of a name with more behind them: a name that was not there has these alone, where there are any
+abbrev pub with_more : Option (List ℕ) → List ℕ → Option (List ℕ)
+with_more (Some bytes) more = Some (bytes ++ more)
+with_more None [] = None
+with_more None (byte ∷ more) = Some (byte ∷ more)
+
+-- these bytes stand at the end of the bytes of a name
+abbrev pub Appends : List ℕ → Name → Shelved → Shelved → Type 0
+Appends more name old new = IfKnown old (new.bytes name ≡ with_more (old.bytes name) more)
+
+-- a front part of these bytes stands at the end of the bytes of a name
+abbrev pub AppendsFront : List ℕ → Name → Shelved → Shelved → Type 0
+AppendsFront all name old new =
+    IfKnown old ((n : ℕ) × (n ≤ length all) × (new.bytes name ≡ with_more (old.bytes name) (take n all)))
 
 -- the bytes of every name stay
 abbrev pub SameFiles : Shelved → Shelved → Type 0
-SameFiles old new = (name : Text) → new.bytes name ≡ old.bytes name
+SameFiles old new = IfKnown old ((name : Name) → new.bytes name ≡ old.bytes name)
 
--- the rests of the slots that were open stay
-abbrev pub KeepsRests : Shelved → Shelved → Type 0
-KeepsRests old new = (slot : ℕ) (mode : Mode) → old.mode slot ≡ Some mode → new.rest slot ≡ old.rest slot
+-- the bytes of every name stay, and the rests of the slots that were open
+pub record KeepsBytes (old new : Shelved) : Type 0 where
+  pub files : SameFiles old new
+  pub rests : IfKnown old ((slot : ℕ) (mode : Mode) → old.mode slot ≡ Some mode → new.rest slot ≡ old.rest slot)
 
--- those of all but one stay
-abbrev pub KeepsOtherRests : ℕ → Shelved → Shelved → Type 0
-KeepsOtherRests one old new =
-    (slot : ℕ) (mode : Mode) → slot ≢ one → old.mode slot ≡ Some mode → new.rest slot ≡ old.rest slot
+-- the bytes of every name stay, and the rests of the other slots that were open
+pub record ReadsOnly (one : ℕ) (old new : Shelved) : Type 0 where
+  pub files : SameFiles old new
+  pub rests : IfKnown old ((slot : ℕ) (mode : Mode) → slot ≢ one → old.mode slot ≡ Some mode → new.rest slot ≡ old.rest slot)
 
 -- of names other than one the bytes stay, and the rests of their slots
-pub record KeepsOthers (one : Text) (old new : Shelved) : Type 0 where
-  pub files : (name : Text) → name ≢ one → new.bytes name ≡ old.bytes name
-  pub rests : (slot : ℕ) (mode : Mode) → old.mode slot ≡ Some mode → old.name slot ≢ one → new.rest slot ≡ old.rest slot
+pub record KeepsOthers (one : Name) (old new : Shelved) : Type 0 where
+  pub files : IfKnown old ((name : Name) → name ≢ one → new.bytes name ≡ old.bytes name)
+  pub rests : IfKnown old ((slot : ℕ) (mode : Mode) → old.mode slot ≡ Some mode → old.name slot ≢ one → new.rest slot ≡ old.rest slot)
 
--- these bytes stand at the end of the bytes of a name
-abbrev pub Appends : List ℕ → Text → Shelved → Shelved → Type 0
-Appends more name old new = (before : List ℕ) → old.bytes name ≡ Some before → new.bytes name ≡ Some (before ++ more)
-
--- a front part of these bytes stands at the end of the bytes of a name
-abbrev pub AppendsFront : List ℕ → Text → Shelved → Shelved → Type 0
-AppendsFront all name old new = (n : ℕ) × (n ≤ length all) × Appends (take n all) name old new
-
--- no bytes, no rest and no slot changed
+-- no slot was opened, and no bytes and no rest changed: what a failed call leaves
 pub record IsUntouched (old new : Shelved) : Type 0 where
   pub slots : (slot : ℕ) → new.mode slot ≡ old.mode slot
-  pub names : (slot : ℕ) (mode : Mode) → old.mode slot ≡ Some mode → new.name slot ≡ old.name slot
-  pub files : (name : Text) → new.bytes name ≡ old.bytes name
-  pub rests : (slot : ℕ) (mode : Mode) → old.mode slot ≡ Some mode → new.rest slot ≡ old.rest slot
+  pub bytes : KeepsBytes old new
 
--- it is sound, and the count is as before
-pub record StaysSound (old new : Shelved) : Type 0 where
-  pub sound : IsTrue new.sound
+-- what every call keeps
+pub record IsCall (old new : Shelved) : Type 0 where
+  -- the slots that were open stay open as they were
+  pub slots : (slot : ℕ) (mode : Mode) → old.mode slot ≡ Some mode → new.mode slot ≡ Some mode
+  -- under their names
+  pub names : IfKnown old ((slot : ℕ) (mode : Mode) → old.mode slot ≡ Some mode → new.name slot ≡ old.name slot)
+  -- names and bytes are known where they were before
+  pub known : new.is_known ≡ old.is_known
+  -- the count never falls
+  pub faults : old.faults ≤ new.faults
+
+-- it is faultless still, and the count is as before
+pub record StaysFaultless (old new : Shelved) : Type 0 where
+  pub faultless : IsTrue new.is_faultless
   pub faults : new.faults ≡ old.faults
+
+-- what holds of every call, and of several calls of which none but the last failed:
+-- a faultless shelf fails for one reason alone
+pub record BehavesUnless {T : Type 0} (reason : Type 0) (old new : Shelved) (result : Result T ShelfError) : Type 0 where
+  pub call : IsCall old new
+  -- what the answer says of the count of faults
+  pub cause : HasCause old.faults new.faults result
+  -- a faultless shelf fails only for the reason
+  pub works : IsTrue old.is_faultless → IsErrOf result Failed → reason
+  -- and stays so where it does not fail
+  pub stays : IsTrue old.is_faultless → (IsErrOf result Failed → ⊥) → StaysFaultless old new
+
+-- what holds of every call, and of several calls of which none but the last failed:
+-- a faultless shelf does not fail
+abbrev pub Behaves : {T : Type 0} → Shelved → Shelved → Result T ShelfError → Type 0
+Behaves old new result = BehavesUnless ⊥ old new result

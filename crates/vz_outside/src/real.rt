@@ -1,16 +1,16 @@
-//! The files of the system and standard output, as a shelf and a sink: they tell no bytes, and count their faults.
-ghost use Rattle.std.specs.Prelude.{◌≡◌, ◌<◌, ◌≤◌, [], IfOk, OnOk, IsErrOf, length, vec_len, vec_capacity};
-ghost use Rattle.vz_outside.specs.Faults.{Rose};
+//! The files of the system and standard output, as a shelf and a sink: no bytes are known, and faults are counted.
+ghost use Rattle.std.specs.Prelude.{◌≡◌, ◌<◌, ◌≤◌, [], Ok, Err, IfOk, IfErr, OnOk, IsErrOf, MatchResult, length, vec_len, vec_capacity};
+ghost use Rattle.vz_outside.specs.Faults.{HasCause, one_more};
 ghost use Rattle.vz_outside.specs.Outer.{handle_mode};
 ghost use Rattle.vz_outside.specs.Shelved.{Reading, Writing};
 ghost use Rattle.vz_outside.specs.declared.shelf.ShelfError.TheVariants.{Failed};
 
 use crate::opening::room_for_slot;
 use crate::{Shelf, ShelfError, Sink};
-use std::fs;
 use std::io::{Read, Write};
 use std::marker::Model;
 use std::rt::Files;
+use std::{fs, io};
 
 /// An open file, and what it is open for.
 #[derive(Drop)]
@@ -60,34 +60,28 @@ impl<R: Files + AllocGlobal + Drop> Shelf for RealShelf<R> {
 
     ghost shelved = { outer_shelf };
 
-    ghost sound_tells = { λ shelf sound. absurd (false≢true sound) };
+    ghost faultless_known = { λ shelf faultless. absurd (false≢true faultless) };
 
     fn open(&mut self, name: &str) -> Result<u32, ShelfError> {
         let slot = room_for_slot(&mut self.slots)?;
-        let Ok(file) = fs::open(&self.rt, name) else {
-            return Err(fail(&mut self.faults));
-        };
+        let file = answer(fs::open(&self.rt, name), &mut self.faults)?;
         self.slots.push_reserved(Handle::Source(file));
         Ok(slot)
     }
 
     fn create(&mut self, name: &str) -> Result<u32, ShelfError> {
         let slot = room_for_slot(&mut self.slots)?;
-        let Ok(file) = fs::create(&self.rt, name) else {
-            return Err(fail(&mut self.faults));
-        };
+        let file = answer(fs::create(&self.rt, name), &mut self.faults)?;
         self.slots.push_reserved(Handle::Target(file));
         Ok(slot)
     }
 
     fn read(&mut self, slot: u32, into: &mut [u8]) -> Result<usize, ShelfError> {
-        let count = self.slots[slot as usize].read(into, &mut self.faults)?;
-        Ok(count)
+        self.slots[slot as usize].read(into, &mut self.faults)
     }
 
     fn write(&mut self, slot: u32, from: &[u8]) -> Result<usize, ShelfError> {
-        let count = self.slots[slot as usize].write(from, &mut self.faults)?;
-        Ok(count)
+        self.slots[slot as usize].write(from, &mut self.faults)
     }
 }
 
@@ -95,35 +89,35 @@ impl<F: Read + Write + Drop> Handle<F> {
     ghost use Rattle.std.specs.Io.KnownBytes.{ReadConsumes, WriteAppends};
     ghost use Rattle.vz_outside.specs.Outer.{handle_bytes};
 
-    /// Reads the next bytes of the file. Where the file tells what is left, exactly what is answered is taken from it, and
-    /// nothing at an error. Each error of the system is a fault.
+    /// Reads the next bytes of the file. Where it is known what is left, exactly what is answered is taken from
+    /// it, and nothing at an error. Each error of the system is a fault.
     fn read(&mut self, into: &mut [u8], faults: &mut u64) -> Result<usize, ShelfError>
         requires { handle_mode self.old ≡ Reading }
         ensures mode { handle_mode self.new ≡ handle_mode self.old }
         ensures count { IfOk result (λ n. n ≤ length into.old) }
-        ensures bytes { ReadConsumes (handle_bytes F.remaining self.old) (handle_bytes F.remaining self.new) result into.new }
-        ensures least { faults.old ≤ faults.new }
-        ensures failed { IsErrOf result Failed → Rose faults.old faults.new }
+        ensures bytes { ReadConsumes
+            (handle_bytes F.remaining self.old) (handle_bytes F.remaining self.new) result into.new }
+        ensures error { IfErr result (λ e. e ≡ Failed) }
+        ensures cause { HasCause faults.old faults.new result }
     {
         match self {
-            Handle::Source(file) => match file.read(into) {
-                Ok(count) => Ok(count),
-                Err(_) => Err(fail(faults)),
-            },
+            Handle::Source(file) => answer(file.read(into), faults),
             Handle::Target(_) => unreachable!(),
         }
     }
 
-    /// Writes some bytes to the file, at least one. Where the file tells what it holds, exactly those that are answered are
-    /// put at its end, and none at an error. Each error of the system is a fault, and so is a write that takes nothing.
+    /// Writes some bytes to the file, at least one. Where it is known what the file holds, exactly those that are
+    /// answered are put at its end, and none at an error. Each error of the system is a fault, and so is a write
+    /// that takes nothing.
     fn write(&mut self, from: &[u8], faults: &mut u64) -> Result<usize, ShelfError>
         requires { handle_mode self.old ≡ Writing }
         ensures mode { handle_mode self.new ≡ handle_mode self.old }
         ensures count { IfOk result (λ n. n ≤ length from.now) }
         ensures some { IfOk result (λ n. 0 < n) }
-        ensures bytes { WriteAppends (handle_bytes F.contents self.old) (handle_bytes F.contents self.new) result from.now }
-        ensures least { faults.old ≤ faults.new }
-        ensures failed { IsErrOf result Failed → Rose faults.old faults.new }
+        ensures bytes { WriteAppends
+            (handle_bytes F.contents self.old) (handle_bytes F.contents self.new) result from.now }
+        ensures error { IfErr result (λ e. e ≡ Failed) }
+        ensures cause { HasCause faults.old faults.new result }
     {
         match self {
             Handle::Target(file) => match file.write(from) {
@@ -135,11 +129,21 @@ impl<F: Read + Write + Drop> Handle<F> {
     }
 }
 
+/// Hands on an answer of the system, and counts an error of it as a fault.
+fn answer<T>(given: io::Result<T>, faults: &mut u64) -> Result<T, ShelfError>
+    ensures same { MatchResult given (λ value. result ≡ Ok value) (λ _. result ≡ Err Failed) }
+    ensures cause { HasCause faults.old faults.new result }
+{
+    match given {
+        Ok(value) => Ok(value),
+        Err(_) => Err(fail(faults)),
+    }
+}
+
 /// Counts a fault, and answers it. The count stands still at 18,446,744,073,709,551,615.
 fn fail(faults: &mut u64) -> ShelfError
     ensures error { result ≡ Failed }
-    ensures least { faults.old ≤ faults.new }
-    ensures rose { Rose faults.old faults.new }
+    ensures counted { faults.new ≡ one_more faults.old }
 {
     *faults = faults.saturating_add(1);
     ShelfError::Failed
@@ -175,7 +179,7 @@ impl<R: Print + Drop> Sink for RealSink<R> {
 
     ghost sunk = { outer_sink };
 
-    ghost sound_tells = { λ sink sound. absurd (false≢true sound) };
+    ghost faultless_known = { λ sink faultless. absurd (false≢true faultless) };
 
     fn write(&mut self, from: &[u8]) -> Result<usize, ShelfError> {
         match self.rt.write_some(from) {

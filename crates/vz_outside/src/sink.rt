@@ -1,8 +1,7 @@
 //! Where printed text goes.
-ghost use Rattle.std.specs.Prelude.{◌≡◌, ◌<◌, ◌≤◌, ◌++◌, IsTrue, length, take, IfOk, OnErr, IsErrOf};
-ghost use Rattle.vz_outside.specs.Faults.{Rose, greatest_count};
-ghost use Rattle.vz_outside.specs.Sunk.{Sunk, StaysSound};
-ghost use Rattle.vz_outside.specs.declared.shelf.ShelfError.TheVariants.{Failed};
+ghost use Rattle.std.specs.Prelude.{◌<◌, ◌≤◌, IsTrue, length, take, IfOk, OnErr};
+ghost use Rattle.vz_outside.specs.Faults.{greatest_count};
+ghost use Rattle.vz_outside.specs.Sunk.{Sunk, KeepsBytes, Takes, Behaves};
 
 use crate::ShelfError;
 
@@ -12,19 +11,18 @@ pub trait Sink {
     ghost sunk: { Self → Sunk };
 
     /// Takes some bytes from the front of a piece, and answers how many, at least 1.
-    /// `Failed` comes only where the count of faults rose, `Memory` for want of memory; after both no byte was taken.
+    ///
+    /// `Failed` is the answer exactly where the call counted a fault, `Memory` comes for want of memory.
+    /// After both no byte was taken.
     fn write(&mut self, from: &[u8]) -> Result<usize, ShelfError>
         requires piece { 0 < length from.now }
         ensures some { IfOk result (λ n. 0 < n) }
         ensures count { IfOk result (λ n. n ≤ length from.now) }
-        ensures taken { IsTrue (sunk self.old).tells → IfOk result (λ n. (sunk self.new).bytes ≡ (sunk self.old).bytes ++ take n from.now) }
-        ensures untouched { IsTrue (sunk self.old).tells → OnErr result ((sunk self.new).bytes ≡ (sunk self.old).bytes) }
-        ensures telling { (sunk self.new).tells ≡ (sunk self.old).tells }
-        ensures faults { (sunk self.old).faults ≤ (sunk self.new).faults }
-        ensures failed { IsErrOf result Failed → Rose (sunk self.old).faults (sunk self.new).faults }
-        ensures sound { IsTrue (sunk self.old).sound → IsErrOf result Failed → ⊥ }
-        ensures stays { IsTrue (sunk self.old).sound → StaysSound (sunk self.old) (sunk self.new) };
+        ensures taken { IfOk result (λ n. Takes (take n from.now) (sunk self.old) (sunk self.new)) }
+        ensures untouched { OnErr result (KeepsBytes (sunk self.old) (sunk self.new)) }
+        ensures behaves { Behaves (sunk self.old) (sunk self.new) result };
 
-    /// A sound sink tells its bytes, and its count of faults can rise.
-    ghost sound_tells: { (s : Self) → IsTrue (sunk s).sound → IsTrue (sunk s).tells × ((sunk s).faults < greatest_count) };
+    /// The bytes of a faultless sink are known, and its count of faults can rise.
+    ghost faultless_known: { (s : Self) → IsTrue (sunk s).is_faultless →
+        IsTrue (sunk s).is_known × ((sunk s).faults < greatest_count) };
 }

@@ -1,7 +1,6 @@
 //! Whole texts over calls that move a piece each.
-ghost use Rattle.std.specs.Prelude.{◌≡◌, ◌+◌, ◌<◌, ◌≤◌, ◌^◌, ◌++◌, IsTrue, Some, length, take, vec_len, IfOk, OnOk, OnErr, IsErrOf};
-ghost use Rattle.vz_outside.specs.Faults.{Rose};
-ghost use Rattle.vz_outside.specs.Shelved.{Reading, Writing, IsCall, SameFiles, KeepsOtherRests, KeepsOthers, Appends, AppendsFront, StaysSound};
+ghost use Rattle.std.specs.Prelude.{◌≡◌, ◌+◌, ◌<◌, ◌≤◌, ◌^◌, Some, take, vec_len, IfOk, OnOk, OnErr, IsErrOf};
+ghost use Rattle.vz_outside.specs.Shelved.{Reading, Writing, Consumes, IsFront, ReadsOnly, KeepsOthers, Appends, AppendsFront, Behaves};
 ghost use Rattle.vz_outside.specs.Sunk as sinks;
 ghost use Rattle.vz_outside.specs.declared.shelf.ShelfError.TheVariants.{Failed};
 
@@ -13,7 +12,7 @@ const STRIDE: usize = 65_536;
 
 /// Reads a slot's file on to its end, or to one byte above a limit in bytes, so that a longer file shows.
 ///
-/// `Failed` comes only where the count of faults rose, `Memory` for want of memory.
+/// `Failed` is the answer exactly where a fault was counted, `Memory` comes for want of memory.
 /// After both, some of what was not yet read was taken, maybe none.
 pub fn read_upto<F: Shelf>(
     alloc: Global,
@@ -24,14 +23,12 @@ pub fn read_upto<F: Shelf>(
     requires open { (F.shelved shelf.old).mode slot ≡ Some Reading }
     requires limit { limit < 2 ^ 63 }
     ensures bounded { IfOk result (λ bytes. vec_len bytes ≤ limit + 1) }
-    ensures whole { IsTrue (F.shelved shelf.old).tells → IfOk result (λ bytes. bytes.items ≡ take (limit + 1) ((F.shelved shelf.old).rest slot)) }
-    ensures moved { IsTrue (F.shelved shelf.old).tells → IfOk result (λ bytes. (F.shelved shelf.old).rest slot ≡ bytes.items ++ (F.shelved shelf.new).rest slot) }
-    ensures files { IsTrue (F.shelved shelf.old).tells → SameFiles (F.shelved shelf.old) (F.shelved shelf.new) }
-    ensures rests { IsTrue (F.shelved shelf.old).tells → KeepsOtherRests slot (F.shelved shelf.old) (F.shelved shelf.new) }
-    ensures call { IsCall (F.shelved shelf.old) (F.shelved shelf.new) }
-    ensures failed { IsErrOf result Failed → Rose (F.shelved shelf.old).faults (F.shelved shelf.new).faults }
-    ensures sound { IsTrue (F.shelved shelf.old).sound → IsErrOf result Failed → ⊥ }
-    ensures stays { IsTrue (F.shelved shelf.old).sound → StaysSound (F.shelved shelf.old) (F.shelved shelf.new) }
+    ensures front { IfOk result (λ bytes.
+        IsFront (limit + 1) bytes.items slot (F.shelved shelf.old)) }
+    ensures moved { IfOk result (λ bytes.
+        Consumes bytes.items slot (F.shelved shelf.old) (F.shelved shelf.new)) }
+    ensures kept { ReadsOnly slot (F.shelved shelf.old) (F.shelved shelf.new) }
+    ensures behaves { Behaves (F.shelved shelf.old) (F.shelved shelf.new) result }
 {
     let mut bytes = Vec::new(alloc);
     let mut filled = 0;
@@ -68,17 +65,16 @@ fn make_room(bytes: &mut Vec<u8>, filled: usize, limit: usize) -> Result<(), She
 
 /// Writes all of some bytes at the end of a slot's file, in as many calls as it takes.
 ///
-/// `Failed` comes only where the count of faults rose, `Memory` for want of memory.
+/// `Failed` is the answer exactly where a fault was counted, `Memory` comes for want of memory.
 /// After both, some front part of them, maybe none and maybe all, was written.
 pub fn write_all<F: Shelf>(shelf: &mut F, slot: u32, bytes: &[u8]) -> Result<(), ShelfError>
     requires open { (F.shelved shelf.old).mode slot ≡ Some Writing }
-    ensures appended { IsTrue (F.shelved shelf.old).tells → OnOk result (Appends bytes.now ((F.shelved shelf.old).name slot) (F.shelved shelf.old) (F.shelved shelf.new)) }
-    ensures begun { IsTrue (F.shelved shelf.old).tells → OnErr result (AppendsFront bytes.now ((F.shelved shelf.old).name slot) (F.shelved shelf.old) (F.shelved shelf.new)) }
-    ensures others { IsTrue (F.shelved shelf.old).tells → KeepsOthers ((F.shelved shelf.old).name slot) (F.shelved shelf.old) (F.shelved shelf.new) }
-    ensures call { IsCall (F.shelved shelf.old) (F.shelved shelf.new) }
-    ensures failed { IsErrOf result Failed → Rose (F.shelved shelf.old).faults (F.shelved shelf.new).faults }
-    ensures sound { IsTrue (F.shelved shelf.old).sound → IsErrOf result Failed → ⊥ }
-    ensures stays { IsTrue (F.shelved shelf.old).sound → StaysSound (F.shelved shelf.old) (F.shelved shelf.new) }
+    ensures appended { OnOk result (Appends bytes.now ((F.shelved shelf.old).name slot)
+        (F.shelved shelf.old) (F.shelved shelf.new)) }
+    ensures begun { OnErr result (AppendsFront bytes.now ((F.shelved shelf.old).name slot)
+        (F.shelved shelf.old) (F.shelved shelf.new)) }
+    ensures others { KeepsOthers ((F.shelved shelf.old).name slot) (F.shelved shelf.old) (F.shelved shelf.new) }
+    ensures behaves { Behaves (F.shelved shelf.old) (F.shelved shelf.new) result }
 {
     let mut written = 0;
     while written < bytes.len() {
@@ -89,16 +85,12 @@ pub fn write_all<F: Shelf>(shelf: &mut F, slot: u32, bytes: &[u8]) -> Result<(),
 
 /// Prints all of some bytes, in as many calls as it takes.
 ///
-/// `Failed` comes only where the count of faults rose, `Memory` for want of memory.
+/// `Failed` is the answer exactly where a fault was counted, `Memory` comes for want of memory.
 /// After both, some front part of them, maybe none and maybe all, was printed.
 pub fn print<O: Sink>(out: &mut O, bytes: &[u8]) -> Result<(), ShelfError>
-    ensures taken { IsTrue (O.sunk out.old).tells → OnOk result ((O.sunk out.new).bytes ≡ (O.sunk out.old).bytes ++ bytes.now) }
-    ensures begun { IsTrue (O.sunk out.old).tells → OnErr result (sinks.TakesFront bytes.now (O.sunk out.old) (O.sunk out.new)) }
-    ensures telling { (O.sunk out.new).tells ≡ (O.sunk out.old).tells }
-    ensures faults { (O.sunk out.old).faults ≤ (O.sunk out.new).faults }
-    ensures failed { IsErrOf result Failed → Rose (O.sunk out.old).faults (O.sunk out.new).faults }
-    ensures sound { IsTrue (O.sunk out.old).sound → IsErrOf result Failed → ⊥ }
-    ensures stays { IsTrue (O.sunk out.old).sound → sinks.StaysSound (O.sunk out.old) (O.sunk out.new) }
+    ensures taken { OnOk result (sinks.Takes bytes.now (O.sunk out.old) (O.sunk out.new)) }
+    ensures begun { OnErr result (sinks.TakesFront bytes.now (O.sunk out.old) (O.sunk out.new)) }
+    ensures behaves { sinks.Behaves (O.sunk out.old) (O.sunk out.new) result }
 {
     let mut printed = 0;
     while printed < bytes.len() {

@@ -9,4 +9,4 @@ loop-printed-preserved g c =
     let all = c.args.bytes.now in
     let done = c.loop-printed.printed in
     printed_more all (take (length all - done) (drop done all)) _ _ _ _ _ c.loop-printed.invariant (take_rest all done)
-    wrote.count wrote.taken wrote.telling wrote.faults wrote.stays
+    wrote.count wrote.taken wrote.behaves

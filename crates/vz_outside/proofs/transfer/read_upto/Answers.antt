@@ -19,4 +19,4 @@ loop-filled-preserved g c =
     c.loop-filled.invariant c.make_room.ensures.kept (omega arith) (omega arith) (omega arith)
     (written_through room.len c.loop-filled.filled c.deref_mut.result.now room.items c.read.new.into
     same long (omega arith) piece)
-    (omega (arith, read.count, c.read.auto.into)) read.call read.moved read.files read.rests read.stays
+    (omega (arith, read.count, c.read.auto.into)) read.moved read.kept read.behaves

@@ -9,4 +9,4 @@ loop-written-preserved g c =
     let all = c.args.bytes.now in
     let done = c.loop-written.written in
     written_more all (take (length all - done) (drop done all)) _ _ _ _ _ _ c.loop-written.invariant (take_rest all done)
-    wrote.count wrote.call wrote.appended wrote.others wrote.stays
+    wrote.count wrote.appended wrote.others wrote.behaves

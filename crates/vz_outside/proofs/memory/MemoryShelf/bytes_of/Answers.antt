@@ -2,7 +2,7 @@ use Rattle.std.proofs.Common.{◌≡◌, ◌∙◌, sym, ap, Some, List, String,
 use Rattle.std.specs.Global.{Global}
 use Rattle.std.specs.Option.{option_copied}
 use Rattle.vz_outside.proofs.Places.{bytes_stored, bytes_missing}
-use Rattle.vz_outside.specs.InMemory.{InMemory, File, files_of, place_of}
+use Rattle.vz_outside.specs.InMemory.{InMemory, File, files_of, first_named}
 use Rattle.vz_outside.proofs.memory.MemoryShelf.bytes_of.Goals as goal
 
 pub returns : goal.returns
@@ -12,7 +12,7 @@ returns c =
     ap (λ (shelf : InMemory). shelf.files) c.self.view_is in
     ap Some c.as_slice.ensures.value ∙
     sym (bytes_stored c.as_slice-files.result.now c.args.self.now.files c.args.name.now c.in_ok-place.place _ seen
-    (sym c.place_of.ensures.place ∙ c.in_ok-place.was))
+    (sym c.first_named.ensures.place ∙ c.in_ok-place.was))
 
 pub returns-in_err-place : goal.returns-in_err-place
 returns-in_err-place c =
@@ -21,4 +21,4 @@ returns-in_err-place c =
     ap (λ (shelf : InMemory). shelf.files) c.self.view_is in
     ap option_copied c.from_residual.ensures ∙
     sym (bytes_missing c.args.self.now.files c.args.name.now
-    (ap (λ (files : List File). place_of files c.args.name.now) (sym seen) ∙ sym c.place_of.ensures.place ∙ c.in_err-place.was))
+    (ap (λ (files : List File). first_named files c.args.name.now) (sym seen) ∙ sym c.first_named.ensures.place ∙ c.in_err-place.was))

@@ -8,7 +8,7 @@ use Rattle.vz_outside.proofs.memory.MemoryShelf.open_file.Goals as goal
 pub invariant_of-self-2 : goal.invariant_of-self-2
 invariant_of-self-2 c =
     let there =
-    found_there _ c.self.inside.files.items c.args.name.now (Some c.in-Some.file) _ c.deref.ensures.value c.place_of.ensures.place
+    found_there _ c.self.inside.files.items c.args.name.now (Some c.in-Some.file) _ c.deref.ensures.value c.first_named.ensures.place
     c.in-Some.is in
     let held : InMemory =
     record { files = files_of c.self.inside.files.items; slots = c.self.inside.slots.items; calls = c.self.inside.calls; piece = c.self.inside.piece } in

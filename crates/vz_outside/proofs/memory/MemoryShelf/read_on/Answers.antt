@@ -45,4 +45,4 @@ returns-clause-reads c =
     })) c.self.view_is
     (moves_made _ c.args.slot (length c.args.into.now) c.copy_piece-moved.result c.copy_piece-moved.new.into c.as_slice.result.now
     c.next-next.result c.index.result.now c.pass.new.self found.1 c.next-next.ensures bytes c.copy_piece-moved.ensures.many
-    c.copy_piece-moved.ensures.moved c.in_ok-pass.ensures.ok)
+    c.copy_piece-moved.ensures.moved c.in_ok-pass.ensures.passes c.in_ok-pass.ensures.ok)

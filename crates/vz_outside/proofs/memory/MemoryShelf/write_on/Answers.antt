@@ -27,4 +27,4 @@ returns-clause-writes c =
     (record { files = files_of c.extend_file.new.files.items; slots = c.self.inside.slots.items; calls = c.pass.new.self; piece = c.self.inside.piece }))
     c.self.view_is
     (puts_made _ c.args.slot c.min-count.result c.args.from.now c.index.result.now (files_of c.extend_file.new.files.items) c.pass.new.self
-    found.1 (stands_at_end c.index.result.now.place found.2) c.min-count.ensures c.in_ok-extend_file.ensures.files c.in_ok-pass.ensures.ok)
+    found.1 (stands_at_end c.index.result.now.place found.2) c.min-count.ensures c.in_ok-extend_file.ensures.files c.in_ok-pass.ensures.passes c.in_ok-pass.ensures.ok)

@@ -6,13 +6,10 @@ returns c =
     let rules =
     create_rules c.args.self.now c.args.name.now c.create_file.result c.create_file.new.self c.create_file.ensures.kept c.create_file.ensures.creates in
     record {
+      creates = c.create_file.ensures.creates;
       opened = rules.opened;
-      named = rules.named;
       emptied = rules.emptied;
       others = rules.others;
-      call = rules.call;
       untouched = rules.untouched;
-      failed = rules.failed;
-      sound = rules.sound;
-      stays = rules.stays;
+      behaves = rules.behaves;
     }

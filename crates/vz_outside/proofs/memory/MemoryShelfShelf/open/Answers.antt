@@ -6,14 +6,11 @@ returns c =
     let rules =
     open_rules c.args.self.now c.args.name.now c.open_file.result c.open_file.new.self c.open_file.ensures.kept c.open_file.ensures.opens in
     record {
+      opens = c.open_file.ensures.opens;
       opened = rules.opened;
-      named = rules.named;
       whole = rules.whole;
-      files = rules.files;
-      rests = rules.rests;
-      call = rules.call;
+      missing = rules.missing;
+      kept = rules.kept;
       untouched = rules.untouched;
-      failed = rules.failed;
-      sound = rules.sound;
-      stays = rules.stays;
+      behaves = rules.behaves;
     }

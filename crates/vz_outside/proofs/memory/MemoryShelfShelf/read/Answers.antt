@@ -7,14 +7,11 @@ returns c =
     let rules =
     read_rules c.args.self.now c.args.slot (length c.args.into.now) c.read_on.new.into c.read_on.result c.read_on.new.self c.read_on.ensures.kept c.requires.piece c.read_on.ensures.reads in
     record {
+      reads = c.read_on.ensures.reads;
       count = rules.count;
       moved = rules.moved;
       ended = rules.ended;
-      files = rules.files;
-      rests = rules.rests;
-      call = rules.call;
+      kept = rules.kept;
       untouched = rules.untouched;
-      failed = rules.failed;
-      sound = rules.sound;
-      stays = rules.stays;
+      behaves = rules.behaves;
     }

@@ -6,13 +6,11 @@ returns c =
     let rules =
     write_rules c.args.self.now c.args.slot c.args.from.now c.write_on.result c.write_on.new.self c.write_on.ensures.kept c.requires.piece c.write_on.ensures.writes in
     record {
+      writes = c.write_on.ensures.writes;
       some = rules.some;
       count = rules.count;
       appended = rules.appended;
       others = rules.others;
-      call = rules.call;
       untouched = rules.untouched;
-      failed = rules.failed;
-      sound = rules.sound;
-      stays = rules.stays;
+      behaves = rules.behaves;
     }

@@ -1,18 +1,22 @@
-use Rattle.std.proofs.Common.{ap, arith}
-use Rattle.vz_outside.proofs.OuterCalls.{outer_call, same_modes}
+use Rattle.std.proofs.Common.{ap, subst, ℕ}
+use Rattle.vz_outside.proofs.OuterCalls.{kept_modes, outer_behaves, outer_untouched, same_modes}
+use Rattle.vz_outside.proofs.Places.{on_err}
+use Rattle.vz_outside.specs.Faults.{HasCause}
 use Rattle.vz_outside.specs.Outer.{Outer}
 use Rattle.vz_outside.proofs.real.RealShelfShelf.write.Goals as goal
 
-pub returns-in_err-count-clause-call : goal.returns-in_err-count-clause-call
-returns-in_err-count-clause-call g c =
-    outer_call c.args.self.now _
+pub returns-clause-untouched : goal.returns-clause-untouched
+returns-clause-untouched g c =
+    on_err c.write.result
+    (outer_untouched c.args.self.now _
     (same_modes c.self.inside.slots.items c.args.slot c.index_mut.result.now c.write.new.self c.args.self.now.modes
-    c.index_mut.ensures.value c.write.ensures.mode (ap (λ (outer : Outer). outer.modes) c.self.view_is))
-    (omega (arith, ap (λ (outer : Outer). outer.faults) c.self.view_is, c.write.ensures.least))
+    c.index_mut.ensures.value c.write.ensures.mode (ap (λ (outer : Outer). outer.modes) c.self.view_is)))
 
-pub returns-clause-call : goal.returns-clause-call
-returns-clause-call g c =
-    outer_call c.args.self.now _
+pub returns-clause-behaves : goal.returns-clause-behaves
+returns-clause-behaves g c =
+    outer_behaves c.args.self.now _ c.write.result
+    (kept_modes c.args.self.now.modes _
     (same_modes c.self.inside.slots.items c.args.slot c.index_mut.result.now c.write.new.self c.args.self.now.modes
-    c.index_mut.ensures.value c.write.ensures.mode (ap (λ (outer : Outer). outer.modes) c.self.view_is))
-    (omega (arith, ap (λ (outer : Outer). outer.faults) c.self.view_is, c.write.ensures.least))
+    c.index_mut.ensures.value c.write.ensures.mode (ap (λ (outer : Outer). outer.modes) c.self.view_is)))
+    (subst (λ (faults : ℕ). HasCause faults c.write.new.faults c.write.result) (ap (λ (outer : Outer). outer.faults) c.self.view_is)
+    c.write.ensures.cause)

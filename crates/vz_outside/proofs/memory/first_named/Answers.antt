@@ -3,7 +3,7 @@ use Rattle.std.proofs.lemmas.Iterator.{YieldsList-from_slice}
 use Rattle.std.proofs.lemmas.Iterator.Search.{position_from_yields_List}
 use Rattle.std.specs.Str.{bytes_eq}
 use Rattle.vz_outside.proofs.Places.{place_found}
-use Rattle.vz_outside.proofs.memory.place_of.Goals as goal
+use Rattle.vz_outside.proofs.memory.first_named.Goals as goal
 
 pub returns-clause-place : goal.returns-clause-place
 returns-clause-place c =
