@@ -39,10 +39,6 @@ bytes_then_bytes a b c call first then = record {
       then.rests (known_after a b call told) slot mode (call.slots slot mode is) ∙ first.rests told slot mode is;
 }
 
--- no call reads nothing
-pub reads_nothing : (one : ℕ) (s : Shelved) → ReadsOnly one s s
-reads_nothing one s = record { files = λ told name. refl; rests = λ told slot mode other is. refl }
-
 pub reads_then_reads : (one : ℕ) (a b c : Shelved) → IsCall a b → ReadsOnly one a b → ReadsOnly one b c → ReadsOnly one a c
 reads_then_reads one a b c call first then = record {
   files = files_then_files a b c call first.files then.files;
@@ -97,12 +93,6 @@ append_then_append first then name a b c call front back told =
 
 pub faultless_then_faultless : (a b c : Shelved) → StaysFaultless a b → StaysFaultless b c → StaysFaultless a c
 faultless_then_faultless a b c first then = record { faultless = then.faultless; faults = then.faults ∙ first.faults }
-
-pub untouched_then_untouched : (a b c : Shelved) → IsCall a b → IsUntouched a b → IsUntouched b c → IsUntouched a c
-untouched_then_untouched a b c call first then = record {
-  slots = λ slot. then.slots slot ∙ first.slots slot;
-  bytes = bytes_then_bytes a b c call first.bytes then.bytes;
-}
 
 -- calls that went through
 pub record Ran (old new : Shelved) : Type 0 where

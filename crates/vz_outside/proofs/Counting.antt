@@ -1,5 +1,5 @@
 -- Laws on numbered calls.
-use Rattle.std.proofs.Common.{◌≡◌, ℕ, ◌≤◌, ◌==◌, sym, ◌∙◌, nat_lt, Bool, true, false, ◌||◌, List, [], ◌∷◌, IsTrue, refl, ap, arith}
+use Rattle.std.proofs.Common.{◌≡◌, ℕ, ◌≤◌, ◌==◌, ◌∙◌, nat_lt, Bool, true, false, ◌||◌, List, [], ◌∷◌, IsTrue, refl, ap, arith}
 use Rattle.std.specs.List.{list_all, list_any}
 use Rattle.std.proofs.lemmas.Bool.{and_parts, and_from, both_ways, ltb-true, lt-ltb, ne_eqb}
 use Rattle.vz_outside.proofs.Rises.{one_more_least}
@@ -39,13 +39,3 @@ faultless_counted calls faultless =
     and_from _ _
     (still_below calls.failing calls.next (one_more calls.next) (one_more_least calls.next) (and_parts _ _ faultless).0)
     (and_parts _ _ faultless).1
-
--- the next call is one of those that fail, or is not, as its number was looked up among theirs
-pub failing_found :
-    (calls : Numbered) (numbers : List ℕ) (number : ℕ) (answer known : Bool) →
-    numbers ≡ calls.failing → number ≡ calls.next → answer ≡ list_any (λ n. n == number) numbers → answer ≡ known →
-    is_failing calls ≡ known
-failing_found calls numbers number answer known same next found hit =
-    ap (λ (ns : List ℕ). list_any (λ n. n == calls.next) ns) (sym same) ∙
-    ap (λ (m : ℕ). list_any (λ n. n == m) numbers) (sym next) ∙
-    sym found ∙ hit

@@ -1,6 +1,5 @@
 pub mod Rises
 pub mod Calls
-pub mod Fronts
 mod Writes
 mod Prints
 mod Fills

@@ -8,7 +8,7 @@ use Rattle.vz_outside.proofs.Rises.{cause_of_failed, cause_of_memory, cause_of_o
 use Rattle.vz_outside.proofs.Slots.{get-append, get_end}
 use Rattle.vz_outside.specs.InMemory.{InMemory, IsKept, Stops, after_call, after_fault, file_at, mode_of, shelved_of, slot_name}
 use Rattle.vz_outside.specs.Numbered.{Numbered, after_one_call, is_faultless}
-use Rattle.vz_outside.specs.Shelved.{Name, Mode, IsCall, IsOpened, KeepsBytes, KeepsOthers, ReadsOnly, IsUntouched, StaysFaultless, Behaves, BehavesUnless}
+use Rattle.vz_outside.specs.Shelved.{Name, Mode, IsCall, IsOpened, KeepsBytes, IsUntouched, StaysFaultless, Behaves, BehavesUnless}
 use Rattle.vz_outside.specs.declared.memory.Slot.{Slot}
 use Rattle.vz_outside.specs.declared.shelf.ShelfError.{ShelfError}
 use Rattle.vz_outside.specs.declared.shelf.ShelfError.TheVariants.{Failed, Memory}
@@ -27,15 +27,6 @@ still_call shelf calls more = record {
   known = refl;
   faults = more;
 }
-
--- where calls alone change, what belongs to other names stays
-pub still_others :
-    (name : Name) (shelf : InMemory) (calls : Numbered) → KeepsOthers name (shelved_of shelf) (shelved_of (record shelf { calls = calls }))
-still_others name shelf calls = record { files = λ told n differs. refl; rests = λ told slot mode is differs. refl }
-
--- and nothing is read
-pub still_reads : (slot : ℕ) (shelf : InMemory) (calls : Numbered) → ReadsOnly slot (shelved_of shelf) (shelved_of (record shelf { calls = calls }))
-still_reads slot shelf calls = record { files = λ told n. refl; rests = λ told k mode other is. refl }
 
 -- a faultless shelf whose calls are counted on is faultless
 counted_stays : (old new : InMemory) → new.calls ≡ after_one_call old.calls → IsTrue (is_faultless old.calls) → StaysFaultless (shelved_of old) (shelved_of new)

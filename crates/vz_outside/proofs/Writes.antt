@@ -1,9 +1,8 @@
 -- What stands while a text is written piece by piece.
-use Rattle.std.proofs.Common.{◌≡◌, ℕ, ◌+◌, ◌≤◌, List, Some, length, take, drop, ◌++◌, IsTrue, take_all, Ok, Err, refl, ◌∙◌, subst, ap, arith, length-drop}
+use Rattle.std.proofs.Common.{◌≡◌, ℕ, ◌+◌, ◌≤◌, List, Some, length, take, drop, ◌++◌, IsTrue, Ok, refl, subst, ap, arith, length-drop}
 use Rattle.std.proofs.Math.Seq.{take-add}
-use Rattle.vz_outside.proofs.Calls.{Ran, ran_none, ran_one, ran_then_ran, ran_behaves, ran_then_failed, known_after, kept_same, kept_then_kept, kept_of_untouched, append_nothing, append_then_append}
-use Rattle.vz_outside.specs.Shelved.{Shelved, Name, Writing, KeepsOthers, Appends, AppendsFront, IsUntouched, Behaves, with_more}
-use Rattle.vz_outside.specs.declared.shelf.ShelfError.{ShelfError}
+use Rattle.vz_outside.proofs.Calls.{Ran, ran_one, ran_then_ran, kept_then_kept, append_then_append}
+use Rattle.vz_outside.specs.Shelved.{Shelved, Name, Writing, KeepsOthers, Appends, Behaves, with_more}
 
 -- so many bytes of a text were written
 pub record HasWritten (text : List ℕ) (slot written : ℕ) (old new : Shelved) : Type 0 where
@@ -44,50 +43,3 @@ written_more text part slot written more old mid new before is_part few appended
 
     joined : take written text ++ take more part ≡ take (written + more) text
     joined = rw (is_part, take-add written more text) refl
-
--- nothing was written yet
-pub written_none :
-    (text : List ℕ) (slot : ℕ) (s : Shelved) → s.mode slot ≡ Some Writing → HasWritten text slot 0 s s
-written_none text slot s writing = record {
-  within = omega arith;
-  opened = writing;
-  ran = ran_none s;
-  appended = append_nothing (s.name slot) s;
-  others = kept_same (s.name slot) s;
-}
-
--- all of it was written
-pub written_all :
-    (text : List ℕ) (slot written : ℕ) (old new : Shelved) → HasWritten text slot written old new → length text ≤ written →
-    Appends text (old.name slot) old new
-written_all text slot written old new before all told =
-    before.appended told ∙ ap (λ (part : List ℕ). with_more (old.bytes (old.name slot)) part) (take_all written text all)
-
--- all calls behaved
-pub written_behaves :
-    {T : Type 0} (text : List ℕ) (slot written : ℕ) (x : T) (old new : Shelved) → HasWritten text slot written old new →
-    Behaves old new (Ok x)
-written_behaves text slot written x old new before = ran_behaves x old new before.ran
-
--- a call that failed leaves a front part
-pub written_front :
-    (text : List ℕ) (slot written : ℕ) (old mid new : Shelved) → HasWritten text slot written old mid → IsUntouched mid new →
-    AppendsFront text (old.name slot) old new
-written_front text slot written old mid new before untouched told = (
-  written,
-  before.within,
-  untouched.bytes.files (known_after old mid before.ran.call told) (old.name slot) ∙ before.appended told,
-)
-
--- and what belongs to other names
-pub written_others :
-    (text : List ℕ) (slot written : ℕ) (old mid new : Shelved) → HasWritten text slot written old mid → IsUntouched mid new →
-    KeepsOthers (old.name slot) old new
-written_others text slot written old mid new before untouched =
-    kept_then_kept (old.name slot) old mid new before.ran.call before.others (kept_of_untouched (old.name slot) mid new untouched)
-
--- and all calls behaved, the last one too
-pub written_then :
-    {T U : Type 0} (text : List ℕ) (slot written : ℕ) (e : ShelfError) (old mid new : Shelved) →
-    HasWritten text slot written old mid → Behaves {T = T} mid new (Err e) → Behaves {T = U} old new (Err e)
-written_then text slot written e old mid new before behaves = ran_then_failed e old mid new before.ran behaves
