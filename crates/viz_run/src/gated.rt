@@ -3,14 +3,16 @@ ghost use Rattle.std.specs.Fn.{FnOnceReturnsAtMut};
 
 use vz_outside::Gate;
 
-/// A step, as a gate knows it: whose it is, the display's or a client's, and which of that actor's steps, from 1 on.
+/// A step, as a gate knows it: whose it is, the display's or a client's, and which of that actor's
+/// steps, from 1 on.
 #[derive(Clone, Copy, Debug, PartialEq, Eq)]
 pub struct Turn {
     pub actor: u32,
     pub number: u64,
 }
 
-/// Takes a step that changes a state, and tells the gate of it before and after. The answer is the step's.
+/// Takes a step that changes a state, and tells the gate of it before and after. The answer is the
+/// step's.
 pub fn gated<G: Gate, S, T, F: FnOnce(&mut S) -> T>(
     gate: &G,
     turn: Turn,

@@ -162,7 +162,8 @@ fn add(
     reply: Reply,
     effects: Effects,
 ) -> Result<(), Memory>
-    ensures ok { OnOk result (history.new ≡ history.old ++ record { event = event; reply = reply; effects = effects } ∷ []) }
+    ensures ok { OnOk result (history.new ≡ history.old
+        ++ record { event = event; reply = reply; effects = effects } ∷ []) }
     ensures err { OnErr result (history.new ≡ history.old) }
 {
     let entry = Entry {

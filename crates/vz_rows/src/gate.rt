@@ -19,6 +19,7 @@ pub struct GateCall {
 }
 
 /// A gate that keeps its calls in order.
+#[derive(Drop)]
 pub struct KeepingGate<'a, R: Wait> {
     rt: &'a R,
     calls: Mutex<Vec<GateCall>>,
