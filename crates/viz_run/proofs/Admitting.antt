@@ -17,17 +17,18 @@ unfolding Spells
 narrow_bytes bytes client spelled narrow = ap length spelled.1 ∙ narrow_length client narrow
 
 -- what was read and accepted is admitted
-pub admitted : (s : Shelved) (w : StepWords) (bytes schedule : List ℕ) (r : Result ClientFile Stop)
-    → (IsTrue s.tells → IsReadUpto 166 (s.bytes w.file.now) bytes) → (IsTrue s.tells → IsReadUpto 4 (s.bytes w.schedule.now) schedule)
-    → IfOk r (λ client. Spells bytes client) → IfOk r (λ client. IsTrue (is_narrow client)) → OnOk r (schedule ≡ narrow_schedule)
-    → IfOk r (λ client. (b : List ℕ) × IsAdmitted s w client b)
+pub admitted :
+    (s : Shelved) (w : StepWords) (bytes schedule : List ℕ) (r : Result ClientFile Stop) →
+    IsReadUpto 166 w.file.now bytes s → IsReadUpto 4 w.schedule.now schedule s →
+    IfOk r (λ client. Spells bytes client) → IfOk r (λ client. IsTrue (is_narrow client)) → OnOk r (schedule ≡ narrow_schedule) →
+    IfOk r (λ client. (b : List ℕ) × IsAdmitted s w client b)
 admitted s w bytes schedule (Ok client) file_read schedule_read spelled narrow is = (
   bytes,
   record {
     spelled = spelled;
     narrow = narrow;
-    file_told = λ told. read_whole 166 (s.bytes w.file.now) bytes (file_read told) (omega (arith, narrow_bytes bytes client spelled narrow));
-    schedule_told = λ told. read_whole 4 (s.bytes w.schedule.now) schedule (schedule_read told) (omega (arith, ap length is)) ∙ ap Some is;
+    file = read_whole 166 w.file.now bytes s file_read (omega (arith, narrow_bytes bytes client spelled narrow));
+    schedule = λ told. read_whole 4 w.schedule.now schedule s schedule_read (omega (arith, ap length is)) told ∙ ap Some is;
   },
 )
 admitted s w bytes schedule (Err e) file_read schedule_read spelled narrow is = tt

@@ -3,6 +3,7 @@ mod Spelled
 mod Rows
 mod Displays
 mod Fitting
+mod Behaving
 mod Outs
 mod Showing
 mod Narrow_length

@@ -1,20 +1,13 @@
 -- Why a call stops.
 use Rattle.vz_outside.specs.declared.shelf.ShelfError.{ShelfError}
 use Rattle.vz_outside.specs.declared.shelf.ShelfError.TheVariants as shelf_error
-use Rattle.viz_run.specs.declared.stop.Halt.{Halt}
-use Rattle.viz_run.specs.declared.stop.Halt.TheVariants as halt
 use Rattle.viz_run.specs.declared.stop.Stop.{Stop}
 use Rattle.viz_run.specs.declared.stop.Stop.TheVariants as stop
 
--- what an error of a shelf or a sink halts
-abbrev pub halt_of : ShelfError → Halt
-halt_of shelf_error.Failed = halt.Fault
-halt_of shelf_error.Memory = halt.Memory
-
--- what a halt stops a call for
-abbrev pub stop_of : Halt → Stop
-stop_of halt.Fault = stop.Fault
-stop_of halt.Memory = stop.Memory
+-- what an error of a shelf or a sink stops a call for
+abbrev pub stop_of : ShelfError → Stop
+stop_of shelf_error.Failed = stop.Fault
+stop_of shelf_error.Memory = stop.Memory
 
 -- a call is stopped for its words or a file
 abbrev pub IsRefusal : Stop → Type 0

@@ -9,7 +9,11 @@ use Rattle.vz_rules.specs.Narrow.{no_effects, only_sub}
 
 -- the submission is accepted, and becomes active
 abbrev pub accepted_entry : Entry
-accepted_entry = record { event = event.Client 1; reply = reply.Accepted 1 1; effects = record no_effects { activated = only_sub ∷ [] } }
+accepted_entry = record {
+  event = event.Client 1;
+  reply = reply.Accepted 1 1;
+  effects = record no_effects { activated = only_sub ∷ [] };
+}
 
 -- its surface becomes the root
 abbrev pub rooted_entry : Entry
@@ -21,4 +25,8 @@ drawn_entry size = record { event = event.Draw; reply = reply.Drawn (sized size)
 
 -- what was drawn is shown, and the submission presented
 abbrev pub shown_entry : Entry
-shown_entry = record { event = event.Done; reply = reply.Shown; effects = record no_effects { fed = record { sub = only_sub; presented = true } ∷ [] } }
+shown_entry = record {
+  event = event.Done;
+  reply = reply.Shown;
+  effects = record no_effects { fed = record { sub = only_sub; presented = true } ∷ [] };
+}

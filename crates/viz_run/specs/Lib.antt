@@ -1,5 +1,6 @@
 pub mod Words
 pub mod Files
+pub mod Outside
 pub mod Ends
 pub mod Entries
 pub mod Lines

@@ -1,6 +1,6 @@
 -- The lines that are printed.
-use Rattle.std.specs.Prelude.{◌≡◌, ◌⊎◌, IsTrue, ℕ, codes, List, ◌++◌, length, count_by}
-use Rattle.vz_outside.specs.Sunk.{Sunk}
+use Rattle.std.specs.Prelude.{◌≡◌, ◌⊎◌, ℕ, codes, List, [], ◌++◌, length, count_by}
+use Rattle.vz_outside.specs.Sunk.{Sunk, Takes}
 use Rattle.vz_rules.specs.declared.entry.Entry.{Entry}
 use Rattle.viz_run.specs.declared.stop.Stop.{Stop}
 use Rattle.viz_run.specs.declared.stop.Stop.TheVariants as stop
@@ -13,7 +13,8 @@ drawn_count h = count_by (λ e. is_drawn e.reply) h
 
 -- so many entries and so many frames
 unfoldable pub done_text : ℕ → ℕ → List ℕ
-done_text entries frames = codes "done" ++ then_number entries ++ codes " entries" ++ then_number frames ++ codes " frames\n"
+done_text entries frames =
+    codes "done" ++ then_number entries ++ codes " entries" ++ then_number frames ++ codes " frames\n"
 
 -- what is printed of a history at its end
 abbrev pub done_line : List Entry → List ℕ
@@ -31,11 +32,16 @@ file_line = codes "file 1 refused at 0: NotBuilt\n"
 unfoldable pub schedule_line : List ℕ
 schedule_line = codes "file 0 refused at 0: NotBuilt\n"
 
--- where the sink tells its bytes, a line was put at their end
-abbrev pub IsTold : List ℕ → Sunk → Sunk → Type 0
-IsTold line before after = IsTrue before.tells → after.bytes ≡ before.bytes ++ line
-
 -- a refused file is told by its line
 abbrev pub TellsRefusal : Stop → Sunk → Sunk → Type 0
 TellsRefusal why before after =
-    ((why ≡ stop.File) × IsTold file_line before after) ⊎ ((why ≡ stop.Schedule) × IsTold schedule_line before after)
+    ((why ≡ stop.File) × Takes file_line before after)
+    ⊎ ((why ≡ stop.Schedule) × Takes schedule_line before after)
+
+-- the line that is due where a call stops: none after a fault, nor for want of memory
+abbrev pub due_line : Stop → List ℕ
+due_line stop.Words = words_line
+due_line stop.File = file_line
+due_line stop.Schedule = schedule_line
+due_line stop.Fault = []
+due_line stop.Memory = []

@@ -11,7 +11,8 @@ texts words = map string_bytes words
 
 -- the words are those of no `step` with one client file
 abbrev pub IsNoStep : List Text → Type 0
-IsNoStep words = (w h : ℕ) (schedule frames log file : Text) → IsCommand words (Step w h schedule frames log (file ∷ [])) → ⊥
+IsNoStep words =
+    (w h : ℕ) (schedule frames log file : Text) → IsCommand words (Step w h schedule frames log (file ∷ [])) → ⊥
 
 -- a text begins neither with a plus nor with a zero before other bytes
 abbrev pub is_plain : List ℕ → Bool

@@ -1,12 +1,11 @@
 //! What `step` reads: the client's file and the schedule.
 ghost use Rattle.std.specs.Prelude.{◌≡◌, ◌≢◌, ◌^◌, ◌<◌, false, IsTrue, IfOk, IfErr, OnOk, OnErr, IsErrOf};
 ghost use Rattle.vz_codec.specs.Grammar.{Spells};
-ghost use Rattle.vz_outside.specs.Faults.{Rose};
-ghost use Rattle.vz_outside.specs.Shelved.{IsCall, SameFiles, StaysSound};
-ghost use Rattle.vz_outside.specs.declared.shelf.ShelfError.TheVariants.{Failed};
+ghost use Rattle.vz_outside.specs.Faults.{one_more};
+ghost use Rattle.vz_outside.specs.Shelved.{IsCall, IsMissing, SameFiles, StaysFaultless, BehavesUnless};
 ghost use Rattle.vz_rules.specs.Narrow.{is_narrow};
-ghost use Rattle.viz_run.specs.Files.{IsReadUpto, IsThere, narrow_schedule};
-ghost use Rattle.viz_run.specs.Shown.{line_of, IsAdmitted};
+ghost use Rattle.viz_run.specs.Files.{IsReadUpto, narrow_length, narrow_schedule, schedule_length};
+ghost use Rattle.viz_run.specs.Shown.{line_of, IsAdmitted, AreThere, MissesOne};
 ghost use Rattle.viz_run.specs.Causes.{IsNotNarrow, RefusesFile, RefusesSchedule};
 ghost use Rattle.viz_run.specs.declared.stop.Stop.TheVariants.{Words, File, Schedule, Fault};
 ghost use Rattle.vz_frame.specs.declared.message.ClientFile.{ClientFile};
@@ -32,23 +31,31 @@ struct Inputs {
     schedule: Vec<u8>,
 }
 
-/// Reads the client's file and the schedule that the words name, and answers the file where both are accepted.
+/// Reads the client's file and the schedule that the words name, and answers the file where both
+/// are accepted.
 ///
-/// `File` and `Schedule` come where the file or the schedule, as it was read, is not what is taken; `Fault` only where
-/// the shelf's count of faults rose.
+/// `File` and `Schedule` come where the file or the schedule, as it was read, is not what is taken;
+/// `Fault` exactly where the shelf counted one. The bytes of every name stay.
 pub fn admit<F: Shelf>(
     alloc: Global,
     shelf: &mut F,
     words: &StepWords<'_>,
 ) -> Result<ClientFile, Stop>
-    ensures admitted { IfOk result (λ client. (bytes : _) × IsAdmitted (F.shelved shelf.old) words.now client bytes) }
+    ensures admitted { IfOk result (λ client. (bytes : _)
+        × IsAdmitted (F.shelved shelf.old) words.now client bytes) }
     ensures no_file { IsErrOf result File → RefusesFile (F.shelved shelf.old) (line_of words.now) }
-    ensures no_schedule { IsErrOf result Schedule → RefusesSchedule (F.shelved shelf.old) (line_of words.now) }
+    ensures no_schedule { IsErrOf result Schedule →
+        RefusesSchedule (F.shelved shelf.old) (line_of words.now) }
     ensures words { IsErrOf result Words → ⊥ }
-    ensures files { IsTrue (F.shelved shelf.old).tells → SameFiles (F.shelved shelf.old) (F.shelved shelf.new) }
+    ensures files { SameFiles (F.shelved shelf.old) (F.shelved shelf.new) }
     ensures call { IsCall (F.shelved shelf.old) (F.shelved shelf.new) }
-    ensures failed { IsErrOf result Fault → Rose (F.shelved shelf.old).faults (F.shelved shelf.new).faults }
-    ensures stays { IsTrue (F.shelved shelf.old).sound → IsThere (F.shelved shelf.old) words.now.file.now → IsThere (F.shelved shelf.old) words.now.schedule.now → StaysSound (F.shelved shelf.old) (F.shelved shelf.new) }
+    ensures fault { IsErrOf result Fault →
+        (F.shelved shelf.new).faults ≡ one_more (F.shelved shelf.old).faults }
+    ensures quiet { (IsErrOf result Fault → ⊥) →
+        (F.shelved shelf.new).faults ≡ (F.shelved shelf.old).faults }
+    ensures stays { IsTrue (F.shelved shelf.old).is_faultless
+        → AreThere words.now (F.shelved shelf.old)
+        → StaysFaultless (F.shelved shelf.old) (F.shelved shelf.new) }
 {
     let inputs = read_inputs(alloc, shelf, words)?;
     accepted_file(alloc, &inputs)
@@ -60,12 +67,13 @@ fn read_inputs<F: Shelf>(
     shelf: &mut F,
     words: &StepWords<'_>,
 ) -> Result<Inputs, ShelfError>
-    ensures file { IsTrue (F.shelved shelf.old).tells → IfOk result (λ i. IsReadUpto 166 ((F.shelved shelf.old).bytes words.now.file.now) i.file.items) }
-    ensures schedule { IsTrue (F.shelved shelf.old).tells → IfOk result (λ i. IsReadUpto 4 ((F.shelved shelf.old).bytes words.now.schedule.now) i.schedule.items) }
-    ensures files { IsTrue (F.shelved shelf.old).tells → SameFiles (F.shelved shelf.old) (F.shelved shelf.new) }
-    ensures call { IsCall (F.shelved shelf.old) (F.shelved shelf.new) }
-    ensures failed { IsErrOf result Failed → Rose (F.shelved shelf.old).faults (F.shelved shelf.new).faults }
-    ensures stays { IsTrue (F.shelved shelf.old).sound → IsThere (F.shelved shelf.old) words.now.file.now → IsThere (F.shelved shelf.old) words.now.schedule.now → StaysSound (F.shelved shelf.old) (F.shelved shelf.new) }
+    ensures file { IfOk result (λ i.
+        IsReadUpto narrow_length words.now.file.now i.file.items (F.shelved shelf.old)) }
+    ensures schedule { IfOk result (λ i.
+        IsReadUpto schedule_length words.now.schedule.now i.schedule.items (F.shelved shelf.old)) }
+    ensures files { SameFiles (F.shelved shelf.old) (F.shelved shelf.new) }
+    ensures behaves { BehavesUnless (MissesOne words.now (F.shelved shelf.old))
+        (F.shelved shelf.old) (F.shelved shelf.new) result }
 {
     let file = read_file(alloc, shelf, words.file, FILE_LIMIT)?;
     let schedule = read_file(alloc, shelf, words.schedule, SCHEDULE.len())?;
@@ -80,24 +88,28 @@ fn read_file<F: Shelf>(
     limit: usize,
 ) -> Result<Vec<u8>, ShelfError>
     requires { limit < 2 ^ 63 }
-    ensures read { IsTrue (F.shelved shelf.old).tells → IfOk result (λ bytes. IsReadUpto limit ((F.shelved shelf.old).bytes name.now) bytes.items) }
-    ensures files { IsTrue (F.shelved shelf.old).tells → SameFiles (F.shelved shelf.old) (F.shelved shelf.new) }
-    ensures call { IsCall (F.shelved shelf.old) (F.shelved shelf.new) }
-    ensures failed { IsErrOf result Failed → Rose (F.shelved shelf.old).faults (F.shelved shelf.new).faults }
-    ensures stays { IsTrue (F.shelved shelf.old).sound → IsThere (F.shelved shelf.old) name.now → StaysSound (F.shelved shelf.old) (F.shelved shelf.new) }
+    ensures read { IfOk result (λ bytes.
+        IsReadUpto limit name.now bytes.items (F.shelved shelf.old)) }
+    ensures files { SameFiles (F.shelved shelf.old) (F.shelved shelf.new) }
+    ensures behaves { BehavesUnless (IsMissing name.now (F.shelved shelf.old))
+        (F.shelved shelf.old) (F.shelved shelf.new) result }
 {
     let slot = shelf.open(name)?;
-    read_upto(alloc, shelf, slot, limit)
+    let bytes = read_upto(alloc, shelf, slot, limit)?;
+    Ok(bytes)
 }
 
-/// The client's file that the inputs give, where it has the narrow form and the schedule is the one that is taken.
+/// The client's file that the inputs give, where it has the narrow form and the schedule is the
+/// one that is taken.
 /// The file is tested before the schedule.
 fn accepted_file(alloc: Global, inputs: &Inputs) -> Result<ClientFile, Stop>
     ensures spelled { IfOk result (λ file. Spells inputs.now.file.items file) }
     ensures narrow { IfOk result (λ file. IsTrue (is_narrow file)) }
     ensures schedule { OnOk result (inputs.now.schedule.items ≡ narrow_schedule) }
     ensures no_file { IsErrOf result File → IsNotNarrow inputs.now.file.items }
-    ensures no_schedule { IsErrOf result Schedule → (client : ClientFile) × Spells inputs.now.file.items client × IsTrue (is_narrow client) × (inputs.now.schedule.items ≢ narrow_schedule) }
+    ensures only_narrow { IsErrOf result Schedule → (client : ClientFile)
+        × Spells inputs.now.file.items client × IsTrue (is_narrow client) }
+    ensures no_schedule { IsErrOf result Schedule → inputs.now.schedule.items ≢ narrow_schedule }
     ensures words { IsErrOf result Words → ⊥ }
     ensures fault { IsErrOf result Fault → ⊥ }
 {

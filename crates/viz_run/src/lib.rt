@@ -1,6 +1,7 @@
 //! The display compositor's one public call.
 #![tactic(auto)]
 
+mod gated;
 mod input;
 mod lines;
 mod machine;

@@ -1,14 +1,15 @@
 //! The lines that are printed.
-ghost use Rattle.std.specs.Prelude.{◌≡◌, ◌<◌, ◌≤◌, ◌⊎◌, ◌++◌, IsTrue, IfOk, OnOk, IsErrOf, string_bytes, length};
-ghost use Rattle.vz_outside.specs.Faults.{Rose};
-ghost use Rattle.viz_run.specs.Lines.{done_line, done_text, drawn_count, words_line, IsTold, TellsRefusal};
-ghost use Rattle.vz_outside.specs.Sunk.{StaysSound};
-ghost use Rattle.viz_run.specs.declared.stop.Stop.TheVariants.{Words, Fault as StopOfFault, Memory as StopOfMemory};
+ghost use Rattle.std.specs.Prelude.{◌≡◌, ◌≢◌, ◌<◌, ◌≤◌, ◌⊎◌, IsTrue, IfOk, OnOk, OnErr, string_bytes, length};
+ghost use Rattle.vz_outside.specs.Faults.{one_more};
+ghost use Rattle.vz_outside.specs.Sunk.{Takes, TakesFront, Behaves, StaysFaultless};
 ghost use Rattle.vz_rules.specs.Course.{is_drawn};
-ghost use Rattle.viz_run.specs.declared.stop.Halt.TheVariants.{Fault};
+ghost use Rattle.viz_run.specs.Ends.{IsRefusal};
+ghost use Rattle.viz_run.specs.Lines.{done_line, done_text, drawn_count, words_line, due_line, TellsRefusal};
+ghost use Rattle.viz_run.specs.declared.stop.Stop.TheVariants.{Words, Fault as StopOfFault, Memory as StopOfMemory};
 
-use crate::stop::{Halt, Stop};
-use std::alloc::{AllocError, Global};
+use crate::stop::Stop;
+use std::alloc::Global;
+use vz_base::Memory;
 use vz_frame::List;
 use vz_outside::{ShelfError, Sink, print};
 use vz_rules::{Entry, Reply};
@@ -22,36 +23,44 @@ const FILE_LINE: &str = "file 1 refused at 0: NotBuilt\n";
 /// Where the schedule is not the one that is taken.
 const SCHEDULE_LINE: &str = "file 0 refused at 0: NotBuilt\n";
 
-/// Prints how many entries a history has, and how many frames.
-pub fn print_done<O: Sink>(alloc: Global, out: &mut O, history: &List<Entry>) -> Result<(), Halt>
-    ensures printed { IsTrue (O.sunk out.old).tells → OnOk result ((O.sunk out.new).bytes ≡ (O.sunk out.old).bytes ++ done_line history.now) }
-    ensures failed { IsErrOf result Fault → Rose (O.sunk out.old).faults (O.sunk out.new).faults }
-    ensures sound { IsTrue (O.sunk out.old).sound → IsErrOf result Fault → ⊥ }
-    ensures stays { IsTrue (O.sunk out.old).sound → StaysSound (O.sunk out.old) (O.sunk out.new) }
-    ensures faults { (O.sunk out.old).faults ≤ (O.sunk out.new).faults }
-    ensures telling { (O.sunk out.new).tells ≡ (O.sunk out.old).tells }
+/// Prints how many entries a history has, and how many frames. At an error a front part of the
+/// line was printed, maybe none.
+pub fn print_done<O: Sink>(
+    alloc: Global,
+    out: &mut O,
+    history: &List<Entry>,
+) -> Result<(), ShelfError>
+    ensures printed { OnOk result
+        (Takes (done_line history.now) (O.sunk out.old) (O.sunk out.new)) }
+    ensures begun { OnErr result
+        (TakesFront (done_line history.now) (O.sunk out.old) (O.sunk out.new)) }
+    ensures behaves { Behaves (O.sunk out.old) (O.sunk out.new) result }
 {
     let entries = history.as_slice();
-    let Ok(line) = done_text(alloc, entries.len(), drawn_count(entries)) else {
-        return Err(Halt::Memory);
-    };
+    let line = done_text(alloc, entries.len(), drawn_count(entries))?;
     print(out, line.as_bytes())?;
     Ok(())
 }
 
-/// Tells why a call stopped, and answers its status: 2 where the words are refused, 3 where a file is, 4 after a fault,
-/// also of the sink in the telling, and 5 for want of memory. Nothing is printed at 4 and 5.
+/// Tells why a call stopped, and answers its status: 2 where the words are refused, 3 where a file
+/// is, 4 after a fault, also of the sink in the telling, and 5 for want of memory. At 4 and 5 a
+/// front part of the line was printed, maybe none.
 #[tactic(auto, unfolding(crate::specs::Lines::words_line, crate::specs::Lines::file_line, crate::specs::Lines::schedule_line))]
 pub fn tell_stop<O: Sink>(out: &mut O, stop: Stop) -> u8
-    ensures words { result ≡ 2 → (stop ≡ Words) × IsTold words_line (O.sunk out.old) (O.sunk out.new) }
+    ensures words { result ≡ 2 →
+        (stop ≡ Words) × Takes words_line (O.sunk out.old) (O.sunk out.new) }
     ensures file { result ≡ 3 → TellsRefusal stop (O.sunk out.old) (O.sunk out.new) }
-    ensures fault { result ≡ 4 → (stop ≡ StopOfFault) ⊎ Rose (O.sunk out.old).faults (O.sunk out.new).faults }
+    ensures begun { 4 ≤ result → TakesFront (due_line stop) (O.sunk out.old) (O.sunk out.new) }
     ensures at_fault { stop ≡ StopOfFault → result ≡ 4 }
     ensures at_memory { stop ≡ StopOfMemory → result ≡ 5 }
-    ensures silent { (stop ≡ StopOfFault) ⊎ (stop ≡ StopOfMemory) → O.sunk out.new ≡ O.sunk out.old }
+    ensures silent { (stop ≡ StopOfFault) ⊎ (stop ≡ StopOfMemory)
+        → O.sunk out.new ≡ O.sunk out.old }
+    ensures fault { result ≡ 4 → (stop ≡ StopOfFault)
+        ⊎ (IsRefusal stop × ((O.sunk out.new).faults ≡ one_more (O.sunk out.old).faults)) }
+    ensures quiet { result ≢ 4 → (O.sunk out.new).faults ≡ (O.sunk out.old).faults }
     ensures range { (2 ≤ result) × (result ≤ 5) }
-    ensures sound { IsTrue (O.sunk out.old).sound → StaysSound (O.sunk out.old) (O.sunk out.new) }
-    ensures faults { (O.sunk out.old).faults ≤ (O.sunk out.new).faults }
+    ensures stays { IsTrue (O.sunk out.old).is_faultless
+        → StaysFaultless (O.sunk out.old) (O.sunk out.new) }
 {
     match stop {
         Stop::Words => tell(out, WORDS_LINE, 2),
@@ -65,11 +74,13 @@ pub fn tell_stop<O: Sink>(out: &mut O, stop: Stop) -> u8
 /// Prints a line, and answers a status: the one that is given where all of it was printed.
 fn tell<O: Sink>(out: &mut O, line: &str, status: u8) -> u8
     requires { status < 4 }
-    ensures told { result ≡ status → IsTold line.now (O.sunk out.old) (O.sunk out.new) }
-    ensures fault { result ≡ 4 → Rose (O.sunk out.old).faults (O.sunk out.new).faults }
+    ensures told { result ≡ status → Takes line.now (O.sunk out.old) (O.sunk out.new) }
+    ensures begun { 4 ≤ result → TakesFront line.now (O.sunk out.old) (O.sunk out.new) }
+    ensures fault { result ≡ 4 → (O.sunk out.new).faults ≡ one_more (O.sunk out.old).faults }
+    ensures quiet { result ≢ 4 → (O.sunk out.new).faults ≡ (O.sunk out.old).faults }
     ensures range { (result ≡ status) ⊎ (result ≡ 4) ⊎ (result ≡ 5) }
-    ensures sound { IsTrue (O.sunk out.old).sound → StaysSound (O.sunk out.old) (O.sunk out.new) }
-    ensures faults { (O.sunk out.old).faults ≤ (O.sunk out.new).faults }
+    ensures stays { IsTrue (O.sunk out.old).is_faultless
+        → StaysFaultless (O.sunk out.old) (O.sunk out.new) }
 {
     match print(out, line.as_bytes()) {
         Ok(()) => status,
@@ -79,7 +90,7 @@ fn tell<O: Sink>(out: &mut O, line: &str, status: u8) -> u8
 }
 
 #[tactic(auto, unfolding(crate::specs::Lines::done_text))]
-fn done_text(alloc: Global, entries: usize, frames: usize) -> Result<String, AllocError>
+fn done_text(alloc: Global, entries: usize, frames: usize) -> Result<String, Memory>
     ensures { IfOk result (λ text. string_bytes text ≡ done_text entries frames) }
 {
     let mut text = String::new(alloc);

@@ -5,12 +5,13 @@ ghost use Rattle.vz_buffers.specs.Canvas.{IsCanvasSize};
 ghost use Rattle.vz_rules.specs.Narrow.{no_effects, only_sub};
 ghost use Rattle.viz_run.specs.Entries.{accepted_entry, rooted_entry, drawn_entry, shown_entry};
 
+use crate::gated::{Turn, gated};
 use std::alloc::Global;
+use vz_base::Memory;
 use vz_frame::List;
 use vz_geom::{Rect, Size};
 use vz_ids::Sub;
 use vz_outside::Gate;
-use vz_pixels::Memory;
 use vz_rules::{Effects, Entry, Event, Fed, Reply};
 
 /// The display, as a gate knows it.
@@ -25,15 +26,19 @@ const SUBMISSION: Sub = Sub {
     ordinal: 1,
 };
 
+/// A step of an actor.
+const fn turn(actor: u32, number: u64) -> Turn {
+    Turn { actor, number }
+}
+
 /// Takes the client's first message: its submission is accepted, and becomes active.
 pub fn submit<G: Gate>(alloc: Global, gate: &G, history: &mut List<Entry>) -> Result<(), Memory>
     ensures ok { OnOk result (history.new ≡ history.old ++ accepted_entry ∷ []) }
     ensures err { OnErr result (history.new ≡ history.old) }
 {
-    gate.before(CLIENT, 1);
-    let step = add_accepted(alloc, history);
-    gate.after(CLIENT, 1);
-    step
+    gated(gate, turn(CLIENT, 1), history, |history| {
+        add_accepted(alloc, history)
+    })
 }
 
 /// Takes the client's second message: its surface becomes the root.
@@ -41,10 +46,9 @@ pub fn set_root<G: Gate>(alloc: Global, gate: &G, history: &mut List<Entry>) -> 
     ensures ok { OnOk result (history.new ≡ history.old ++ rooted_entry ∷ []) }
     ensures err { OnErr result (history.new ≡ history.old) }
 {
-    gate.before(CLIENT, 2);
-    let step = add(history, Event::Client(CLIENT), Reply::Rooted, none(alloc));
-    gate.after(CLIENT, 2);
-    step
+    gated(gate, turn(CLIENT, 2), history, |history| {
+        add_rooted(alloc, history)
+    })
 }
 
 /// Draws: the whole display is damaged, since nothing was drawn before.
@@ -58,11 +62,14 @@ pub fn draw<G: Gate>(
     ensures ok { OnOk result (history.new ≡ history.old ++ drawn_entry size ∷ []) }
     ensures err { OnErr result (history.new ≡ history.old) }
 {
-    gate.before(DISPLAY, 1);
-    let damage = whole_display(&size);
-    let step = add(history, Event::Draw, Reply::Drawn(damage), none(alloc));
-    gate.after(DISPLAY, 1);
-    step
+    gated(
+        gate,
+        turn(DISPLAY, 1),
+        history,
+        |history|
+            requires { IsCanvasSize size }
+        { add_drawn(alloc, size, history) },
+    )
 }
 
 /// Ends the drawn frame: its submission is presented.
@@ -70,10 +77,9 @@ pub fn done<G: Gate>(alloc: Global, gate: &G, history: &mut List<Entry>) -> Resu
     ensures ok { OnOk result (history.new ≡ history.old ++ shown_entry ∷ []) }
     ensures err { OnErr result (history.new ≡ history.old) }
 {
-    gate.before(DISPLAY, 2);
-    let step = add_shown(alloc, history);
-    gate.after(DISPLAY, 2);
-    step
+    gated(gate, turn(DISPLAY, 2), history, |history| {
+        add_shown(alloc, history)
+    })
 }
 
 /// All of a display.
@@ -95,6 +101,22 @@ fn add_accepted(alloc: Global, history: &mut List<Entry>) -> Result<(), Memory>
         index: 1,
     };
     add(history, Event::Client(CLIENT), reply, effects)
+}
+
+fn add_rooted(alloc: Global, history: &mut List<Entry>) -> Result<(), Memory>
+    ensures ok { OnOk result (history.new ≡ history.old ++ rooted_entry ∷ []) }
+    ensures err { OnErr result (history.new ≡ history.old) }
+{
+    add(history, Event::Client(CLIENT), Reply::Rooted, none(alloc))
+}
+
+fn add_drawn(alloc: Global, size: Size, history: &mut List<Entry>) -> Result<(), Memory>
+    requires { IsCanvasSize size }
+    ensures ok { OnOk result (history.new ≡ history.old ++ drawn_entry size ∷ []) }
+    ensures err { OnErr result (history.new ≡ history.old) }
+{
+    let damage = whole_display(&size);
+    add(history, Event::Draw, Reply::Drawn(damage), none(alloc))
 }
 
 fn add_shown(alloc: Global, history: &mut List<Entry>) -> Result<(), Memory>
@@ -140,7 +162,8 @@ fn add(
     reply: Reply,
     effects: Effects,
 ) -> Result<(), Memory>
-    ensures ok { OnOk result (history.new ≡ history.old ++ record { event = event; reply = reply; effects = effects } ∷ []) }
+    ensures ok { OnOk result (history.new ≡ history.old
+        ++ record { event = event; reply = reply; effects = effects } ∷ []) }
     ensures err { OnErr result (history.new ≡ history.old) }
 {
     let entry = Entry {

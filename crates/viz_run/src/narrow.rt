@@ -5,7 +5,8 @@ ghost use Rattle.vz_rules.specs.Narrow.{is_one_pass, is_one_quad, is_opaque_quad
 
 use vz_frame::{ClientFile, CompositorFrame, DrawQuad, Material, Message, RenderPass, check};
 
-/// Whether a file has the narrow form: format 1, one submission of a plain frame, and its surface made the root.
+/// Whether a file has the narrow form: format 1, one submission of a plain frame, and its surface
+/// made the root.
 #[tactic(auto, unfolding(vz_rules::specs::Narrow::is_narrow))]
 pub fn is_narrow(file: &ClientFile) -> bool
     ensures { result ≡ is_narrow file.now }

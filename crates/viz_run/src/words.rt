@@ -8,6 +8,8 @@ ghost use Rattle.vz_rules.specs.Command.{is_name, are_names, same_text, IsComman
 ghost use Rattle.vz_frame.specs.Fits.{within};
 ghost use Rattle.viz_run.specs.Words.{texts, command_of, is_plain, IsNoStep};
 
+use vz_base::limits::GREATEST_DISPLAY_SIDE;
+
 /// The words of `step` with one client file: the sides of the display in pixels, and the names.
 #[derive(Clone, Copy)]
 pub struct StepWords<'a> {
@@ -49,14 +51,15 @@ pub fn step_words(words: &[String]) -> Option<StepWords<'_>>
     })
 }
 
-/// A side of the display that a word spells, 1 to 2,048 pixels.
+/// A side of the display that a word spells, in pixels: 1 to the greatest.
 fn side(word: &str) -> Option<u32>
     ensures found { IfSome result (λ n. word.now ≡ decimal n) }
-    ensures within { IfSome result (λ n. IsTrue (within 1 2048 n)) }
-    ensures none { IfNone result ((n : ℕ) → IsTrue (within 1 2048 n) → word.now ≡ decimal n → ⊥) }
+    ensures within { IfSome result (λ n. IsTrue (within 1 GREATEST_DISPLAY_SIDE n)) }
+    ensures none { IfNone result ((n : ℕ)
+        → IsTrue (within 1 GREATEST_DISPLAY_SIDE n) → word.now ≡ decimal n → ⊥) }
 {
     match number(word)? {
-        side @ 1..=2048 => Some(side),
+        side @ 1..=GREATEST_DISPLAY_SIDE => Some(side),
         _ => None,
     }
 }

@@ -44,6 +44,14 @@ impl<T: Drop> From<AllocFailed<T>> for ShelfError {
     }
 }
 
+impl From<vz_base::Memory> for ShelfError {
+    ghost from_gives = { λ _ e. e ≡ Memory };
+
+    fn from(_error: vz_base::Memory) -> Self {
+        ShelfError::Memory
+    }
+}
+
 /// Named files. A file is opened in a slot for reading or for writing, and a slot stays open.
 ///
 /// `Failed` is the answer exactly where the call counted a fault, `Memory` comes for want of memory.

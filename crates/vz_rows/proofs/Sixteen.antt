@@ -4,11 +4,10 @@ use Rattle.std.specs.Prelude.{codes}
 use Rattle.std.specs.Fmt.{decimal}
 use Rattle.std.proofs.lemmas.Fmt.{decimal_digit, decimal_injective}
 use Rattle.std.proofs.lemmas.Int.{ints}
-use Rattle.vz_outside.specs.Shelved.{Shelved, Text}
-use Rattle.vz_outside.specs.Sunk.{Sunk}
-use Rattle.vz_rules.specs.Command.{IsCommand, command_words}
+use Rattle.vz_rules.specs.Command.{Text, IsCommand, command_words}
 use Rattle.vz_rules.specs.declared.entry.Entry.{Entry}
 use Rattle.viz_run.specs.Headline.{Line, command_for, EndsWell}
+use Rattle.viz_run.specs.Outside.{Outside}
 
 -- a number that is written by one digit
 one_digit : (n d : ℕ) → n ≤ 2048 → d < 10 → decimal n ≡ (48 + d) ∷ [] → n ≡ d
@@ -19,9 +18,10 @@ sides : (names : List Text) (l : Line) → IsCommand (codes "step" ∷ codes "4"
 unfolding IsCommand command_words
 sides names l is = let e = is.1 in (cc, cc)
 
-pub sixteen : (names : List Text) (before after : Shelved) (printed printed_now : Sunk) (start total : ℕ) (h : List Entry)
-    → EndsWell (codes "step" ∷ codes "4" ∷ codes "2" ∷ names) before after printed printed_now start total h → total ≡ start + 16
-sixteen names before after printed printed_now start total h (g, well) =
+pub sixteen :
+    (names : List Text) (h : List Entry) (before after : Outside) →
+    EndsWell (codes "step" ∷ codes "4" ∷ codes "2" ∷ names) h before after → after.steps ≡ before.steps + 16
+sixteen names h before after (g, well) =
     let spelled = sides names g.line well.command in
     let shown = well.shown in
     let sizes = shown.read.plan.sizes in

@@ -6,7 +6,7 @@ use std::marker::Brand;
 use std::sync::ledger::{Blank, Ledger};
 use viz_run::{Run, viz};
 use vz_buffers::Steps;
-use vz_outside::{MemoryShelf, MemorySink, OpenGate};
+use vz_outside::{Gate, MemoryShelf, MemorySink, OpenGate};
 
 /// More bytes than any file of a row has.
 pub const WHOLE: usize = 1 << 20;
@@ -59,15 +59,28 @@ pub fn call(
     shelf: MemoryShelf,
     sink: MemorySink,
 ) -> Result<Left, AllocError> {
-    let words = words(alloc, line)?;
-    Ok(counted::<Brand>(alloc, &words, shelf, sink, Blank::new(1)))
+    call_through(alloc, line, shelf, sink, &OpenGate)
 }
 
-fn counted<L: Ledger>(
+/// Calls the program with the words of a line, and tells a gate of its steps.
+pub fn call_through<G: Gate + Sync>(
+    alloc: Global,
+    line: &str,
+    shelf: MemoryShelf,
+    sink: MemorySink,
+    gate: &G,
+) -> Result<Left, AllocError> {
+    let words = words(alloc, line)?;
+    let blank = Blank::new(1);
+    Ok(counted::<Brand, G>(alloc, &words, shelf, sink, gate, blank))
+}
+
+fn counted<L: Ledger, G: Gate + Sync>(
     alloc: Global,
     words: &[String],
     mut shelf: MemoryShelf,
     mut sink: MemorySink,
+    gate: &G,
     blank: Blank,
 ) -> Left
     requires name { blank.name ≡ L.name }
@@ -75,7 +88,7 @@ fn counted<L: Ledger>(
     requires some { 0 < L.parts }
 {
     let mut steps = Steps::<L>::new(blank);
-    let run = viz(alloc, words, &mut shelf, &mut sink, &OpenGate, &mut steps);
+    let run = viz(alloc, words, &mut shelf, &mut sink, gate, &mut steps);
     Left {
         run,
         shelf,

@@ -7,6 +7,8 @@ mod bench;
 mod faults;
 #[cfg(test)]
 mod files;
+#[cfg(test)]
+mod gate;
 pub mod laws;
 #[cfg(test)]
 mod plain;

@@ -1,4 +1,4 @@
-use Rattle.vz_rows.proofs.bench.call.Given as goal
+use Rattle.vz_rows.proofs.bench.call_through.Given as goal
 
 -- the ledger is the new one
 abbrev pub ghosts-counted : goal.ghosts-counted
