@@ -117,7 +117,8 @@ pub fn read_many<F: Field>(
     count: usize,
     input: &mut Reader,
 ) -> Result<Vec<F::Value>, ReadError>
-    ensures { Gives (λ x. (x.items, input.new)) result (many_at (F.value_at field.now) count input.old) }
+    ensures { let read = many_at (F.value_at field.now) count in
+        Gives (λ x. (x.items, input.new)) result (read input.old) }
 {
     let mut values = Vec::with_capacity(input.alloc(), count.min(input.left()))?;
 

@@ -15,18 +15,22 @@ pub fn files_have_one_spelling()
 
 /// No spelling begins another.
 pub fn no_spelling_begins_another()
-    ensures { (bytes more : List ℕ) (a b : ClientFile) → Spells bytes a → Spells (bytes ++ more) b → more ≡ [] }
+    ensures { (bytes more : List ℕ) (a b : ClientFile)
+        → Spells bytes a → Spells (bytes ++ more) b → more ≡ [] }
 {}
 
 /// Bytes spell a file exactly where nothing is wrong with them.
 pub fn bytes_without_fault_spell()
-    ensures { (bytes : List ℕ) → All (λ b. b < 256) bytes → (wrong bytes ≡ None) ↔ ((file : ClientFile) × Spells bytes file) }
+    ensures { (bytes : List ℕ) → All (λ b. b < 256) bytes
+        → (wrong bytes ≡ None) ↔ ((file : ClientFile) × Spells bytes file) }
 {}
 
 /// Where bytes are missing, the fault stands at their end. Any other stands at a byte that is there.
 pub fn faults_have_places()
-    ensures missing { (bytes : List ℕ) (fault : Wrong) → wrong bytes ≡ Some fault → fault.rule ≡ rules.Short → fault.at ≡ length bytes }
-    ensures others { (bytes : List ℕ) (fault : Wrong) → wrong bytes ≡ Some fault → fault.rule ≢ rules.Short → fault.at < length bytes }
+    ensures missing { (bytes : List ℕ) (fault : Wrong) → wrong bytes ≡ Some fault
+        → fault.rule ≡ rules.Short → fault.at ≡ length bytes }
+    ensures others { (bytes : List ℕ) (fault : Wrong) → wrong bytes ≡ Some fault
+        → fault.rule ≢ rules.Short → fault.at < length bytes }
 {}
 
 /// A file that fits is spelled by its own bytes. What spells a file is its own bytes, and the file
@@ -40,7 +44,10 @@ pub fn bytes_of_a_file_spell_it()
 /// Decoding the bytes of a file that fits finds that file, unless memory runs out. The bytes of
 /// a file that was decoded are those that it was decoded from, and it fits.
 pub fn decoding_undoes_encoding()
-    ensures found { (file : ClientFile) → IsTrue (fits_file file) → (found : Result ClientFile DecodeError) → Decodes (file_bytes file) found → Finds found file }
-    ensures again { (bytes : List ℕ) (file : ClientFile) → All (λ b. b < 256) bytes → Decodes bytes (Ok file) → file_bytes file ≡ bytes }
-    ensures fitting { (bytes : List ℕ) (file : ClientFile) → All (λ b. b < 256) bytes → Decodes bytes (Ok file) → IsTrue (fits_file file) }
+    ensures found { (file : ClientFile) → IsTrue (fits_file file) → (found : Result ClientFile DecodeError)
+        → Decodes (file_bytes file) found → Finds found file }
+    ensures again { (bytes : List ℕ) (file : ClientFile) → All (λ b. b < 256) bytes
+        → Decodes bytes (Ok file) → file_bytes file ≡ bytes }
+    ensures fitting { (bytes : List ℕ) (file : ClientFile) → All (λ b. b < 256) bytes
+        → Decodes bytes (Ok file) → IsTrue (fits_file file) }
 {}

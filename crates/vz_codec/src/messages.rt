@@ -2,7 +2,7 @@
 ghost use Rattle.std.specs.Prelude.{◌≤◌};
 ghost use Rattle.vz_frame.specs.Fits.{fits_block, fits_message};
 ghost use Rattle.vz_codec.specs.Giving.{Gives};
-ghost use Rattle.vz_codec.specs.Reading.{texels_at, block_at, upload_at, submit_at, hierarchy_at, message_by, message_at};
+ghost use Rattle.vz_codec.specs.Reading.{texels_at, block_at, message_by, message_at};
 ghost use Rattle.vz_codec.specs.Spelling.{block_bytes, message_bytes};
 
 use crate::error::ReadError;
@@ -107,13 +107,21 @@ impl Field for Messages {
 }
 
 /// The message of a tag.
-#[tactic(auto, unfolding(crate::specs::Reading::message_by))]
+#[tactic(auto, unfolding(crate::specs::Reading::message_by, crate::specs::Reading::upload_at, crate::specs::Reading::submit_at, crate::specs::Reading::hierarchy_at))]
 fn read_message_by(format: u8, tag: u8, input: &mut Reader) -> Result<Message, ReadError>
     ensures { Gives (λ x. (x, input.new)) result (message_by format tag input.old) }
 {
     match tag {
-        UPLOAD => read_upload(input),
-        SUBMIT => read_submit(format, input),
+        UPLOAD => {
+            let id = input.u32_within(1, u32::MAX)?;
+            let block = Blocks.read(input)?;
+            Ok(Message::Upload { id, block })
+        }
+        SUBMIT => {
+            let local = Locals.read(input)?;
+            let frame = Frames { format }.read(input)?;
+            Ok(Message::Submit { local, frame })
+        }
         DID_NOT_PRODUCE => {
             let number = input.u32()?;
             Ok(Message::DidNotProduce(number))
@@ -123,37 +131,14 @@ fn read_message_by(format: u8, tag: u8, input: &mut Reader) -> Result<Message, R
             let local = Locals.read(input)?;
             Ok(Message::SetRoot(local))
         }
-        HIERARCHY => read_hierarchy(input),
+        HIERARCHY => {
+            let parent = Sinks.read(input)?;
+            let child = Sinks.read(input)?;
+            Ok(Message::Hierarchy { parent, child })
+        }
         AWAIT => Ok(Message::Await),
         _ => Ok(Message::Close),
     }
-}
-
-#[tactic(auto, unfolding(crate::specs::Reading::upload_at))]
-fn read_upload(input: &mut Reader) -> Result<Message, ReadError>
-    ensures { Gives (λ x. (x, input.new)) result (upload_at input.old) }
-{
-    let id = input.u32_within(1, u32::MAX)?;
-    let block = Blocks.read(input)?;
-    Ok(Message::Upload { id, block })
-}
-
-#[tactic(auto, unfolding(crate::specs::Reading::submit_at))]
-fn read_submit(format: u8, input: &mut Reader) -> Result<Message, ReadError>
-    ensures { Gives (λ x. (x, input.new)) result (submit_at format input.old) }
-{
-    let local = Locals.read(input)?;
-    let frame = Frames { format }.read(input)?;
-    Ok(Message::Submit { local, frame })
-}
-
-#[tactic(auto, unfolding(crate::specs::Reading::hierarchy_at))]
-fn read_hierarchy(input: &mut Reader) -> Result<Message, ReadError>
-    ensures { Gives (λ x. (x, input.new)) result (hierarchy_at input.old) }
-{
-    let parent = Sinks.read(input)?;
-    let child = Sinks.read(input)?;
-    Ok(Message::Hierarchy { parent, child })
 }
 
 /// The sides of a block, and its texels row by row.

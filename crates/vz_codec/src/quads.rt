@@ -2,7 +2,7 @@
 ghost use Rattle.std.specs.Prelude.{◌≡◌, ◌++◌, ◌&&◌, ◌==◌, nat_lt, nat_le, ◌^◌, OnOk};
 ghost use Rattle.vz_frame.specs.Fits.{in_reach, fits_mode, fits_material, fits_quad};
 ghost use Rattle.vz_codec.specs.Giving.{Gives};
-ghost use Rattle.vz_codec.specs.Reading.{tile_at, embedding_at, material_by, material_at, mode_at, quad_at};
+ghost use Rattle.vz_codec.specs.Reading.{material_by, material_at, mode_at, quad_at};
 ghost use Rattle.vz_codec.specs.Spelling.{place_bytes, material_bytes, mode_bytes, quad_bytes};
 
 use crate::error::ReadError;
@@ -225,7 +225,7 @@ impl Field for Materials {
 }
 
 /// The material of a tag.
-#[tactic(auto, unfolding(crate::specs::Reading::material_by))]
+#[tactic(auto, unfolding(crate::specs::Reading::material_by, crate::specs::Reading::tile_at, crate::specs::Reading::embedding_at))]
 fn read_material_by(tag: u8, input: &mut Reader) -> Result<Material, ReadError>
     ensures { Gives (λ x. (x, input.new)) result (material_by tag input.old) }
 {
@@ -234,32 +234,20 @@ fn read_material_by(tag: u8, input: &mut Reader) -> Result<Material, ReadError>
             let colour = Colours.read(input)?;
             Ok(Material::Solid(colour))
         }
-        TILE => read_tile(input),
-        SURFACE => read_embedding(input),
+        TILE => {
+            let resource = input.u32_within(1, u32::MAX)?;
+            let tx = input.u16_within(0, MOST_SIDE - 1)?;
+            let ty = input.u16_within(0, MOST_SIDE - 1)?;
+            Ok(Material::Tile { resource, tx, ty })
+        }
+        SURFACE => {
+            let range = Ranges.read(input)?;
+            let background = Colours.read(input)?;
+            Ok(Material::Surface { range, background })
+        }
         _ => {
             let id = input.u32()?;
             Ok(Material::Pass(id))
         }
     }
-}
-
-/// A resource, and the place in it of the area's first point.
-#[tactic(auto, unfolding(crate::specs::Reading::tile_at))]
-fn read_tile(input: &mut Reader) -> Result<Material, ReadError>
-    ensures { Gives (λ x. (x, input.new)) result (tile_at input.old) }
-{
-    let resource = input.u32_within(1, u32::MAX)?;
-    let tx = input.u16_within(0, MOST_SIDE - 1)?;
-    let ty = input.u16_within(0, MOST_SIDE - 1)?;
-    Ok(Material::Tile { resource, tx, ty })
-}
-
-/// A range of surfaces, and the colour where none is shown.
-#[tactic(auto, unfolding(crate::specs::Reading::embedding_at))]
-fn read_embedding(input: &mut Reader) -> Result<Material, ReadError>
-    ensures { Gives (λ x. (x, input.new)) result (embedding_at input.old) }
-{
-    let range = Ranges.read(input)?;
-    let background = Colours.read(input)?;
-    Ok(Material::Surface { range, background })
 }

@@ -103,14 +103,16 @@ fn are_rect(sides: &Sides) -> bool
 
 /// Whether all four numbers are 0.
 fn is_zero(sides: &Sides) -> bool
-    ensures { result ≡ (is_zero sides.now.x && is_zero sides.now.y && is_zero sides.now.w && is_zero sides.now.h) }
+    ensures { let s = sides.now in
+        result ≡ (is_zero s.x && is_zero s.y && is_zero s.w && is_zero s.h) }
 {
     sides.x == 0 && sides.y == 0 && sides.w == 0 && sides.h == 0
 }
 
 /// Whether they are a place in reach and two sides.
 fn is_placed(sides: &Sides) -> bool
-    ensures { result ≡ (in_reach sides.now.x && in_reach sides.now.y && is_side sides.now.w && is_side sides.now.h) }
+    ensures { let s = sides.now in
+        result ≡ (in_reach s.x && in_reach s.y && is_side s.w && is_side s.h) }
 {
     in_reach(sides.x) && in_reach(sides.y) && is_side(sides.w) && is_side(sides.h)
 }
