@@ -1,6 +1,7 @@
 -- A display: its buffers in turn, and what they have.
 use Rattle.std.specs.Prelude.{◌≡◌, ℕ, ◌+◌, ◌-◌, ◌*◌, ◌^◌, ◌≤◌, ℤ, nat_abs, min, Option, Some, None, unwrap_or, List, [], ◌∷◌, ◌++◌, length, map, take, drop}
 use Rattle.std.specs.Prelude.{slice_get, replicate, reverse}
+use Rattle.vz_base.specs.declared.limits.TheConstants.{MOST_BUFFERS}
 use Rattle.vz_geom.specs.declared.Size.{Size}
 use Rattle.vz_geom.specs.Rectangle.{Rectangle, Covers, sized, area_of, points_of}
 use Rattle.vz_pixels.specs.Colour.{Colour, black}
@@ -29,10 +30,10 @@ HaveSize size [] = Unit {0}
 HaveSize size (None ∷ bs) = HaveSize size bs
 HaveSize size (Some b ∷ bs) = (b.size ≡ size) × HaveSize size bs
 
--- at most 4 buffers of the display's size, and what is stale is on it
+-- no more buffers than the limit, of the display's size, and what is stale is on it
 pub record IsDisplayed (d : Displayed) : Type 0 where
   pub sides : IsCanvasSize d.turns.size
-  pub few : length d.kept ≤ 4
+  pub few : length d.kept ≤ MOST_BUFFERS
   pub stales : AreOn d.turns.size d.turns.stales
   pub sizes : HaveSize d.turns.size d.kept
 
