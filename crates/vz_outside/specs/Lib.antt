@@ -4,3 +4,4 @@ pub mod Sunk
 pub mod Shelved
 pub mod InMemory
 pub mod Outer
+pub mod Messages

@@ -1,8 +1,10 @@
-//! The files of the system and standard output, as a shelf and a sink: no bytes are known, and faults are counted.
+//! The files of the system and standard output, as a shelf and a sink: others may change them, so no bytes of names are
+//! known. What a runtime tells of an open file is, and faults are counted.
+ghost use Rattle.std.specs.Io.KnownBytes.{ReadConsumes, WriteAppends};
 ghost use Rattle.std.specs.Prelude.{◌≡◌, ◌<◌, ◌≤◌, [], Some, Ok, Err, IfOk, IfErr, OnOk, OnErr, IsErrOf, MatchResult, length, take, vec_len, vec_capacity};
 ghost use Rattle.vz_outside.specs.Faults.{HasCause, one_more};
-ghost use Rattle.vz_outside.specs.Outer.{handle_mode, outer_shelf, outer_sink};
-ghost use Rattle.vz_outside.specs.Shelved.{Reading, Writing, IsAtEnd, Consumes, Appends, ReadsOnly, KeepsOthers, IsUntouched, Behaves};
+ghost use Rattle.vz_outside.specs.Outer.{handle_mode, handle_bytes, known_bytes, outer_shelf, outer_sink, KeepsSlots, KeepsOtherSlots, IsLastOpened};
+ghost use Rattle.vz_outside.specs.Shelved.{Reading, Writing, Holds, IsMissing, IsAtEnd, IsOpened, Consumes, Appends, KeepsBytes, ReadsOnly, KeepsOthers, IsUntouched, Behaves, BehavesUnless};
 ghost use Rattle.vz_outside.specs.Sunk as sinks;
 ghost use Rattle.vz_outside.specs.declared.shelf.ShelfError.TheVariants.{Failed};
 
@@ -34,17 +36,21 @@ pub struct RealShelf<R: Files + Drop> {
 
 impl<R: Files + Drop> Model for RealShelf<R> {
     ghost use Rattle.std.specs.Prelude.{map};
-    ghost use Rattle.vz_outside.specs.Outer.{Outer, handle_mode};
+    ghost use Rattle.vz_outside.specs.Outer.{Outer, handle_mode, handle_bytes};
 
     ghost Value = { Outer };
 
-    ghost view = { λ s. record { modes = map handle_mode s.slots.items; faults = s.faults } };
+    ghost view = { λ s. record {
+      modes = map handle_mode s.slots.items;
+      known = map (handle_bytes R.File.remaining R.File.contents) s.slots.items;
+      faults = s.faults;
+    } };
 }
 
 impl<R: Files + AllocGlobal + Drop> RealShelf<R> {
     /// A shelf of the files that a runtime reaches, with no slot open and no fault counted.
     pub fn new(rt: R) -> Self
-        ensures { result ≡ record { modes = []; faults = 0 } }
+        ensures { result ≡ record { modes = []; known = []; faults = 0 } }
     {
         let slots = Vec::new(rt.alloc());
         RealShelf {
@@ -63,24 +69,53 @@ impl<R: Files + AllocGlobal + Drop> Shelf for RealShelf<R> {
 
     ghost faultless_known = { λ shelf faultless. absurd (false≢true faultless) };
 
-    fn open(&mut self, name: &str) -> Result<u32, ShelfError> {
+    /// The new slot is the last one, and an error leaves the slots as they were.
+    fn open(&mut self, name: &str) -> Result<u32, ShelfError>
+        ensures last { IfOk result (λ slot. IsLastOpened Reading slot self.old self.new) }
+        ensures slots { OnErr result (KeepsSlots self.old self.new) }
+        ensures opened { IfOk result (λ slot.
+            IsOpened Reading name.now slot (outer_shelf self.old) (outer_shelf self.new)) }
+        ensures whole { IfOk result (λ slot.
+            Holds ((outer_shelf self.new).rest slot) name.now (outer_shelf self.old)) }
+        ensures missing { IsMissing name.now (outer_shelf self.old) → IsErrOf result Failed }
+        ensures kept { KeepsBytes (outer_shelf self.old) (outer_shelf self.new) }
+        ensures untouched { OnErr result
+            (IsUntouched (outer_shelf self.old) (outer_shelf self.new)) }
+        ensures behaves { BehavesUnless (IsMissing name.now (outer_shelf self.old))
+            (outer_shelf self.old) (outer_shelf self.new) result }
+    {
         let slot = room_for_slot(&mut self.slots)?;
         let file = answer(fs::open(&self.rt, name), &mut self.faults)?;
         self.slots.push_reserved(Handle::Source(file));
         Ok(slot)
     }
 
-    fn create(&mut self, name: &str) -> Result<u32, ShelfError> {
+    /// The new slot is the last one, and an error leaves the slots as they were.
+    fn create(&mut self, name: &str) -> Result<u32, ShelfError>
+        ensures last { IfOk result (λ slot. IsLastOpened Writing slot self.old self.new) }
+        ensures slots { OnErr result (KeepsSlots self.old self.new) }
+        ensures opened { IfOk result (λ slot.
+            IsOpened Writing name.now slot (outer_shelf self.old) (outer_shelf self.new)) }
+        ensures emptied { OnOk result (Holds [] name.now (outer_shelf self.new)) }
+        ensures others { KeepsOthers name.now (outer_shelf self.old) (outer_shelf self.new) }
+        ensures untouched { OnErr result
+            (IsUntouched (outer_shelf self.old) (outer_shelf self.new)) }
+        ensures behaves { Behaves (outer_shelf self.old) (outer_shelf self.new) result }
+    {
         let slot = room_for_slot(&mut self.slots)?;
         let file = answer(fs::create(&self.rt, name), &mut self.faults)?;
         self.slots.push_reserved(Handle::Target(file));
         Ok(slot)
     }
 
-    /// Its only error is `Failed`.
+    /// Its only error is `Failed`. Where it is known what is left of the file, exactly what is answered is taken
+    /// from it, and nothing at an error.
     fn read(&mut self, slot: u32, into: &mut [u8]) -> Result<usize, ShelfError>
         requires open { (outer_shelf self.old).mode slot ≡ Some Reading }
         requires piece { 0 < length into.old }
+        ensures bytes { ReadConsumes
+            (known_bytes slot self.old) (known_bytes slot self.new) result into.new }
+        ensures slots { KeepsOtherSlots slot self.old self.new }
         ensures error { IfErr result (λ e. e ≡ Failed) }
         ensures count { IfOk result (λ n. n ≤ length into.old) }
         ensures moved { IfOk result (λ n.
@@ -94,10 +129,14 @@ impl<R: Files + AllocGlobal + Drop> Shelf for RealShelf<R> {
         self.slots[slot as usize].read(into, &mut self.faults)
     }
 
-    /// Its only error is `Failed`.
+    /// Its only error is `Failed`. Where it is known what the file holds, exactly those bytes that are answered are
+    /// put at its end, and none at an error.
     fn write(&mut self, slot: u32, from: &[u8]) -> Result<usize, ShelfError>
         requires open { (outer_shelf self.old).mode slot ≡ Some Writing }
         requires piece { 0 < length from.now }
+        ensures bytes { WriteAppends
+            (known_bytes slot self.old) (known_bytes slot self.new) result from.now }
+        ensures slots { KeepsOtherSlots slot self.old self.new }
         ensures error { IfErr result (λ e. e ≡ Failed) }
         ensures some { IfOk result (λ n. 0 < n) }
         ensures count { IfOk result (λ n. n ≤ length from.now) }
@@ -115,18 +154,15 @@ impl<R: Files + AllocGlobal + Drop> Shelf for RealShelf<R> {
 }
 
 impl<F: Read + Write + Drop> Handle<F> {
-    ghost use Rattle.std.specs.Io.KnownBytes.{ReadConsumes, WriteAppends};
-    ghost use Rattle.vz_outside.specs.Outer.{handle_bytes};
-
     /// Reads the next bytes of the file. Where it is known what is left, exactly what is answered is taken from
     /// it, and nothing at an error. Each error of the system is a fault.
     fn read(&mut self, into: &mut [u8], faults: &mut u64) -> Result<usize, ShelfError>
-        requires { handle_mode self.old ≡ Reading }
+        requires mode { handle_mode self.old ≡ Reading }
         ensures mode { handle_mode self.new ≡ handle_mode self.old }
         ensures count { IfOk result (λ n. n ≤ length into.old) }
         ensures bytes { ReadConsumes
-            (handle_bytes F.remaining self.old) (handle_bytes F.remaining self.new)
-            result into.new }
+            (handle_bytes F.remaining F.contents self.old)
+            (handle_bytes F.remaining F.contents self.new) result into.new }
         ensures error { IfErr result (λ e. e ≡ Failed) }
         ensures cause { HasCause faults.old faults.new result }
     {
@@ -140,22 +176,37 @@ impl<F: Read + Write + Drop> Handle<F> {
     /// answered are put at its end, and none at an error. Each error of the system is a fault, and so is a write
     /// that takes nothing.
     fn write(&mut self, from: &[u8], faults: &mut u64) -> Result<usize, ShelfError>
-        requires { handle_mode self.old ≡ Writing }
+        requires mode { handle_mode self.old ≡ Writing }
+        requires piece { 0 < length from.now }
         ensures mode { handle_mode self.new ≡ handle_mode self.old }
         ensures count { IfOk result (λ n. n ≤ length from.now) }
         ensures some { IfOk result (λ n. 0 < n) }
         ensures bytes { WriteAppends
-            (handle_bytes F.contents self.old) (handle_bytes F.contents self.new) result from.now }
+            (handle_bytes F.remaining F.contents self.old)
+            (handle_bytes F.remaining F.contents self.new) result from.now }
         ensures error { IfErr result (λ e. e ≡ Failed) }
         ensures cause { HasCause faults.old faults.new result }
     {
         match self {
-            Handle::Target(file) => match file.write(from) {
-                Ok(count) if count > 0 => Ok(count),
-                _ => Err(fail(faults)),
-            },
+            Handle::Target(file) => put_some(file, from, faults),
             Handle::Source(_) => unreachable!(),
         }
+    }
+}
+
+/// Writes some bytes to a file or a stream, at least one. Where it is known what it holds, exactly those that are
+/// answered are put at its end, and none at an error.
+fn put_some<W: Write>(to: &mut W, from: &[u8], faults: &mut u64) -> Result<usize, ShelfError>
+    requires piece { 0 < length from.now }
+    ensures count { IfOk result (λ n. n ≤ length from.now) }
+    ensures some { IfOk result (λ n. 0 < n) }
+    ensures bytes { WriteAppends (W.contents to.old) (W.contents to.new) result from.now }
+    ensures error { IfErr result (λ e. e ≡ Failed) }
+    ensures cause { HasCause faults.old faults.new result }
+{
+    match to.write(from) {
+        Ok(count) if count > 0 => Ok(count),
+        _ => Err(fail(faults)),
     }
 }
 
@@ -223,9 +274,6 @@ impl<R: Print + Drop> Sink for RealSink<R> {
             (sinks.KeepsBytes (outer_sink self.old) (outer_sink self.new)) }
         ensures behaves { sinks.Behaves (outer_sink self.old) (outer_sink self.new) result }
     {
-        match self.rt.write_some(from) {
-            Ok(count) if count > 0 => Ok(count),
-            _ => Err(fail(&mut self.faults)),
-        }
+        put_some(&mut io::writer(&self.rt), from, &mut self.faults)
     }
 }

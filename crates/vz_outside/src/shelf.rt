@@ -18,6 +18,10 @@ pub enum ShelfError {
 }
 
 impl fmt::Display for ShelfError {
+    ghost use Rattle.vz_outside.specs.Messages.{error_text};
+
+    ghost output = { λ e. Some (error_text e) };
+
     fn fmt<W: fmt::Write>(&self, f: &mut fmt::Formatter<W>) -> fmt::Result {
         match self {
             ShelfError::Failed => write!(f, "the device failed"),

@@ -1,22 +1,43 @@
 use Rattle.std.proofs.Common.{ap, subst, ℕ}
-use Rattle.vz_outside.proofs.OuterCalls.{kept_modes, outer_behaves, outer_untouched, same_modes}
+use Rattle.vz_outside.proofs.OuterCalls.{kept_modes, open_low, other_bytes, outer_behaves, outer_untouched, same_modes, slot_bytes}
 use Rattle.vz_outside.proofs.Places.{on_err}
 use Rattle.vz_outside.specs.Faults.{HasCause}
-use Rattle.vz_outside.specs.Outer.{Outer}
+use Rattle.std.specs.Io.KnownBytes.{ReadConsumes}
+use Rattle.vz_outside.specs.Outer.{Outer, handle_bytes}
+use Rattle.vz_outside.specs.Shelved.{Reading}
 use Rattle.vz_outside.proofs.real.RealShelfShelf.read.Goals as goal
 
 pub returns-clause-untouched : goal.returns-clause-untouched
 returns-clause-untouched g c =
     on_err c.read.result
-    (outer_untouched c.args.self.now _
+    (outer_untouched c.args.self.now _ _
     (same_modes c.self.inside.slots.items c.args.slot c.index_mut.result.now c.read.new.self c.args.self.now.modes
     c.index_mut.ensures.value c.read.ensures.mode (ap (λ (outer : Outer). outer.modes) c.self.view_is)))
 
 pub returns-clause-behaves : goal.returns-clause-behaves
 returns-clause-behaves g c =
-    outer_behaves c.args.self.now _ c.read.result
+    outer_behaves c.args.self.now _ _ c.read.result
     (kept_modes c.args.self.now.modes _
     (same_modes c.self.inside.slots.items c.args.slot c.index_mut.result.now c.read.new.self c.args.self.now.modes
     c.index_mut.ensures.value c.read.ensures.mode (ap (λ (outer : Outer). outer.modes) c.self.view_is)))
     (subst (λ (faults : ℕ). HasCause faults c.read.new.faults c.read.result) (ap (λ (outer : Outer). outer.faults) c.self.view_is)
     c.read.ensures.cause)
+
+pub returns-clause-bytes : goal.returns-clause-bytes
+returns-clause-bytes g c =
+    slot_bytes (handle_bytes g.R.File.Read.remaining g.R.File.Write.contents)
+    (λ before after. ReadConsumes before after c.read.result c.read.new.into)
+    c.self.inside.slots.items c.args.slot c.index_mut.result.now c.read.new.self c.args.self.now.known
+    (open_low c.self.inside.slots.items c.args.slot Reading c.args.self.now.modes (ap (λ (outer : Outer). outer.modes) c.self.view_is) c.requires.open)
+    c.index_mut.ensures.value (ap (λ (outer : Outer). outer.known) c.self.view_is) c.read.ensures.bytes
+
+pub returns-clause-slots : goal.returns-clause-slots
+returns-clause-slots g c = record {
+  modes =
+      same_modes c.self.inside.slots.items c.args.slot c.index_mut.result.now c.read.new.self c.args.self.now.modes
+      c.index_mut.ensures.value c.read.ensures.mode (ap (λ (outer : Outer). outer.modes) c.self.view_is);
+  known =
+      other_bytes (handle_bytes g.R.File.Read.remaining g.R.File.Write.contents) c.self.inside.slots.items c.args.slot c.read.new.self c.args.self.now.known
+      (open_low c.self.inside.slots.items c.args.slot Reading c.args.self.now.modes (ap (λ (outer : Outer). outer.modes) c.self.view_is) c.requires.open)
+      (ap (λ (outer : Outer). outer.known) c.self.view_is);
+}
