@@ -5,3 +5,7 @@ pub mod Fitting
 pub mod Rooms
 pub mod Bounding
 pub mod Ties
+pub mod Ages
+pub mod Showing
+pub mod Chains
+pub mod Known

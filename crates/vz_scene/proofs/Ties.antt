@@ -17,8 +17,9 @@ use Rattle.std.specs.Cmp.{unsigned_ties}
 use Rattle.std.proofs.lemmas.Bool.Decides.{nat_tests}
 use Rattle.vz_ids.specs.declared.SurfaceId.{SurfaceId}
 use Rattle.vz_ids.specs.declared.SurfaceRange.{SurfaceRange}
-use Rattle.vz_ids.specs.Ids.{same_sink, same_local, same_surface, same_start, same_range}
-use Rattle.vz_scene.specs.Order.{by_surface, by_range, key_of, HasNumbers, HasShown}
+use Rattle.vz_ids.specs.Ids.{same_sink, same_local, same_surface, same_start, same_range, same_group}
+use Rattle.vz_scene.specs.Groups.{by_group, group_of}
+use Rattle.vz_scene.specs.Order.{by_surface, by_range, by_frame, frame_key, key_of, HasNumbers, HasShown}
 
 then_ties : (x y : Ordering) → is_eq (ordering_then x y) ≡ (is_eq x && is_eq y)
 then_ties Less y = refl
@@ -44,6 +45,15 @@ pub surface_ties : (a b : SurfaceId) → is_eq (by_surface a b) ≡ same_surface
 surface_ties a b =
     both_tie _ _ _ _ (both_tie _ _ _ _ (nat_ties a.sink.client_id b.sink.client_id) (nat_ties a.sink.sink_id b.sink.sink_id))
     (three_tie _ _ _ _ _ _ (nat_ties a.local.parent b.local.parent) (nat_ties a.local.child b.local.child) (nat_ties a.local.token.0 b.local.token.0))
+
+-- by sink and token
+pub group_ties : (a b : SurfaceId) → is_eq (by_group (group_of a) (group_of b)) ≡ same_group a b
+group_ties a b =
+    both_tie _ _ _ _ (both_tie _ _ _ _ (nat_ties a.sink.client_id b.sink.client_id) (nat_ties a.sink.sink_id b.sink.sink_id)) (nat_ties a.local.token.0 b.local.token.0)
+
+-- by surface and number
+pub frame_ties : (i j : Image) → is_eq (by_frame (frame_key i) (frame_key j)) ≡ (same_surface i.id j.id && (i.index == j.index))
+frame_ties i j = both_tie _ _ _ _ (surface_ties i.id j.id) (nat_ties i.index j.index)
 
 start_ties : (a b : Option SurfaceId) → is_eq (option_cmp by_surface a b) ≡ same_start a b
 start_ties None None = refl
@@ -85,7 +95,7 @@ shown_more {A} old new pairs k m d key e h is updates has r =
 eq_sym : (a b : ℕ) → (a == b) ≡ (b == a)
 eq_sym a b = grind (arith, nat_tests)
 
-surface_sym : (a b : SurfaceId) → same_surface a b ≡ same_surface b a
+pub surface_sym : (a b : SurfaceId) → same_surface a b ≡ same_surface b a
 surface_sym a b =
     ap (λ t. (t && (a.sink.sink_id == b.sink.sink_id)) && same_local a.local b.local) (eq_sym a.sink.client_id b.sink.client_id)
     ∙ (ap (λ t. ((b.sink.client_id == a.sink.client_id) && t) && same_local a.local b.local) (eq_sym a.sink.sink_id b.sink.sink_id)

@@ -1,5 +1,5 @@
--- Orders of surfaces, submissions and ranges, and what trees in these orders have.
-use Rattle.std.specs.Prelude.{◌≡◌, List, find}
+-- Orders of surfaces, submissions, ranges and frames, and what trees in these orders have.
+use Rattle.std.specs.Prelude.{◌≡◌, List, find, IfSome}
 use Rattle.std.specs.Option.{option_map}
 use Rattle.std.specs.BTreeMap.{BTreeMap, get}
 use Rattle.std.specs.declared.cmp.Ordering.{Ordering}
@@ -9,6 +9,12 @@ use Rattle.vz_ids.specs.declared.SurfaceRange.{SurfaceRange}
 use Rattle.vz_ids.specs.contracts.SubOrd.TheImpl as sub_ord
 use Rattle.vz_ids.specs.contracts.SurfaceIdOrd.TheImpl as surface_ord
 use Rattle.vz_ids.specs.Ids.{same_surface, same_range}
+use Rattle.vz_geom.specs.Rectangle.{Rectangle}
+use Rattle.vz_rules.specs.World.{Image, Aggregation}
+use Rattle.vz_rules.specs.Damage.{damage_since}
+use Rattle.vz_scene.specs.Limits.{IsInReach}
+use Rattle.vz_scene.specs.declared.key.FrameKey.{FrameKey}
+use Rattle.vz_scene.specs.contracts.key.FrameKeyOrd.TheImpl as frame_ord
 use Rattle.vz_scene.specs.declared.key.RangeKey.{RangeKey}
 use Rattle.vz_scene.specs.contracts.key.RangeKeyOrd.TheImpl as range_ord
 
@@ -24,6 +30,14 @@ by_surface = (surface_ord.ghosts).cmp
 abbrev pub by_range : RangeKey → RangeKey → Ordering
 by_range = (range_ord.ghosts).cmp
 
+-- by surface and number
+abbrev pub by_frame : FrameKey → FrameKey → Ordering
+by_frame = (frame_ord.ghosts).cmp
+
+-- the key of an image's frame
+abbrev pub frame_key : Image → FrameKey
+frame_key i = record { id = i.id; index = i.index }
+
 -- the key of a range
 abbrev pub key_of : SurfaceRange → RangeKey
 key_of r = record { start = r.start; end = r.end }
@@ -35,3 +49,7 @@ HasNumbers {A} m pairs = (id : SurfaceId) → get by_surface m id ≡ option_map
 -- a map has what the first pair of each range says
 abbrev pub HasShown : {A : Type 0} → BTreeMap RangeKey A → List (SurfaceRange × A) → Type 0
 HasShown {A} m pairs = (r : SurfaceRange) → get by_range m (key_of r) ≡ option_map (λ (x : SurfaceRange × A). x.1) (find (λ (x : SurfaceRange × A). same_range x.0 r) pairs)
+
+-- what a map has for a frame is the damage on its surface since an aggregation, where these frames were accepted
+abbrev pub AreDamages : Aggregation → List Image → BTreeMap FrameKey Rectangle → Type 0
+AreDamages last accepted m = (i : Image) → IfSome (get by_frame m (frame_key i)) (λ (r : Rectangle). (r ≡ damage_since last accepted i) × IsInReach r)

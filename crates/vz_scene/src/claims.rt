@@ -1,55 +1,97 @@
 //! The claims of a drawing: where something may have changed.
-ghost use Rattle.std.specs.Prelude.{◌≡◌, IfOk};
+ghost use Rattle.std.specs.Prelude.{◌≡◌, ◌++◌, IfOk, OnOk};
 ghost use Rattle.std.specs.List.{flat_map};
 ghost use Rattle.std.specs.Option.{option_to_list};
 ghost use Rattle.vz_rules.specs.Plan.{IsDisplaySize};
-ghost use Rattle.vz_rules.specs.Damage.{damage_at, claims_of, claims, drawn_damage};
+ghost use Rattle.vz_rules.specs.Damage.{damage_since, damage_at, claims_of, claims, drawn_damage};
+ghost use Rattle.vz_scene.specs.Limits.{IsInReach};
+ghost use Rattle.vz_scene.specs.Order.{AreDamages};
+ghost use Rattle.vz_scene.specs.Seen.{seen_damage};
 
 use crate::aggregation::Aggregation;
 use crate::damage::{bound, damage_since, frame_rect};
 use crate::index::Index;
+use crate::key::{FrameKey, frame_key};
 use crate::meeting::{Kind, Meeting};
 use crate::place::{Place, display_rect, moved};
 use crate::submitted::SubmittedFrame;
 use std::alloc::{AllocError, Global};
+use std::collections::BTreeMap;
 use vz_geom::{Rect, Size};
 use vz_ids::SurfaceId;
 
-/// The damage on an image's surface since the last aggregation, as it is seen at a place.
-#[tactic(auto, unfolding(vz_rules::specs::Damage::damage_at))]
-fn damage_at(
+/// The damage on an image's surface since the last aggregation. It is looked for once for each
+/// image. Condition: what is known is right.
+fn known_damage(
     last: &Index<'_>,
     accepted: &[SubmittedFrame<'_>],
+    known: &mut BTreeMap<FrameKey, Rect>,
     image: &SubmittedFrame<'_>,
-    place: &Place,
-) -> Rect
-    ensures { result ≡ damage_at last.now accepted.now image.now place.now }
+) -> Result<Rect, AllocError>
+    requires { AreDamages last.now accepted.now known.old }
+    ensures value { IfOk result (λ r. r ≡ damage_since last.now accepted.now image.now) }
+    ensures reach { IfOk result (λ r. IsInReach r) }
+    ensures known { OnOk result (AreDamages last.now accepted.now known.new) }
+{
+    let key = frame_key(image);
+    if let Some(damage) = known.get(&key) {
+        return Ok(*damage);
+    }
+    let damage = damage_since(last, accepted, image);
+    known.insert(key, damage)?;
+    Ok(damage)
+}
+
+/// The part of a damage on an image's surface that is seen at a place. Condition: it is the one
+/// since the last aggregation.
+fn seen_damage(damage: &Rect, image: &SubmittedFrame<'_>, place: &Place) -> Rect
+    requires { IsInReach damage.now }
+    ensures { result ≡ seen_damage damage.now image.now place.now }
 {
     let surface = moved(&frame_rect(image), place.shift);
     let window = place.window.intersect(&surface);
-    let damage = moved(&damage_since(last, accepted, image), place.shift);
-    window.intersect(&damage)
+    window.intersect(&moved(damage, place.shift))
 }
 
-/// What a meeting claims, if anything.
-#[tactic(auto, unfolding(vz_rules::specs::Damage::claims_of))]
+/// What a meeting claims, if anything. Condition: what is known is right.
+#[tactic(auto, unfolding(vz_rules::specs::Damage::claims_of, vz_rules::specs::Damage::damage_at))]
 fn claim_of(
     last: &Index<'_>,
     accepted: &[SubmittedFrame<'_>],
+    known: &mut BTreeMap<FrameKey, Rect>,
     met: &Meeting<'_, '_>,
-) -> Option<Rect>
-    ensures { option_to_list result ≡ claims_of last.now accepted.now met.now }
+) -> Result<Option<Rect>, AllocError>
+    requires { AreDamages last.now accepted.now known.old }
+    ensures claim { IfOk result
+        (λ o. option_to_list o ≡ claims_of last.now accepted.now met.now) }
+    ensures known { OnOk result (AreDamages last.now accepted.now known.new) }
 {
     match &met.kind {
-        Kind::Quad => None,
+        Kind::Quad => Ok(None),
         Kind::Shows { range, shown, seen } => {
             if last.is_switched(range, *shown) {
-                Some(*seen)
+                Ok(Some(*seen))
             } else {
-                None
+                Ok(None)
             }
         }
-        Kind::Enters { image, place, .. } => Some(damage_at(last, accepted, image, place)),
+        Kind::Enters { image, place, .. } => {
+            let damage = known_damage(last, accepted, known, image)?;
+            Ok(Some(seen_damage(&damage, image, place)))
+        }
+    }
+}
+
+/// A claim is added, if there is one.
+fn add_claim(all: &mut Vec<Rect>, claim: Option<Rect>) -> Result<(), AllocError>
+    ensures { OnOk result (all.new.items ≡ all.old.items ++ option_to_list claim) }
+{
+    match claim {
+        None => Ok(()),
+        Some(rect) => {
+            all.push(rect)?;
+            Ok(())
+        }
     }
 }
 
@@ -63,11 +105,11 @@ fn all_claims(
     ensures { IfOk result (λ v. v.items ≡ flat_map (claims_of last.now accepted.now) met.now) }
 {
     let index = Index::new(alloc, last)?;
+    let mut known = BTreeMap::new(alloc);
     let mut all = Vec::new(alloc);
     for meeting in met {
-        if let Some(rect) = claim_of(&index, accepted, meeting) {
-            all.push(rect)?;
-        }
+        let claim = claim_of(&index, accepted, &mut known, meeting)?;
+        add_claim(&mut all, claim)?;
     }
     Ok(all)
 }

@@ -10,9 +10,9 @@ ghost use Rattle.vz_scene.specs.Limits.{HasRoom, IsPassInReach, IsQuadInReach, r
 ghost use Rattle.vz_scene.specs.Walking.{ranges_of, named_of, walked_at};
 ghost use Rattle.vz_scene.specs.Walking.{cursor_walked, maybe_walked, group_at, next_cursor};
 
+use crate::images::Images;
 use crate::meeting::Walked;
 use crate::place::Place;
-use crate::scene::shown_image;
 use crate::submitted::SubmittedFrame;
 use std::alloc::{AllocError, Global};
 use std::marker::Model;
@@ -191,7 +191,7 @@ impl<'b, 'a> Cursor<'b, 'a> {
     fn range(
         &self,
         alloc: Global,
-        images: &'b [SubmittedFrame<'a>],
+        images: &Images<'b, 'a>,
         range: SurfaceRange,
         place: Place,
         walked: &mut Walked<'b, 'a>,
@@ -201,7 +201,7 @@ impl<'b, 'a> Cursor<'b, 'a> {
             ≡ walked.old ++ ranges_of images.now self.now range place) }
         ensures weight { OnOk result (weight walked.new ≡ weight walked.old) }
     {
-        let shown = shown_image(images, &range);
+        let shown = images.shown_image(&range);
         walked.add_shows(range, shown, place.window)?;
         match shown {
             None => Ok(None),
@@ -221,7 +221,7 @@ impl<'b, 'a> Cursor<'b, 'a> {
     pub fn quad(
         &self,
         alloc: Global,
-        images: &'b [SubmittedFrame<'a>],
+        images: &Images<'b, 'a>,
         pass: &RenderPass,
         quad: &DrawQuad,
         walked: &mut Walked<'b, 'a>,

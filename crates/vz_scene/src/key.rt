@@ -1,8 +1,10 @@
-//! Ranges in an order, so that one is found among many.
+//! Ranges, groups and frames in an order, so that one is found among many.
 ghost use Rattle.std.specs.Prelude.{◌≡◌};
-ghost use Rattle.vz_scene.specs.Order.{key_of};
+ghost use Rattle.vz_scene.specs.Groups.{group_of};
+ghost use Rattle.vz_scene.specs.Order.{key_of, frame_key};
 
-use vz_ids::{SurfaceId, SurfaceRange};
+use crate::submitted::SubmittedFrame;
+use vz_ids::{EmbedToken, FrameSinkId, SurfaceId, SurfaceRange};
 
 /// A range, by its start and its end.
 #[derive(Clone, Copy, Debug, PartialEq, Eq, PartialOrd, Ord)]
@@ -18,5 +20,39 @@ pub fn key_of(range: &SurfaceRange) -> RangeKey
     RangeKey {
         start: range.start,
         end: range.end,
+    }
+}
+
+/// A group of surfaces, by its sink and its token.
+#[derive(Clone, Copy, Debug, PartialEq, Eq, PartialOrd, Ord)]
+pub struct GroupKey {
+    sink: FrameSinkId,
+    token: EmbedToken,
+}
+
+/// The key of a surface's group.
+pub fn group_of(id: &SurfaceId) -> GroupKey
+    ensures { result ≡ group_of id.now }
+{
+    GroupKey {
+        sink: id.sink,
+        token: id.local.token,
+    }
+}
+
+/// A frame, by its surface and its number among those of the surface.
+#[derive(Clone, Copy, Debug, PartialEq, Eq, PartialOrd, Ord)]
+pub struct FrameKey {
+    id: SurfaceId,
+    index: u32,
+}
+
+/// The key of an image's frame.
+pub fn frame_key(image: &SubmittedFrame<'_>) -> FrameKey
+    ensures { result ≡ frame_key image.now }
+{
+    FrameKey {
+        id: image.id,
+        index: image.index,
     }
 }

@@ -2,8 +2,8 @@
 //!
 //! A scene is the root and the frames that are active. The walk goes through it quad by quad,
 //! and stops where it meets too much. What changed since the last aggregation is claimed along
-//! the walk. Each call answers what the definitions of `vz_rules` say. Frames are scanned as
-//! plain lists; what an aggregation remembers, of which there may be much, is put in order first.
+//! the walk. Each call answers what the definitions of `vz_rules` say. The active images stand by
+//! groups, and what an aggregation remembers in order, so that each is found soon among many.
 #![tactic(auto)]
 
 pub mod aggregation;
@@ -11,6 +11,8 @@ pub mod claims;
 mod cursor;
 pub mod damage;
 pub mod frame;
+mod group;
+mod images;
 mod index;
 mod key;
 pub mod meeting;
@@ -20,4 +22,5 @@ pub mod submitted;
 pub mod walk;
 
 pub use aggregation::Aggregation;
+pub use images::Images;
 pub use submitted::{SubmittedFrame, is_at_least};

@@ -1,4 +1,4 @@
-//! The active images, and which of them a range shows.
+//! Images that are on a surface or in a range, found by looking at each.
 ghost use Rattle.std.specs.Prelude.{◌≡◌, filter};
 ghost use Rattle.std.specs.Option.{option_copied};
 ghost use Rattle.vz_ids.specs.Ids.{same_surface};
@@ -10,7 +10,7 @@ use vz_ids::{SurfaceId, SurfaceRange};
 
 impl<'a> SubmittedFrame<'a> {
     /// Whether it is on a surface of the range's own group.
-    fn is_in(&self, range: &SurfaceRange) -> bool
+    pub(crate) fn is_in(&self, range: &SurfaceRange) -> bool
         ensures { result ≡ in_range range.now self.now }
     {
         is_at_least(&range.end, &self.id)
@@ -21,7 +21,7 @@ impl<'a> SubmittedFrame<'a> {
     }
 
     /// Whether it is on a surface of the group of the range's start, which is another one.
-    fn is_after(&self, range: &SurfaceRange) -> bool
+    pub(crate) fn is_after(&self, range: &SurfaceRange) -> bool
         ensures { result ≡ after_start range.now.start range.now.end self.now }
     {
         match range.start {
@@ -31,7 +31,7 @@ impl<'a> SubmittedFrame<'a> {
     }
 
     /// Whether it is on this surface.
-    fn is_of(&self, id: &SurfaceId) -> bool
+    pub(crate) fn is_of(&self, id: &SurfaceId) -> bool
         ensures { result ≡ same_surface self.now.id id.now }
     {
         self.id == *id
@@ -68,7 +68,7 @@ fn newer_of<'b, 'a>(
 }
 
 /// The newest image of the range's own group.
-fn newest_in<'b, 'a>(
+pub(crate) fn newest_in<'b, 'a>(
     images: &'b [SubmittedFrame<'a>],
     range: &SurfaceRange,
 ) -> Option<&'b SubmittedFrame<'a>>
@@ -87,7 +87,7 @@ fn newest_in<'b, 'a>(
 }
 
 /// The newest image of the group of the range's start.
-fn newest_after<'b, 'a>(
+pub(crate) fn newest_after<'b, 'a>(
     images: &'b [SubmittedFrame<'a>],
     range: &SurfaceRange,
 ) -> Option<&'b SubmittedFrame<'a>>
@@ -106,7 +106,8 @@ fn newest_after<'b, 'a>(
     best
 }
 
-/// The image of the surface that a range shows.
+/// The image of the surface that a range shows. Each image is looked at: where many ranges are
+/// asked, `Images` finds each sooner.
 #[tactic(auto, unfolding(vz_rules::specs::Scene::shown_image))]
 pub fn shown_image<'b, 'a>(
     images: &'b [SubmittedFrame<'a>],

@@ -6,9 +6,9 @@ ghost use Rattle.vz_rules.specs.Plan.{IsDisplaySize};
 ghost use Rattle.vz_scene.specs.Walking.{cursor_walked, stack_walked, IsWalk};
 
 use crate::cursor::{Cursor, enter};
+use crate::images::Images;
 use crate::meeting::Walked;
 use crate::place::whole;
-use crate::scene::image_on;
 use crate::submitted::SubmittedFrame;
 use std::alloc::{AllocError, Global};
 use vz_geom::Size;
@@ -35,7 +35,7 @@ fn push_some<'b, 'a>(
 /// was not too much before.
 fn advance<'b, 'a>(
     alloc: Global,
-    images: &'b [SubmittedFrame<'a>],
+    images: &Images<'b, 'a>,
     mut cursor: Cursor<'b, 'a>,
     stack: &mut Vec<Cursor<'b, 'a>>,
     walked: &mut Walked<'b, 'a>,
@@ -62,7 +62,7 @@ fn advance<'b, 'a>(
 /// The walk over a stack, cursor by cursor. None is answered where it is too much.
 fn run<'b, 'a>(
     alloc: Global,
-    images: &'b [SubmittedFrame<'a>],
+    images: &Images<'b, 'a>,
     mut stack: Vec<Cursor<'b, 'a>>,
     mut walked: Walked<'b, 'a>,
 ) -> Result<Option<Walked<'b, 'a>>, AllocError>
@@ -90,15 +90,16 @@ pub fn walk_of<'b, 'a>(
     ensures { IfOk result
         (IsWalk (walk_of size (record { root = root.now; images = images.now }))) }
 {
+    let shown = Images::new(alloc, images)?;
     let mut walked = Walked::new(alloc);
-    match image_on(images, root) {
+    match shown.image_on(root) {
         None => Ok(Some(walked)),
         Some(image) => {
             let place = whole(size);
             walked.add_enters(1, image, place)?;
             let mut stack = Vec::new(alloc);
             push_some(&mut stack, enter(alloc, 65, &[], image, place)?)?;
-            Ok(run(alloc, images, stack, walked)?)
+            Ok(run(alloc, &shown, stack, walked)?)
         }
     }
 }

@@ -1,8 +1,13 @@
 use Rattle.std.proofs.Common.{◌≡◌, take}
 use Rattle.std.specs.List.{flat_map}
 use Rattle.vz_rules.specs.Damage.{claims_of}
+use Rattle.vz_scene.specs.Order.{AreDamages}
 use Rattle.vz_scene.proofs.claims.all_claims.Given as goal
 
--- the claims of the meetings so far
+-- the claims of the meetings so far, and the damages that they wanted
 abbrev pub invariant-loop-meeting : goal.invariant-loop-meeting
-invariant-loop-meeting l = l.all.items ≡ flat_map (claims_of l.last l.accepted) (take l.meeting-index l.met)
+invariant-loop-meeting l =
+    record {
+      claims : l.all.items ≡ flat_map (claims_of l.last l.accepted) (take l.meeting-index l.met);
+      known : AreDamages l.last l.accepted l.known;
+    }
