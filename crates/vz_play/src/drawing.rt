@@ -9,7 +9,7 @@ ghost use Rattle.vz_play.specs.Playing.{damage_in};
 use std::alloc::Global;
 use vz_geom::{Rect, Size};
 use vz_machine::PixelPicture;
-use vz_pixels::Memory;
+use vz_base::Memory;
 use vz_plain::picture::picture;
 use vz_rules::{Effects, Event, Reply};
 use vz_slow::Slow;
@@ -53,12 +53,10 @@ pub fn draw(alloc: Global, machine: &mut Slow<'_>, size: Size) -> Result<Drawing
             picture: None,
         });
     };
-    match picture(alloc, &images, &root, size) {
-        Ok(pixels) => Ok(Drawing {
-            reply,
-            effects,
-            picture: Some(PixelPicture::new(size, pixels, damage)),
-        }),
-        Err(_) => Err(Memory),
-    }
+    let pixels = picture(alloc, &images, &root, size)?;
+    Ok(Drawing {
+        reply,
+        effects,
+        picture: Some(PixelPicture::new(size, pixels, damage)),
+    })
 }

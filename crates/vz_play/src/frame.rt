@@ -4,19 +4,17 @@ ghost use Rattle.vz_buffers.specs.Canvas.{IsCanvasSize};
 ghost use Rattle.vz_display.specs.Displayed.{current};
 
 use std::alloc::Global;
+use vz_base::Memory;
 use vz_display::Display;
 use vz_geom::Size;
-use vz_pixels::Memory;
 
 /// Room for a row of a display.
 fn row_of(alloc: Global, size: Size) -> Result<Vec<u8>, Memory>
     requires { IsCanvasSize size }
     ensures { IfOk result (λ row. vec_len row ≡ 4 * nat_abs size.w) }
 {
-    match vec![in alloc; 0u8; 4 * size.w.unsigned_abs() as usize] {
-        Ok(row) => Ok(row),
-        Err(_) => Err(Memory),
-    }
+    let row = vec![in alloc; 0u8; 4 * size.w.unsigned_abs() as usize]?;
+    Ok(row)
 }
 
 /// Puts the bytes of the current frame of a display behind others. Conditions: the size is the
@@ -34,9 +32,7 @@ pub fn push_frame(
     let mut row = row_of(alloc, size)?;
     for y in 0..size.h {
         display.row(y, &mut row);
-        if frames.extend_from_slice(&row).is_err() {
-            return Err(Memory);
-        }
+        frames.extend_from_slice(&row)?;
     }
     Ok(())
 }

@@ -9,12 +9,13 @@ use crate::drawing::draw;
 use crate::frame::push_frame;
 use std::alloc::Global;
 use std::sync::ledger::Ledger;
+use vz_base::Memory;
+use vz_base::limits::MOST_BUFFERS;
 use vz_buffers::Steps;
 use vz_display::Display;
 use vz_frame::List;
 use vz_geom::Size;
 use vz_machine::PixelPicture;
-use vz_pixels::Memory;
 use vz_rules::{Entry, Event, Plan, Rest};
 use vz_slow::Slow;
 
@@ -41,7 +42,7 @@ struct Screen {
 
 /// Runs the plain machine through events, and shows its pictures on a display of so many buffers.
 /// `Memory` is the only error. Conditions: each client's event is of a client of the plan, and
-/// there are 1 to 4 buffers.
+/// there are 1 to `MOST_BUFFERS` buffers.
 pub fn play<L: Ledger>(
     alloc: Global,
     plan: &Plan,
@@ -51,7 +52,7 @@ pub fn play<L: Ledger>(
 ) -> Result<Played, Memory>
     requires named { All (NamesClient plan.now) events.now }
     requires from { 1 ≤ buffers }
-    requires upto { buffers ≤ 4 }
+    requires upto { buffers ≤ MOST_BUFFERS }
     // The history is the one that the machine makes of exactly these events.
     ensures legal { IfOk result (λ p. Legal plan.now p.history) }
     ensures events { IfOk result (λ p. map (λ e. e.event) p.history ≡ events.now) }
@@ -189,8 +190,6 @@ fn show_one<L: Ledger>(
     screen.display.show(alloc, picture, steps)?;
     push_frame(alloc, &screen.display, size, &mut screen.frames)?;
     let count = steps.count().saturating_sub(before);
-    match screen.painted.push(count) {
-        Ok(()) => Ok(()),
-        Err(_) => Err(Memory),
-    }
+    screen.painted.push(count)?;
+    Ok(())
 }

@@ -14,6 +14,25 @@ fn two(alloc: Global) -> List<u32> {
     list
 }
 
+/// Whether a value is in a list, gone over in both ways.
+fn has(list: &List<u32>, wanted: u32) -> bool {
+    let mut found = false;
+    for value in list {
+        found |= *value == wanted;
+    }
+    found && list.iter().any(|value| *value == wanted)
+}
+
+#[test]
+fn a_list_is_gone_over(rt: HostRuntime) -> Result<(), Fail> {
+    let list = two(rt.alloc());
+    assert_eq!(rt; list.len(), 2);
+    assert!(rt; !list.is_empty());
+    assert!(rt; has(&list, 9));
+    assert!(rt; !has(&list, 8));
+    Ok(())
+}
+
 #[test]
 fn a_list_grows(rt: HostRuntime) -> Result<(), Fail> {
     let list = two(rt.alloc());
