@@ -4,7 +4,7 @@ use Rattle.std.proofs.Math.Nat.{eq-or-lt_of_le}
 use Rattle.vz_codec.specs.Grammar.{Spells}
 use Rattle.vz_outside.specs.Shelved.{Shelved, Name}
 use Rattle.vz_outside.specs.Sunk.{Sunk}
-use Rattle.vz_rules.specs.Command.{Text, IsCommand, command_words}
+use Rattle.vz_rules.specs.Command.{Word, IsCommand, command_words}
 use Rattle.vz_rules.specs.declared.entry.Entry.{Entry}
 use Rattle.viz_run.specs.declared.stop.Stop.{Stop}
 use Rattle.viz_run.specs.declared.stop.Stop.TheVariants as stops
@@ -17,7 +17,7 @@ use Rattle.viz_run.specs.Causes.{IsAcceptable, IsUnacceptable, RefusesNamedFile,
 use Rattle.viz_run.proofs.Admitting.{narrow_bytes}
 
 -- words name one client file and one schedule
-same_inputs : (words : List Text) (l m : Line) → IsCommand words (command_for l) → IsCommand words (command_for m) → (l.file ≡ m.file) × (l.schedule ≡ m.schedule)
+same_inputs : (words : List Word) (l m : Line) → IsCommand words (command_for l) → IsCommand words (command_for m) → (l.file ≡ m.file) × (l.schedule ≡ m.schedule)
 unfolding IsCommand command_words
 same_inputs words l m is again =
     let one = is.1 in
@@ -50,7 +50,7 @@ three_up status not_two low =
     let above_two = above 2 status low not_two in
     elim (eq-or-lt_of_le above_two) [ inl three ↦ inl (sym three) | inr more ↦ inr (omega arith) ]
 
-module _ (words : List Text) (before after : Outside) (h : List Entry) (g : Given) (acceptable : IsAcceptable words before.shelf g) where
+module _ (words : List Word) (before after : Outside) (h : List Entry) (g : Given) (acceptable : IsAcceptable words before.shelf g) where
   no_file : RefusesNamedFile words h before after → ⊥
   no_file (l, command, refuses, unbegun) =
       let same = same_inputs words l g.line command acceptable.command in
@@ -80,7 +80,7 @@ module _ (words : List Text) (before after : Outside) (h : List Entry) (g : Give
       let not_three : status ≡ 3 → ⊥ = λ three. elim (is_three three) [ inl file ↦ no_file (refused file.0) | inr schedule ↦ no_schedule (unscheduled schedule.0) ] in
       inr (four_up status not_two not_three low)
 
-module _ (words : List Text) (before after : Outside) (l : Line) (unacceptable : IsUnacceptable words before.shelf l) where
+module _ (words : List Word) (before after : Outside) (l : Line) (unacceptable : IsUnacceptable words before.shelf l) where
   -- what is not acceptable is not shown
   pub no_end : (h : List Entry) → EndsWell words h before after → ⊥
   no_end h (g, well) =

@@ -4,9 +4,8 @@ use Rattle.std.proofs.lemmas.Int.{ints}
 use Rattle.std.specs.List.{list_any, list_all}
 use Rattle.vz_frame.specs.Fits.{within}
 use Rattle.vz_frame.specs.Frame.{has_repeat}
-use Rattle.vz_rules.specs.Plan.{IsDisplaySize}
-use Rattle.vz_rules.specs.Command.{Text, Step, fits_command, is_name, are_names, same_text}
-use Rattle.vz_buffers.specs.Canvas.{IsCanvasSize}
+use Rattle.vz_geom.specs.Display.{IsDisplaySize}
+use Rattle.vz_rules.specs.Command.{Word, Step, fits_command, is_name, are_names, same_text}
 use Rattle.viz_run.proofs.Spelled.{within_parts, parts, same_text_refl}
 
 repeats : (x t y z : Bool) → t ≡ true → not (x || ((t || y) || z)) ≡ true → ⊥
@@ -14,7 +13,7 @@ repeats true t y z is none = cc
 repeats false true y z is none = cc
 repeats false false y z is none = cc
 
-module _ (w h : ℕ) (s f l a : Text) (fits : IsTrue (fits_command (Step w h s f l (a ∷ [])))) where
+module _ (w h : ℕ) (s f l a : Word) (fits : IsTrue (fits_command (Step w h s f l (a ∷ [])))) where
   fit_parts : (within 1 2048 w ≡ true) × (within 1 2048 h ≡ true) × (are_names (s ∷ f ∷ l ∷ a ∷ []) ≡ true)
   unfolding fits_command
   fit_parts = within_parts w h (are_names (s ∷ f ∷ l ∷ a ∷ [])) fits
@@ -31,7 +30,7 @@ module _ (w h : ℕ) (s f l a : Text) (fits : IsTrue (fits_command (Step w h s f
       let down = high in
       record { wide = omega (arith, ints); not_too_wide = omega (arith, ints); high = omega (arith, ints); not_too_high = omega (arith, ints) }
 
-  pub canvas_fits : IsCanvasSize (record { w = pos w; h = pos h })
+  pub canvas_fits : IsDisplaySize (record { w = pos w; h = pos h })
   canvas_fits =
       let across = wide in
       let down = high in

@@ -1,6 +1,5 @@
 -- Rows of points and the rows of their colours.
-use Rattle.std.proofs.Common.{◌≡◌, ℕ, zero, suc, ◌+◌, ◌-◌, ◌*◌, ◌<◌, ◌≤◌, ℤ, pos, ◌+ℤ◌, List, [], ◌∷◌, ◌++◌, length, map, take, drop, refl, sym, ap, subst, ◌∙◌, append_assoc, append-nil, mul_comm, add-zero, take_all, nat_abs, ◌≤ℤ◌, length-append, length-drop, arith, Bool, true, false, if◌then◌else◌, Result, Ok, Err}
-use Rattle.std.specs.Result.{is_ok, is_err}
+use Rattle.std.proofs.Common.{◌≡◌, ℕ, zero, suc, ◌+◌, ◌-◌, ◌*◌, ◌<◌, ◌≤◌, ℤ, pos, ◌+ℤ◌, List, [], ◌∷◌, ◌++◌, length, map, take, drop, refl, sym, ap, subst, ◌∙◌, append_assoc, append-nil, mul_comm, add-zero, take_all, nat_abs, ◌≤ℤ◌, length-append, length-drop, arith}
 use Rattle.std.proofs.Math.Nat.{mul-le-mul_right}
 use Rattle.std.proofs.Math.Seq.{take-append_seam}
 use Rattle.std.proofs.lemmas.List.{length-take-le, length-map, map-append}
@@ -24,16 +23,6 @@ row_step f row more whole n x y c low colour grown so_far =
     let split : map f (row_points (n - x) (pos x) y) ≡ f (record { x = pos x; y = y }) ∷ rest = ap (map f) (next_points n x y low) in
     let joined : (row ++ c ∷ []) ++ rest ≡ row ++ (c ∷ rest) = append_assoc row (c ∷ []) rest in
     ap (λ r. r ++ rest) grown ∙ joined ∙ ap (λ k. row ++ (k ∷ rest)) colour ∙ ap (λ r. row ++ r) (sym split) ∙ so_far
-
-is_ok_of : {T E : Type 0} (r : Result T E) → is_err r ≡ false → is_ok r ≡ true
-is_ok_of (Ok x) h = refl
-is_ok_of (Err e) h = cc
-
--- what a vector has where a push did not fail
-pub pushed : {T E X : Type 0} (r : Result T E) (b : Bool) (more old : List X) (x : X) → more ≡ (if is_ok r then old ++ x ∷ [] else old) → b ≡ is_err r → b ≡ false → more ≡ old ++ x ∷ []
-pushed r b more old x is told none =
-    let fine : is_ok r ≡ true = is_ok_of r (sym told ∙ none) in
-    is ∙ ap (λ k. if k then old ++ x ∷ [] else old) fine
 
 length-row_points : (n : ℕ) (x y : ℤ) → length (row_points n x y) ≡ n
 length-row_points zero x y = refl

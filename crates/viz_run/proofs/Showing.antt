@@ -8,8 +8,9 @@ use Rattle.vz_frame.specs.declared.message.ClientFile.{ClientFile}
 use Rattle.vz_frame.specs.Fits.{fits_file}
 use Rattle.vz_outside.specs.Shelved.{Shelved, IsCall, SameFiles}
 use Rattle.vz_outside.proofs.Calls.{known_after}
-use Rattle.vz_rules.specs.Plan.{Plan, IsPlan, first_taken, IsDisplaySize}
-use Rattle.vz_rules.specs.Command.{Text, fits_command, IsCommand}
+use Rattle.vz_rules.specs.Plan.{Plan, IsPlan, first_taken}
+use Rattle.vz_geom.specs.Display.{IsDisplaySize}
+use Rattle.vz_rules.specs.Command.{Word, fits_command, IsCommand}
 use Rattle.vz_rules.specs.declared.entry.Entry.{Entry}
 use Rattle.vz_rules.specs.World.{World, opening}
 use Rattle.vz_rules.specs.Step.{step_in, LegalFrom, Legal}
@@ -168,6 +169,6 @@ all_made display h is = is
 
 -- a call that was cut short at work on what its words name leaves a front part
 pub leaves_front :
-    {T E : Type 0} (r : Result T E) (words : List Text) (h : List Entry) (before after : Outside) (g : Given) →
+    {T E : Type 0} (r : Result T E) (words : List Word) (h : List Entry) (before after : Outside) (g : Given) →
     IsCommand words (command_for g.line) → IsCutShort h g before.shelf after.shelf → OnErr r (LeavesFront words h before after)
 leaves_front r words h before after g command cut_short = on_err r (LeavesFront words h before after) (inr (g, command, cut_short))

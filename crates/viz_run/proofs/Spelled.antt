@@ -5,7 +5,7 @@ use Rattle.std.specs.Fmt.{decimal}
 use Rattle.std.specs.declared.string.String.{String}
 use Rattle.std.specs.String.{string_bytes}
 use Rattle.vz_frame.specs.Fits.{within}
-use Rattle.vz_rules.specs.Command.{Text, Step, command_words, fits_command, are_names, same_text, IsCommand}
+use Rattle.vz_rules.specs.Command.{Word, Step, command_words, fits_command, are_names, same_text, IsCommand}
 use Rattle.viz_run.specs.Words.{texts, IsNoStep}
 
 -- a list by its first three elements, and one of four
@@ -31,13 +31,13 @@ pub parts : (a b : Bool) → (a && b) ≡ true → (a ≡ true) × (b ≡ true)
 parts true b h = (refl, h)
 parts false b h = absurd (let e : false ≡ true = h in cc)
 
-pub same_text_is : (a b : Text) → same_text a b ≡ true → a ≡ b
+pub same_text_is : (a b : Word) → same_text a b ≡ true → a ≡ b
 same_text_is [] [] h = refl
 same_text_is [] (b ∷ bs) h = cc
 same_text_is (a ∷ as') [] h = cc
 same_text_is (a ∷ as') (b ∷ bs) h = let k = parts (a == b) (same_text as' bs) h in let e : a ≡ b = grind arith in let es = same_text_is as' bs k.1 in cc
 
-pub same_text_refl : (a : Text) → same_text a a ≡ true
+pub same_text_refl : (a : Word) → same_text a a ≡ true
 same_text_refl [] = refl
 same_text_refl (a ∷ as') = both (a == a) (same_text as' as') (grind arith) (same_text_refl as')
 
@@ -49,7 +49,7 @@ within_parts m n names h =
     (j.0, j.1, k.1)
 
 -- the words of `step`
-pub step_found : (t w h s f l a : Text) (m n : ℕ) → t ≡ codes "step" → w ≡ decimal m → h ≡ decimal n → IsTrue (within 1 2048 m) → IsTrue (within 1 2048 n)
+pub step_found : (t w h s f l a : Word) (m n : ℕ) → t ≡ codes "step" → w ≡ decimal m → h ≡ decimal n → IsTrue (within 1 2048 m) → IsTrue (within 1 2048 n)
     → are_names (s ∷ f ∷ l ∷ a ∷ []) ≡ true → IsCommand (t ∷ w ∷ h ∷ s ∷ f ∷ l ∷ a ∷ []) (Step m n s f l (a ∷ []))
 unfolding IsCommand command_words fits_command
 step_found t w h s f l a m n first wide high fits_w fits_h named =
@@ -57,15 +57,15 @@ step_found t w h s f l a m n first wide high fits_w fits_h named =
     let counted : ((within 1 2048 m && within 1 2048 n) && true) ≡ true = both (within 1 2048 m && within 1 2048 n) true sides refl in
     (both ((within 1 2048 m && within 1 2048 n) && true) (are_names (s ∷ f ∷ l ∷ a ∷ [])) counted named, cc)
 
-pub other_length : (ws : List Text) → (length ws ≡ 7 → ⊥) → IsNoStep ws
+pub other_length : (ws : List Word) → (length ws ≡ 7 → ⊥) → IsNoStep ws
 unfolding IsCommand command_words
 other_length ws not_so m n s f l a is = not_so (ap length is.1)
 
-pub other_command : (t : Text) (ws : List Text) → (t ≡ codes "step" → ⊥) → IsNoStep (t ∷ ws)
+pub other_command : (t : Word) (ws : List Word) → (t ≡ codes "step" → ⊥) → IsNoStep (t ∷ ws)
 unfolding IsCommand command_words
 other_command t ws not_so m n s f l a is = not_so (let e = is.1 in cc)
 
-pub other_names : (t w h : Text) (ws : List Text) → are_names ws ≡ false → IsNoStep (t ∷ w ∷ h ∷ ws)
+pub other_names : (t w h : Word) (ws : List Word) → are_names ws ≡ false → IsNoStep (t ∷ w ∷ h ∷ ws)
 unfolding IsCommand command_words fits_command
 other_names t w h ws wrong m n s f l a is =
     let e = is.1 in
@@ -74,13 +74,13 @@ other_names t w h ws wrong m n s f l a is =
     let right : are_names ws ≡ true = ap are_names same ∙ named.2 in
     cc
 
-pub other_width : (t w : Text) (ws : List Text) → ((n : ℕ) → IsTrue (within 1 2048 n) → w ≡ decimal n → ⊥) → IsNoStep (t ∷ w ∷ ws)
+pub other_width : (t w : Word) (ws : List Word) → ((n : ℕ) → IsTrue (within 1 2048 n) → w ≡ decimal n → ⊥) → IsNoStep (t ∷ w ∷ ws)
 unfolding IsCommand command_words fits_command
 other_width t w ws not_so m n s f l a is =
     let named = within_parts m n (are_names (s ∷ f ∷ l ∷ a ∷ [])) is.0 in
     not_so m named.0 (let e = is.1 in cc)
 
-pub other_height : (t w h : Text) (ws : List Text) → ((n : ℕ) → IsTrue (within 1 2048 n) → h ≡ decimal n → ⊥) → IsNoStep (t ∷ w ∷ h ∷ ws)
+pub other_height : (t w h : Word) (ws : List Word) → ((n : ℕ) → IsTrue (within 1 2048 n) → h ≡ decimal n → ⊥) → IsNoStep (t ∷ w ∷ h ∷ ws)
 unfolding IsCommand command_words fits_command
 other_height t w h ws not_so m n s f l a is =
     let named = within_parts m n (are_names (s ∷ f ∷ l ∷ a ∷ [])) is.0 in
@@ -118,5 +118,5 @@ pub other_count : {A : Type 0} (ws : List (String A)) → 3 ≤ length ws → (l
 other_count ws some not_four =
     other_length (texts ws) (λ is. not_four (omega (arith, length_texts ws, ap length (behind_is ws some), length-drop 3 ws)))
 
-pub no_step_as : (ws : List Text) (vs : List Text) → ws ≡ vs → IsNoStep vs → IsNoStep ws
+pub no_step_as : (ws : List Word) (vs : List Word) → ws ≡ vs → IsNoStep vs → IsNoStep ws
 no_step_as ws vs same is = subst IsNoStep (sym same) is

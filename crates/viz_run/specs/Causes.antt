@@ -5,7 +5,7 @@ use Rattle.vz_codec.specs.Grammar.{Spells}
 use Rattle.vz_outside.specs.Shelved.{Shelved, Name, SameFiles, StaysFaultless}
 use Rattle.vz_outside.specs.Sunk as sinks
 use Rattle.vz_rules.specs.Plan.{Plan}
-use Rattle.vz_rules.specs.Command.{Text, IsCommand}
+use Rattle.vz_rules.specs.Command.{Word, IsCommand}
 use Rattle.vz_rules.specs.declared.entry.Entry.{Entry}
 use Rattle.vz_rules.specs.Step.{Legal}
 use Rattle.vz_rules.specs.Narrow.{is_narrow, narrow_history}
@@ -46,23 +46,23 @@ pub record IsUnbegun (h : List Entry) (before after : Outside) : Type 0 where
   pub steps : after.steps ≡ before.steps
 
 -- the words name a file that is refused, and nothing was begun
-abbrev pub RefusesNamedFile : List Text → List Entry → Outside → Outside → Type 0
+abbrev pub RefusesNamedFile : List Word → List Entry → Outside → Outside → Type 0
 RefusesNamedFile words h before after =
     (l : Line) × IsCommand words (command_for l) × RefusesFile before.shelf l × IsUnbegun h before after
 
 -- the words name a schedule that is refused, and nothing was begun
-abbrev pub RefusesNamedSchedule : List Text → List Entry → Outside → Outside → Type 0
+abbrev pub RefusesNamedSchedule : List Word → List Entry → Outside → Outside → Type 0
 RefusesNamedSchedule words h before after =
     (l : Line) × IsCommand words (command_for l) × RefusesSchedule before.shelf l × IsUnbegun h before after
 
 -- the words are those of no `step` with one client file, the line says so, and nothing was begun
-pub record RefusesWords (words : List Text) (h : List Entry) (before after : Outside) : Type 0 where
+pub record RefusesWords (words : List Word) (h : List Entry) (before after : Outside) : Type 0 where
   pub no_step : IsNoStep words
   pub told : sinks.Takes words_line before.sink after.sink
   pub unbegun : IsUnbegun h before after
 
 -- the words name a file or a schedule that is refused, the line says which, and nothing was begun
-abbrev pub RefusesInput : List Text → List Entry → Outside → Outside → Type 0
+abbrev pub RefusesInput : List Word → List Entry → Outside → Outside → Type 0
 RefusesInput words h before after =
     (RefusesNamedFile words h before after × sinks.Takes file_line before.sink after.sink)
     ⊎ (RefusesNamedSchedule words h before after × sinks.Takes schedule_line before.sink after.sink)
@@ -90,7 +90,7 @@ pub record IsCutShort (h : List Entry) (g : Given) (before after : Shelved) : Ty
 
 -- what a call leaves that did not end well: nothing was begun, or it was cut short at work on
 -- something that its words name
-abbrev pub LeavesFront : List Text → List Entry → Outside → Outside → Type 0
+abbrev pub LeavesFront : List Word → List Entry → Outside → Outside → Type 0
 LeavesFront words h before after =
     IsUnbegun h before after
     ⊎ ((g : Given) × IsCommand words (command_for g.line) × IsCutShort h g before.shelf after.shelf)
@@ -102,7 +102,7 @@ abbrev pub IsStatus : ℕ → Type 0
 IsStatus status = (status ≡ 0) ⊎ ((2 ≤ status) × (status ≤ 5))
 
 -- the files that the words name to be read are there
-abbrev pub NamesFilesThere : List Text → Shelved → Type 0
+abbrev pub NamesFilesThere : List Word → Shelved → Type 0
 NamesFilesThere words shelf =
     (l : Line) → IsCommand words (command_for l) → IsThere shelf l.file × IsThere shelf l.schedule
 
@@ -118,7 +118,7 @@ pub record KeepsFaultless (before after : Outside) : Type 0 where
 
 -- the words name files that are read whole and are accepted: the file spells one in the narrow
 -- form, and the schedule is the one that is taken
-pub record IsAcceptable (words : List Text) (shelf : Shelved) (g : Given) : Type 0 where
+pub record IsAcceptable (words : List Word) (shelf : Shelved) (g : Given) : Type 0 where
   pub command : IsCommand words (command_for g.line)
   pub known : IsTrue shelf.is_known
   pub file : shelf.bytes g.line.file ≡ Some g.bytes
@@ -136,7 +136,7 @@ HoldsOtherSchedule shelf name =
     (bytes : List ℕ) × (shelf.bytes name ≡ Some bytes) × (bytes ≢ narrow_schedule)
 
 -- the words name a client's file or a schedule that is there, and is not taken
-pub record IsUnacceptable (words : List Text) (shelf : Shelved) (l : Line) : Type 0 where
+pub record IsUnacceptable (words : List Word) (shelf : Shelved) (l : Line) : Type 0 where
   pub command : IsCommand words (command_for l)
   pub known : IsTrue shelf.is_known
   pub other : HoldsNotNarrow shelf l.file ⊎ HoldsOtherSchedule shelf l.schedule

@@ -6,7 +6,7 @@ use Rattle.vz_codec.specs.Grammar.{Spells}
 use Rattle.vz_outside.specs.Shelved.{Shelved, Name, Holds}
 use Rattle.vz_outside.specs.Sunk.{Takes}
 use Rattle.vz_rules.specs.Plan.{Plan, IsPlan}
-use Rattle.vz_rules.specs.Command.{Text, Command, Step, IsCommand}
+use Rattle.vz_rules.specs.Command.{Word, Command, Step, IsCommand}
 use Rattle.vz_rules.specs.declared.entry.Event.{Event}
 use Rattle.vz_rules.specs.declared.entry.Entry.{Entry}
 use Rattle.vz_rules.specs.Step.{Legal}
@@ -89,11 +89,11 @@ pub record IsShown (h : List Entry) (g : Given) (before after : Outside) : Type 
   pub twice : painted (plan_of g) h DEFAULT_BUFFERS ≡ 2 * (g.line.width * g.line.height)
 
 -- a call of `step` ended well for what its words name: it was shown, and the line was printed
-pub record EndsWellFor (words : List Text) (h : List Entry) (g : Given) (before after : Outside) : Type 0 where
+pub record EndsWellFor (words : List Word) (h : List Entry) (g : Given) (before after : Outside) : Type 0 where
   pub command : IsCommand words (command_for g.line)
   pub shown : IsShown h g before after
   pub told : Takes (done_line h) before.sink after.sink
 
 -- the call ended well for something that its words name
-abbrev pub EndsWell : List Text → List Entry → Outside → Outside → Type 0
+abbrev pub EndsWell : List Word → List Entry → Outside → Outside → Type 0
 EndsWell words h before after = (g : Given) × EndsWellFor words h g before after

@@ -2,17 +2,17 @@
 use Rattle.std.specs.Prelude.{ℕ, Bool, true, not, ◌==◌, ◌&&◌, List, map, [], ◌∷◌}
 use Rattle.std.specs.declared.string.String.{String}
 use Rattle.std.specs.String.{string_bytes}
-use Rattle.vz_rules.specs.Command.{Text, Command, Step, IsCommand}
+use Rattle.vz_rules.specs.Command.{Word, Command, Step, IsCommand}
 use Rattle.viz_run.specs.declared.words.StepWords.{StepWords}
 
 -- words as the lists of their bytes
-abbrev pub texts : {A : Type 0} → List (String A) → List Text
+abbrev pub texts : {A : Type 0} → List (String A) → List Word
 texts words = map string_bytes words
 
 -- the words are those of no `step` with one client file
-abbrev pub IsNoStep : List Text → Type 0
+abbrev pub IsNoStep : List Word → Type 0
 IsNoStep words =
-    (w h : ℕ) (schedule frames log file : Text) → IsCommand words (Step w h schedule frames log (file ∷ [])) → ⊥
+    (w h : ℕ) (schedule frames log file : Word) → IsCommand words (Step w h schedule frames log (file ∷ [])) → ⊥
 
 -- a text begins neither with a plus nor with a zero before other bytes
 abbrev pub is_plain : List ℕ → Bool

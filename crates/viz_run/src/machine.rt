@@ -1,7 +1,7 @@
 //! The four steps of a narrow file, each an entry of the history.
 ghost use Rattle.std.specs.Prelude.{◌≡◌, [], ◌∷◌, ◌++◌, pos, IfOk, OnOk, OnErr};
 ghost use Rattle.vz_geom.specs.Rectangle.{sized};
-ghost use Rattle.vz_buffers.specs.Canvas.{IsCanvasSize};
+ghost use Rattle.vz_geom.specs.Display.{IsDisplaySize};
 ghost use Rattle.vz_rules.specs.Narrow.{no_effects, only_sub};
 ghost use Rattle.viz_run.specs.Entries.{accepted_entry, rooted_entry, drawn_entry, shown_entry};
 
@@ -58,7 +58,7 @@ pub fn draw<G: Gate>(
     size: Size,
     history: &mut List<Entry>,
 ) -> Result<(), Memory>
-    requires { IsCanvasSize size }
+    requires { IsDisplaySize size }
     ensures ok { OnOk result (history.new ≡ history.old ++ drawn_entry size ∷ []) }
     ensures err { OnErr result (history.new ≡ history.old) }
 {
@@ -67,7 +67,7 @@ pub fn draw<G: Gate>(
         turn(DISPLAY, 1),
         history,
         |history|
-            requires { IsCanvasSize size }
+            requires { IsDisplaySize size }
         { add_drawn(alloc, size, history) },
     )
 }
@@ -84,7 +84,7 @@ pub fn done<G: Gate>(alloc: Global, gate: &G, history: &mut List<Entry>) -> Resu
 
 /// All of a display.
 fn whole_display(size: &Size) -> Rect
-    requires { IsCanvasSize size.now }
+    requires { IsDisplaySize size.now }
     ensures { result ≡ sized size.now }
 {
     Rect::new(0, 0, size.w, size.h)
@@ -111,7 +111,7 @@ fn add_rooted(alloc: Global, history: &mut List<Entry>) -> Result<(), Memory>
 }
 
 fn add_drawn(alloc: Global, size: Size, history: &mut List<Entry>) -> Result<(), Memory>
-    requires { IsCanvasSize size }
+    requires { IsDisplaySize size }
     ensures ok { OnOk result (history.new ≡ history.old ++ drawn_entry size ∷ []) }
     ensures err { OnErr result (history.new ≡ history.old) }
 {

@@ -3,7 +3,8 @@ ghost use Rattle.std.specs.Prelude.{◌≡◌, ◌≤◌, IsTrue, length, Some, 
 ghost use Rattle.std.specs.Option.{option_map};
 ghost use Rattle.vz_geom.specs.Rectangle.{points_of, row_points, IsOffset};
 ghost use Rattle.vz_pixels.specs.Colour.{black};
-ghost use Rattle.vz_buffers.specs.Canvas.{IsCanvasSize, pixel_count};
+ghost use Rattle.vz_buffers.specs.Canvas.{pixel_count};
+ghost use Rattle.vz_geom.specs.Display.{IsDisplaySize};
 ghost use Rattle.vz_rules.specs.Narrow.{is_narrow, narrow_quad, narrow_colour, colour_with};
 ghost use Rattle.vz_base.specs.declared.limits.TheConstants.{GREATEST_DISPLAY_SIDE};
 ghost use Rattle.vz_frame.specs.Fits.{fits_file};
@@ -91,10 +92,11 @@ pub fn paint<L: Ledger>(
     size: Size,
     steps: &mut Steps<L>,
 ) -> Result<Buffer, Memory>
-    requires size { IsCanvasSize size }
+    requires size { IsDisplaySize size }
     requires fits { IsTrue (fits_file client.now) }
     requires narrow { IsTrue (is_narrow client.now) }
-    ensures picture { IfOk result (λ b. b.pixels ≡ map (narrow_colour client.now) (points_of size)) }
+    ensures picture { IfOk result
+        (λ b. b.pixels ≡ map (narrow_colour client.now) (points_of size)) }
     ensures counted { OnOk result (steps.new ≡ steps.old + 2 * pixel_count size) }
 {
     narrow_quads();
@@ -114,7 +116,7 @@ fn paint_rows<L: Ledger>(
     size: Size,
     steps: &mut Steps<L>,
 ) -> Result<(), Memory>
-    requires size { IsCanvasSize size }
+    requires size { IsDisplaySize size }
     requires same { buffer.old.size ≡ size }
     requires all { length buffer.old.pixels ≡ pixel_count size }
     requires offset { IsOffset shown.now.quad.now.offset }
@@ -134,7 +136,7 @@ fn paint_rows<L: Ledger>(
 
 /// The width and the height of a display, in pixels.
 fn sides_of(size: &Size) -> (u32, u32)
-    requires { IsCanvasSize size.now }
+    requires { IsDisplaySize size.now }
     ensures width { result.0 ≡ nat_abs size.now.w }
     ensures height { result.1 ≡ nat_abs size.now.h }
     ensures range { (result.0 ≤ GREATEST_DISPLAY_SIDE) × (result.1 ≤ GREATEST_DISPLAY_SIDE) }

@@ -1,6 +1,7 @@
 //! The top call.
 ghost use Rattle.std.specs.Prelude.{◌≡◌, ◌≢◌, ◌≤◌, ◌⊎◌, ◌+◌, ◌*◌, [], IsTrue, IfErr, OnOk, OnErr, IsErrOf};
-ghost use Rattle.vz_buffers.specs.Canvas.{IsCanvasSize, pixel_count};
+ghost use Rattle.vz_buffers.specs.Canvas.{pixel_count};
+ghost use Rattle.vz_geom.specs.Display.{IsDisplaySize};
 ghost use Rattle.vz_frame.specs.Fits.{fits_file};
 ghost use Rattle.vz_outside.specs.Shelved.{StaysFaultless, Behaves};
 ghost use Rattle.vz_outside.specs.Sunk as sinks;
@@ -202,7 +203,7 @@ fn show<F: Shelf, G: Gate, L: Ledger>(
 fn size_of(words: &StepWords<'_>) -> Size
     requires { IsTrue (fits_command (command_of words.now)) }
     ensures size { result ≡ display_size words.now }
-    ensures range { IsCanvasSize result }
+    ensures range { IsDisplaySize result }
 {
     Size {
         w: words.width as i32,

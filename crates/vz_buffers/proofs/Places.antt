@@ -4,7 +4,7 @@ use Rattle.std.proofs.Math.Nat.{mul-le-mul_right}
 use Rattle.std.proofs.lemmas.Int.{ints}
 use Rattle.std.proofs.lemmas.Option.{slice_get_read}
 use Rattle.vz_pixels.specs.Colour.{Colour}
-use Rattle.vz_buffers.specs.Canvas.{Canvas, IsCanvas, place_of}
+use Rattle.vz_buffers.specs.Canvas.{Canvas, IsCanvas, pixel_place}
 
 -- a span of a row ends inside that many rows
 row_ends : (x y n w h : ℕ) → x + n ≤ w → y < h → (y * w + x) + n ≤ h * w
@@ -20,16 +20,16 @@ below : (y h : ℤ) → pos 0 ≤ℤ y → y <ℤ h → nat_abs y < nat_abs h
 below y h low high = omega (arith, ints)
 
 -- a span inside a row of a canvas stands inside its pixels
-pub span_fits : (c : Canvas) → IsCanvas c → (x y : ℤ) (n : ℕ) → pos 0 ≤ℤ x → (x +ℤ pos n) ≤ℤ c.size.w → pos 0 ≤ℤ y → y <ℤ c.size.h → place_of c.size x y + n ≤ length c.pixels
+pub span_fits : (c : Canvas) → IsCanvas c → (x y : ℤ) (n : ℕ) → pos 0 ≤ℤ x → (x +ℤ pos n) ≤ℤ c.size.w → pos 0 ≤ℤ y → y <ℤ c.size.h → pixel_place c.size x y + n ≤ length c.pixels
 span_fits c is x y n left right top bottom =
     let ends = row_ends (nat_abs x) (nat_abs y) n (nat_abs c.size.w) (nat_abs c.size.h) (sides x n c.size.w left right) (below y c.size.h top bottom) in
     let all = is.all in
     omega arith
 
 -- the same, where a canvas is known under another name
-pub span_fits_in : (b c : Canvas) → b ≡ c → IsCanvas b → (x y : ℤ) (n : ℕ) → pos 0 ≤ℤ x → (x +ℤ pos n) ≤ℤ c.size.w → pos 0 ≤ℤ y → y <ℤ c.size.h → place_of b.size x y + n ≤ length b.pixels
+pub span_fits_in : (b c : Canvas) → b ≡ c → IsCanvas b → (x y : ℤ) (n : ℕ) → pos 0 ≤ℤ x → (x +ℤ pos n) ≤ℤ c.size.w → pos 0 ≤ℤ y → y <ℤ c.size.h → pixel_place b.size x y + n ≤ length b.pixels
 span_fits_in b c same is x y n left right top bottom =
-    let P : Canvas → Type 0 = λ k. place_of k.size x y + n ≤ length k.pixels in
+    let P : Canvas → Type 0 = λ k. pixel_place k.size x y + n ≤ length k.pixels in
     let one : IsCanvas c = subst IsCanvas same is in
     subst P (sym same) (span_fits c one x y n left right top bottom)
 
@@ -37,13 +37,13 @@ one_more : (x w : ℤ) → x <ℤ w → (x +ℤ pos 1) ≤ℤ w
 one_more x w h = omega (arith, ints)
 
 -- a place inside stands inside the pixels
-pub inside : (b c : Canvas) → b ≡ c → IsCanvas b → (x y : ℤ) → pos 0 ≤ℤ x → x <ℤ c.size.w → pos 0 ≤ℤ y → y <ℤ c.size.h → place_of b.size x y < length b.pixels
+pub inside : (b c : Canvas) → b ≡ c → IsCanvas b → (x y : ℤ) → pos 0 ≤ℤ x → x <ℤ c.size.w → pos 0 ≤ℤ y → y <ℤ c.size.h → pixel_place b.size x y < length b.pixels
 inside b c same is x y left right top bottom =
     let fits = span_fits_in b c same is x y 1 left (one_more x c.size.w right) top bottom in omega arith
 
 -- what is read there is the pixel of the canvas
-pub read : (b c : Canvas) → b ≡ c → (x y : ℤ) (place : ℕ) (p : Colour) → place < length b.pixels → place ≡ place_of b.size x y → p ≡ get_or b.pixels place p → slice_get c.pixels (place_of c.size x y) ≡ Some p
+pub read : (b c : Canvas) → b ≡ c → (x y : ℤ) (place : ℕ) (p : Colour) → place < length b.pixels → place ≡ pixel_place b.size x y → p ≡ get_or b.pixels place p → slice_get c.pixels (pixel_place c.size x y) ≡ Some p
 read b c same x y place p low stands is =
-    let P : Canvas → Type 0 = λ k. slice_get k.pixels (place_of k.size x y) ≡ Some p in
+    let P : Canvas → Type 0 = λ k. slice_get k.pixels (pixel_place k.size x y) ≡ Some p in
     let there : slice_get b.pixels place ≡ Some p = slice_get_read b.pixels (length b.pixels) place p refl low is in
     subst P same (subst (λ (n : ℕ). slice_get b.pixels n ≡ Some p) stands there)

@@ -5,7 +5,7 @@ use Rattle.std.specs.Option.{option_map}
 use Rattle.vz_base.specs.declared.limits.TheConstants.{MOST_BUFFERS}
 use Rattle.vz_geom.specs.declared.Size.{Size}
 use Rattle.vz_geom.specs.Rectangle.{Rectangle, no_rectangle, sized, join, bound}
-use Rattle.vz_buffers.specs.Canvas.{IsCanvasSize}
+use Rattle.vz_geom.specs.Display.{IsDisplaySize}
 
 -- which buffer is next, and what is stale of each, from the one that was painted last to the next one; None before it was painted
 pub record Turns : Type 0 where
@@ -15,7 +15,7 @@ pub record Turns : Type 0 where
 
 -- from 1 to the most buffers of a display, of which one is next
 pub record AreTurns (t : Turns) : Type 0 where
-  pub sides : IsCanvasSize t.size
+  pub sides : IsDisplaySize t.size
   pub from : 1 ≤ length t.stales
   pub upto : length t.stales ≤ MOST_BUFFERS
   pub next : t.next < length t.stales

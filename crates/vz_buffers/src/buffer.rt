@@ -1,7 +1,8 @@
 //! The buffer.
 ghost use Rattle.std.specs.Prelude.{◌≡◌, ◌+◌, ◌≤◌, ◌≤ℤ◌, ◌<ℤ◌, ◌+ℤ◌, pos, length, replicate, slice_get, Some, IfOk, OnOk, OnErr};
 ghost use Rattle.vz_pixels.specs.Colour.{black};
-ghost use Rattle.vz_buffers.specs.Canvas.{IsCanvas, IsCanvasSize, pixel_count, span_put, place_of};
+ghost use Rattle.vz_buffers.specs.Canvas.{IsCanvas, pixel_count, span_put, pixel_place};
+ghost use Rattle.vz_geom.specs.Display.{IsDisplaySize};
 
 use crate::Steps;
 use std::alloc::Global;
@@ -31,7 +32,7 @@ impl Model for Buffer {
 impl Buffer {
     /// A buffer that is opaque black everywhere. Each of its pixels is a step.
     pub fn new<L: Ledger>(alloc: Global, size: Size, steps: &mut Steps<L>) -> Result<Buffer, Memory>
-        requires { IsCanvasSize size }
+        requires { IsDisplaySize size }
         ensures size { IfOk result (λ b. b.size ≡ size) }
         ensures black { IfOk result (λ b. b.pixels ≡ replicate (pixel_count size) black) }
         ensures counted { OnOk result (steps.new ≡ steps.old + pixel_count size) }
@@ -59,7 +60,7 @@ impl Buffer {
         requires bottom { y <ℤ self.old.size.h }
         ensures size { self.new.size ≡ self.old.size }
         ensures put { self.new.pixels
-            ≡ span_put self.old.pixels (place_of self.old.size x y) row.now }
+            ≡ span_put self.old.pixels (pixel_place self.old.size x y) row.now }
         ensures counted { steps.new ≡ steps.old + length row.now }
     {
         let at = place(&self.size, x, y);
@@ -73,7 +74,7 @@ impl Buffer {
         requires right { x <ℤ self.now.size.w }
         requires top { pos 0 ≤ℤ y }
         requires bottom { y <ℤ self.now.size.h }
-        ensures { slice_get self.now.pixels (place_of self.now.size x y) ≡ Some result }
+        ensures { slice_get self.now.pixels (pixel_place self.now.size x y) ≡ Some result }
     {
         self.pixels[place(&self.size, x, y)]
     }
@@ -88,7 +89,7 @@ impl Buffer {
 
 /// How many pixels a display of this size has.
 fn pixels_of(size: &Size) -> usize
-    requires { IsCanvasSize size.now }
+    requires { IsDisplaySize size.now }
     ensures value { result ≡ pixel_count size.now }
 {
     size.w.unsigned_abs() as usize * size.h.unsigned_abs() as usize
@@ -96,12 +97,12 @@ fn pixels_of(size: &Size) -> usize
 
 /// Where the pixel of a column and a row stands.
 fn place(size: &Size, x: i32, y: i32) -> usize
-    requires sides { IsCanvasSize size.now }
+    requires sides { IsDisplaySize size.now }
     requires left { pos 0 ≤ℤ x }
     requires right { x ≤ℤ size.now.w }
     requires top { pos 0 ≤ℤ y }
     requires bottom { y <ℤ size.now.h }
-    ensures value { result ≡ place_of size.now x y }
+    ensures value { result ≡ pixel_place size.now x y }
 {
     y.unsigned_abs() as usize * size.w.unsigned_abs() as usize + x.unsigned_abs() as usize
 }

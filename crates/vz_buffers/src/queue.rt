@@ -2,7 +2,7 @@
 ghost use Rattle.std.specs.Prelude.{◌≡◌, ◌≤◌, ◌-◌, map, replicate, Some, None, ◌∷◌, length, take};
 ghost use Rattle.std.specs.Option.{option_map};
 ghost use Rattle.vz_geom.specs.Rectangle.{join, no_rectangle, sized};
-ghost use Rattle.vz_buffers.specs.Canvas.{IsCanvasSize};
+ghost use Rattle.vz_geom.specs.Display.{IsDisplaySize};
 ghost use Rattle.vz_buffers.specs.Turns.{AreTurns, first_turns, stale_of, damaged, turned};
 
 use arrayvec::ArrayVec;
@@ -39,7 +39,7 @@ impl Queue {
     pub fn new(count: u32, size: Size) -> Queue
         requires from { 1 ≤ count }
         requires upto { count ≤ MOST_BUFFERS }
-        requires size { IsCanvasSize size }
+        requires size { IsDisplaySize size }
         ensures { result ≡ first_turns size count }
     {
         Queue {
@@ -120,7 +120,7 @@ fn nothing() -> Rect
 
 /// All of a display.
 fn whole(size: &Size) -> Rect
-    requires { IsCanvasSize size.now }
+    requires { IsDisplaySize size.now }
     ensures { result ≡ sized size.now }
 {
     Rect::new(0, 0, size.w, size.h)

@@ -12,7 +12,7 @@ use crate::fault::FileRule;
 use crate::field::{Counted, Field, fit_all, read_many, write_many};
 use crate::ids::{Ranges, Surfaces, is_number};
 use crate::limits::{
-    MOST_DEPENDENCIES, MOST_PASSES, MOST_QUADS, MOST_REFERENCES, MOST_RESOURCES, MOST_ROUNDS,
+    GREATEST_DEADLINE, MOST_DEPENDENCIES, MOST_PASSES, MOST_QUADS, MOST_REFERENCES, MOST_RESOURCES,
     MOST_SIDE,
 };
 use crate::quads::Quads;
@@ -166,7 +166,7 @@ impl Field for Deadlines {
         if rounds == NO_DEADLINE {
             return Ok(None);
         }
-        if rounds > MOST_ROUNDS {
+        if rounds > GREATEST_DEADLINE {
             return Err(ReadError::refused(left, FileRule::Limit));
         }
         Ok(Some(rounds))
@@ -179,7 +179,7 @@ impl Field for Deadlines {
     fn fits(&self, deadline: &Option<u8>) -> bool {
         match deadline {
             None => true,
-            Some(rounds) => *rounds <= MOST_ROUNDS,
+            Some(rounds) => *rounds <= GREATEST_DEADLINE,
         }
     }
 }

@@ -36,15 +36,19 @@ pub fn faults_have_places()
 /// A file that fits is spelled by its own bytes. What spells a file is its own bytes, and the file
 /// fits.
 pub fn bytes_of_a_file_spell_it()
-    ensures spelled { (file : ClientFile) → IsTrue (fits_file file) → Spells (file_bytes file) file }
-    ensures own { (bytes : List ℕ) (file : ClientFile) → Spells bytes file → bytes ≡ file_bytes file }
-    ensures fitting { (bytes : List ℕ) (file : ClientFile) → Spells bytes file → IsTrue (fits_file file) }
+    ensures spelled { (file : ClientFile) → IsTrue (fits_file file)
+        → Spells (file_bytes file) file }
+    ensures own { (bytes : List ℕ) (file : ClientFile) → Spells bytes file
+        → bytes ≡ file_bytes file }
+    ensures fitting { (bytes : List ℕ) (file : ClientFile) → Spells bytes file
+        → IsTrue (fits_file file) }
 {}
 
 /// Decoding the bytes of a file that fits finds that file, unless memory runs out. The bytes of
 /// a file that was decoded are those that it was decoded from, and it fits.
 pub fn decoding_undoes_encoding()
-    ensures found { (file : ClientFile) → IsTrue (fits_file file) → (found : Result ClientFile DecodeError)
+    ensures found { (file : ClientFile) → IsTrue (fits_file file)
+        → (found : Result ClientFile DecodeError)
         → Decodes (file_bytes file) found → Finds found file }
     ensures again { (bytes : List ℕ) (file : ClientFile) → All (λ b. b < 256) bytes
         → Decodes bytes (Ok file) → file_bytes file ≡ bytes }

@@ -6,7 +6,7 @@ use Rattle.std.proofs.lemmas.Bool.Decides.{nat_tests}
 use Rattle.vz_ids.specs.declared.Sub.{Sub}
 use Rattle.vz_ids.specs.Ids.{same_sub}
 use Rattle.vz_rules.specs.World.{World, Submission, is_waiting, sub_of, has_sub}
-use Rattle.vz_rules.specs.Settle.{has_come, is_ready, ready, met}
+use Rattle.vz_rules.specs.Settle.{has_come, is_ready, ready, is_met}
 use Rattle.vz_deadlines.specs.declared.deadlines.Due.{Due}
 use Rattle.vz_deadlines.specs.Timing.{due_at, left_at, due_of, waiting_in}
 
@@ -157,7 +157,7 @@ weaker p q (s ∷ subs) sub h e =
 
 overdue : (w : World) (s : Submission) → (is_waiting s && nat_le s.due w.tick) ≡ true → is_ready w s ≡ true
 unfolding is_ready has_come
-overdue w s e = by_test (is_waiting s) (nat_le s.due w.tick) (list_all (met w) s.image.frame.metadata.dependencies) e
+overdue w s e = by_test (is_waiting s) (nat_le s.due w.tick) (list_all (is_met w) s.submitted.frame.metadata.dependencies) e
   where
     by_test : (a b c : Bool) → (a && b) ≡ true → (a && (c || b)) ≡ true
     by_test true true true e = refl
@@ -177,8 +177,8 @@ not_more true false c e h = refl
 not_more false b c e h = refl
 
 at_tick : (w : World) (n : ℕ) (s : Submission) → is_ready w s ≡ false → is_ready (record w { tick = n }) s ≡ (is_waiting s && nat_le s.due n)
-unfolding is_ready has_come met
-at_tick w n s e = not_more (is_waiting s) (list_all (met w) s.image.frame.metadata.dependencies) (nat_le s.due w.tick) (nat_le s.due n) e
+unfolding is_ready has_come is_met
+at_tick w n s e = not_more (is_waiting s) (list_all (is_met w) s.submitted.frame.metadata.dependencies) (nat_le s.due w.tick) (nat_le s.due n) e
 
 none_first : (p : Submission → Bool) (s : Submission) (subs : List Submission) (t : Bool) → cond t (s ∷ filter p subs) (filter p subs) ≡ [] → (t ≡ false) × (filter p subs ≡ [])
 none_first p s subs true e = absurd (cc)

@@ -66,7 +66,8 @@ impl Deadlines {
     /// Condition: the submission does not wait.
     pub fn set(&mut self, s: Sub, tick: u32) -> Result<(), Memory>
         requires { IsFalse (waits self.old.list s) }
-        ensures list { OnOk result (self.new.list ≡ self.old.list ++ record { sub = s; tick = tick } ∷ []) }
+        ensures list { OnOk result (self.new.list
+            ≡ self.old.list ++ record { sub = s; tick = tick } ∷ []) }
         ensures err { OnErr result (self.new ≡ self.old) }
         ensures succeeds { 0 < self.old.spare → IsOk result }
         ensures spare { self.old.spare ≤ self.new.spare + 1 }

@@ -8,12 +8,18 @@ ghost use Rattle.vz_deadlines.specs.Timing.{due_at, left_at, due_of, waiting_in}
 /// Of the submissions that wait, those are due at a tick whose deadline has come, in the
 /// order of acceptance. Each of them is ready, and the others wait on.
 pub fn due_are_overdue()
-    ensures due { (w : World) (tick : ℕ) → due_at tick (waiting_in w) ≡ map sub_of (filter (λ s. is_waiting s && nat_le s.due tick) w.subs) }
-    ensures left { (w : World) (tick : ℕ) → left_at tick (waiting_in w) ≡ map due_of (filter (λ s. is_waiting s && not (nat_le s.due tick)) w.subs) }
-    ensures ready { (w : World) (s : Sub) → IsTrue (has_sub (due_at w.tick (waiting_in w)) s) → IsTrue (has_sub (map sub_of (ready w)) s) }
+    ensures due { (w : World) (tick : ℕ)
+        → due_at tick (waiting_in w)
+        ≡ map sub_of (filter (λ s. is_waiting s && nat_le s.due tick) w.subs) }
+    ensures left { (w : World) (tick : ℕ)
+        → left_at tick (waiting_in w)
+        ≡ map due_of (filter (λ s. is_waiting s && not (nat_le s.due tick)) w.subs) }
+    ensures ready { (w : World) (s : Sub) → IsTrue (has_sub (due_at w.tick (waiting_in w)) s)
+        → IsTrue (has_sub (map sub_of (ready w)) s) }
 {}
 
 /// At a new tick, where nothing was ready before, exactly those are ready that are due.
 pub fn new_ticks_make_due()
-    ensures { (w : World) (n : ℕ) → ready w ≡ [] → map sub_of (ready (record w { tick = n })) ≡ due_at n (waiting_in w) }
+    ensures { (w : World) (n : ℕ) → ready w ≡ []
+        → map sub_of (ready (record w { tick = n })) ≡ due_at n (waiting_in w) }
 {}

@@ -7,7 +7,7 @@ use Rattle.vz_deps.specs.Tracking.{Blocked}
 
 -- the dependencies of a submission's frame
 abbrev pub dependencies_of : Submission → List SurfaceId
-dependencies_of s = s.image.frame.metadata.dependencies
+dependencies_of s = s.submitted.frame.metadata.dependencies
 
 -- a submission waits and not all its dependencies are met
 abbrev pub lacks_in : (SurfaceId → Bool) → Submission → Bool

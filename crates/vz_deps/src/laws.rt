@@ -5,36 +5,49 @@ ghost use Rattle.vz_ids.specs.declared.SurfaceId.{SurfaceId};
 ghost use Rattle.vz_ids.specs.Ids.{same_sink};
 ghost use Rattle.vz_rules.specs.Messages.{taking};
 ghost use Rattle.vz_rules.specs.World.{World, Client, Submission, sub_of};
-ghost use Rattle.vz_rules.specs.Settle.{met, is_ready, ready, round};
+ghost use Rattle.vz_rules.specs.Settle.{is_met, is_ready, ready, round};
 ghost use Rattle.vz_deps.specs.Tracking.{freed, still, meets, meets_any};
 ghost use Rattle.vz_deps.specs.Blocking.{dependencies_of, lacks_in, blocked_by};
 
 /// Where more dependencies are met, those are freed of which then all are met, in the order
 /// of acceptance, and the others are blocked by what they still lack.
 pub fn blocked_are_freed()
-    ensures freed { (subs : List Submission) (met more : SurfaceId → Bool) → freed more (blocked_by met subs) ≡ map sub_of (filter (λ s. lacks_in met s && list_all (λ d. met d || more d) (dependencies_of s)) subs) }
-    ensures still { (subs : List Submission) (met more : SurfaceId → Bool) → still more (blocked_by met subs) ≡ blocked_by (λ d. met d || more d) subs }
+    ensures freed { (subs : List Submission) (is_met more : SurfaceId → Bool)
+        → freed more (blocked_by is_met subs)
+        ≡ map sub_of (filter
+        (λ s. lacks_in is_met s && list_all (λ d. is_met d || more d) (dependencies_of s)) subs) }
+    ensures still { (subs : List Submission) (is_met more : SurfaceId → Bool)
+        → still more (blocked_by is_met subs) ≡ blocked_by (λ d. is_met d || more d) subs }
 {}
 
 /// A round meets exactly the dependencies on the surfaces, or on older ones of their groups,
 /// on which a submission becomes active in it.
 pub fn rounds_meet()
-    ensures { (w : World) (d : SurfaceId) → met (round w) d ≡ (met w d || list_any (λ s. meets s.image.id d) (ready w)) }
+    ensures { (w : World) (d : SurfaceId)
+        → is_met (round w) d ≡ (is_met w d || list_any (λ s. meets s.submitted.id d) (ready w)) }
 {}
 
 /// What is ready after a round is exactly what it frees, of the submissions that were not
 /// ready before: each round after the first comes from the dependencies alone.
 pub fn rounds_free()
-    ensures { (w : World) → map sub_of (ready (round w)) ≡ freed (meets_any (map (λ s. s.image.id) (ready w))) (blocked_by (met w) (filter (λ s. not (is_ready w s)) w.subs)) }
+    ensures { (w : World)
+        → map sub_of (ready (round w))
+        ≡ freed (meets_any (map (λ s. s.submitted.id) (ready w))) (blocked_by (is_met w) (filter
+        (λ s. not (is_ready w s)) w.subs)) }
 {}
 
 /// The others stay blocked by what is not met after the round.
 pub fn rounds_leave()
-    ensures { (w : World) → still (meets_any (map (λ s. s.image.id) (ready w))) (blocked_by (met w) (filter (λ s. not (is_ready w s)) w.subs)) ≡ blocked_by (met (round w)) (round w).subs }
+    ensures { (w : World)
+        → still (meets_any (map (λ s. s.submitted.id) (ready w))) (blocked_by (is_met w) (filter
+        (λ s. not (is_ready w s)) w.subs)) ≡ blocked_by (is_met (round w)) (round w).subs }
 {}
 
 /// Where a client is closed, exactly the dependencies on its sink are met beside those that
 /// were.
 pub fn closing_meets()
-    ensures { (w : World) (c : Client) (d : SurfaceId) → met (taking (λ x. record x { closed = true }) c w) d ≡ (met w d || list_any (λ x. (x.number == c.number) && same_sink x.sink d.sink) w.clients) }
+    ensures { (w : World) (c : Client) (d : SurfaceId)
+        → is_met (taking (λ x. record x { closed = true }) c w) d
+        ≡ (is_met w d
+        || list_any (λ x. (x.number == c.number) && same_sink x.sink d.sink) w.clients) }
 {}

@@ -56,8 +56,10 @@ fn lacks_some(lacks: &[Lack], s: &Sub) -> bool
 /// for all.
 pub(crate) fn free(subs: &mut Vec<Sub>, lacks: &[Lack], out: &mut Room<Sub>)
     requires { length subs.old.items ≤ out.old.spare }
-    ensures out { out.new.list ≡ out.old.list ++ filter (λ s. not (lacks_some lacks.now s)) subs.old.items }
-    ensures room { out.old.spare ≤ out.new.spare + length (filter (λ s. not (lacks_some lacks.now s)) subs.old.items) }
+    ensures out { out.new.list
+        ≡ out.old.list ++ filter (λ s. not (lacks_some lacks.now s)) subs.old.items }
+    ensures room { out.old.spare
+        ≤ out.new.spare + length (filter (λ s. not (lacks_some lacks.now s)) subs.old.items) }
     ensures subs { subs.new.items ≡ filter (lacks_some lacks.now) subs.old.items }
     ensures bound { vec_len subs.new ≤ vec_len subs.old }
     ensures capacity { vec_capacity subs.new ≡ vec_capacity subs.old }
@@ -69,8 +71,10 @@ pub(crate) fn free(subs: &mut Vec<Sub>, lacks: &[Lack], out: &mut Room<Sub>)
 /// Appends the submissions that lack nothing.
 fn put_free(subs: &[Sub], lacks: &[Lack], out: &mut Room<Sub>)
     requires { length subs.now ≤ out.old.spare }
-    ensures list { out.new.list ≡ out.old.list ++ filter (λ s. not (lacks_some lacks.now s)) subs.now }
-    ensures room { out.old.spare ≤ out.new.spare + length (filter (λ s. not (lacks_some lacks.now s)) subs.now) }
+    ensures list { out.new.list
+        ≡ out.old.list ++ filter (λ s. not (lacks_some lacks.now s)) subs.now }
+    ensures room { out.old.spare
+        ≤ out.new.spare + length (filter (λ s. not (lacks_some lacks.now s)) subs.now) }
 {
     for s in subs {
         put_one(s, lacks, out);
@@ -80,8 +84,10 @@ fn put_free(subs: &[Sub], lacks: &[Lack], out: &mut Room<Sub>)
 /// Appends a submission if it lacks nothing.
 fn put_one(s: &Sub, lacks: &[Lack], out: &mut Room<Sub>)
     requires { 0 < out.old.spare }
-    ensures list { out.new.list ≡ out.old.list ++ filter (λ s. not (lacks_some lacks.now s)) (s.now ∷ []) }
-    ensures room { out.old.spare ≤ out.new.spare + length (filter (λ s. not (lacks_some lacks.now s)) (s.now ∷ [])) }
+    ensures list { out.new.list
+        ≡ out.old.list ++ filter (λ s. not (lacks_some lacks.now s)) (s.now ∷ []) }
+    ensures room { out.old.spare
+        ≤ out.new.spare + length (filter (λ s. not (lacks_some lacks.now s)) (s.now ∷ [])) }
 {
     if !lacks_some(lacks, s) {
         out.put(*s);

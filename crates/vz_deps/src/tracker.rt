@@ -33,7 +33,10 @@ impl Model for Tracker {
 
     ghost Value = { Tracked };
 
-    ghost view = { λ a. record { list = gathered a.subs.items a.lacks.items; spare = min (vec_capacity a.subs - vec_len a.subs) (vec_capacity a.lacks - vec_len a.lacks) } };
+    ghost view = { λ a. record {
+      list = gathered a.subs.items a.lacks.items;
+      spare = min (vec_capacity a.subs - vec_len a.subs) (vec_capacity a.lacks - vec_len a.lacks);
+    } };
 }
 
 impl Tracker {
@@ -75,7 +78,8 @@ impl Tracker {
         requires new { IsFalse (is_blocked self.old.list s) }
         requires some { 0 < length unmet.now }
         requires once { has_repeat same_surface unmet.now ≡ false }
-        ensures list { OnOk result (self.new.list ≡ self.old.list ++ record { sub = s; unmet = unmet.now } ∷ []) }
+        ensures list { OnOk result (self.new.list
+            ≡ self.old.list ++ record { sub = s; unmet = unmet.now } ∷ []) }
         ensures err { OnErr result (self.new.list ≡ self.old.list) }
         ensures succeeds { length unmet.now + 1 ≤ self.old.spare → IsOk result }
         ensures spare { self.old.spare ≤ self.new.spare + (length unmet.now + 1) }
@@ -119,7 +123,8 @@ impl Tracker {
         ensures out { out.new.list ≡ out.old.list ++ freed (meets_any ids.now) self.old.list }
         ensures list { self.new.list ≡ still (meets_any ids.now) self.old.list }
         ensures spare { self.old.spare ≤ self.new.spare }
-        ensures room { out.old.spare ≤ out.new.spare + length (freed (meets_any ids.now) self.old.list) }
+        ensures room { out.old.spare
+            ≤ out.new.spare + length (freed (meets_any ids.now) self.old.list) }
     {
         self.lacks.retain(|lack| !meets_any(ids, &lack.on));
         free(&mut self.subs, &self.lacks, out);
@@ -134,7 +139,8 @@ impl Tracker {
         ensures out { out.new.list ≡ out.old.list ++ freed (is_of_sink sink) self.old.list }
         ensures list { self.new.list ≡ still (is_of_sink sink) self.old.list }
         ensures spare { self.old.spare ≤ self.new.spare }
-        ensures room { out.old.spare ≤ out.new.spare + length (freed (is_of_sink sink) self.old.list) }
+        ensures room { out.old.spare
+            ≤ out.new.spare + length (freed (is_of_sink sink) self.old.list) }
     {
         self.lacks.retain(|lack| !is_of_sink(&sink, &lack.on));
         free(&mut self.subs, &self.lacks, out);

@@ -7,13 +7,13 @@ use Rattle.vz_geom.specs.declared.Point.{Point}
 use Rattle.vz_geom.specs.declared.Size.{Size}
 use Rattle.vz_geom.specs.Rectangle.{Rectangle, has, sized, bound, area_of, points_of}
 use Rattle.vz_pixels.specs.Colour.{Colour}
-use Rattle.vz_buffers.specs.Canvas.{Canvas, IsCanvasSize}
+use Rattle.vz_buffers.specs.Canvas.{Canvas}
+use Rattle.vz_geom.specs.Display.{IsDisplaySize}
 use Rattle.vz_buffers.specs.Turns.{Turns, damaged, turned, turns_after, stale_with}
 use Rattle.vz_buffers.proofs.Turning.{stale_is, turns_size}
 use Rattle.vz_rules.specs.World.{Scene}
 use Rattle.vz_rules.specs.Paint.{full, picture}
-use Rattle.vz_rules.specs.Plan.{IsDisplaySize}
-use Rattle.vz_rules.specs.Frames.{Shot, picture_of, stale, patched, repainted, written_of, painted_of}
+use Rattle.vz_rules.specs.Frames.{DrawnFrame, picture_of, stale, patched, repainted, written_of, painted_of}
 use Rattle.vz_rules.proofs.Patches.{in_display}
 use Rattle.vz_rules.proofs.Members.{contains_here, contains_there}
 use Rattle.vz_machine.specs.Pictured.{Pictured, colours_in}
@@ -26,19 +26,19 @@ take_map f zero xs = refl
 take_map f (suc n) [] = refl
 take_map f (suc n) (x ∷ xs) = ap (λ l. f x ∷ l) (take_map f n xs)
 
-stale_same : (size : Size) (count : ℕ) (drawn : List Shot) → stale_with size count (map (λ (s : Shot). s.damage) drawn) ≡ stale size count drawn
+stale_same : (size : Size) (count : ℕ) (drawn : List DrawnFrame) → stale_with size count (map (λ (s : DrawnFrame). s.damage) drawn) ≡ stale size count drawn
 unfolding stale_with stale
 stale_same size count drawn =
-    ap (λ n. if nat_le n count then sized size else bound (take count (map (λ (s : Shot). s.damage) drawn))) (length-map drawn (λ (s : Shot). s.damage))
-    ∙ ap (λ l. if nat_le (length drawn) count then sized size else bound l) (take_map (λ (s : Shot). s.damage) count drawn)
+    ap (λ n. if nat_le n count then sized size else bound (take count (map (λ (s : DrawnFrame). s.damage) drawn))) (length-map drawn (λ (s : DrawnFrame). s.damage))
+    ∙ ap (λ l. if nat_le (length drawn) count then sized size else bound l) (take_map (λ (s : DrawnFrame). s.damage) count drawn)
 
-stale_after : (size : Size) (count : ℕ) (s : Shot) (before : List Shot) → 1 ≤ count → stale_now (display_after size count before) s.damage ≡ stale size count (s ∷ before)
+stale_after : (size : Size) (count : ℕ) (s : DrawnFrame) (before : List DrawnFrame) → 1 ≤ count → stale_now (display_after size count before) s.damage ≡ stale size count (s ∷ before)
 unfolding display_after
-stale_after size count s before some = stale_is size count s.damage (map (λ (t : Shot). t.damage) before) some ∙ stale_same size count (s ∷ before)
+stale_after size count s before some = stale_is size count s.damage (map (λ (t : DrawnFrame). t.damage) before) some ∙ stale_same size count (s ∷ before)
 
 -- The buffers
 
-length_written : (size : Size) (count : ℕ) (drawn : List Shot) → length (written_of size count drawn) ≡ length drawn
+length_written : (size : Size) (count : ℕ) (drawn : List DrawnFrame) → length (written_of size count drawn) ≡ length drawn
 unfolding written_of
 length_written size count [] = refl
 length_written size count (s ∷ before) = ap suc (length_written size count before)
@@ -78,7 +78,7 @@ less_one : (k : ℕ) → suc k - 1 ≡ k
 less_one k = omega arith
 
 -- the next buffer after these drawings
-last_is : (size : Size) (k : ℕ) (before : List Shot) → last_in (display_after size (suc k) before).kept ≡ made_of size (slice_get (written_of size (suc k) before) k)
+last_is : (size : Size) (k : ℕ) (before : List DrawnFrame) → last_in (display_after size (suc k) before).kept ≡ made_of size (slice_get (written_of size (suc k) before) k)
 unfolding display_after
 last_is size k before =
     let kept : Kept = take (suc k) (map (buffer_with size) (written_of size (suc k) before) ++ unmade (suc k)) in
@@ -102,7 +102,7 @@ get_some [] k y e = absurd (cc)
 get_some (x ∷ xs) zero y e = omega arith
 get_some (x ∷ xs) (suc k) y e = let less = get_some xs k y e in omega (arith, less)
 
-making_is : (size : Size) (k : ℕ) (before : List Shot) → making_in size (last_in (display_after size (suc k) before).kept) ≡ (if nat_lt (length before) (suc k) then area_of (sized size) else 0)
+making_is : (size : Size) (k : ℕ) (before : List DrawnFrame) → making_in size (last_in (display_after size (suc k) before).kept) ≡ (if nat_lt (length before) (suc k) then area_of (sized size) else 0)
 unfolding area_of
 making_is size k before = ap (making_in size) (last_is size k before) ∙ by_frame (slice_get (written_of size (suc k) before) k) refl
   where
@@ -118,11 +118,11 @@ making_is size k before = ap (making_in size) (last_is size k before) ∙ by_fra
         let test : nat_lt (length before) (suc k) ≡ false = grind (arith, many, most) in
         sym (ap (λ t. if t then nat_abs (size.w *ℤ size.h) else 0) test)
 
-turns_sized : (size : Size) (count : ℕ) (drawn : List Shot) → (display_after size count drawn).turns.size ≡ size
+turns_sized : (size : Size) (count : ℕ) (drawn : List DrawnFrame) → (display_after size count drawn).turns.size ≡ size
 unfolding display_after
-turns_sized size count drawn = turns_size size count (map (λ (s : Shot). s.damage) drawn)
+turns_sized size count drawn = turns_size size count (map (λ (s : DrawnFrame). s.damage) drawn)
 
-steps_by : (size : Size) (k : ℕ) (before : List Shot) (s : Shot) → steps_for (display_after size (suc k) before) s.damage + painted_of size (suc k) before ≡ painted_of size (suc k) (s ∷ before)
+steps_by : (size : Size) (k : ℕ) (before : List DrawnFrame) (s : DrawnFrame) → steps_for (display_after size (suc k) before) s.damage + painted_of size (suc k) before ≡ painted_of size (suc k) (s ∷ before)
 unfolding steps_for painted_of
 steps_by size k before s =
     let d : Displayed = display_after size (suc k) before in
@@ -135,7 +135,7 @@ steps_by size k before s =
     added : (a b c a' b' : ℕ) → a ≡ a' → b ≡ b' → (a + b) + c ≡ b' + a' + c
     added a b c a' b' e f = omega (arith, e, f)
 
-pub steps_are : (size : Size) (count : ℕ) (before : List Shot) (s : Shot) → 1 ≤ count → steps_for (display_after size count before) s.damage + painted_of size count before ≡ painted_of size count (s ∷ before)
+pub steps_are : (size : Size) (count : ℕ) (before : List DrawnFrame) (s : DrawnFrame) → 1 ≤ count → steps_for (display_after size count before) s.damage + painted_of size count before ≡ painted_of size count (s ∷ before)
 steps_are size zero before s some = absurd (omega arith)
 steps_are size (suc k) before s some = steps_by size k before s
 
@@ -154,22 +154,22 @@ patched_all part (p ∷ ps) f (old ∷ olds) h =
     ap (λ t. (if t then f p else old) ∷ patched part ps (map f ps) olds) (h p (contains_here p ps))
     ∙ ap (λ l. f p ∷ l) (patched_all part ps f olds (λ q c. h q (contains_there p q ps c)))
 
-display_size : (size : Size) → IsCanvasSize size → IsDisplaySize size
+display_size : (size : Size) → IsDisplaySize size → IsDisplaySize size
 display_size size is = record { wide = is.wide; not_too_wide = is.not_too_wide; high = is.high; not_too_high = is.not_too_high }
 
-whole_stale : (size : Size) (count : ℕ) (drawn : List Shot) → length drawn ≤ count → stale size count drawn ≡ sized size
+whole_stale : (size : Size) (count : ℕ) (drawn : List DrawnFrame) → length drawn ≤ count → stale size count drawn ≡ sized size
 unfolding stale
 whole_stale size count drawn few =
     let test : nat_le (length drawn) count ≡ true = grind (arith, few) in
-    ap (λ t. if t then sized size else bound (map (λ (s : Shot). s.damage) (take count drawn))) test
+    ap (λ t. if t then sized size else bound (map (λ (s : DrawnFrame). s.damage) (take count drawn))) test
 
 -- the frame of a picture is the one that is written
-frame_by : (size : Size) (k : ℕ) (before : List Shot) (scene : Scene) (p : Pictured) → IsCanvasSize size → p.size ≡ size → ((q : Point) → p.colour q ≡ full scene q)
+frame_by : (size : Size) (k : ℕ) (before : List DrawnFrame) (scene : Scene) (p : Pictured) → IsDisplaySize size → p.size ≡ size → ((q : Point) → p.colour q ≡ full scene q)
     → frame_of (display_after size (suc k) before) p ≡ repainted size (stale size (suc k) (record { scene = Some scene; damage = p.changed } ∷ before)) (Some scene) (slice_get (written_of size (suc k) before) k)
 unfolding frame_of repainted picture_of picture
 frame_by size k before scene p sides same colours =
     let d : Displayed = display_after size (suc k) before in
-    let s : Shot = record { scene = Some scene; damage = p.changed } in
+    let s : DrawnFrame = record { scene = Some scene; damage = p.changed } in
     let part : Rectangle = stale size (suc k) (s ∷ before) in
     let olds : List Colour = pixels_in d.turns.size (last_in d.kept) in
     let new : colours_in p ≡ map (full scene) (points_of size) = ap (λ z. map p.colour (points_of z)) same ∙ map_same p.colour (full scene) (points_of size) colours in
@@ -184,7 +184,7 @@ frame_by size k before scene p sides same colours =
         → patched (stale size (suc k) (record { scene = Some scene; damage = p.changed } ∷ before)) (points_of size) (map (full scene) (points_of size)) (pixels_in size (made_of size o))
         ≡ repainted size (stale size (suc k) (record { scene = Some scene; damage = p.changed } ∷ before)) (Some scene) o
     by_frame None e =
-        let s : Shot = record { scene = Some scene; damage = p.changed } in
+        let s : DrawnFrame = record { scene = Some scene; damage = p.changed } in
         let many = length_written size (suc k) before in
         let few = get_none (written_of size (suc k) before) k e in
         let all : stale size (suc k) (s ∷ before) ≡ sized size = whole_stale size (suc k) (s ∷ before) (omega (arith, many, few)) in
@@ -192,11 +192,11 @@ frame_by size k before scene p sides same colours =
         ∙ patched_all (sized size) (points_of size) (full scene) (pixels_in size None) (λ q c. in_display size q (display_size size sides) c)
     by_frame (Some f) e = refl
 
-more_by : (size : Size) (k : ℕ) (before : List Shot) (scene : Scene) (p : Pictured) → IsCanvasSize size → p.size ≡ size → ((q : Point) → p.colour q ≡ full scene q)
+more_by : (size : Size) (k : ℕ) (before : List DrawnFrame) (scene : Scene) (p : Pictured) → IsDisplaySize size → p.size ≡ size → ((q : Point) → p.colour q ≡ full scene q)
     → shown (display_after size (suc k) before) p ≡ display_after size (suc k) (record { scene = Some scene; damage = p.changed } ∷ before)
 unfolding shown display_after turns_after written_of
 more_by size k before scene p sides same colours =
-    let s : Shot = record { scene = Some scene; damage = p.changed } in
+    let s : DrawnFrame = record { scene = Some scene; damage = p.changed } in
     let d : Displayed = display_after size (suc k) before in
     let frames : List (List Colour) = written_of size (suc k) before in
     let all : Kept = map (buffer_with size) frames ++ unmade (suc k) in
@@ -216,7 +216,7 @@ more_by size k before scene p sides same colours =
     upto : (earlier steps all : ℕ) → steps + earlier ≡ all → min (min earlier 18446744073709551615 + steps) 18446744073709551615 ≡ min all 18446744073709551615
     upto earlier steps all e = omega (arith, e)
 
-pub more_is : (size : Size) (count : ℕ) (before : List Shot) (scene : Scene) (p : Pictured) → IsCanvasSize size → 1 ≤ count → p.size ≡ size → ((q : Point) → p.colour q ≡ full scene q)
+pub more_is : (size : Size) (count : ℕ) (before : List DrawnFrame) (scene : Scene) (p : Pictured) → IsDisplaySize size → 1 ≤ count → p.size ≡ size → ((q : Point) → p.colour q ≡ full scene q)
     → shown (display_after size count before) p ≡ display_after size count (record { scene = Some scene; damage = p.changed } ∷ before)
 more_is size zero before scene p sides some same colours = absurd (omega arith)
 more_is size (suc k) before scene p sides some same colours = more_by size k before scene p sides same colours
@@ -229,7 +229,7 @@ pub first_is : (size : Size) (count : ℕ) → display_after size count [] ≡ f
 unfolding display_after turns_after written_of painted_of
 first_is size count = ap (λ l. record { turns = turns_after size count []; kept = l; painted = 0 }) (take_all_none count)
 
-pub current_is : (size : Size) (count : ℕ) (drawn : List Shot) (frame : List Colour) (earlier : List (List Colour)) → 1 ≤ count → written_of size count drawn ≡ frame ∷ earlier
+pub current_is : (size : Size) (count : ℕ) (drawn : List DrawnFrame) (frame : List Colour) (earlier : List (List Colour)) → 1 ≤ count → written_of size count drawn ≡ frame ∷ earlier
     → current (display_after size count drawn) ≡ buffer_with size frame
 unfolding display_after
 current_is size zero drawn frame earlier some is = absurd (omega arith)

@@ -6,7 +6,8 @@ use Rattle.std.proofs.lemmas.List.{length-take-le, length-replicate}
 use Rattle.vz_geom.specs.declared.Size.{Size}
 use Rattle.vz_geom.specs.Rectangle.{Rectangle, Covers, sized, join, no_rectangle, area_of, points_of}
 use Rattle.vz_geom.proofs.Bounds.{join_is_least, covers_empty}
-use Rattle.vz_buffers.specs.Canvas.{Canvas, IsCanvasSize}
+use Rattle.vz_buffers.specs.Canvas.{Canvas}
+use Rattle.vz_geom.specs.Display.{IsDisplaySize}
 use Rattle.vz_buffers.specs.Turns.{Turns, first_turns, stale_in, stale_of, damaged, turned}
 use Rattle.vz_rules.specs.Frames.{patched}
 use Rattle.vz_machine.specs.Pictured.{Pictured, IsPictured, colours_in}
@@ -68,7 +69,7 @@ few_more [] few = omega arith
 few_more (b ∷ bs) few = let less = length-take-le (length (b ∷ bs) - 1) (b ∷ bs) (omega arith) in omega (arith, less, few)
 
 -- a display at first
-pub new_is : (size : Size) (count : ℕ) (t : Turns) (kept : List (Option Canvas)) → IsCanvasSize size → count ≤ 4 → t ≡ first_turns size count → kept ≡ replicate count None
+pub new_is : (size : Size) (count : ℕ) (t : Turns) (kept : List (Option Canvas)) → IsDisplaySize size → count ≤ 4 → t ≡ first_turns size count → kept ≡ replicate count None
     → IsDisplayed (record { turns = t; kept = kept; painted = 0 }) × (size ≡ t.size)
 new_is size count t kept sides few turns none =
     let P : Turns → Type 0 = λ u. IsDisplayed (record { turns = u; kept = kept; painted = 0 }) × (size ≡ u.size) in

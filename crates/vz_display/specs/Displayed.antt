@@ -5,11 +5,12 @@ use Rattle.vz_base.specs.declared.limits.TheConstants.{MOST_BUFFERS}
 use Rattle.vz_geom.specs.declared.Size.{Size}
 use Rattle.vz_geom.specs.Rectangle.{Rectangle, Covers, sized, area_of, points_of}
 use Rattle.vz_pixels.specs.Colour.{Colour, black}
-use Rattle.vz_buffers.specs.Canvas.{Canvas, IsCanvasSize, pixel_count}
+use Rattle.vz_buffers.specs.Canvas.{Canvas, pixel_count}
+use Rattle.vz_geom.specs.Display.{IsDisplaySize}
 use Rattle.vz_buffers.specs.Turns.{Turns, first_turns, stale_of, damaged, turned, turns_after}
 use Rattle.vz_rules.specs.Plan.{Plan}
 use Rattle.vz_rules.specs.declared.entry.Entry.{Entry}
-use Rattle.vz_rules.specs.Frames.{Shot, shots, patched, written_of, written, painted_of}
+use Rattle.vz_rules.specs.Frames.{DrawnFrame, drawn_frames, patched, written_of, written, painted_of}
 use Rattle.vz_machine.specs.Pictured.{Pictured, colours_in}
 
 -- the buffers in turn, what each has, from the one that was painted last to the next one, and the steps so far; None before it was made
@@ -32,7 +33,7 @@ HaveSize size (Some b ∷ bs) = (b.size ≡ size) × HaveSize size bs
 
 -- no more buffers than the limit, of the display's size, and what is stale is on it
 pub record IsDisplayed (d : Displayed) : Type 0 where
-  pub sides : IsCanvasSize d.turns.size
+  pub sides : IsDisplaySize d.turns.size
   pub few : length d.kept ≤ MOST_BUFFERS
   pub stales : AreOn d.turns.size d.turns.stales
   pub sizes : HaveSize d.turns.size d.kept
@@ -89,7 +90,7 @@ abbrev pub buffer_with : Size → List Colour → Option Canvas
 buffer_with size frame = Some (record { size = size; pixels = frame })
 
 -- a display with so many buffers after these drawings, newest first: the newest frames that are written, and the points painted
-unfoldable pub display_after : Size → ℕ → List Shot → Displayed
+unfoldable pub display_after : Size → ℕ → List DrawnFrame → Displayed
 display_after size count drawn =
     record {
       turns = turns_after size count (map (λ s. s.damage) drawn);
@@ -103,7 +104,7 @@ row_at b y = take (nat_abs b.size.w) (drop (nat_abs y * nat_abs b.size.w) b.pixe
 
 -- a display with so many buffers after a history
 unfoldable pub display_at : Plan → List Entry → ℕ → Displayed
-display_at p h count = display_after p.size count (reverse (shots p h))
+display_at p h count = display_after p.size count (reverse (drawn_frames p h))
 
 -- the frame that an entry adds to those that are written is the one that the display has then
 pub record IsNext (p : Plan) (h : List Entry) (e : Entry) (count : ℕ) : Type 0 where

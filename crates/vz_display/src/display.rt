@@ -1,7 +1,7 @@
 //! The display.
 ghost use Rattle.std.specs.Prelude.{◌≡◌, ◌+◌, ◌-◌, ◌^◌, ◌≤◌, ◌*◌, ◌++◌, ◌≤ℤ◌, ◌<ℤ◌, pos, nat_abs, take, drop, length, replicate, None, Some, ◌∷◌, IfOk, OnOk, IsSome, IfSome};
 ghost use Rattle.std.specs.List.{flat_map};
-ghost use Rattle.vz_buffers.specs.Canvas.{IsCanvasSize};
+ghost use Rattle.vz_geom.specs.Display.{IsDisplaySize};
 ghost use Rattle.vz_rules.specs.Frames.{pixel_bytes};
 ghost use Rattle.vz_display.specs.Displayed.{HaveSize, current, row_at, first_displayed, last_in, pixels_in, making_in, shown, steps_for};
 
@@ -47,7 +47,7 @@ impl Display {
     pub fn new(size: Size, buffers: u32) -> Display
         requires from { 1 ≤ buffers }
         requires upto { buffers ≤ MOST_BUFFERS }
-        requires size { IsCanvasSize size }
+        requires size { IsDisplaySize size }
         ensures { result ≡ first_displayed size buffers }
     {
         Display {
@@ -128,7 +128,7 @@ fn next_buffer<L: Ledger>(
     kept: &mut ArrayVec<Option<Buffer>, MOST_BUFFERS>,
     steps: &mut Steps<L>,
 ) -> Result<(Buffer, u64), Memory>
-    requires size { IsCanvasSize size }
+    requires size { IsDisplaySize size }
     requires sizes { HaveSize size kept.old.items }
     ensures rest { kept.new.items ≡ take (length kept.old.items - 1) kept.old.items }
     ensures size { IfOk result (λ r. r.0.size ≡ size) }
@@ -145,7 +145,7 @@ fn next_buffer<L: Ledger>(
 
 /// Makes a buffer, and tells the steps for it.
 fn make<L: Ledger>(alloc: Global, size: Size, steps: &mut Steps<L>) -> Result<(Buffer, u64), Memory>
-    requires size { IsCanvasSize size }
+    requires size { IsDisplaySize size }
     ensures size { IfOk result (λ r. r.0.size ≡ size) }
     ensures pixels { IfOk result (λ r. r.0.pixels ≡ pixels_in size None) }
     ensures made { IfOk result (λ r. r.1 ≡ making_in size None) }

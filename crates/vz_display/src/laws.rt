@@ -4,7 +4,7 @@ ghost use Rattle.vz_geom.specs.declared.Point.{Point};
 ghost use Rattle.vz_geom.specs.declared.Size.{Size};
 ghost use Rattle.vz_geom.specs.Rectangle.{Rectangle};
 ghost use Rattle.vz_pixels.specs.Colour.{Colour};
-ghost use Rattle.vz_buffers.specs.Canvas.{IsCanvasSize};
+ghost use Rattle.vz_geom.specs.Display.{IsDisplaySize};
 ghost use Rattle.vz_rules.specs.declared.entry.Entry.{Entry};
 ghost use Rattle.vz_rules.specs.declared.entry.Reply.TheVariants.{Drawn};
 ghost use Rattle.vz_rules.specs.Plan.{Plan};
@@ -12,7 +12,7 @@ ghost use Rattle.vz_rules.specs.Step.{world};
 ghost use Rattle.vz_rules.specs.Scene.{scene_of};
 ghost use Rattle.vz_rules.specs.World.{Scene};
 ghost use Rattle.vz_rules.specs.Paint.{full};
-ghost use Rattle.vz_rules.specs.Frames.{Shot, shot_of, written, painted, written_of, painted_of};
+ghost use Rattle.vz_rules.specs.Frames.{DrawnFrame, drawn_frame_of, written, painted, written_of, painted_of};
 ghost use Rattle.vz_machine.specs.Pictured.{Pictured};
 ghost use Rattle.vz_display.specs.Displayed.{first_displayed, display_after, shown, steps_for, current, buffer_with};
 ghost use Rattle.vz_display.specs.Displayed.{display_at, IsNext};
@@ -22,14 +22,15 @@ ghost use Rattle.vz_display.specs.Displayed.{display_at, IsNext};
 pub fn drawings_are_shown()
     ensures first { (size : Size) (count : ℕ)
         → display_after size count [] ≡ first_displayed size count }
-    ensures more { (size : Size) (count : ℕ) (before : List Shot) (scene : Scene) (p : Pictured)
-        → IsCanvasSize size → 1 ≤ count → p.size ≡ size → ((q : Point) → p.colour q ≡ full scene q)
+    ensures more { (size : Size) (count : ℕ) (before : List DrawnFrame) (scene : Scene) (p : Pictured)
+        → IsDisplaySize size → 1 ≤ count → p.size ≡ size → ((q : Point) → p.colour q ≡ full scene q)
         → shown (display_after size count before) p
         ≡ display_after size count (record { scene = Some scene; damage = p.changed } ∷ before) }
-    ensures steps { (size : Size) (count : ℕ) (before : List Shot) (s : Shot) → 1 ≤ count
+    ensures steps { (size : Size) (count : ℕ) (before : List DrawnFrame) (s : DrawnFrame)
+        → 1 ≤ count
         → steps_for (display_after size count before) s.damage + painted_of size count before
         ≡ painted_of size count (s ∷ before) }
-    ensures current { (size : Size) (count : ℕ) (drawn : List Shot) (frame : List Colour)
+    ensures current { (size : Size) (count : ℕ) (drawn : List DrawnFrame) (frame : List Colour)
         (earlier : List (List Colour)) → 1 ≤ count → written_of size count drawn ≡ frame ∷ earlier
         → current (display_after size count drawn) ≡ buffer_with size frame }
 {}
@@ -39,7 +40,7 @@ pub fn drawings_are_shown()
 /// leaves all as it is.
 pub fn histories_are_shown()
     ensures drawn { (p : Plan) (h : List Entry) (e : Entry) (count : ℕ) (r : Rectangle)
-        (scene : Scene) (picture : Pictured) → IsCanvasSize p.size → 1 ≤ count
+        (scene : Scene) (picture : Pictured) → IsDisplaySize p.size → 1 ≤ count
         → e.reply ≡ Drawn r → scene_of (world p h) ≡ Some scene → picture.size ≡ p.size
         → ((q : Point) → picture.colour q ≡ full scene q) → picture.changed ≡ r
         → shown (display_at p h count) picture ≡ display_at p (h ++ e ∷ []) count }
@@ -49,7 +50,7 @@ pub fn histories_are_shown()
         → 1 ≤ count → e.reply ≡ Drawn r
         → steps_for (display_at p h count) r + painted p h count ≡ painted p (h ++ e ∷ []) count }
     ensures other { (p : Plan) (h : List Entry) (e : Entry) (count : ℕ)
-        → shot_of (scene_of (world p h)) e.reply ≡ []
+        → drawn_frame_of (scene_of (world p h)) e.reply ≡ []
         → (display_at p (h ++ e ∷ []) count ≡ display_at p h count)
         × (written p (h ++ e ∷ []) count ≡ written p h count)
         × (painted p (h ++ e ∷ []) count ≡ painted p h count) }

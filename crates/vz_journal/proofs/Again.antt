@@ -4,7 +4,7 @@ use Rattle.std.specs.List.{list_all, flat_map}
 use Rattle.std.proofs.lemmas.Bool.{and_parts, and_from, not-true}
 use Rattle.std.proofs.lemmas.List.{length-append, drop_at}
 use Rattle.vz_ids.specs.declared.Sub.{Sub}
-use Rattle.vz_rules.specs.Log.{then_number, counted, activated_text, destroyed_text, returned_text, fed_text, is_number, is_count, is_client, has_text_sub, has_text_lost, has_text_return}
+use Rattle.vz_rules.specs.Log.{then_number, with_count, activated_text, destroyed_text, returned_text, fed_text, is_log_number, is_count, is_log_client, has_text_sub, has_text_lost, has_text_return}
 use Rattle.vz_journal.specs.Reading.{Read, ◌>>=◌, begins, after, word_at, with_first, items_at, all_at, is_digit, number_at, count_at, client_at, next_number_at, next_count_at, sub_at, counted_at, return_at, reclaim_at, activated_at, destroyed_at, returned_at, fed_by, fed_at}
 use Rattle.vz_journal.proofs.Chosen.{pick}
 use Rattle.vz_journal.proofs.Numerals.{number_again}
@@ -43,33 +43,33 @@ words word = record {
 
 -- ---- numbers
 
-pub numbers : Again number_at decimal is_number no_digit_first
+pub numbers : Again number_at decimal is_log_number no_digit_first
 numbers = record { law = λ n rest small ends. number_again n rest (leb-true _ _ small) (not-true _ ends) }
 
 pub counts : Again count_at decimal is_count no_digit_first
 unfolding count_at
 counts = record {
   law = λ n rest good ends.
-      let parts = and_parts (ltb 0 n) (is_number n) good in
+      let parts = and_parts (ltb 0 n) (is_log_number n) good in
       next numbers n rest _ _ parts.1 ends (pick (ltb 0 n) (Some (n, rest)) None parts.0);
 }
 
-client_number : (c : ℕ) → is_client c ≡ true → is_number c ≡ true
+client_number : (c : ℕ) → is_log_client c ≡ true → is_log_number c ≡ true
 client_number c good =
     let parts = and_parts (ltb 0 c) (leb c 16) good in
     let low : c ≤ 16 = leb-true c 16 parts.1 in
     le_number c (omega arith)
   where
-    le_number : (n : ℕ) → n ≤ 4294967295 → is_number n ≡ true
+    le_number : (n : ℕ) → n ≤ 4294967295 → is_log_number n ≡ true
     le_number n h = le-leb n 4294967295 h
 
-pub clients : Again client_at decimal is_client no_digit_first
+pub clients : Again client_at decimal is_log_client no_digit_first
 unfolding client_at
 clients = record {
-  law = λ n rest good ends. next numbers n rest _ _ (client_number n good) ends (pick (is_client n) (Some (n, rest)) None good);
+  law = λ n rest good ends. next numbers n rest _ _ (client_number n good) ends (pick (is_log_client n) (Some (n, rest)) None good);
 }
 
-pub next_numbers : Again next_number_at then_number is_number no_digit_first
+pub next_numbers : Again next_number_at then_number is_log_number no_digit_first
 unfolding next_number_at
 next_numbers = record {
   law = λ n rest good ends. next (words (codes " ")) tt (decimal n ++ rest) _ _ refl refl (numbers.law n rest good ends);
@@ -87,20 +87,20 @@ pub subs : Again sub_at sub_text has_text_sub no_digit_first
 unfolding sub_at
 subs = record {
   law = λ s rest good ends.
-      let parts = and_parts (is_client s.client) (is_count s.ordinal) good in
+      let parts = and_parts (is_log_client s.client) (is_count s.ordinal) good in
       ap sub_at (append_assoc (decimal s.client) (46 ∷ decimal s.ordinal) rest)
       ∙ next clients s.client (46 ∷ (decimal s.ordinal ++ rest)) _ _ parts.0 refl
       (next (words (codes ".")) tt (decimal s.ordinal ++ rest) _ _ refl refl
       (next counts s.ordinal rest _ _ parts.1 ends refl));
 }
 
-pub counteds : (c : ℕ) → Again (counted_at c) (λ r. counted r.id r.count) (has_text_of c) no_digit_first
+pub counteds : (c : ℕ) → Again (counted_at c) (λ r. with_count r.id r.count) (has_text_of c) no_digit_first
 unfolding counted_at
 counteds c = record {
   law = λ r rest good ends.
       let own = and_parts (r.client == c) (has_text_return r) good in
-      let last = and_parts (is_client r.client && is_count r.id) (is_count r.count) own.1 in
-      let first = and_parts (is_client r.client) (is_count r.id) last.0 in
+      let last = and_parts (is_log_client r.client && is_count r.id) (is_count r.count) own.1 in
+      let first = and_parts (is_log_client r.client) (is_count r.id) last.0 in
       let same : c ≡ r.client = sym (eqb-true r.client c own.0) in
       ap (counted_at c) (append_assoc (decimal r.id) (120 ∷ decimal r.count) rest)
       ∙ next counts r.id (120 ∷ (decimal r.count ++ rest)) _ _ first.1 refl
@@ -112,11 +112,11 @@ pub returns : Again return_at return_text has_text_return no_digit_first
 unfolding return_at
 returns = record {
   law = λ r rest good ends.
-      let last = and_parts (is_client r.client && is_count r.id) (is_count r.count) good in
-      let first = and_parts (is_client r.client) (is_count r.id) last.0 in
-      ap return_at (append_assoc (decimal r.client) (46 ∷ counted r.id r.count) rest)
-      ∙ next clients r.client (46 ∷ (counted r.id r.count ++ rest)) _ _ first.0 refl
-      (next (words (codes ".")) tt (counted r.id r.count ++ rest) _ _ refl refl
+      let last = and_parts (is_log_client r.client && is_count r.id) (is_count r.count) good in
+      let first = and_parts (is_log_client r.client) (is_count r.id) last.0 in
+      ap return_at (append_assoc (decimal r.client) (46 ∷ with_count r.id r.count) rest)
+      ∙ next clients r.client (46 ∷ (with_count r.id r.count ++ rest)) _ _ first.0 refl
+      (next (words (codes ".")) tt (with_count r.id r.count ++ rest) _ _ refl refl
       ((counteds r.client).law r rest (and_from (r.client == r.client) (has_text_return r) (eq-eqb r.client r.client refl) good) ends));
 }
 
@@ -125,7 +125,7 @@ returns = record {
 pub reclaims : (c : ℕ) → Again (reclaim_at c) reclaim_text (has_text_of c) no_digit_first
 unfolding reclaim_at
 reclaims c = record {
-  law = λ r rest good ends. next (words (codes " ")) tt (counted r.id r.count ++ rest) _ _ refl refl ((counteds c).law r rest good ends);
+  law = λ r rest good ends. next (words (codes " ")) tt (with_count r.id r.count ++ rest) _ _ refl refl ((counteds c).law r rest good ends);
 }
 
 pub activateds : Again activated_at activated_text has_text_sub no_digit_first

@@ -17,8 +17,8 @@ use Rattle.vz_rules.specs.declared.entry.Lost.{Lost}
 use Rattle.vz_rules.specs.declared.entry.Fed.{Fed}
 use Rattle.vz_rules.specs.declared.entry.Effects.{Effects}
 use Rattle.vz_rules.specs.declared.entry.Entry.{Entry}
-use Rattle.vz_rules.specs.Log.{then_number, counted, event_text, rule_number, refusal_text, reply_text, effects_text, activated_text, destroyed_text, returned_text, fed_text, entry_text, held_text, open_text}
-use Rattle.vz_rules.specs.Log.{is_number, is_count, is_client, has_text_sub, has_text_lost, has_text_return, has_text_effects, has_text_damage, answers_client, answers, has_text_entry}
+use Rattle.vz_rules.specs.Log.{then_number, with_count, event_text, rule_number, refusal_text, reply_text, effects_text, activated_text, destroyed_text, returned_text, fed_text, entry_text, held_text, open_text}
+use Rattle.vz_rules.specs.Log.{is_log_number, is_count, is_log_client, has_text_sub, has_text_lost, has_text_return, has_text_effects, has_text_damage, answers_client, answers, has_text_entry}
 use Rattle.vz_journal.specs.Reading.{Read, ◌>>=◌, word_at, one_of, all_at, number_at, count_at, next_number_at, counted_at, reclaim_at, activated_at, destroyed_at, returned_at, fed_at, effects_at, client_event_at, event_at}
 use Rattle.vz_journal.specs.Reading.{rule_of, refusal_of, malformed_at, refused_at, accepted_at, began_at, client_reply_at, ticked_at, drawn_on, is_drawn, drawn_at, draw_reply_at, reply_at, entry_at, held_at, open_at}
 use Rattle.vz_journal.proofs.Chosen.{pick, skip}
@@ -44,11 +44,11 @@ events = record { law = law }
 
 -- ---- refusals
 
-numbered : (n : ℕ) (text : List ℕ) (rest : List ℕ) → decimal n ≡ text → is_number n ≡ true → no_digit_first rest ≡ true → next_number_at (32 ∷ (text ++ rest)) ≡ Some (n, rest)
+numbered : (n : ℕ) (text : List ℕ) (rest : List ℕ) → decimal n ≡ text → is_log_number n ≡ true → no_digit_first rest ≡ true → next_number_at (32 ∷ (text ++ rest)) ≡ Some (n, rest)
 numbered n text rest same small ends = ap (λ (t : List ℕ). next_number_at (32 ∷ (t ++ rest))) (sym same) ∙ next_numbers.law n rest small ends
 
 -- a refusal that is only a number
-plain_refused : (n : ℕ) (r : Refusal) (rest : List ℕ) → decimal n ≡ refusal_text r → is_number n ≡ true → (n == 2) ≡ false → refusal_of n ≡ Some r → no_digit_first rest ≡ true
+plain_refused : (n : ℕ) (r : Refusal) (rest : List ℕ) → decimal n ≡ refusal_text r → is_log_number n ≡ true → (n == 2) ≡ false → refusal_of n ≡ Some r → no_digit_first rest ≡ true
     → refused_at (32 ∷ (refusal_text r ++ rest)) ≡ Some (reply.Refused r, rest)
 unfolding refused_at
 plain_refused n r rest same small other given ends =
@@ -57,7 +57,7 @@ plain_refused n r rest same small other given ends =
     ∙ skip (n == 2) (malformed_at rest) (refusal_of n >>= λ why. Some (reply.Refused why, rest)) other
     ∙ ap (λ (x : Option Refusal). x >>= λ why. Some (reply.Refused why, rest)) given
 
-pub rule_again : (r : Rule) → (is_number (rule_number r) ≡ true) × (rule_of (rule_number r) ≡ Some r)
+pub rule_again : (r : Rule) → (is_log_number (rule_number r) ≡ true) × (rule_of (rule_number r) ≡ Some r)
 unfolding rule_of rule_number
 rule_again NoPass = (refl, refl)
 rule_again BadRoot = (refl, refl)
@@ -101,7 +101,7 @@ accepted_again : (k i : ℕ) (rest : List ℕ) → is_count k ≡ true → is_co
 unfolding accepted_at
 accepted_again k i rest good_k good_i ends = next next_counts k (then_number i ++ rest) _ _ good_k refl (next next_counts i rest _ _ good_i ends refl)
 
-began_again : (n : ℕ) (rest : List ℕ) → is_number n ≡ true → no_digit_first rest ≡ true → began_at (then_number n ++ rest) ≡ Some (reply.Began n, rest)
+began_again : (n : ℕ) (rest : List ℕ) → is_log_number n ≡ true → no_digit_first rest ≡ true → began_at (then_number n ++ rest) ≡ Some (reply.Began n, rest)
 unfolding began_at
 began_again n rest good ends = next next_numbers n rest _ _ good ends refl
 
@@ -133,7 +133,7 @@ client_again c reply.Shown rest good ends none = absurd cc
 client_again c reply.Nothing rest good ends none = absurd cc
 client_again c reply.Ended rest good ends none = absurd cc
 
-ticked_again : (n : ℕ) (rest : List ℕ) → is_number n ≡ true → no_digit_first rest ≡ true → ticked_at (codes "ticked" ++ (then_number n ++ rest)) ≡ Some (reply.Ticked n, rest)
+ticked_again : (n : ℕ) (rest : List ℕ) → is_log_number n ≡ true → no_digit_first rest ≡ true → ticked_at (codes "ticked" ++ (then_number n ++ rest)) ≡ Some (reply.Ticked n, rest)
 unfolding ticked_at
 ticked_again n rest good ends = next (words (codes "ticked")) tt (then_number n ++ rest) _ _ refl refl (next next_numbers n rest _ _ good ends refl)
 
@@ -142,10 +142,10 @@ drawn_numbers : (x y w h : ℕ) (rest : List ℕ) → is_drawn x y w h ≡ true 
 unfolding drawn_at
 drawn_numbers x y w h rest fits ends =
     let parts = drawn_parts x y w h fits in
-    let small_x : is_number x ≡ true = le-leb x 4294967295 (omega (arith, parts.2)) in
-    let small_y : is_number y ≡ true = le-leb y 4294967295 (omega (arith, parts.3)) in
-    let small_w : is_number w ≡ true = le-leb w 4294967295 (omega (arith, parts.2)) in
-    let small_h : is_number h ≡ true = le-leb h 4294967295 (omega (arith, parts.3)) in
+    let small_x : is_log_number x ≡ true = le-leb x 4294967295 (omega (arith, parts.2)) in
+    let small_y : is_log_number y ≡ true = le-leb y 4294967295 (omega (arith, parts.3)) in
+    let small_w : is_log_number w ≡ true = le-leb w 4294967295 (omega (arith, parts.2)) in
+    let small_h : is_log_number h ≡ true = le-leb h 4294967295 (omega (arith, parts.3)) in
     next next_numbers x (then_number y ++ (then_number w ++ (then_number h ++ rest))) _ _ small_x refl
     (next next_numbers y (then_number w ++ (then_number h ++ rest)) _ _ small_y refl
     (next next_numbers w (then_number h ++ rest) _ _ small_w refl
@@ -287,7 +287,7 @@ over_again (reply.Refused r) rest good ends = absurd cc
 
 pub replies_again : (e : Event) (r : Reply) (rest : List ℕ) → answers e r ≡ true → no_digit_first rest ≡ true → ((c : ℕ) → reclaim_at c rest ≡ None) → reply_at e (reply_text r ++ rest) ≡ Some (r, rest)
 unfolding reply_at answers
-replies_again (event.Client c) r rest good ends none = client_again c r rest (and_parts (is_client c) (answers_client c r) good).1 ends (none c)
+replies_again (event.Client c) r rest good ends none = client_again c r rest (and_parts (is_log_client c) (answers_client c r) good).1 ends (none c)
 replies_again event.Begin r rest good ends none = begin_again r rest good ends
 replies_again event.Draw r rest good ends none = draw_again r rest good ends
 replies_again event.Done r rest good ends none = done_again r rest good ends
@@ -296,7 +296,7 @@ replies_again event.Over r rest good ends none = over_again r rest good ends
 -- an event that answers can be named
 pub event_named : (e : Event) (r : Reply) → answers e r ≡ true → has_text_event e ≡ true
 unfolding answers
-event_named (event.Client c) r good = (and_parts (is_client c) (answers_client c r) good).0
+event_named (event.Client c) r good = (and_parts (is_log_client c) (answers_client c r) good).0
 event_named event.Begin r good = refl
 event_named event.Draw r good = refl
 event_named event.Done r good = refl
@@ -446,7 +446,7 @@ pub helds : Again held_at held_text has_text_return anything
 unfolding held_at
 helds = record {
   law = λ r rest good fits.
-      ap held_at (held_line (codes "held ") (decimal r.client) (46 ∷ counted r.id r.count) (10 ∷ []) rest)
+      ap held_at (held_line (codes "held ") (decimal r.client) (46 ∷ with_count r.id r.count) (10 ∷ []) rest)
       ∙ next (words (codes "held ")) tt (return_text r ++ (10 ∷ rest)) _ _ refl refl
       (next returns r (10 ∷ rest) _ _ good refl
       (next (words (codes "\n")) tt rest _ _ refl refl refl));

@@ -16,8 +16,8 @@ use Rattle.vz_rules.specs.declared.entry.Returned.{Returned}
 use Rattle.vz_rules.specs.declared.entry.Fed.{Fed}
 use Rattle.vz_rules.specs.declared.entry.Effects.{Effects}
 use Rattle.vz_rules.specs.declared.entry.Entry.{Entry}
-use Rattle.vz_rules.specs.Log.{then_number, dotted, counted, event_text, rule_number, refusal_text, reply_text, effects_text, activated_text, destroyed_text, returned_text, fed_text, entry_text, held_text, open_text}
-use Rattle.vz_rules.specs.Log.{is_number, is_count, is_client, has_text_sub, has_text_lost, has_text_return, has_text_effects, has_text_damage, answers_client, answers, has_text_entry}
+use Rattle.vz_rules.specs.Log.{then_number, dotted, with_count, event_text, rule_number, refusal_text, reply_text, effects_text, activated_text, destroyed_text, returned_text, fed_text, entry_text, held_text, open_text}
+use Rattle.vz_rules.specs.Log.{is_log_number, is_count, is_log_client, has_text_sub, has_text_lost, has_text_return, has_text_effects, has_text_damage, answers_client, answers, has_text_entry}
 use Rattle.vz_journal.proofs.Damages.{drawn_parts}
 use Rattle.vz_journal.proofs.Took.{sub_text, return_text, reclaim_text, has_text_of}
 use Rattle.vz_journal.proofs.Again_lines.{damage_numbers, rule_again, event_named}
@@ -42,31 +42,31 @@ decimal_feed = decimal_by_steps (λ n ds. no_feed ds ≡ true)
     (λ n small. and_from (is_within (48 + n)) true (digit_within (48 + n) (omega arith)) refl)
     (λ n ds large before. joined_feed ds ((48 + n % 10) ∷ []) before (and_from (is_within (48 + n % 10)) true (digit_within (48 + n % 10) (omega arith)) refl))
 
-pub number_feed : (n : ℕ) → is_number n ≡ true → no_feed (decimal n) ≡ true
+pub number_feed : (n : ℕ) → is_log_number n ≡ true → no_feed (decimal n) ≡ true
 number_feed n good =
     let small : n ≤ 4294967295 = leb-true n 4294967295 good in
     decimal_feed n (omega arith)
 
 count_feed : (n : ℕ) → is_count n ≡ true → no_feed (decimal n) ≡ true
-count_feed n good = number_feed n (and_parts (ltb 0 n) (is_number n) good).1
+count_feed n good = number_feed n (and_parts (ltb 0 n) (is_log_number n) good).1
 
-client_feed : (c : ℕ) → is_client c ≡ true → no_feed (decimal c) ≡ true
+client_feed : (c : ℕ) → is_log_client c ≡ true → no_feed (decimal c) ≡ true
 client_feed c good =
     let small : c ≤ 16 = leb-true c 16 (and_parts (ltb 0 c) (leb c 16) good).1 in
     decimal_feed c (omega arith)
 
-sub_feed : (c k : ℕ) → is_client c ≡ true → is_count k ≡ true → no_feed (dotted c k) ≡ true
+sub_feed : (c k : ℕ) → is_log_client c ≡ true → is_count k ≡ true → no_feed (dotted c k) ≡ true
 sub_feed c k p q = joined_feed (decimal c) (46 ∷ decimal k) (client_feed c p) (count_feed k q)
 
-counted_feed : (id n : ℕ) → is_count id ≡ true → is_count n ≡ true → no_feed (counted id n) ≡ true
+counted_feed : (id n : ℕ) → is_count id ≡ true → is_count n ≡ true → no_feed (with_count id n) ≡ true
 counted_feed id n p q = joined_feed (decimal id) (120 ∷ decimal n) (count_feed id p) (count_feed n q)
 
-return_feed : (r : Returned) → has_text_return r ≡ true → (no_feed (counted r.id r.count) ≡ true) × (no_feed (return_text r) ≡ true)
+return_feed : (r : Returned) → has_text_return r ≡ true → (no_feed (with_count r.id r.count) ≡ true) × (no_feed (return_text r) ≡ true)
 return_feed r good =
-    let last = and_parts (is_client r.client && is_count r.id) (is_count r.count) good in
-    let first = and_parts (is_client r.client) (is_count r.id) last.0 in
+    let last = and_parts (is_log_client r.client && is_count r.id) (is_count r.count) good in
+    let first = and_parts (is_log_client r.client) (is_count r.id) last.0 in
     let two = counted_feed r.id r.count first.1 last.1 in
-    (two, joined_feed (decimal r.client) (46 ∷ counted r.id r.count) (client_feed r.client first.0) two)
+    (two, joined_feed (decimal r.client) (46 ∷ with_count r.id r.count) (client_feed r.client first.0) two)
 
 rows_feed : {A : Type 0} (text : A → List ℕ) (good : A → Bool) → ((a : A) → good a ≡ true → no_feed (text a) ≡ true) → (xs : List A) → list_all good xs ≡ true → no_feed (flat_map text xs) ≡ true
 rows_feed text good each [] all = refl
@@ -114,8 +114,8 @@ drawn_feed d good =
 abbrev pub has_numbers : Reply → Bool
 has_numbers (reply.Accepted k i) = is_count k && is_count i
 has_numbers (reply.Reclaimed rs) = list_all has_text_return rs
-has_numbers (reply.Began n) = is_number n
-has_numbers (reply.Ticked n) = is_number n
+has_numbers (reply.Began n) = is_log_number n
+has_numbers (reply.Ticked n) = is_log_number n
 has_numbers (reply.Drawn d) = has_text_damage d
 has_numbers _ = true
 
@@ -174,7 +174,7 @@ client_numbers c reply.Ended good = refl
 -- the events of no client have words, ticks and drawings as answers
 abbrev IsOther : Event → Type 0
 IsOther e = ((k i : ℕ) → answers e (reply.Accepted k i) ≡ false) × ((rs : List Returned) → answers e (reply.Reclaimed rs) ≡ false) × ((n : ℕ) → answers e (reply.Began n) ≡ false)
-    × ((n : ℕ) → answers e (reply.Ticked n) ≡ true → is_number n ≡ true) × ((d : Rectangle) → answers e (reply.Drawn d) ≡ true → has_text_damage d ≡ true)
+    × ((n : ℕ) → answers e (reply.Ticked n) ≡ true → is_log_number n ≡ true) × ((d : Rectangle) → answers e (reply.Drawn d) ≡ true → has_text_damage d ≡ true)
 
 other_numbers : (e : Event) → IsOther e → (r : Reply) → answers e r ≡ true → has_numbers r ≡ true
 other_numbers e other reply.Stored good = refl
@@ -199,7 +199,7 @@ other_numbers e other reply.Ended good = refl
 
 numbers_fit : (e : Event) (r : Reply) → answers e r ≡ true → has_numbers r ≡ true
 unfolding answers
-numbers_fit (event.Client c) r good = client_numbers c r (and_parts (is_client c) (answers_client c r) good).1
+numbers_fit (event.Client c) r good = client_numbers c r (and_parts (is_log_client c) (answers_client c r) good).1
 numbers_fit event.Begin r good = other_numbers event.Begin ((λ k i. refl), (λ rs. refl), (λ n. refl), (λ n h. h), (λ d h. absurd cc)) r good
 numbers_fit event.Draw r good = other_numbers event.Draw ((λ k i. refl), (λ rs. refl), (λ n. refl), (λ n h. absurd cc), (λ d h. h)) r good
 numbers_fit event.Done r good = other_numbers event.Done ((λ k i. refl), (λ rs. refl), (λ n. refl), (λ n h. absurd cc), (λ d h. absurd cc)) r good
@@ -209,7 +209,7 @@ numbers_fit event.Over r good = other_numbers event.Over ((λ k i. refl), (λ rs
 
 fed_feed : (f : Fed) → has_text_sub f.sub ≡ true → no_feed (fed_text f) ≡ true
 fed_feed f good =
-    let parts = and_parts (is_client f.sub.client) (is_count f.sub.ordinal) good in
+    let parts = and_parts (is_log_client f.sub.client) (is_count f.sub.ordinal) good in
     let two = sub_feed f.sub.client f.sub.ordinal parts.0 parts.1 in
     signed f.presented (sub_text f.sub) two
   where
@@ -223,8 +223,8 @@ effects_feed e good =
     let t2 = and_parts (list_all has_text_sub e.activated && list_all has_text_lost e.destroyed && list_all has_text_return e.returned) (list_all (λ (f : Fed). has_text_sub f.sub) e.fed) good in
     let t1 = and_parts (list_all has_text_sub e.activated && list_all has_text_lost e.destroyed) (list_all has_text_return e.returned) t2.0 in
     let t0 = and_parts (list_all has_text_sub e.activated) (list_all has_text_lost e.destroyed) t1.0 in
-    let a = rows_feed activated_text has_text_sub (λ s h. let p = and_parts (is_client s.client) (is_count s.ordinal) h in sub_feed s.client s.ordinal p.0 p.1) e.activated t0.0 in
-    let d = rows_feed destroyed_text has_text_lost (λ s h. let p = and_parts (is_client s.client) (is_count s.surface) h in sub_feed s.client s.surface p.0 p.1) e.destroyed t0.1 in
+    let a = rows_feed activated_text has_text_sub (λ s h. let p = and_parts (is_log_client s.client) (is_count s.ordinal) h in sub_feed s.client s.ordinal p.0 p.1) e.activated t0.0 in
+    let d = rows_feed destroyed_text has_text_lost (λ s h. let p = and_parts (is_log_client s.client) (is_count s.surface) h in sub_feed s.client s.surface p.0 p.1) e.destroyed t0.1 in
     let r = rows_feed returned_text has_text_return (λ s h. (return_feed s h).1) e.returned t1.1 in
     let f = rows_feed fed_text (λ (f : Fed). has_text_sub f.sub) fed_feed e.fed t2.1 in
     let texts_2 = joined_feed (flat_map activated_text e.activated) (flat_map destroyed_text e.destroyed) a d in
@@ -251,14 +251,14 @@ entry_line e good =
 
 pub held_line : (r : Returned) → has_text_return r ≡ true → IsLine (held_text r)
 held_line r good =
-    let last = and_parts (is_client r.client && is_count r.id) (is_count r.count) good in
-    let first = and_parts (is_client r.client) (is_count r.id) last.0 in
+    let last = and_parts (is_log_client r.client && is_count r.id) (is_count r.count) good in
+    let first = and_parts (is_log_client r.client) (is_count r.id) last.0 in
     let name = joined_feed (codes "held ") (decimal r.client) refl (client_feed r.client first.0) in
-    record { front = codes "held " ++ decimal r.client ++ (46 ∷ counted r.id r.count); is = refl; plain = joined_feed (codes "held " ++ decimal r.client) (46 ∷ counted r.id r.count) name (return_feed r good).0 }
+    record { front = codes "held " ++ decimal r.client ++ (46 ∷ with_count r.id r.count); is = refl; plain = joined_feed (codes "held " ++ decimal r.client) (46 ∷ with_count r.id r.count) name (return_feed r good).0 }
 
 pub open_line : (s : Sub) → has_text_sub s ≡ true → IsLine (open_text s)
 open_line s good =
-    let parts = and_parts (is_client s.client) (is_count s.ordinal) good in
+    let parts = and_parts (is_log_client s.client) (is_count s.ordinal) good in
     record { front = codes "open " ++ dotted s.client s.ordinal; is = refl; plain = joined_feed (codes "open ") (dotted s.client s.ordinal) refl (sub_feed s.client s.ordinal parts.0 parts.1) }
 
 pub last_line : IsLine (codes "end\n")

@@ -258,7 +258,7 @@ next_is_bad bytes line x r p e is other =
     let first : lines_upto (line - 1) bytes ≡ lines_and x [] = ap (λ (m : ℕ). lines_upto m bytes) before ∙ upto_parts bytes x r 0 p ∙ ap (lines_and x) (upto_none r) in
     record {
       no_log = no_log bytes line e;
-      counted = omega (arith, is);
+      from_one = omega (arith, is);
       before = (omega (arith, is, count), subst IsLogFront (sym first) (is_front bytes x r [] (codes "end\n") p refl));
       bad = λ low front.
           let there = goes_on_last bytes x r p (omega (arith, is, count, low)) (subst (λ (m : ℕ). IsLogFront (lines_upto m bytes)) is front) in
@@ -291,7 +291,7 @@ behind_is_bad bytes line x r p e is there =
     ∙ ap (lines_and x) (upto_line (codes "end\n") 0 (after (codes "end\n") r) last_line ∙ ap (λ (t : List ℕ). codes "end\n" ++ t) (upto_none (after (codes "end\n") r))) in
     record {
       no_log = no_log bytes line e;
-      counted = omega (arith, is);
+      from_one = omega (arith, is);
       before = (omega (arith, is, count, last), subst IsLogFront (sym first) (is_front bytes x r (codes "end\n" ++ []) [] p refl));
       bad = λ low front. nothing_behind bytes x (after (codes "end\n") r) own (omega (arith, is, count, last, low)) (subst (λ (m : ℕ). IsLogFront (lines_upto m bytes)) is front);
     }

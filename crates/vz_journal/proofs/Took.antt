@@ -4,7 +4,7 @@ use Rattle.std.proofs.lemmas.Bool.{and_parts, and_from}
 use Rattle.vz_ids.specs.declared.Sub.{Sub}
 use Rattle.vz_rules.specs.declared.entry.Returned.{Returned}
 use Rattle.vz_rules.specs.declared.entry.Lost.{Lost}
-use Rattle.vz_rules.specs.Log.{then_number, dotted, counted, activated_text, destroyed_text, returned_text, fed_text, is_number, is_count, is_client, has_text_sub, has_text_lost, has_text_return}
+use Rattle.vz_rules.specs.Log.{then_number, dotted, with_count, activated_text, destroyed_text, returned_text, fed_text, is_log_number, is_count, is_log_client, has_text_sub, has_text_lost, has_text_return}
 use Rattle.vz_journal.specs.Reading.{Read, ◌>>=◌, begins, after, word_at, one_of, number_at, count_at, client_at, next_number_at, next_count_at, sub_at, counted_at, return_at, reclaim_at, activated_at, destroyed_at, returned_at, fed_by, fed_at}
 use Rattle.vz_journal.proofs.Chosen.{then_some, tested_some, some_is, none_is_not, chosen, joined}
 use Rattle.vz_journal.proofs.Numerals.{number_took}
@@ -71,7 +71,7 @@ one_of_words text good ws texts = record { law = one_took text good ws texts }
 
 -- ---- numbers
 
-pub numbers : Taking number_at decimal is_number
+pub numbers : Taking number_at decimal is_log_number
 numbers = record {
   law = λ bytes x e.
       let t = number_took bytes x e in
@@ -84,19 +84,19 @@ counts = record {
   law = λ bytes x e.
       from_step numbers bytes _ x e (λ n t e1.
       let test = tested_some (ltb 0 n.0) n x e1 in
-      finish decimal is_count (ap Some test.1) (judged (is_count n.0) (and_from (ltb 0 n.0) (is_number n.0) test.0 t.fits) t));
+      finish decimal is_count (ap Some test.1) (judged (is_count n.0) (and_from (ltb 0 n.0) (is_log_number n.0) test.0 t.fits) t));
 }
 
-pub clients : Taking client_at decimal is_client
+pub clients : Taking client_at decimal is_log_client
 unfolding client_at
 clients = record {
   law = λ bytes x e.
       from_step numbers bytes _ x e (λ n t e1.
-      let test = tested_some (is_client n.0) n x e1 in
-      finish decimal is_client (ap Some test.1) (judged (is_client n.0) test.0 t));
+      let test = tested_some (is_log_client n.0) n x e1 in
+      finish decimal is_log_client (ap Some test.1) (judged (is_log_client n.0) test.0 t));
 }
 
-pub next_numbers : Taking next_number_at then_number is_number
+pub next_numbers : Taking next_number_at then_number is_log_number
 unfolding next_number_at
 next_numbers = record {
   law = λ bytes x e.
@@ -121,7 +121,7 @@ abbrev pub lost_text : Lost → List ℕ
 lost_text l = dotted l.client l.surface
 
 abbrev pub return_text : Returned → List ℕ
-return_text r = decimal r.client ++ 46 ∷ counted r.id r.count
+return_text r = decimal r.client ++ 46 ∷ with_count r.id r.count
 
 pub subs : Taking sub_at sub_text has_text_sub
 unfolding sub_at
@@ -130,24 +130,24 @@ subs = record {
       from_step clients bytes _ x e (λ c t0 e1.
       from_step (words (codes ".")) c.1 _ x e1 (λ dot t1 e2.
       from_step counts dot.1 _ x e2 (λ k t2 e3.
-      finish sub_text has_text_sub e3 (judged (is_client c.0 && is_count k.0) (and_from (is_client c.0) (is_count k.0) t0.fits t2.fits) (both t0 (both t1 t2))))));
+      finish sub_text has_text_sub e3 (judged (is_log_client c.0 && is_count k.0) (and_from (is_log_client c.0) (is_count k.0) t0.fits t2.fits) (both t0 (both t1 t2))))));
 }
 
 -- a return of a client that can be named
 abbrev pub has_text_of : ℕ → Returned → Bool
 has_text_of c r = (r.client == c) && has_text_return r
 
-pub counteds : (c : ℕ) → is_client c ≡ true → Taking (counted_at c) (λ r. counted r.id r.count) (has_text_of c)
+pub counteds : (c : ℕ) → is_log_client c ≡ true → Taking (counted_at c) (λ r. with_count r.id r.count) (has_text_of c)
 unfolding counted_at
 counteds c named = record {
   law = λ bytes x e.
       from_step counts bytes _ x e (λ id t0 e1.
       from_step (words (codes "x")) id.1 _ x e1 (λ times t1 e2.
       from_step counts times.1 _ x e2 (λ n t2 e3.
-      let first : (is_client c && is_count id.0) ≡ true = and_from (is_client c) (is_count id.0) named t0.fits in
-      let all : (is_client c && is_count id.0 && is_count n.0) ≡ true = and_from (is_client c && is_count id.0) (is_count n.0) first t2.fits in
-      let good : ((c == c) && (is_client c && is_count id.0 && is_count n.0)) ≡ true = and_from (c == c) _ (eq-eqb c c refl) all in
-      finish (λ (r : Returned). counted r.id r.count) (has_text_of c) e3 (judged ((c == c) && (is_client c && is_count id.0 && is_count n.0)) good (both t0 (both t1 t2))))));
+      let first : (is_log_client c && is_count id.0) ≡ true = and_from (is_log_client c) (is_count id.0) named t0.fits in
+      let all : (is_log_client c && is_count id.0 && is_count n.0) ≡ true = and_from (is_log_client c && is_count id.0) (is_count n.0) first t2.fits in
+      let good : ((c == c) && (is_log_client c && is_count id.0 && is_count n.0)) ≡ true = and_from (c == c) _ (eq-eqb c c refl) all in
+      finish (λ (r : Returned). with_count r.id r.count) (has_text_of c) e3 (judged ((c == c) && (is_log_client c && is_count id.0 && is_count n.0)) good (both t0 (both t1 t2))))));
 }
 
 pub returns : Taking return_at return_text has_text_return
@@ -159,16 +159,16 @@ returns = record {
       let t2 = (counteds c.0 t0.fits).law dot.1 x e2 in
       let good = and_parts (x.0.client == c.0) (has_text_return x.0) t2.fits in
       let same : c.0 ≡ x.0.client = sym (eqb-true x.0.client c.0 good.0) in
-      let parts : bytes ≡ (decimal c.0 ++ (46 ∷ counted x.0.id x.0.count)) ++ x.1 = (both t0 (both t1 t2)).parts in
-      record { parts = subst (λ (k : ℕ). bytes ≡ (decimal k ++ (46 ∷ counted x.0.id x.0.count)) ++ x.1) same parts; fits = good.1 }));
+      let parts : bytes ≡ (decimal c.0 ++ (46 ∷ with_count x.0.id x.0.count)) ++ x.1 = (both t0 (both t1 t2)).parts in
+      record { parts = subst (λ (k : ℕ). bytes ≡ (decimal k ++ (46 ∷ with_count x.0.id x.0.count)) ++ x.1) same parts; fits = good.1 }));
 }
 
 -- ---- items
 
 abbrev pub reclaim_text : Returned → List ℕ
-reclaim_text r = 32 ∷ counted r.id r.count
+reclaim_text r = 32 ∷ with_count r.id r.count
 
-pub reclaims : (c : ℕ) → is_client c ≡ true → Taking (reclaim_at c) reclaim_text (has_text_of c)
+pub reclaims : (c : ℕ) → is_log_client c ≡ true → Taking (reclaim_at c) reclaim_text (has_text_of c)
 unfolding reclaim_at
 reclaims c named = record {
   law = λ bytes x e.

@@ -12,7 +12,7 @@ use Rattle.vz_rules.specs.declared.entry.Reply.TheVariants as reply
 use Rattle.vz_rules.specs.declared.entry.Refusal.{Refusal}
 use Rattle.vz_rules.specs.declared.entry.Refusal.TheVariants as refusal
 use Rattle.vz_rules.specs.Log.{then_number, event_text, rule_number, refusal_text, reply_text, effects_text, entry_text, held_text, open_text}
-use Rattle.vz_rules.specs.Log.{is_client, has_text_sub, has_text_return, has_text_effects, has_text_damage, answers_client, answers, has_text_entry}
+use Rattle.vz_rules.specs.Log.{is_log_client, has_text_sub, has_text_return, has_text_effects, has_text_damage, answers_client, answers, has_text_entry}
 use Rattle.vz_journal.specs.Reading.{Read, begins, after, with_first, items_at, all_at, activated_at, destroyed_at, returned_at, effects_at, plain_events, client_event_at, event_at}
 use Rattle.vz_journal.specs.Reading.{rule_of, refusal_of, malformed_at, refused_at, accepted_at, began_at, reclaim_at, client_replies, client_reply_at, ticked_at, drawn_on, is_drawn, drawn_at, draw_replies, draw_reply_at, done_replies, over_replies, reply_at, entry_at, held_at, open_at}
 use Rattle.vz_journal.proofs.Chosen.{then_some, tested_some, some_is, none_is_not, chosen, by_number, joined}
@@ -47,7 +47,7 @@ event_word e = event_text e ++ 32 ∷ []
 
 -- an event that can be named
 abbrev pub has_text_event : Event → Bool
-has_text_event (event.Client c) = is_client c
+has_text_event (event.Client c) = is_log_client c
 has_text_event event.Begin = true
 has_text_event event.Draw = true
 has_text_event event.Done = true
@@ -180,7 +180,7 @@ begans c bytes x e =
     let made : Took (codes "began" ++ bytes) (reply_text (reply.Began n.0)) n.1 (answers_client c (reply.Began n.0)) = record { parts = ap (λ s. codes "began" ++ s) t0.parts; fits = t0.fits } in
     finish reply_text (answers_client c) e1 made)
 
-reclaimeds : (c : ℕ) → is_client c ≡ true → (bytes : List ℕ) → TakesReply c (codes "reclaimed") bytes (reply.Reclaimed (all_at (reclaim_at c) bytes).0, (all_at (reclaim_at c) bytes).1)
+reclaimeds : (c : ℕ) → is_log_client c ≡ true → (bytes : List ℕ) → TakesReply c (codes "reclaimed") bytes (reply.Reclaimed (all_at (reclaim_at c) bytes).0, (all_at (reclaim_at c) bytes).1)
 unfolding reply_text answers_client
 reclaimeds c named bytes =
     let t = all_took (reclaims c named) bytes in
@@ -190,7 +190,7 @@ reclaimeds c named bytes =
 behind : (c : ℕ) (word bytes : List ℕ) (x : Reply × List ℕ) → begins word bytes ≡ true → TakesReply c word (after word bytes) x → Took bytes (reply_text x.0) x.1 (answers_client c x.0)
 behind c word bytes x there t = record { parts = begins_took word bytes there ∙ t.parts; fits = t.fits }
 
-client_took : (c : ℕ) → is_client c ≡ true → (bytes : List ℕ) (x : Reply × List ℕ) → client_reply_at c bytes ≡ Some x → Took bytes (reply_text x.0) x.1 (answers_client c x.0)
+client_took : (c : ℕ) → is_log_client c ≡ true → (bytes : List ℕ) (x : Reply × List ℕ) → client_reply_at c bytes ≡ Some x → Took bytes (reply_text x.0) x.1 (answers_client c x.0)
 unfolding client_reply_at reply_text answers_client
 client_took c named bytes x e =
     chosen (begins (codes "accepted") bytes) _ _ (Some x) e (λ there e0. behind c (codes "accepted") bytes x there (accepteds c _ x e0)) (λ _ e0.
@@ -246,7 +246,7 @@ unfolding reply_at reply_text answers
 replies (event.Client c) named = record {
   law = λ bytes x e.
       let t = client_took c named bytes x e in
-      record { parts = t.parts; fits = and_from (is_client c) (answers_client c x.0) named t.fits };
+      record { parts = t.parts; fits = and_from (is_log_client c) (answers_client c x.0) named t.fits };
 }
 replies event.Begin named = ticks
 replies event.Draw named = draws

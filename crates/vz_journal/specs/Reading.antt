@@ -20,7 +20,7 @@ use Rattle.vz_rules.specs.declared.entry.Fed.{Fed}
 use Rattle.vz_rules.specs.declared.entry.Effects.{Effects}
 use Rattle.vz_rules.specs.declared.entry.Entry.{Entry}
 use Rattle.vz_rules.specs.declared.entry.Rest.{Rest}
-use Rattle.vz_rules.specs.Log.{is_client}
+use Rattle.vz_rules.specs.Log.{is_log_client}
 
 -- a value and the bytes after it, where there is one at the front
 abbrev pub Read : Type 0 → Type 0
@@ -97,7 +97,7 @@ count_at bytes = do
 unfoldable pub client_at : List ℕ → Read ℕ
 client_at bytes = do
   n ← number_at bytes
-  tested (is_client n.0) n
+  tested (is_log_client n.0) n
 
 -- a blank and a number
 unfoldable pub next_number_at : List ℕ → Read ℕ

@@ -78,6 +78,3 @@ fn line_count(entries: &List<Entry>, rest: &Rest) -> u64
 {
     (entries.len() + rest.held.len() + rest.unfed.len()) as u64
 }
-
-#[cfg(test)]
-mod tests;

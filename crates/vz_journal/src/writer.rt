@@ -2,7 +2,7 @@
 ghost use Rattle.std.specs.Prelude.{◌≡◌, [], ◌∷◌, ◌++◌, map, nat_abs, string_bytes, codes};
 ghost use Rattle.std.specs.Prelude.{IfOk, OnOk};
 ghost use Rattle.std.specs.List.{flat_map};
-ghost use Rattle.vz_journal.specs.Appending.{Appends};
+ghost use Rattle.vz_journal.specs.Appending.{IsAppended};
 ghost use Rattle.vz_rules.specs.Log.{log_text, entry_text, event_text, reply_text, refusal_text};
 ghost use Rattle.vz_rules.specs.Log.{effects_text, activated_text, destroyed_text, returned_text};
 ghost use Rattle.vz_rules.specs.Log.{fed_text, held_text, open_text, rule_number as rule_number_of};
@@ -26,7 +26,7 @@ pub fn write(alloc: Global, history: &List<Entry>, rest: &Rest) -> Result<String
 
 #[tactic(auto, unfolding(vz_rules::specs::Log::log_text))]
 fn push_log(out: &mut String, history: &[Entry], rest: &Rest) -> Result<(), AllocError>
-    ensures { OnOk result (Appends out.old out.new (log_text history.now rest.now)) }
+    ensures { OnOk result (IsAppended out.old out.new (log_text history.now rest.now)) }
 {
     push_entries(out, history)?;
     push_held(out, rest.held.as_slice())?;
@@ -35,7 +35,7 @@ fn push_log(out: &mut String, history: &[Entry], rest: &Rest) -> Result<(), Allo
 }
 
 fn push_entries(out: &mut String, history: &[Entry]) -> Result<(), AllocError>
-    ensures { OnOk result (Appends out.old out.new (flat_map entry_text history.now)) }
+    ensures { OnOk result (IsAppended out.old out.new (flat_map entry_text history.now)) }
 {
     for entry in history {
         push_entry(out, entry)?;
@@ -45,7 +45,7 @@ fn push_entries(out: &mut String, history: &[Entry]) -> Result<(), AllocError>
 
 #[tactic(auto, unfolding(vz_rules::specs::Log::entry_text))]
 fn push_entry(out: &mut String, entry: &Entry) -> Result<(), AllocError>
-    ensures { OnOk result (Appends out.old out.new (entry_text entry.now)) }
+    ensures { OnOk result (IsAppended out.old out.new (entry_text entry.now)) }
 {
     push_event(out, entry.event)?;
     out.push_str(" ")?;
@@ -56,7 +56,7 @@ fn push_entry(out: &mut String, entry: &Entry) -> Result<(), AllocError>
 
 #[tactic(auto, unfolding(vz_rules::specs::Log::event_text))]
 fn push_event(out: &mut String, event: Event) -> Result<(), AllocError>
-    ensures { OnOk result (Appends out.old out.new (event_text event)) }
+    ensures { OnOk result (IsAppended out.old out.new (event_text event)) }
 {
     match event {
         Event::Client(client) => write!(out, "c{client}"),
@@ -69,7 +69,7 @@ fn push_event(out: &mut String, event: Event) -> Result<(), AllocError>
 
 #[tactic(auto, unfolding(vz_rules::specs::Log::reply_text))]
 fn push_reply(out: &mut String, reply: &Reply) -> Result<(), AllocError>
-    ensures { OnOk result (Appends out.old out.new (reply_text reply.now)) }
+    ensures { OnOk result (IsAppended out.old out.new (reply_text reply.now)) }
 {
     match reply {
         Reply::Stored => out.push_str("stored"),
@@ -96,7 +96,7 @@ fn push_reply(out: &mut String, reply: &Reply) -> Result<(), AllocError>
 
 #[tactic(auto, unfolding(vz_rules::specs::Log::reply_text))]
 fn push_reclaimed(out: &mut String, returns: &[Returned]) -> Result<(), AllocError>
-    ensures { OnOk result (Appends out.old out.new (reply_text (Reply.Reclaimed returns.now))) }
+    ensures { OnOk result (IsAppended out.old out.new (reply_text (Reply.Reclaimed returns.now))) }
 {
     out.push_str("reclaimed")?;
     for back in returns {
@@ -107,7 +107,7 @@ fn push_reclaimed(out: &mut String, returns: &[Returned]) -> Result<(), AllocErr
 
 #[tactic(auto, unfolding(vz_rules::specs::Log::refusal_text, vz_rules::specs::Log::rule_number))]
 fn push_refused(out: &mut String, refusal: Refusal) -> Result<(), AllocError>
-    ensures { OnOk result (Appends out.old out.new (codes "refused " ++ refusal_text refusal)) }
+    ensures { OnOk result (IsAppended out.old out.new (codes "refused " ++ refusal_text refusal)) }
 {
     match refusal {
         Refusal::AlreadyClosed => out.push_str("refused 1"),
@@ -146,7 +146,7 @@ fn rule_number(rule: Rule) -> u32
 
 #[tactic(auto, unfolding(vz_rules::specs::Log::reply_text))]
 fn push_drawn(out: &mut String, damage: &Rect) -> Result<(), AllocError>
-    ensures { OnOk result (Appends out.old out.new (reply_text (Reply.Drawn damage.now))) }
+    ensures { OnOk result (IsAppended out.old out.new (reply_text (Reply.Drawn damage.now))) }
 {
     let [x, y, w, h] = numbers_of(damage);
     write!(out, "drawn {x} {y} {w} {h}")
@@ -167,7 +167,7 @@ fn numbers_of(damage: &Rect) -> [u32; 4]
 
 #[tactic(auto, unfolding(vz_rules::specs::Log::effects_text))]
 fn push_effects(out: &mut String, effects: &Effects) -> Result<(), AllocError>
-    ensures { OnOk result (Appends out.old out.new (effects_text effects.now)) }
+    ensures { OnOk result (IsAppended out.old out.new (effects_text effects.now)) }
 {
     push_activated(out, effects.activated.as_slice())?;
     push_destroyed(out, effects.destroyed.as_slice())?;
@@ -176,7 +176,7 @@ fn push_effects(out: &mut String, effects: &Effects) -> Result<(), AllocError>
 }
 
 fn push_activated(out: &mut String, subs: &[Sub]) -> Result<(), AllocError>
-    ensures { OnOk result (Appends out.old out.new (flat_map activated_text subs.now)) }
+    ensures { OnOk result (IsAppended out.old out.new (flat_map activated_text subs.now)) }
 {
     for sub in subs {
         write!(out, " +{}.{}", sub.client, sub.ordinal)?;
@@ -185,7 +185,7 @@ fn push_activated(out: &mut String, subs: &[Sub]) -> Result<(), AllocError>
 }
 
 fn push_destroyed(out: &mut String, surfaces: &[Lost]) -> Result<(), AllocError>
-    ensures { OnOk result (Appends out.old out.new (flat_map destroyed_text surfaces.now)) }
+    ensures { OnOk result (IsAppended out.old out.new (flat_map destroyed_text surfaces.now)) }
 {
     for lost in surfaces {
         write!(out, " x{}.{}", lost.client, lost.surface)?;
@@ -194,7 +194,7 @@ fn push_destroyed(out: &mut String, surfaces: &[Lost]) -> Result<(), AllocError>
 }
 
 fn push_returned(out: &mut String, returns: &[Returned]) -> Result<(), AllocError>
-    ensures { OnOk result (Appends out.old out.new (flat_map returned_text returns.now)) }
+    ensures { OnOk result (IsAppended out.old out.new (flat_map returned_text returns.now)) }
 {
     for back in returns {
         write!(out, " <{}.{}x{}", back.client, back.id, back.count)?;
@@ -203,7 +203,7 @@ fn push_returned(out: &mut String, returns: &[Returned]) -> Result<(), AllocErro
 }
 
 fn push_fed(out: &mut String, feedback: &[Fed]) -> Result<(), AllocError>
-    ensures { OnOk result (Appends out.old out.new (flat_map fed_text feedback.now)) }
+    ensures { OnOk result (IsAppended out.old out.new (flat_map fed_text feedback.now)) }
 {
     for fed in feedback {
         let letter = if fed.presented { 'p' } else { 'd' };
@@ -213,7 +213,7 @@ fn push_fed(out: &mut String, feedback: &[Fed]) -> Result<(), AllocError>
 }
 
 fn push_held(out: &mut String, held: &[Returned]) -> Result<(), AllocError>
-    ensures { OnOk result (Appends out.old out.new (flat_map held_text held.now)) }
+    ensures { OnOk result (IsAppended out.old out.new (flat_map held_text held.now)) }
 {
     for reference in held {
         writeln!(
@@ -226,13 +226,10 @@ fn push_held(out: &mut String, held: &[Returned]) -> Result<(), AllocError>
 }
 
 fn push_open(out: &mut String, unfed: &[Sub]) -> Result<(), AllocError>
-    ensures { OnOk result (Appends out.old out.new (flat_map open_text unfed.now)) }
+    ensures { OnOk result (IsAppended out.old out.new (flat_map open_text unfed.now)) }
 {
     for sub in unfed {
         writeln!(out, "open {}.{}", sub.client, sub.ordinal)?;
     }
     Ok(())
 }
-
-#[cfg(test)]
-mod tests;

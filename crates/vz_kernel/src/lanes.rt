@@ -80,7 +80,8 @@ pub(crate) fn rest(a: u16x32) -> u16x32
 /// Whether all lanes are 0. Where it is so, all colours are transparent.
 #[inline(always)]
 pub(crate) fn is_clear(lanes: u8x64) -> bool
-    ensures { (cs : List Colour) → AreLanes lanes cs → IsTrue result → Each1 (λ c. c ≡ transparent) cs }
+    ensures { (cs : List Colour) → AreLanes lanes cs → IsTrue result
+        → Each1 (λ c. c ≡ transparent) cs }
 {
     lanes.simd_ne(u8x64::splat(0)).to_bitmask() == 0
 }

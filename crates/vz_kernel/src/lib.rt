@@ -5,8 +5,6 @@ mod groups;
 mod lanes;
 mod mixes;
 mod rows;
-#[cfg(test)]
-mod tests;
 mod walks;
 
 pub use rows::{dst_in_fill, dst_in_row, fill_row, over_fill, over_row, src_row};

@@ -10,7 +10,8 @@ use std::simd::prelude::*;
 /// Each colour of the first vector laid over the one at its place of the second.
 #[inline(always)]
 pub(crate) fn over(top: u8x64, under: u8x64) -> u8x64
-    ensures { (ss ds : List Colour) → AreLanes top ss → AreLanes under ds → AreLanes result (zip2 over ss ds) }
+    ensures { (ss ds : List Colour) → AreLanes top ss → AreLanes under ds
+        → AreLanes result (zip2 over ss ds) }
 {
     let rest = rest(alphas(odds(top)));
     top + woven(parts(evens(under), rest), parts(odds(under), rest))
@@ -20,7 +21,8 @@ pub(crate) fn over(top: u8x64, under: u8x64) -> u8x64
 #[inline(always)]
 pub(crate) fn scaled(lanes: u8x64, by: u16x32) -> u8x64
     requires { AreBytes by }
-    ensures { (cs : List Colour) (bs : List ℕ) → AreLanes lanes cs → by ≡ each_twice bs → AreLanes result (zip2 scale cs bs) }
+    ensures { (cs : List Colour) (bs : List ℕ) → AreLanes lanes cs → by ≡ each_twice bs
+        → AreLanes result (zip2 scale cs bs) }
 {
     woven(parts(evens(lanes), by), parts(odds(lanes), by))
 }

@@ -18,7 +18,8 @@ pub(crate) trait Mix {
     fn group(&self, dst: &mut [Pixel], src: &[Pixel], at: usize)
         requires dst { at + 16 ≤ length dst.old }
         requires src { at + 16 ≤ length src.now }
-        ensures { dst.new ≡ put_chunk at dst.old (zip2 (mixed self.now) (chunk at 16 src.now) (chunk at 16 dst.old)) };
+        ensures { dst.new
+            ≡ put_chunk at dst.old (zip2 (mixed self.now) (chunk at 16 src.now) (chunk at 16 dst.old)) };
 
     /// Mixes one pixel.
     fn one(&self, src: Pixel, dst: Pixel) -> Pixel
@@ -42,7 +43,8 @@ fn mix_groups<M: Mix>(mix: &M, dst: &mut [Pixel], src: &[Pixel], count: usize)
 fn mix_rest<M: Mix>(mix: &M, dst: &mut [Pixel], src: &[Pixel], from: usize)
     requires dst { length dst.old ≡ length src.now }
     requires inside { from ≤ length src.now }
-    ensures { (old : List Colour) → dst.old ≡ mixed_upto (M.mixed mix.now) from src.now old → dst.new ≡ mixed_upto (M.mixed mix.now) (length src.now) src.now old }
+    ensures { (old : List Colour) → dst.old ≡ mixed_upto (M.mixed mix.now) from src.now old
+        → dst.new ≡ mixed_upto (M.mixed mix.now) (length src.now) src.now old }
 {
     for i in from..src.len() {
         dst[i] = mix.one(src[i], dst[i]);
@@ -90,7 +92,8 @@ fn change_groups<C: Change>(change: &C, row: &mut [Pixel], count: usize)
 #[inline(always)]
 fn change_rest<C: Change>(change: &C, row: &mut [Pixel], from: usize)
     requires { from ≤ length row.old }
-    ensures { (old : List Colour) → row.old ≡ changed_upto (C.changed change.now) from old → row.new ≡ changed_upto (C.changed change.now) (length old) old }
+    ensures { (old : List Colour) → row.old ≡ changed_upto (C.changed change.now) from old
+        → row.new ≡ changed_upto (C.changed change.now) (length old) old }
 {
     for i in from..row.len() {
         row[i] = change.one(row[i]);

@@ -8,14 +8,15 @@ use Rattle.vz_geom.specs.Rectangle.{Rectangle, has, points_of, sized, area_of}
 use Rattle.vz_geom.proofs.Sets.{IsIn, to_in, of_in, lt_true}
 use Rattle.vz_geom.proofs.Numbers.{given, stays}
 use Rattle.vz_pixels.specs.Colour.{Colour}
-use Rattle.vz_buffers.specs.Canvas.{IsCanvasSize, pixel_count, place_of, span_put}
+use Rattle.vz_buffers.specs.Canvas.{pixel_count, pixel_place, span_put}
+use Rattle.vz_geom.specs.Display.{IsDisplaySize}
 use Rattle.vz_rules.specs.Frames.{patched}
 use Rattle.vz_machine.specs.Pictured.{IsInside, row_of, first_rows}
 use Rattle.vz_machine.proofs.Points.{length_points, patched_none, patched_twice, length_patched}
 use Rattle.vz_machine.proofs.Spans.{same_tests, row_painted}
 
 -- a number of a display is given as it is
-pub column_given : (size : Size) (area : Rectangle) (x : ℤ) → IsCanvasSize size → IsInside (sized size) area → x ≡ area.x → given x ≡ area.x
+pub column_given : (size : Size) (area : Rectangle) (x : ℤ) → IsDisplaySize size → IsInside (sized size) area → x ≡ area.x → given x ≡ area.x
 column_given size area x sides inside is =
     let left = inside.left in
     let right = inside.right in
@@ -23,7 +24,7 @@ column_given size area x sides inside is =
     let most = sides.not_too_wide in
     stays x (omega (arith, ints, is, left)) (omega (arith, ints, is, right, wide, most)) ∙ is
 
-pub line_given : (size : Size) (area : Rectangle) (below : ℕ) (y : ℤ) → IsCanvasSize size → IsInside (sized size) area → below < nat_abs area.h → y ≡ area.y +ℤ pos below → given y ≡ area.y +ℤ pos below
+pub line_given : (size : Size) (area : Rectangle) (below : ℕ) (y : ℤ) → IsDisplaySize size → IsInside (sized size) area → below < nat_abs area.h → y ≡ area.y +ℤ pos below → given y ≡ area.y +ℤ pos below
 line_given size area below y sides inside low is =
     let top = inside.top in
     let bottom = inside.bottom in
@@ -32,13 +33,13 @@ line_given size area below y sides inside low is =
     stays y (omega (arith, ints, is, top)) (omega (arith, ints, is, bottom, high, most, low)) ∙ is
 
 -- where a row begins
-pub from_is : (size : Size) (area : Rectangle) (below : ℕ) (x y : ℤ) (from : ℕ) → IsCanvasSize size → IsInside (sized size) area → below < nat_abs area.h → x ≡ area.x → y ≡ area.y +ℤ pos below
-    → from ≡ place_of size (given x) (given y) → from ≡ place_of size area.x (area.y +ℤ pos below)
+pub from_is : (size : Size) (area : Rectangle) (below : ℕ) (x y : ℤ) (from : ℕ) → IsDisplaySize size → IsInside (sized size) area → below < nat_abs area.h → x ≡ area.x → y ≡ area.y +ℤ pos below
+    → from ≡ pixel_place size (given x) (given y) → from ≡ pixel_place size area.x (area.y +ℤ pos below)
 from_is size area below x y from sides inside low x_is y_is is =
-    is ∙ (ap (λ z. place_of size z (given y)) (column_given size area x sides inside x_is) ∙ ap (λ z. place_of size area.x z) (line_given size area below y sides inside low y_is))
+    is ∙ (ap (λ z. pixel_place size z (given y)) (column_given size area x sides inside x_is) ∙ ap (λ z. pixel_place size area.x z) (line_given size area below y sides inside low y_is))
 
 -- a row of an area fits into the buffer
-pub row_fits : (size canvas : Size) (area : Rectangle) (x : ℤ) (n : ℕ) → IsCanvasSize size → IsInside (sized size) area → x ≡ area.x → n ≡ nat_abs area.w → canvas ≡ size
+pub row_fits : (size canvas : Size) (area : Rectangle) (x : ℤ) (n : ℕ) → IsDisplaySize size → IsInside (sized size) area → x ≡ area.x → n ≡ nat_abs area.w → canvas ≡ size
     → (given x +ℤ pos n) ≤ℤ canvas.w
 row_fits size canvas area x n sides inside x_is n_is same =
     let right = inside.right in
@@ -143,15 +144,15 @@ count_end area old start k wide high is so_far =
     so_far ∙ ap (λ n. start + n) (ap (λ n. n * nat_abs area.w) is ∙ (mul_comm (nat_abs area.h) (nat_abs area.w) ∙ sym (unsigned_abs-mul area.w area.h)))
 
 -- a row is put
-pub row_put : (size canvas : Size) (area : Rectangle) (below : ℕ) (x y : ℤ) (from count : ℕ) (news olds row after : List Colour) → IsCanvasSize size → IsInside (sized size) area → below < nat_abs area.h
-    → length news ≡ pixel_count size → length olds ≡ pixel_count size → canvas ≡ size → x ≡ area.x → y ≡ area.y +ℤ pos below → from ≡ place_of size area.x (area.y +ℤ pos below) → count ≡ nat_abs area.w
-    → row ≡ take count (drop from news) → after ≡ span_put olds (place_of canvas (given x) (given y)) row
+pub row_put : (size canvas : Size) (area : Rectangle) (below : ℕ) (x y : ℤ) (from count : ℕ) (news olds row after : List Colour) → IsDisplaySize size → IsInside (sized size) area → below < nat_abs area.h
+    → length news ≡ pixel_count size → length olds ≡ pixel_count size → canvas ≡ size → x ≡ area.x → y ≡ area.y +ℤ pos below → from ≡ pixel_place size area.x (area.y +ℤ pos below) → count ≡ nat_abs area.w
+    → row ≡ take count (drop from news) → after ≡ span_put olds (pixel_place canvas (given x) (given y)) row
     → after ≡ patched (row_of area below) (points_of size) news olds
 row_put size canvas area below x y from count news olds row after sides inside low all old_all same x_is y_is from_at counted row_is put =
-    let at_place : place_of canvas (given x) (given y) ≡ place_of size area.x (area.y +ℤ pos below) =
-    ap (λ s. place_of s (given x) (given y)) same ∙ (ap (λ z. place_of size z (given y)) (column_given size area x sides inside x_is)
-    ∙ ap (λ z. place_of size area.x z) (line_given size area below y sides inside low y_is)) in
-    let row_at : row ≡ take (nat_abs area.w) (drop (place_of size area.x (area.y +ℤ pos below)) news) =
+    let at_place : pixel_place canvas (given x) (given y) ≡ pixel_place size area.x (area.y +ℤ pos below) =
+    ap (λ s. pixel_place s (given x) (given y)) same ∙ (ap (λ z. pixel_place size z (given y)) (column_given size area x sides inside x_is)
+    ∙ ap (λ z. pixel_place size area.x z) (line_given size area below y sides inside low y_is)) in
+    let row_at : row ≡ take (nat_abs area.w) (drop (pixel_place size area.x (area.y +ℤ pos below)) news) =
     row_is ∙ (ap (λ n. take n (drop from news)) counted ∙ ap (λ n. take (nat_abs area.w) (drop n news)) from_at) in
-    put ∙ (ap (λ n. span_put olds n row) at_place ∙ (ap (span_put olds (place_of size area.x (area.y +ℤ pos below))) row_at
+    put ∙ (ap (λ n. span_put olds n row) at_place ∙ (ap (span_put olds (pixel_place size area.x (area.y +ℤ pos below))) row_at
     ∙ row_painted size area below news olds sides inside low all old_all))

@@ -10,7 +10,8 @@ use Rattle.vz_geom.specs.declared.Size.{Size}
 use Rattle.vz_geom.specs.Rectangle.{Rectangle, has, points_of, sized}
 use Rattle.vz_geom.proofs.Sets.{to_in, of_in, both, and_true}
 use Rattle.vz_pixels.specs.Colour.{Colour, black}
-use Rattle.vz_buffers.specs.Canvas.{IsCanvasSize, pixel_count, place_of, span_put}
+use Rattle.vz_buffers.specs.Canvas.{pixel_count, pixel_place, span_put}
+use Rattle.vz_geom.specs.Display.{IsDisplaySize}
 use Rattle.vz_rules.specs.Frames.{patched}
 use Rattle.vz_machine.specs.Pictured.{IsInside, row_of}
 use Rattle.vz_machine.proofs.Points.{point, points_at, length_points, patched_at, length_patched}
@@ -197,8 +198,8 @@ row_length news a n fits =
     let left : length (drop a news) ≡ length news - a = length-drop a news in length-take-le n (drop a news) (omega (arith, left))
 
 -- a row of an area stands inside the pixels
-pub place_fits : (size : Size) (area : Rectangle) (below : ℕ) (news : List Colour) → IsCanvasSize size → IsInside (sized size) area → below < nat_abs area.h → length news ≡ pixel_count size
-    → place_of size area.x (area.y +ℤ pos below) + nat_abs area.w ≤ length news
+pub place_fits : (size : Size) (area : Rectangle) (below : ℕ) (news : List Colour) → IsDisplaySize size → IsInside (sized size) area → below < nat_abs area.h → length news ≡ pixel_count size
+    → pixel_place size area.x (area.y +ℤ pos below) + nat_abs area.w ≤ length news
 place_fits size area below news sides inside low all =
     let left = inside.left in
     let top = inside.top in
@@ -214,9 +215,9 @@ place_fits size area below news sides inside low all =
     omega (arith, rows, one, across, all, turned)
 
 -- the row of an area that is put is patched
-pub row_painted : (size : Size) (area : Rectangle) (below : ℕ) (news olds : List Colour) → IsCanvasSize size → IsInside (sized size) area → below < nat_abs area.h
+pub row_painted : (size : Size) (area : Rectangle) (below : ℕ) (news olds : List Colour) → IsDisplaySize size → IsInside (sized size) area → below < nat_abs area.h
     → length news ≡ pixel_count size → length olds ≡ pixel_count size
-    → span_put olds (place_of size area.x (area.y +ℤ pos below)) (take (nat_abs area.w) (drop (place_of size area.x (area.y +ℤ pos below)) news))
+    → span_put olds (pixel_place size area.x (area.y +ℤ pos below)) (take (nat_abs area.w) (drop (pixel_place size area.x (area.y +ℤ pos below)) news))
     ≡ patched (row_of area below) (points_of size) news olds
 unfolding span_put
 row_painted size area below news olds sides inside low all old_all =
@@ -232,10 +233,10 @@ row_painted size area below news olds sides inside low all old_all =
     let y_is : pos (nat_abs y) ≡ y = pos_of y (omega (arith, ints, top)) in
     let w_is : pos (nat_abs area.w) ≡ area.w = pos_of area.w (omega (arith, ints, some)) in
     let rows : nat_abs size.h * nat_abs size.w ≡ pixel_count size = mul_comm (nat_abs size.h) (nat_abs size.w) in
-    let row : List Colour = take (nat_abs area.w) (drop (place_of size area.x y) news) in
+    let row : List Colour = take (nat_abs area.w) (drop (pixel_place size area.x y) news) in
     let there = place_fits size area below news sides inside low all in
-    let long : length row ≡ nat_abs area.w = row_length news (place_of size area.x y) (nat_abs area.w) there in
-    ap (λ n. take (place_of size area.x y) olds ++ row ++ drop (place_of size area.x y + n) olds) long
+    let long : length row ≡ nat_abs area.w = row_length news (pixel_place size area.x y) (nat_abs area.w) there in
+    ap (λ n. take (pixel_place size area.x y) olds ++ row ++ drop (pixel_place size area.x y + n) olds) long
     ∙ (span_is_patch size (nat_abs area.x) (nat_abs y) (nat_abs area.w) news olds (omega (arith, ints, wide)) (omega (arith, ints, left, right, some)) (omega (arith, ints, top, bottom, low, tall)) (all ∙ sym rows) (old_all ∙ sym rows)
     ∙ (ap (λ z. patched (record { x = z; y = pos (nat_abs y); w = pos (nat_abs area.w); h = pos 1 }) (points_of size) news olds) x_is
     ∙ (ap (λ z. patched (record { x = area.x; y = z; w = pos (nat_abs area.w); h = pos 1 }) (points_of size) news olds) y_is

@@ -9,17 +9,18 @@ use Rattle.vz_geom.specs.declared.Size.{Size}
 use Rattle.vz_geom.specs.Rectangle.{Rectangle, IsRectangle, Covers, has, points_of, sized, area_of, is_empty_rect, no_rectangle, with_sides}
 use Rattle.vz_geom.proofs.Bounds.{in_is_full, of_full, inside_of}
 use Rattle.vz_pixels.specs.Colour.{Colour, black}
-use Rattle.vz_buffers.specs.Canvas.{IsCanvasSize, pixel_count, place_of}
+use Rattle.vz_buffers.specs.Canvas.{pixel_count, pixel_place}
+use Rattle.vz_geom.specs.Display.{IsDisplaySize}
 use Rattle.vz_rules.specs.Frames.{patched}
 use Rattle.vz_machine.specs.Pictured.{Pixelled, IsPixelled, IsInside, colours_in, picture_with}
 use Rattle.vz_machine.proofs.Points.{point, points_at, length_points, map_at, patched_none}
 use Rattle.vz_machine.proofs.Spans.{place_is}
 
 colour_of : Size → List Colour → Point → Colour
-colour_of size pixels q = get_or pixels (place_of size q.x q.y) black
+colour_of size pixels q = get_or pixels (pixel_place size q.x q.y) black
 
 -- the colours of all points are the pixels
-pub colours_of_pixels : (size : Size) (pixels : List Colour) → IsCanvasSize size → length pixels ≡ pixel_count size → map (λ (q : Point). get_or pixels (place_of size q.x q.y) black) (points_of size) ≡ pixels
+pub colours_of_pixels : (size : Size) (pixels : List Colour) → IsDisplaySize size → length pixels ≡ pixel_count size → map (λ (q : Point). get_or pixels (pixel_place size q.x q.y) black) (points_of size) ≡ pixels
 unfolding colour_of
 colours_of_pixels size pixels sides all =
     ext_get_or black (map (colour_of size pixels) (points_of size)) pixels (length-map (points_of size) (colour_of size pixels) ∙ (length_points size ∙ (mul_comm (nat_abs size.h) (nat_abs size.w) ∙ sym all))) same_at

@@ -4,7 +4,8 @@ use Rattle.vz_geom.specs.declared.Point.{Point}
 use Rattle.vz_geom.specs.declared.Size.{Size}
 use Rattle.vz_geom.specs.Rectangle.{Rectangle, Covers, sized, points_of}
 use Rattle.vz_pixels.specs.Colour.{Colour, black}
-use Rattle.vz_buffers.specs.Canvas.{IsCanvasSize, pixel_count, place_of}
+use Rattle.vz_buffers.specs.Canvas.{pixel_count, pixel_place}
+use Rattle.vz_geom.specs.Display.{IsDisplaySize}
 
 -- a picture: its size, the colour at each point, and the rectangle that changed since the last one
 pub record Pictured : Type 0 where
@@ -14,7 +15,7 @@ pub record Pictured : Type 0 where
 
 -- a picture is of a display, and what changed is on it
 pub record IsPictured (p : Pictured) : Type 0 where
-  pub sides : IsCanvasSize p.size
+  pub sides : IsDisplaySize p.size
   pub inside : Covers (sized p.size) p.changed
 
 -- the colours of all points, row by row
@@ -29,14 +30,14 @@ pub record Pixelled : Type 0 where
 
 -- a pixel for each point of a display
 pub record IsPixelled (p : Pixelled) : Type 0 where
-  pub sides : IsCanvasSize p.size
+  pub sides : IsDisplaySize p.size
   pub all : length p.pixels ≡ pixel_count p.size
   pub inside : Covers (sized p.size) p.changed
 
 -- the picture of these pixels
 abbrev pub picture_with : Pixelled → Pictured
 picture_with p =
-    record { size = p.size; colour = λ q. get_or p.pixels (place_of p.size q.x q.y) black; changed = p.changed }
+    record { size = p.size; colour = λ q. get_or p.pixels (pixel_place p.size q.x q.y) black; changed = p.changed }
 
 -- the row of an area that is so many rows below its first one
 abbrev pub row_of : Rectangle → ℕ → Rectangle

@@ -28,7 +28,7 @@ pub trait Machine {
     ghost state: { Self → State };
 
     /// The picture of a drawing.
-    type Image: Picture;
+    type FrameData: Picture;
 
     /// Takes the next message of a client. Condition: the plan has that client.
     fn client(&mut self, alloc: Global, c: u32) -> Result<Step, Memory>
@@ -45,10 +45,10 @@ pub trait Machine {
 
     /// Draws the active surfaces. There is a picture exactly where the answer is Drawn: it has the
     /// plan's size, the colours of what was to be seen and the damage of the answer.
-    fn draw(&mut self, alloc: Global) -> Result<(Step, Option<Self::Image>), Memory>
+    fn draw(&mut self, alloc: Global) -> Result<(Step, Option<Self::FrameData>), Memory>
         ensures answer { IfOk result (λ d. Answers (state self.old) Draw d.0) }
         ensures picture { IfOk result (λ d. ShowsDrawn (state self.old) d.0.reply
-            (option_map Self.Image.pictured d.1)) }
+            (option_map Self.FrameData.pictured d.1)) }
         ensures world { OnOk result (Goes (state self.old) Draw (state self.new)) }
         ensures err { OnErr result (state self.new ≡ state self.old) };
 

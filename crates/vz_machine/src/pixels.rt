@@ -3,7 +3,8 @@ ghost use Rattle.std.specs.Prelude.{◌≡◌, ◌+◌, ◌<◌, ◌≤◌, ◌�
 ghost use Rattle.vz_base.specs.declared.limits.TheConstants.{GREATEST_DISPLAY_SIDE};
 ghost use Rattle.vz_geom.specs.Rectangle.{Covers, sized, points_of, area_of};
 ghost use Rattle.vz_rules.specs.Frames.{patched};
-ghost use Rattle.vz_buffers.specs.Canvas.{IsCanvas, IsCanvasSize, pixel_count, place_of};
+ghost use Rattle.vz_buffers.specs.Canvas.{IsCanvas, pixel_count, pixel_place};
+ghost use Rattle.vz_geom.specs.Display.{IsDisplaySize};
 ghost use Rattle.vz_machine.specs.Pictured.{IsInside, row_of};
 
 use crate::Picture;
@@ -41,7 +42,7 @@ impl PixelPicture {
     /// The picture of these pixels. Conditions: a display's size, a pixel for each point, and
     /// what changed is on the display.
     pub fn new(size: Size, pixels: Vec<Pixel>, damage: Rect) -> PixelPicture
-        requires size { IsCanvasSize size }
+        requires size { IsDisplaySize size }
         requires all { length pixels.items ≡ pixel_count size }
         requires inside { Covers (sized size) damage }
         ensures { result ≡ record { size = size; pixels = pixels.items; changed = damage } }
@@ -88,7 +89,7 @@ fn paint_area<L: Ledger>(
     buffer: &mut Buffer,
     steps: &mut Steps<L>,
 )
-    requires sides { IsCanvasSize size.now }
+    requires sides { IsDisplaySize size.now }
     requires all { length pixels.now ≡ pixel_count size.now }
     requires canvas { length buffer.old.pixels ≡ pixel_count size.now }
     requires same { buffer.old.size ≡ size.now }
@@ -112,7 +113,7 @@ fn paint_rows<L: Ledger>(
     buffer: &mut Buffer,
     steps: &mut Steps<L>,
 )
-    requires sides { IsCanvasSize size.now }
+    requires sides { IsDisplaySize size.now }
     requires all { length pixels.now ≡ pixel_count size.now }
     requires canvas { length buffer.old.pixels ≡ pixel_count size.now }
     requires same { buffer.old.size ≡ size.now }
@@ -136,7 +137,7 @@ fn paint_row<L: Ledger>(
     buffer: &mut Buffer,
     steps: &mut Steps<L>,
 )
-    requires sides { IsCanvasSize size.now }
+    requires sides { IsDisplaySize size.now }
     requires all { length pixels.now ≡ pixel_count size.now }
     requires canvas { length buffer.old.pixels ≡ pixel_count size.now }
     requires same { buffer.old.size ≡ size.now }
@@ -189,12 +190,12 @@ fn row_below(area: &Rect, below: u32) -> i32
 
 /// Where the pixel of a column and a row stands.
 fn place(size: &Size, x: i32, y: i32) -> usize
-    requires sides { IsCanvasSize size.now }
+    requires sides { IsDisplaySize size.now }
     requires left { pos 0 ≤ℤ x }
     requires right { x ≤ℤ size.now.w }
     requires top { pos 0 ≤ℤ y }
     requires bottom { y <ℤ size.now.h }
-    ensures value { result ≡ place_of size.now x y }
+    ensures value { result ≡ pixel_place size.now x y }
 {
     y.unsigned_abs() as usize * size.w.unsigned_abs() as usize + x.unsigned_abs() as usize
 }

@@ -9,8 +9,6 @@ mod opening;
 mod real;
 mod shelf;
 mod sink;
-#[cfg(test)]
-mod tests;
 mod transfer;
 
 pub use gate::{Gate, OpenGate};

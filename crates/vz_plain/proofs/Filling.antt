@@ -9,7 +9,7 @@ use Rattle.vz_geom.specs.Rectangle.{row_points, rows_points, points_of, has, siz
 use Rattle.vz_ids.specs.declared.SurfaceId.{SurfaceId}
 use Rattle.vz_frame.specs.Frame.{frame_size}
 use Rattle.vz_pixels.specs.Colour.{Colour, black}
-use Rattle.vz_rules.specs.World.{Image, image_on}
+use Rattle.vz_rules.specs.World.{FrameData, frame_on}
 use Rattle.vz_rules.specs.Scene.{scene_at}
 use Rattle.vz_rules.specs.Paint.{full, picture, pix, levels}
 use Rattle.vz_rules.specs.Frames.{picture_of}
@@ -52,21 +52,21 @@ rows_more f h w y xs zs ys l e filled =
     ∙ (ap (λ s. xs ++ s) (sym (map-append f (row_points w (pos 0) (pos y)) (rows_points (h - (y + 1)) w (pos (y + 1)))))
     ∙ (ap (λ ps. xs ++ map f ps) (sym (rows_next h w y l)) ∙ filled)))
 
--- what is shown of a root, by the image on it
-abbrev seen : List Image → SurfaceId → Point → Option Image → Colour
-seen images root p None = black
-seen images root p (Some i) = elim (has (sized (frame_size i.frame)) p) [ true ↦ pix levels images [] i p black | false ↦ black ]
+-- what is shown of a root, by the frame on it
+abbrev seen : List FrameData → SurfaceId → Point → Option FrameData → Colour
+seen active root p None = black
+seen active root p (Some i) = elim (has (sized (frame_size i.frame)) p) [ true ↦ pix levels active [] i p black | false ↦ black ]
 
-of_image : (size : Size) (images : List Image) (root : SurfaceId) (o : Option Image) → image_on root images ≡ o
-    → map (full (record { root = root; images = images })) (points_of size)
-    ≡ picture_of size (elim o [ Some i ↦ Some (record { root = root; images = images }) | None ↦ None ])
+of_frame : (size : Size) (active : List FrameData) (root : SurfaceId) (o : Option FrameData) → frame_on root active ≡ o
+    → map (full (record { root = root; active = active })) (points_of size)
+    ≡ picture_of size (elim o [ Some i ↦ Some (record { root = root; active = active }) | None ↦ None ])
 unfolding full picture picture_of
-of_image size images root (Some i) e = refl
-of_image size images root None e = ap (λ o. map (λ p. seen images root p o) (points_of size)) e
+of_frame size active root (Some i) e = refl
+of_frame size active root None e = ap (λ o. map (λ p. seen active root p o) (points_of size)) e
 
 -- the colours of all points are the picture
-pub picture_is : (size : Size) (images : List Image) (root : Option SurfaceId)
-    → map (colour_of images root) (points_of size) ≡ picture_of size (option_and_then (λ (r : SurfaceId). scene_at r images) root)
+pub picture_is : (size : Size) (active : List FrameData) (root : Option SurfaceId)
+    → map (colour_of active root) (points_of size) ≡ picture_of size (option_and_then (λ (r : SurfaceId). scene_at r active) root)
 unfolding picture_of
-picture_is size images None = refl
-picture_is size images (Some r) = of_image size images r (image_on r images) refl
+picture_is size active None = refl
+picture_is size active (Some r) = of_frame size active r (frame_on r active) refl

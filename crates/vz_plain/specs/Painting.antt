@@ -6,41 +6,41 @@ use Rattle.vz_frame.specs.declared.frame.DrawQuad.{DrawQuad}
 use Rattle.vz_frame.specs.declared.frame.RenderPass.{RenderPass}
 use Rattle.vz_geom.specs.declared.Point.{Point}
 use Rattle.vz_pixels.specs.Colour.{Colour}
-use Rattle.vz_rules.specs.World.{Image}
+use Rattle.vz_rules.specs.World.{FrameData}
 use Rattle.vz_rules.specs.Paint.{Named, Embedding, Content, groups, embeds, pix}
 use Rattle.vz_rules.specs.Paint.{material_painted, pass_painted, group_laid, content_at}
 
--- a painter in the frame of an image, behind the surfaces of a path and with so many surfaces left
+-- a painter in the frame of a frame, behind the surfaces of a path and with so many surfaces left
 pub record Painter : Type 0 where
-  pub images : List Image
+  pub active : List FrameData
   pub levels : ℕ
   pub path : List SurfaceId
-  pub image : Image
+  pub submitted : FrameData
 
 -- what a surface leaves that is embedded here
 abbrev pub embedded : Painter → Content
-embedded p = pix p.levels p.images
+embedded p = pix p.levels p.active
 
 -- what a range does here
 abbrev pub ranges : Painter → Embedding
-ranges p = embeds (embedded p) p.images p.path
+ranges p = embeds (embedded p) p.active p.path
 
 -- what these passes do by their ids
 abbrev pub passes_in : Painter → List RenderPass → Named
-passes_in p passes = groups p.image (ranges p) (reverse passes)
+passes_in p passes = groups p.submitted (ranges p) (reverse passes)
 
 -- what a quad that covers a point does here, over these passes
 abbrev pub quad_here : Painter → List RenderPass → DrawQuad → Point → Colour → Colour
-quad_here p earlier quad = material_painted p.image (passes_in p earlier) (ranges p) quad
+quad_here p earlier quad = material_painted p.submitted (passes_in p earlier) (ranges p) quad
 
 -- what a pass does here, over these
 abbrev pub pass_here : Painter → List RenderPass → RenderPass → Point → Colour → Colour
-pass_here p earlier pass = pass_painted p.image (passes_in p earlier) (ranges p) pass
+pass_here p earlier pass = pass_painted p.submitted (passes_in p earlier) (ranges p) pass
 
 -- what a pass does here as a group, over these
 abbrev pub group_here : Painter → List RenderPass → RenderPass → Blend → ℕ → Point → Colour → Colour
-group_here p earlier pass = group_laid p.image (passes_in p earlier) (ranges p) pass
+group_here p earlier pass = group_laid p.submitted (passes_in p earlier) (ranges p) pass
 
 -- what the content of a shown surface does here, over a background
-abbrev pub content_here : Painter → Colour → Image → Point → Colour → Colour
+abbrev pub content_here : Painter → Colour → FrameData → Point → Colour → Colour
 content_here p background i = content_at (embedded p) p.path background i

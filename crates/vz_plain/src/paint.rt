@@ -20,16 +20,16 @@ use vz_ids::{SurfaceId, SurfaceRange};
 use vz_pixels::Pixel;
 use vz_scene::SubmittedFrame;
 use vz_scene::frame::root_pass;
-use vz_scene::scene::{image_on, shown_image};
+use vz_scene::scene::{frame_on, shown_frame};
 
-/// A painter in the frame of an image, behind the surfaces of a path and with so many
+/// A painter in the frame of a frame, behind the surfaces of a path and with so many
 /// surfaces left.
 #[derive(Drop)]
 struct Painter<'b, 'a> {
-    images: &'b [SubmittedFrame<'a>],
+    active: &'b [SubmittedFrame<'a>],
     levels: u32,
     path: &'b Path<'b>,
-    image: &'b SubmittedFrame<'a>,
+    submitted: &'b SubmittedFrame<'a>,
 }
 
 impl<'b, 'a> Model for Painter<'b, 'a> {
@@ -38,14 +38,19 @@ impl<'b, 'a> Model for Painter<'b, 'a> {
 
     ghost Value = { Stand };
 
-    ghost view = { λ p. record { images = p.images.now; levels = p.levels; path = ids p.path.now; image = p.image.now } };
+    ghost view = { λ p. record {
+      active = p.active.now;
+      levels = p.levels;
+      path = ids p.path.now;
+      submitted = p.submitted.now;
+    } };
 }
 
-/// Whether a point is inside the size of an image's frame.
-fn is_inside(image: &SubmittedFrame<'_>, point: Point) -> bool
-    ensures { result ≡ has (sized (frame_size image.now.frame)) point }
+/// Whether a point is inside the size of a submitted frame.
+fn is_inside(submitted: &SubmittedFrame<'_>, point: Point) -> bool
+    ensures { result ≡ has (sized (frame_size submitted.now.frame)) point }
 {
-    match root_pass(image.frame()) {
+    match root_pass(submitted.frame()) {
         None => false,
         Some(root) => {
             (0 <= point.x && point.x < root.output.w())
@@ -56,10 +61,10 @@ fn is_inside(image: &SubmittedFrame<'_>, point: Point) -> bool
 
 /// Whether the content is absent: outside the size of the range's end.
 #[tactic(auto, unfolding(vz_rules::specs::Paint::is_absent))]
-fn is_absent(range: &SurfaceRange, image: &SubmittedFrame<'_>, point: Point) -> bool
-    ensures { result ≡ is_absent range.now image.now point }
+fn is_absent(range: &SurfaceRange, submitted: &SubmittedFrame<'_>, point: Point) -> bool
+    ensures { result ≡ is_absent range.now submitted.now point }
 {
-    !is_inside(image, point) && image.id() == range.end
+    !is_inside(submitted, point) && submitted.id() == range.end
 }
 
 /// Whether a colour is laid as it is: over another, at the full opacity.
@@ -104,29 +109,29 @@ fn point_of(pass: &RenderPass, quad: &DrawQuad, point: Point) -> Option<Point>
 #[tactic(auto, unfolding(vz_rules::specs::Paint::pix, vz_rules::specs::Paint::root_painted))]
 #[cycle(paint)]
 pub fn pix<'a>(
-    images: &[SubmittedFrame<'a>],
+    active: &[SubmittedFrame<'a>],
     levels: u32,
     path: &Path<'_>,
-    image: &SubmittedFrame<'a>,
+    submitted: &SubmittedFrame<'a>,
     point: Point,
     under: Pixel,
 ) -> Pixel
-    ensures { result ≡ pix levels images.now (ids path.now) image.now point under }
+    ensures { result ≡ pix levels active.now (ids path.now) submitted.now point under }
 {
     if levels == 0 {
         return under;
     }
     let behind = Path::Behind {
-        id: image.id(),
+        id: submitted.id(),
         before: &*path,
     };
     let painter = Painter {
-        images: &*images,
+        active: &*active,
         levels: levels - 1,
         path: &behind,
-        image: &*image,
+        submitted: &*submitted,
     };
-    match image.frame().passes.as_slice().split_last() {
+    match submitted.frame().passes.as_slice().split_last() {
         None => under,
         Some((root, earlier)) => painter.pass(earlier, root, point, under),
     }
@@ -190,7 +195,7 @@ impl<'b, 'a> Painter<'b, 'a> {
         match quad.material {
             Material::Solid(colour) => laid(quad.blend, colour, quad.opacity, under),
             Material::Tile { resource, tx, ty } => {
-                let colour = tile_colour(self.image, resource, tx, ty, local);
+                let colour = tile_colour(self.submitted, resource, tx, ty, local);
                 laid(quad.blend, colour, quad.opacity, under)
             }
             Material::Surface { range, background } => {
@@ -267,13 +272,13 @@ impl<'b, 'a> Painter<'b, 'a> {
     ) -> Pixel
         ensures { result ≡ ranges self.now range.now background mode opacity local under }
     {
-        match shown_image(self.images, range) {
+        match shown_frame(self.active, range) {
             None => laid(mode, background, opacity, under),
-            Some(image) => {
-                if self.path.has(&image.id()) || is_absent(range, image, local) {
+            Some(submitted) => {
+                if self.path.has(&submitted.id()) || is_absent(range, submitted, local) {
                     under
                 } else {
-                    self.shown(image, background, mode, opacity, local, under)
+                    self.shown(submitted, background, mode, opacity, local, under)
                 }
             }
         }
@@ -284,7 +289,7 @@ impl<'b, 'a> Painter<'b, 'a> {
     #[cycle(paint)]
     fn shown(
         &self,
-        image: &SubmittedFrame<'a>,
+        submitted: &SubmittedFrame<'a>,
         background: Pixel,
         mode: Blend,
         opacity: u8,
@@ -292,12 +297,12 @@ impl<'b, 'a> Painter<'b, 'a> {
         under: Pixel,
     ) -> Pixel
         ensures { result
-            ≡ content_laid (content_here self.now background image.now local) mode opacity under }
+            ≡ content_laid (content_here self.now background submitted.now local) mode opacity under }
     {
         if is_straight(mode, opacity) {
-            self.content(image, background, local, under)
+            self.content(submitted, background, local, under)
         } else {
-            let colour = self.content(image, background, local, Pixel::transparent());
+            let colour = self.content(submitted, background, local, Pixel::transparent());
             laid(mode, colour, opacity, under)
         }
     }
@@ -308,15 +313,15 @@ impl<'b, 'a> Painter<'b, 'a> {
     #[cycle(paint)]
     fn content(
         &self,
-        image: &SubmittedFrame<'a>,
+        submitted: &SubmittedFrame<'a>,
         background: Pixel,
         local: Point,
         under: Pixel,
     ) -> Pixel
-        ensures { result ≡ content_here self.now background image.now local under }
+        ensures { result ≡ content_here self.now background submitted.now local under }
     {
-        if is_inside(image, local) {
-            pix(self.images, self.levels, self.path, image, local, under)
+        if is_inside(submitted, local) {
+            pix(self.active, self.levels, self.path, submitted, local, under)
         } else {
             background.over(under)
         }
@@ -325,14 +330,14 @@ impl<'b, 'a> Painter<'b, 'a> {
 
 /// The colour at a point of the display, black where nothing can be seen.
 #[tactic(auto, unfolding(vz_rules::specs::Paint::full, vz_rules::specs::Paint::levels))]
-pub fn full(images: &[SubmittedFrame<'_>], root: &SurfaceId, point: Point) -> Pixel
-    ensures { result ≡ full (record { root = root.now; images = images.now }) point }
+pub fn full(active: &[SubmittedFrame<'_>], root: &SurfaceId, point: Point) -> Pixel
+    ensures { result ≡ full (record { root = root.now; active = active.now }) point }
 {
-    match image_on(images, root) {
+    match frame_on(active, root) {
         None => Pixel::black(),
-        Some(image) => {
-            if is_inside(image, point) {
-                pix(images, 65, &Path::Start, image, point, Pixel::black())
+        Some(submitted) => {
+            if is_inside(submitted, point) {
+                pix(active, 65, &Path::Start, submitted, point, Pixel::black())
             } else {
                 Pixel::black()
             }

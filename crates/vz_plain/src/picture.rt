@@ -5,7 +5,7 @@ ghost use Rattle.vz_geom.specs.Rectangle.{row_points, points_of};
 ghost use Rattle.vz_ids.specs.declared.SurfaceId.{SurfaceId as Root};
 ghost use Rattle.vz_rules.specs.Scene.{scene_at};
 ghost use Rattle.vz_rules.specs.Frames.{picture_of};
-ghost use Rattle.vz_rules.specs.Plan.{IsDisplaySize};
+ghost use Rattle.vz_geom.specs.Display.{IsDisplaySize};
 ghost use Rattle.vz_plain.specs.Shown.{colour_of};
 
 use crate::paint::full;
@@ -28,19 +28,19 @@ fn point_at(x: u32, y: u32) -> Point
 }
 
 /// The colour at a point of the display, black where there is no root.
-fn colour_at(images: &[SubmittedFrame<'_>], root: &Option<SurfaceId>, p: Point) -> Pixel
-    ensures { result ≡ colour_of images.now root.now p }
+fn colour_at(active: &[SubmittedFrame<'_>], root: &Option<SurfaceId>, p: Point) -> Pixel
+    ensures { result ≡ colour_of active.now root.now p }
 {
     match root {
         None => Pixel::black(),
-        Some(id) => full(images, id, p),
+        Some(id) => full(active, id, p),
     }
 }
 
 /// The colours of a row are put behind others, from the first column on. Condition: it is a
 /// row of a display.
 pub fn row(
-    images: &[SubmittedFrame<'_>],
+    active: &[SubmittedFrame<'_>],
     root: &Option<SurfaceId>,
     w: u32,
     y: u32,
@@ -49,10 +49,10 @@ pub fn row(
     requires across { w ≤ 2048 }
     requires down { y ≤ 2048 }
     ensures { OnOk result (into.new.items
-        ≡ into.old.items ++ map (colour_of images.now root.now) (row_points w (pos 0) (pos y))) }
+        ≡ into.old.items ++ map (colour_of active.now root.now) (row_points w (pos 0) (pos y))) }
 {
     for x in 0..w {
-        into.push(colour_at(images, root, point_at(x, y)))?;
+        into.push(colour_at(active, root, point_at(x, y)))?;
     }
     Ok(())
 }
@@ -61,33 +61,33 @@ pub fn row(
 #[tactic(auto, unfolding(vz_geom::specs::Rectangle::points_of))]
 fn rows(
     alloc: Global,
-    images: &[SubmittedFrame<'_>],
+    active: &[SubmittedFrame<'_>],
     root: &Option<SurfaceId>,
     size: Size,
 ) -> Result<Vec<Pixel>, AllocError>
     requires { IsDisplaySize size }
-    ensures { IfOk result (λ v. v.items ≡ map (colour_of images.now root.now) (points_of size)) }
+    ensures { IfOk result (λ v. v.items ≡ map (colour_of active.now root.now) (points_of size)) }
 {
     let w = size.w.unsigned_abs();
     let h = size.h.unsigned_abs();
     let mut colours = Vec::new(alloc);
     for y in 0..h {
-        row(images, root, w, y, &mut colours)?;
+        row(active, root, w, y, &mut colours)?;
     }
     Ok(colours)
 }
 
-/// The picture of what can be seen of active images and a root, all black where nothing can
+/// The picture of what can be seen of active frames and a root, all black where nothing can
 /// be. Condition: the size is a display's.
 pub fn picture(
     alloc: Global,
-    images: &[SubmittedFrame<'_>],
+    active: &[SubmittedFrame<'_>],
     root: &Option<SurfaceId>,
     size: Size,
 ) -> Result<Vec<Pixel>, AllocError>
     requires { IsDisplaySize size }
     ensures { IfOk result (λ v. v.items
-        ≡ picture_of size (option_and_then (λ (r : Root). scene_at r images.now) root.now)) }
+        ≡ picture_of size (option_and_then (λ (r : Root). scene_at r active.now) root.now)) }
 {
-    Ok(rows(alloc, images, root, size)?)
+    Ok(rows(alloc, active, root, size)?)
 }

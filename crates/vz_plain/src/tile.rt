@@ -61,14 +61,14 @@ fn texel_of(block: Option<&PixelBlock>, p: Point) -> Pixel
 /// The colour of a tile whose texel (tx, ty) stands at the first point. Condition: the point
 /// is close.
 #[tactic(auto, unfolding(vz_rules::specs::Paint::tile_colour))]
-pub fn tile_colour(image: &SubmittedFrame<'_>, id: u32, tx: u16, ty: u16, p: Point) -> Pixel
+pub fn tile_colour(submitted: &SubmittedFrame<'_>, id: u32, tx: u16, ty: u16, p: Point) -> Pixel
     requires { IsClose p }
-    ensures { result ≡ tile_colour image.now id tx ty p }
+    ensures { result ≡ tile_colour submitted.now id tx ty p }
 {
-    let listings = image.frame().resources.as_slice();
+    let listings = submitted.frame().resources.as_slice();
     let q = Point {
         x: p.x + i32::from(tx),
         y: p.y + i32::from(ty),
     };
-    texel_of(block_of(id, listings, image.blocks()), q)
+    texel_of(block_of(id, listings, submitted.blocks()), q)
 }

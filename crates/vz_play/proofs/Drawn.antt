@@ -17,7 +17,7 @@ use Rattle.vz_rules.specs.declared.entry.Reply.TheVariants.{Drawn}
 use Rattle.vz_rules.specs.World.{World, Scene}
 use Rattle.vz_rules.specs.Paint.{full, picture}
 use Rattle.vz_rules.specs.Frames.{picture_of}
-use Rattle.vz_rules.specs.Step.{Outcome, step_in, entry_in, accepted_images}
+use Rattle.vz_rules.specs.Step.{Outcome, step_in, entry_in, accepted_frames}
 use Rattle.vz_rules.proofs.Drawings.{Says, says_step}
 use Rattle.vz_rules.proofs.Kept_inside.{damage_covered}
 use Rattle.vz_play.specs.Playing.{damage_in}
@@ -40,7 +40,7 @@ all_points size o colours is = ap length is ∙ of_scene size o
 
 covered_by : (p : Plan) (w : World) (x : Reply) (r : Rectangle) → Says p w x → Some r ≡ damage_in x → Covers (sized p.size) r
 covered_by p w (Drawn damage) r said is =
-    subst (Covers (sized p.size)) (sym (some_same is ∙ said.2)) (damage_covered p.size w.last (accepted_images w) said.0)
+    subst (Covers (sized p.size)) (sym (some_same is ∙ said.2)) (damage_covered p.size w.last (accepted_frames w) said.0)
 covered_by p w _ r said is = absurd (cc)
 
 -- the damage of a drawing is on the display

@@ -1,15 +1,15 @@
 //! Drawings of the plain machine, with their pictures.
 ghost use Rattle.std.specs.Prelude.{◌≡◌, IfOk, IfSome, OnOk};
 ghost use Rattle.vz_geom.specs.Rectangle.{Covers, sized};
-ghost use Rattle.vz_rules.specs.Plan.{IsDisplaySize};
+ghost use Rattle.vz_geom.specs.Display.{IsDisplaySize};
 ghost use Rattle.vz_rules.specs.declared.entry.Event.TheVariants.{Draw};
 ghost use Rattle.vz_rules.specs.Step.{step_in};
 ghost use Rattle.vz_play.specs.Playing.{damage_in};
 
 use std::alloc::Global;
+use vz_base::Memory;
 use vz_geom::{Rect, Size};
 use vz_machine::PixelPicture;
-use vz_base::Memory;
 use vz_plain::picture::picture;
 use vz_rules::{Effects, Event, Reply};
 use vz_slow::Slow;
@@ -40,10 +40,12 @@ pub fn draw(alloc: Global, machine: &mut Slow<'_>, size: Size) -> Result<Drawing
     requires size { machine.old.plan.size ≡ size }
     requires sides { IsDisplaySize size }
     ensures plan { machine.new.plan ≡ machine.old.plan }
-    ensures step { IfOk result (λ d. record { reply = d.reply; effects = d.effects; world = machine.new.world } ≡ step_in machine.old.plan machine.old.world Draw) }
+    ensures step { IfOk result
+        (λ d. record { reply = d.reply; effects = d.effects; world = machine.new.world }
+        ≡ step_in machine.old.plan machine.old.world Draw) }
     ensures size { IfOk result (λ d. IfSome d.picture (λ p. p.size ≡ size)) }
 {
-    let images = machine.images()?;
+    let active = machine.active()?;
     let root = machine.root();
     let (reply, effects) = machine.step(Event::Draw)?;
     let Some(damage) = damage_of(&reply) else {
@@ -53,7 +55,7 @@ pub fn draw(alloc: Global, machine: &mut Slow<'_>, size: Size) -> Result<Drawing
             picture: None,
         });
     };
-    let pixels = picture(alloc, &images, &root, size)?;
+    let pixels = picture(alloc, &active, &root, size)?;
     Ok(Drawing {
         reply,
         effects,

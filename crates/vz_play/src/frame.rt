@@ -1,6 +1,6 @@
 //! The bytes of the frames of a display.
 ghost use Rattle.std.specs.Prelude.{◌≡◌, ◌*◌, nat_abs, vec_len, IfOk, IsSome};
-ghost use Rattle.vz_buffers.specs.Canvas.{IsCanvasSize};
+ghost use Rattle.vz_geom.specs.Display.{IsDisplaySize};
 ghost use Rattle.vz_display.specs.Displayed.{current};
 
 use std::alloc::Global;
@@ -10,7 +10,7 @@ use vz_geom::Size;
 
 /// Room for a row of a display.
 fn row_of(alloc: Global, size: Size) -> Result<Vec<u8>, Memory>
-    requires { IsCanvasSize size }
+    requires { IsDisplaySize size }
     ensures { IfOk result (λ row. vec_len row ≡ 4 * nat_abs size.w) }
 {
     let row = vec![in alloc; 0u8; 4 * size.w.unsigned_abs() as usize]?;
@@ -26,7 +26,7 @@ pub fn push_frame(
     frames: &mut Vec<u8>,
 ) -> Result<(), Memory>
     requires size { display.now.turns.size ≡ size }
-    requires sides { IsCanvasSize size }
+    requires sides { IsDisplaySize size }
     requires shown { IsSome (current display.now) }
 {
     let mut row = row_of(alloc, size)?;

@@ -1,7 +1,6 @@
 //! The plain machine run through events.
 ghost use Rattle.std.specs.Prelude.{◌≡◌, ◌≤◌, ◌++◌, [], ◌∷◌, All, map, IfOk, IfSome, OnOk};
-ghost use Rattle.vz_buffers.specs.Canvas.{IsCanvasSize};
-ghost use Rattle.vz_rules.specs.Plan.{IsDisplaySize};
+ghost use Rattle.vz_geom.specs.Display.{IsDisplaySize};
 ghost use Rattle.vz_rules.specs.Step.{step_in, entry_in, world, Legal, NamesClient};
 ghost use Rattle.vz_rules.specs.Log.{rest_of};
 
@@ -98,7 +97,8 @@ fn turn(
     ensures plan { machine.new.plan ≡ machine.old.plan }
     ensures behind { OnOk result (machine.new.world ≡ world machine.old.plan history.new) }
     ensures legal { OnOk result (Legal machine.old.plan history.new) }
-    ensures events { OnOk result (map (λ e. e.event) history.new ≡ map (λ e. e.event) history.old ++ event ∷ []) }
+    ensures events { OnOk result (map (λ e. e.event) history.new
+        ≡ map (λ e. e.event) history.old ++ event ∷ []) }
     ensures size { IfOk result (λ o. IfSome o (λ p. p.size ≡ size)) }
 {
     let (entry, picture) = take(alloc, machine, size, event)?;
@@ -120,7 +120,8 @@ fn take(
     requires sides { IsDisplaySize size }
     ensures plan { machine.new.plan ≡ machine.old.plan }
     ensures entry { IfOk result (λ r. r.0 ≡ entry_in machine.old.plan machine.old.world event) }
-    ensures world { OnOk result (machine.new.world ≡ (step_in machine.old.plan machine.old.world event).world) }
+    ensures world { OnOk result (machine.new.world
+        ≡ (step_in machine.old.plan machine.old.world event).world) }
     ensures size { IfOk result (λ r. IfSome r.1 (λ p. p.size ≡ size)) }
 {
     match event {
@@ -143,7 +144,8 @@ fn plain_entry(machine: &mut Slow<'_>, event: Event) -> Result<Entry, Memory>
     requires named { NamesClient machine.old.plan event }
     ensures plan { machine.new.plan ≡ machine.old.plan }
     ensures entry { IfOk result (λ e. e ≡ entry_in machine.old.plan machine.old.world event) }
-    ensures world { OnOk result (machine.new.world ≡ (step_in machine.old.plan machine.old.world event).world) }
+    ensures world { OnOk result (machine.new.world
+        ≡ (step_in machine.old.plan machine.old.world event).world) }
 {
     let (reply, effects) = machine.step(event)?;
     Ok(Entry {
@@ -161,7 +163,7 @@ fn show<L: Ledger>(
     screen: &mut Screen,
     steps: &mut Steps<L>,
 ) -> Result<(), Memory>
-    requires sides { IsCanvasSize size }
+    requires sides { IsDisplaySize size }
     requires display { screen.old.display.turns.size ≡ size }
     requires picture { IfSome picture (λ p. p.size ≡ size) }
     ensures display { OnOk result (screen.new.display.turns.size ≡ size) }
@@ -181,7 +183,7 @@ fn show_one<L: Ledger>(
     screen: &mut Screen,
     steps: &mut Steps<L>,
 ) -> Result<(), Memory>
-    requires sides { IsCanvasSize size }
+    requires sides { IsDisplaySize size }
     requires display { screen.old.display.turns.size ≡ size }
     requires picture { picture.now.size ≡ size }
     ensures display { OnOk result (screen.new.display.turns.size ≡ size) }

@@ -4,7 +4,7 @@ use Rattle.std.specs.List.{filter_map}
 use Rattle.vz_ids.specs.declared.SurfaceId.{SurfaceId}
 use Rattle.vz_ids.specs.declared.SurfaceRange.{SurfaceRange}
 use Rattle.vz_ids.specs.Ids.{same_surface}
-use Rattle.vz_rules.specs.World.{World, Image, active_images, image_on}
+use Rattle.vz_rules.specs.World.{World, FrameData, active_frames, frame_on}
 use Rattle.vz_rules.specs.Scene.{shown}
 use Rattle.vz_rules.specs.Reach.{has_id, referenced, roots, reach}
 use Rattle.vz_rules.specs.Closure.{IsLeastClosed}
@@ -137,13 +137,13 @@ removed_has (s ∷ sets) id other = by_test (same_surface s.id id) (same_surface
 
 -- What is reached
 
-by_image : (w : World) (o : Option Image) → filter_map (shown w) (references_of o) ≡ elim o [ Some i ↦ filter_map (shown w) i.frame.metadata.references | None ↦ [] ]
-by_image w None = refl
-by_image w (Some i) = refl
+by_frame : (w : World) (o : Option FrameData) → filter_map (shown w) (references_of o) ≡ elim o [ Some i ↦ filter_map (shown w) i.frame.metadata.references | None ↦ [] ]
+by_frame w None = refl
+by_frame w (Some i) = refl
 
 next_is : (w : World) (sets : List Ranged) → AreReferences w sets → (id : SurfaceId) → next_in (shown w) sets id ≡ referenced w id
 unfolding next_in
-next_is w sets are id = ap (filter_map (shown w)) (are id) ∙ by_image w (image_on id (active_images w.subs))
+next_is w sets are id = ap (filter_map (shown w)) (are id) ∙ by_frame w (frame_on id (active_frames w.subs))
 
 alike : (a b : Bool) → (a ≡ true → b ≡ true) → (b ≡ true → a ≡ true) → a ≡ b
 alike true b f g = sym (f refl)

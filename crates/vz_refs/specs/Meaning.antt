@@ -2,19 +2,19 @@
 use Rattle.std.specs.Prelude.{◌≡◌, Option, Some, None, List, []}
 use Rattle.vz_ids.specs.declared.SurfaceId.{SurfaceId}
 use Rattle.vz_ids.specs.declared.SurfaceRange.{SurfaceRange}
-use Rattle.vz_rules.specs.World.{World, Image, active_images, image_on}
+use Rattle.vz_rules.specs.World.{World, FrameData, active_frames, frame_on}
 use Rattle.vz_rules.specs.Reach.{has_id, roots}
 use Rattle.vz_refs.specs.declared.references.Temporary.{Temporary}
 use Rattle.vz_refs.specs.Referring.{Ranged, ranges_of, starts}
 
--- the references of an image's frame, if there is one
-abbrev pub references_of : Option Image → List SurfaceRange
+-- the references of a frame's frame, if there is one
+abbrev pub references_of : Option FrameData → List SurfaceRange
 references_of None = []
 references_of (Some i) = i.frame.metadata.references
 
 -- for each surface the references of its active frame are set
 abbrev pub AreReferences : World → List Ranged → Type 0
-AreReferences w sets = (id : SurfaceId) → ranges_of sets id ≡ references_of (image_on id (active_images w.subs))
+AreReferences w sets = (id : SurfaceId) → ranges_of sets id ≡ references_of (frame_on id (active_frames w.subs))
 
 -- reaching starts at the roots
 abbrev pub AreRoots : World → Option SurfaceId → List Temporary → Type 0

@@ -13,17 +13,25 @@ ghost use Rattle.vz_refs.specs.Meaning.{AreReferences, AreRoots};
 
 /// What is set for a surface is what was set last, and what is removed is not set.
 pub fn ranges_are_kept()
-    ensures set { (sets : List Ranged) (id other : SurfaceId) (ranges : List SurfaceRange) → ranges_of (setting id ranges sets) other ≡ (if same_surface id other then ranges else ranges_of sets other) }
-    ensures has_set { (sets : List Ranged) (id other : SurfaceId) (ranges : List SurfaceRange) → is_set (setting id ranges sets) other ≡ (same_surface id other || is_set sets other) }
-    ensures removed { (sets : List Ranged) (id other : SurfaceId) → ranges_of (removing id sets) other ≡ (if same_surface id other then [] else ranges_of sets other) }
-    ensures has_removed { (sets : List Ranged) (id other : SurfaceId) → is_set (removing id sets) other ≡ (not (same_surface id other) && is_set sets other) }
+    ensures set { (sets : List Ranged) (id other : SurfaceId) (ranges : List SurfaceRange)
+        → ranges_of (setting id ranges sets) other
+        ≡ (if same_surface id other then ranges else ranges_of sets other) }
+    ensures has_set { (sets : List Ranged) (id other : SurfaceId) (ranges : List SurfaceRange)
+        → is_set (setting id ranges sets) other ≡ (same_surface id other || is_set sets other) }
+    ensures removed { (sets : List Ranged) (id other : SurfaceId)
+        → ranges_of (removing id sets) other
+        ≡ (if same_surface id other then [] else ranges_of sets other) }
+    ensures has_removed { (sets : List Ranged) (id other : SurfaceId)
+        → is_set (removing id sets) other ≡ (not (same_surface id other) && is_set sets other) }
 {}
 
 /// Where the active frames' references are set and reaching starts at the roots, the least
 /// list has the surfaces that are reached.
 pub fn least_is_reached()
-    ensures { (w : World) (sets : List Ranged) (kept : List Temporary) (root : Option SurfaceId) (ids : List SurfaceId) → AreReferences w sets → AreRoots w root kept
-        → IsLeastClosed same_surface (next_in (shown w) sets) (starts root kept) ids → (id : SurfaceId) → has_id ids id ≡ has_id (reach w) id }
+    ensures { (w : World) (sets : List Ranged) (kept : List Temporary) (root : Option SurfaceId) (ids : List SurfaceId)
+        → AreReferences w sets → AreRoots w root kept
+        → IsLeastClosed same_surface (next_in (shown w) sets) (starts root kept) ids
+        → (id : SurfaceId) → has_id ids id ≡ has_id (reach w) id }
 {
     vz_rules::laws::reached_are_least();
 }

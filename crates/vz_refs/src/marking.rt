@@ -23,7 +23,8 @@ pub(crate) fn add(out: &mut Room<SurfaceId>, id: SurfaceId)
 
 /// Appends the surfaces where reaching starts, each unless it is there.
 pub(crate) fn start(root: Option<SurfaceId>, kept: &[Temporary], out: &mut Room<SurfaceId>)
-    requires { length (adding same_surface out.old.list (starts root kept.now)) ≤ length out.old.list + out.old.spare }
+    requires { length (adding same_surface out.old.list (starts root kept.now))
+        ≤ length out.old.list + out.old.spare }
     ensures list { out.new.list ≡ adding same_surface out.old.list (starts root kept.now) }
     ensures room { length out.old.list + out.old.spare ≤ length out.new.list + out.new.spare }
 {
@@ -38,7 +39,8 @@ pub(crate) fn start(root: Option<SurfaceId>, kept: &[Temporary], out: &mut Room<
 
 /// Appends the temporary surfaces, each unless it is there.
 fn add_kept(kept: &[Temporary], out: &mut Room<SurfaceId>)
-    requires { length (adding same_surface out.old.list (map (λ t. t.id) kept.now)) ≤ length out.old.list + out.old.spare }
+    requires { length (adding same_surface out.old.list (map (λ t. t.id) kept.now))
+        ≤ length out.old.list + out.old.spare }
     ensures list { out.new.list ≡ adding same_surface out.old.list (map (λ t. t.id) kept.now) }
     ensures room { length out.old.list + out.old.spare ≤ length out.new.list + out.new.spare }
 {
@@ -55,8 +57,10 @@ pub(crate) fn follow<S: Shows>(
     s: &S,
     out: &mut Room<SurfaceId>,
 )
-    requires { length (adding same_surface out.old.list (next_in (S.shows s.now) (gathered ids.now edges.now) from)) ≤ length out.old.list + out.old.spare }
-    ensures list { out.new.list ≡ adding same_surface out.old.list (next_in (S.shows s.now) (gathered ids.now edges.now) from) }
+    requires { length (adding same_surface out.old.list (next_in (S.shows s.now) (gathered ids.now edges.now) from))
+        ≤ length out.old.list + out.old.spare }
+    ensures list { out.new.list
+        ≡ adding same_surface out.old.list (next_in (S.shows s.now) (gathered ids.now edges.now) from) }
     ensures room { length out.old.list + out.old.spare ≤ length out.new.list + out.new.spare }
 {
     if has_surface(ids, &from) {
@@ -66,8 +70,10 @@ pub(crate) fn follow<S: Shows>(
 
 /// Appends what the ranges of the edges from a surface show, each unless it is there.
 fn follow_edges<S: Shows>(edges: &[Edge], from: SurfaceId, s: &S, out: &mut Room<SurfaceId>)
-    requires { length (adding same_surface out.old.list (filter_map (S.shows s.now) (picked edges.now from))) ≤ length out.old.list + out.old.spare }
-    ensures list { out.new.list ≡ adding same_surface out.old.list (filter_map (S.shows s.now) (picked edges.now from)) }
+    requires { length (adding same_surface out.old.list (filter_map (S.shows s.now) (picked edges.now from)))
+        ≤ length out.old.list + out.old.spare }
+    ensures list { out.new.list
+        ≡ adding same_surface out.old.list (filter_map (S.shows s.now) (picked edges.now from)) }
     ensures room { length out.old.list + out.old.spare ≤ length out.new.list + out.new.spare }
 {
     for edge in edges {

@@ -57,7 +57,12 @@ impl Model for References {
 
     ghost Value = { Referring };
 
-    ghost view = { λ a. record { sets = gathered a.ids.items a.edges.items; temporary = a.temporary.items; spare = min (vec_capacity a.ids - vec_len a.ids) (vec_capacity a.edges - vec_len a.edges); room = vec_capacity a.temporary - vec_len a.temporary } };
+    ghost view = { λ a. record {
+      sets = gathered a.ids.items a.edges.items;
+      temporary = a.temporary.items;
+      spare = min (vec_capacity a.ids - vec_len a.ids) (vec_capacity a.edges - vec_len a.edges);
+      room = vec_capacity a.temporary - vec_len a.temporary;
+    } };
 }
 
 impl References {
@@ -108,8 +113,10 @@ impl References {
     /// range it answers Ok; it uses no more of it.
     pub fn set(&mut self, id: SurfaceId, ranges: &[SurfaceRange]) -> Result<(), Memory>
         ensures sets { OnOk result (self.new.sets ≡ setting id ranges.now self.old.sets) }
-        ensures temporary { OnOk result (self.new.temporary ≡ unnamed ranges.now self.old.temporary) }
-        ensures err { OnErr result ((self.new.sets ≡ self.old.sets) × (self.new.temporary ≡ self.old.temporary)) }
+        ensures temporary { OnOk result (self.new.temporary
+            ≡ unnamed ranges.now self.old.temporary) }
+        ensures err { OnErr result ((self.new.sets ≡ self.old.sets)
+            × (self.new.temporary ≡ self.old.temporary)) }
         ensures succeeds { length ranges.now + 1 ≤ self.old.spare → IsOk result }
         ensures spare { self.old.spare ≤ self.new.spare + (length ranges.now + 1) }
         ensures room { self.old.room ≤ self.new.room }
@@ -189,8 +196,10 @@ impl References {
     pub fn reachable<S: Shows>(&self, root: Option<SurfaceId>, s: &S, out: &mut Room<SurfaceId>)
         requires empty { out.old.list ≡ [] }
         requires room { length self.now.sets + length self.now.temporary < out.old.spare }
-        requires shown { (r : SurfaceRange) → IfSome (S.shows s.now r) (λ id. IsTrue (is_set self.now.sets id)) }
-        ensures least { IsLeastClosed same_surface (next_in (S.shows s.now) self.now.sets) (starts root self.now.temporary) out.new.list }
+        requires shown { (r : SurfaceRange)
+            → IfSome (S.shows s.now r) (λ id. IsTrue (is_set self.now.sets id)) }
+        ensures least { IsLeastClosed same_surface (next_in (S.shows s.now) self.now.sets)
+            (starts root self.now.temporary) out.new.list }
         ensures once { has_repeat same_surface out.new.list ≡ false }
     {
         start(root, &self.temporary, out);
@@ -206,7 +215,9 @@ impl References {
 /// Puts a surface behind the others, unless it is there.
 fn put_id(ids: &mut Vec<SurfaceId>, id: SurfaceId)
     requires { vec_len ids.old < vec_capacity ids.old }
-    ensures items { ids.new.items ≡ (if list_any (same_surface id) ids.old.items then ids.old.items else ids.old.items ++ id ∷ []) }
+    ensures items { ids.new.items
+        ≡ (if list_any (same_surface id) ids.old.items then ids.old.items else ids.old.items ++ id
+        ∷ []) }
     ensures len { vec_len ids.new ≤ vec_len ids.old + 1 }
     ensures capacity { vec_capacity ids.new ≡ vec_capacity ids.old }
 {

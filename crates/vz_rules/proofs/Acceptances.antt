@@ -10,14 +10,14 @@ use Rattle.vz_rules.specs.declared.entry.Event.TheVariants as event
 use Rattle.vz_rules.specs.declared.entry.Entry.{Entry}
 use Rattle.vz_rules.specs.declared.entry.Reply.TheVariants as reply
 use Rattle.vz_rules.specs.declared.entry.State.TheVariants.{Dropped}
-use Rattle.vz_rules.specs.World.{World, Client, Image, Submission, client_at, next_message, is_waiting, is_on, opening}
+use Rattle.vz_rules.specs.World.{World, Client, FrameData, Submission, client_at, next_message, is_waiting, is_on, opening}
 use Rattle.vz_rules.specs.Messages.{Answer, id_of, new_submission, replace_on, accepted, client_answer}
 use Rattle.vz_rules.specs.Step.{answer_to, begin_answer, outcome_of, presented_by, step_in, entry_in, world, Legal}
 use Rattle.vz_rules.specs.Whole.{mine}
 use Rattle.vz_rules.specs.Accounts.{of_client, takes, taken_in, message_at, accepts, IsAcceptance}
 use Rattle.vz_rules.proofs.Facts.{length_map, map_at}
 use Rattle.vz_rules.proofs.Prefixes.{Steps, along}
-use Rattle.vz_rules.proofs.Follow_ups.{images_of, images_kept, outcome_images}
+use Rattle.vz_rules.proofs.Follow_ups.{frames_of, frames_kept, outcome_frames}
 use Rattle.vz_rules.proofs.Taken.{steps_taken, none_taken}
 use Rattle.vz_rules.proofs.Cases.{is_acceptance, DisplayCases, client_cases, answer_cases}
 
@@ -26,29 +26,29 @@ use Rattle.vz_rules.proofs.Cases.{is_acceptance, DisplayCases, client_cases, ans
 -- an answer by which a client's submission is accepted
 pub record Accepts (p : Plan) (w : World) (e : Event) (a : Answer) : Type 0 where
   pub client : Client
-  pub new : Image
+  pub new : FrameData
   pub found : client_at w client.number ≡ Some client
   pub event : e ≡ event.Client client.number
   pub client_is : new.sub.client ≡ client.number
   pub next : next_message p client ≡ Some (Submit new.id.local new.frame)
-  pub images : images_of a.world.subs ≡ images_of w.subs ++ new ∷ []
+  pub active : frames_of a.world.subs ≡ frames_of w.subs ++ new ∷ []
   pub reply : a.reply ≡ reply.Accepted new.sub.ordinal new.index
 
 -- one by which none is
 pub record AcceptsNone (w : World) (a : Answer) : Type 0 where
-  pub images : images_of a.world.subs ≡ images_of w.subs
+  pub active : frames_of a.world.subs ≡ frames_of w.subs
   pub reply : is_acceptance a.reply ≡ false
 
 abbrev pub Either : Plan → World → Event → Answer → Type 0
 Either p w e a = AcceptsNone w a ⊎ Accepts p w e a
 
-images_push : (xs : List Submission) (s : Submission) → images_of (xs ++ s ∷ []) ≡ images_of xs ++ s.image ∷ []
-images_push [] s = refl
-images_push (x ∷ xs) s = ap (λ l. x.image ∷ l) (images_push xs s)
+frames_push : (xs : List Submission) (s : Submission) → frames_of (xs ++ s ∷ []) ≡ frames_of xs ++ s.submitted ∷ []
+frames_push [] s = refl
+frames_push (x ∷ xs) s = ap (λ l. x.submitted ∷ l) (frames_push xs s)
 
-dropped_image : (t : Bool) (s : Submission) → (cond t (record s { state = Dropped }) s).image ≡ s.image
-dropped_image true s = refl
-dropped_image false s = refl
+dropped_frame : (t : Bool) (s : Submission) → (cond t (record s { state = Dropped }) s).submitted ≡ s.submitted
+dropped_frame true s = refl
+dropped_frame false s = refl
 
 accepted_one : (p : Plan) (w : World) (n : ℕ) (c : Client) (local : LocalSurfaceId) (frame : CompositorFrame) → client_at w n ≡ Some c → c.number ≡ n → next_message p c ≡ Some (Submit local frame)
     → Accepts p w (event.Client n) (accepted w c local frame)
@@ -57,19 +57,19 @@ accepted_one p w n c local frame e number next =
     let replace : Submission → Submission = replace_on (id_of c local) in
     record {
       client = c;
-      new = (new_submission w c local frame).image;
+      new = (new_submission w c local frame).submitted;
       found = ap (client_at w) number ∙ e;
       event = ap event.Client (sym number);
       client_is = refl;
       next = next;
-      images = images_push (map replace w.subs) (new_submission w c local frame)
-          ∙ ap (λ l. l ++ (new_submission w c local frame).image ∷ []) (images_kept replace w.subs (λ s. dropped_image (is_waiting s && is_on (id_of c local) s) s));
+      active = frames_push (map replace w.subs) (new_submission w c local frame)
+          ∙ ap (λ l. l ++ (new_submission w c local frame).submitted ∷ []) (frames_kept replace w.subs (λ s. dropped_frame (is_waiting s && is_on (id_of c local) s) s));
       reply = refl;
     }
 
 client_either : (p : Plan) (w : World) (n : ℕ) → Either p w (event.Client n) (client_answer p w n)
 client_either p w n =
-    let none : (a : Answer) → images_of a.world.subs ≡ images_of w.subs → is_acceptance a.reply ≡ false → Either p w (event.Client n) a = λ a same no. inl (record { images = same; reply = no }) in
+    let none : (a : Answer) → frames_of a.world.subs ≡ frames_of w.subs → is_acceptance a.reply ≡ false → Either p w (event.Client n) a = λ a same no. inl (record { active = same; reply = no }) in
     client_cases p w n (Either p w (event.Client n)) (none _ refl refl) (λ c e number. record {
       turned = λ m r timely at. none _ refl refl;
       not_yet = λ at. none _ refl refl;
@@ -88,10 +88,10 @@ display_either : (p : Plan) (w : World) → DisplayCases p w (Either p w)
 unfolding begin_answer
 display_either p w =
     record {
-      begins = inl (record { images = refl; reply = refl });
-      draws = λ r quiet last in_flight. inl (record { images = refl; reply = quiet });
-      dones = λ r quiet in_flight. inl (record { images = refl; reply = quiet });
-      overs = inl (record { images = refl; reply = refl });
+      begins = inl (record { active = refl; reply = refl });
+      draws = λ r quiet last in_flight. inl (record { active = refl; reply = quiet });
+      dones = λ r quiet in_flight. inl (record { active = refl; reply = quiet });
+      overs = inl (record { active = refl; reply = refl });
     }
 
 pub answer_either : (p : Plan) (w : World) (e : Event) → Either p w e (answer_to p w e)
@@ -101,10 +101,10 @@ answer_either p w e = answer_cases p w (Either p w) (client_either p w) (display
 
 record Kept (p : Plan) (w : World) (h : List Entry) : Type 0 where
   taken : (c : ℕ) → taken_in w c ≡ length (takes h c)
-  count : length (images_of w.subs) ≡ count_by accepts h
-  each : (n : ℕ) (i : Image) → slice_get (images_of w.subs) n ≡ Some i → IsAcceptance p h n i
+  count : length (frames_of w.subs) ≡ count_by accepts h
+  each : (n : ℕ) (i : FrameData) → slice_get (frames_of w.subs) n ≡ Some i → IsAcceptance p h n i
 
-longer : (p : Plan) (h : List Entry) (e : Entry) (n : ℕ) (i : Image) → IsAcceptance p h n i → IsAcceptance p (h ++ e ∷ []) n i
+longer : (p : Plan) (h : List Entry) (e : Entry) (n : ℕ) (i : FrameData) → IsAcceptance p h n i → IsAcceptance p (h ++ e ∷ []) n i
 longer p h e n i a =
     record {
       before = a.before;
@@ -133,9 +133,9 @@ module _ (p : Plan) (w : World) (h : List Entry) (e : Entry) (i : Kept p w h) (i
   abbrev now : Answer
   now = answer_to p w e.event
 
-  later_images : images_of later.subs ≡ images_of now.world.subs
+  later_frames : frames_of later.subs ≡ frames_of now.world.subs
   unfolding step_in
-  later_images = outcome_images (presented_by w e.event) now
+  later_frames = outcome_frames (presented_by w e.event) now
 
   same_reply : e.reply ≡ now.reply
   unfolding entry_in step_in outcome_of
@@ -143,7 +143,7 @@ module _ (p : Plan) (w : World) (h : List Entry) (e : Entry) (i : Kept p w h) (i
 
   none_later : AcceptsNone w now → ((c : ℕ) → taken_in later c ≡ length (takes (h ++ e ∷ []) c)) → Kept p later (h ++ e ∷ [])
   none_later a taken =
-      let same = later_images ∙ a.images in
+      let same = later_frames ∙ a.active in
       let plain : ◌≡◌ {A = ℕ} (cond (is_acceptance e.reply) 1 0) 0 = ap {B = ℕ} (λ (b : Bool). cond b 1 0) (ap is_acceptance same_reply ∙ a.reply) in
       record {
         taken = taken;
@@ -151,7 +151,7 @@ module _ (p : Plan) (w : World) (h : List Entry) (e : Entry) (i : Kept p w h) (i
         each = λ n j at. longer p h e n j (i.each n j (ap (λ l. slice_get l n) (sym same) ∙ at));
       }
 
-  new_here : (a : Accepts p w e.event now) → IsAcceptance p (h ++ e ∷ []) (length (images_of w.subs)) a.new
+  new_here : (a : Accepts p w e.event now) → IsAcceptance p (h ++ e ∷ []) (length (frames_of w.subs)) a.new
   new_here a =
       let c : ℕ = a.client.number in
       let place : length (takes h c) ≡ a.client.taken = sym (i.taken c) ∙ ap (of_client (λ x. x.taken)) a.found in
@@ -168,12 +168,12 @@ module _ (p : Plan) (w : World) (h : List Entry) (e : Entry) (i : Kept p w h) (i
 
   one_later : Accepts p w e.event now → ((c : ℕ) → taken_in later c ≡ length (takes (h ++ e ∷ []) c)) → Kept p later (h ++ e ∷ [])
   one_later a taken =
-      let same = later_images ∙ a.images in
+      let same = later_frames ∙ a.active in
       let one : ◌≡◌ {A = ℕ} (cond (is_acceptance e.reply) 1 0) 1 = ap {B = ℕ} (λ (b : Bool). cond b 1 0) (ap is_acceptance (same_reply ∙ a.reply)) in
       record {
         taken = taken;
-        count = ap length same ∙ (length-append (images_of w.subs) (a.new ∷ []) ∙ omega (arith, i.count, accepts_more h e, one));
-        each = λ n j at. elim (at_push (images_of w.subs) a.new n j (ap (λ l. slice_get l n) (sym same) ∙ at)) [
+        count = ap length same ∙ (length-append (frames_of w.subs) (a.new ∷ []) ∙ omega (arith, i.count, accepts_more h e, one));
+        each = λ n j at. elim (at_push (frames_of w.subs) a.new n j (ap (λ l. slice_get l n) (sym same) ∙ at)) [
           | inl k ↦ longer p h e n j (i.each n j k)
           | inr k ↦ subst (λ x. IsAcceptance p (h ++ e ∷ []) n x) k.1 (subst (λ m. IsAcceptance p (h ++ e ∷ []) m a.new) (sym k.0) (new_here a))
         ];
@@ -193,8 +193,8 @@ kept p h l = along p (Kept p) (steps_kept p) (opening_kept p) h l
 
 -- there are as many submissions as entries that accept
 pub acceptances_count : (p : Plan) (h : List Entry) → Legal p h → length (world p h).subs ≡ count_by accepts h
-acceptances_count p h l = sym (length_map (λ (s : Submission). s.image) (world p h).subs) ∙ (kept p h l).count
+acceptances_count p h l = sym (length_map (λ (s : Submission). s.submitted) (world p h).subs) ∙ (kept p h l).count
 
 -- and each is that of the entry at its place
-pub acceptances_are : (p : Plan) (h : List Entry) (n : ℕ) (s : Submission) → Legal p h → slice_get (world p h).subs n ≡ Some s → IsAcceptance p h n s.image
-acceptances_are p h n s l at = (kept p h l).each n s.image (map_at (λ (x : Submission). x.image) (world p h).subs n s at)
+pub acceptances_are : (p : Plan) (h : List Entry) (n : ℕ) (s : Submission) → Legal p h → slice_get (world p h).subs n ≡ Some s → IsAcceptance p h n s.submitted
+acceptances_are p h n s l at = (kept p h l).each n s.submitted (map_at (λ (x : Submission). x.submitted) (world p h).subs n s at)

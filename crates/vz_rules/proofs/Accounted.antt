@@ -20,7 +20,7 @@ use Rattle.vz_rules.specs.declared.entry.Refusal.TheVariants as refusal
 use Rattle.vz_rules.specs.declared.entry.Returned.{Returned}
 use Rattle.vz_rules.specs.declared.entry.Entry.{Entry}
 use Rattle.vz_rules.specs.declared.entry.State.TheVariants.{Dropped}
-use Rattle.vz_rules.specs.World.{World, Client, Resource, Image, Submission, is_waiting, is_on, client_at, resource_in, last_created, opening, new_client, new_clients}
+use Rattle.vz_rules.specs.World.{World, Client, Resource, FrameData, Submission, is_waiting, is_on, client_at, resource_in, last_created, opening, new_client, new_clients}
 use Rattle.vz_rules.specs.Settle.{settle}
 use Rattle.vz_rules.specs.Reach.{collect}
 use Rattle.vz_rules.specs.Returns.{goes_back, queue_returns, returns_of, returned_in}
@@ -35,7 +35,7 @@ use Rattle.vz_rules.proofs.Rising.{find_map, mapped_some, counted, Rising}
 use Rattle.vz_rules.proofs.Given.{number_of, id_of, size_of, given_of, amount_in, share_is}
 use Rattle.vz_rules.proofs.Totals.{IsAnswered, IsGivenBack, in_queue_of, unchanged, storing, answered_stored, answered_lent, known_listed, answered_reclaimed, given_back}
 use Rattle.vz_rules.proofs.Prefixes.{Steps, along}
-use Rattle.vz_rules.proofs.Follow_ups.{collected_clients, outcome_clients, images_kept, outcome_images, count_kept}
+use Rattle.vz_rules.proofs.Follow_ups.{collected_clients, outcome_clients, frames_kept, outcome_frames, count_kept}
 use Rattle.vz_rules.proofs.Lent.{borrowed_are_lent}
 use Rattle.vz_rules.proofs.Numbered.{answer_numbers, HasNumbers, steps_numbers, numbers_rise, client_there, rising_keys, changed_number}
 use Rattle.vz_rules.proofs.Cases.{is_event_of, DisplayCases, client_cases, answer_cases, number_at}
@@ -47,7 +47,7 @@ abbrev pub handed_to : ℕ → Event → Answer → List Returned
 handed_to c e a = cond (is_event_of c e) (handed_by a.reply) []
 
 -- an accepted submission of a client that lists a resource, by what it was accepted with
-abbrev takes_up : ℕ → ℕ → Image → Bool
+abbrev takes_up : ℕ → ℕ → FrameData → Bool
 takes_up c id i = (i.sub.client == c) && list_any (lists id) i.frame.resources
 
 -- what an answer makes of a client of the world that it leaves
@@ -147,9 +147,9 @@ unfolding submit_refusal
 listed_known w z local frame h =
     unrefused (first_broken frame) (list_any (is_unknown z.resources) frame.resources) (violates (last_created w z.number) local) (has_other_size (last_created w z.number) local frame) h
 
-replaced_image : (t : Bool) (s : Submission) → (cond t (record s { state = Dropped }) s).image ≡ s.image
-replaced_image true s = refl
-replaced_image false s = refl
+replaced_frame : (t : Bool) (s : Submission) → (cond t (record s { state = Dropped }) s).submitted ≡ s.submitted
+replaced_frame true s = refl
+replaced_frame false s = refl
 
 accepted_subs : (w : World) (n : ℕ) (z : Client) (local : LocalSurfaceId) (frame : CompositorFrame) → z.number ≡ n → (c id : ℕ)
     → count_by (borrows c id) (accepted w z local frame).world.subs ≡ count_by (borrows c id) w.subs + cond (n == c) (cond (list_any (lists id) frame.resources) 1 0) 0
@@ -158,7 +158,7 @@ accepted_subs w n z local frame number c id =
     let replaced = map (replace_on (surface_of z local)) w.subs in
     sum_by_push (λ s. cond (borrows c id s) 1 0) replaced (new_submission w z local frame)
     ∙ (ap (λ k. k + cond ((z.number == c) && list_any (lists id) frame.resources) 1 0)
-    (count_kept (takes_up c id) replaced w.subs (images_kept (replace_on (surface_of z local)) w.subs (λ s. replaced_image (is_waiting s && is_on (surface_of z local) s) s)))
+    (count_kept (takes_up c id) replaced w.subs (frames_kept (replace_on (surface_of z local)) w.subs (λ s. replaced_frame (is_waiting s && is_on (surface_of z local) s) s)))
     ∙ (ap (λ k. count_by (borrows c id) w.subs + k) (and_counted (z.number == c) (list_any (lists id) frame.resources))
     ∙ ap (λ k. count_by (borrows c id) w.subs + cond (k == c) (cond (list_any (lists id) frame.resources) 1 0) 0) number))
 
@@ -297,7 +297,7 @@ stepped p w e c id z numbers rising is found =
 
 step_subs : (p : Plan) (w : World) (e : Event) (c id : ℕ) → count_by (borrows c id) (step_in p w e).world.subs ≡ count_by (borrows c id) (answer_to p w e).world.subs
 unfolding step_in
-step_subs p w e c id = count_kept (takes_up c id) (outcome_of (presented_by w e) (answer_to p w e)).world.subs (answer_to p w e).world.subs (outcome_images (presented_by w e) (answer_to p w e))
+step_subs p w e c id = count_kept (takes_up c id) (outcome_of (presented_by w e) (answer_to p w e)).world.subs (answer_to p w e).world.subs (outcome_frames (presented_by w e) (answer_to p w e))
 
 same_handed : (p : Plan) (w : World) (e : Entry) (c : ℕ) → e ≡ entry_in p w e.event → cond (is_of c e) (handed_by e.reply) [] ≡ handed_to c e.event (answer_to p w e.event)
 unfolding entry_in step_in outcome_of

@@ -28,7 +28,7 @@ use Rattle.vz_rules.specs.Scene.{scene_of}
 use Rattle.vz_rules.specs.Messages.{Answer, says, taking, refused, unless_refused, first_some, when, in_use, put_resource, submit_refusal, accepted, hierarchy_refusal, relate, reclaim, answer_tick, mark_of, is_unknown, violates, has_other_size, reaches, is_known}
 use Rattle.vz_rules.specs.Messages.{upload_answer, submit_answer, root_answer, hierarchy_answer, await_answer, message_answer, known_client_answer, client_answer}
 use Rattle.vz_rules.specs.Step.{begin_answer, scene_answer, draw_answer, done_answer, answer_to}
-use Rattle.vz_rules.specs.Step.{accepted_images}
+use Rattle.vz_rules.specs.Step.{accepted_frames}
 use Rattle.vz_rules.proofs.Rising.{find_test}
 use Rattle.vz_rules.specs.Walk.{walk_of, too_much, walked_subs}
 use Rattle.vz_rules.specs.Damage.{aggregation_of, drawn_damage}
@@ -182,7 +182,7 @@ scene_by : (p : Plan) (w : World) (Q : Event → Answer → Type 0) → DisplayC
 unfolding scene_answer
 scene_by p w Q h scene =
     let walked = walk_of p.size scene in
-    let damage = drawn_damage p.size w.last (accepted_images w) scene.root walked in
+    let damage = drawn_damage p.size w.last (accepted_frames w) scene.root walked in
     let remembered = Some (aggregation_of scene walked) in
     by_test (Q event.Draw) (too_much walked) _ _
     (λ e. h.draws reply.TooMuch refl w.last w.in_flight)

@@ -8,14 +8,14 @@ use Rattle.vz_rules.specs.World.{World, Scene}
 use Rattle.vz_rules.specs.Scene.{scene_of}
 use Rattle.vz_rules.specs.Walk.{walk_of}
 use Rattle.vz_rules.specs.Damage.{claims, drawn_damage}
-use Rattle.vz_rules.specs.Step.{accepted_images, entry_in, world, Legal}
+use Rattle.vz_rules.specs.Step.{accepted_frames, entry_in, world, Legal}
 use Rattle.vz_rules.specs.Whole.{had_root, claims_after, damage_after}
 use Rattle.vz_rules.proofs.Prefixes.{legal-at}
 use Rattle.vz_rules.proofs.Drawings.{Says, damage_in, says_step}
 
 bound_by : (p : Plan) (w : World) (scene : Scene) (o : Option Scene) → o ≡ Some scene
     → bound (elim o [
-      | Some s ↦ claims p.size w.last (accepted_images w) s.root (walk_of p.size s)
+      | Some s ↦ claims p.size w.last (accepted_frames w) s.root (walk_of p.size s)
       | None ↦ cond (had_root w.last w.root) [] (sized p.size ∷ [])
     ]) ≡ damage_in p w scene
 unfolding drawn_damage

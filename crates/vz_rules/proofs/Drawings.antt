@@ -17,11 +17,11 @@ use Rattle.vz_rules.specs.Scene.{scene_of}
 use Rattle.vz_rules.specs.Walk.{walk_of, too_much}
 use Rattle.vz_rules.specs.Damage.{drawn_damage}
 use Rattle.vz_rules.specs.Messages.{Answer, says, refused, unless_refused, in_use, hierarchy_refusal, submit_refusal, accepted, upload_answer, submit_answer, root_answer, hierarchy_answer, await_answer, message_answer, known_client_answer, client_answer}
-use Rattle.vz_rules.specs.Step.{begin_answer, scene_answer, draw_answer, done_answer, answer_to, outcome_of, step_in, accepted_images}
+use Rattle.vz_rules.specs.Step.{begin_answer, scene_answer, draw_answer, done_answer, answer_to, outcome_of, step_in, accepted_frames}
 
 -- the damage of a scene that is drawn in a world
 abbrev pub damage_in : Plan → World → Scene → Rectangle
-damage_in p w scene = drawn_damage p.size w.last (accepted_images w) scene.root (walk_of p.size scene)
+damage_in p w scene = drawn_damage p.size w.last (accepted_frames w) scene.root (walk_of p.size scene)
 
 -- a drawing's damage is that of what is seen, and where it is empty nothing is drawn
 abbrev pub Says : Plan → World → Reply → Type 0

@@ -5,7 +5,7 @@ use Rattle.vz_frame.specs.declared.message.Message.TheVariants.{Submit, Await}
 use Rattle.vz_rules.specs.declared.entry.Event.TheVariants as event
 use Rattle.vz_rules.specs.Plan.{Plan}
 use Rattle.vz_rules.specs.Step.{next_tick}
-use Rattle.vz_rules.specs.Command.{Text, Run, Turns, fits_command}
+use Rattle.vz_rules.specs.Command.{Word, Run, Turns, fits_command}
 use Rattle.vz_frame.specs.declared.frame.Material.TheVariants.{Solid}
 use Rattle.vz_rules.proofs.Rows.{opened, rect, red_quad, first_local, sized_frame, plan_of, text_of, id_at, begins, white, unit_plan, unit_quad, shown_unit, c1}
 
@@ -40,7 +40,7 @@ blends_and_group_opacity : shown_unit (unit_plan ((1, unit_quad 128 (Solid white
 unfolding opened
 blends_and_group_opacity = refl
 
-abbrev names : List Text
+abbrev names : List Word
 names = codes "f" ∷ codes "l" ∷ codes "a" ∷ []
 
 -- the frames of all rounds and of the last drawing have at most 1,073,741,824 bytes, whether they are written or not

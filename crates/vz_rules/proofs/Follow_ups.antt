@@ -4,7 +4,7 @@ use Rattle.std.specs.List.{list_any}
 use Rattle.std.proofs.lemmas.List.Sums.{sum_by-cons}
 use Rattle.vz_ids.specs.declared.Sub.{Sub}
 use Rattle.vz_rules.specs.declared.entry.State.TheVariants.{Active, Past, Dropped}
-use Rattle.vz_rules.specs.World.{World, Created, Image, Submission, is_waiting, is_active, is_on}
+use Rattle.vz_rules.specs.World.{World, Created, FrameData, Submission, is_waiting, is_active, is_on}
 use Rattle.vz_rules.specs.Settle.{is_ready, ready, after_round, round, rounds, settle}
 use Rattle.vz_rules.specs.Reach.{drop_on, lost_in, naming, clearing, collect}
 use Rattle.vz_rules.specs.Returns.{give_back, feed, queue_returns, mark_fed}
@@ -31,53 +31,53 @@ outcome_clients presented a = ap (map (queue_returns (collect (settle a.world)))
 -- Submissions
 
 -- what the submissions were accepted with
-abbrev pub images_of : List Submission → List Image
-images_of subs = map (λ s. s.image) subs
+abbrev pub frames_of : List Submission → List FrameData
+frames_of subs = map (λ s. s.submitted) subs
 
-pub images_kept : (f : Submission → Submission) (subs : List Submission) → ((s : Submission) → (f s).image ≡ s.image) → images_of (map f subs) ≡ images_of subs
-images_kept f [] same = refl
-images_kept f (s ∷ ss) same = ap (λ i. i ∷ images_of (map f ss)) (same s) ∙ ap (λ l. s.image ∷ l) (images_kept f ss same)
+pub frames_kept : (f : Submission → Submission) (subs : List Submission) → ((s : Submission) → (f s).submitted ≡ s.submitted) → frames_of (map f subs) ≡ frames_of subs
+frames_kept f [] same = refl
+frames_kept f (s ∷ ss) same = ap (λ i. i ∷ frames_of (map f ss)) (same s) ∙ ap (λ l. s.submitted ∷ l) (frames_kept f ss same)
 
-after_image : (becomes past : Bool) (s : Submission) → (cond becomes (record s { state = Active; was_active = true }) (cond past (record s { state = Past }) s)).image ≡ s.image
-after_image true past s = refl
-after_image false true s = refl
-after_image false false s = refl
+after_frame : (becomes past : Bool) (s : Submission) → (cond becomes (record s { state = Active; was_active = true }) (cond past (record s { state = Past }) s)).submitted ≡ s.submitted
+after_frame true past s = refl
+after_frame false true s = refl
+after_frame false false s = refl
 
-round_images : (w : World) → images_of (round w).subs ≡ images_of w.subs
+round_frames : (w : World) → frames_of (round w).subs ≡ frames_of w.subs
 unfolding round
-round_images w = images_kept (after_round (is_ready w) (ready w)) w.subs (λ s. after_image (is_ready w s) (is_active s && list_any (is_on s.image.id) (ready w)) s)
+round_frames w = frames_kept (after_round (is_ready w) (ready w)) w.subs (λ s. after_frame (is_ready w s) (is_active s && list_any (is_on s.submitted.id) (ready w)) s)
 
-rounds_images : (n : ℕ) (w : World) → images_of (rounds n w).subs ≡ images_of w.subs
+rounds_frames : (n : ℕ) (w : World) → frames_of (rounds n w).subs ≡ frames_of w.subs
 unfolding rounds
-rounds_images zero w = refl
-rounds_images (suc n) w = rounds_images n (round w) ∙ round_images w
+rounds_frames zero w = refl
+rounds_frames (suc n) w = rounds_frames n (round w) ∙ round_frames w
 
-drop_image : (t : Bool) (s : Submission) → (cond t (record s { state = Dropped }) s).image ≡ s.image
-drop_image true s = refl
-drop_image false s = refl
+drop_frame : (t : Bool) (s : Submission) → (cond t (record s { state = Dropped }) s).submitted ≡ s.submitted
+drop_frame true s = refl
+drop_frame false s = refl
 
-collect_images : (w : World) → images_of (collect w).subs ≡ images_of w.subs
+collect_frames : (w : World) → frames_of (collect w).subs ≡ frames_of w.subs
 unfolding collect clearing naming
-collect_images w =
+collect_frames w =
     let lost : List Created = lost_in (naming w) in
-    images_kept (drop_on lost) w.subs (λ s. drop_image ((is_waiting s || is_active s) && list_any (λ c. is_on c.id s) lost) s)
+    frames_kept (drop_on lost) w.subs (λ s. drop_frame ((is_waiting s || is_active s) && list_any (λ c. is_on c.id s) lost) s)
 
 -- activation and collection leave what submissions were accepted with
-pub collected_images : (w : World) → images_of (collect (settle w)).subs ≡ images_of w.subs
+pub collected_frames : (w : World) → frames_of (collect (settle w)).subs ≡ frames_of w.subs
 unfolding settle
-collected_images w = collect_images (settle w) ∙ rounds_images _ w
+collected_frames w = collect_frames (settle w) ∙ rounds_frames _ w
 
 -- and so does all that follows an answer
-pub outcome_images : (presented : List Sub) (a : Answer) → images_of (outcome_of presented a).world.subs ≡ images_of a.world.subs
+pub outcome_frames : (presented : List Sub) (a : Answer) → frames_of (outcome_of presented a).world.subs ≡ frames_of a.world.subs
 unfolding outcome_of feed give_back
-outcome_images presented a =
-    images_kept (mark_fed (give_back (collect (settle a.world))) presented) (collect (settle a.world)).subs (λ s. refl) ∙ collected_images a.world
+outcome_frames presented a =
+    frames_kept (mark_fed (give_back (collect (settle a.world))) presented) (collect (settle a.world)).subs (λ s. refl) ∙ collected_frames a.world
 
 -- a count that reads what submissions were accepted with
-pub count_images : (t : Image → Bool) (subs : List Submission) → count_by (λ s. t s.image) subs ≡ count_by t (images_of subs)
-count_images t [] = refl
-count_images t (s ∷ ss) =
-    sum_by-cons (λ x. cond (t x.image) 1 0) s ss ∙ (ap (λ n. cond (t s.image) 1 0 + n) (count_images t ss) ∙ sym (sum_by-cons (λ i. cond (t i) 1 0) s.image (images_of ss)))
+pub count_frames : (t : FrameData → Bool) (subs : List Submission) → count_by (λ s. t s.submitted) subs ≡ count_by t (frames_of subs)
+count_frames t [] = refl
+count_frames t (s ∷ ss) =
+    sum_by-cons (λ x. cond (t x.submitted) 1 0) s ss ∙ (ap (λ n. cond (t s.submitted) 1 0 + n) (count_frames t ss) ∙ sym (sum_by-cons (λ i. cond (t i) 1 0) s.submitted (frames_of ss)))
 
-pub count_kept : (t : Image → Bool) (xs ys : List Submission) → images_of xs ≡ images_of ys → count_by (λ s. t s.image) xs ≡ count_by (λ s. t s.image) ys
-count_kept t xs ys e = count_images t xs ∙ (ap (count_by t) e ∙ sym (count_images t ys))
+pub count_kept : (t : FrameData → Bool) (xs ys : List Submission) → frames_of xs ≡ frames_of ys → count_by (λ s. t s.submitted) xs ≡ count_by (λ s. t s.submitted) ys
+count_kept t xs ys e = count_frames t xs ∙ (ap (count_by t) e ∙ sym (count_frames t ys))

@@ -21,12 +21,12 @@ use Rattle.vz_rules.specs.declared.entry.Event.TheVariants as event
 use Rattle.vz_rules.specs.declared.entry.Reply.TheVariants as reply
 use Rattle.vz_rules.specs.declared.entry.Refusal.{Refusal}
 use Rattle.vz_rules.specs.declared.entry.Refusal.TheVariants as refusal
-use Rattle.vz_rules.specs.World.{World, Client, Image, Created, Submission, Scene, is_on, last_created, client_at, next_message}
+use Rattle.vz_rules.specs.World.{World, Client, FrameData, Created, Submission, Scene, is_on, last_created, client_at, next_message}
 use Rattle.vz_rules.specs.Scene.{scene_of}
 use Rattle.vz_rules.specs.Messages.{Answer, says, refused, unless_refused, first_some, when, in_use, hierarchy_refusal, is_unknown, violates, is_last, has_other_size, id_of, new_submission, with_surface, replace_on, mark_of, submit_refusal, submit_answer, accepted, upload_answer, root_answer, hierarchy_answer, await_answer, message_answer, known_client_answer, client_answer}
 use Rattle.vz_rules.specs.Walk.{walk_of, too_much}
 use Rattle.vz_rules.specs.Damage.{drawn_damage}
-use Rattle.vz_rules.specs.Step.{begin_answer, scene_answer, draw_answer, done_answer, answer_to, step_in, presented_by, accepted_images}
+use Rattle.vz_rules.specs.Step.{begin_answer, scene_answer, draw_answer, done_answer, answer_to, step_in, presented_by, accepted_frames}
 use Rattle.vz_rules.specs.Kept.{HasSize, KeepsAlways, is_open}
 use Rattle.vz_rules.proofs.Members.{contains_push, contains_at, contains_cases, contains_none, at_contains, push_contains, push_contains_last, find_at}
 use Rattle.vz_rules.proofs.Counts.{count_at}
@@ -35,31 +35,31 @@ use Rattle.vz_rules.proofs.Kept_accepted.{replaces}
 use Rattle.vz_rules.proofs.Kept_last.{last_at}
 use Rattle.vz_rules.proofs.Kept_states.{open_before}
 use Rattle.vz_rules.proofs.Kept_submits.{one_of_number}
-use Rattle.vz_rules.proofs.Stays.{Stays, WasOpen, KeepsSize, image_of, images_mapped, opens_same, opens_mapped, sizes_mapped, stays_after}
+use Rattle.vz_rules.proofs.Stays.{Stays, WasOpen, KeepsSize, frame_of, frames_mapped, opens_same, opens_mapped, sizes_mapped, stays_after}
 
 -- no submission on its surface has a greater number
 abbrev pub IsLatest : List Submission → Submission → Type 0
-IsLatest xs t = (s : Submission) → Contains xs s → same_surface s.image.id t.image.id ≡ true → s.image.index ≤ t.image.index
+IsLatest xs t = (s : Submission) → Contains xs s → same_surface s.submitted.id t.submitted.id ≡ true → s.submitted.index ≤ t.submitted.index
 
--- the second world has the accepted images of the first and some more, whose surfaces have their sizes. What is open was open, or is the latest of its surface
+-- the second world has the accepted frames of the first and some more, whose surfaces have their sizes. What is open was open, or is the latest of its surface
 pub record Goes (w v : World) : Type 0 where
-  pub more : List Image
-  pub images : accepted_images v ≡ accepted_images w ++ more
+  pub more : List FrameData
+  pub active : accepted_frames v ≡ accepted_frames w ++ more
   pub opens : (t : Submission) → Contains v.subs t → is_open t ≡ true → WasOpen w.subs t ⊎ IsLatest w.subs t
   pub surfaces : (id : SurfaceId) (size : Size) → HasSize w.surfaces id size → HasSize v.surfaces id size
-  pub sizes : (i : Image) → Contains more i → HasSize v.surfaces i.id (frame_size i.frame)
+  pub sizes : (i : FrameData) → Contains more i → HasSize v.surfaces i.id (frame_size i.frame)
 
 goes_then : (w v u : World) → Goes w v → Stays v u → Goes w u
 goes_then w v u first second =
     let earlier = first.opens in
     record {
       more = first.more;
-      images = second.images ∙ first.images;
+      active = second.active ∙ first.active;
       opens = λ t c o.
           let s = second.opens t c o in
           elim (earlier s.0 s.1 s.2) [
             | inl r ↦ inl (r.0, r.1, r.2, r.3 ∙ s.3)
-            | inr latest ↦ inr (subst (λ (i : Image). (x : Submission) → Contains w.subs x → same_surface x.image.id i.id ≡ true → x.image.index ≤ i.index) s.3 latest)
+            | inr latest ↦ inr (subst (λ (i : FrameData). (x : Submission) → Contains w.subs x → same_surface x.submitted.id i.id ≡ true → x.submitted.index ≤ i.index) s.3 latest)
           ];
       surfaces = λ id size h. second.surfaces id size (first.surfaces id size h);
       sizes = λ i c. second.surfaces i.id (frame_size i.frame) (first.sizes i c);
@@ -70,7 +70,7 @@ goes_sized : (w v : World) → v.subs ≡ w.subs → ((id : SurfaceId) (size : S
 goes_sized w v e sizes =
     record {
       more = [];
-      images = ap (map image_of) e ∙ sym (append-nil (accepted_images w));
+      active = ap (map frame_of) e ∙ sym (append-nil (accepted_frames w));
       opens = λ t c o. inl (opens_same w.subs t (subst (λ (l : List Submission). Contains l t) e c) o);
       surfaces = sizes;
       sizes = λ i c. absurd (contains_none i c);
@@ -130,17 +130,17 @@ new_index : (w : World) (c : Client) (local : LocalSurfaceId) (frame : Composito
 unfolding new_submission
 new_index w c local frame h s p same =
     let n = contains_at w.subs s p in
-    let id = from_same s.image.id (id_of c local) same in
+    let id = from_same s.submitted.id (id_of c local) same in
     omega (
       arith,
       h.numbers.numbered n.0 s n.1,
-      count_at (is_on s.image.id) w.subs n.0 s n.1 (self_same s.image.id),
+      count_at (is_on s.submitted.id) w.subs n.0 s n.1 (self_same s.submitted.id),
       ap (λ x. count_by (is_on x) w.subs) id,
     )
 
 new_sized : (w : World) (c : Client) (local : LocalSurfaceId) (frame : CompositorFrame) → KeepsAlways w → Contains w.clients c
     → has_other_size (last_created w c.number) local frame ≡ false
-    → HasSize (with_surface w c local frame) (new_submission w c local frame).image.id (frame_size (new_submission w c local frame).image.frame)
+    → HasSize (with_surface w c local frame) (new_submission w c local frame).submitted.id (frame_size (new_submission w c local frame).submitted.frame)
 unfolding with_surface new_submission
 new_sized w c local frame h p size =
     sized_by (is_last (last_created w c.number) local) w.surfaces _ (id_of c local) (frame_size frame)
@@ -148,10 +148,10 @@ new_sized w c local frame h p size =
 
 new_size : (w : World) (c : Client) (local : LocalSurfaceId) (frame : CompositorFrame) → KeepsAlways w → Contains w.clients c
     → has_other_size (last_created w c.number) local frame ≡ false
-    → (i : Image) → Contains ((new_submission w c local frame).image ∷ []) i → HasSize (with_surface w c local frame) i.id (frame_size i.frame)
+    → (i : FrameData) → Contains ((new_submission w c local frame).submitted ∷ []) i → HasSize (with_surface w c local frame) i.id (frame_size i.frame)
 new_size w c local frame h p size i q =
-    elim (contains_cases (new_submission w c local frame).image i [] q) [
-      | inl e ↦ subst (λ (j : Image). HasSize (with_surface w c local frame) j.id (frame_size j.frame)) e (new_sized w c local frame h p size)
+    elim (contains_cases (new_submission w c local frame).submitted i [] q) [
+      | inl e ↦ subst (λ (j : FrameData). HasSize (with_surface w c local frame) j.id (frame_size j.frame)) e (new_sized w c local frame h p size)
       | inr m ↦ absurd (contains_none i m)
     ]
 
@@ -165,10 +165,10 @@ goes_accepted w c local frame h p size =
     let f = replace_on id in
     let is = is_last (last_created w c.number) local in
     record {
-      more = new.image ∷ [];
-      images = map-append image_of (map f w.subs) (new ∷ []) ∙ ap (λ (l : List Image). l ++ new.image ∷ []) (images_mapped f (replaces id).image w.subs);
+      more = new.submitted ∷ [];
+      active = map-append frame_of (map f w.subs) (new ∷ []) ∙ ap (λ (l : List FrameData). l ++ new.submitted ∷ []) (frames_mapped f (replaces id).submitted w.subs);
       opens = λ t q o. elim (contains_push (map f w.subs) new t q) [
-        | inl m ↦ inl (opens_mapped f (replaces id).image (open_before f (replaces id)) w.subs t m o)
+        | inl m ↦ inl (opens_mapped f (replaces id).submitted (open_before f (replaces id)) w.subs t m o)
         | inr e ↦ inr (subst (IsLatest w.subs) e (new_index w c local frame h))
       ];
       surfaces = λ i s k. grown_by is w.surfaces _ i s k;
@@ -251,7 +251,7 @@ goes_scene : (p : Plan) (w : World) (scene : Scene) → Gone w (scene_answer p w
 unfolding scene_answer
 goes_scene p w scene =
     let walked = walk_of p.size scene in
-    let damage = drawn_damage p.size w.last (accepted_images w) scene.root walked in
+    let damage = drawn_damage p.size w.last (accepted_frames w) scene.root walked in
     by_test w (too_much walked) _ _ (goes_same w _ refl refl) (by_test w (is_some w.last && is_empty_rect damage) _ _ (goes_same w _ refl refl) (goes_same w _ refl refl))
 
 seen_by : (p : Plan) (w : World) (o : Option Scene) → Gone w (elim o [ Some scene ↦ scene_answer p w scene | None ↦ says reply.NoRoot w ])

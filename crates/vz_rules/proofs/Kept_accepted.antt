@@ -20,19 +20,19 @@ pub numbers_of_more : (ss : List Created) (subs : List Submission) (new : Create
 numbers_of_more ss subs new h =
     record { numbered = h.numbered; ordered = h.ordered; created = λ s c. let d = h.created s c in (d.0, push_contains ss new d.0 d.1, d.2, d.3) }
 
-pub numbers_more : (ss : List Created) (subs : List Submission) (new : Submission) → new.image.index ≡ count_by (is_on new.image.id) subs + 1
-    → new.image.sub.ordinal ≡ count_by (is_by new.image.sub.client) subs + 1 → IsCreated ss new → KeepsNumbers ss subs → KeepsNumbers ss (subs ++ new ∷ [])
+pub numbers_more : (ss : List Created) (subs : List Submission) (new : Submission) → new.submitted.index ≡ count_by (is_on new.submitted.id) subs + 1
+    → new.submitted.sub.ordinal ≡ count_by (is_by new.submitted.sub.client) subs + 1 → IsCreated ss new → KeepsNumbers ss subs → KeepsNumbers ss (subs ++ new ∷ [])
 numbers_more ss subs new index ordinal made h =
     record {
       numbered = λ n s p. elim (at_push subs new n s p) [
-        | inl r ↦ h.numbered n s r.0 ∙ ap (λ l. count_by (is_on s.image.id) l + 1) (sym r.1)
-        | inr r ↦ subst (λ (x : Submission). x.image.index ≡ count_by (is_on x.image.id) (take n (subs ++ new ∷ [])) + 1) r.1
-            (index ∙ ap (λ l. count_by (is_on new.image.id) l + 1) (sym r.2))
+        | inl r ↦ h.numbered n s r.0 ∙ ap (λ l. count_by (is_on s.submitted.id) l + 1) (sym r.1)
+        | inr r ↦ subst (λ (x : Submission). x.submitted.index ≡ count_by (is_on x.submitted.id) (take n (subs ++ new ∷ [])) + 1) r.1
+            (index ∙ ap (λ l. count_by (is_on new.submitted.id) l + 1) (sym r.2))
       ];
       ordered = λ n s p. elim (at_push subs new n s p) [
-        | inl r ↦ h.ordered n s r.0 ∙ ap (λ l. count_by (is_by s.image.sub.client) l + 1) (sym r.1)
-        | inr r ↦ subst (λ (x : Submission). x.image.sub.ordinal ≡ count_by (is_by x.image.sub.client) (take n (subs ++ new ∷ [])) + 1) r.1
-            (ordinal ∙ ap (λ l. count_by (is_by new.image.sub.client) l + 1) (sym r.2))
+        | inl r ↦ h.ordered n s r.0 ∙ ap (λ l. count_by (is_by s.submitted.sub.client) l + 1) (sym r.1)
+        | inr r ↦ subst (λ (x : Submission). x.submitted.sub.ordinal ≡ count_by (is_by x.submitted.sub.client) (take n (subs ++ new ∷ [])) + 1) r.1
+            (ordinal ∙ ap (λ l. count_by (is_by new.submitted.sub.client) l + 1) (sym r.2))
       ];
       created = λ s c. elim (contains_push subs new s c) [ inl m ↦ h.created s m | inr e ↦ subst (IsCreated ss) e made ];
     }
@@ -41,17 +41,17 @@ numbers_more ss subs new index ordinal made h =
 pub subs_differ : (ss : List Created) (subs : List Submission) → KeepsNumbers ss subs
     → (n m : ℕ) (s t : Submission) → slice_get subs n ≡ Some s → slice_get subs m ≡ Some t → same_sub (sub_of s) (sub_of t) ≡ true → n ≡ m
 subs_differ ss subs h n m s t p q e =
-    let both = and_parts (s.image.sub.client == t.image.sub.client) (s.image.sub.ordinal == t.image.sub.ordinal) e in
-    let client = eqb-true s.image.sub.client t.image.sub.client both.0 in
-    let ordinal = eqb-true s.image.sub.ordinal t.image.sub.ordinal both.1 in
+    let both = and_parts (s.submitted.sub.client == t.submitted.sub.client) (s.submitted.sub.ordinal == t.submitted.sub.ordinal) e in
+    let client = eqb-true s.submitted.sub.client t.submitted.sub.client both.0 in
+    let ordinal = eqb-true s.submitted.sub.ordinal t.submitted.sub.ordinal both.1 in
     let one = h.ordered n s p in
     let two = h.ordered m t q in
     let same = ap (λ c. count_by (is_by c) (take n subs)) client in
     elim (cases_order n m) [
       | inl k ↦ k
       | inr r ↦ elim r [
-        | inl l ↦ absurd (omega (arith, ordinal, one, two, same, count_before (is_by t.image.sub.client) subs n m s p both.0 l))
-        | inr l ↦ absurd (omega (arith, ordinal, one, two, same, count_before (is_by t.image.sub.client) subs m n t q (eq-eqb t.image.sub.client t.image.sub.client refl) l))
+        | inl l ↦ absurd (omega (arith, ordinal, one, two, same, count_before (is_by t.submitted.sub.client) subs n m s p both.0 l))
+        | inr l ↦ absurd (omega (arith, ordinal, one, two, same, count_before (is_by t.submitted.sub.client) subs m n t q (eq-eqb t.submitted.sub.client t.submitted.sub.client refl) l))
       ]
     ]
 
@@ -89,9 +89,9 @@ pub record IsNew (ss : List Created) (subs : List Submission) (new : Submission)
   pub waits : is_waiting new ≡ true
   pub acts : is_active new ≡ false
   pub was : new.was_active ≡ false
-  pub index : new.image.index ≡ count_by (is_on new.image.id) subs + 1
-  pub alone : (s : Submission) → Contains subs s → (is_on new.image.id s && is_waiting s) ≡ false
-  pub stands : Stands ss new.image.id
+  pub index : new.submitted.index ≡ count_by (is_on new.submitted.id) subs + 1
+  pub alone : (s : Submission) → Contains subs s → (is_on new.submitted.id s && is_waiting s) ≡ false
+  pub stands : Stands ss new.submitted.id
 
 no_and : (a b : Bool) → b ≡ false → (a && b) ≡ false
 no_and true b h = h
@@ -103,7 +103,7 @@ states_more ss subs new numbers is h =
     record {
       one_waits = λ id. subst (λ n. n ≤ 1) (sym (count_push (on_and is_waiting id) subs new))
           (waits_once (count_by (on_and is_waiting id) subs) (on_and is_waiting id new) (h.one_waits id) (λ e.
-          let same : new.image.id ≡ id = from_same new.image.id id (and_parts (is_on id new) (is_waiting new) e).0 in
+          let same : new.submitted.id ≡ id = from_same new.submitted.id id (and_parts (is_on id new) (is_waiting new) e).0 in
           count_none (on_and is_waiting id) subs (λ s c. subst (λ i. (is_on i s && is_waiting s) ≡ false) same (is.alone s c))));
       one_is_active = λ id. subst (λ n. n ≤ 1) (sym (count_push (on_and is_active id) subs new))
           (stays_once (count_by (on_and is_active id) subs) (on_and is_active id new) (h.one_is_active id) (no_and (is_on id new) (is_active new) is.acts));
@@ -112,16 +112,16 @@ states_more ss subs new numbers is h =
         | inl b ↦ elim (contains_push subs new s p) [
           | inl a ↦ h.waits_later s t a b waits acts same
           | inr e ↦
-              let on : is_on new.image.id t ≡ true =
-              (ap (λ i. same_surface t.image.id i) (ap (λ (x : Submission). x.image.id) e ∙ from_same s.image.id t.image.id same) ∙ self_same t.image.id) in
-              let id : t.image.id ≡ new.image.id = from_same t.image.id new.image.id on in
+              let on : is_on new.submitted.id t ≡ true =
+              (ap (λ i. same_surface t.submitted.id i) (ap (λ (x : Submission). x.submitted.id) e ∙ from_same s.submitted.id t.submitted.id same) ∙ self_same t.submitted.id) in
+              let id : t.submitted.id ≡ new.submitted.id = from_same t.submitted.id new.submitted.id on in
               let m = contains_at subs t b in
-              let less = count_at (is_on new.image.id) subs m.0 t m.1 on in
+              let less = count_at (is_on new.submitted.id) subs m.0 t m.1 on in
               let same_count = ap (λ i. count_by (is_on i) (take m.0 subs)) id in
-              omega (arith, numbers.numbered m.0 t m.1, less, same_count, is.index, ap (λ (x : Submission). x.image.index) e)
+              omega (arith, numbers.numbered m.0 t m.1, less, same_count, is.index, ap (λ (x : Submission). x.submitted.index) e)
         ]
       ];
-      stand = λ s c o. elim (contains_push subs new s c) [ inl m ↦ h.stand s m o | inr e ↦ subst (λ (x : Submission). Stands ss x.image.id) e is.stands ];
+      stand = λ s c o. elim (contains_push subs new s c) [ inl m ↦ h.stand s m o | inr e ↦ subst (λ (x : Submission). Stands ss x.submitted.id) e is.stands ];
       was_active = λ s c acts. elim (contains_push subs new s c) [
         | inl m ↦ h.was_active s m acts
         | inr e ↦ absurd (both_ways (is_active new) is.acts (ap is_active e ∙ acts))
@@ -131,7 +131,7 @@ states_more ss subs new numbers is h =
 
 -- Flight
 
-pub flight_keeps : (f : Submission → Submission) (o : Option (List Sub)) (subs : List Submission) → ((s : Submission) → (f s).image ≡ s.image)
+pub flight_keeps : (f : Submission → Submission) (o : Option (List Sub)) (subs : List Submission) → ((s : Submission) → (f s).submitted ≡ s.submitted)
     → KeepsFlight o subs → KeepsFlight o (map f subs)
 flight_keeps f o subs name h drawn sub e c =
     let m = h drawn sub e c in (f m.0, map_contains f subs m.0 m.1, ap (λ i. i.sub) (name m.0) ∙ m.2)

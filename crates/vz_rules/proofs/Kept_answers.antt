@@ -15,7 +15,7 @@ use Rattle.vz_rules.specs.Scene.{scene_of}
 use Rattle.vz_rules.specs.Walk.{walk_of, too_much, walked_subs}
 use Rattle.vz_rules.specs.Damage.{aggregation_of, drawn_damage}
 use Rattle.vz_rules.specs.Messages.{Answer, says, took, taking, refused, unless_refused, upload_answer, answer_tick, reclaim, hierarchy_refusal, relate, hierarchy_answer, await_answer}
-use Rattle.vz_rules.specs.Step.{scene_answer, draw_answer, accepted_images, answer_to}
+use Rattle.vz_rules.specs.Step.{scene_answer, draw_answer, accepted_frames, answer_to}
 use Rattle.vz_rules.specs.Kept.{KeepsAlways, Keeps}
 use Rattle.vz_rules.proofs.Members.{contains_map}
 use Rattle.vz_rules.proofs.Kept_returns.{put_at, storing}
@@ -167,14 +167,14 @@ scene_keeps : (p : Plan) (w : World) (scene : Scene) → is_some w.in_flight ≡
     → Keeps (scene_answer p w scene).world
 unfolding scene_answer
 scene_keeps p w scene none always h =
-    by (too_much (walk_of p.size scene)) (is_some w.last && is_empty_rect (drawn_damage p.size w.last (accepted_images w) scene.root (walk_of p.size scene))) always
+    by (too_much (walk_of p.size scene)) (is_some w.last && is_empty_rect (drawn_damage p.size w.last (accepted_frames w) scene.root (walk_of p.size scene))) always
   where
     by : (t u : Bool)
         → KeepsAlways (cond t (says reply.TooMuch w) (cond u (says reply.Unchanged (record w { last = Some (aggregation_of scene (walk_of p.size scene)) }))
-        (says (reply.Drawn (drawn_damage p.size w.last (accepted_images w) scene.root (walk_of p.size scene)))
+        (says (reply.Drawn (drawn_damage p.size w.last (accepted_frames w) scene.root (walk_of p.size scene)))
         (record w { last = Some (aggregation_of scene (walk_of p.size scene)); in_flight = Some (walked_subs scene (walk_of p.size scene)) })))).world
         → Keeps (cond t (says reply.TooMuch w) (cond u (says reply.Unchanged (record w { last = Some (aggregation_of scene (walk_of p.size scene)) }))
-        (says (reply.Drawn (drawn_damage p.size w.last (accepted_images w) scene.root (walk_of p.size scene)))
+        (says (reply.Drawn (drawn_damage p.size w.last (accepted_frames w) scene.root (walk_of p.size scene)))
         (record w { last = Some (aggregation_of scene (walk_of p.size scene)); in_flight = Some (walked_subs scene (walk_of p.size scene)) })))).world
     by true u a = h
     by false true a = keeps_besides w (Some (aggregation_of scene (walk_of p.size scene))) w.over w.relations w.in_flight (λ sub e. e) a h

@@ -5,7 +5,7 @@ use Rattle.vz_ids.specs.declared.Sub.{Sub}
 use Rattle.vz_rules.specs.declared.entry.State.TheVariants.{Dropped}
 use Rattle.vz_rules.specs.declared.entry.Event.{Event}
 use Rattle.vz_rules.specs.Plan.{Plan}
-use Rattle.vz_rules.specs.World.{World, Client, Image, Submission, active_images, is_waiting, is_active, is_on}
+use Rattle.vz_rules.specs.World.{World, Client, FrameData, Submission, active_frames, is_waiting, is_active, is_on}
 use Rattle.vz_rules.specs.Settle.{ready, settle}
 use Rattle.vz_rules.specs.Reach.{naming, drop_on, lost_in, clearing, collect}
 use Rattle.vz_rules.specs.Returns.{queue_returns, give_back, mark_fed, feed}
@@ -22,52 +22,52 @@ use Rattle.vz_rules.proofs.Kept_reach.{none_lost_after, named_after, all_named_a
 
 -- A step
 
-abbrev image_of : Submission → Image
-image_of s = s.image
+abbrev frame_of : Submission → FrameData
+frame_of s = s.submitted
 
--- one submission, dropped or not, and its image, left out or not
-dropped_by : (waits acts any : Bool) (s : Submission) (ys : List Submission) (is : List Image) → is_waiting s ≡ waits → is_active s ≡ acts
-    → map image_of ys ≡ is
-    → map image_of (cond (is_active (cond ((waits || acts) && any) (record s { state = Dropped }) s)) (cond ((waits || acts) && any) (record s { state = Dropped }) s ∷ ys) ys)
-    ≡ cond acts (cond (not any) (s.image ∷ is) is) is
+-- one submission, dropped or not, and its frame, left out or not
+dropped_by : (waits acts any : Bool) (s : Submission) (ys : List Submission) (is : List FrameData) → is_waiting s ≡ waits → is_active s ≡ acts
+    → map frame_of ys ≡ is
+    → map frame_of (cond (is_active (cond ((waits || acts) && any) (record s { state = Dropped }) s)) (cond ((waits || acts) && any) (record s { state = Dropped }) s ∷ ys) ys)
+    ≡ cond acts (cond (not any) (s.submitted ∷ is) is) is
 dropped_by waits true true s ys is e f h = by_waits waits
   where
     by_waits : (w : Bool)
-        → map image_of (cond (is_active (cond ((w || true) && true) (record s { state = Dropped }) s)) (cond ((w || true) && true) (record s { state = Dropped }) s ∷ ys) ys) ≡ is
+        → map frame_of (cond (is_active (cond ((w || true) && true) (record s { state = Dropped }) s)) (cond ((w || true) && true) (record s { state = Dropped }) s ∷ ys) ys) ≡ is
     by_waits true = h
     by_waits false = h
-dropped_by true true false s ys is e f h = ap (λ (t : Bool). map image_of (cond t (s ∷ ys) ys)) f ∙ ap (λ l. s.image ∷ l) h
-dropped_by false true false s ys is e f h = ap (λ (t : Bool). map image_of (cond t (s ∷ ys) ys)) f ∙ ap (λ l. s.image ∷ l) h
+dropped_by true true false s ys is e f h = ap (λ (t : Bool). map frame_of (cond t (s ∷ ys) ys)) f ∙ ap (λ l. s.submitted ∷ l) h
+dropped_by false true false s ys is e f h = ap (λ (t : Bool). map frame_of (cond t (s ∷ ys) ys)) f ∙ ap (λ l. s.submitted ∷ l) h
 dropped_by true false true s ys is e f h = h
-dropped_by true false false s ys is e f h = ap (λ (t : Bool). map image_of (cond t (s ∷ ys) ys)) f ∙ h
-dropped_by false false any s ys is e f h = ap (λ (t : Bool). map image_of (cond t (s ∷ ys) ys)) f ∙ h
+dropped_by true false false s ys is e f h = ap (λ (t : Bool). map frame_of (cond t (s ∷ ys) ys)) f ∙ h
+dropped_by false false any s ys is e f h = ap (λ (t : Bool). map frame_of (cond t (s ∷ ys) ys)) f ∙ h
 
-filter_cond : (kept : Image → Bool) (t : Bool) (s : Submission) (ys : List Submission)
-    → filter kept (map image_of (cond t (s ∷ ys) ys)) ≡ cond t (cond (kept s.image) (s.image ∷ filter kept (map image_of ys)) (filter kept (map image_of ys))) (filter kept (map image_of ys))
+filter_cond : (kept : FrameData → Bool) (t : Bool) (s : Submission) (ys : List Submission)
+    → filter kept (map frame_of (cond t (s ∷ ys) ys)) ≡ cond t (cond (kept s.submitted) (s.submitted ∷ filter kept (map frame_of ys)) (filter kept (map frame_of ys))) (filter kept (map frame_of ys))
 filter_cond kept true s ys = refl
 filter_cond kept false s ys = refl
 
-pub dropped_images : (w : World) (subs : List Submission) → active_images (map (drop_on (lost_in w)) subs) ≡ filter (unlost w) (active_images subs)
-dropped_images w [] = refl
-dropped_images w (s ∷ subs) =
-    dropped_by (is_waiting s) (is_active s) (list_any (λ c. is_on c.id s) (lost_in w)) s (filter is_active (map (drop_on (lost_in w)) subs)) (filter (unlost w) (active_images subs)) refl refl (dropped_images w subs)
+pub dropped_frames : (w : World) (subs : List Submission) → active_frames (map (drop_on (lost_in w)) subs) ≡ filter (unlost w) (active_frames subs)
+dropped_frames w [] = refl
+dropped_frames w (s ∷ subs) =
+    dropped_by (is_waiting s) (is_active s) (list_any (λ c. is_on c.id s) (lost_in w)) s (filter is_active (map (drop_on (lost_in w)) subs)) (filter (unlost w) (active_frames subs)) refl refl (dropped_frames w subs)
     ∙ sym (filter_cond (unlost w) (is_active s) s (filter is_active subs))
 
-fed_cond : (t : Bool) (s u : Submission) (xs ys : List Submission) → s.image ≡ u.image → map image_of xs ≡ map image_of ys
-    → map image_of (cond t (s ∷ xs) xs) ≡ map image_of (cond t (u ∷ ys) ys)
-fed_cond true s u xs ys e h = ap (λ i. i ∷ map image_of xs) e ∙ ap (λ l. u.image ∷ l) h
+fed_cond : (t : Bool) (s u : Submission) (xs ys : List Submission) → s.submitted ≡ u.submitted → map frame_of xs ≡ map frame_of ys
+    → map frame_of (cond t (s ∷ xs) xs) ≡ map frame_of (cond t (u ∷ ys) ys)
+fed_cond true s u xs ys e h = ap (λ i. i ∷ map frame_of xs) e ∙ ap (λ l. u.submitted ∷ l) h
 fed_cond false s u xs ys e h = h
 
-fed_images : (w : World) (presented : List Sub) (subs : List Submission) → active_images (map (mark_fed w presented) subs) ≡ active_images subs
-fed_images w presented [] = refl
-fed_images w presented (s ∷ subs) = fed_cond (is_active s) (mark_fed w presented s) s (filter is_active (map (mark_fed w presented) subs)) (filter is_active subs) refl (fed_images w presented subs)
+fed_frames : (w : World) (presented : List Sub) (subs : List Submission) → active_frames (map (mark_fed w presented) subs) ≡ active_frames subs
+fed_frames w presented [] = refl
+fed_frames w presented (s ∷ subs) = fed_cond (is_active s) (mark_fed w presented s) s (filter is_active (map (mark_fed w presented) subs)) (filter is_active subs) refl (fed_frames w presented subs)
 
 -- what is left of a world after collection, returns and feedback
 cleared_end : (presented : List Sub) (w : World) → Cleared w (feed presented (give_back (clearing w)))
 unfolding feed give_back clearing
 cleared_end presented w =
     record {
-      images = fed_images (give_back (clearing w)) presented (map (drop_on (lost_in w)) w.subs) ∙ dropped_images w w.subs;
+      active = fed_frames (give_back (clearing w)) presented (map (drop_on (lost_in w)) w.subs) ∙ dropped_frames w w.subs;
       surfaces = refl;
       root = refl;
       tick = refl;

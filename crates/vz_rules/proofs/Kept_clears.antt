@@ -51,28 +51,28 @@ pub open_unlost : (lost : List Created) (s : Submission) → is_open (drop_on lo
 open_unlost lost s h = open_on (is_waiting s || is_active s) (list_any (λ c. is_on c.id s) lost) s refl h
 
 -- and so that surface stands on
-stands_on : (w : World) (s : Submission) → is_open (drop_on (lost_in w) s) ≡ true → Stands w.surfaces s.image.id
-    → Stands (map (destroy (reach w)) w.surfaces) s.image.id
+stands_on : (w : World) (s : Submission) → is_open (drop_on (lost_in w) s) ≡ true → Stands w.surfaces s.submitted.id
+    → Stands (map (destroy (reach w)) w.surfaces) s.submitted.id
 unfolding lost_in
 stands_on w s o h =
-    let m = stands_at w.surfaces s.image.id h in
+    let m = stands_at w.surfaces s.submitted.id h in
     let stays : is_lost (reach w) m.0 ≡ false =
     false_from_ne_true (is_lost (reach w) m.0) (λ e. both_ways (list_any (λ c. is_on c.id s) (lost_in w)) (open_unlost (lost_in w) s o)
     (any_from (λ c. is_on c.id s) (lost_in w) m.0 (filter_has (is_lost (reach w)) w.surfaces m.0 m.1 e)
-    (ap (λ i. same_surface i m.0.id) (sym (from_same m.0.id s.image.id m.2)) ∙ self_same m.0.id))) in
-    stands_from (map (destroy (reach w)) w.surfaces) s.image.id (destroy (reach w) m.0) (map_contains (destroy (reach w)) w.surfaces m.0 m.1)
-    (ap (λ i. same_surface i s.image.id) ((destroyed_names (reach w)).id m.0) ∙ m.2) (stays_by (is_lost (reach w) m.0) m.0 stays m.3)
+    (ap (λ i. same_surface i m.0.id) (sym (from_same m.0.id s.submitted.id m.2)) ∙ self_same m.0.id))) in
+    stands_from (map (destroy (reach w)) w.surfaces) s.submitted.id (destroy (reach w) m.0) (map_contains (destroy (reach w)) w.surfaces m.0 m.1)
+    (ap (λ i. same_surface i s.submitted.id) ((destroyed_names (reach w)).id m.0) ∙ m.2) (stays_by (is_lost (reach w) m.0) m.0 stays m.3)
 
 pub always_clearing : (w : World) → KeepsAlways w → KeepsAlways (clearing w)
 unfolding clearing
 always_clearing w h =
     always_parts w (drop_on (lost_in w)) (destroy (reach w)) w.in_flight (record {
-      image = (drops (lost_in w)).image;
+      submitted = (drops (lost_in w)).submitted;
       surface = destroyed_names (reach w);
       marks = λ s p. destroyed_marks (is_lost (reach w) s) s (lost_marked (reach w) s);
       safe = λ c s p o e. unmarked_stays (reach w) s;
       states = states_keep (drop_on (lost_in w)) w.surfaces (map (destroy (reach w)) w.surfaces) w.subs (drops (lost_in w)) (λ s p o. stands_on w s o) h.states;
-      flight = flight_keeps (drop_on (lost_in w)) w.in_flight w.subs (drops (lost_in w)).image h.in_flight;
+      flight = flight_keeps (drop_on (lost_in w)) w.in_flight w.subs (drops (lost_in w)).submitted h.in_flight;
       opens = λ s p. open_before (drop_on (lost_in w)) (drops (lost_in w)) s;
       draws = λ s p e. holds_from w s h.states p (inr e);
     }) h
@@ -95,14 +95,14 @@ always_given w h =
 pub always_fed : (presented : List Sub) (w : World) → KeepsAlways w → KeepsAlways (feed presented w)
 unfolding feed
 always_fed presented w h =
-    let marks : OpensNone (mark_fed w presented) = record { image = λ s. refl; waits = λ s e. e; acts = λ s e. e; was = λ s. refl } in
+    let marks : OpensNone (mark_fed w presented) = record { submitted = λ s. refl; waits = λ s e. e; acts = λ s e. e; was = λ s. refl } in
     subst (λ l. KeepsAlways (record w { subs = map (mark_fed w presented) w.subs; surfaces = l })) (map-id w.surfaces)
     (always_parts w (mark_fed w presented) (λ s. s) w.in_flight (record {
-      image = λ s. refl;
+      submitted = λ s. refl;
       surface = record { client = λ s. refl; number = λ s. refl; id = λ s. refl; born = λ s. refl };
       marks = λ s p e. e;
       safe = λ c s p o e i. i;
-      states = states_keep (mark_fed w presented) w.surfaces (map (λ s. s) w.surfaces) w.subs marks (λ s p o i. subst (λ l. Stands l s.image.id) (sym (map-id w.surfaces)) i) h.states;
+      states = states_keep (mark_fed w presented) w.surfaces (map (λ s. s) w.surfaces) w.subs marks (λ s p o i. subst (λ l. Stands l s.submitted.id) (sym (map-id w.surfaces)) i) h.states;
       flight = flight_keeps (mark_fed w presented) w.in_flight w.subs (λ s. refl) h.in_flight;
       opens = λ s p e. e;
       draws = λ s p e. holds_from w s h.states p (inr e);

@@ -6,7 +6,7 @@ use Rattle.vz_ids.specs.declared.SurfaceId.{SurfaceId}
 use Rattle.vz_ids.specs.declared.SurfaceRange.{SurfaceRange}
 use Rattle.vz_ids.specs.Ids.{same_surface}
 use Rattle.vz_rules.specs.declared.entry.State.TheVariants.{Dropped}
-use Rattle.vz_rules.specs.World.{World, Created, Image, Submission, active_images, image_on, is_waiting, is_active}
+use Rattle.vz_rules.specs.World.{World, Created, FrameData, Submission, active_frames, frame_on, is_waiting, is_active}
 use Rattle.vz_rules.specs.Scene.{shown}
 use Rattle.vz_rules.specs.Reach.{has_id, referenced, naming, has_closed, is_temporary, root_list, roots, reach, is_lost, destroy, drop_on, lost_in, clearing, collect}
 use Rattle.vz_rules.specs.Kept.{KeepsAlways, stands_in}
@@ -15,15 +15,15 @@ use Rattle.vz_rules.proofs.Members.{same_tests, contains_map, map_contains, any_
 use Rattle.vz_rules.proofs.Kept_follows.{always_naming}
 use Rattle.vz_rules.proofs.Kept_once.{Cleared, unlost, reached_unlost, destroys_not, found_kept, shown_stays}
 use Rattle.vz_rules.proofs.Kept_reach.{refers, with_added, stands_back, lost_by, reach_stays, none_lost_after, named_after, all_named_after, naming_stays}
-use Rattle.vz_rules.proofs.Kept_between.{dropped_images}
+use Rattle.vz_rules.proofs.Kept_between.{dropped_frames}
 
 pub cleared_by : (w : World) → Cleared w (clearing w)
 unfolding clearing
-cleared_by w = record { images = dropped_images w w.subs; surfaces = refl; root = refl; tick = refl; closed = λ c. refl }
+cleared_by w = record { active = dropped_frames w w.subs; surfaces = refl; root = refl; tick = refl; closed = λ c. refl }
 
 -- What is shown
 
-refers_to : (w : World) (y z : SurfaceId) (i : Image) (range : SurfaceRange) → image_on y (active_images w.subs) ≡ Some i
+refers_to : (w : World) (y z : SurfaceId) (i : FrameData) (range : SurfaceRange) → frame_on y (active_frames w.subs) ≡ Some i
     → Contains i.frame.metadata.references range → shown w range ≡ Some z
     → has_id (referenced w y) z ≡ true
 refers_to w y z i range on c e =
@@ -31,20 +31,20 @@ refers_to w y z i range on c e =
     ∙ any_from (same_surface z) (filter_map (shown w) i.frame.metadata.references) z (filter_map_has (shown w) i.frame.metadata.references range z c e) (self_same z)
 
 -- a range that a reached surface references shows what it showed
-pub shown_once : (w : World) (id : SurfaceId) (i : Image) (range : SurfaceRange) → KeepsAlways w → has_id (reach w) id ≡ true
-    → image_on id (active_images w.subs) ≡ Some i
+pub shown_once : (w : World) (id : SurfaceId) (i : FrameData) (range : SurfaceRange) → KeepsAlways w → has_id (reach w) id ≡ true
+    → frame_on id (active_frames w.subs) ≡ Some i
     → Contains i.frame.metadata.references range → shown (clearing w) range ≡ shown w range
 shown_once w id i range h k on c =
     shown_stays w (clearing w) range h (cleared_by w) (λ z e. (reach_is_least w).closed id z k (refers_to w id z i range on c e))
 
--- and the reached surface has the image that it had
-pub image_once : (w : World) (id : SurfaceId) → has_id (reach w) id ≡ true → image_on id (active_images (clearing w).subs) ≡ image_on id (active_images w.subs)
-image_once w id k =
-    ap (image_on id) (cleared_by w).images ∙ found_kept (unlost w) id (active_images w.subs) (λ i on. reached_unlost w i (ap (has_id (reach w)) (from_same i.id id on) ∙ k))
+-- and the reached surface has the frame that it had
+pub frame_once : (w : World) (id : SurfaceId) → has_id (reach w) id ≡ true → frame_on id (active_frames (clearing w).subs) ≡ frame_on id (active_frames w.subs)
+frame_once w id k =
+    ap (frame_on id) (cleared_by w).active ∙ found_kept (unlost w) id (active_frames w.subs) (λ i on. reached_unlost w i (ap (has_id (reach w)) (from_same i.id id on) ∙ k))
 
 -- What is reached
 
-refers_back : (w v : World) (o : Option Image) (x : SurfaceId) → KeepsAlways w → Cleared w v
+refers_back : (w v : World) (o : Option FrameData) (x : SurfaceId) → KeepsAlways w → Cleared w v
     → ((z : SurfaceId) → has_id (refers w o) z ≡ true → has_id (reach w) z ≡ true)
     → has_id (refers v o) x ≡ true → has_id (refers w o) x ≡ true
 refers_back w v None x h cleared reached e = e
@@ -109,9 +109,9 @@ reach_before w v h cleared x e =
     (reach_is_least v).least (reach w)
     (λ z p. old.has_roots z (roots_before w v z cleared p))
     (λ y z p q.
-    let same : image_on y (active_images v.subs) ≡ image_on y (active_images w.subs) =
-    ap (image_on y) cleared.images ∙ found_kept (unlost w) y (active_images w.subs) (λ i on. reached_unlost w i (ap (has_id (reach w)) (from_same i.id y on) ∙ p)) in
-    old.closed y z p (refers_back w v (image_on y (active_images w.subs)) z h cleared (λ u f. old.closed y u p f) (ap (λ o. has_id (refers v o) z) (sym same) ∙ q)))
+    let same : frame_on y (active_frames v.subs) ≡ frame_on y (active_frames w.subs) =
+    ap (frame_on y) cleared.active ∙ found_kept (unlost w) y (active_frames w.subs) (λ i on. reached_unlost w i (ap (has_id (reach w)) (from_same i.id y on) ∙ p)) in
+    old.closed y z p (refers_back w v (frame_on y (active_frames w.subs)) z h cleared (λ u f. old.closed y u p f) (ap (λ o. has_id (refers v o) z) (sym same) ∙ q)))
     x e
 
 -- exactly what was reached is reached after the others were destroyed

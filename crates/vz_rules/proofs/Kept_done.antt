@@ -10,7 +10,7 @@ use Rattle.vz_rules.specs.declared.entry.Event.TheVariants as event
 use Rattle.vz_rules.specs.declared.entry.Returned.{Returned}
 use Rattle.vz_rules.specs.Plan.{Plan}
 use Rattle.vz_rules.specs.World.{World}
-use Rattle.vz_rules.specs.Settle.{met, has_come, is_ready, ready}
+use Rattle.vz_rules.specs.Settle.{is_met, has_come, is_ready, ready}
 use Rattle.vz_rules.specs.Reach.{is_named_now, naming, roots, reach, lost_in, collect, destroyed_in}
 use Rattle.vz_rules.specs.Scene.{shown}
 use Rattle.vz_rules.specs.Returns.{give_back, returned_in, feed, fed_in}
@@ -23,7 +23,7 @@ use Rattle.vz_rules.proofs.Kept_collected.{collect_stays}
 use Rattle.vz_rules.proofs.Kept_quiet.{settle_stays, activated_none, destroyed_none, nothing_follows}
 
 landed_ready : (w : World) → ready (landed w) ≡ ready w
-unfolding ready is_ready has_come met
+unfolding ready is_ready has_come is_met
 landed_ready w = refl
 
 landed_named : (w : World) → naming w ≡ w → naming (landed w) ≡ landed w

@@ -9,7 +9,7 @@ use Rattle.vz_ids.specs.Ids.{same_sink, at_least}
 use Rattle.vz_rules.specs.declared.entry.Fed.{Fed}
 use Rattle.vz_rules.specs.declared.entry.State.TheVariants.{Dropped}
 use Rattle.vz_rules.specs.World.{World, Client, Resource, Submission, is_waiting, is_active, is_on, is_in_flight, has_sub, sub_of}
-use Rattle.vz_rules.specs.Settle.{met, has_come, is_ready, ready}
+use Rattle.vz_rules.specs.Settle.{is_met, has_come, is_ready, ready}
 use Rattle.vz_rules.specs.Reach.{naming, lost_in, clearing, collect, drop_on}
 use Rattle.vz_rules.specs.Returns.{holds, is_held, queue_returns, give_back, mark_fed, feed}
 use Rattle.vz_rules.specs.Kept.{KeepsAlways, holds_of}
@@ -34,27 +34,27 @@ pub record Wanes (w v : World) (f : Submission → Submission) (k : Client → C
   pub closed : (c : Client) → (k c).closed ≡ c.closed
   pub sink : (c : Client) → (k c).sink ≡ c.sink
 
-met_wanes : (w v : World) (f : Submission → Submission) (k : Client → Client) → Wanes w v f k → (d : SurfaceId) → met v d ≡ met w d
-unfolding met
+met_wanes : (w v : World) (f : Submission → Submission) (k : Client → Client) → Wanes w v f k → (d : SurfaceId) → is_met v d ≡ is_met w d
+unfolding is_met
 met_wanes w v f k h d =
-    let subs : list_any (λ (s : Submission). s.was_active && at_least s.image.id d) v.subs ≡ list_any (λ (s : Submission). s.was_active && at_least s.image.id d) w.subs =
-    ap (list_any (λ (s : Submission). s.was_active && at_least s.image.id d)) (sym h.subs)
-    ∙ any_map f (λ (s : Submission). s.was_active && at_least s.image.id d) (λ (s : Submission). s.was_active && at_least s.image.id d) w.subs
-    (λ s. ap (λ t. t && at_least (f s).image.id d) (h.ends.was s) ∙ ap (λ i. s.was_active && at_least i.id d) (h.ends.image s)) in
+    let subs : list_any (λ (s : Submission). s.was_active && at_least s.submitted.id d) v.subs ≡ list_any (λ (s : Submission). s.was_active && at_least s.submitted.id d) w.subs =
+    ap (list_any (λ (s : Submission). s.was_active && at_least s.submitted.id d)) (sym h.subs)
+    ∙ any_map f (λ (s : Submission). s.was_active && at_least s.submitted.id d) (λ (s : Submission). s.was_active && at_least s.submitted.id d) w.subs
+    (λ s. ap (λ t. t && at_least (f s).submitted.id d) (h.ends.was s) ∙ ap (λ i. s.was_active && at_least i.id d) (h.ends.submitted s)) in
     let clients : list_any (λ (c : Client). c.closed && same_sink c.sink d.sink) v.clients ≡ list_any (λ (c : Client). c.closed && same_sink c.sink d.sink) w.clients =
     ap (list_any (λ (c : Client). c.closed && same_sink c.sink d.sink)) (sym h.clients)
     ∙ any_map k (λ (c : Client). c.closed && same_sink c.sink d.sink) (λ (c : Client). c.closed && same_sink c.sink d.sink) w.clients
     (λ c. ap (λ t. t && same_sink (k c).sink d.sink) (h.closed c) ∙ ap (λ x. c.closed && same_sink x d.sink) (h.sink c)) in
     ap (λ t. t || list_any (λ (c : Client). c.closed && same_sink c.sink d.sink) v.clients) subs
-    ∙ ap (λ t. list_any (λ (s : Submission). s.was_active && at_least s.image.id d) w.subs || t) clients
+    ∙ ap (λ t. list_any (λ (s : Submission). s.was_active && at_least s.submitted.id d) w.subs || t) clients
 
 come_wanes : (w v : World) (f : Submission → Submission) (k : Client → Client) → Wanes w v f k → (s : Submission) → has_come v (f s) ≡ has_come w s
 unfolding has_come
 come_wanes w v f k h s =
-    ap (λ t. t || nat_le (f s).due v.tick) (ap (λ i. list_all (met v) i.frame.metadata.dependencies) (h.ends.image s)
-    ∙ all_same (met v) (met w) s.image.frame.metadata.dependencies (met_wanes w v f k h))
-    ∙ (ap (λ n. list_all (met w) s.image.frame.metadata.dependencies || nat_le n v.tick) (h.due s)
-    ∙ ap (λ n. list_all (met w) s.image.frame.metadata.dependencies || nat_le s.due n) h.tick)
+    ap (λ t. t || nat_le (f s).due v.tick) (ap (λ i. list_all (is_met v) i.frame.metadata.dependencies) (h.ends.submitted s)
+    ∙ all_same (is_met v) (is_met w) s.submitted.frame.metadata.dependencies (met_wanes w v f k h))
+    ∙ (ap (λ n. list_all (is_met w) s.submitted.frame.metadata.dependencies || nat_le n v.tick) (h.due s)
+    ∙ ap (λ n. list_all (is_met w) s.submitted.frame.metadata.dependencies || nat_le s.due n) h.tick)
 
 pub ready_wanes : (w v : World) (f : Submission → Submission) (k : Client → Client) → Wanes w v f k → ready w ≡ [] → ready v ≡ []
 unfolding ready is_ready
@@ -91,7 +91,7 @@ ready_given w none =
       subs = map-id w.subs;
       clients = refl;
       tick = refl;
-      ends = record { image = λ s. refl; waits = λ s e. e; acts = λ s e. e; was = λ s. refl };
+      ends = record { submitted = λ s. refl; waits = λ s e. e; acts = λ s e. e; was = λ s. refl };
       due = λ s. refl;
       closed = λ c. refl;
       sink = λ c. refl;
@@ -104,7 +104,7 @@ ready_fed presented w none =
       subs = refl;
       clients = map-id w.clients;
       tick = refl;
-      ends = record { image = λ s. refl; waits = λ s e. e; acts = λ s e. e; was = λ s. refl };
+      ends = record { submitted = λ s. refl; waits = λ s e. e; acts = λ s e. e; was = λ s. refl };
       due = λ s. refl;
       closed = λ c. refl;
       sink = λ c. refl;

@@ -4,11 +4,11 @@ use Rattle.std.specs.Prelude.{nat_lt}
 use Rattle.std.proofs.lemmas.Bool.{and_parts, or_cases, or_right, not-true, not_from_false}
 use Rattle.vz_ids.specs.declared.SurfaceId.{SurfaceId}
 use Rattle.vz_ids.specs.Ids.{same_surface}
-use Rattle.vz_rules.specs.World.{World, Created, Image, Submission, active_images, image_on, is_waiting, is_active}
-use Rattle.vz_rules.specs.Scene.{shown_image, shown}
+use Rattle.vz_rules.specs.World.{World, Created, FrameData, Submission, active_frames, frame_on, is_waiting, is_active}
+use Rattle.vz_rules.specs.Scene.{shown_frame, shown}
 use Rattle.vz_rules.specs.Reach.{has_id, has_closed, is_temporary, root_list, roots, reach}
 use Rattle.vz_rules.specs.Kept.{KeepsAlways, stands_in}
-use Rattle.vz_rules.proofs.Reached.{from_same, self_same, reach_is_least, has_image, shown_has}
+use Rattle.vz_rules.proofs.Reached.{from_same, self_same, reach_is_least, has_frame, shown_has}
 use Rattle.vz_rules.proofs.Members.{contains_map, map_contains, any_at, any_from, filter_at, filter_has, filter_map_at}
 use Rattle.vz_rules.proofs.Kept_worlds.{stands_at, stands_from}
 use Rattle.vz_rules.proofs.Kept_reach.{refers, with_added}
@@ -58,31 +58,31 @@ roots_stand w x h =
           stands_from w.surfaces x d f.0 (ap (λ i. same_surface i x) (c.2 ∙ sym (from_same x m.0 m.2)) ∙ self_same x) (not-true d.destroyed stands)
     ]
 
--- the surface of an active image exists
-image_stands : (w : World) (x : SurfaceId) → KeepsAlways w → has_image (active_images w.subs) x ≡ true → stands_in w.surfaces x ≡ true
-image_stands w x h e =
-    let i = any_at (λ (i : Image). same_surface x i.id) (active_images w.subs) e in
-    let s = contains_map (λ (s : Submission). s.image) (filter is_active w.subs) i.0 i.1 in
+-- the surface of an active frame exists
+frame_stands : (w : World) (x : SurfaceId) → KeepsAlways w → has_frame (active_frames w.subs) x ≡ true → stands_in w.surfaces x ≡ true
+frame_stands w x h e =
+    let i = any_at (λ (i : FrameData). same_surface x i.id) (active_frames w.subs) e in
+    let s = contains_map (λ (s : Submission). s.submitted) (filter is_active w.subs) i.0 i.1 in
     let f = filter_at is_active w.subs s.0 s.1 in
-    ap (stands_in w.surfaces) (from_same x i.0.id i.2 ∙ ap (λ (j : Image). j.id) (sym s.2)) ∙ h.states.stand s.0 f.0 (or_right (is_waiting s.0) (is_active s.0) f.1)
+    ap (stands_in w.surfaces) (from_same x i.0.id i.2 ∙ ap (λ (j : FrameData). j.id) (sym s.2)) ∙ h.states.stand s.0 f.0 (or_right (is_waiting s.0) (is_active s.0) f.1)
 
-refers_stands : (w : World) (o : Option Image) (x : SurfaceId) → KeepsAlways w → has_id (refers w o) x ≡ true → stands_in w.surfaces x ≡ true
+refers_stands : (w : World) (o : Option FrameData) (x : SurfaceId) → KeepsAlways w → has_id (refers w o) x ≡ true → stands_in w.surfaces x ≡ true
 unfolding shown
 refers_stands w None x h e = absurd (cc)
 refers_stands w (Some i) x h e =
     let m = any_at (same_surface x) (filter_map (shown w) i.frame.metadata.references) e in
     let r = filter_map_at (shown w) i.frame.metadata.references m.0 m.1 in
-    let seen = by m.0 (shown_image (active_images w.subs) r.0) r.2 (shown_has (active_images w.subs) r.0) in
-    ap (stands_in w.surfaces) (from_same x m.0 m.2) ∙ image_stands w m.0 h seen
+    let seen = by m.0 (shown_frame (active_frames w.subs) r.0) r.2 (shown_has (active_frames w.subs) r.0) in
+    ap (stands_in w.surfaces) (from_same x m.0 m.2) ∙ frame_stands w m.0 h seen
   where
-    by : (y : SurfaceId) (o : Option Image) → ◌≡◌ {A = Option SurfaceId} (elim o [ Some j ↦ Some j.id | None ↦ None ]) (Some y)
-        → ((j : Image) → o ≡ Some j → has_image (active_images w.subs) j.id ≡ true) → has_image (active_images w.subs) y ≡ true
+    by : (y : SurfaceId) (o : Option FrameData) → ◌≡◌ {A = Option SurfaceId} (elim o [ Some j ↦ Some j.id | None ↦ None ]) (Some y)
+        → ((j : FrameData) → o ≡ Some j → has_frame (active_frames w.subs) j.id ≡ true) → has_frame (active_frames w.subs) y ≡ true
     by y None e f = absurd (cc)
-    by y (Some j) e f = let same : j.id ≡ y = cc in ap (has_image (active_images w.subs)) (sym same) ∙ f j refl
+    by y (Some j) e f = let same : j.id ≡ y = cc in ap (has_frame (active_frames w.subs)) (sym same) ∙ f j refl
 
 -- each reached surface exists
 pub reached_exist : (w : World) (x : SurfaceId) → KeepsAlways w → has_id (reach w) x ≡ true → stands_in w.surfaces x ≡ true
 reached_exist w x h e =
     from_standing w x ((reach_is_least w).least (standing w)
     (λ z p. in_standing w z (roots_stand w z p))
-    (λ y z p q. in_standing w z (refers_stands w (image_on y (active_images w.subs)) z h q)) x e)
+    (λ y z p q. in_standing w z (refers_stands w (frame_on y (active_frames w.subs)) z h q)) x e)

@@ -5,8 +5,8 @@ use Rattle.std.specs.List.{list_any, list_all}
 use Rattle.std.proofs.lemmas.Bool.{leb-false, and_from, both_ways, eqb-true, eq-eqb, false_from_ne_true}
 use Rattle.vz_ids.specs.declared.SurfaceId.{SurfaceId}
 use Rattle.vz_ids.specs.Ids.{same_sink, same_surface, same_sub}
-use Rattle.vz_rules.specs.World.{World, Client, Created, Image, Resource, Submission, active_images, image_on, is_waiting, is_active, is_on, is_in_flight, sub_of}
-use Rattle.vz_rules.specs.Settle.{met, has_come, is_ready, ready}
+use Rattle.vz_rules.specs.World.{World, Client, Created, FrameData, Resource, Submission, active_frames, frame_on, is_waiting, is_active, is_on, is_in_flight, sub_of}
+use Rattle.vz_rules.specs.Settle.{is_met, has_come, is_ready, ready}
 use Rattle.vz_rules.specs.Reach.{has_id, reach, is_lost, lost_in}
 use Rattle.vz_rules.specs.Returns.{holds, is_held}
 use Rattle.vz_rules.specs.Kept.{KeepsAlways, Keeps, is_open, last_in, holds_of, out_of, count_of}
@@ -41,40 +41,40 @@ last_is_greatest w c s t h e q same =
 
 -- The active one
 
-first_image : (id : SurfaceId) (images : List Image) (i : Image) → Contains images i → same_surface i.id id ≡ true
-    → (j : Image) × (image_on id images ≡ Some j) × Contains images j × (same_surface j.id id ≡ true)
-first_image id [] i c e = absurd (contains_none i c)
-first_image id (x ∷ images) i c e =
+first_frame : (id : SurfaceId) (active : List FrameData) (i : FrameData) → Contains active i → same_surface i.id id ≡ true
+    → (j : FrameData) × (frame_on id active ≡ Some j) × Contains active j × (same_surface j.id id ≡ true)
+first_frame id [] i c e = absurd (contains_none i c)
+first_frame id (x ∷ active) i c e =
     elim (same_surface x.id id) as (λ (t : Bool). same_surface x.id id ≡ t
-    → (j : Image) × (cond t (Some x) (image_on id images) ≡ Some j) × Contains (x ∷ images) j × (same_surface j.id id ≡ true)) [
-      | true ↦ λ f. (x, refl, contains_here x images, f)
-      | false ↦ λ f. elim (contains_cases x i images c) [
-        | inl s ↦ absurd (both_ways (same_surface x.id id) f (ap (λ (k : Image). same_surface k.id id) s ∙ e))
-        | inr m ↦ let r = first_image id images i m e in (r.0, r.1, contains_there x r.0 images r.2, r.3)
+    → (j : FrameData) × (cond t (Some x) (frame_on id active) ≡ Some j) × Contains (x ∷ active) j × (same_surface j.id id ≡ true)) [
+      | true ↦ λ f. (x, refl, contains_here x active, f)
+      | false ↦ λ f. elim (contains_cases x i active c) [
+        | inl s ↦ absurd (both_ways (same_surface x.id id) f (ap (λ (k : FrameData). same_surface k.id id) s ∙ e))
+        | inr m ↦ let r = first_frame id active i m e in (r.0, r.1, contains_there x r.0 active r.2, r.3)
       ]
     ] refl
 
-image_at : (subs : List Submission) (i : Image) → Contains (active_images subs) i → (s : Submission) × Contains subs s × (is_active s ≡ true) × (s.image ≡ i)
-image_at subs i c =
-    let m = contains_map (λ (s : Submission). s.image) (filter is_active subs) i c in
+frame_at : (subs : List Submission) (i : FrameData) → Contains (active_frames subs) i → (s : Submission) × Contains subs s × (is_active s ≡ true) × (s.submitted ≡ i)
+frame_at subs i c =
+    let m = contains_map (λ (s : Submission). s.submitted) (filter is_active subs) i c in
     let f = filter_at is_active subs m.0 m.1 in
     (m.0, f.0, f.1, m.2)
 
 -- an active submission is the one that is seen on its surface
 pub active_seen : (w : World) (s : Submission) → KeepsAlways w → Contains w.subs s → is_active s ≡ true
-    → image_on s.image.id (active_images w.subs) ≡ Some s.image
+    → frame_on s.submitted.id (active_frames w.subs) ≡ Some s.submitted
 active_seen w s h c e =
-    let id = s.image.id in
-    let here = map_contains (λ (x : Submission). x.image) (filter is_active w.subs) s (filter_has is_active w.subs s c e) in
-    let j = first_image id (active_images w.subs) s.image here (self_same id) in
-    let t = image_at w.subs j.0 j.2 in
-    let on : is_on id t.0 ≡ true = ap (λ (i : Image). same_surface i.id id) t.3 ∙ j.3 in
+    let id = s.submitted.id in
+    let here = map_contains (λ (x : Submission). x.submitted) (filter is_active w.subs) s (filter_has is_active w.subs s c e) in
+    let j = first_frame id (active_frames w.subs) s.submitted here (self_same id) in
+    let t = frame_at w.subs j.0 j.2 in
+    let on : is_on id t.0 ≡ true = ap (λ (i : FrameData). same_surface i.id id) t.3 ∙ j.3 in
     let n = contains_at w.subs s c in
     let m = contains_at w.subs t.0 t.1 in
     let place = one_place (on_and is_active id) w.subs n.0 m.0 s t.0 (h.states.one_is_active id) n.1 m.1
     (and_from (is_on id s) (is_active s) (self_same id) e) (and_from (is_on id t.0) (is_active t.0) on t.2) in
     let same : s ≡ t.0 = at_same w.subs n.0 m.0 s t.0 n.1 m.1 place in
-    j.1 ∙ ap (λ z. Some z) (sym t.3 ∙ ap (λ (x : Submission). x.image) (sym same))
+    j.1 ∙ ap (λ z. Some z) (sym t.3 ∙ ap (λ (x : Submission). x.submitted) (sym same))
 
 -- Resources
 
@@ -118,10 +118,10 @@ neither false b h = (refl, h)
 
 -- some dependency of it is not met, and its deadline is to come
 pub waits_on : (w : World) (s : Submission) → Keeps w → Contains w.subs s → is_waiting s ≡ true
-    → (list_all (met w) s.image.frame.metadata.dependencies ≡ false) × (w.tick < s.due)
+    → (list_all (is_met w) s.submitted.frame.metadata.dependencies ≡ false) × (w.tick < s.due)
 unfolding has_come
 waits_on w s h c e =
-    let none = neither (list_all (met w) s.image.frame.metadata.dependencies) (nat_le s.due w.tick) (waits_uncome w s h c e) in
+    let none = neither (list_all (is_met w) s.submitted.frame.metadata.dependencies) (nat_le s.due w.tick) (waits_uncome w s h c e) in
     (none.0, leb-false s.due w.tick none.1)
 
 kept_by : (m d h : Bool) → (m && not d && not h) ≡ false → m ≡ true → d ≡ false → h ≡ true

@@ -89,7 +89,7 @@ subs_few p w is a h =
     let some = counted_few (λ (s : Submission). true) (λ (c : Client). is_by c.number) 4096 w.subs w.clients (λ s q e.
     let made = a.numbers.created s q in
     let owner = a.surfaces.of_clients made.0 made.1 in
-    (owner.0, owner.1, eq-eqb s.image.sub.client owner.0.number (sym (owner.2 ∙ made.3)))) (few_of p w is a h) in
+    (owner.0, owner.1, eq-eqb s.submitted.sub.client owner.0.number (sym (owner.2 ∙ made.3)))) (few_of p w is a h) in
     omega (arith, times_more (length w.clients) 4096 _ (clients_few p w is h) some, count_all w.subs)
 
 surfaces_few : (p : Plan) (w : World) → IsPlan p → KeepsAlways w → KeepsPlan p w → length w.surfaces ≤ 65536
@@ -130,8 +130,8 @@ lists_short p w is a h k =
 -- Sizes
 
 -- a surface has the size of each frame that was accepted on it
-pub surface_size : (w : World) (s : Submission) (c : Created) → KeepsAlways w → KeepsMessages w → Contains w.subs s → Contains w.surfaces c → same_surface c.id s.image.id ≡ true
-    → c.size ≡ frame_size s.image.frame
+pub surface_size : (w : World) (s : Submission) (c : Created) → KeepsAlways w → KeepsMessages w → Contains w.subs s → Contains w.surfaces c → same_surface c.id s.submitted.id ≡ true
+    → c.size ≡ frame_size s.submitted.frame
 surface_size w s c a k p q same =
     let made = k.sizes s p in
     let n = contains_at w.surfaces c q in
@@ -140,11 +140,11 @@ surface_size w s c a k p q same =
     ap (λ (x : Created). x.size) (at_same w.surfaces n.0 m.0 c made.0 n.1 m.1 place) ∙ made.3
 
 -- so all these have one size
-pub frames_size : (w : World) (s t : Submission) → KeepsAlways w → KeepsMessages w → Contains w.subs s → Contains w.subs t → same_surface s.image.id t.image.id ≡ true
-    → frame_size s.image.frame ≡ frame_size t.image.frame
+pub frames_size : (w : World) (s t : Submission) → KeepsAlways w → KeepsMessages w → Contains w.subs s → Contains w.subs t → same_surface s.submitted.id t.submitted.id ≡ true
+    → frame_size s.submitted.frame ≡ frame_size t.submitted.frame
 frames_size w s t a k p q same =
     let made = k.sizes s p in
-    sym made.3 ∙ surface_size w t made.0 a k q made.1 (ap (λ i. same_surface i t.image.id) made.2 ∙ same)
+    sym made.3 ∙ surface_size w t made.0 a k q made.1 (ap (λ i. same_surface i t.submitted.id) made.2 ∙ same)
 
 block_fits : (b : Block) → fits_block b ≡ true → IsBlock b
 block_fits b h =
@@ -164,9 +164,9 @@ block_fits b h =
 pub stored_block : (w : World) (c : Client) (s : Resource) → KeepsMessages w → Contains w.clients c → Contains c.resources s → IsBlock s.block
 stored_block w c s k p q = block_fits s.block ((k.blocks c p).fit s q)
 
-pub listed_block : (w : World) (s : Submission) (b : Block) → KeepsMessages w → Contains w.subs s → Contains s.image.blocks b → IsBlock b
+pub listed_block : (w : World) (s : Submission) (b : Block) → KeepsMessages w → Contains w.subs s → Contains s.submitted.blocks b → IsBlock b
 listed_block w s b k p q =
-    let whole = k.images s p in
-    let n = contains_at s.image.blocks b q in
-    let l = at_there s.image.frame.resources n.0 (omega (arith, at_within s.image.blocks n.0 b n.1, whole.as_many)) in
+    let whole = k.active s p in
+    let n = contains_at s.submitted.blocks b q in
+    let l = at_there s.submitted.frame.resources n.0 (omega (arith, at_within s.submitted.blocks n.0 b n.1, whole.as_many)) in
     block_fits b (whole.blocks n.0 l.0 b l.1 n.1).fits

@@ -8,7 +8,7 @@ use Rattle.vz_rules.specs.Reach.{name_one, naming, is_named_now}
 use Rattle.vz_rules.specs.Kept.{KeepsAlways}
 use Rattle.vz_rules.proofs.Members.{filter_at}
 use Rattle.vz_rules.proofs.Kept_names.{KeepsSurface, surface_when}
-use Rattle.vz_rules.proofs.Kept_states.{OpensNone, image_after, open_after, states_round, states_keep, states_of_surfaces}
+use Rattle.vz_rules.proofs.Kept_states.{OpensNone, frame_after, open_after, states_round, states_keep, states_of_surfaces}
 use Rattle.vz_rules.proofs.Kept_stays.{last_unmarked, IsSafe}
 use Rattle.vz_rules.proofs.Kept_accepted.{flight_keeps}
 use Rattle.vz_rules.proofs.Kept_worlds.{always_parts, stands_map, holds_from}
@@ -38,16 +38,16 @@ always_round w h =
     let waits = ready_waits w in
     let risen = filter (is_ready w) w.subs in
     let names = marked_names w.surfaces risen in
-    let image = image_after becomes w.surfaces w.subs waits h.states in
+    let submitted = frame_after becomes w.surfaces w.subs waits h.states in
     always_parts w (after_round becomes risen) (marked_by w.surfaces risen) w.in_flight (record {
-      image = image;
+      submitted = submitted;
       surface = names;
       marks = λ s p. marked_marks (list_any (is_before w.surfaces s) risen) s;
       safe = λ c s p o e. last_unmarked w.clients w.surfaces risen s c.number h.clients h.surfaces (λ a q. h.numbers.created a (filter_at becomes w.subs a q).0) e;
       states = states_of_surfaces w.surfaces (map (marked_by w.surfaces risen) w.surfaces) (map (after_round becomes risen) w.subs)
           (λ id. stands_map (marked_by w.surfaces risen) w.surfaces id names (λ s. marked_stands (list_any (is_before w.surfaces s) risen) s))
           (states_round becomes w.surfaces w.subs waits h.states);
-      flight = flight_keeps (after_round becomes risen) w.in_flight w.subs image h.in_flight;
+      flight = flight_keeps (after_round becomes risen) w.in_flight w.subs submitted h.in_flight;
       opens = λ s p. open_after becomes w.surfaces w.subs waits h.states s;
       draws = λ s p e. holds_from w s h.states p (inr e);
     }) h
@@ -80,7 +80,7 @@ named_safe true s h = h
 named_safe false s h = h
 
 pub nothing_opens : OpensNone (λ s. s)
-nothing_opens = record { image = λ s. refl; waits = λ s e. e; acts = λ s e. e; was = λ s. refl }
+nothing_opens = record { submitted = λ s. refl; waits = λ s e. e; acts = λ s e. e; was = λ s. refl }
 
 pub always_naming : (w : World) → KeepsAlways w → KeepsAlways (naming w)
 unfolding naming
@@ -88,12 +88,12 @@ always_naming w h =
     let names = named_names w in
     subst (λ l. KeepsAlways (record w { subs = l; surfaces = map (name_one w) w.surfaces })) (map-id w.subs)
     (always_parts w (λ s. s) (name_one w) w.in_flight (record {
-      image = λ s. refl;
+      submitted = λ s. refl;
       surface = names;
       marks = λ s p. named_marks (not s.destroyed && is_named_now w s.id) s;
       safe = λ c s p o e. named_safe (not s.destroyed && is_named_now w s.id) s;
       states = states_keep (λ s. s) w.surfaces (map (name_one w) w.surfaces) w.subs nothing_opens
-          (λ s p o. stands_map (name_one w) w.surfaces s.image.id names (λ c. named_stands (not c.destroyed && is_named_now w c.id) c)) h.states;
+          (λ s p o. stands_map (name_one w) w.surfaces s.submitted.id names (λ c. named_stands (not c.destroyed && is_named_now w c.id) c)) h.states;
       flight = flight_keeps (λ s. s) w.in_flight w.subs (λ s. refl) h.in_flight;
       opens = λ s p e. e;
       draws = λ s p e. holds_from w s h.states p (inr e);

@@ -42,7 +42,7 @@ drops_one cs c s =
     let o = is_open s in
     let b = list_any (λ c. is_on c.id s) cs in
     let t = drop_on cs s in
-    ap (λ i. cond (is_open t && (same_surface i.id c.id || false)) (record t { state = Dropped }) t) (when_same (λ (x : Submission). x.image) (λ s. record s { state = Dropped }) (o && b) s refl)
+    ap (λ i. cond (is_open t && (same_surface i.id c.id || false)) (record t { state = Dropped }) t) (when_same (λ (x : Submission). x.submitted) (λ s. record s { state = Dropped }) (o && b) s refl)
     ∙ (drop_more o b (is_on c.id s) s refl ∙ ap (λ (t : Bool). cond (o && t) (record s { state = Dropped }) s) (sym (list_any-append (λ c. is_on c.id s) cs (c ∷ []))))
 
 module _ (w : World) where

@@ -5,7 +5,7 @@ use Rattle.std.proofs.lemmas.Bool.{and_parts, and_from, or_cases, or_left, or_ri
 use Rattle.vz_frame.specs.Frame.{lists}
 use Rattle.vz_ids.specs.declared.SurfaceId.{SurfaceId}
 use Rattle.vz_ids.specs.declared.Sub.{Sub}
-use Rattle.vz_rules.specs.World.{World, Client, Resource, Submission, active_images, is_waiting, is_active, is_in_flight, sub_of}
+use Rattle.vz_rules.specs.World.{World, Client, Resource, Submission, active_frames, is_waiting, is_active, is_in_flight, sub_of}
 use Rattle.vz_rules.specs.Settle.{ready}
 use Rattle.vz_rules.specs.Reach.{names, is_named_now, name_one, naming, lost_in}
 use Rattle.vz_rules.specs.Returns.{holds, is_held}
@@ -37,7 +37,7 @@ idle_ready w v k i none =
       subs = map-id w.subs ∙ sym i.subs;
       clients = sym i.clients;
       tick = i.tick;
-      ends = record { image = λ s. refl; waits = λ s e. e; acts = λ s e. e; was = λ s. refl };
+      ends = record { submitted = λ s. refl; waits = λ s e. e; acts = λ s e. e; was = λ s. refl };
       due = λ s. refl;
       closed = i.closed;
       sink = i.sink;
@@ -46,8 +46,8 @@ idle_ready w v k i none =
 named_same : (w v : World) (k : Client → Client) → IsIdle w v k → (id : SurfaceId) → is_named_now v id ≡ is_named_now w id
 named_same w v k i id =
     named_is v id
-    ∙ (ap (λ l. list_any (λ j. stands_in l j.id && list_any (names id) j.frame.metadata.references) (active_images v.subs)) i.surfaces
-    ∙ (ap (λ l. list_any (λ j. stands_in w.surfaces j.id && list_any (names id) j.frame.metadata.references) (active_images l)) i.subs ∙ sym (named_is w id)))
+    ∙ (ap (λ l. list_any (λ j. stands_in l j.id && list_any (names id) j.frame.metadata.references) (active_frames v.subs)) i.surfaces
+    ∙ (ap (λ l. list_any (λ j. stands_in w.surfaces j.id && list_any (names id) j.frame.metadata.references) (active_frames l)) i.subs ∙ sym (named_is w id)))
 
 map_same : {A B : Type 0} (f g : A → B) (xs : List A) → ((x : A) → f x ≡ g x) → map f xs ≡ map g xs
 map_same f g [] h = refl
@@ -65,7 +65,7 @@ idle_cleared w v k i none =
     let same = clearing_stays w none in
     let c = cleared_by w in
     record {
-      images = ap active_images i.subs ∙ (ap (λ (x : World). active_images x.subs) (sym same) ∙ c.images);
+      active = ap active_frames i.subs ∙ (ap (λ (x : World). active_frames x.subs) (sym same) ∙ c.active);
       surfaces = i.surfaces ∙ (ap (λ (x : World). x.surfaces) (sym same) ∙ c.surfaces);
       root = i.root;
       tick = i.tick;
@@ -77,21 +77,21 @@ idle_cleared w v k i none =
 
 holds_still : (w v : World) (k : Client → Client) (s : Submission) → IsIdle w v k → holds w s ≡ true → holds v s ≡ true
 holds_still w v k s i h =
-    elim (or_cases ((is_waiting s || is_active s) && stands_in w.surfaces s.image.id) (is_in_flight w.in_flight (sub_of s)) h) [
-      | inl e ↦ or_left ((is_waiting s || is_active s) && stands_in v.surfaces s.image.id) (is_in_flight v.in_flight (sub_of s))
-          (ap (λ l. (is_waiting s || is_active s) && stands_in l s.image.id) i.surfaces ∙ e)
-      | inr e ↦ or_right ((is_waiting s || is_active s) && stands_in v.surfaces s.image.id) (is_in_flight v.in_flight (sub_of s)) (i.flies (sub_of s) e)
+    elim (or_cases ((is_waiting s || is_active s) && stands_in w.surfaces s.submitted.id) (is_in_flight w.in_flight (sub_of s)) h) [
+      | inl e ↦ or_left ((is_waiting s || is_active s) && stands_in v.surfaces s.submitted.id) (is_in_flight v.in_flight (sub_of s))
+          (ap (λ l. (is_waiting s || is_active s) && stands_in l s.submitted.id) i.surfaces ∙ e)
+      | inr e ↦ or_right ((is_waiting s || is_active s) && stands_in v.surfaces s.submitted.id) (is_in_flight v.in_flight (sub_of s)) (i.flies (sub_of s) e)
     ]
 
 held_still : (w v : World) (k : Client → Client) (c id : ℕ) → IsIdle w v k → is_held w c id ≡ true → is_held v c id ≡ true
 unfolding is_held
 held_still w v k c id i h =
     let m = any_at (holds_of (holds w) c id) w.subs h in
-    let outer = and_parts ((m.0.image.sub.client == c) && holds w m.0) (list_any (lists id) m.0.image.frame.resources) m.2 in
-    let inner = and_parts (m.0.image.sub.client == c) (holds w m.0) outer.0 in
+    let outer = and_parts ((m.0.submitted.sub.client == c) && holds w m.0) (list_any (lists id) m.0.submitted.frame.resources) m.2 in
+    let inner = and_parts (m.0.submitted.sub.client == c) (holds w m.0) outer.0 in
     any_from (holds_of (holds v) c id) v.subs m.0 (subst (λ l. Contains l m.0) (sym i.subs) m.1)
-    (and_from ((m.0.image.sub.client == c) && holds v m.0) (list_any (lists id) m.0.image.frame.resources)
-    (and_from (m.0.image.sub.client == c) (holds v m.0) inner.0 (holds_still w v k m.0 i inner.1)) outer.1)
+    (and_from ((m.0.submitted.sub.client == c) && holds v m.0) (list_any (lists id) m.0.submitted.frame.resources)
+    (and_from (m.0.submitted.sub.client == c) (holds v m.0) inner.0 (holds_still w v k m.0 i inner.1)) outer.1)
 
 not_held : (a b : Bool) → (a ≡ true → b ≡ true) → b ≡ false → a ≡ false
 not_held true b h e = sym (h refl) ∙ e

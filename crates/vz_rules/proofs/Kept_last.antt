@@ -6,7 +6,7 @@ use Rattle.std.proofs.lemmas.List.Elements.{filter-append}
 use Rattle.std.proofs.lemmas.Bool.{and_parts, and_from, or_cases, or_left, or_right, both_ways, cases_order, eq-eqb, eqb-true, leb-true, ltb-true, le-leb, lt-ltb}
 use Rattle.vz_ids.specs.declared.LocalSurfaceId.{LocalSurfaceId}
 use Rattle.vz_ids.specs.declared.SurfaceId.{SurfaceId}
-use Rattle.vz_ids.specs.Ids.{same_sink, same_local, same_surface, goes_on}
+use Rattle.vz_ids.specs.Ids.{same_sink, same_local, same_surface, is_raised}
 use Rattle.vz_frame.specs.Frame.{first_of}
 use Rattle.vz_rules.specs.World.{Client, Created}
 use Rattle.vz_rules.specs.Scene.{or_else}
@@ -122,7 +122,7 @@ earlier_is_less cs ss n m s t h p q same l =
       ]
     ]
 
-not_on : (a b : LocalSurfaceId) → goes_on a b ≡ true → same_local a b ≡ true → ⊥
+not_on : (a b : LocalSurfaceId) → is_raised a b ≡ true → same_local a b ≡ true → ⊥
 not_on a b h k =
     let on = and_parts (nat_le a.parent b.parent && nat_le a.child b.child) (nat_lt a.parent b.parent || nat_lt a.child b.child) h in
     let parts = and_parts ((a.parent == b.parent) && (a.child == b.child)) (a.token.0 == b.token.0) k in
@@ -171,7 +171,7 @@ surfaces_differ cs ss hc hs n m s t p q h =
 end_of : (ss : List Created) (new : Created) (m : ℕ) (t : Created) → slice_get (ss ++ new ∷ []) m ≡ Some t → m ≤ length ss
 end_of ss new m t q = elim (at_push ss new m t q) [ inl r ↦ omega (arith, at_within ss m t r.0) | inr r ↦ omega (arith, r.0) ]
 
-goes_far : (a b c : LocalSurfaceId) → goes_on a b ≡ true → goes_on b c ≡ true → goes_on a c ≡ true
+goes_far : (a b c : LocalSurfaceId) → is_raised a b ≡ true → is_raised b c ≡ true → is_raised a c ≡ true
 goes_far a b c h k =
     let one = and_parts (nat_le a.parent b.parent && nat_le a.child b.child) (nat_lt a.parent b.parent || nat_lt a.child b.child) h in
     let two = and_parts (nat_le b.parent c.parent && nat_le b.child c.child) (nat_lt b.parent c.parent || nat_lt b.child c.child) k in
@@ -194,17 +194,17 @@ goes_by false true h e = refl
 goes_by false false h e = absurd (cc)
 
 -- an id that does not violate the last one, and is not it, goes on from all of the client
-pub goes_on_from_all : (cs : List Client) (ss : List Created) (c : ℕ) (local : LocalSurfaceId) (o : Option Created) → KeepsSurfaces cs ss → last_in ss c ≡ o
+pub raised_from_all : (cs : List Client) (ss : List Created) (c : ℕ) (local : LocalSurfaceId) (o : Option Created) → KeepsSurfaces cs ss → last_in ss c ≡ o
     → violates o local ≡ false → is_last o local ≡ false
-    → (n : ℕ) (s : Created) → slice_get ss n ≡ Some s → s.client ≡ c → goes_on s.id.local local ≡ true
-goes_on_from_all cs ss c local None h e v l n s p same = absurd (last_none (λ (x : Created). x.client == c) ss s e (at_contains ss n s p) (eq-eqb s.client c same))
-goes_on_from_all cs ss c local (Some last) h e v l n s p same =
+    → (n : ℕ) (s : Created) → slice_get ss n ≡ Some s → s.client ≡ c → is_raised s.id.local local ≡ true
+raised_from_all cs ss c local None h e v l n s p same = absurd (last_none (λ (x : Created). x.client == c) ss s e (at_contains ss n s p) (eq-eqb s.client c same))
+raised_from_all cs ss c local (Some last) h e v l n s p same =
     let at = last_at (λ (x : Created). x.client == c) ss last e in
     let m = at.0 in
-    let on : goes_on last.id.local local ≡ true = goes_by (same_local last.id.local local) (goes_on last.id.local local) v l in
+    let on : is_raised last.id.local local ≡ true = goes_by (same_local last.id.local local) (is_raised last.id.local local) v l in
     let owner : s.client ≡ last.client = same ∙ sym (eqb-true last.client c at.1.1) in
     elim (cases_order n m) [
-      | inl f ↦ ap (λ (x : Created). goes_on x.id.local local) (at_same ss n m s last p at.1.0 f) ∙ on
+      | inl f ↦ ap (λ (x : Created). is_raised x.id.local local) (at_same ss n m s last p at.1.0 f) ∙ on
       | inr r ↦ elim r [
         | inl k ↦ goes_far s.id.local last.id.local local (h.go_on n m s last p at.1.0 k owner) on
         | inr k ↦ absurd (omega (arith, k, at.1.2 n s p (eq-eqb s.client c same)))
@@ -213,7 +213,7 @@ goes_on_from_all cs ss c local (Some last) h e v l n s p same =
 
 pub surfaces_more : (cs : List Client) (ss : List Created) (new : Created) → new.number ≡ count_by (is_surface_of new.client) ss + 1
     → IsOfClient cs new.client new.id
-    → ((n : ℕ) (s : Created) → slice_get ss n ≡ Some s → s.client ≡ new.client → goes_on s.id.local new.id.local ≡ true) → new.destroyed ≡ false
+    → ((n : ℕ) (s : Created) → slice_get ss n ≡ Some s → s.client ≡ new.client → is_raised s.id.local new.id.local ≡ true) → new.destroyed ≡ false
     → KeepsSurfaces cs ss → KeepsSurfaces cs (ss ++ new ∷ [])
 surfaces_more cs ss new number owner goes stands h =
     record {
@@ -229,7 +229,7 @@ surfaces_more cs ss new number owner goes stands h =
       go_on = λ n m s t p q l same. elim (at_push ss new n s p) [
         | inl a ↦ elim (at_push ss new m t q) [
           | inl b ↦ h.go_on n m s t a.0 b.0 l same
-          | inr b ↦ subst (λ (x : Created). goes_on s.id.local x.id.local ≡ true) b.1 (goes n s a.0 (same ∙ ap (λ (x : Created). x.client) (sym b.1)))
+          | inr b ↦ subst (λ (x : Created). is_raised s.id.local x.id.local ≡ true) b.1 (goes n s a.0 (same ∙ ap (λ (x : Created). x.client) (sym b.1)))
         ]
         | inr a ↦ absurd (omega (arith, a.0, l, end_of ss new m t q))
       ];

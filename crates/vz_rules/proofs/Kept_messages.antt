@@ -179,7 +179,7 @@ always_closed w c h =
     let names = marked_names c.number in
     subst (λ l. KeepsAlways (record v { subs = l; surfaces = map (mark_of c.number) w.surfaces })) (map-id w.subs)
     (always_parts v (λ s. s) (mark_of c.number) w.in_flight (record {
-      image = λ s. refl;
+      submitted = λ s. refl;
       surface = names;
       marks = λ s p. mark_marks (s.client == c.number) s;
       safe = λ x s p o e. mark_safe (s.client == c.number) s (λ t.
@@ -188,7 +188,7 @@ always_closed w c h =
           let number : x.number ≡ c.number = sym (eqb-true s.client x.number at.1.1) ∙ eqb-true s.client c.number t in
           left_closed c.number m.0 (ap (λ (y : Client). y.closed) m.2 ∙ o) (ap (λ (y : Client). y.number) m.2 ∙ number));
       states = states_keep (λ s. s) w.surfaces (map (mark_of c.number) w.surfaces) w.subs nothing_opens
-          (λ s p o. stands_map (mark_of c.number) w.surfaces s.image.id names (λ y. mark_stands (y.client == c.number) y)) first.states;
+          (λ s p o. stands_map (mark_of c.number) w.surfaces s.submitted.id names (λ y. mark_stands (y.client == c.number) y)) first.states;
       flight = flight_keeps (λ s. s) w.in_flight w.subs (λ s. refl) first.in_flight;
       opens = λ s p e. e;
       draws = λ s p e. holds_from v s first.states p (inr e);

@@ -1,7 +1,7 @@
 -- What is kept of names and numbers, where clients, surfaces and submissions change but keep these.
 use Rattle.std.proofs.Common.{◌≡◌, ℕ, ◌+◌, Bool, true, ◌==◌, List, map, take, ap, sym, ◌∙◌, cond, subst, Contains, count_by}
 use Rattle.vz_ids.specs.declared.SurfaceId.{SurfaceId}
-use Rattle.vz_ids.specs.Ids.{same_sink, same_surface, goes_on}
+use Rattle.vz_ids.specs.Ids.{same_sink, same_surface, is_raised}
 use Rattle.vz_rules.specs.World.{Client, Created, Submission, is_on}
 use Rattle.vz_rules.specs.Kept.{KeepsClients, KeepsSurfaces, KeepsNumbers, IsOfClient, IsCreated, is_surface_of, is_by}
 use Rattle.vz_rules.proofs.Members.{when_same, contains_map, map_contains, at_map}
@@ -79,10 +79,10 @@ surfaces_keep g cs ss name marks h =
           let b = at_map g ss m t q in
           let one : a.0.client ≡ b.0.client =
           sym (name.client a.0) ∙ (ap (λ (x : Created). x.client) a.2 ∙ (same ∙ (ap (λ (x : Created). x.client) (sym b.2) ∙ name.client b.0))) in
-          ap (λ (x : Created). goes_on x.id.local t.id.local) (sym a.2)
-          ∙ (ap (λ (x : Created). goes_on (g a.0).id.local x.id.local) (sym b.2)
-          ∙ (ap (λ (x : SurfaceId). goes_on x.local (g b.0).id.local) (name.id a.0)
-          ∙ (ap (λ (x : SurfaceId). goes_on a.0.id.local x.local) (name.id b.0) ∙ h.go_on n m a.0 b.0 a.1 b.1 l one)));
+          ap (λ (x : Created). is_raised x.id.local t.id.local) (sym a.2)
+          ∙ (ap (λ (x : Created). is_raised (g a.0).id.local x.id.local) (sym b.2)
+          ∙ (ap (λ (x : SurfaceId). is_raised x.local (g b.0).id.local) (name.id a.0)
+          ∙ (ap (λ (x : SurfaceId). is_raised a.0.id.local x.local) (name.id b.0) ∙ h.go_on n m a.0 b.0 a.1 b.1 l one)));
       destroyed = λ s c d.
           let m = contains_map g ss s c in
           ap (λ (x : Created). x.marked) (sym m.2) ∙ marks m.0 m.1 (h.destroyed m.0 m.1) (ap (λ (x : Created). x.destroyed) m.2 ∙ d);
@@ -98,31 +98,31 @@ numbers_of_surfaces g ss subs name h =
     record { numbered = h.numbered; ordered = h.ordered; created = λ s c. created_keep g ss s name (h.created s c) }
 
 -- submissions keep what they were accepted with
-pub numbers_keep : (f : Submission → Submission) (ss : List Created) (subs : List Submission) → ((s : Submission) → (f s).image ≡ s.image)
+pub numbers_keep : (f : Submission → Submission) (ss : List Created) (subs : List Submission) → ((s : Submission) → (f s).submitted ≡ s.submitted)
     → KeepsNumbers ss subs → KeepsNumbers ss (map f subs)
 numbers_keep f ss subs name h =
     record {
       numbered = λ n s at.
           let m = at_map f subs n s at in
-          let same : s.image ≡ m.0.image = ap (λ (x : Submission). x.image) (sym m.2) ∙ name m.0 in
+          let same : s.submitted ≡ m.0.submitted = ap (λ (x : Submission). x.submitted) (sym m.2) ∙ name m.0 in
           ap (λ i. i.index) same
           ∙ (h.numbered n m.0 m.1
           ∙ ap (λ k. k + 1) (sym (
-          ap (count_by (is_on s.image.id)) (take_map f n subs)
-          ∙ count_same f (is_on s.image.id) (is_on m.0.image.id) (take n subs) (λ x. ap (λ i. same_surface i.id s.image.id) (name x) ∙ ap (λ i. same_surface x.image.id i.id) same)
+          ap (count_by (is_on s.submitted.id)) (take_map f n subs)
+          ∙ count_same f (is_on s.submitted.id) (is_on m.0.submitted.id) (take n subs) (λ x. ap (λ i. same_surface i.id s.submitted.id) (name x) ∙ ap (λ i. same_surface x.submitted.id i.id) same)
           )));
       ordered = λ n s at.
           let m = at_map f subs n s at in
-          let same : s.image ≡ m.0.image = ap (λ (x : Submission). x.image) (sym m.2) ∙ name m.0 in
+          let same : s.submitted ≡ m.0.submitted = ap (λ (x : Submission). x.submitted) (sym m.2) ∙ name m.0 in
           ap (λ i. i.sub.ordinal) same
           ∙ (h.ordered n m.0 m.1
           ∙ ap (λ k. k + 1) (sym (
-          ap (count_by (is_by s.image.sub.client)) (take_map f n subs)
-          ∙ count_same f (is_by s.image.sub.client) (is_by m.0.image.sub.client) (take n subs) (λ x. ap (λ i. i.sub.client == s.image.sub.client) (name x) ∙ ap (λ i. x.image.sub.client == i.sub.client) same)
+          ap (count_by (is_by s.submitted.sub.client)) (take_map f n subs)
+          ∙ count_same f (is_by s.submitted.sub.client) (is_by m.0.submitted.sub.client) (take n subs) (λ x. ap (λ i. i.sub.client == s.submitted.sub.client) (name x) ∙ ap (λ i. x.submitted.sub.client == i.sub.client) same)
           )));
       created = λ s c.
           let m = contains_map f subs s c in
-          let same : m.0.image ≡ s.image = sym (name m.0) ∙ ap (λ (x : Submission). x.image) m.2 in
+          let same : m.0.submitted ≡ s.submitted = sym (name m.0) ∙ ap (λ (x : Submission). x.submitted) m.2 in
           let was = h.created m.0 m.1 in
           (was.0, was.1, was.2 ∙ ap (λ i. i.id) same, was.3 ∙ ap (λ i. i.sub.client) same);
     }

@@ -66,7 +66,7 @@ unfolding round
 plan_round p w h =
     record {
       files = h.files;
-      due = due_map (after_round (is_ready w) (ready w)) w.subs w.tick (λ s. round_due (is_ready w s) (is_active s && list_any (is_on s.image.id) (ready w)) s) h.due;
+      due = due_map (after_round (is_ready w) (ready w)) w.subs w.tick (λ s. round_due (is_ready w s) (is_active s && list_any (is_on s.submitted.id) (ready w)) s) h.due;
     }
 
 plan_rounds : (p : Plan) (n : ℕ) (w : World) → KeepsPlan p w → KeepsPlan p (rounds n w)

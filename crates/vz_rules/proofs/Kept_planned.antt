@@ -15,7 +15,7 @@ use Rattle.vz_rules.specs.Scene.{scene_of}
 use Rattle.vz_rules.specs.Walk.{walk_of, too_much}
 use Rattle.vz_rules.specs.Damage.{drawn_damage}
 use Rattle.vz_rules.specs.Messages.{says, refused, message_answer, known_client_answer, client_answer}
-use Rattle.vz_rules.specs.Step.{next_tick, is_attached, deliver, begin_answer, scene_answer, draw_answer, done_answer, answer_to, accepted_images, outcome_of, step_in, presented_by, world_from, world}
+use Rattle.vz_rules.specs.Step.{next_tick, is_attached, deliver, begin_answer, scene_answer, draw_answer, done_answer, answer_to, accepted_frames, outcome_of, step_in, presented_by, world_from, world}
 use Rattle.vz_rules.specs.Kept.{KeepsAlways, Keeps, KeepsPlan}
 use Rattle.vz_rules.proofs.Members.{contains_none, contains_at, find_at}
 use Rattle.vz_rules.proofs.Kept_steps.{tick_by}
@@ -56,7 +56,7 @@ plans_scene : (p : Plan) (w : World) (scene : Scene) → KeepsPlan p w → Plans
 unfolding scene_answer
 plans_scene p w scene h =
     plans_by p (too_much (walk_of p.size scene)) _ _ h
-    (plans_by p (is_some w.last && is_empty_rect (drawn_damage p.size w.last (accepted_images w) scene.root (walk_of p.size scene))) _ _
+    (plans_by p (is_some w.last && is_empty_rect (drawn_damage p.size w.last (accepted_frames w) scene.root (walk_of p.size scene))) _ _
     (record { files = h.files; due = h.due }) (record { files = h.files; due = h.due }))
 
 seen_by : (p : Plan) (w : World) (o : Option Scene) → KeepsPlan p w → Plans p (elim o [ Some scene ↦ scene_answer p w scene | None ↦ says reply.NoRoot w ])

@@ -5,7 +5,7 @@ use Rattle.std.specs.List.{list_any}
 use Rattle.std.proofs.lemmas.Bool.{and_parts, and_from, or_cases, or_left, or_right, both_ways, not-true, false_from_ne_true}
 use Rattle.vz_ids.specs.declared.SurfaceId.{SurfaceId}
 use Rattle.vz_ids.specs.Ids.{same_surface}
-use Rattle.vz_rules.specs.World.{World, Created, Image, Submission, active_images, image_on, is_active}
+use Rattle.vz_rules.specs.World.{World, Created, FrameData, Submission, active_frames, frame_on, is_active}
 use Rattle.vz_rules.specs.Scene.{shown}
 use Rattle.vz_rules.specs.Closure.{adding}
 use Rattle.vz_rules.specs.Reach.{has_id, referenced, names, is_named_now, name_one, naming, has_closed, is_temporary, root_list, roots, reach, is_lost, destroy, lost_in}
@@ -79,11 +79,11 @@ roots_stay w v x cleared k e =
       | inr r ↦ or_right (has_id (root_list v) x) (has_id new x) (temporary_stays w v x cleared k r)
     ])
 
--- what an image references, as it is shown
-abbrev pub refers : World → Option Image → List SurfaceId
+-- what a frame references, as it is shown
+abbrev pub refers : World → Option FrameData → List SurfaceId
 refers w o = elim o [ Some i ↦ filter_map (shown w) i.frame.metadata.references | None ↦ [] ]
 
-refers_stay : (w v : World) (o : Option Image) (x : SurfaceId) → KeepsAlways w → Cleared w v
+refers_stay : (w v : World) (o : Option FrameData) (x : SurfaceId) → KeepsAlways w → Cleared w v
     → ((z : SurfaceId) → has_id (refers w o) z ≡ true → has_id (reach w) z ≡ true)
     → has_id (refers w o) x ≡ true → has_id (refers v o) x ≡ true
 refers_stay w v None x h cleared reached e = e
@@ -97,11 +97,11 @@ refers_stay w v (Some i) x h cleared reached e =
 referenced_stay : (w v : World) (y x : SurfaceId) → KeepsAlways w → Cleared w v → has_id (reach w) y ≡ true → has_id (referenced w y) x ≡ true
     → has_id (referenced v y) x ≡ true
 referenced_stay w v y x h cleared k e =
-    let same : image_on y (active_images v.subs) ≡ image_on y (active_images w.subs) =
-    ap (image_on y) cleared.images
-    ∙ found_kept (unlost w) y (active_images w.subs) (λ i on. reached_unlost w i (ap (has_id (reach w)) (from_same i.id y on) ∙ k)) in
+    let same : frame_on y (active_frames v.subs) ≡ frame_on y (active_frames w.subs) =
+    ap (frame_on y) cleared.active
+    ∙ found_kept (unlost w) y (active_frames w.subs) (λ i on. reached_unlost w i (ap (has_id (reach w)) (from_same i.id y on) ∙ k)) in
     ap (λ o. has_id (refers v o) x) same
-    ∙ refers_stay w v (image_on y (active_images w.subs)) x h cleared (λ z f. (reach_is_least w).closed y z k f) e
+    ∙ refers_stay w v (frame_on y (active_frames w.subs)) x h cleared (λ z f. (reach_is_least w).closed y z k f) e
 
 pub reach_stays : (w v : World) → KeepsAlways w → Cleared w v → (x : SurfaceId) → has_id (reach w) x ≡ true → has_id (reach v) x ≡ true
 reach_stays w v h cleared x e =
@@ -148,36 +148,36 @@ none_lost_after w v h cleared =
 
 -- Naming
 
-abbrev pub named_by : List Created → SurfaceId → List Image → Bool
-named_by ss id images = list_any (λ (i : Image). stands_in ss i.id && list_any (names id) i.frame.metadata.references) images
+abbrev pub named_by : List Created → SurfaceId → List FrameData → Bool
+named_by ss id active = list_any (λ (i : FrameData). stands_in ss i.id && list_any (names id) i.frame.metadata.references) active
 
-active_one : (t e n : Bool) (s : Submission) (ss : List Created) (id : SurfaceId) (xs : List Submission) → stands_in ss s.image.id ≡ e
-    → list_any (names id) s.image.frame.metadata.references ≡ n → (r : Bool) → r ≡ named_by ss id (map (λ (x : Submission). x.image) (filter is_active xs))
-    → ((t && e && n) || r) ≡ named_by ss id (map (λ (x : Submission). x.image) (cond t (s ∷ filter is_active xs) (filter is_active xs)))
+active_one : (t e n : Bool) (s : Submission) (ss : List Created) (id : SurfaceId) (xs : List Submission) → stands_in ss s.submitted.id ≡ e
+    → list_any (names id) s.submitted.frame.metadata.references ≡ n → (r : Bool) → r ≡ named_by ss id (map (λ (x : Submission). x.submitted) (filter is_active xs))
+    → ((t && e && n) || r) ≡ named_by ss id (map (λ (x : Submission). x.submitted) (cond t (s ∷ filter is_active xs) (filter is_active xs)))
 active_one true e n s ss id xs p q r h =
     ap (λ x. (e && n) || x) h
-    ∙ (ap (λ x. (x && n) || named_by ss id (map (λ (x : Submission). x.image) (filter is_active xs))) (sym p)
-    ∙ ap (λ x. (stands_in ss s.image.id && x) || named_by ss id (map (λ (x : Submission). x.image) (filter is_active xs))) (sym q))
+    ∙ (ap (λ x. (x && n) || named_by ss id (map (λ (x : Submission). x.submitted) (filter is_active xs))) (sym p)
+    ∙ ap (λ x. (stands_in ss s.submitted.id && x) || named_by ss id (map (λ (x : Submission). x.submitted) (filter is_active xs))) (sym q))
 active_one false e n s ss id xs p q r h = h
 
-named_images : (w : World) (id : SurfaceId) (subs : List Submission)
-    → list_any (λ s. is_active s && stands_in w.surfaces s.image.id && list_any (names id) s.image.frame.metadata.references) subs ≡ named_by w.surfaces id (active_images subs)
-named_images w id [] = refl
-named_images w id (s ∷ subs) =
-    active_one (is_active s) (stands_in w.surfaces s.image.id) (list_any (names id) s.image.frame.metadata.references) s w.surfaces id subs refl refl _ (named_images w id subs)
+named_frames : (w : World) (id : SurfaceId) (subs : List Submission)
+    → list_any (λ s. is_active s && stands_in w.surfaces s.submitted.id && list_any (names id) s.submitted.frame.metadata.references) subs ≡ named_by w.surfaces id (active_frames subs)
+named_frames w id [] = refl
+named_frames w id (s ∷ subs) =
+    active_one (is_active s) (stands_in w.surfaces s.submitted.id) (list_any (names id) s.submitted.frame.metadata.references) s w.surfaces id subs refl refl _ (named_frames w id subs)
 
-pub named_is : (w : World) (id : SurfaceId) → is_named_now w id ≡ named_by w.surfaces id (active_images w.subs)
+pub named_is : (w : World) (id : SurfaceId) → is_named_now w id ≡ named_by w.surfaces id (active_frames w.subs)
 unfolding is_named_now
-named_is w id = named_images w id w.subs
+named_is w id = named_frames w id w.subs
 
--- fewer surfaces and images name no more
-named_less : (ss more : List Created) (id : SurfaceId) (xs ys : List Image) → ((i : SurfaceId) → stands_in ss i ≡ true → stands_in more i ≡ true)
-    → ((i : Image) → Contains xs i → Contains ys i)
+-- fewer surfaces and frames name no more
+named_less : (ss more : List Created) (id : SurfaceId) (xs ys : List FrameData) → ((i : SurfaceId) → stands_in ss i ≡ true → stands_in more i ≡ true)
+    → ((i : FrameData) → Contains xs i → Contains ys i)
     → named_by ss id xs ≡ true → named_by more id ys ≡ true
 named_less ss more id xs ys stands has e =
-    let m = any_at (λ (i : Image). stands_in ss i.id && list_any (names id) i.frame.metadata.references) xs e in
+    let m = any_at (λ (i : FrameData). stands_in ss i.id && list_any (names id) i.frame.metadata.references) xs e in
     let both = and_parts (stands_in ss m.0.id) (list_any (names id) m.0.frame.metadata.references) m.2 in
-    any_from (λ (i : Image). stands_in more i.id && list_any (names id) i.frame.metadata.references) ys m.0 (has m.0 m.1)
+    any_from (λ (i : FrameData). stands_in more i.id && list_any (names id) i.frame.metadata.references) ys m.0 (has m.0 m.1)
     (and_from (stands_in more m.0.id) (list_any (names id) m.0.frame.metadata.references) (stands m.0.id both.0) both.1)
 
 pub stands_back : (g : Created → Created) (ss : List Created) (id : SurfaceId) → ((c : Created) → (g c).id ≡ c.id)
@@ -213,7 +213,7 @@ named_after w c p d e =
     let id : m.0.id ≡ c.id = sym (one_id t m.0) ∙ ap (λ (x : Created). x.id) m.2 in
     let before : is_named_now w m.0.id ≡ true =
     named_is w m.0.id
-    ∙ named_less (naming w).surfaces w.surfaces m.0.id (active_images w.subs) (active_images w.subs)
+    ∙ named_less (naming w).surfaces w.surfaces m.0.id (active_frames w.subs) (active_frames w.subs)
     (λ i. stands_back (name_one w) w.surfaces i (λ x. one_id (not x.destroyed && is_named_now w x.id) x) (λ x k. sym (one_stands (not x.destroyed && is_named_now w x.id) x) ∙ k))
     (λ i c. c) (sym (named_is (naming w) m.0.id) ∙ (ap (is_named_now (naming w)) id ∙ e)) in
     ap (λ (x : Created). x.named) (sym m.2) ∙ one_named t m.0 (and_from (not m.0.destroyed) (is_named_now w m.0.id) (ap not stands) before)
@@ -226,9 +226,9 @@ all_named_after w v cleared named c p d e =
     let same : m.0 ≡ c = sym (destroys_not (reach w) m.0 stays.0) ∙ m.2 in
     let before : is_named_now w m.0.id ≡ true =
     named_is w m.0.id
-    ∙ named_less v.surfaces w.surfaces m.0.id (active_images v.subs) (active_images w.subs)
+    ∙ named_less v.surfaces w.surfaces m.0.id (active_frames v.subs) (active_frames w.subs)
     (λ i k. stands_back (destroy (reach w)) w.surfaces i (λ x. gone_id (is_lost (reach w) x) x) (λ x k. (lost_by (reach w) x (is_lost (reach w) x) refl k).1) (ap (λ l. stands_in l i) (sym cleared.surfaces) ∙ k))
-    (λ i k. (filter_at (unlost w) (active_images w.subs) i (subst (λ l. Contains l i) cleared.images k)).0)
+    (λ i k. (filter_at (unlost w) (active_frames w.subs) i (subst (λ l. Contains l i) cleared.active k)).0)
     (sym (named_is v m.0.id) ∙ (ap (λ (x : Created). is_named_now v x.id) same ∙ e)) in
     ap (λ (x : Created). x.named) (sym same) ∙ named m.0 m.1 stays.1 before
   where

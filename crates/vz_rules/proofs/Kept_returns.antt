@@ -141,9 +141,9 @@ never_listed : (holding : Submission → Bool) (subs : List Submission) (c : Cli
     → (s : Submission) → Contains subs s → borrows c.number id s ≡ false
 never_listed holding subs c id h none s p =
     false_from_ne_true (borrows c.number id s) (λ b.
-    let both = and_parts (s.image.sub.client == c.number) (list_any (lists id) s.image.frame.resources) b in
-    let l = any_at (lists id) s.image.frame.resources both.1 in
-    let r = h.listed s l.0 p (eqb-true s.image.sub.client c.number both.0) l.1 in
+    let both = and_parts (s.submitted.sub.client == c.number) (list_any (lists id) s.submitted.frame.resources) b in
+    let l = any_at (lists id) s.submitted.frame.resources both.1 in
+    let r = h.listed s l.0 p (eqb-true s.submitted.sub.client c.number both.0) l.1 in
     none r.0 r.1 (r.2 ∙ eqb-true l.0.id id l.2))
 
 not_first : (a b c : Bool) → (a && c) ≡ false → ((a && b) && c) ≡ false
@@ -164,7 +164,7 @@ new_totals holding subs c id block h none =
       out = omega (
         arith,
         count_none (holds_of holding c.number id) subs (λ s p.
-            not_first (s.image.sub.client == c.number) (holding s) (list_any (lists id) s.image.frame.resources) (never_listed holding subs c id h none s p)),
+            not_first (s.submitted.sub.client == c.number) (holding s) (list_any (lists id) s.submitted.frame.resources) (never_listed holding subs c id h none s p)),
       );
       in_queue = omega (
         arith,

@@ -57,11 +57,11 @@ one_more false false true false true t e f g h = ap (λ (a : Bool). cond (a && t
 one_more false false true false false t e f g h = ap (λ (a : Bool). cond (a && false) (record t { state = Past }) t) e
 one_more false false false past on t e f g h = ap (λ (a : Bool). cond (a && on) (record t { state = Past }) t) e
 
-image_after : (among past : Bool) (t : Submission)
-    → (cond among (record t { state = Active; was_active = true }) (cond past (record t { state = Past }) t)).image ≡ t.image
-image_after true past t = refl
-image_after false true t = refl
-image_after false false t = refl
+frame_after : (among past : Bool) (t : Submission)
+    → (cond among (record t { state = Active; was_active = true }) (cond past (record t { state = Past }) t)).submitted ≡ t.submitted
+frame_after true past t = refl
+frame_after false true t = refl
+frame_after false false t = refl
 
 not_both : (t : Submission) → is_waiting t ≡ true → is_active t ≡ false
 not_both t h = by t.state h
@@ -81,12 +81,12 @@ module _ (w : World) (h : KeepsAlways w) where
       at_same w.subs n.0 m.0 s t n.1 m.1 (subs_differ w.surfaces w.subs h.numbers n.0 m.0 s t n.1 m.1 e)
 
   -- and of one surface one that waits
-  one_waiting : (s t : Submission) → Contains w.subs s → Contains w.subs t → is_waiting s ≡ true → is_waiting t ≡ true → is_on s.image.id t ≡ true → s ≡ t
+  one_waiting : (s t : Submission) → Contains w.subs s → Contains w.subs t → is_waiting s ≡ true → is_waiting t ≡ true → is_on s.submitted.id t ≡ true → s ≡ t
   one_waiting s t p q a b on =
       let n = contains_at w.subs s p in
       let m = contains_at w.subs t q in
-      at_same w.subs n.0 m.0 s t n.1 m.1 (one_place (on_and is_waiting s.image.id) w.subs n.0 m.0 s t (h.states.one_waits s.image.id) n.1 m.1
-      (and_from (is_on s.image.id s) (is_waiting s) (self_same s.image.id) a) (and_from (is_on s.image.id t) (is_waiting t) on b))
+      at_same w.subs n.0 m.0 s t n.1 m.1 (one_place (on_and is_waiting s.submitted.id) w.subs n.0 m.0 s t (h.states.one_waits s.submitted.id) n.1 m.1
+      (and_from (is_on s.submitted.id s) (is_waiting s) (self_same s.submitted.id) a) (and_from (is_on s.submitted.id t) (is_waiting t) on b))
 
   -- these wait
   abbrev AllWait : List Submission → Type 0
@@ -104,12 +104,12 @@ module _ (w : World) (h : KeepsAlways w) where
       → as_one_rises s (after_these rs t) ≡ after_these (rs ++ s ∷ []) t
   rises_one rs s t all p waits fresh q =
       let among = has_sub (map sub_of rs) (sub_of t) in
-      let past = list_any (is_on t.image.id) rs in
+      let past = list_any (is_on t.submitted.id) rs in
       let one = same_sub (sub_of t) (sub_of s) in
-      let on = is_on s.image.id t in
-      let image = image_after among (is_active t && past) t in
+      let on = is_on s.submitted.id t in
+      let submitted = frame_after among (is_active t && past) t in
       ap (λ i. cond (same_sub i.sub (sub_of s)) (record (after_these rs t) { state = Active; was_active = true })
-      (cond (is_active (after_these rs t) && same_surface i.id s.image.id) (record (after_these rs t) { state = Past }) (after_these rs t))) image
+      (cond (is_active (after_these rs t) && same_surface i.id s.submitted.id) (record (after_these rs t) { state = Past }) (after_these rs t))) submitted
       ∙ (one_more among one (is_active t) past on t refl
       (λ e. false_from_ne_true on (λ o.
       let r = among_at rs t all q e in
@@ -120,7 +120,7 @@ module _ (w : World) (h : KeepsAlways w) where
       ∙ (ap (λ (b : Bool). cond b (record t { state = Active; was_active = true }) (cond (is_active t && (past || on)) (record t { state = Past }) t))
       (sym (ap (λ l. has_sub l (sub_of t)) (map-append sub_of rs (s ∷ [])) ∙ (list_any-append (same_sub (sub_of t)) (map sub_of rs) (sub_of s ∷ []) ∙ ap (λ b. among || b) (or_false one))))
       ∙ ap (λ (b : Bool). cond (has_sub (map sub_of (rs ++ s ∷ [])) (sub_of t)) (record t { state = Active; was_active = true }) (cond (is_active t && b) (record t { state = Past }) t))
-      (sym (list_any-append (is_on t.image.id) rs (s ∷ []) ∙ ap (λ b. past || b) (or_false (is_on t.image.id s) ∙ same_surfaces s.image.id t.image.id)))))
+      (sym (list_any-append (is_on t.submitted.id) rs (s ∷ []) ∙ ap (λ b. past || b) (or_false (is_on t.submitted.id s) ∙ same_surfaces s.submitted.id t.submitted.id)))))
 
 -- Surfaces
 
@@ -157,10 +157,10 @@ marks_one ss rs s c =
     let client = when_same (λ (x : Created). x.client) marks b c refl in
     let number = when_same (λ (x : Created). x.number) marks b c refl in
     let place : number_of (map g ss) s ≡ number_of ss s =
-    number_map g s.image.id ss (λ d. when_same (λ (x : Created). x.id) marks (list_any (is_before ss d) rs) d refl) (λ d. when_same (λ (x : Created). x.number) marks (list_any (is_before ss d) rs) d refl) in
+    number_map g s.submitted.id ss (λ d. when_same (λ (x : Created). x.id) marks (list_any (is_before ss d) rs) d refl) (λ d. when_same (λ (x : Created). x.number) marks (list_any (is_before ss d) rs) d refl) in
     let test : is_before (map g ss) (g c) s ≡ is_before ss c s =
-    ap (λ n. (n == s.image.sub.client) && nat_lt (g c).number (number_of (map g ss) s)) client
-    ∙ (ap (λ n. (c.client == s.image.sub.client) && nat_lt n (number_of (map g ss) s)) number ∙ ap (λ n. (c.client == s.image.sub.client) && nat_lt c.number n) place) in
+    ap (λ n. (n == s.submitted.sub.client) && nat_lt (g c).number (number_of (map g ss) s)) client
+    ∙ (ap (λ n. (c.client == s.submitted.sub.client) && nat_lt n (number_of (map g ss) s)) number ∙ ap (λ n. (c.client == s.submitted.sub.client) && nat_lt c.number n) place) in
     ap (λ (t : Bool). cond (t || false) (record (g c) { marked = true }) (g c)) test
     ∙ (mark_more b (is_before ss c s) c ∙ ap (λ (t : Bool). cond t (record c { marked = true }) c) (sym (list_any-append (is_before ss c) rs (s ∷ []))))
 
@@ -262,6 +262,6 @@ module _ (w : World) (h : KeepsAlways w) where
       (λ e. (filter_at (is_ready w) w.subs t (among_at w h risen t wait q e)).1) in
       ap (λ l. record w { subs = l; surfaces = map (marked_by w.surfaces risen) w.surfaces })
       (map_alike (after_round (is_ready w) risen) (after_these risen) w.subs
-      (λ t q. ap (λ (b : Bool). cond b (record t { state = Active; was_active = true }) (cond (is_active t && list_any (is_on t.image.id) risen) (record t { state = Past }) t)) (same t q)))
+      (λ t q. ap (λ (b : Bool). cond b (record t { state = Active; was_active = true }) (cond (is_active t && list_any (is_on t.submitted.id) risen) (record t { state = Past }) t)) (same t q)))
       ∙ (sym (all_after risen [] (λ r c. absurd (contains_none r c)) wait (fresh_from (is_ready w) w.subs [] 0 (λ n t e. ap (slice_get w.subs) (none_more n) ∙ e) none))
       ∙ ap (all_rising risen) none_after)

@@ -13,17 +13,17 @@ use Rattle.vz_rules.specs.declared.entry.Event.{Event}
 use Rattle.vz_rules.specs.declared.entry.Entry.{Entry}
 use Rattle.vz_rules.specs.declared.entry.State.TheVariants.{Dropped}
 use Rattle.vz_rules.specs.Plan.{Plan, IsPlan}
-use Rattle.vz_rules.specs.World.{World, Client, Image, Resource, Submission, new_clients, opening, is_waiting, is_on}
+use Rattle.vz_rules.specs.World.{World, Client, FrameData, Resource, Submission, new_clients, opening, is_waiting, is_on}
 use Rattle.vz_rules.specs.Returns.{goes_back, queue_resource, queue_returns}
 use Rattle.vz_rules.specs.Reach.{collect}
 use Rattle.vz_rules.specs.Settle.{settle}
 use Rattle.vz_rules.specs.Messages.{Answer, taking, submitting, lend, answer_tick, new_submission, id_of, replace_on, reclaim, accepted, client_answer}
-use Rattle.vz_rules.specs.Step.{next_tick, is_attached, deliver, begin_answer, answer_to, accepted_images, outcome_of, step_in, presented_by, world_from, world}
+use Rattle.vz_rules.specs.Step.{next_tick, is_attached, deliver, begin_answer, answer_to, accepted_frames, outcome_of, step_in, presented_by, world_from, world}
 use Rattle.vz_rules.specs.Kept.{KeepsAlways, Keeps, IsWhole, HasSize, KeepsBlocks, KeepsRelations, KeepsMessages}
 use Rattle.vz_rules.proofs.Members.{contains_none, contains_at, contains_map, contains_push, map_contains, find_at, append_contains}
-use Rattle.vz_rules.proofs.Stays.{image_of}
+use Rattle.vz_rules.proofs.Stays.{frame_of}
 use Rattle.vz_rules.proofs.Goes.{Goes, goes_step}
-use Rattle.vz_rules.proofs.Follow_ups.{images_of, outcome_clients, outcome_images}
+use Rattle.vz_rules.proofs.Follow_ups.{frames_of, outcome_clients, outcome_frames}
 use Rattle.vz_rules.proofs.Cases.{client_cases, answer_cases}
 use Rattle.vz_rules.proofs.Kept_first.{client_at_first, keeps_first}
 use Rattle.vz_rules.proofs.Kept_between.{keeps_step}
@@ -33,7 +33,7 @@ use Rattle.vz_rules.proofs.Kept_sent.{Sends, submit_fits, upload_fits, new_whole
 
 -- what is kept but for the sizes of surfaces
 record Sent (w : World) : Type 0 where
-  images : (s : Submission) → Contains w.subs s → IsWhole s.image
+  active : (s : Submission) → Contains w.subs s → IsWhole s.submitted
   blocks : (c : Client) → Contains w.clients c → KeepsBlocks c
   relations : KeepsRelations w.clients w.relations
 
@@ -42,7 +42,7 @@ record Sent (w : World) : Type 0 where
 sent_taking : (w : World) (c : Client) (f : Client → Client) → ((x : Client) → Contains w.clients x → Sends x (f x)) → Sent w → Sent (taking f c w)
 sent_taking w c f sends h =
     record {
-      images = h.images;
+      active = h.active;
       blocks = blocks_taking w c f sends h.blocks;
       relations = relations_taking w c f (λ x q. (sends x q).sink) h.relations;
     }
@@ -66,25 +66,25 @@ submit_sends w frame x h =
     tick_sends (frame.metadata.ack == w.tick) w.tick x lent
     (sends_map (lend frame.resources) x lent (λ s. lend_block (list_any (λ l. l.id == s.id) frame.resources) s) refl refl refl h)
 
-replace_image : (t : Bool) (s : Submission) → (cond t (record s { state = Dropped }) s).image ≡ s.image
-replace_image true s = refl
-replace_image false s = refl
+replace_frame : (t : Bool) (s : Submission) → (cond t (record s { state = Dropped }) s).submitted ≡ s.submitted
+replace_frame true s = refl
+replace_frame false s = refl
 
-whole_map : (f : Submission → Submission) (subs : List Submission) → ((s : Submission) → (f s).image ≡ s.image) → ((s : Submission) → Contains subs s → IsWhole s.image)
-    → (s : Submission) → Contains (map f subs) s → IsWhole s.image
+whole_map : (f : Submission → Submission) (subs : List Submission) → ((s : Submission) → (f s).submitted ≡ s.submitted) → ((s : Submission) → Contains subs s → IsWhole s.submitted)
+    → (s : Submission) → Contains (map f subs) s → IsWhole s.submitted
 whole_map f subs same h s p =
     let m = contains_map f subs s p in
-    subst IsWhole (sym (same m.0) ∙ ap image_of m.2) (h m.0 m.1)
+    subst IsWhole (sym (same m.0) ∙ ap frame_of m.2) (h m.0 m.1)
 
-sent_accepted : (w : World) (c : Client) (local : LocalSurfaceId) (frame : CompositorFrame) → IsWhole (new_submission w c local frame).image → Sent w
+sent_accepted : (w : World) (c : Client) (local : LocalSurfaceId) (frame : CompositorFrame) → IsWhole (new_submission w c local frame).submitted → Sent w
     → Sent (accepted w c local frame).world
 unfolding accepted
 sent_accepted w c local frame whole h =
     let f = replace_on (id_of c local) in
     record {
-      images = λ s p. elim (contains_push (map f w.subs) (new_submission w c local frame) s p) [
-        | inl m ↦ whole_map f w.subs (λ t. replace_image (is_waiting t && is_on (id_of c local) t) t) h.images s m
-        | inr e ↦ subst (λ (x : Submission). IsWhole x.image) e whole
+      active = λ s p. elim (contains_push (map f w.subs) (new_submission w c local frame) s p) [
+        | inl m ↦ whole_map f w.subs (λ t. replace_frame (is_waiting t && is_on (id_of c local) t) t) h.active s m
+        | inr e ↦ subst (λ (x : Submission). IsWhole x.submitted) e whole
       ];
       blocks = blocks_taking w c (submitting w frame) (λ x q. submit_sends w frame x (h.blocks x q)) h.blocks;
       relations = relations_taking w c (submitting w frame) (λ x q. (submit_sends w frame x (h.blocks x q)).sink) h.relations;
@@ -106,15 +106,15 @@ sent_client p w n is a h =
           sent_accepted w c local frame (new_whole w c local frame (a.shelves c here).rising (h.blocks c here) both.0 both.1 good) h;
       noted = λ k at. sent_taking w c (answer_tick w.tick k) (λ x q. tick_sends (k == w.tick) w.tick x x (sends_same x x refl refl refl (h.blocks x q))) h;
       reclaimed = λ at. sent_taking w c reclaim (λ x q. sends_map (λ s. record s { reclaimed = s.queued }) x (reclaim x) (λ s. refl) refl refl refl (h.blocks x q)) h;
-      rooted = λ local root at. let k = sent_plain w c (λ x. x) (λ x. refl) (λ x. refl) (λ x. refl) h in record { images = k.images; blocks = k.blocks; relations = k.relations };
+      rooted = λ local root at. let k = sent_plain w c (λ x. x) (λ x. refl) (λ x. refl) (λ x. refl) h in record { active = k.active; blocks = k.blocks; relations = k.relations };
       joined = λ parent child good at.
           let k = sent_plain w c (λ x. x) (λ x. refl) (λ x. refl) (λ x. refl) h in
-          record { images = k.images; blocks = k.blocks; relations = relations_joined w c parent child good h.relations };
+          record { active = k.active; blocks = k.blocks; relations = relations_joined w c parent child good h.relations };
       began = λ k d at. sent_plain w c (λ (x : Client). record x { delivered = None }) (λ x. refl) (λ x. refl) (λ x. refl) h;
       over = λ at. sent_plain w c (λ x. x) (λ x. refl) (λ x. refl) (λ x. refl) h;
       left = λ at.
           let k = sent_plain w c (λ (x : Client). record x { closed = true }) (λ x. refl) (λ x. refl) (λ x. refl) h in
-          record { images = k.images; blocks = k.blocks; relations = k.relations };
+          record { active = k.active; blocks = k.blocks; relations = k.relations };
     })
 
 delivered_blocks : (t : Bool) (now : ℕ) (c : Client) → KeepsBlocks c → KeepsBlocks (cond t (record c { delivered = Some now }) c)
@@ -130,7 +130,7 @@ unfolding begin_answer
 sent_begin p w h =
     let next = next_tick w.tick in
     record {
-      images = h.images;
+      active = h.active;
       blocks = λ d q.
           let m = contains_map (deliver p w next) w.clients d q in
           subst KeepsBlocks m.2 (delivered_blocks (is_attached p w m.0 && not m.0.closed) next m.0 (h.blocks m.0 m.1));
@@ -141,16 +141,16 @@ sent_answer : (p : Plan) (w : World) (e : Event) → IsPlan p → KeepsAlways w 
 sent_answer p w e is a h =
     answer_cases p w (λ x y. Sent y.world) (λ n. sent_client p w n is a h) (record {
       begins = sent_begin p w h;
-      draws = λ r f last drawn. record { images = h.images; blocks = h.blocks; relations = h.relations };
-      dones = λ r f drawn. record { images = h.images; blocks = h.blocks; relations = h.relations };
-      overs = record { images = h.images; blocks = h.blocks; relations = h.relations };
+      draws = λ r f last drawn. record { active = h.active; blocks = h.blocks; relations = h.relations };
+      dones = λ r f drawn. record { active = h.active; blocks = h.blocks; relations = h.relations };
+      overs = record { active = h.active; blocks = h.blocks; relations = h.relations };
     }) e
 
 -- What follows
 
--- what a submission was accepted with is that of one in a world with the same images
-image_before : (before after : List Submission) (s : Submission) → images_of after ≡ images_of before → Contains after s → (t : Submission) × Contains before t × (t.image ≡ s.image)
-image_before before after s e p = contains_map image_of before s.image (subst (λ (l : List Image). Contains l s.image) e (map_contains image_of after s p))
+-- what a submission was accepted with is that of one in a world with the same frames
+frame_before : (before after : List Submission) (s : Submission) → frames_of after ≡ frames_of before → Contains after s → (t : Submission) × Contains before t × (t.submitted ≡ s.submitted)
+frame_before before after s e p = contains_map frame_of before s.submitted (subst (λ (l : List FrameData). Contains l s.submitted) e (map_contains frame_of after s p))
 
 queue_block : (t : Bool) (r : Resource) → (cond t (record r { queued = r.lent }) r).block ≡ r.block
 queue_block true r = refl
@@ -170,9 +170,9 @@ sent_end : (presented : List Sub) (a : Answer) → Sent a.world → Sent (outcom
 sent_end presented a h =
     let v = (outcome_of presented a).world in
     record {
-      images = λ s p.
-          let t = image_before a.world.subs v.subs s (outcome_images presented a) p in
-          subst IsWhole t.2 (h.images t.0 t.1);
+      active = λ s p.
+          let t = frame_before a.world.subs v.subs s (outcome_frames presented a) p in
+          subst IsWhole t.2 (h.active t.0 t.1);
       blocks = λ c p.
           let m = contains_map (queue_returns (collect (settle a.world))) a.world.clients c (subst (λ l. Contains l c) (outcome_clients presented a) p) in
           subst KeepsBlocks m.2 (queued_blocks (collect (settle a.world)) m.0 (h.blocks m.0 m.1));
@@ -181,13 +181,13 @@ sent_end presented a h =
 
 -- The world
 
-size_after : (w v : World) (s : Submission) → Goes w v → KeepsMessages w → Contains v.subs s → HasSize v.surfaces s.image.id (frame_size s.image.frame)
+size_after : (w v : World) (s : Submission) → Goes w v → KeepsMessages w → Contains v.subs s → HasSize v.surfaces s.submitted.id (frame_size s.submitted.frame)
 size_after w v s goes h p =
-    elim (append_contains (accepted_images w) goes.more s.image (subst (λ (l : List Image). Contains l s.image) goes.images (map_contains image_of v.subs s p))) [
+    elim (append_contains (accepted_frames w) goes.more s.submitted (subst (λ (l : List FrameData). Contains l s.submitted) goes.active (map_contains frame_of v.subs s p))) [
       | inl m ↦
-          let t = contains_map image_of w.subs s.image m in
-          subst (λ (i : Image). HasSize v.surfaces i.id (frame_size i.frame)) t.2 (goes.surfaces t.0.image.id (frame_size t.0.image.frame) (h.sizes t.0 t.1))
-      | inr m ↦ goes.sizes s.image m
+          let t = contains_map frame_of w.subs s.submitted m in
+          subst (λ (i : FrameData). HasSize v.surfaces i.id (frame_size i.frame)) t.2 (goes.surfaces t.0.submitted.id (frame_size t.0.submitted.frame) (h.sizes t.0 t.1))
+      | inr m ↦ goes.sizes s.submitted m
     ]
 
 sent_step : (p : Plan) (w : World) (e : Event) → IsPlan p → KeepsAlways w → Sent w → Sent (step_in p w e).world
@@ -197,15 +197,15 @@ sent_step p w e is a h = sent_end (presented_by w e) (answer_to p w e) (sent_ans
 -- a step keeps it
 pub messages_step : (p : Plan) (w : World) (e : Event) → IsPlan p → KeepsAlways w → KeepsMessages w → KeepsMessages (step_in p w e).world
 messages_step p w e is a h =
-    let kept = sent_step p w e is a (record { images = h.images; blocks = h.blocks; relations = h.relations }) in
-    record { images = kept.images; relations = kept.relations; sizes = λ s q. size_after w (step_in p w e).world s (goes_step p w e a) h q; blocks = kept.blocks }
+    let kept = sent_step p w e is a (record { active = h.active; blocks = h.blocks; relations = h.relations }) in
+    record { active = kept.active; relations = kept.relations; sizes = λ s q. size_after w (step_in p w e).world s (goes_step p w e a) h q; blocks = kept.blocks }
 
 -- the first world does
 pub messages_first : (p : Plan) → KeepsMessages (opening p)
 unfolding opening
 messages_first p =
     record {
-      images = λ s q. absurd (contains_none s q);
+      active = λ s q. absurd (contains_none s q);
       sizes = λ s q. absurd (contains_none s q);
       blocks = λ c q.
           let at = contains_at (new_clients 1 p.files) c q in

@@ -147,7 +147,7 @@ unrefused None false b c h = (refl, refl)
 
 -- what is accepted is whole
 pub new_whole : (w : World) (c : Client) (local : LocalSurfaceId) (frame : CompositorFrame) → AreRising c.resources → KeepsBlocks c → fits_local local ≡ true
-    → fits_frame 2 frame ≡ true → submit_refusal (last_created w c.number) c.resources local frame ≡ None → IsWhole (new_submission w c local frame).image
+    → fits_frame 2 frame ≡ true → submit_refusal (last_created w c.number) c.resources local frame ≡ None → IsWhole (new_submission w c local frame).submitted
 unfolding new_submission submit_refusal
 new_whole w c local frame up stored named fits good =
     let fine = unrefused (first_broken frame) (list_any (is_unknown c.resources) frame.resources) (violates (last_created w c.number) local) (has_other_size (last_created w c.number) local frame) good in

@@ -12,18 +12,18 @@ use Rattle.vz_rules.proofs.Members.{contains_map, map_contains, contains_push, a
 use Rattle.vz_rules.proofs.Counts.{count_less, count_same, count_push}
 
 -- one that holds in the end held before
-held_before : (f : Submission → Submission) (holding more : Submission → Bool) (c id : ℕ) (s : Submission) → (f s).image ≡ s.image
+held_before : (f : Submission → Submission) (holding more : Submission → Bool) (c id : ℕ) (s : Submission) → (f s).submitted ≡ s.submitted
     → (more (f s) ≡ true → holding s ≡ true) → holds_of more c id (f s) ≡ true → holds_of holding c id s ≡ true
 held_before f holding more c id s e h k =
-    let outer = and_parts (((f s).image.sub.client == c) && more (f s)) (list_any (lists id) (f s).image.frame.resources) k in
-    let inner = and_parts ((f s).image.sub.client == c) (more (f s)) outer.0 in
-    and_from ((s.image.sub.client == c) && holding s) (list_any (lists id) s.image.frame.resources)
-    (and_from (s.image.sub.client == c) (holding s) (ap (λ i. i.sub.client == c) (sym e) ∙ inner.0) (h inner.1))
+    let outer = and_parts (((f s).submitted.sub.client == c) && more (f s)) (list_any (lists id) (f s).submitted.frame.resources) k in
+    let inner = and_parts ((f s).submitted.sub.client == c) (more (f s)) outer.0 in
+    and_from ((s.submitted.sub.client == c) && holding s) (list_any (lists id) s.submitted.frame.resources)
+    (and_from (s.submitted.sub.client == c) (holding s) (ap (λ i. i.sub.client == c) (sym e) ∙ inner.0) (h inner.1))
     (ap (λ i. list_any (lists id) i.frame.resources) (sym e) ∙ outer.1)
 
 -- submissions keep what they were accepted with, and no more of them hold
 pub shelf_of_subs : (f : Submission → Submission) (holding more : Submission → Bool) (subs : List Submission) (c : Client)
-    → ((s : Submission) → (f s).image ≡ s.image)
+    → ((s : Submission) → (f s).submitted ≡ s.submitted)
     → ((s : Submission) → Contains subs s → more (f s) ≡ true → holding s ≡ true) → KeepsShelf holding subs c → KeepsShelf more (map f subs) c
 shelf_of_subs f holding more subs c name held h =
     record {
@@ -31,7 +31,7 @@ shelf_of_subs f holding more subs c name held h =
       rising = h.rising;
       listed = λ s l p by q.
           let m = contains_map f subs s p in
-          let e : s.image ≡ m.0.image = ap (λ (x : Submission). x.image) (sym m.2) ∙ name m.0 in
+          let e : s.submitted ≡ m.0.submitted = ap (λ (x : Submission). x.submitted) (sym m.2) ∙ name m.0 in
           h.listed m.0 l m.1 (ap (λ i. i.sub.client) (sym e) ∙ by) (subst (λ i. Contains i.frame.resources l) e q);
       totals = λ s p.
           let t = h.totals s p in
@@ -107,7 +107,7 @@ one_less true false false = omega arith
 one_less false b c = omega arith
 
 lent_totals : (f : Submission → Submission) (holding more : Submission → Bool) (subs : List Submission) (new : Submission) (c : ℕ) (queue : List Returned) (g : Resource → Resource) (s : Resource)
-    → ((x : Submission) → (f x).image ≡ x.image) → ((x : Submission) → Contains subs x → more (f x) ≡ true → holding x ≡ true) → Lends c new g
+    → ((x : Submission) → (f x).submitted ≡ x.submitted) → ((x : Submission) → Contains subs x → more (f x) ≡ true → holding x ≡ true) → Lends c new g
     → KeepsResource holding subs c queue s → KeepsResource more (map f subs ++ new ∷ []) c queue (g s)
 lent_totals f holding more subs new c queue g s name held lends t =
     let i : (g s).id ≡ s.id = lends.id s in
@@ -115,7 +115,7 @@ lent_totals f holding more subs new c queue g s name held lends t =
     let same = count_same f (borrows c s.id) (borrows c s.id) subs (λ x. ap (λ i. (i.sub.client == c) && list_any (lists s.id) i.frame.resources) (name x)) in
     let holders = count_push (holds_of more c s.id) (map f subs) new in
     let fewer = count_less f (holds_of more c s.id) (holds_of holding c s.id) subs (λ x m. held_before f holding more c s.id x (name x) (held x m)) in
-    let one = one_less (new.image.sub.client == c) (more new) (list_any (lists s.id) new.image.frame.resources) in
+    let one = one_less (new.submitted.sub.client == c) (more new) (list_any (lists s.id) new.submitted.frame.resources) in
     record {
       reclaimed = omega (arith, t.reclaimed, lends.reclaimed s, lends.queued s);
       queued = omega (arith, t.queued, lends.queued s, lends.lent s);
@@ -129,9 +129,9 @@ lent_totals f holding more subs new c queue g s name held lends t =
 
 -- a client's shelf, where a submission is accepted
 pub shelf_more : (f : Submission → Submission) (holding more : Submission → Bool) (subs : List Submission) (new : Submission) (c : Client) (d : Client) (g : Resource → Resource)
-    → ((x : Submission) → (f x).image ≡ x.image) → ((x : Submission) → Contains subs x → more (f x) ≡ true → holding x ≡ true) → Lends c.number new g
+    → ((x : Submission) → (f x).submitted ≡ x.submitted) → ((x : Submission) → Contains subs x → more (f x) ≡ true → holding x ≡ true) → Lends c.number new g
     → d.number ≡ c.number → d.resources ≡ map g c.resources → d.queue ≡ c.queue → c.taken + cond (is_by c.number new) 1 0 ≤ d.taken
-    → ((l : Listing) → new.image.sub.client ≡ c.number → Contains new.image.frame.resources l → HasResource c.resources l.id)
+    → ((l : Listing) → new.submitted.sub.client ≡ c.number → Contains new.submitted.frame.resources l → HasResource c.resources l.id)
     → KeepsShelf holding subs c → KeepsShelf more (map f subs ++ new ∷ []) d
 shelf_more f holding more subs new c d g name held lends number resources queue taken knows h =
     let after = map f subs ++ new ∷ [] in
@@ -149,9 +149,9 @@ shelf_more f holding more subs new c d g name held lends number resources queue 
           subst (λ r. HasResource r l.id) (sym resources) (has_mapped g c.resources l.id lends.id (elim (contains_push (map f subs) new s p) [
             | inl p ↦
                 let m = contains_map f subs s p in
-                let e : s.image ≡ m.0.image = ap (λ (x : Submission). x.image) (sym m.2) ∙ name m.0 in
+                let e : s.submitted ≡ m.0.submitted = ap (λ (x : Submission). x.submitted) (sym m.2) ∙ name m.0 in
                 h.listed m.0 l m.1 (ap (λ i. i.sub.client) (sym e) ∙ (by ∙ number)) (subst (λ i. Contains i.frame.resources l) e q)
-            | inr e ↦ knows l (ap (λ (x : Submission). x.image.sub.client) e ∙ (by ∙ number)) (subst (λ (x : Submission). Contains x.image.frame.resources l) (sym e) q)
+            | inr e ↦ knows l (ap (λ (x : Submission). x.submitted.sub.client) e ∙ (by ∙ number)) (subst (λ (x : Submission). Contains x.submitted.frame.resources l) (sym e) q)
           ]));
       totals = λ s p.
           let m = contains_map g c.resources s (subst (λ r. Contains r s) resources p) in

@@ -76,29 +76,29 @@ small_surface p w is a h s q =
 -- Submissions
 
 -- submissions on one surface are of one client
-pub one_submitter : (w : World) → KeepsAlways w → (s t : Submission) → Contains w.subs s → Contains w.subs t → same_surface s.image.id t.image.id ≡ true
-    → s.image.sub.client ≡ t.image.sub.client
+pub one_submitter : (w : World) → KeepsAlways w → (s t : Submission) → Contains w.subs s → Contains w.subs t → same_surface s.submitted.id t.submitted.id ≡ true
+    → s.submitted.sub.client ≡ t.submitted.sub.client
 one_submitter w a s t p q e =
     let x = a.numbers.created s p in
     let y = a.numbers.created t q in
     sym x.3
     ∙ (one_owner w.clients w.surfaces x.0 y.0 a.clients a.surfaces x.1 y.1
-    (ap (λ (i : SurfaceId). i.sink) (x.2 ∙ (from_same s.image.id t.image.id e ∙ sym y.2))) ∙ y.3)
+    (ap (λ (i : SurfaceId). i.sink) (x.2 ∙ (from_same s.submitted.id t.submitted.id e ∙ sym y.2))) ∙ y.3)
 
 pub small_submission : (p : Plan) (w : World) → IsPlan p → KeepsAlways w → KeepsPlan p w → (s : Submission) → Contains w.subs s → IsSmallSubmission s
 small_submission p w is a h s q =
     let made = a.numbers.created s q in
     let owner = a.surfaces.of_clients made.0 made.1 in
-    let number : owner.0.number ≡ s.image.sub.client = owner.2 ∙ made.3 in
+    let number : owner.0.number ≡ s.submitted.sub.client = owner.2 ∙ made.3 in
     let client = (small_client p w is a h owner.0 owner.1).0 in
     let n = contains_at w.subs s q in
     let ordinal = a.numbers.ordered n.0 s n.1 in
     let index = a.numbers.numbered n.0 s n.1 in
-    let more = count_at (is_by s.image.sub.client) w.subs n.0 s n.1 (eq-eqb s.image.sub.client s.image.sub.client refl) in
+    let more = count_at (is_by s.submitted.sub.client) w.subs n.0 s n.1 (eq-eqb s.submitted.sub.client s.submitted.sub.client refl) in
     let few = few_of p w is a h owner.0 owner.1 in
     let same = ap (λ c. count_by (is_by c) w.subs) number in
-    let fewer = count_weaker (is_on s.image.id) (is_by s.image.sub.client) (take n.0 w.subs) (λ t c e.
-    eq-eqb t.image.sub.client s.image.sub.client (one_submitter w a t s (take_contains n.0 w.subs t c) q e)) in
+    let fewer = count_weaker (is_on s.submitted.id) (is_by s.submitted.sub.client) (take n.0 w.subs) (λ t c e.
+    eq-eqb t.submitted.sub.client s.submitted.sub.client (one_submitter w a t s (take_contains n.0 w.subs t c) q e)) in
     record {
       client = subst HasSmallClient number client;
       ordinal = (omega (arith, ordinal), omega (arith, ordinal, more, few, same));
@@ -112,7 +112,7 @@ pub small_resource : (p : Plan) (w : World) → IsPlan p → KeepsAlways w → K
     → Contains c.resources s → IsSmallResource s
 small_resource p w is a h c s q r =
     let t = (a.shelves c q).totals s r in
-    let fewer = count_weaker (borrows c.number s.id) (is_by c.number) w.subs (λ x m e. (and_parts (x.image.sub.client == c.number) _ e).0) in
+    let fewer = count_weaker (borrows c.number s.id) (is_by c.number) w.subs (λ x m e. (and_parts (x.submitted.sub.client == c.number) _ e).0) in
     let ids = h.files.ids c q s r in
     record { id = ids; lent = omega (arith, t.lent, fewer, few_of p w is a h c q) }
 

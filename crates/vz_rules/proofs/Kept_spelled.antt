@@ -23,8 +23,8 @@ use Rattle.vz_rules.specs.Scene.{scene_of}
 use Rattle.vz_rules.specs.Walk.{walk_of, too_much}
 use Rattle.vz_rules.specs.Damage.{drawn_damage}
 use Rattle.vz_rules.specs.Messages.{Answer, says, taking, refused, unless_refused, in_use, reclaim, relate, upload_answer, submit_answer, submit_refusal, accepted, new_submission, id_of, root_answer, hierarchy_answer, hierarchy_refusal, await_answer, message_answer, known_client_answer, client_answer}
-use Rattle.vz_rules.specs.Step.{next_tick, begin_answer, scene_answer, draw_answer, done_answer, answer_to, accepted_images, outcome_of, step_in, presented_by, entry_in, world, NamesClient, LegalFrom, Legal}
-use Rattle.vz_rules.specs.Log.{is_client, is_count, has_text_return, answers_client, answers, has_text_entry, has_text_effects, rest_of, Spellable}
+use Rattle.vz_rules.specs.Step.{next_tick, begin_answer, scene_answer, draw_answer, done_answer, answer_to, accepted_frames, outcome_of, step_in, presented_by, entry_in, world, NamesClient, LegalFrom, Legal}
+use Rattle.vz_rules.specs.Log.{is_log_client, is_count, has_text_return, answers_client, answers, has_text_entry, has_text_effects, rest_of, Spellable}
 use Rattle.vz_rules.specs.Kept.{KeepsAlways, KeepsPlan, Keeps, is_by}
 use Rattle.vz_rules.proofs.Reached.{from_same}
 use Rattle.vz_rules.proofs.Members.{at_contains, at_within, contains_at, find_at, all_at, all_from}
@@ -72,9 +72,9 @@ own_submissions w c local a q =
     count_weaker (is_on (id_of c local)) (is_by c.number) w.subs (λ s m e.
     let d = a.numbers.created s m in
     let x = a.surfaces.of_clients d.0 d.1 in
-    let sink = x.3 ∙ ap (λ (i : SurfaceId). i.sink) (d.2 ∙ from_same s.image.id (id_of c local) e) in
+    let sink = x.3 ∙ ap (λ (i : SurfaceId). i.sink) (d.2 ∙ from_same s.submitted.id (id_of c local) e) in
     let one = one_client w.clients x.0 c a.clients x.1 q sink in
-    eq-eqb s.image.sub.client c.number (sym d.3 ∙ (sym x.2 ∙ ap (λ (y : Client). y.number) one)))
+    eq-eqb s.submitted.sub.client c.number (sym d.3 ∙ (sym x.2 ∙ ap (λ (y : Client). y.number) one)))
 
 replies_accepted : (p : Plan) (w : World) (n : ℕ) (c : Client) (local : LocalSurfaceId) (frame : CompositorFrame) → IsPlan p → KeepsAlways w → KeepsPlan p w
     → Contains w.clients c
@@ -84,7 +84,7 @@ replies_accepted p w n c local frame is a h q room =
     let few = few_taken p w c is h q room in
     let taken = (a.shelves c q).taken in
     let own = own_submissions w c local a q in
-    and_from (is_count (count_by (λ s. s.image.sub.client == c.number) w.subs + 1)) (is_count (count_by (is_on (id_of c local)) w.subs + 1))
+    and_from (is_count (count_by (λ s. s.submitted.sub.client == c.number) w.subs + 1)) (is_count (count_by (is_on (id_of c local)) w.subs + 1))
     (count_text (count_by (is_by c.number) w.subs + 1) (omega arith) (omega (arith, few, taken)))
     (count_text (count_by (is_on (id_of c local)) w.subs + 1) (omega arith) (omega (arith, few, taken, own)))
 
@@ -152,10 +152,10 @@ answers_by e false a b h k = k refl
 scene_answers : (p : Plan) (w : World) (scene : Scene) → IsPlan p → Answers event.Draw (scene_answer p w scene)
 unfolding scene_answer answers
 scene_answers p w scene is =
-    let damage = drawn_damage p.size w.last (accepted_images w) scene.root (walk_of p.size scene) in
+    let damage = drawn_damage p.size w.last (accepted_frames w) scene.root (walk_of p.size scene) in
     answers_by event.Draw (too_much (walk_of p.size scene)) (says reply.TooMuch w) _ (λ e. refl) (λ e.
     answers_by event.Draw (is_some w.last && is_empty_rect damage) (says reply.Unchanged _) (says (reply.Drawn damage) _) (λ k. refl)
-    (λ k. damage_text p.size w.last (accepted_images w) scene is.sizes k))
+    (λ k. damage_text p.size w.last (accepted_frames w) scene is.sizes k))
 
 seen_by : (p : Plan) (w : World) (o : Option Scene) → IsPlan p
     → Answers event.Draw (elim o [ Some scene ↦ scene_answer p w scene | None ↦ says reply.NoRoot w ])
@@ -166,7 +166,7 @@ seen_by p w (Some scene) is = scene_answers p w scene is
 event_answers : (p : Plan) (w : World) (e : Event) → IsPlan p → NamesClient p e → KeepsAlways w → KeepsPlan p w → Answers e (answer_to p w e)
 unfolding answer_to client_answer begin_answer draw_answer done_answer answers
 event_answers p w (event.Client c) is names a h =
-    and_from (is_client c) _ (and_from (nat_lt 0 c) (nat_le c 16) (lt-ltb 0 c names.0) (le-leb c 16 (omega (arith, names.1, is.few_files)))) (client_by p w c (client_at w c) refl is a h)
+    and_from (is_log_client c) _ (and_from (nat_lt 0 c) (nat_le c 16) (lt-ltb 0 c names.0) (le-leb c 16 (omega (arith, names.1, is.few_files)))) (client_by p w c (client_at w c) refl is a h)
 event_answers p w event.Begin is names a h =
     le-leb (next_tick w.tick) 4294967295 (omega (arith, (tick_by (w.tick == 4294967231) w.tick refl a.time.tick).1))
 event_answers p w event.Draw is names a h = answers_by event.Draw (is_some w.in_flight) (says reply.Busy w) _ (λ e. refl) (λ e. seen_by p w (scene_of w) is)

@@ -14,7 +14,7 @@ use Rattle.vz_rules.proofs.Counts.{count_less, one_place}
 
 -- a submission changes, and is waiting or active only where it was
 pub record OpensNone (f : Submission → Submission) : Type 0 where
-  pub image : (s : Submission) → (f s).image ≡ s.image
+  pub submitted : (s : Submission) → (f s).submitted ≡ s.submitted
   pub waits : (s : Submission) → is_waiting (f s) ≡ true → is_waiting s ≡ true
   pub acts : (s : Submission) → is_active (f s) ≡ true → is_active s ≡ true
   pub was : (s : Submission) → (f s).was_active ≡ s.was_active
@@ -23,7 +23,7 @@ pub record OpensNone (f : Submission → Submission) : Type 0 where
 pub drops_when : (test : Submission → Bool) → OpensNone (λ s. cond (test s) (record s { state = Dropped }) s)
 drops_when test =
     record {
-      image = λ s. when_same (λ (x : Submission). x.image) (λ s. record s { state = Dropped }) (test s) s refl;
+      submitted = λ s. when_same (λ (x : Submission). x.submitted) (λ s. record s { state = Dropped }) (test s) s refl;
       waits = λ s. waits_not (test s) s;
       acts = λ s. acts_not (test s) s;
       was = λ s. when_same (λ (x : Submission). x.was_active) (λ s. record s { state = Dropped }) (test s) s refl;
@@ -44,7 +44,7 @@ Stands ss id = stands_in ss id ≡ true
 abbrev pub on_and : (Submission → Bool) → SurfaceId → Submission → Bool
 on_and p id s = is_on id s && p s
 
-on_before : (f : Submission → Submission) (p q : Submission → Bool) (id : SurfaceId) (s : Submission) → (f s).image ≡ s.image → (p (f s) ≡ true → q s ≡ true)
+on_before : (f : Submission → Submission) (p q : Submission → Bool) (id : SurfaceId) (s : Submission) → (f s).submitted ≡ s.submitted → (p (f s) ≡ true → q s ≡ true)
     → on_and p id (f s) ≡ true → on_and q id s ≡ true
 on_before f p q id s e h k =
     let both = and_parts (is_on id (f s)) (p (f s)) k in
@@ -59,23 +59,23 @@ open_before f name s h =
 
 -- where none opens and the surfaces of the open ones stand
 pub states_keep : (f : Submission → Submission) (ss more : List Created) (subs : List Submission) → OpensNone f
-    → ((s : Submission) → Contains subs s → is_open (f s) ≡ true → Stands ss s.image.id → Stands more s.image.id)
+    → ((s : Submission) → Contains subs s → is_open (f s) ≡ true → Stands ss s.submitted.id → Stands more s.submitted.id)
     → KeepsStates ss subs → KeepsStates more (map f subs)
 states_keep f ss more subs name stands h =
     record {
-      one_waits = λ id. omega (arith, h.one_waits id, count_less f (on_and is_waiting id) (on_and is_waiting id) subs (λ s c. on_before f is_waiting is_waiting id s (name.image s) (name.waits s)));
-      one_is_active = λ id. omega (arith, h.one_is_active id, count_less f (on_and is_active id) (on_and is_active id) subs (λ s c. on_before f is_active is_active id s (name.image s) (name.acts s)));
+      one_waits = λ id. omega (arith, h.one_waits id, count_less f (on_and is_waiting id) (on_and is_waiting id) subs (λ s c. on_before f is_waiting is_waiting id s (name.submitted s) (name.waits s)));
+      one_is_active = λ id. omega (arith, h.one_is_active id, count_less f (on_and is_active id) (on_and is_active id) subs (λ s c. on_before f is_active is_active id s (name.submitted s) (name.acts s)));
       waits_later = λ s t p q waits acts same.
           let a = contains_map f subs s p in
           let b = contains_map f subs t q in
-          let e : s.image ≡ a.0.image = ap (λ (x : Submission). x.image) (sym a.2) ∙ name.image a.0 in
-          let d : t.image ≡ b.0.image = ap (λ (x : Submission). x.image) (sym b.2) ∙ name.image b.0 in
+          let e : s.submitted ≡ a.0.submitted = ap (λ (x : Submission). x.submitted) (sym a.2) ∙ name.submitted a.0 in
+          let d : t.submitted ≡ b.0.submitted = ap (λ (x : Submission). x.submitted) (sym b.2) ∙ name.submitted b.0 in
           let later = h.waits_later a.0 b.0 a.1 b.1 (name.waits a.0 (ap is_waiting a.2 ∙ waits)) (name.acts b.0 (ap is_active b.2 ∙ acts))
-          (ap (λ i. same_surface i.id b.0.image.id) (sym e) ∙ (ap (λ i. same_surface s.image.id i.id) (sym d) ∙ same)) in
+          (ap (λ i. same_surface i.id b.0.submitted.id) (sym e) ∙ (ap (λ i. same_surface s.submitted.id i.id) (sym d) ∙ same)) in
           omega (arith, later, ap (λ i. i.index) e, ap (λ i. i.index) d);
       stand = λ s c o.
           let a = contains_map f subs s c in
-          let e : a.0.image ≡ s.image = sym (name.image a.0) ∙ ap (λ (x : Submission). x.image) a.2 in
+          let e : a.0.submitted ≡ s.submitted = sym (name.submitted a.0) ∙ ap (λ (x : Submission). x.submitted) a.2 in
           let now : is_open (f a.0) ≡ true = ap is_open a.2 ∙ o in
           subst (λ i. Stands more i.id) e (stands a.0 a.1 now (h.stand a.0 a.1 (open_before f name a.0 now)));
       was_active = λ s c acts.
@@ -91,10 +91,10 @@ states_keep f ss more subs name stands h =
 abbrev after_by : Bool → Bool → Submission → Submission
 after_by becomes past s = cond becomes (record s { state = Active; was_active = true }) (cond past (record s { state = Past }) s)
 
-image_by : (b u : Bool) (s : Submission) → (after_by b u s).image ≡ s.image
-image_by true u s = refl
-image_by false true s = refl
-image_by false false s = refl
+frame_by : (b u : Bool) (s : Submission) → (after_by b u s).submitted ≡ s.submitted
+frame_by true u s = refl
+frame_by false true s = refl
+frame_by false false s = refl
 
 waits_by : (b u : Bool) (s : Submission) → is_waiting (after_by b u s) ≡ true → (is_waiting s ≡ true) × (b ≡ false)
 waits_by true u s h = absurd (cc)
@@ -131,10 +131,10 @@ module _ (becomes : Submission → Bool) (ss : List Created) (subs : List Submis
   after s = after_round becomes risen s
 
   abbrev ends : Submission → Bool
-  ends s = is_active s && list_any (is_on s.image.id) risen
+  ends s = is_active s && list_any (is_on s.submitted.id) risen
 
-  pub image_after : (s : Submission) → (after s).image ≡ s.image
-  image_after s = image_by (becomes s) (ends s) s
+  pub frame_after : (s : Submission) → (after s).submitted ≡ s.submitted
+  frame_after s = frame_by (becomes s) (ends s) s
 
   pub open_after : (s : Submission) → is_open (after s) ≡ true → is_open s ≡ true
   open_after s o =
@@ -154,10 +154,10 @@ module _ (becomes : Submission → Bool) (ss : List Created) (subs : List Submis
         h.one_waits id,
         count_less after (on_and is_active id) (on_and is_waiting id) subs (λ s c k.
             let both = and_parts (is_on id (after s)) (is_active (after s)) k in
-            let on : is_on id s ≡ true = ap (λ i. same_surface i.id id) (sym (image_after s)) ∙ both.0 in
+            let on : is_on id s ≡ true = ap (λ i. same_surface i.id id) (sym (frame_after s)) ∙ both.0 in
             and_from (is_on id s) (is_waiting s) on (elim (acts_by (becomes s) (ends s) s both.1) [
               | inl b ↦ waits s b
-              | inr r ↦ absurd (both_ways (list_any (is_on s.image.id) risen) (past_false (is_active s) _ r.1 r.2) (ap (λ x. list_any (is_on x) risen) (from_same s.image.id id on) ∙ e))
+              | inr r ↦ absurd (both_ways (list_any (is_on s.submitted.id) risen) (past_false (is_active s) _ r.1 r.2) (ap (λ x. list_any (is_on x) risen) (from_same s.submitted.id id on) ∙ e))
             ])),
       )
   acts_where id false e =
@@ -166,7 +166,7 @@ module _ (becomes : Submission → Bool) (ss : List Created) (subs : List Submis
         h.one_is_active id,
         count_less after (on_and is_active id) (on_and is_active id) subs (λ s c k.
             let both = and_parts (is_on id (after s)) (is_active (after s)) k in
-            let on : is_on id s ≡ true = ap (λ i. same_surface i.id id) (sym (image_after s)) ∙ both.0 in
+            let on : is_on id s ≡ true = ap (λ i. same_surface i.id id) (sym (frame_after s)) ∙ both.0 in
             and_from (is_on id s) (is_active s) on (elim (acts_by (becomes s) (ends s) s both.1) [
               | inl b ↦ absurd (both_ways (list_any (is_on id) risen) e (any_from (is_on id) risen s (filter_has becomes subs s c b) on))
               | inr r ↦ r.2
@@ -178,14 +178,14 @@ module _ (becomes : Submission → Bool) (ss : List Created) (subs : List Submis
 
   -- one that waits on is not ready, and so none of its surface becomes active
   waits_after : (a b : Submission) → Contains subs a → Contains subs b → is_waiting (after a) ≡ true → is_active (after b) ≡ true
-      → same_surface a.image.id b.image.id ≡ true → b.image.index < a.image.index
+      → same_surface a.submitted.id b.submitted.id ≡ true → b.submitted.index < a.submitted.index
   waits_after a b p q waiting active same =
       let w = waits_by (becomes a) (ends a) a waiting in
       elim (acts_by (becomes b) (ends b) b active) [
         | inl e ↦
             let n = contains_at subs a p in
             let m = contains_at subs b q in
-            let id = b.image.id in
+            let id = b.submitted.id in
             let place = one_place (on_and is_waiting id) subs n.0 m.0 a b (h.one_waits id) n.1 m.1 (and_from (is_on id a) (is_waiting a) same w.0)
             (and_from (is_on id b) (is_waiting b) (self_same id) (waits b e)) in
             let one : a ≡ b = at_same subs n.0 m.0 a b n.1 m.1 place in
@@ -200,20 +200,20 @@ module _ (becomes : Submission → Bool) (ss : List Created) (subs : List Submis
           arith,
           h.one_waits id,
           count_less after (on_and is_waiting id) (on_and is_waiting id) subs
-              (λ s c. on_before after is_waiting is_waiting id s (image_after s) (λ e. (waits_by (becomes s) (ends s) s e).0)),
+              (λ s c. on_before after is_waiting is_waiting id s (frame_after s) (λ e. (waits_by (becomes s) (ends s) s e).0)),
         );
         one_is_active = acts_once;
         waits_later = λ s t p q waiting active same.
             let a = contains_map after subs s p in
             let b = contains_map after subs t q in
-            let e : s.image ≡ a.0.image = ap (λ (x : Submission). x.image) (sym a.2) ∙ image_after a.0 in
-            let d : t.image ≡ b.0.image = ap (λ (x : Submission). x.image) (sym b.2) ∙ image_after b.0 in
+            let e : s.submitted ≡ a.0.submitted = ap (λ (x : Submission). x.submitted) (sym a.2) ∙ frame_after a.0 in
+            let d : t.submitted ≡ b.0.submitted = ap (λ (x : Submission). x.submitted) (sym b.2) ∙ frame_after b.0 in
             let later = waits_after a.0 b.0 a.1 b.1 (ap is_waiting a.2 ∙ waiting) (ap is_active b.2 ∙ active)
-            (ap (λ i. same_surface i.id b.0.image.id) (sym e) ∙ (ap (λ i. same_surface s.image.id i.id) (sym d) ∙ same)) in
+            (ap (λ i. same_surface i.id b.0.submitted.id) (sym e) ∙ (ap (λ i. same_surface s.submitted.id i.id) (sym d) ∙ same)) in
             omega (arith, later, ap (λ i. i.index) e, ap (λ i. i.index) d);
         stand = λ s c o.
             let a = contains_map after subs s c in
-            let e : a.0.image ≡ s.image = sym (image_after a.0) ∙ ap (λ (x : Submission). x.image) a.2 in
+            let e : a.0.submitted ≡ s.submitted = sym (frame_after a.0) ∙ ap (λ (x : Submission). x.submitted) a.2 in
             subst (λ i. Stands ss i.id) e (h.stand a.0 a.1 (open_after a.0 (ap is_open a.2 ∙ o)));
         was_active = λ s c active.
             let a = contains_map after subs s c in
@@ -231,7 +231,7 @@ states_of_surfaces ss more subs stands h =
       one_waits = h.one_waits;
       one_is_active = h.one_is_active;
       waits_later = h.waits_later;
-      stand = λ s c o. stands s.image.id (h.stand s c o);
+      stand = λ s c o. stands s.submitted.id (h.stand s c o);
       was_active = h.was_active;
       was_not = h.was_not;
     }

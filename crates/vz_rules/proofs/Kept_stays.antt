@@ -47,13 +47,13 @@ last_more cs ss new safe h c s p o e = by_test (new.client == c.number) refl
 -- no submission is on a surface that is later than the last one of its client
 never_later : (cs : List Client) (ss : List Created) (a : Submission) (s : Created) (c : ℕ) (o : Option Created) → KeepsClients cs → KeepsSurfaces cs ss
     → IsCreated ss a
-    → last_in ss c ≡ Some s → s.client ≡ a.image.sub.client → find (λ (x : Created). same_surface x.id a.image.id) ss ≡ o
+    → last_in ss c ≡ Some s → s.client ≡ a.submitted.sub.client → find (λ (x : Created). same_surface x.id a.submitted.id) ss ≡ o
     → (elim o [ Some x ↦ x.number | None ↦ 0 ]) ≤ s.number
 never_later cs ss a s c None hc hs d e owner f = omega arith
 never_later cs ss a s c (Some x) hc hs d e owner f =
     let at = last_at (λ (y : Created). y.client == c) ss s e in
-    let found = find_at (λ (y : Created). same_surface y.id a.image.id) ss x f in
-    let same : x.id ≡ d.0.id = from_same x.id a.image.id found.1 ∙ sym d.2 in
+    let found = find_at (λ (y : Created). same_surface y.id a.submitted.id) ss x f in
+    let same : x.id ≡ d.0.id = from_same x.id a.submitted.id found.1 ∙ sym d.2 in
     let own : x.client ≡ s.client = one_owner cs ss x d.0 hc hs found.0 d.1 (ap (λ (i : SurfaceId). i.sink) same) ∙ (d.3 ∙ sym owner) in
     let n = contains_at ss x found.0 in
     earlier_is_less cs ss n.0 at.0 x s hs n.1 at.1.0 own (at.1.2 n.0 x n.1 (eq-eqb x.client c (own ∙ eqb-true s.client c at.1.1)))
@@ -62,8 +62,8 @@ not_before : (cs : List Client) (ss : List Created) (a : Submission) (s : Create
     → last_in ss c ≡ Some s → is_before ss s a ≡ false
 not_before cs ss a s c hc hs d e =
     false_from_ne_true (is_before ss s a) (λ t.
-    let both = and_parts (s.client == a.image.sub.client) (nat_lt s.number (number_of ss a)) t in
-    omega (arith, ltb-true s.number (number_of ss a) both.1, never_later cs ss a s c (find (λ (x : Created). same_surface x.id a.image.id) ss) hc hs d e (eqb-true s.client a.image.sub.client both.0) refl))
+    let both = and_parts (s.client == a.submitted.sub.client) (nat_lt s.number (number_of ss a)) t in
+    omega (arith, ltb-true s.number (number_of ss a) both.1, never_later cs ss a s c (find (λ (x : Created). same_surface x.id a.submitted.id) ss) hc hs d e (eqb-true s.client a.submitted.sub.client both.0) refl))
 
 marks_by : (t : Bool) (s : Created) → t ≡ false → IsSafe s → IsSafe (cond t (record s { marked = true }) s)
 marks_by true s e h = absurd (cc)

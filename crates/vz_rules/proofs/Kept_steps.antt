@@ -19,15 +19,15 @@ use Rattle.vz_rules.specs.declared.entry.Event.TheVariants as event
 use Rattle.vz_rules.specs.declared.entry.Reply.TheVariants as reply
 use Rattle.vz_rules.specs.declared.entry.Refusal.{Refusal}
 use Rattle.vz_rules.specs.declared.entry.Refusal.TheVariants as refusal
-use Rattle.vz_rules.specs.World.{World, Client, Scene, Image, Submission, client_at, next_message, active_images, image_on, is_active, is_waiting, is_in_flight, has_sub, sub_of, last_created}
+use Rattle.vz_rules.specs.World.{World, Client, Scene, FrameData, Submission, client_at, next_message, active_frames, frame_on, is_active, is_waiting, is_in_flight, has_sub, sub_of, last_created}
 use Rattle.vz_rules.specs.Scene.{scene_of, scene_at}
 use Rattle.vz_rules.specs.Returns.{holds, give_back}
 use Rattle.vz_rules.specs.Settle.{settle}
 use Rattle.vz_rules.specs.Reach.{collect}
-use Rattle.vz_rules.specs.Walk.{Meeting, walk_of, too_much, walked_subs, goes_into}
+use Rattle.vz_rules.specs.Walk.{Visit, walk_of, too_much, walked_subs, goes_into}
 use Rattle.vz_rules.specs.Damage.{aggregation_of, drawn_damage}
 use Rattle.vz_rules.specs.Messages.{says, refused, violates, has_other_size, is_unknown, first_some, when, submit_refusal, submit_answer, accepted, message_answer, known_client_answer, client_answer}
-use Rattle.vz_rules.specs.Step.{next_tick, is_attached, deliver, begin_answer, scene_answer, draw_answer, done_answer, answer_to, accepted_images, outcome_of, step_in, presented_by}
+use Rattle.vz_rules.specs.Step.{next_tick, is_attached, deliver, begin_answer, scene_answer, draw_answer, done_answer, answer_to, accepted_frames, outcome_of, step_in, presented_by}
 use Rattle.vz_rules.specs.Kept.{KeepsAlways, stands_in}
 use Rattle.vz_rules.proofs.Members.{contains_map, contains_at, at_same, any_at, find_at, filter_at}
 use Rattle.vz_rules.proofs.Kept_shelves.{KeepsStock, shelf_of_client}
@@ -132,62 +132,62 @@ always_drawn w drawn flight draws h =
     subst (λ l. KeepsAlways (record w { surfaces = l; in_flight = drawn })) (map-id w.surfaces)
     (subst (λ l. KeepsAlways (record w { subs = l; surfaces = map (λ s. s) w.surfaces; in_flight = drawn })) (map-id w.subs)
     (always_parts w (λ s. s) (λ s. s) drawn (record {
-      image = λ s. refl;
+      submitted = λ s. refl;
       surface = record { client = λ s. refl; number = λ s. refl; id = λ s. refl; born = λ s. refl };
       marks = λ s p e. e;
       safe = λ c s p o e i. i;
-      states = states_keep (λ s. s) w.surfaces (map (λ s. s) w.surfaces) w.subs nothing_opens (λ s p o i. subst (λ l. stands_in l s.image.id ≡ true) (sym (map-id w.surfaces)) i) h.states;
+      states = states_keep (λ s. s) w.surfaces (map (λ s. s) w.surfaces) w.subs nothing_opens (λ s p o i. subst (λ l. stands_in l s.submitted.id ≡ true) (sym (map-id w.surfaces)) i) h.states;
       flight = flight_keeps (λ s. s) drawn w.subs (λ s. refl) flight;
       opens = λ s p e. e;
       draws = draws;
     }) h))
 
-scene_images : (root : SurfaceId) (images : List Image) (o : Option Image) (scene : Scene)
-    → ◌≡◌ {A = Option Scene} (elim o [ Some i ↦ Some (record { root = root; images = images }) | None ↦ None ]) (Some scene) → images ≡ scene.images
-scene_images root images None scene h = absurd (cc)
-scene_images root images (Some i) scene h = cc
+scene_frames : (root : SurfaceId) (active : List FrameData) (o : Option FrameData) (scene : Scene)
+    → ◌≡◌ {A = Option Scene} (elim o [ Some i ↦ Some (record { root = root; active = active }) | None ↦ None ]) (Some scene) → active ≡ scene.active
+scene_frames root active None scene h = absurd (cc)
+scene_frames root active (Some i) scene h = cc
 
-rooted_images : (images : List Image) (root : Option SurfaceId) (scene : Scene) → option_and_then (λ (r : SurfaceId). scene_at r images) root ≡ Some scene
-    → images ≡ scene.images
-rooted_images images None scene h = absurd (cc)
-rooted_images images (Some root) scene h = scene_images root images (image_on root images) scene h
+rooted_frames : (active : List FrameData) (root : Option SurfaceId) (scene : Scene) → option_and_then (λ (r : SurfaceId). scene_at r active) root ≡ Some scene
+    → active ≡ scene.active
+rooted_frames active None scene h = absurd (cc)
+rooted_frames active (Some root) scene h = scene_frames root active (frame_on root active) scene h
 
 -- what is walked is active
-walked_active : (w : World) (scene : Scene) (met : List Meeting) (sub : Sub) → scene_of w ≡ Some scene → Contains (walked_subs scene met) sub
+walked_active : (w : World) (scene : Scene) (visits : List Visit) (sub : Sub) → scene_of w ≡ Some scene → Contains (walked_subs scene visits) sub
     → (s : Submission) × Contains w.subs s × (is_active s ≡ true) × (sub_of s ≡ sub)
 unfolding walked_subs scene_of
-walked_active w scene met sub e c =
-    let m = contains_map (λ (i : Image). i.sub) (filter (λ (i : Image). list_any (goes_into i) met) scene.images) sub c in
-    let i = filter_at (λ (i : Image). list_any (goes_into i) met) scene.images m.0 m.1 in
-    let here = subst (λ l. Contains l m.0) (sym (rooted_images (active_images w.subs) w.root scene e)) i.0 in
-    let s = contains_map (λ (s : Submission). s.image) (filter is_active w.subs) m.0 here in
+walked_active w scene visits sub e c =
+    let m = contains_map (λ (i : FrameData). i.sub) (filter (λ (i : FrameData). list_any (goes_into i) visits) scene.active) sub c in
+    let i = filter_at (λ (i : FrameData). list_any (goes_into i) visits) scene.active m.0 m.1 in
+    let here = subst (λ l. Contains l m.0) (sym (rooted_frames (active_frames w.subs) w.root scene e)) i.0 in
+    let s = contains_map (λ (s : Submission). s.submitted) (filter is_active w.subs) m.0 here in
     let a = filter_at is_active w.subs s.0 s.1 in
-    (s.0, a.0, a.1, ap (λ (j : Image). j.sub) s.2 ∙ m.2)
+    (s.0, a.0, a.1, ap (λ (j : FrameData). j.sub) s.2 ∙ m.2)
 
-walked_held : (w : World) (scene : Scene) (met : List Meeting) (s : Submission) → KeepsAlways w → scene_of w ≡ Some scene → Contains w.subs s
-    → has_sub (walked_subs scene met) (sub_of s) ≡ true → holds w s ≡ true
-walked_held w scene met s h e c k =
-    let m = any_at (same_sub (sub_of s)) (walked_subs scene met) k in
-    let a = walked_active w scene met m.0 e m.1 in
+walked_held : (w : World) (scene : Scene) (visits : List Visit) (s : Submission) → KeepsAlways w → scene_of w ≡ Some scene → Contains w.subs s
+    → has_sub (walked_subs scene visits) (sub_of s) ≡ true → holds w s ≡ true
+walked_held w scene visits s h e c k =
+    let m = any_at (same_sub (sub_of s)) (walked_subs scene visits) k in
+    let a = walked_active w scene visits m.0 e m.1 in
     let n = contains_at w.subs s c in
     let l = contains_at w.subs a.0 a.1 in
     let one = at_same w.subs n.0 l.0 s a.0 n.1 l.1 (subs_differ w.surfaces w.subs h.numbers n.0 l.0 s a.0 n.1 l.1 (ap (same_sub (sub_of s)) a.3 ∙ m.2)) in
     holds_from w s h.states c (inl (or_right (is_waiting s) (is_active s) (ap is_active one ∙ a.2)))
 
-always_shown : (w : World) (scene : Scene) (met : List Meeting) → scene_of w ≡ Some scene → KeepsAlways w
-    → KeepsAlways (record w { in_flight = Some (walked_subs scene met) })
-always_shown w scene met e h =
-    always_drawn w (Some (walked_subs scene met))
+always_shown : (w : World) (scene : Scene) (visits : List Visit) → scene_of w ≡ Some scene → KeepsAlways w
+    → KeepsAlways (record w { in_flight = Some (walked_subs scene visits) })
+always_shown w scene visits e h =
+    always_drawn w (Some (walked_subs scene visits))
     (λ subs sub same c.
-    let list : walked_subs scene met ≡ subs = cc in
-    let a = walked_active w scene met sub e (subst (λ l. Contains l sub) (sym list) c) in (a.0, a.1, a.3))
-    (λ s c k. walked_held w scene met s h e c k) h
+    let list : walked_subs scene visits ≡ subs = cc in
+    let a = walked_active w scene visits sub e (subst (λ l. Contains l sub) (sym list) c) in (a.0, a.1, a.3))
+    (λ s c k. walked_held w scene visits s h e c k) h
 
 pub always_scene : (p : Plan) (w : World) (scene : Scene) → scene_of w ≡ Some scene → KeepsAlways w → Always (scene_answer p w scene)
 unfolding scene_answer
 always_scene p w scene e h =
     let walked = walk_of p.size scene in
-    let damage = drawn_damage p.size w.last (accepted_images w) scene.root walked in
+    let damage = drawn_damage p.size w.last (accepted_frames w) scene.root walked in
     let remembered = Some (aggregation_of scene walked) in
     let v : World = record w { in_flight = Some (walked_subs scene walked) } in
     by_test (too_much walked) (says reply.TooMuch w) _ h

@@ -4,7 +4,7 @@ use Rattle.std.specs.List.{list_any}
 use Rattle.std.proofs.lemmas.Bool.{and_parts, and_from, eqb-true, eq-eqb, ne_eqb, both_ways, not-false}
 use Rattle.vz_ids.specs.declared.LocalSurfaceId.{LocalSurfaceId}
 use Rattle.vz_ids.specs.declared.SurfaceId.{SurfaceId}
-use Rattle.vz_ids.specs.Ids.{same_sink, same_local, same_surface, goes_on}
+use Rattle.vz_ids.specs.Ids.{same_sink, same_local, same_surface, is_raised}
 use Rattle.vz_frame.specs.declared.frame.CompositorFrame.{CompositorFrame}
 use Rattle.vz_frame.specs.declared.frame.Listing.{Listing}
 use Rattle.vz_frame.specs.Frame.{lists, frame_size}
@@ -18,7 +18,7 @@ use Rattle.vz_rules.proofs.Counts.{count_same, count_push}
 use Rattle.vz_rules.proofs.Kept_names.{KeepsName, clients_keep, surfaces_of_clients, numbers_keep}
 use Rattle.vz_rules.proofs.Kept_states.{Stands, open_before, states_keep}
 use Rattle.vz_rules.proofs.Kept_shelves.{Lends, shelf_more}
-use Rattle.vz_rules.proofs.Kept_last.{last_at, goes_on_from_all, surfaces_more}
+use Rattle.vz_rules.proofs.Kept_last.{last_at, raised_from_all, surfaces_more}
 use Rattle.vz_rules.proofs.Kept_stays.{last_keeps, last_more}
 use Rattle.vz_rules.proofs.Kept_accepted.{IsTimely, numbers_of_more, numbers_more, none_waits, replaces, states_more, flight_keeps, flight_more, time_of_clients, time_of_more}
 use Rattle.vz_rules.proofs.Kept_worlds.{StaysClient, stands_at, stands_from, holds_at, holds_from}
@@ -40,7 +40,7 @@ record Grows (w : World) (new : Submission) (ss : List Created) : Type 0 where
   numbers : KeepsNumbers ss w.subs
   few_created : (c : ℕ) → count_by (is_surface_of c) ss ≤ count_by (is_surface_of c) w.surfaces + cond (is_by c new) 1 0
   stand : (id : SurfaceId) → Stands w.surfaces id → Stands ss id
-  stands : Stands ss new.image.id
+  stands : Stands ss new.submitted.id
   time : KeepsTime w.clients ss w.tick
 
 -- a submission goes to the last surface of its client
@@ -79,8 +79,8 @@ grows_one w c local frame new h p good other client number id born unmarked stan
     record {
       surfaces = surfaces_more w.clients w.surfaces new (number ∙ ap (λ n. count_by (is_surface_of n) w.surfaces + 1) (sym client))
           (c, p, sym client, ap (λ (i : SurfaceId). i.sink) (sym id))
-          (λ n s at same. ap (λ (i : SurfaceId). goes_on s.id.local i.local) id
-          ∙ goes_on_from_all w.clients w.surfaces c.number local (last_created w c.number) h.surfaces refl good other n s at (same ∙ client)) stands h.surfaces;
+          (λ n s at same. ap (λ (i : SurfaceId). is_raised s.id.local i.local) id
+          ∙ raised_from_all w.clients w.surfaces c.number local (last_created w c.number) h.surfaces refl good other n s at (same ∙ client)) stands h.surfaces;
       last_stays = last_more w.clients w.surfaces new (stands, unmarked) h.last_stays;
       created = (new, push_contains_last w.surfaces new, id, client);
       numbers = numbers_of_more w.surfaces w.subs new h.numbers;
@@ -140,22 +140,22 @@ lends_by true true s e = refl
 lends_by true false s e = omega arith
 lends_by false u s e = absurd (cc)
 
-lends : (c : ℕ) (new : Submission) → (new.image.sub.client == c) ≡ true → Lends c new (lend new.image.frame.resources)
+lends : (c : ℕ) (new : Submission) → (new.submitted.sub.client == c) ≡ true → Lends c new (lend new.submitted.frame.resources)
 lends c new e =
     record {
-      id = λ s. when_same (λ (x : Resource). x.id) (λ s. record s { lent = s.lent + 1 }) (list_any (lists s.id) new.image.frame.resources) s refl;
-      queued = λ s. when_same (λ (x : Resource). x.queued) (λ s. record s { lent = s.lent + 1 }) (list_any (lists s.id) new.image.frame.resources) s refl;
-      reclaimed = λ s. when_same (λ (x : Resource). x.reclaimed) (λ s. record s { lent = s.lent + 1 }) (list_any (lists s.id) new.image.frame.resources) s refl;
-      lent = λ s. lends_by (new.image.sub.client == c) (list_any (lists s.id) new.image.frame.resources) s e;
+      id = λ s. when_same (λ (x : Resource). x.id) (λ s. record s { lent = s.lent + 1 }) (list_any (lists s.id) new.submitted.frame.resources) s refl;
+      queued = λ s. when_same (λ (x : Resource). x.queued) (λ s. record s { lent = s.lent + 1 }) (list_any (lists s.id) new.submitted.frame.resources) s refl;
+      reclaimed = λ s. when_same (λ (x : Resource). x.reclaimed) (λ s. record s { lent = s.lent + 1 }) (list_any (lists s.id) new.submitted.frame.resources) s refl;
+      lent = λ s. lends_by (new.submitted.sub.client == c) (list_any (lists s.id) new.submitted.frame.resources) s e;
     }
 
-lends_not : (c : ℕ) (new : Submission) → (new.image.sub.client == c) ≡ false → Lends c new (λ s. s)
+lends_not : (c : ℕ) (new : Submission) → (new.submitted.sub.client == c) ≡ false → Lends c new (λ s. s)
 lends_not c new e =
     record {
       id = λ s. refl;
       queued = λ s. refl;
       reclaimed = λ s. refl;
-      lent = λ s. none (new.image.sub.client == c) (list_any (lists s.id) new.image.frame.resources) s.lent e;
+      lent = λ s. none (new.submitted.sub.client == c) (list_any (lists s.id) new.submitted.frame.resources) s.lent e;
     }
   where
     none : (t u : Bool) (n : ℕ) → t ≡ false → n ≡ n + cond (t && u) 1 0
@@ -174,8 +174,8 @@ knows w c x frame l h p q none same m =
     subst (λ (y : Client). HasResource y.resources l.id) (one_of_number w.clients c x h.clients p q same) (r.0, r.1, eqb-true r.0.id l.id id.0)
 
 -- the world with the clients, surfaces and submissions that a submission leaves
-abbrev submitted : World → Client → LocalSurfaceId → CompositorFrame → List Created → World
-submitted w c local frame ss =
+abbrev after_submit : World → Client → LocalSurfaceId → CompositorFrame → List Created → World
+after_submit w c local frame ss =
     record w {
       clients = map (λ x. cond (x.number == c.number) (took (submitting w frame x)) x) w.clients;
       surfaces = ss;
@@ -194,7 +194,7 @@ shelf_by true w v c x local frame e h p q none held =
     let same = eqb-true x.number c.number e in
     let mine = eq-eqb c.number x.number (sym same) in
     shelf_more (replace_on (id_of c local)) (holds w) (holds v) w.subs (new_submission w c local frame) x (took (submitting w frame x)) (lend frame.resources)
-    (replaces (id_of c local)).image held (lends x.number (new_submission w c local frame) mine) s.number s.resources s.queue
+    (replaces (id_of c local)).submitted held (lends x.number (new_submission w c local frame) mine) s.number s.resources s.queue
     (omega (arith, s.taken, one_more (c.number == x.number))) (λ l by m. knows w c x frame l h p q none by m) (h.shelves x q)
   where
     one_more : (t : Bool) → cond t 1 0 ≤ 1
@@ -203,7 +203,7 @@ shelf_by true w v c x local frame e h p q none held =
 shelf_by false w v c x local frame e h p q none held =
     let other : (c.number == x.number) ≡ false = ne_eqb c.number x.number (λ k. both_ways (x.number == c.number) e (eq-eqb x.number c.number (sym k))) in
     shelf_more (replace_on (id_of c local)) (holds w) (holds v) w.subs (new_submission w c local frame) x x (λ r. r)
-    (replaces (id_of c local)).image held (lends_not x.number (new_submission w c local frame) other) refl (sym (map-id x.resources)) refl
+    (replaces (id_of c local)).submitted held (lends_not x.number (new_submission w c local frame) other) refl (sym (map-id x.resources)) refl
     (no_more (c.number == x.number) x.taken other) (λ l by m. absurd (both_ways (c.number == x.number) other (eq-eqb c.number x.number by))) (h.shelves x q)
   where
     no_more : (t : Bool) (n : ℕ) → t ≡ false → n + cond t 1 0 ≤ n
@@ -212,21 +212,21 @@ shelf_by false w v c x local frame e h p q none held =
 
 always_submitted : (w : World) (c : Client) (local : LocalSurfaceId) (frame : CompositorFrame) (ss : List Created) → Grows w (new_submission w c local frame) ss
     → KeepsAlways w
-    → Contains w.clients c → list_any (is_unknown c.resources) frame.resources ≡ false → KeepsAlways (submitted w c local frame ss)
+    → Contains w.clients c → list_any (is_unknown c.resources) frame.resources ≡ false → KeepsAlways (after_submit w c local frame ss)
 unfolding new_submission
 always_submitted w c local frame ss grown h p none =
-    let v = submitted w c local frame ss in
+    let v = after_submit w c local frame ss in
     let id = id_of c local in
     let new = new_submission w c local frame in
     let f = replace_on id in
     let k : Client → Client = λ x. cond (x.number == c.number) (took (submitting w frame x)) x in
     let stays : (x : Client) → StaysClient w.tick w.tick x (k x) = λ x. submit_stays (x.number == c.number) w frame x (took (submitting w frame x)) (submits w frame x) in
     let name : KeepsName k = record { number = λ x. (stays x).number; sink = λ x. (stays x).sink } in
-    let image = (replaces id).image in
-    let numbers = numbers_keep f ss w.subs image grown.numbers in
-    let index = ap (λ n. n + 1) (sym (count_same f (is_on id) (is_on id) w.subs (λ s. ap (λ i. same_surface i.id id) (image s)))) in
-    let ordinal = ap (λ n. n + 1) (sym (count_same f (is_by c.number) (is_by c.number) w.subs (λ s. ap (λ i. i.sub.client == c.number) (image s)))) in
-    let states = states_keep f w.surfaces ss w.subs (replaces id) (λ s q o st. grown.stand s.image.id st) h.states in
+    let submitted = (replaces id).submitted in
+    let numbers = numbers_keep f ss w.subs submitted grown.numbers in
+    let index = ap (λ n. n + 1) (sym (count_same f (is_on id) (is_on id) w.subs (λ s. ap (λ i. same_surface i.id id) (submitted s)))) in
+    let ordinal = ap (λ n. n + 1) (sym (count_same f (is_by c.number) (is_by c.number) w.subs (λ s. ap (λ i. i.sub.client == c.number) (submitted s)))) in
+    let states = states_keep f w.surfaces ss w.subs (replaces id) (λ s q o st. grown.stand s.submitted.id st) h.states in
     let after = states_more ss (map f w.subs) new numbers (record { waits = refl; acts = refl; was = refl; index = index; alone = none_waits id w.subs; stands = grown.stands }) states in
     record {
       clients = clients_keep k w.clients name h.clients;
@@ -239,15 +239,15 @@ always_submitted w c local frame ss grown h p none =
         h.few_created n,
         grown.few_created n,
         count_push (is_by n) (map f w.subs) new,
-        count_same f (is_by n) (is_by n) w.subs (λ s. ap (λ i. i.sub.client == n) (image s)),
+        count_same f (is_by n) (is_by n) w.subs (λ s. ap (λ i. i.sub.client == n) (submitted s)),
       );
       states = after;
-      in_flight = flight_more w.in_flight (map f w.subs) new (flight_keeps f w.in_flight w.subs image h.in_flight);
+      in_flight = flight_more w.in_flight (map f w.subs) new (flight_keeps f w.in_flight w.subs submitted h.in_flight);
       shelves = λ x q.
           let m = contains_map k w.clients x q in
           subst (λ y. KeepsShelf (holds v) v.subs y) m.2 (shelf_by (m.0.number == c.number) w v c m.0 local frame refl h p m.1 none (λ s r e. holds_from w s h.states r (elim (holds_at v (f s) e) [
             | inl o ↦ inl (open_before f (replaces id) s o)
-            | inr o ↦ inr (ap (λ i. is_in_flight w.in_flight i.sub) (sym (image s)) ∙ o)
+            | inr o ↦ inr (ap (λ i. is_in_flight w.in_flight i.sub) (sym (submitted s)) ∙ o)
           ])));
       time = time_of_clients k w.clients ss w.tick w.tick (le_refl w.tick) h.time.tick (λ x q. (stays x).timely) grown.time;
     }

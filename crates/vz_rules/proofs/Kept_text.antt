@@ -14,7 +14,7 @@ use Rattle.vz_rules.specs.Settle.{ready, is_ready, round, activated_over, activa
 use Rattle.vz_rules.specs.Reach.{naming, reach, is_lost, lost_in, lost_of, destroyed_in, collect}
 use Rattle.vz_rules.specs.Returns.{is_held, goes_back, return_of, returns_of, give_back, returned_in, feedback_of, fed_in}
 use Rattle.vz_rules.specs.Step.{answer_to, presented_by, outcome_of}
-use Rattle.vz_rules.specs.Log.{is_client, is_count, has_text_sub, has_text_lost, has_text_return, has_text_effects, held_resource, unfed_of, rest_in}
+use Rattle.vz_rules.specs.Log.{is_log_client, is_count, has_text_sub, has_text_lost, has_text_return, has_text_effects, held_resource, unfed_of, rest_in}
 use Rattle.vz_rules.specs.Kept.{KeepsAlways, KeepsPlan, HasSmallClient, IsSmallSubmission}
 use Rattle.vz_rules.proofs.Members.{contains_map, all_from, filter_at, filter_map_at, flat_map_at}
 use Rattle.vz_rules.proofs.Kept_follows.{always_round, always_settle, always_naming}
@@ -24,7 +24,7 @@ use Rattle.vz_rules.proofs.Kept_small.{small_client, small_surface, small_submis
 
 -- Numbers
 
-client_text : (c : ℕ) → HasSmallClient c → is_client c ≡ true
+client_text : (c : ℕ) → HasSmallClient c → is_log_client c ≡ true
 client_text c h = and_from (nat_lt 0 c) (nat_le c 16) (lt-ltb 0 c (omega (arith, h.0))) (le-leb c 16 h.1)
 
 pub count_text : (n : ℕ) → 1 ≤ n → n ≤ 4294967295 → is_count n ≡ true
@@ -32,13 +32,13 @@ count_text n l m = and_from (nat_lt 0 n) (nat_le n 4294967295) (lt-ltb 0 n (omeg
 
 sub_text : (s : Submission) → IsSmallSubmission s → has_text_sub (sub_of s) ≡ true
 sub_text s h =
-    and_from (is_client s.image.sub.client) (is_count s.image.sub.ordinal) (client_text s.image.sub.client h.client)
-    (count_text s.image.sub.ordinal h.ordinal.0 (omega (arith, h.ordinal.1)))
+    and_from (is_log_client s.submitted.sub.client) (is_count s.submitted.sub.ordinal) (client_text s.submitted.sub.client h.client)
+    (count_text s.submitted.sub.ordinal h.ordinal.0 (omega (arith, h.ordinal.1)))
 
 pub return_text : (c id n : ℕ) → HasSmallClient c → 1 ≤ id → id ≤ 4294967295 → 1 ≤ n → n ≤ 4096
     → has_text_return (record { client = c; id = id; count = n }) ≡ true
 return_text c id n h p q r s =
-    and_from (is_client c && is_count id) (is_count n) (and_from (is_client c) (is_count id) (client_text c h) (count_text id p q)) (count_text n r (omega (arith, s)))
+    and_from (is_log_client c && is_count id) (is_count n) (and_from (is_log_client c) (is_count id) (client_text c h) (count_text id p q)) (count_text n r (omega (arith, s)))
 
 all_append : {A : Type 0} (p : A → Bool) (xs ys : List A) → list_all p xs ≡ true → list_all p ys ≡ true → list_all p (xs ++ ys) ≡ true
 all_append p [] ys h k = k
@@ -75,7 +75,7 @@ destroyed_text p w is a h =
     let f = filter_at (is_lost (reach v)) v.surfaces m.0 m.1 in
     let small = small_surface p v is (always_naming w a) (plan_naming p w h) m.0 f.0 in
     ap has_text_lost (sym (lost_by (m.0.client == x.0.number) m.0.client m.0.number l m.2))
-    ∙ and_from (is_client m.0.client) (is_count m.0.number) (client_text m.0.client small.client) (count_text m.0.number small.number.0 (omega (arith, small.number.1))))
+    ∙ and_from (is_log_client m.0.client) (is_count m.0.number) (client_text m.0.client small.client) (count_text m.0.number small.number.0 (omega (arith, small.number.1))))
 
 back_by : (t : Bool) (r s : Returned) → ◌≡◌ {A = Option Returned} (cond t (Some r) None) (Some s) → (t ≡ true) × (r ≡ s)
 back_by true r s e = (refl, cc)
@@ -148,7 +148,7 @@ rest_text p w is a h = (
       ∙ return_text x.0.number m.0.id (m.0.lent - m.0.queued) (small_client p w is a h x.0 x.1).0 small.id.0 small.id.1 (omega (arith, less)) (omega (arith, small.lent))),
   all_from has_text_sub (flat_map (unfed_of w) w.clients) (λ sub c.
       let x = flat_map_at (unfed_of w) w.clients sub c in
-      let m = contains_map sub_of (filter (λ s. (s.image.sub.client == x.0.number) && not s.fed) w.subs) sub x.2 in
-      let f = filter_at (λ (s : Submission). (s.image.sub.client == x.0.number) && not s.fed) w.subs m.0 m.1 in
+      let m = contains_map sub_of (filter (λ s. (s.submitted.sub.client == x.0.number) && not s.fed) w.subs) sub x.2 in
+      let f = filter_at (λ (s : Submission). (s.submitted.sub.client == x.0.number) && not s.fed) w.subs m.0 m.1 in
       ap has_text_sub (sym m.2) ∙ sub_text m.0 (small_submission p w is a h m.0 f.0)),
 )

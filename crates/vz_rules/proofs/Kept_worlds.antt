@@ -95,14 +95,14 @@ pub holds_from : (w : World) (s : Submission) → KeepsStates w.surfaces w.subs 
     → (is_open s ≡ true) ⊎ (is_in_flight w.in_flight (sub_of s) ≡ true) → holds w s ≡ true
 holds_from w s h c either =
     elim either [
-      | inl e ↦ or_left (is_open s && stands_in w.surfaces s.image.id) (is_in_flight w.in_flight (sub_of s)) (and_from (is_open s) (stands_in w.surfaces s.image.id) e (h.stand s c e))
-      | inr e ↦ or_right (is_open s && stands_in w.surfaces s.image.id) (is_in_flight w.in_flight (sub_of s)) e
+      | inl e ↦ or_left (is_open s && stands_in w.surfaces s.submitted.id) (is_in_flight w.in_flight (sub_of s)) (and_from (is_open s) (stands_in w.surfaces s.submitted.id) e (h.stand s c e))
+      | inr e ↦ or_right (is_open s && stands_in w.surfaces s.submitted.id) (is_in_flight w.in_flight (sub_of s)) e
     ]
 
 pub holds_at : (w : World) (s : Submission) → holds w s ≡ true → (is_open s ≡ true) ⊎ (is_in_flight w.in_flight (sub_of s) ≡ true)
 holds_at w s h =
-    elim (or_cases (is_open s && stands_in w.surfaces s.image.id) (is_in_flight w.in_flight (sub_of s)) h) [
-      | inl e ↦ inl (and_parts (is_open s) (stands_in w.surfaces s.image.id) e).0
+    elim (or_cases (is_open s && stands_in w.surfaces s.submitted.id) (is_in_flight w.in_flight (sub_of s)) h) [
+      | inl e ↦ inl (and_parts (is_open s) (stands_in w.surfaces s.submitted.id) e).0
       | inr e ↦ inr e
     ]
 
@@ -113,7 +113,7 @@ with_parts w f g drawn = record w { subs = map f w.subs; surfaces = map g w.surf
 
 -- names stay, and what is open or in flight then held before
 pub record StaysParts (w : World) (f : Submission → Submission) (g : Created → Created) (drawn : Option (List Sub)) : Type 0 where
-  pub image : (s : Submission) → (f s).image ≡ s.image
+  pub submitted : (s : Submission) → (f s).submitted ≡ s.submitted
   pub surface : KeepsSurface g
   pub marks : (s : Created) → Contains w.surfaces s → (s.destroyed ≡ true → s.marked ≡ true) → (g s).destroyed ≡ true → (g s).marked ≡ true
   pub safe : (c : Client) (s : Created) → Contains w.clients c → c.closed ≡ false → last_in w.surfaces c.number ≡ Some s → IsSafe s → IsSafe (g s)
@@ -129,22 +129,22 @@ always_parts w f g drawn stays h =
     let held : (s : Submission) → Contains w.subs s → holds v (f s) ≡ true → holds w s ≡ true = λ s c e.
     elim (holds_at v (f s) e) [
       | inl o ↦ holds_from w s h.states c (inl (stays.opens s c o))
-      | inr o ↦ stays.draws s c (ap (λ i. is_in_flight drawn i.sub) (sym (stays.image s)) ∙ o)
+      | inr o ↦ stays.draws s c (ap (λ i. is_in_flight drawn i.sub) (sym (stays.submitted s)) ∙ o)
     ] in
     record {
       clients = h.clients;
       surfaces = surfaces_keep g w.clients w.surfaces stays.surface stays.marks h.surfaces;
       last_stays = subst (λ cs. LastStays cs (map g w.surfaces)) (map-id w.clients)
           (last_keeps (λ c. c) g w.clients w.surfaces (record { number = λ c. refl; sink = λ c. refl }) (λ c e. e) stays.surface stays.safe h.last_stays);
-      numbers = numbers_of_surfaces g w.surfaces (map f w.subs) stays.surface (numbers_keep f w.surfaces w.subs stays.image h.numbers);
+      numbers = numbers_of_surfaces g w.surfaces (map f w.subs) stays.surface (numbers_keep f w.surfaces w.subs stays.submitted h.numbers);
       few_created = λ c. omega (
         arith,
         h.few_created c,
-        count_same f (is_by c) (is_by c) w.subs (λ s. ap (λ i. i.sub.client == c) (stays.image s)),
+        count_same f (is_by c) (is_by c) w.subs (λ s. ap (λ i. i.sub.client == c) (stays.submitted s)),
         count_same g (is_surface_of c) (is_surface_of c) w.surfaces (λ s. ap (λ n. n == c) (stays.surface.client s)),
       );
       states = stays.states;
       in_flight = stays.flight;
-      shelves = λ c p. shelf_of_subs f (holds w) (holds v) w.subs c stays.image held (h.shelves c p);
+      shelves = λ c p. shelf_of_subs f (holds w) (holds v) w.subs c stays.submitted held (h.shelves c p);
       time = time_of_surfaces g w.clients w.surfaces w.tick stays.surface h.time;
     }

@@ -7,7 +7,7 @@ use Rattle.vz_ids.specs.declared.SurfaceId.{SurfaceId}
 use Rattle.vz_ids.specs.Ids.{same_sink, at_least}
 use Rattle.vz_rules.specs.declared.entry.State.TheVariants.{Dropped}
 use Rattle.vz_rules.specs.World.{World, Created, Submission, is_waiting, is_active, is_on}
-use Rattle.vz_rules.specs.Settle.{met, has_come}
+use Rattle.vz_rules.specs.Settle.{is_met, has_come}
 use Rattle.vz_rules.specs.Reach.{naming, drop_on, lost_in, clearing, collect}
 use Rattle.vz_rules.specs.Returns.{queue_returns, give_back, mark_fed, feed}
 use Rattle.vz_rules.proofs.Members.{any_map}
@@ -45,7 +45,7 @@ module _ (presented : List Sub) (w : World) where
   unfolding feed give_back collect clearing naming
   tick_after = refl
 
-  pub dropped_rest : (t : Bool) (s : Submission) → ((cond t (record s { state = Dropped }) s).image ≡ s.image) × ((cond t (record s { state = Dropped }) s).was_active ≡ s.was_active)
+  pub dropped_rest : (t : Bool) (s : Submission) → ((cond t (record s { state = Dropped }) s).submitted ≡ s.submitted) × ((cond t (record s { state = Dropped }) s).was_active ≡ s.was_active)
       × ((cond t (record s { state = Dropped }) s).due ≡ s.due)
   dropped_rest true s = (refl, refl, refl)
   dropped_rest false s = (refl, refl, refl)
@@ -53,14 +53,14 @@ module _ (presented : List Sub) (w : World) where
   abbrev pub drops : Submission → Bool
   drops s = (is_waiting s || is_active s) && list_any (λ c. is_on c.id s) lost
 
-  same_met : (d : SurfaceId) → met after d ≡ met w d
-  unfolding met
+  same_met : (d : SurfaceId) → is_met after d ≡ is_met w d
+  unfolding is_met
   same_met d =
       ap (λ b. b || list_any (λ c. c.closed && same_sink c.sink d.sink) after.clients)
-      (ap (list_any (λ s. s.was_active && at_least s.image.id d)) subs_after
-      ∙ any_map left (λ s. s.was_active && at_least s.image.id d) (λ s. s.was_active && at_least s.image.id d) w.subs (λ s.
-      let r = dropped_rest (drops s) s in ap (λ b. b && at_least (drop_on lost s).image.id d) r.1 ∙ ap (λ i. s.was_active && at_least i.id d) r.0))
-      ∙ ap (λ b. list_any (λ s. s.was_active && at_least s.image.id d) w.subs || b)
+      (ap (list_any (λ s. s.was_active && at_least s.submitted.id d)) subs_after
+      ∙ any_map left (λ s. s.was_active && at_least s.submitted.id d) (λ s. s.was_active && at_least s.submitted.id d) w.subs (λ s.
+      let r = dropped_rest (drops s) s in ap (λ b. b && at_least (drop_on lost s).submitted.id d) r.1 ∙ ap (λ i. s.was_active && at_least i.id d) r.0))
+      ∙ ap (λ b. list_any (λ s. s.was_active && at_least s.submitted.id d) w.subs || b)
       (ap (list_any (λ c. c.closed && same_sink c.sink d.sink)) clients_after
       ∙ any_map (queue_returns (collect w)) (λ c. c.closed && same_sink c.sink d.sink) (λ c. c.closed && same_sink c.sink d.sink) w.clients (λ c. refl))
 
@@ -68,5 +68,5 @@ module _ (presented : List Sub) (w : World) where
   pub same_come : (s : Submission) → has_come after s ≡ has_come w s
   unfolding has_come
   same_come s =
-      ap (λ n. list_all (met after) s.image.frame.metadata.dependencies || nat_le s.due n) tick_after
-      ∙ ap (λ b. b || nat_le s.due w.tick) (all_same (met after) (met w) s.image.frame.metadata.dependencies same_met)
+      ap (λ n. list_all (is_met after) s.submitted.frame.metadata.dependencies || nat_le s.due n) tick_after
+      ∙ ap (λ b. b || nat_le s.due w.tick) (all_same (is_met after) (is_met w) s.submitted.frame.metadata.dependencies same_met)

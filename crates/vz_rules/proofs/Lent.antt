@@ -7,20 +7,20 @@ use Rattle.vz_frame.specs.declared.message.Message.{Message}
 use Rattle.vz_frame.specs.Frame.{lists}
 use Rattle.vz_rules.specs.Plan.{Plan}
 use Rattle.vz_rules.specs.declared.entry.Entry.{Entry}
-use Rattle.vz_rules.specs.World.{World, Client, Image, opening}
+use Rattle.vz_rules.specs.World.{World, Client, FrameData, opening}
 use Rattle.vz_rules.specs.Messages.{Answer}
 use Rattle.vz_rules.specs.Step.{answer_to, step_in, entry_in, outcome_of, presented_by, world, Legal}
 use Rattle.vz_rules.specs.Whole.{is_of, mine}
 use Rattle.vz_rules.specs.Accounts.{of_client, takes, taken_in, message_at, submits, lends, lent_from, lent_over}
 use Rattle.vz_rules.specs.Kept.{borrows}
 use Rattle.vz_rules.proofs.Prefixes.{Steps, along}
-use Rattle.vz_rules.proofs.Follow_ups.{images_of, outcome_images, count_images}
+use Rattle.vz_rules.proofs.Follow_ups.{frames_of, outcome_frames, count_frames}
 use Rattle.vz_rules.proofs.Taken.{steps_taken, none_taken}
 use Rattle.vz_rules.proofs.Acceptances.{Accepts, AcceptsNone, answer_either}
 use Rattle.vz_rules.proofs.Cases.{is_acceptance, is_event_of}
 
--- an image of a client's submission that lists a resource
-abbrev takes_up : ℕ → ℕ → Image → Bool
+-- a frame of a client's submission that lists a resource
+abbrev takes_up : ℕ → ℕ → FrameData → Bool
 takes_up c id i = (i.sub.client == c) && list_any (lists id) i.frame.resources
 
 lent_push : (p : Plan) (before h : List Entry) (c id : ℕ) (e : Entry) → lent_from p before c id (h ++ e ∷ []) ≡ lent_from p before c id h + cond (lends p (before ++ h) c id e) 1 0
@@ -34,7 +34,7 @@ lent_push p before (x ∷ h) c id e =
 -- what is kept of a world and the history before it
 record Lent (p : Plan) (c id : ℕ) (w : World) (h : List Entry) : Type 0 where
   taken : taken_in w c ≡ length (takes h c)
-  lent : count_by (takes_up c id) (images_of w.subs) ≡ lent_over p h c id
+  lent : count_by (takes_up c id) (frames_of w.subs) ≡ lent_over p h c id
 
 not_lent : (a o m : Bool) → a ≡ false → cond {A = ℕ} (a && o && m) 1 0 ≡ 0
 not_lent true o m e = absurd (cc)
@@ -50,9 +50,9 @@ module _ (p : Plan) (c id : ℕ) (w : World) (h : List Entry) (e : Entry) (i : L
   abbrev now : Answer
   now = answer_to p w e.event
 
-  later_images : images_of (step_in p w e.event).world.subs ≡ images_of now.world.subs
+  later_frames : frames_of (step_in p w e.event).world.subs ≡ frames_of now.world.subs
   unfolding step_in
-  later_images = outcome_images (presented_by w e.event) now
+  later_frames = outcome_frames (presented_by w e.event) now
 
   same_reply : e.reply ≡ now.reply
   unfolding entry_in step_in outcome_of
@@ -62,16 +62,16 @@ module _ (p : Plan) (c id : ℕ) (w : World) (h : List Entry) (e : Entry) (i : L
   unfolding lent_over
   more = lent_push p [] h c id e
 
-  none_later : AcceptsNone w now → count_by (takes_up c id) (images_of (step_in p w e.event).world.subs) ≡ lent_over p (h ++ e ∷ []) c id
+  none_later : AcceptsNone w now → count_by (takes_up c id) (frames_of (step_in p w e.event).world.subs) ≡ lent_over p (h ++ e ∷ []) c id
   none_later a =
-      let same = ap (count_by (takes_up c id)) (later_images ∙ a.images) in
+      let same = ap (count_by (takes_up c id)) (later_frames ∙ a.active) in
       let none = not_lent (is_acceptance e.reply) (is_of c e) (submits id (message_at p c (length (takes h c)))) (ap is_acceptance same_reply ∙ a.reply) in
       omega (arith, same, i.lent, more, none)
 
-  one_later : Accepts p w e.event now → count_by (takes_up c id) (images_of (step_in p w e.event).world.subs) ≡ lent_over p (h ++ e ∷ []) c id
+  one_later : Accepts p w e.event now → count_by (takes_up c id) (frames_of (step_in p w e.event).world.subs) ≡ lent_over p (h ++ e ∷ []) c id
   one_later a =
       let n : ℕ = a.client.number in
-      let pushed = ap (count_by (takes_up c id)) (later_images ∙ a.images) ∙ sum_by_push (λ x. cond (takes_up c id x) 1 0) (images_of w.subs) a.new in
+      let pushed = ap (count_by (takes_up c id)) (later_frames ∙ a.active) ∙ sum_by_push (λ x. cond (takes_up c id x) 1 0) (frames_of w.subs) a.new in
       let mine : is_of c e ≡ (n == c) = ap (is_event_of c) a.event in
       let accepted : is_acceptance e.reply ≡ true = ap is_acceptance (same_reply ∙ a.reply) in
       let next : n ≡ c → submits id (message_at p c (length (takes h c))) ≡ list_any (lists id) a.new.frame.resources = λ same.
@@ -96,4 +96,4 @@ unfolding opening takes mine lent_over
 opening_lent p c id = record { taken = none_taken 1 c p.files; lent = refl }
 
 pub borrowed_are_lent : (p : Plan) (h : List Entry) (c id : ℕ) → Legal p h → count_by (borrows c id) (world p h).subs ≡ lent_over p h c id
-borrowed_are_lent p h c id l = count_images (takes_up c id) (world p h).subs ∙ (along p (Lent p c id) (steps_lent p c id) (opening_lent p c id) h l).lent
+borrowed_are_lent p h c id l = count_frames (takes_up c id) (world p h).subs ∙ (along p (Lent p c id) (steps_lent p c id) (opening_lent p c id) h l).lent

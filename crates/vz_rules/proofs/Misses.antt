@@ -9,8 +9,8 @@ use Rattle.vz_ids.specs.declared.SurfaceId.{SurfaceId}
 use Rattle.vz_ids.specs.declared.SurfaceRange.{SurfaceRange}
 use Rattle.vz_ids.specs.Ids.{same_surface, same_start, same_range}
 use Rattle.vz_frame.specs.Frame.{frame_size}
-use Rattle.vz_rules.specs.World.{Image, Aggregation}
-use Rattle.vz_rules.specs.Walk.{Place}
+use Rattle.vz_rules.specs.World.{FrameData, Aggregation}
+use Rattle.vz_rules.specs.Walk.{Placement}
 use Rattle.vz_rules.specs.Damage.{root_damage, index_in, is_between, damage_since, damage_at}
 use Rattle.vz_rules.proofs.Geometry.{has_moved_is, has_meet_is}
 use Rattle.vz_rules.proofs.Members.{contains_here, contains_there, map_contains, filter_has}
@@ -54,8 +54,8 @@ bound_misses rs p h = misses_each rs p (λ r c. not_in rs r p c h)
 -- Damage
 
 -- a submission between the two misses what the damage of its surface misses
-pub since_misses : (a : Aggregation) (accepted : List Image) (j : Image) (l : Point) → has (damage_since a accepted j) l ≡ false
-    → (u : Image) → Contains accepted u → is_between (index_in a j) j u ≡ true → has (root_damage u.frame) l ≡ false
+pub since_misses : (a : Aggregation) (accepted : List FrameData) (j : FrameData) (l : Point) → has (damage_since a accepted j) l ≡ false
+    → (u : FrameData) → Contains accepted u → is_between (index_in a j) j u ≡ true → has (root_damage u.frame) l ≡ false
 unfolding damage_since
 since_misses a accepted j l h u c e =
     not_in (map (λ x. root_damage x.frame) (filter (is_between (index_in a j) j) accepted)) (root_damage u.frame) l
@@ -67,7 +67,7 @@ by_parts true false d p q h = absurd (cc)
 by_parts false s d p q h = absurd (cc)
 
 -- at a point of its surface that is seen, the damage misses what it misses as seen there
-pub since_clear : (a : Aggregation) (accepted : List Image) (j : Image) (l P : Point) (place : Place) → IsSeen P l place → has (sized (frame_size j.frame)) l ≡ true
+pub since_clear : (a : Aggregation) (accepted : List FrameData) (j : FrameData) (l P : Point) (place : Placement) → IsSeen P l place → has (sized (frame_size j.frame)) l ≡ true
     → has (damage_at a accepted j place) P ≡ false → has (damage_since a accepted j) l ≡ false
 since_clear a accepted j l P place seen shown h =
     let here : Rectangle = moved (sized (frame_size j.frame)) place.shift in

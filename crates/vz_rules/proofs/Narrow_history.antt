@@ -12,16 +12,17 @@ use Rattle.vz_frame.specs.declared.frame.CompositorFrame.{CompositorFrame}
 use Rattle.vz_frame.specs.declared.frame.DrawQuad.{DrawQuad}
 use Rattle.vz_frame.specs.declared.frame.Material.TheVariants.{Solid}
 use Rattle.vz_frame.specs.Frame.{first_broken}
-use Rattle.vz_rules.specs.Plan.{Plan, IsDisplaySize}
+use Rattle.vz_rules.specs.Plan.{Plan}
+use Rattle.vz_geom.specs.Display.{IsDisplaySize}
 use Rattle.vz_rules.specs.declared.entry.Event.{Event}
 use Rattle.vz_rules.specs.declared.entry.Event.TheVariants as event
 use Rattle.vz_rules.specs.declared.entry.Reply.TheVariants as reply
 use Rattle.vz_rules.specs.World.{World, Aggregation, opening}
 use Rattle.vz_rules.specs.Step.{Outcome, outcome_of, step_in, world_from, world, entry_in, history_from, NamesClient, LegalFrom}
-use Rattle.vz_rules.specs.Frames.{shots_from, shots}
+use Rattle.vz_rules.specs.Frames.{drawn_frames_from, drawn_frames}
 use Rattle.vz_rules.specs.Log.{rest_in, rest_of}
 use Rattle.vz_rules.specs.Narrow.{only_sub, no_effects, narrow_events, narrow_history, nothing_left}
-use Rattle.vz_rules.proofs.Narrow_steps.{plain_frame, id_in, image_of, narrow_plan, active_world, stays, first_follows, last_follows, first_answer, root_given, done_given}
+use Rattle.vz_rules.proofs.Narrow_steps.{plain_frame, id_in, frame_of, narrow_plan, active_world, stays, first_follows, last_follows, first_answer, root_given, done_given}
 use Rattle.vz_rules.proofs.Narrow_drawing.{scene_with, seen_then, scene_found, drawn}
 
 -- each event names a client of the plan
@@ -101,6 +102,6 @@ module _ (sink : FrameSinkId) (local : LocalSurfaceId) (token ack : ℕ) (deadli
   unfolding rest_of rest_in
   nothing_is_left = rw world_after
 
-  pub one_shot : shots the_plan (narrow_history size) ≡ record { scene = Some (scene_with (image_of the_id the_frame)); damage = sized size } ∷ []
-  unfolding shots shots_from narrow_history
-  one_shot = rw (submit_step, root_step, scene_found sink local token ack deadline pass quad c pass_is quad_is 2 false None None)
+  pub one_drawn_frame : drawn_frames the_plan (narrow_history size) ≡ record { scene = Some (scene_with (frame_of the_id the_frame)); damage = sized size } ∷ []
+  unfolding drawn_frames drawn_frames_from narrow_history
+  one_drawn_frame = rw (submit_step, root_step, scene_found sink local token ack deadline pass quad c pass_is quad_is 2 false None None)

@@ -12,10 +12,10 @@ use Rattle.vz_frame.specs.declared.blend.Blend.TheVariants.{Over}
 use Rattle.vz_frame.specs.declared.frame.Material.TheVariants.{Solid}
 use Rattle.vz_frame.specs.Blending.{blend, laid}
 use Rattle.vz_frame.specs.Frame.{frame_size}
-use Rattle.vz_rules.specs.World.{Image}
+use Rattle.vz_rules.specs.World.{FrameData}
 use Rattle.vz_rules.specs.Paint.{Named, Embedding, covers, material_painted, quads_painted, pass_painted, root_painted, pix, levels, full, picture}
 use Rattle.vz_rules.specs.Narrow.{shows_quad}
-use Rattle.vz_rules.proofs.Narrow_steps.{plain_frame, id_in, image_of}
+use Rattle.vz_rules.proofs.Narrow_steps.{plain_frame, id_in, frame_of}
 use Rattle.vz_rules.proofs.Narrow_drawing.{scene_with, same_self}
 
 whole_part : (a : ℕ) → mul a 255 ≡ a
@@ -74,7 +74,7 @@ pub record IsOpaqueQuad (quad : DrawQuad) (c : Colour) : Type 0 where
   pub opaque : c.a ≡ 255
 
 module _ (pass : RenderPass) (quad : DrawQuad) (c : Colour) (alone : pass.quads ≡ quad ∷ []) (is : IsOpaqueQuad quad c) where
-  quad_shown : (i : Image) (named : Named) (embedded : Embedding) (p : Point) (d : Colour) → material_painted i named embedded quad p d ≡ c
+  quad_shown : (i : FrameData) (named : Named) (embedded : Embedding) (p : Point) (d : Colour) → material_painted i named embedded quad p d ≡ c
   unfolding material_painted
   quad_shown i named embedded p d = rw (is.material, is.mode, is.opacity) (laid_opaque c d is.opaque)
 
@@ -82,7 +82,7 @@ module _ (pass : RenderPass) (quad : DrawQuad) (c : Colour) (alone : pass.quads 
   unfolding covers
   covers_is p = rw is.clip
 
-  pass_shown : (i : Image) (named : Named) (embedded : Embedding) (p : Point) (d : Colour)
+  pass_shown : (i : FrameData) (named : Named) (embedded : Embedding) (p : Point) (d : Colour)
       → quads_painted i named embedded pass pass.quads p d ≡ elim ((has pass.output p && true) && has quad.visible (minus p quad.offset)) [ true ↦ c | false ↦ d ]
   unfolding quads_painted
   pass_shown i named embedded p d =
@@ -90,25 +90,25 @@ module _ (pass : RenderPass) (quad : DrawQuad) (c : Colour) (alone : pass.quads 
       ∙ choice_by (covers pass quad p) _ (material_painted i named embedded quad p d) c d (covers_is p) (quad_shown i named embedded p d)
 
   module _ (sink : FrameSinkId) (local : LocalSurfaceId) (token ack : ℕ) (deadline : Option ℕ) where
-    abbrev the_image : Image
-    the_image = image_of (id_in sink local) (plain_frame token ack deadline (pass ∷ []))
+    abbrev the_frame : FrameData
+    the_frame = frame_of (id_in sink local) (plain_frame token ack deadline (pass ∷ []))
 
-    image_shown : (p : Point) (d : Colour) → pix levels (the_image ∷ []) [] the_image p d ≡ elim ((has pass.output p && true) && has quad.visible (minus p quad.offset)) [ true ↦ c | false ↦ d ]
+    frame_shown : (p : Point) (d : Colour) → pix levels (the_frame ∷ []) [] the_frame p d ≡ elim ((has pass.output p && true) && has quad.visible (minus p quad.offset)) [ true ↦ c | false ↦ d ]
     unfolding levels pix root_painted pass_painted
-    image_shown p d = pass_shown the_image _ _ p d
+    frame_shown p d = pass_shown the_frame _ _ p d
 
     -- the pass begins at the first point
-    pub full_is : pass.output.x ≡ pos 0 → pass.output.y ≡ pos 0 → (p : Point) → full (scene_with the_image) p ≡ cond (shows_quad pass.output quad p) c black
+    pub full_is : pass.output.x ≡ pos 0 → pass.output.y ≡ pos 0 → (p : Point) → full (scene_with the_frame) p ≡ cond (shows_quad pass.output quad p) c black
     unfolding full
     full_is x y p =
-        ap {B = Colour} (λ (t : Bool). elim (cond t (Some the_image) None) [
+        ap {B = Colour} (λ (t : Bool). elim (cond t (Some the_frame) None) [
           | None ↦ black
-          | Some i ↦ elim (has (sized (frame_size i.frame)) p) [ true ↦ pix levels (the_image ∷ []) [] i p black | false ↦ black ]
-        ]) (same_self the_image.id)
-        ∙ (ap {B = Colour} (λ (v : Colour). elim (has (sized (frame_size the_image.frame)) p) [ true ↦ v | false ↦ black ]) (image_shown p black)
-        ∙ one_choice (has (sized (frame_size the_image.frame)) p) (has pass.output p) (has quad.visible (minus p quad.offset)) c black (from_origin pass.output p x y))
+          | Some i ↦ elim (has (sized (frame_size i.frame)) p) [ true ↦ pix levels (the_frame ∷ []) [] i p black | false ↦ black ]
+        ]) (same_self the_frame.id)
+        ∙ (ap {B = Colour} (λ (v : Colour). elim (has (sized (frame_size the_frame.frame)) p) [ true ↦ v | false ↦ black ]) (frame_shown p black)
+        ∙ one_choice (has (sized (frame_size the_frame.frame)) p) (has pass.output p) (has quad.visible (minus p quad.offset)) c black (from_origin pass.output p x y))
 
     pub picture_is : (size : Size) → pass.output.x ≡ pos 0 → pass.output.y ≡ pos 0
-        → picture size (scene_with the_image) ≡ map (λ p. cond (shows_quad pass.output quad p) c black) (points_of size)
+        → picture size (scene_with the_frame) ≡ map (λ p. cond (shows_quad pass.output quad p) c black) (points_of size)
     unfolding picture
     picture_is size x y = λ i. map (λ p. full_is x y p i) (points_of size)

@@ -17,7 +17,7 @@ use Rattle.vz_rules.specs.declared.entry.Reply.{Reply}
 use Rattle.vz_rules.specs.declared.entry.Reply.TheVariants as reply
 use Rattle.vz_rules.specs.declared.entry.Fed.{Fed}
 use Rattle.vz_rules.specs.declared.entry.State.TheVariants.{Waiting, Active}
-use Rattle.vz_rules.specs.World.{World, Client, Created, Image, Submission, Aggregation, opening, exists}
+use Rattle.vz_rules.specs.World.{World, Client, Created, FrameData, Submission, Aggregation, opening, exists}
 use Rattle.vz_rules.specs.Settle.{has_come, is_ready, ready, round, rounds, activated_over, settle, activated_in}
 use Rattle.vz_rules.specs.Reach.{is_named_now, naming, lost_in, clearing, collect, destroyed_in}
 use Rattle.vz_rules.specs.Returns.{give_back, returned_in, feed, fed_in}
@@ -46,12 +46,12 @@ abbrev pub surface_of : SurfaceId → CompositorFrame → Created
 surface_of id frame = record { client = 1; number = 1; id = id; size = frame_size frame; born = 0; named = false; marked = false; destroyed = false }
 
 -- what it submits on it
-abbrev pub image_of : SurfaceId → CompositorFrame → Image
-image_of id frame = record { id = id; sub = only_sub; index = 1; frame = frame; blocks = [] }
+abbrev pub frame_of : SurfaceId → CompositorFrame → FrameData
+frame_of id frame = record { id = id; sub = only_sub; index = 1; frame = frame; blocks = [] }
 
 -- the submission, active
-abbrev pub submission_of : Image → Bool → Submission
-submission_of i fed = record { image = i; due = 0 + unwrap_or i.frame.metadata.deadline 4; state = Active; was_active = true; fed = fed }
+abbrev pub submission_of : FrameData → Bool → Submission
+submission_of i fed = record { submitted = i; due = 0 + unwrap_or i.frame.metadata.deadline 4; state = Active; was_active = true; fed = fed }
 
 -- the world with the submission active
 abbrev pub world_with : Client → SurfaceId → CompositorFrame → Bool → Option SurfaceId → Option (List Sub) → Option Aggregation → World
@@ -59,7 +59,7 @@ world_with c id frame fed root in_flight last =
     record {
       clients = c ∷ [];
       surfaces = surface_of id frame ∷ [];
-      subs = submission_of (image_of id frame) fed ∷ [];
+      subs = submission_of (frame_of id frame) fed ∷ [];
       tick = 0;
       root = root;
       relations = [];
@@ -154,7 +154,7 @@ module _ (sink : FrameSinkId) (local : LocalSurfaceId) (token ack : ℕ) (deadli
   abbrev pub waiting_world : World
   waiting_world =
       record (active_world 1 false None None None) {
-        subs = record (submission_of (image_of the_id the_frame) false) { state = Waiting; was_active = false } ∷ [];
+        subs = record (submission_of (frame_of the_id the_frame) false) { state = Waiting; was_active = false } ∷ [];
       }
 
   settled_first : settle waiting_world ≡ active_world 1 false None None None

@@ -13,12 +13,12 @@ use Rattle.vz_frame.specs.Fits.{fits_file}
 use Rattle.vz_rules.specs.Plan.{Plan, IsPlan}
 use Rattle.vz_rules.specs.World.{opening}
 use Rattle.vz_rules.specs.Step.{history_from, LegalFrom, Legal}
-use Rattle.vz_rules.specs.Frames.{Shot, shots, picture_of, frames, stale, repainted, written_of, written, painted_of, painted}
+use Rattle.vz_rules.specs.Frames.{DrawnFrame, drawn_frames, picture_of, frames, stale, repainted, written_of, written, painted_of, painted}
 use Rattle.vz_rules.specs.Log.{event_text, reply_text, effects_text, entry_text, log_text, rest_of}
 use Rattle.vz_rules.specs.Narrow.{is_narrow, narrow_events, narrow_history, nothing_left, narrow_quad, shows_quad, colour_with, narrow_colour}
-use Rattle.vz_rules.proofs.Narrow_steps.{plain_frame, id_in, image_of, narrow_plan}
+use Rattle.vz_rules.proofs.Narrow_steps.{plain_frame, id_in, frame_of, narrow_plan}
 use Rattle.vz_rules.proofs.Narrow_drawing.{scene_with}
-use Rattle.vz_rules.proofs.Narrow_history.{AllNamed, made_is_legal, history_made, nothing_is_left, one_shot}
+use Rattle.vz_rules.proofs.Narrow_history.{AllNamed, made_is_legal, history_made, nothing_is_left, one_drawn_frame}
 use Rattle.vz_rules.proofs.Narrow_picture.{picture_is}
 use Rattle.vz_rules.proofs.Narrow_form.{HasForm, form_of, fits_one}
 
@@ -84,13 +84,13 @@ module _ (p : Plan) (f : ClientFile) (plan : IsPlan p) (alone : p.files ≡ f �
       subst (λ (q : Plan). rest_of q (narrow_history q.size) ≡ nothing_left) (sym plan_is)
       (nothing_is_left f.sink form.local form.token form.ack form.deadline form.pass form.quad form.colour form.alone form.opaque.material p.size plan.sizes form.sound)
 
-  abbrev the_shot : Shot
-  the_shot = record { scene = Some (scene_with (image_of (id_in f.sink form.local) frame)); damage = sized p.size }
+  abbrev the_drawn_frame : DrawnFrame
+  the_drawn_frame = record { scene = Some (scene_with (frame_of (id_in f.sink form.local) frame)); damage = sized p.size }
 
-  shots_are : shots p (narrow_history p.size) ≡ the_shot ∷ []
-  shots_are =
-      subst (λ (q : Plan). shots q (narrow_history q.size) ≡ the_shot ∷ []) (sym plan_is)
-      (one_shot f.sink form.local form.token form.ack form.deadline form.pass form.quad form.colour form.alone form.opaque.material p.size plan.sizes form.sound)
+  drawn_frames_are : drawn_frames p (narrow_history p.size) ≡ the_drawn_frame ∷ []
+  drawn_frames_are =
+      subst (λ (q : Plan). drawn_frames q (narrow_history q.size) ≡ the_drawn_frame ∷ []) (sym plan_is)
+      (one_drawn_frame f.sink form.local form.token form.ack form.deadline form.pass form.quad form.colour form.alone form.opaque.material p.size plan.sizes form.sound)
 
   abbrev colours : List Colour
   colours = map (narrow_colour f) (points_of p.size)
@@ -99,23 +99,23 @@ module _ (p : Plan) (f : ClientFile) (plan : IsPlan p) (alone : p.files ≡ f �
   unfolding narrow_colour
   colour_is q = ap (λ t. colour_with t q) (quad_of f form)
 
-  shot_is : picture_of p.size the_shot.scene ≡ colours
+  drawn_frame_is : picture_of p.size the_drawn_frame.scene ≡ colours
   unfolding picture_of
-  shot_is =
+  drawn_frame_is =
       picture_is form.pass form.quad form.colour form.alone form.opaque f.sink form.local form.token form.ack form.deadline p.size form.left form.top
       ∙ (λ i. map (λ q. sym (colour_is q) i) (points_of p.size))
 
   pub frames_are : frames p (narrow_history p.size) ≡ colours ∷ []
   unfolding frames
-  frames_are = rw shots_are (ap (λ cs. cs ∷ []) shot_is)
+  frames_are = rw drawn_frames_are (ap (λ cs. cs ∷ []) drawn_frame_is)
 
   pub written_are : written p (narrow_history p.size) 2 ≡ colours ∷ []
   unfolding written written_of repainted
-  written_are = rw shots_are (ap (λ cs. cs ∷ []) shot_is)
+  written_are = rw drawn_frames_are (ap (λ cs. cs ∷ []) drawn_frame_is)
 
   pub painted_are : painted p (narrow_history p.size) 2 ≡ 2 * area_of (sized p.size)
   unfolding painted painted_of stale
-  painted_are = rw shots_are (omega arith)
+  painted_are = rw drawn_frames_are (omega arith)
 
 -- What callers need of the parts
 

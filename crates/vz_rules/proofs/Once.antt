@@ -37,8 +37,8 @@ held_left p w e c id =
     let W : World = before_giving p w e in
     let given : World = give_back W in
     let presented : List Sub = presented_by w e in
-    any_map (mark_fed given presented) (λ s. (s.image.sub.client == c) && holds (feed presented given) s && list_any (lists id) s.image.frame.resources)
-    (λ s. (s.image.sub.client == c) && holds W s && list_any (lists id) s.image.frame.resources) W.subs (λ s. refl)
+    any_map (mark_fed given presented) (λ s. (s.submitted.sub.client == c) && holds (feed presented given) s && list_any (lists id) s.submitted.frame.resources)
+    (λ s. (s.submitted.sub.client == c) && holds W s && list_any (lists id) s.submitted.frame.resources) W.subs (λ s. refl)
 
 -- What a step gives back
 
@@ -216,11 +216,11 @@ some_of (Some x) h = (x, refl)
 held_stored : (w : World) (x : Client) (id : ℕ) → KeepsShelf (holds w) w.subs x → is_held w x.number id ≡ true → is_some (resource_in id x.resources) ≡ true
 unfolding is_held
 held_stored w x id shelf h =
-    let s = any_at (λ (t : Submission). (t.image.sub.client == x.number) && holds w t && list_any (lists id) t.image.frame.resources) w.subs h in
-    let outer = and_parts ((s.0.image.sub.client == x.number) && holds w s.0) (list_any (lists id) s.0.image.frame.resources) s.2 in
-    let inner = and_parts (s.0.image.sub.client == x.number) (holds w s.0) outer.0 in
-    let l = any_at (lists id) s.0.image.frame.resources outer.1 in
-    let r = shelf.listed s.0 l.0 s.1 (eqb-true s.0.image.sub.client x.number inner.0) l.1 in
+    let s = any_at (λ (t : Submission). (t.submitted.sub.client == x.number) && holds w t && list_any (lists id) t.submitted.frame.resources) w.subs h in
+    let outer = and_parts ((s.0.submitted.sub.client == x.number) && holds w s.0) (list_any (lists id) s.0.submitted.frame.resources) s.2 in
+    let inner = and_parts (s.0.submitted.sub.client == x.number) (holds w s.0) outer.0 in
+    let l = any_at (lists id) s.0.submitted.frame.resources outer.1 in
+    let r = shelf.listed s.0 l.0 s.1 (eqb-true s.0.submitted.sub.client x.number inner.0) l.1 in
     found (λ (t : Resource). t.id == id) x.resources
     ∙ any_from (λ (t : Resource). t.id == id) x.resources r.0 r.1 (eq-eqb r.0.id id (r.2 ∙ eqb-true l.0.id id l.2))
 

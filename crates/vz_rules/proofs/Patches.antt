@@ -10,10 +10,10 @@ use Rattle.vz_geom.specs.declared.Size.{Size}
 use Rattle.vz_geom.specs.Rectangle.{Rectangle, has, sized, bound, row_points, rows_points, points_of}
 use Rattle.vz_geom.proofs.Sets.{of_in}
 use Rattle.vz_pixels.specs.Colour.{Colour, black}
-use Rattle.vz_rules.specs.Plan.{IsDisplaySize}
+use Rattle.vz_geom.specs.Display.{IsDisplaySize}
 use Rattle.vz_rules.specs.World.{Scene}
 use Rattle.vz_rules.specs.Paint.{full, picture}
-use Rattle.vz_rules.specs.Frames.{Shot, picture_of, stale, patched, repainted, written_of}
+use Rattle.vz_rules.specs.Frames.{DrawnFrame, picture_of, stale, patched, repainted, written_of}
 use Rattle.vz_rules.proofs.Members.{contains_here, contains_there, contains_cases, contains_none, append_contains}
 use Rattle.vz_rules.proofs.Agree.{Misses}
 use Rattle.vz_rules.proofs.Misses.{bound_misses}
@@ -105,37 +105,37 @@ abbrev pub AgreeOutside : Size → Rectangle → Option Scene → Option Scene �
 AgreeOutside size r a b = (p : Point) → has (sized size) p ≡ true → has r p ≡ false → seen_at a p ≡ seen_at b p
 
 -- a drawing agrees with the one before it outside its damage, if there is one
-abbrev pub FollowsOn : Size → Shot → List Shot → Type 0
+abbrev pub FollowsOn : Size → DrawnFrame → List DrawnFrame → Type 0
 FollowsOn size s [] = Unit {0}
 FollowsOn size s (t ∷ ss) = AgreeOutside size s.damage t.scene s.scene
 
 -- each drawing of a list, newest first, does
-abbrev pub AreLinked : Size → List Shot → Type 0
+abbrev pub AreLinked : Size → List DrawnFrame → Type 0
 AreLinked size [] = Unit {0}
 AreLinked size (s ∷ ss) = FollowsOn size s ss × AreLinked size ss
 
 -- a drawing agrees with an earlier one at each point that all damages since then miss
-linked_to : (size : Size) (k : ℕ) (s t : Shot) (before : List Shot) → AreLinked size (s ∷ before) → slice_get before k ≡ Some t
-    → (p : Point) → has (sized size) p ≡ true → Misses p (map (λ (u : Shot). u.damage) (take (suc k) (s ∷ before))) → seen_at t.scene p ≡ seen_at s.scene p
+linked_to : (size : Size) (k : ℕ) (s t : DrawnFrame) (before : List DrawnFrame) → AreLinked size (s ∷ before) → slice_get before k ≡ Some t
+    → (p : Point) → has (sized size) p ≡ true → Misses p (map (λ (u : DrawnFrame). u.damage) (take (suc k) (s ∷ before))) → seen_at t.scene p ≡ seen_at s.scene p
 linked_to size k s t [] linked at p inside misses = absurd (cc)
 linked_to size zero s t (u ∷ rest) linked at p inside misses =
     let same : u ≡ t = cc in
-    ap (λ (v : Shot). seen_at v.scene p) (sym same) ∙ linked.0 p inside misses.0
+    ap (λ (v : DrawnFrame). seen_at v.scene p) (sym same) ∙ linked.0 p inside misses.0
 linked_to size (suc k) s t (u ∷ rest) linked at p inside misses =
     linked_to size k u t rest linked.1 at p inside misses.1 ∙ linked.0 p inside misses.0
 
 -- where all that is stale is painted, the rest agrees
-rest_agrees : (size : Size) (few : Bool) (k : ℕ) (s t : Shot) (before : List Shot) → AreLinked size (s ∷ before) → slice_get before k ≡ Some t
-    → AgreeOutside size (cond few (sized size) (bound (map (λ (u : Shot). u.damage) (take (suc k) (s ∷ before))))) t.scene s.scene
+rest_agrees : (size : Size) (few : Bool) (k : ℕ) (s t : DrawnFrame) (before : List DrawnFrame) → AreLinked size (s ∷ before) → slice_get before k ≡ Some t
+    → AgreeOutside size (cond few (sized size) (bound (map (λ (u : DrawnFrame). u.damage) (take (suc k) (s ∷ before))))) t.scene s.scene
 rest_agrees size true k s t before linked at p inside misses = absurd (both_ways (has (sized size) p) misses inside)
 rest_agrees size false k s t before linked at p inside misses =
-    linked_to size k s t before linked at p inside (bound_misses (map (λ (u : Shot). u.damage) (take (suc k) (s ∷ before))) p misses)
+    linked_to size k s t before linked at p inside (bound_misses (map (λ (u : DrawnFrame). u.damage) (take (suc k) (s ∷ before))) p misses)
 
-abbrev pub shot_picture : Size → Shot → List Colour
-shot_picture size s = picture_of size s.scene
+abbrev pub drawn_frame_picture : Size → DrawnFrame → List Colour
+drawn_frame_picture size s = picture_of size s.scene
 
-repainted_by : (size : Size) (part : Rectangle) (s : Shot) (o : Option Shot) → IsDisplaySize size → ((t : Shot) → o ≡ Some t → AgreeOutside size part t.scene s.scene)
-    → repainted size part s.scene (option_map (shot_picture size) o) ≡ shot_picture size s
+repainted_by : (size : Size) (part : Rectangle) (s : DrawnFrame) (o : Option DrawnFrame) → IsDisplaySize size → ((t : DrawnFrame) → o ≡ Some t → AgreeOutside size part t.scene s.scene)
+    → repainted size part s.scene (option_map (drawn_frame_picture size) o) ≡ drawn_frame_picture size s
 unfolding repainted
 repainted_by size part s None display agree = refl
 repainted_by size part s (Some t) display agree =
@@ -145,17 +145,17 @@ repainted_by size part s (Some t) display agree =
     ∙ sym (picture_is size s.scene)))
 
 -- each frame is whole
-pub written_whole : (size : Size) (k : ℕ) (ss : List Shot) → IsDisplaySize size → AreLinked size ss → written_of size (suc k) ss ≡ map (shot_picture size) ss
+pub written_whole : (size : Size) (k : ℕ) (ss : List DrawnFrame) → IsDisplaySize size → AreLinked size ss → written_of size (suc k) ss ≡ map (drawn_frame_picture size) ss
 unfolding written_of stale
 written_whole size k [] display linked = refl
 written_whole size k (s ∷ before) display linked =
     let earlier : List (List Colour) = written_of size (suc k) before in
     let part : Rectangle = stale size (suc k) (s ∷ before) in
-    let whole : earlier ≡ map (shot_picture size) before = written_whole size k before display linked.1 in
+    let whole : earlier ≡ map (drawn_frame_picture size) before = written_whole size k before display linked.1 in
     let back : suc k - 1 ≡ k = omega arith in
-    let buffer : slice_get earlier (suc k - 1) ≡ option_map (shot_picture size) (slice_get before k) =
-    ap (slice_get earlier) back ∙ (ap (λ (l : List (List Colour)). slice_get l k) whole ∙ slice_get-map (shot_picture size) before k) in
+    let buffer : slice_get earlier (suc k - 1) ≡ option_map (drawn_frame_picture size) (slice_get before k) =
+    ap (slice_get earlier) back ∙ (ap (λ (l : List (List Colour)). slice_get l k) whole ∙ slice_get-map (drawn_frame_picture size) before k) in
     ap (λ (o : Option (List Colour)). repainted size part s.scene o ∷ earlier) buffer
     ∙ (ap (λ (c : List Colour). c ∷ earlier) (repainted_by size part s (slice_get before k) display
     (λ t e. rest_agrees size (nat_le (length (s ∷ before)) (suc k)) k s t before linked e))
-    ∙ ap (λ (l : List (List Colour)). shot_picture size s ∷ l) whole)
+    ∙ ap (λ (l : List (List Colour)). drawn_frame_picture size s ∷ l) whole)

@@ -1,4 +1,4 @@
--- What an aggregation remembers of its scene: the number of each image, and what each range showed.
+-- What an aggregation remembers of its scene: the number of each frame, and what each range showed.
 use Rattle.std.proofs.Common.{◌≡◌, ℕ, zero, suc, ◌+◌, Bool, true, false, Option, Some, None, List, [], ◌∷◌, ◌++◌, map, filter, find, length, refl, ap, sym, ◌∙◌, cond, subst, Contains}
 use Rattle.std.specs.Prelude.{is_some}
 use Rattle.std.specs.Option.{option_map}
@@ -14,13 +14,13 @@ use Rattle.vz_frame.specs.declared.frame.DrawQuad.{DrawQuad}
 use Rattle.vz_frame.specs.declared.frame.Material.{Material}
 use Rattle.vz_frame.specs.declared.frame.Material.TheVariants.{Solid, Tile, Surface, Pass}
 use Rattle.vz_frame.specs.Frame.{passes_down, names_pass}
-use Rattle.vz_rules.specs.World.{Image, Scene, image_on}
+use Rattle.vz_rules.specs.World.{FrameData, Scene, frame_on}
 use Rattle.vz_rules.specs.Closure.{adding}
-use Rattle.vz_rules.specs.Scene.{shown_image, newest, newer_image, in_range, after_start, or_else, id_of_image}
+use Rattle.vz_rules.specs.Scene.{shown_frame, newest, newer_frame, in_range, after_start, or_else, id_of_frame}
 use Rattle.vz_ids.specs.Ids.{newer}
 use Rattle.vz_rules.specs.Paint.{on_path, levels}
-use Rattle.vz_rules.specs.Walk.{Place, Meeting, Quad, Shows, Enters, WalkNamed, WalkRange, quad_walked, pass_walked, groups_walked, root_walked, range_walked, walk, whole, walk_of, place_in}
-use Rattle.vz_rules.specs.Damage.{shown_range, same_met, aggregation_of, index_in, shows_other, is_switched}
+use Rattle.vz_rules.specs.Walk.{Placement, Visit, Quad, Shows, Enters, WalkNamed, WalkRange, quad_walked, pass_walked, groups_walked, root_walked, range_walked, walk, whole, walk_of, place_in}
+use Rattle.vz_rules.specs.Damage.{shown_range, of_same_range, aggregation_of, index_in, shows_other, is_switched}
 use Rattle.vz_rules.proofs.Members.{contains_here, contains_there, find_at, found, any_from, filter_at}
 use Rattle.vz_rules.proofs.Reached.{from_same, self_same}
 use Rattle.vz_rules.proofs.Misses.{range_is}
@@ -66,105 +66,105 @@ each_at P xs x h c = All-contains P xs x (All-from_recursion P xs h) c
 
 -- What a walk meets
 
--- what a range shows is what it shows of these images
-abbrev pub IsNow : List Image → Meeting → Type 0
-IsNow images (Shows range now seen) = now ≡ shown_image images range
-IsNow images Quad = Unit {0}
-IsNow images (Enters depth i place) = Unit {0}
+-- what a range shows is what it shows of these frames
+abbrev pub IsNow : List FrameData → Visit → Type 0
+IsNow active (Shows range now seen) = now ≡ shown_frame active range
+IsNow active Quad = Unit {0}
+IsNow active (Enters depth i place) = Unit {0}
 
-module _ (images : List Image) (walks : WalkRange) (ranges : (range : SurfaceRange) (place : Place) → Each (IsNow images) (walks range place)) where
-  quad_now : (named : WalkNamed) → ((id : ℕ) (place : Place) → Each (IsNow images) (named id place))
-      → (pass : RenderPass) (place : Place) (quad : DrawQuad) (m : Material) → quad.material ≡ m
-      → Each (IsNow images) (quad_walked named walks pass place quad)
+module _ (active : List FrameData) (walks : WalkRange) (ranges : (range : SurfaceRange) (place : Placement) → Each (IsNow active) (walks range place)) where
+  quad_now : (named : WalkNamed) → ((id : ℕ) (place : Placement) → Each (IsNow active) (named id place))
+      → (pass : RenderPass) (place : Placement) (quad : DrawQuad) (m : Material) → quad.material ≡ m
+      → Each (IsNow active) (quad_walked named walks pass place quad)
   unfolding quad_walked
   quad_now named h pass place quad (Solid c) e = rw e (tt, tt)
   quad_now named h pass place quad (Tile id tx ty) e = rw e (tt, tt)
   quad_now named h pass place quad (Surface range b) e = rw e (tt, ranges range (place_in place pass quad))
   quad_now named h pass place quad (Pass id) e = rw e (tt, h id (place_in place pass quad))
 
-  pass_now : (named : WalkNamed) → ((id : ℕ) (place : Place) → Each (IsNow images) (named id place)) → (pass : RenderPass) (place : Place)
-      → Each (IsNow images) (pass_walked named walks pass place)
+  pass_now : (named : WalkNamed) → ((id : ℕ) (place : Placement) → Each (IsNow active) (named id place)) → (pass : RenderPass) (place : Placement)
+      → Each (IsNow active) (pass_walked named walks pass place)
   unfolding pass_walked
-  pass_now named h pass place = each_flat (IsNow images) (quad_walked named walks pass place) pass.quads (λ quad. quad_now named h pass place quad quad.material refl)
+  pass_now named h pass place = each_flat (IsNow active) (quad_walked named walks pass place) pass.quads (λ quad. quad_now named h pass place quad quad.material refl)
 
-  groups_now : (passes : List RenderPass) (id : ℕ) (place : Place) → Each (IsNow images) (groups_walked walks passes id place)
+  groups_now : (passes : List RenderPass) (id : ℕ) (place : Placement) → Each (IsNow active) (groups_walked walks passes id place)
   unfolding groups_walked
   groups_now [] id place = tt
   groups_now (pass ∷ earlier) id place =
-      each_choice (IsNow images) (names_pass id pass) _ _ (pass_now (groups_walked walks earlier) (groups_now earlier) pass _) (groups_now earlier id place)
+      each_choice (IsNow active) (names_pass id pass) _ _ (pass_now (groups_walked walks earlier) (groups_now earlier) pass _) (groups_now earlier id place)
 
-  root_now : (passes : List RenderPass) (place : Place) → Each (IsNow images) (root_walked walks passes place)
+  root_now : (passes : List RenderPass) (place : Placement) → Each (IsNow active) (root_walked walks passes place)
   unfolding root_walked
   root_now [] place = tt
   root_now (root ∷ earlier) place = pass_now (groups_walked walks earlier) (groups_now earlier) root place
 
-into_now : (images : List Image) (path : List SurfaceId) (place : Place) (surface : Image → List Meeting) → ((i : Image) → Each (IsNow images) (surface i)) → (o : Option Image)
-    → Each (IsNow images) (elim o [ None ↦ [] | Some i ↦ elim (on_path path i) [ true ↦ [] | false ↦ Enters (length path + 1) i place ∷ surface i ] ])
-into_now images path place surface h None = tt
-into_now images path place surface h (Some i) =
-    each_choice (IsNow images) (on_path path i) [] (Enters (length path + 1) i place ∷ surface i) tt (tt, h i)
+into_now : (active : List FrameData) (path : List SurfaceId) (place : Placement) (surface : FrameData → List Visit) → ((i : FrameData) → Each (IsNow active) (surface i)) → (o : Option FrameData)
+    → Each (IsNow active) (elim o [ None ↦ [] | Some i ↦ elim (on_path path i) [ true ↦ [] | false ↦ Enters (length path + 1) i place ∷ surface i ] ])
+into_now active path place surface h None = tt
+into_now active path place surface h (Some i) =
+    each_choice (IsNow active) (on_path path i) [] (Enters (length path + 1) i place ∷ surface i) tt (tt, h i)
 
-walk_now : (n : ℕ) (images : List Image) (path : List SurfaceId) (i : Image) (place : Place) → Each (IsNow images) (walk n images path i place)
+walk_now : (n : ℕ) (active : List FrameData) (path : List SurfaceId) (i : FrameData) (place : Placement) → Each (IsNow active) (walk n active path i place)
 unfolding walk range_walked
-walk_now zero images path i place = tt
-walk_now (suc n) images path i place =
-    root_now images (range_walked (walk n images) images (i.id ∷ path))
-    (λ range at. (refl, into_now images (i.id ∷ path) at (λ j. walk n images (i.id ∷ path) j at) (λ j. walk_now n images (i.id ∷ path) j at) (shown_image images range)))
+walk_now zero active path i place = tt
+walk_now (suc n) active path i place =
+    root_now active (range_walked (walk n active) active (i.id ∷ path))
+    (λ range at. (refl, into_now active (i.id ∷ path) at (λ j. walk n active (i.id ∷ path) j at) (λ j. walk_now n active (i.id ∷ path) j at) (shown_frame active range)))
     (passes_down i.frame) place
 
-whole_now : (n : ℕ) (size : Size) (images : List Image) (o : Option Image)
-    → Each (IsNow images) (elim o [ None ↦ [] | Some i ↦ Enters 1 i (whole size) ∷ walk n images [] i (whole size) ])
-whole_now n size images None = tt
-whole_now n size images (Some i) = (tt, walk_now n images [] i (whole size))
+whole_now : (n : ℕ) (size : Size) (active : List FrameData) (o : Option FrameData)
+    → Each (IsNow active) (elim o [ None ↦ [] | Some i ↦ Enters 1 i (whole size) ∷ walk n active [] i (whole size) ])
+whole_now n size active None = tt
+whole_now n size active (Some i) = (tt, walk_now n active [] i (whole size))
 
--- each range that a walk meets shows what it shows of the scene's images
-pub shows_are : (size : Size) (scene : Scene) → Each (IsNow scene.images) (walk_of size scene)
+-- each range that a walk meets shows what it shows of the scene's frames
+pub shows_are : (size : Size) (scene : Scene) → Each (IsNow scene.active) (walk_of size scene)
 unfolding walk_of
-shows_are size scene = whole_now levels size scene.images (image_on scene.root scene.images)
+shows_are size scene = whole_now levels size scene.active (frame_on scene.root scene.active)
 
 -- What is remembered
 
-abbrev Recalled : List Image → SurfaceRange × Option SurfaceId → Type 0
-Recalled images x = x.1 ≡ id_of_image (shown_image images x.0)
+abbrev Recalled : List FrameData → SurfaceRange × Option SurfaceId → Type 0
+Recalled active x = x.1 ≡ id_of_frame (shown_frame active x.0)
 
-recalled_by : (images : List Image) (m : Meeting) (x : SurfaceRange × Option SurfaceId) → IsNow images m → shown_range m ≡ Some x → Recalled images x
-recalled_by images Quad x h e = absurd (cc)
-recalled_by images (Enters depth i place) x h e = absurd (cc)
-recalled_by images (Shows range None seen) x h e =
+recalled_by : (active : List FrameData) (m : Visit) (x : SurfaceRange × Option SurfaceId) → IsNow active m → shown_range m ≡ Some x → Recalled active x
+recalled_by active Quad x h e = absurd (cc)
+recalled_by active (Enters depth i place) x h e = absurd (cc)
+recalled_by active (Shows range None seen) x h e =
     let s : ◌≡◌ {A = SurfaceRange × Option SurfaceId} (range, None) x = cc in
-    subst (Recalled images) s (ap id_of_image h)
-recalled_by images (Shows range (Some i) seen) x h e =
+    subst (Recalled active) s (ap id_of_frame h)
+recalled_by active (Shows range (Some i) seen) x h e =
     let s : ◌≡◌ {A = SurfaceRange × Option SurfaceId} (range, Some i.id) x = cc in
-    subst (Recalled images) s (ap id_of_image h)
+    subst (Recalled active) s (ap id_of_frame h)
 
 -- a range is remembered with the surface that it showed
-range_recalled : (size : Size) (scene : Scene) → Each (Recalled scene.images) (aggregation_of scene (walk_of size scene)).ranges
+range_recalled : (size : Size) (scene : Scene) → Each (Recalled scene.active) (aggregation_of scene (walk_of size scene)).ranges
 unfolding aggregation_of
 range_recalled size scene =
-    each_adding (Recalled scene.images) same_met [] (filter_map shown_range (walk_of size scene)) tt
-    (each_mapped (IsNow scene.images) (Recalled scene.images) shown_range (recalled_by scene.images) (walk_of size scene) (shows_are size scene))
+    each_adding (Recalled scene.active) of_same_range [] (filter_map shown_range (walk_of size scene)) tt
+    (each_mapped (IsNow scene.active) (Recalled scene.active) shown_range (recalled_by scene.active) (walk_of size scene) (shows_are size scene))
 
-find_mapped : (id : SurfaceId) (images : List Image)
-    → find (λ (x : SurfaceId × ℕ). same_surface x.0 id) (map (λ (i : Image). (i.id, i.index)) images) ≡ option_map (λ (i : Image). (i.id, i.index)) (image_on id images)
+find_mapped : (id : SurfaceId) (active : List FrameData)
+    → find (λ (x : SurfaceId × ℕ). same_surface x.0 id) (map (λ (i : FrameData). (i.id, i.index)) active) ≡ option_map (λ (i : FrameData). (i.id, i.index)) (frame_on id active)
 find_mapped id [] = refl
 find_mapped id (i ∷ is) =
     elim (same_surface i.id id) as (λ (t : Bool). ◌≡◌ {A = Option (SurfaceId × ℕ)}
-    (cond t (Some (i.id, i.index)) (find (λ (x : SurfaceId × ℕ). same_surface x.0 id) (map (λ (j : Image). (j.id, j.index)) is)))
-    (option_map (λ (j : Image). (j.id, j.index)) (cond t (Some i) (image_on id is)))) [ true ↦ refl | false ↦ find_mapped id is ]
+    (cond t (Some (i.id, i.index)) (find (λ (x : SurfaceId × ℕ). same_surface x.0 id) (map (λ (j : FrameData). (j.id, j.index)) is)))
+    (option_map (λ (j : FrameData). (j.id, j.index)) (cond t (Some i) (frame_on id is)))) [ true ↦ refl | false ↦ find_mapped id is ]
 
--- the number of an image that was active is remembered
-pub index_is : (scene : Scene) (met : List Meeting) (i j : Image) → image_on j.id scene.images ≡ Some i → index_in (aggregation_of scene met) j ≡ i.index
+-- the number of a frame that was active is remembered
+pub index_is : (scene : Scene) (visits : List Visit) (i j : FrameData) → frame_on j.id scene.active ≡ Some i → index_in (aggregation_of scene visits) j ≡ i.index
 unfolding aggregation_of
-index_is scene met i j on =
-    ap (λ (o : Option (SurfaceId × ℕ)). elim o [ Some x ↦ x.1 | None ↦ 0 ]) (find_mapped j.id scene.images ∙ ap (option_map (λ (k : Image). (k.id, k.index))) on)
+index_is scene visits i j on =
+    ap (λ (o : Option (SurfaceId × ℕ)). elim o [ Some x ↦ x.1 | None ↦ 0 ]) (find_mapped j.id scene.active ∙ ap (option_map (λ (k : FrameData). (k.id, k.index))) on)
 
--- Images
+-- Frames
 
--- no two images are on one surface
-abbrev pub AreAlone : List Image → Type 0
-AreAlone images = (i j : Image) → Contains images i → Contains images j → same_surface i.id j.id ≡ true → i ≡ j
+-- no two frames are on one surface
+abbrev pub AreAlone : List FrameData → Type 0
+AreAlone active = (i j : FrameData) → Contains active i → Contains active j → same_surface i.id j.id ≡ true → i ≡ j
 
-newest_by : (x i : Image) (xs : List Image) (o : Option Image) → ((j : Image) → o ≡ Some j → Contains xs j) → newer_image x o ≡ Some i → Contains (x ∷ xs) i
+newest_by : (x i : FrameData) (xs : List FrameData) (o : Option FrameData) → ((j : FrameData) → o ≡ Some j → Contains xs j) → newer_frame x o ≡ Some i → Contains (x ∷ xs) i
 newest_by x i xs None h e = let s : x ≡ i = cc in subst (Contains (x ∷ xs)) s (contains_here x xs)
 newest_by x i xs (Some j) h e =
     elim (newer j.id.local x.id.local) as (λ (t : Bool). cond t (Some j) (Some x) ≡ Some i → Contains (x ∷ xs) i) [
@@ -172,51 +172,51 @@ newest_by x i xs (Some j) h e =
       | false ↦ λ k. let s : x ≡ i = cc in subst (Contains (x ∷ xs)) s (contains_here x xs)
     ] e
 
-newest_in : (xs : List Image) (i : Image) → newest xs ≡ Some i → Contains xs i
+newest_in : (xs : List FrameData) (i : FrameData) → newest xs ≡ Some i → Contains xs i
 newest_in [] i h = absurd (cc)
 newest_in (x ∷ xs) i h = newest_by x i xs (newest xs) (newest_in xs) h
 
-shown_by : (images : List Image) (p q : Image → Bool) (o : Option Image) (i : Image) → newest (filter p images) ≡ o → or_else o (newest (filter q images)) ≡ Some i
-    → Contains images i
-shown_by images p q None i h e = (filter_at q images i (newest_in (filter q images) i e)).0
-shown_by images p q (Some j) i h e = let s : j ≡ i = cc in (filter_at p images i (newest_in (filter p images) i (h ∙ ap Some s))).0
+shown_by : (active : List FrameData) (p q : FrameData → Bool) (o : Option FrameData) (i : FrameData) → newest (filter p active) ≡ o → or_else o (newest (filter q active)) ≡ Some i
+    → Contains active i
+shown_by active p q None i h e = (filter_at q active i (newest_in (filter q active) i e)).0
+shown_by active p q (Some j) i h e = let s : j ≡ i = cc in (filter_at p active i (newest_in (filter p active) i (h ∙ ap Some s))).0
 
-pub shown_in : (images : List Image) (range : SurfaceRange) (i : Image) → shown_image images range ≡ Some i → Contains images i
-unfolding shown_image
-shown_in images range i h = shown_by images (in_range range) (after_start range.start range.end) (newest (filter (in_range range) images)) i refl h
+pub shown_in : (active : List FrameData) (range : SurfaceRange) (i : FrameData) → shown_frame active range ≡ Some i → Contains active i
+unfolding shown_frame
+shown_in active range i h = shown_by active (in_range range) (after_start range.start range.end) (newest (filter (in_range range) active)) i refl h
 
-pub alone_on : (images : List Image) (i : Image) → AreAlone images → Contains images i → image_on i.id images ≡ Some i
-alone_on images i alone c =
-    elim (image_on i.id images) as (λ (o : Option Image). image_on i.id images ≡ o → is_some o ≡ true → o ≡ Some i) [
+pub alone_on : (active : List FrameData) (i : FrameData) → AreAlone active → Contains active i → frame_on i.id active ≡ Some i
+alone_on active i alone c =
+    elim (frame_on i.id active) as (λ (o : Option FrameData). frame_on i.id active ≡ o → is_some o ≡ true → o ≡ Some i) [
       | None ↦ λ e h. absurd (cc)
-      | Some k ↦ λ e h. let at = find_at (λ j. same_surface j.id i.id) images k e in ap Some (alone k i at.0 c at.1)
-    ] refl (found (λ j. same_surface j.id i.id) images ∙ any_from (λ j. same_surface j.id i.id) images i c (self_same i.id))
+      | Some k ↦ λ e h. let at = find_at (λ j. same_surface j.id i.id) active k e in ap Some (alone k i at.0 c at.1)
+    ] refl (found (λ j. same_surface j.id i.id) active ∙ any_from (λ j. same_surface j.id i.id) active i c (self_same i.id))
 
 -- Ranges that show what they showed
 
 -- a range that is not switched was met, and showed a surface, which it shows now
-same_shown : (was : Option SurfaceId) (now : Option Image) → shows_other was now ≡ false → (j : Image) × (now ≡ Some j) × (was ≡ Some j.id)
+same_shown : (was : Option SurfaceId) (now : Option FrameData) → shows_other was now ≡ false → (j : FrameData) × (now ≡ Some j) × (was ≡ Some j.id)
 same_shown None now h = absurd (cc)
 same_shown (Some id) None h = absurd (cc)
 same_shown (Some id) (Some j) h = (j, refl, ap Some (from_same id j.id (not-false _ h)))
 
-shown_id : (o : Option Image) (id : SurfaceId) → Some id ≡ id_of_image o → (i : Image) × (o ≡ Some i) × (i.id ≡ id)
+shown_id : (o : Option FrameData) (id : SurfaceId) → Some id ≡ id_of_frame o → (i : FrameData) × (o ≡ Some i) × (i.id ≡ id)
 shown_id None id h = absurd (cc)
 shown_id (Some i) id h = (i, refl, sym (let s : id ≡ i.id = cc in s))
 
-was_met : (o : Option (SurfaceRange × Option SurfaceId)) (now : Option Image) → ◌≡◌ {A = Bool} (elim o [ Some x ↦ shows_other x.1 now | None ↦ true ]) false
+was_met : (o : Option (SurfaceRange × Option SurfaceId)) (now : Option FrameData) → ◌≡◌ {A = Bool} (elim o [ Some x ↦ shows_other x.1 now | None ↦ true ]) false
     → (x : SurfaceRange × Option SurfaceId) × (o ≡ Some x) × (shows_other x.1 now ≡ false)
 was_met None now h = absurd (cc)
 was_met (Some x) now h = (x, refl, h)
 
-pub not_switched_shows : (size : Size) (scene : Scene) (range : SurfaceRange) (now : Option Image) → is_switched (aggregation_of scene (walk_of size scene)) range now ≡ false
-    → (i : Image) × (j : Image) × (now ≡ Some j) × (shown_image scene.images range ≡ Some i) × (i.id ≡ j.id)
+pub not_switched_shows : (size : Size) (scene : Scene) (range : SurfaceRange) (now : Option FrameData) → is_switched (aggregation_of scene (walk_of size scene)) range now ≡ false
+    → (i : FrameData) × (j : FrameData) × (now ≡ Some j) × (shown_frame scene.active range ≡ Some i) × (i.id ≡ j.id)
 not_switched_shows size scene range now h =
     let ranges = (aggregation_of scene (walk_of size scene)).ranges in
     let met = was_met (find (λ x. same_range x.0 range) ranges) now h in
     let at = find_at (λ (x : SurfaceRange × Option SurfaceId). same_range x.0 range) ranges met.0 met.1 in
     let same = same_shown met.0.1 now met.2 in
-    let was : met.0.1 ≡ id_of_image (shown_image scene.images range) =
-    each_at (Recalled scene.images) ranges met.0 (range_recalled size scene) at.0 ∙ ap (λ r. id_of_image (shown_image scene.images r)) (range_is met.0.0 range at.1) in
-    let shown = shown_id (shown_image scene.images range) same.0.id (sym same.2 ∙ was) in
+    let was : met.0.1 ≡ id_of_frame (shown_frame scene.active range) =
+    each_at (Recalled scene.active) ranges met.0 (range_recalled size scene) at.0 ∙ ap (λ r. id_of_frame (shown_frame scene.active r)) (range_is met.0.0 range at.1) in
+    let shown = shown_id (shown_frame scene.active range) same.0.id (sym same.2 ∙ was) in
     (shown.0, same.0, same.1, shown.1, shown.2)

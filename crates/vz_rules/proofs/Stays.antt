@@ -6,35 +6,35 @@ use Rattle.vz_geom.specs.declared.Size.{Size}
 use Rattle.vz_ids.specs.declared.SurfaceId.{SurfaceId}
 use Rattle.vz_ids.specs.declared.Sub.{Sub}
 use Rattle.vz_rules.specs.declared.entry.State.TheVariants.{Active, Past}
-use Rattle.vz_rules.specs.World.{World, Image, Created, Submission, is_waiting, is_active, is_on}
+use Rattle.vz_rules.specs.World.{World, FrameData, Created, Submission, is_waiting, is_active, is_on}
 use Rattle.vz_rules.specs.Settle.{is_ready, ready, after_round, marked_by, is_before, round, rounds, settle}
 use Rattle.vz_rules.specs.Reach.{name_one, naming, is_named_now, reach, is_lost, destroy, drop_on, lost_in, clearing, collect}
 use Rattle.vz_rules.specs.Returns.{mark_fed, give_back, feed}
 use Rattle.vz_rules.specs.Messages.{Answer}
-use Rattle.vz_rules.specs.Step.{outcome_of, accepted_images}
+use Rattle.vz_rules.specs.Step.{outcome_of, accepted_frames}
 use Rattle.vz_rules.specs.Kept.{HasSize, is_open}
 use Rattle.vz_rules.proofs.Members.{contains_map, map_contains}
 use Rattle.vz_rules.proofs.Kept_states.{open_before}
 use Rattle.vz_rules.proofs.Kept_clears.{drops}
 
--- the image of a submission
-abbrev pub image_of : Submission → Image
-image_of s = s.image
+-- the frame of a submission
+abbrev pub frame_of : Submission → FrameData
+frame_of s = s.submitted
 
 -- one of these submissions is open and was accepted as this one
 abbrev pub WasOpen : List Submission → Submission → Type 0
-WasOpen xs t = (s : Submission) × Contains xs s × (is_open s ≡ true) × (s.image ≡ t.image)
+WasOpen xs t = (s : Submission) × Contains xs s × (is_open s ≡ true) × (s.submitted ≡ t.submitted)
 
 -- the second world has the submissions of the first, none of them open that was not, and its surfaces
 pub record Stays (w v : World) : Type 0 where
-  pub images : accepted_images v ≡ accepted_images w
+  pub active : accepted_frames v ≡ accepted_frames w
   pub opens : (t : Submission) → Contains v.subs t → is_open t ≡ true → WasOpen w.subs t
   pub surfaces : (id : SurfaceId) (size : Size) → HasSize w.surfaces id size → HasSize v.surfaces id size
 
 pub stays_then : (w v u : World) → Stays w v → Stays v u → Stays w u
 stays_then w v u first second =
     record {
-      images = second.images ∙ first.images;
+      active = second.active ∙ first.active;
       opens = λ t c o.
           let s = second.opens t c o in
           let r = first.opens s.0 s.1 s.2 in
@@ -45,16 +45,16 @@ stays_then w v u first second =
 pub opens_same : (xs : List Submission) (t : Submission) → Contains xs t → is_open t ≡ true → WasOpen xs t
 opens_same xs t c o = (t, c, o, refl)
 
-pub images_mapped : (f : Submission → Submission) → ((s : Submission) → (f s).image ≡ s.image) → (xs : List Submission) → map image_of (map f xs) ≡ map image_of xs
-images_mapped f same [] = refl
-images_mapped f same (s ∷ xs) = ap (λ (i : Image). i ∷ map image_of (map f xs)) (same s) ∙ ap (λ l. s.image ∷ l) (images_mapped f same xs)
+pub frames_mapped : (f : Submission → Submission) → ((s : Submission) → (f s).submitted ≡ s.submitted) → (xs : List Submission) → map frame_of (map f xs) ≡ map frame_of xs
+frames_mapped f same [] = refl
+frames_mapped f same (s ∷ xs) = ap (λ (i : FrameData). i ∷ map frame_of (map f xs)) (same s) ∙ ap (λ l. s.submitted ∷ l) (frames_mapped f same xs)
 
-pub opens_mapped : (f : Submission → Submission) → ((s : Submission) → (f s).image ≡ s.image) → ((s : Submission) → is_open (f s) ≡ true → is_open s ≡ true)
+pub opens_mapped : (f : Submission → Submission) → ((s : Submission) → (f s).submitted ≡ s.submitted) → ((s : Submission) → is_open (f s) ≡ true → is_open s ≡ true)
     → (xs : List Submission) (t : Submission)
     → Contains (map f xs) t → is_open t ≡ true → WasOpen xs t
 opens_mapped f same opens xs t c o =
     let m = contains_map f xs t c in
-    (m.0, m.1, opens m.0 (ap is_open m.2 ∙ o), sym (same m.0) ∙ ap image_of m.2)
+    (m.0, m.1, opens m.0 (ap is_open m.2 ∙ o), sym (same m.0) ∙ ap frame_of m.2)
 
 -- a surface changes and keeps its id and size
 pub record KeepsSize (g : Created → Created) : Type 0 where
@@ -65,18 +65,18 @@ pub sizes_mapped : (g : Created → Created) → KeepsSize g → (ss : List Crea
 sizes_mapped g same ss id size h = (g h.0, map_contains g ss h.0 h.1, same.id h.0 ∙ h.2, same.size h.0 ∙ h.3)
 
 -- where each submission and each surface changes so
-pub stays_mapped : (w : World) (f : Submission → Submission) (g : Created → Created) → ((s : Submission) → (f s).image ≡ s.image)
+pub stays_mapped : (w : World) (f : Submission → Submission) (g : Created → Created) → ((s : Submission) → (f s).submitted ≡ s.submitted)
     → ((s : Submission) → is_open (f s) ≡ true → is_open s ≡ true)
     → KeepsSize g → Stays w (record w { subs = map f w.subs; surfaces = map g w.surfaces })
 stays_mapped w f g same opens size =
-    record { images = images_mapped f same w.subs; opens = opens_mapped f same opens w.subs; surfaces = sizes_mapped g size w.surfaces }
+    record { active = frames_mapped f same w.subs; opens = opens_mapped f same opens w.subs; surfaces = sizes_mapped g size w.surfaces }
 
 -- Activation
 
-round_image : (b u : Bool) (s : Submission) → (cond b (record s { state = Active; was_active = true }) (cond u (record s { state = Past }) s)).image ≡ s.image
-round_image true u s = refl
-round_image false true s = refl
-round_image false false s = refl
+round_frame : (b u : Bool) (s : Submission) → (cond b (record s { state = Active; was_active = true }) (cond u (record s { state = Past }) s)).submitted ≡ s.submitted
+round_frame true u s = refl
+round_frame false true s = refl
+round_frame false false s = refl
 
 round_open : (b u : Bool) (s : Submission) → (b ≡ true → is_waiting s ≡ true)
     → is_open (cond b (record s { state = Active; was_active = true }) (cond u (record s { state = Past }) s)) ≡ true → is_open s ≡ true
@@ -104,13 +104,13 @@ unfolding round ready
 stays_round w =
     let risen = filter (is_ready w) w.subs in
     stays_mapped w (after_round (is_ready w) risen) (marked_by w.surfaces risen)
-    (λ s. round_image (is_ready w s) (is_active s && list_any (is_on s.image.id) risen) s)
-    (λ s. round_open (is_ready w s) (is_active s && list_any (is_on s.image.id) risen) s (ready_waits w s))
+    (λ s. round_frame (is_ready w s) (is_active s && list_any (is_on s.submitted.id) risen) s)
+    (λ s. round_open (is_ready w s) (is_active s && list_any (is_on s.submitted.id) risen) s (ready_waits w s))
     (marked_size w.surfaces risen)
 
 stays_rounds : (n : ℕ) (w : World) → Stays w (rounds n w)
 unfolding rounds
-stays_rounds zero w = record { images = refl; opens = opens_same w.subs; surfaces = λ id size h. h }
+stays_rounds zero w = record { active = refl; opens = opens_same w.subs; surfaces = λ id size h. h }
 stays_rounds (suc n) w = stays_then w (round w) (rounds n (round w)) (stays_round w) (stays_rounds n (round w))
 
 stays_settle : (w : World) → Stays w (settle w)
@@ -143,12 +143,12 @@ destroyed_size kept = record { id = λ s. by_id (is_lost kept s) s; size = λ s.
 
 stays_naming : (w : World) → Stays w (naming w)
 unfolding naming
-stays_naming w = record { images = refl; opens = opens_same w.subs; surfaces = sizes_mapped (name_one w) (named_size w) w.surfaces }
+stays_naming w = record { active = refl; opens = opens_same w.subs; surfaces = sizes_mapped (name_one w) (named_size w) w.surfaces }
 
 stays_clearing : (w : World) → Stays w (clearing w)
 unfolding clearing
 stays_clearing w =
-    stays_mapped w (drop_on (lost_in w)) (destroy (reach w)) (drops (lost_in w)).image (open_before (drop_on (lost_in w)) (drops (lost_in w))) (destroyed_size (reach w))
+    stays_mapped w (drop_on (lost_in w)) (destroy (reach w)) (drops (lost_in w)).submitted (open_before (drop_on (lost_in w)) (drops (lost_in w))) (destroyed_size (reach w))
 
 stays_collect : (w : World) → Stays w (collect w)
 unfolding collect
@@ -158,13 +158,13 @@ stays_collect w = stays_then w (naming w) (clearing (naming w)) (stays_naming w)
 
 stays_given : (w : World) → Stays w (give_back w)
 unfolding give_back
-stays_given w = record { images = refl; opens = opens_same w.subs; surfaces = λ id size h. h }
+stays_given w = record { active = refl; opens = opens_same w.subs; surfaces = λ id size h. h }
 
 stays_fed : (presented : List Sub) (w : World) → Stays w (feed presented w)
 unfolding feed
 stays_fed presented w =
     record {
-      images = images_mapped (mark_fed w presented) (λ s. refl) w.subs;
+      active = frames_mapped (mark_fed w presented) (λ s. refl) w.subs;
       opens = opens_mapped (mark_fed w presented) (λ s. refl) (λ s o. o) w.subs;
       surfaces = λ id size h. h;
     }

@@ -11,8 +11,8 @@ use Rattle.vz_rules.specs.Plan.{Plan, IsPlan}
 use Rattle.vz_rules.specs.declared.entry.Entry.{Entry}
 use Rattle.vz_rules.specs.declared.entry.Event.{Event}
 use Rattle.vz_rules.specs.declared.entry.State.TheVariants.{Active, Past, Dropped}
-use Rattle.vz_rules.specs.World.{World, Client, Image, Submission, is_waiting, is_active, is_on, sub_of, has_sub}
-use Rattle.vz_rules.specs.Settle.{met, has_come, is_ready, ready, after_round, round, rounds, settle, activated_in}
+use Rattle.vz_rules.specs.World.{World, Client, FrameData, Submission, is_waiting, is_active, is_on, sub_of, has_sub}
+use Rattle.vz_rules.specs.Settle.{is_met, has_come, is_ready, ready, after_round, round, rounds, settle, activated_in}
 use Rattle.vz_rules.specs.Messages.{Answer, id_of, replace_on, accepted}
 use Rattle.vz_rules.specs.Step.{answer_to, begin_answer, outcome_of, presented_by, step_in, entry_in, world, Legal}
 use Rattle.vz_rules.specs.Accounts.{IsTimely, activations_over}
@@ -31,8 +31,8 @@ use Rattle.vz_rules.proofs.Told.{told_once, activations_more}
 use Rattle.vz_rules.proofs.Cases.{client_cases, answer_cases}
 
 -- what its having come depends on
-abbrev key : Submission → Image × ℕ
-key s = (s.image, s.due)
+abbrev key : Submission → FrameData × ℕ
+key s = (s.submitted, s.due)
 
 after_key : (becomes past : Bool) (s : Submission) → key (cond becomes (record s { state = Active; was_active = true }) (cond past (record s { state = Past }) s)) ≡ key s
 after_key true past s = refl
@@ -44,14 +44,14 @@ unfolding rounds round
 rounds_keys zero w = refl
 rounds_keys (suc n) w =
     rounds_keys n (round w)
-    ∙ keys_kept key (after_round (is_ready w) (ready w)) w.subs (λ s. after_key (is_ready w s) (is_active s && list_any (is_on s.image.id) (ready w)) s)
+    ∙ keys_kept key (after_round (is_ready w) (ready w)) w.subs (λ s. after_key (is_ready w s) (is_active s && list_any (is_on s.submitted.id) (ready w)) s)
 
 settle_keys : (w : World) → map key (settle w).subs ≡ map key w.subs
 unfolding settle
 settle_keys w = rounds_keys _ w
 
-pair_same : (i j : Image) (n m : ℕ) → i ≡ j → n ≡ m → ◌≡◌ {A = Image × ℕ} (i, n) (j, m)
-pair_same i j n m e d = ap (λ (x : Image). let y : Image × ℕ = (x, n) in y) e ∙ ap (λ (k : ℕ). let y : Image × ℕ = (j, k) in y) d
+pair_same : (i j : FrameData) (n m : ℕ) → i ≡ j → n ≡ m → ◌≡◌ {A = FrameData × ℕ} (i, n) (j, m)
+pair_same i j n m e d = ap (λ (x : FrameData). let y : FrameData × ℕ = (x, n) in y) e ∙ ap (λ (k : ℕ). let y : FrameData × ℕ = (j, k) in y) d
 
 left_keys : (presented : List Sub) (w : World) → map key (after presented w).subs ≡ map key w.subs
 left_keys presented w =
@@ -120,7 +120,7 @@ record Came (p : Plan) (w : World) (e : Event) (n : ℕ) (s : Submission) : Type
 
 come_by : (w : World) (s t : Submission) → key s ≡ key t → has_come w s ≡ has_come w t
 unfolding has_come
-come_by w s t e = ap (λ (k : Image × ℕ). list_all (met w) k.0.frame.metadata.dependencies || nat_le k.1 w.tick) e
+come_by w s t e = ap (λ (k : FrameData × ℕ). list_all (is_met w) k.0.frame.metadata.dependencies || nat_le k.1 w.tick) e
 
 step_came : (p : Plan) (w : World) (e : Event) (n : ℕ) (s : Submission) → KeepsAlways (step_in p w e).world → slice_get (step_in p w e).world.subs n ≡ Some s
     → has_sub (activated_in (answer_to p w e).world) (sub_of s) ≡ true → Came p w e n s
@@ -133,7 +133,7 @@ step_came p w e n s keeps at h =
     let place = contains_at a.subs t.0 t.1 in
     let keyed : slice_get (map key v.subs) place.0 ≡ Some (key t.0) = ap (λ l. slice_get l place.0) (step_keys p w e) ∙ map_at key a.subs place.0 t.0 place.1 in
     let other = at_map key v.subs place.0 (key t.0) keyed in
-    let named : same_sub (sub_of s) (sub_of other.0) ≡ true = ap (λ (k : Image × ℕ). same_sub (sub_of s) k.0.sub) other.2 ∙ outer.1 in
+    let named : same_sub (sub_of s) (sub_of other.0) ≡ true = ap (λ (k : FrameData × ℕ). same_sub (sub_of s) k.0.sub) other.2 ∙ outer.1 in
     let same : n ≡ place.0 = subs_apart v n place.0 s other.0 keeps at other.1 named in
     let one : s ≡ other.0 = at_same v.subs n place.0 s other.0 at other.1 same in
     record {

@@ -15,7 +15,7 @@ use Rattle.vz_rules.specs.declared.entry.Event.TheVariants as event
 use Rattle.vz_rules.specs.declared.entry.Entry.{Entry}
 use Rattle.vz_rules.specs.declared.entry.Fed.{Fed}
 use Rattle.vz_rules.specs.declared.entry.State.TheVariants.{Active, Past, Dropped}
-use Rattle.vz_rules.specs.World.{World, Client, Created, Submission, is_waiting, is_active, is_ended, is_on, is_in_flight, sub_of, has_sub, opening, Image, client_at}
+use Rattle.vz_rules.specs.World.{World, Client, Created, Submission, is_waiting, is_active, is_ended, is_on, is_in_flight, sub_of, has_sub, opening, FrameData, client_at}
 use Rattle.vz_rules.specs.Settle.{has_come, is_ready, ready, after_round, round, rounds, activated_over, settle, activated_in}
 use Rattle.vz_rules.specs.Reach.{drop_on, lost_in, naming, clearing, collect}
 use Rattle.vz_rules.specs.Returns.{give_back, feedback_of, mark_fed, feed, fed_in}
@@ -28,7 +28,7 @@ use Rattle.vz_rules.proofs.Rising.{counted, sum_same, sum_flat, sum_one, Rising}
 use Rattle.vz_rules.proofs.Given.{number_of}
 use Rattle.vz_rules.proofs.Numbered.{numbers_are, numbers_rise, client_there}
 use Rattle.vz_rules.proofs.Acceptances.{acceptances_are}
-use Rattle.vz_rules.proofs.Follow_ups.{images_of, images_kept, outcome_images, count_kept}
+use Rattle.vz_rules.proofs.Follow_ups.{frames_of, frames_kept, outcome_frames, count_kept}
 use Rattle.vz_rules.proofs.Prefixes.{Steps, along, legal-at}
 use Rattle.vz_rules.proofs.Cases.{DisplayCases, client_cases, answer_cases, number_at}
 
@@ -64,7 +64,7 @@ has_acted sub s = is_named sub s && s.was_active
 
 -- one of this client
 abbrev pub is_by : ℕ → Submission → Bool
-is_by c s = s.image.sub.client == c
+is_by c s = s.submitted.sub.client == c
 
 -- one that waits was never active
 abbrev pub is_fresh : Submission → Bool
@@ -77,12 +77,12 @@ after_by becomes past s = cond becomes (record s { state = Active; was_active = 
 abbrev dropped_by : Bool → Submission → Submission
 dropped_by t s = cond t (record s { state = Dropped }) s
 
-after_rest : (becomes past : Bool) (s : Submission) → ((after_by becomes past s).image ≡ s.image) × ((after_by becomes past s).fed ≡ s.fed)
+after_rest : (becomes past : Bool) (s : Submission) → ((after_by becomes past s).submitted ≡ s.submitted) × ((after_by becomes past s).fed ≡ s.fed)
 after_rest true past s = (refl, refl)
 after_rest false true s = (refl, refl)
 after_rest false false s = (refl, refl)
 
-dropped_rest : (t : Bool) (s : Submission) → ((dropped_by t s).image ≡ s.image) × ((dropped_by t s).fed ≡ s.fed) × ((dropped_by t s).was_active ≡ s.was_active)
+dropped_rest : (t : Bool) (s : Submission) → ((dropped_by t s).submitted ≡ s.submitted) × ((dropped_by t s).fed ≡ s.fed) × ((dropped_by t s).was_active ≡ s.was_active)
 dropped_rest true s = (refl, refl, refl)
 dropped_rest false s = (refl, refl, refl)
 
@@ -96,7 +96,7 @@ module _ (t : Submission → Bool) (steady : IsSteady t) where
   unfolding rounds round
   rounds_count zero w = refl
   rounds_count (suc n) w =
-      rounds_count n (round w) ∙ count_map (after_round (is_ready w) (ready w)) t w.subs (λ s. steady.after (is_ready w s) (is_active s && list_any (is_on s.image.id) (ready w)) s)
+      rounds_count n (round w) ∙ count_map (after_round (is_ready w) (ready w)) t w.subs (λ s. steady.after (is_ready w s) (is_active s && list_any (is_on s.submitted.id) (ready w)) s)
 
   collect_count : (w : World) → count_by t (collect w).subs ≡ count_by t w.subs
   unfolding collect clearing naming
@@ -154,7 +154,7 @@ round_list : (w : World) (sub : Sub) (becomes : Submission → Bool) (risen ss :
 round_list w sub becomes risen [] waits h = omega arith
 round_list w sub becomes risen (s ∷ ss) waits h =
     let both = and_parts (is_fresh s) (list_all is_fresh ss) h in
-    let past : Bool = is_active s && list_any (is_on s.image.id) risen in
+    let past : Bool = is_active s && list_any (is_on s.submitted.id) risen in
     let name = ap (λ i. same_sub sub i.sub && (after_by (becomes s) past s).was_active) (after_rest (becomes s) past s).0 in
     let acts : has_acted sub (after_round becomes risen s) ≡ (is_named sub s && (becomes s || s.was_active)) = name ∙ ap (λ b. is_named sub s && b) (was_after (becomes s) past s) in
     let here : ◌≡◌ {A = ℕ} (cond (has_acted sub (after_round becomes risen s)) 1 0) (cond (has_acted sub s) 1 0 + cond (becomes s) (cond (is_named sub s) 1 0) 0)
@@ -179,7 +179,7 @@ round_acts w sub h = round_list w sub (is_ready w) (filter (is_ready w) w.subs) 
 
 round_fresh : (w : World) → list_all is_fresh w.subs ≡ true → list_all is_fresh (round w).subs ≡ true
 unfolding round
-round_fresh w h = all_map (after_round (is_ready w) (ready w)) is_fresh w.subs (λ s. fresh_after (is_ready w s) (is_active s && list_any (is_on s.image.id) (ready w)) s) h
+round_fresh w h = all_map (after_round (is_ready w) (ready w)) is_fresh w.subs (λ s. fresh_after (is_ready w s) (is_active s && list_any (is_on s.submitted.id) (ready w)) s) h
 
 rounds_act : (n : ℕ) (w : World) (sub : Sub) → list_all is_fresh w.subs ≡ true
     → count_by (has_acted sub) (rounds n w).subs ≡ count_by (has_acted sub) w.subs + count_by (same_sub sub) (activated_over n w)
@@ -258,7 +258,7 @@ record HasNames (subs : List Submission) : Type 0 where
   one : (sub : Sub) → count_by (is_named sub) subs ≤ 1
   ordered : (sub : Sub) → count_by (is_by sub.client) subs < sub.ordinal → count_by (is_named sub) subs ≡ 0
 
-names_kept : (xs ys : List Submission) → images_of xs ≡ images_of ys → HasNames ys → HasNames xs
+names_kept : (xs ys : List Submission) → frames_of xs ≡ frames_of ys → HasNames ys → HasNames xs
 names_kept xs ys e h =
     record {
       one = λ sub. omega (arith, h.one sub, count_kept (λ i. same_sub sub i.sub) xs ys e);
@@ -267,22 +267,22 @@ names_kept xs ys e h =
           omega (arith, h.ordered sub (omega (arith, less, by)), count_kept (λ i. same_sub sub i.sub) xs ys e);
     }
 
-module _ (subs : List Submission) (new : Submission) (is : new.image.sub.ordinal ≡ count_by (is_by new.image.sub.client) subs + 1) (h : HasNames subs) where
+module _ (subs : List Submission) (new : Submission) (is : new.submitted.sub.ordinal ≡ count_by (is_by new.submitted.sub.client) subs + 1) (h : HasNames subs) where
   one_more : (sub : Sub) (t : Bool) → is_named sub new ≡ t → count_by (is_named sub) subs + cond t 1 0 ≤ 1
   one_more sub true e =
-      let both = and_parts (sub.client == new.image.sub.client) (sub.ordinal == new.image.sub.ordinal) e in
-      let client = ap (λ c. count_by (is_by c) subs) (eqb-true sub.client new.image.sub.client both.0) in
-      let ordinal = eqb-true sub.ordinal new.image.sub.ordinal both.1 in
+      let both = and_parts (sub.client == new.submitted.sub.client) (sub.ordinal == new.submitted.sub.ordinal) e in
+      let client = ap (λ c. count_by (is_by c) subs) (eqb-true sub.client new.submitted.sub.client both.0) in
+      let ordinal = eqb-true sub.ordinal new.submitted.sub.ordinal both.1 in
       omega (arith, h.ordered sub (omega (arith, client, ordinal, is)))
   one_more sub false e = omega (arith, h.one sub)
 
   ordered_more : (sub : Sub) (t : Bool) → is_named sub new ≡ t → count_by (is_by sub.client) subs + cond (is_by sub.client new) 1 0 < sub.ordinal → count_by (is_named sub) subs + cond t 1 0 ≡ 0
   ordered_more sub true e less =
-      let both = and_parts (sub.client == new.image.sub.client) (sub.ordinal == new.image.sub.ordinal) e in
-      let same = eqb-true sub.client new.image.sub.client both.0 in
+      let both = and_parts (sub.client == new.submitted.sub.client) (sub.ordinal == new.submitted.sub.ordinal) e in
+      let same = eqb-true sub.client new.submitted.sub.client both.0 in
       let client = ap (λ c. count_by (is_by c) subs) same in
-      let ordinal = eqb-true sub.ordinal new.image.sub.ordinal both.1 in
-      let own : ◌≡◌ {A = ℕ} (cond (is_by sub.client new) 1 0) 1 = ap {B = ℕ} (λ (b : Bool). cond b 1 0) (eq-eqb new.image.sub.client sub.client (sym same)) in
+      let ordinal = eqb-true sub.ordinal new.submitted.sub.ordinal both.1 in
+      let own : ◌≡◌ {A = ℕ} (cond (is_by sub.client new) 1 0) 1 = ap {B = ℕ} (λ (b : Bool). cond b 1 0) (eq-eqb new.submitted.sub.client sub.client (sym same)) in
       absurd (omega (arith, less, own, client, ordinal, is))
   ordered_more sub false e less = let plain = h.ordered sub (omega (arith, less)) in omega (arith, plain)
 
@@ -320,7 +320,7 @@ accepted_told w c local frame =
     let new : Submission = new_submission w c local frame in
     let drops : Submission → Bool = λ s. is_waiting s && is_on (id_of c local) s in
     let replaced : List Submission = map replace w.subs in
-    let images : images_of replaced ≡ images_of w.subs = images_kept replace w.subs (λ s. (dropped_rest (drops s) s).0) in
+    let active : frames_of replaced ≡ frames_of w.subs = frames_kept replace w.subs (λ s. (dropped_rest (drops s) s).0) in
     record {
       fed = λ sub. omega (arith, count_push (has_fed sub) replaced new, and_none (is_named sub new), count_map replace (has_fed sub) w.subs (λ s. (steady_fed sub).dropped (drops s) s));
       acted = λ sub. omega (
@@ -331,7 +331,7 @@ accepted_told w c local frame =
             let r = dropped_rest (drops s) s in ap (λ i. same_sub sub i.sub && (replace s).was_active) r.0 ∙ ap (λ b. is_named sub s && b) r.2),
       );
       fresh = λ h. list_all-append is_fresh replaced (new ∷ []) ∙ and_from (list_all is_fresh replaced) true (all_map replace is_fresh w.subs (λ s. fresh_dropped (drops s) s) h) refl;
-      names = λ h. names_more replaced new (ap (λ n. n + 1) (sym (count_kept (λ i. i.sub.client == c.number) replaced w.subs images))) (names_kept replaced w.subs images h);
+      names = λ h. names_more replaced new (ap (λ n. n + 1) (sym (count_kept (λ i. i.sub.client == c.number) replaced w.subs active))) (names_kept replaced w.subs active h);
     }
 
 client_told : (p : Plan) (w : World) (n : ℕ) → Keeps w (client_answer p w n)
@@ -408,7 +408,7 @@ steps_told p w h e i names is =
       fed = λ sub. omega (arith, feedback_more h e sub, ap (λ (x : Entry). count_by (λ f. same_sub sub f.sub) x.effects.fed) is, i.fed sub, outcome_fed presented a sub, k.fed sub);
       acted = λ sub. omega (arith, activations_more h e sub, ap (λ (x : Entry). count_by (same_sub sub) x.effects.activated) is, i.acted sub, outcome_acts presented a sub (k.fresh i.fresh), k.acted sub);
       fresh = outcome_fresh presented a (k.fresh i.fresh);
-      names = names_kept (outcome_of presented a).world.subs a.world.subs (outcome_images presented a) (k.names i.names);
+      names = names_kept (outcome_of presented a).world.subs a.world.subs (outcome_frames presented a) (k.names i.names);
     }
 
 opening_told : (p : Plan) → Told (opening p) []
@@ -513,17 +513,17 @@ unfed_named w sub x = count_by (same_sub sub) (unfed_of w x)
 
 unfed_own : (w : World) (sub : Sub) (x : Client) → x.number ≡ sub.client → unfed_named w sub x ≡ count_by (λ s. is_named sub s && not s.fed) w.subs
 unfed_own w sub x e =
-    count_filtered sub_of (same_sub sub) (λ s. (s.image.sub.client == x.number) && not s.fed) w.subs
-    ∙ count_alike (λ s. ((s.image.sub.client == x.number) && not s.fed) && is_named sub s) (λ s. is_named sub s && not s.fed) w.subs (λ s.
-    regroup (s.image.sub.client == x.number) s.fed (sub.client == s.image.sub.client) (sub.ordinal == s.image.sub.ordinal) (λ t.
-    eq-eqb s.image.sub.client x.number (sym (eqb-true sub.client s.image.sub.client t) ∙ sym e)))
+    count_filtered sub_of (same_sub sub) (λ s. (s.submitted.sub.client == x.number) && not s.fed) w.subs
+    ∙ count_alike (λ s. ((s.submitted.sub.client == x.number) && not s.fed) && is_named sub s) (λ s. is_named sub s && not s.fed) w.subs (λ s.
+    regroup (s.submitted.sub.client == x.number) s.fed (sub.client == s.submitted.sub.client) (sub.ordinal == s.submitted.sub.ordinal) (λ t.
+    eq-eqb s.submitted.sub.client x.number (sym (eqb-true sub.client s.submitted.sub.client t) ∙ sym e)))
 
 unfed_other : (w : World) (sub : Sub) (x : Client) → (x.number == sub.client) ≡ false → unfed_named w sub x ≡ 0
 unfed_other w sub x e =
-    count_filtered sub_of (same_sub sub) (λ s. (s.image.sub.client == x.number) && not s.fed) w.subs
-    ∙ count_never (λ s. ((s.image.sub.client == x.number) && not s.fed) && is_named sub s) w.subs (λ s.
-    never_both (s.image.sub.client == x.number) s.fed (sub.client == s.image.sub.client) (sub.ordinal == s.image.sub.ordinal) (λ t.
-    ne_eqb sub.client s.image.sub.client (λ k. eqb-false x.number sub.client e (sym (eqb-true s.image.sub.client x.number t) ∙ sym k))))
+    count_filtered sub_of (same_sub sub) (λ s. (s.submitted.sub.client == x.number) && not s.fed) w.subs
+    ∙ count_never (λ s. ((s.submitted.sub.client == x.number) && not s.fed) && is_named sub s) w.subs (λ s.
+    never_both (s.submitted.sub.client == x.number) s.fed (sub.client == s.submitted.sub.client) (sub.ordinal == s.submitted.sub.ordinal) (λ t.
+    ne_eqb sub.client s.submitted.sub.client (λ k. eqb-false x.number sub.client e (sym (eqb-true s.submitted.sub.client x.number t) ∙ sym k))))
 
 -- of each name as many stand in the rest as had no feedback
 rest_named : (w : World) (sub : Sub) (x : Client) → Rising number_of w.clients → client_at w sub.client ≡ Some x
@@ -539,7 +539,7 @@ one_either true = refl
 one_either false = refl
 
 -- the client of a submission is one of the plan
-client_named : (p : Plan) (h : List Entry) (n : ℕ) (i : Image) → Legal p h → IsAcceptance p h n i → NamesClient p (event.Client i.sub.client)
+client_named : (p : Plan) (h : List Entry) (n : ℕ) (i : FrameData) → Legal p h → IsAcceptance p h n i → NamesClient p (event.Client i.sub.client)
 client_named p h n i l a = subst (NamesClient p) a.mine (legal-at p a.before a.behind a.entry (subst (Legal p) a.stands l)).0
 
 module _ (p : Plan) (h : List Entry) (l : Legal p h) (n : ℕ) (s : Submission) (at : slice_get (world p h).subs n ≡ Some s) (told : Told (world p h) h) where
@@ -553,7 +553,7 @@ module _ (p : Plan) (h : List Entry) (l : Legal p h) (n : ℕ) (s : Submission) 
   unfolding rest_of
   rest_is =
       let numbers = numbers_are p h l in
-      let there = client_there p w s.image.sub.client numbers (client_named p h n s.image l (acceptances_are p h n s l at)) in
+      let there = client_there p w s.submitted.sub.client numbers (client_named p h n s.submitted l (acceptances_are p h n s l at)) in
       rest_named w (sub_of s) there.0 (numbers_rise p w numbers) there.1
       ∙ one_passes (is_named (sub_of s)) (λ x. not x.fed) w.subs n s at (own_name s) (told.names.one (sub_of s))
 

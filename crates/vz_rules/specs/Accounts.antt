@@ -16,7 +16,7 @@ use Rattle.vz_rules.specs.declared.entry.Reply.{Reply}
 use Rattle.vz_rules.specs.declared.entry.Reply.TheVariants as reply
 use Rattle.vz_rules.specs.declared.entry.Returned.{Returned}
 use Rattle.vz_rules.specs.declared.entry.Entry.{Entry}
-use Rattle.vz_rules.specs.World.{World, Client, Resource, Image, Submission, client_at, resource_in, file_of, is_waiting, sub_of, has_sub}
+use Rattle.vz_rules.specs.World.{World, Client, Resource, FrameData, Submission, client_at, resource_in, file_of, is_waiting, sub_of, has_sub}
 use Rattle.vz_rules.specs.Settle.{has_come}
 use Rattle.vz_rules.specs.Returns.{is_held}
 use Rattle.vz_rules.specs.Messages.{Answer, refused, message_answer}
@@ -70,7 +70,7 @@ accepts e = elim e.reply [ reply.Accepted ordinal index ↦ true | _ ↦ false ]
 
 -- the entry that accepted the submission at this place, behind as many that accept: its client took the frame from its
 -- file, and the reply tells the numbers
-pub record IsAcceptance (p : Plan) (h : List Entry) (n : ℕ) (i : Image) : Type 0 where
+pub record IsAcceptance (p : Plan) (h : List Entry) (n : ℕ) (i : FrameData) : Type 0 where
   pub before : List Entry
   pub behind : List Entry
   pub entry : Entry

@@ -1,13 +1,13 @@
 -- The walk through a scene with another number of levels of surfaces.
 use Rattle.std.specs.Prelude.{ℕ, Some, None, List, [], ◌∷◌}
 use Rattle.vz_geom.specs.declared.Size.{Size}
-use Rattle.vz_rules.specs.World.{Scene, image_on}
-use Rattle.vz_rules.specs.Walk.{Meeting, Enters, whole, walk}
+use Rattle.vz_rules.specs.World.{Scene, frame_on}
+use Rattle.vz_rules.specs.Walk.{Visit, Enters, whole, walk}
 
 -- the walk from the root pass of the root, over so many levels of surfaces
-unfoldable pub walk_over : ℕ → Size → Scene → List Meeting
+unfoldable pub walk_over : ℕ → Size → Scene → List Visit
 walk_over n size scene =
-    elim (image_on scene.root scene.images) [
+    elim (frame_on scene.root scene.active) [
       | None ↦ []
-      | Some i ↦ Enters 1 i (whole size) ∷ walk n scene.images [] i (whole size)
+      | Some i ↦ Enters 1 i (whole size) ∷ walk n scene.active [] i (whole size)
     ]

@@ -10,7 +10,7 @@ use Rattle.vz_rules.specs.declared.entry.State.TheVariants.{Active, Past}
 abbrev pub as_one_rises : Submission → Submission → Submission
 as_one_rises s t =
     if same_sub (sub_of t) (sub_of s) then record t { state = Active; was_active = true }
-    else (if is_active t && is_on s.image.id t then record t { state = Past } else t)
+    else (if is_active t && is_on s.submitted.id t then record t { state = Past } else t)
 
 -- a submission becomes active, and the earlier surfaces of its client are marked
 unfoldable pub rising : Submission → World → World

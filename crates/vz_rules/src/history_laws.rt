@@ -35,7 +35,7 @@ pub fn submissions_are_those_accepted()
     ensures count { (p : Plan) (h : List Entry) → Legal p h
         → length (world p h).subs ≡ count_by accepts h }
     ensures order { (p : Plan) (h : List Entry) (n : ℕ) (s : Submission) → Legal p h
-        → slice_get (world p h).subs n ≡ Some s → IsAcceptance p h n s.image }
+        → slice_get (world p h).subs n ≡ Some s → IsAcceptance p h n s.submitted }
 {}
 
 /// The accounts of each client's resources agree with the history: what was lent, queued,

@@ -15,9 +15,9 @@ ghost use Rattle.vz_rules.specs.declared.entry.Event.TheVariants as event;
 ghost use Rattle.vz_rules.specs.declared.entry.Refusal.{Refusal};
 ghost use Rattle.vz_rules.specs.declared.entry.Returned.{Returned};
 ghost use Rattle.vz_rules.specs.Plan.{Plan, IsPlan};
-ghost use Rattle.vz_rules.specs.World.{World, Client, Created, Image, Resource, Submission, opening, active_images, image_on, is_waiting, is_active, is_in_flight, last_created, exists, sub_of};
+ghost use Rattle.vz_rules.specs.World.{World, Client, Created, FrameData, Resource, Submission, opening, active_frames, frame_on, is_waiting, is_active, is_in_flight, last_created, exists, sub_of};
 ghost use Rattle.vz_rules.specs.Scene.{shown, in_range, after_start};
-ghost use Rattle.vz_rules.specs.Settle.{met, ready, has_come, round, settle};
+ghost use Rattle.vz_rules.specs.Settle.{is_met, ready, has_come, round, settle};
 ghost use Rattle.vz_rules.specs.Reach.{has_id, reach, lost_in, naming, clearing, collect};
 ghost use Rattle.vz_rules.specs.Returns.{is_held, give_back, feed};
 ghost use Rattle.vz_rules.specs.Messages.{Answer, refused, taking, answer_tick, reclaim, upload_answer, hierarchy_answer, await_answer};
@@ -86,12 +86,12 @@ pub fn surfaces_are_owned()
     ensures sinks { (w : World) (s t : Created) → KeepsAlways w → Contains w.surfaces s
         → Contains w.surfaces t → IsTrue (same_sink s.id.sink t.id.sink) → s.client ≡ t.client }
     ensures submissions { (w : World) (s t : Submission) → KeepsAlways w → Contains w.subs s
-        → Contains w.subs t → IsTrue (same_surface s.image.id t.image.id)
-        → s.image.sub.client ≡ t.image.sub.client }
+        → Contains w.subs t → IsTrue (same_surface s.submitted.id t.submitted.id)
+        → s.submitted.sub.client ≡ t.submitted.sub.client }
     ensures last { (w : World) (c : ℕ) (s t : Created) → KeepsAlways w → last_created w c ≡ Some s
         → Contains w.surfaces t → t.client ≡ c → t.number ≤ s.number }
     ensures seen { (w : World) (s : Submission) → KeepsAlways w → Contains w.subs s
-        → IsTrue (is_active s) → image_on s.image.id (active_images w.subs) ≡ Some s.image }
+        → IsTrue (is_active s) → frame_on s.submitted.id (active_frames w.subs) ≡ Some s.submitted }
 {}
 
 /// No number gets great.
@@ -120,16 +120,17 @@ pub fn lists_are_short()
 /// A surface has one size, that of each frame accepted on it, and blocks have the sides of blocks.
 pub fn sizes_are_kept()
     ensures surface { (w : World) (s : Submission) (c : Created) → KeepsAlways w → KeepsMessages w
-        → Contains w.subs s → Contains w.surfaces c → IsTrue (same_surface c.id s.image.id)
-        → c.size ≡ frame_size s.image.frame }
+        → Contains w.subs s → Contains w.surfaces c → IsTrue (same_surface c.id s.submitted.id)
+        → c.size ≡ frame_size s.submitted.frame }
     ensures frames { (w : World) (s t : Submission) → KeepsAlways w → KeepsMessages w
-        → Contains w.subs s → Contains w.subs t → IsTrue (same_surface s.image.id t.image.id)
-        → frame_size s.image.frame ≡ frame_size t.image.frame }
+        → Contains w.subs s → Contains w.subs t
+        → IsTrue (same_surface s.submitted.id t.submitted.id)
+        → frame_size s.submitted.frame ≡ frame_size t.submitted.frame }
     ensures stored { (w : World) (c : Client) (s : Resource) → KeepsMessages w
         → Contains w.clients c
         → Contains c.resources s → IsBlock s.block }
     ensures listed { (w : World) (s : Submission) (b : Block) → KeepsMessages w → Contains w.subs s
-        → Contains s.image.blocks b → IsBlock b }
+        → Contains s.submitted.blocks b → IsBlock b }
 {}
 
 /// What was lent is queued or out, what was queued is reclaimed or stands in the queue, and
@@ -148,11 +149,12 @@ pub fn references_are_counted()
 /// Destroying what is not reached changes nothing of what is reached, so that one collection is
 /// enough. What is reached exists.
 pub fn one_collection_is_enough()
-    ensures shown { (w : World) (id : SurfaceId) (i : Image) (range : SurfaceRange) → KeepsAlways w
-        → IsTrue (has_id (reach w) id) → image_on id (active_images w.subs) ≡ Some i
+    ensures shown { (w : World) (id : SurfaceId) (i : FrameData) (range : SurfaceRange)
+        → KeepsAlways w
+        → IsTrue (has_id (reach w) id) → frame_on id (active_frames w.subs) ≡ Some i
         → Contains i.frame.metadata.references range → shown (clearing w) range ≡ shown w range }
-    ensures image { (w : World) (id : SurfaceId) → IsTrue (has_id (reach w) id)
-        → image_on id (active_images (clearing w).subs) ≡ image_on id (active_images w.subs) }
+    ensures submitted { (w : World) (id : SurfaceId) → IsTrue (has_id (reach w) id)
+        → frame_on id (active_frames (clearing w).subs) ≡ frame_on id (active_frames w.subs) }
     ensures reached { (w : World) (id : SurfaceId) → KeepsAlways w
         → has_id (reach (clearing w)) id ≡ has_id (reach w) id }
     ensures once { (w : World) → KeepsAlways w → collect (collect w) ≡ collect w }
@@ -167,7 +169,7 @@ pub fn nothing_is_late()
         → IsTrue (is_waiting s)
         → IsFalse (has_come w s) }
     ensures due { (w : World) (s : Submission) → Keeps w → Contains w.subs s → IsTrue (is_waiting s)
-        → IsFalse (list_all (met w) s.image.frame.metadata.dependencies) × (w.tick < s.due) }
+        → IsFalse (list_all (is_met w) s.submitted.frame.metadata.dependencies) × (w.tick < s.due) }
     ensures marked { (w : World) (s : Created) → Keeps w → Contains w.surfaces s → IsTrue s.marked
         → IsFalse s.destroyed → IsTrue (has_id (reach w) s.id) }
     ensures unfed { (w : World) (s : Submission) → Keeps w → Contains w.subs s → IsFalse s.fed
@@ -223,26 +225,28 @@ pub fn groups_are_chains()
         → Contains w.surfaces t → IsTrue (same_group s.id t.id)
         → IsTrue (at_least s.id t.id) ⊎ IsTrue (at_least t.id s.id) }
     ensures submissions { (w : World) (s t : Submission) → KeepsAlways w → Contains w.subs s
-        → Contains w.subs t → IsTrue (same_group s.image.id t.image.id)
-        → IsTrue (at_least s.image.id t.image.id) ⊎ IsTrue (at_least t.image.id s.image.id) }
+        → Contains w.subs t → IsTrue (same_group s.submitted.id t.submitted.id)
+        → IsTrue (at_least s.submitted.id t.submitted.id)
+        ⊎ IsTrue (at_least t.submitted.id s.submitted.id) }
 {}
 
 /// A range shows the active surface at its end or older that is newer than all others there; where
 /// there is none, that at its start or newer; and else none.
 pub fn ranges_show_the_newest()
-    ensures end { (w : World) (range : SurfaceRange) (i : Image) → KeepsAlways w
-        → Contains (active_images w.subs) i → IsTrue (in_range range i) → ((j : Image)
-        → Contains (active_images w.subs) j → IsTrue (in_range range j)
+    ensures end { (w : World) (range : SurfaceRange) (i : FrameData) → KeepsAlways w
+        → Contains (active_frames w.subs) i → IsTrue (in_range range i) → ((j : FrameData)
+        → Contains (active_frames w.subs) j → IsTrue (in_range range j)
         → (j ≡ i) ⊎ IsTrue (newer i.id.local j.id.local)) → shown w range ≡ Some i.id }
-    ensures start { (w : World) (range : SurfaceRange) (i : Image) → KeepsAlways w → ((j : Image)
-        → Contains (active_images w.subs) j → IsFalse (in_range range j))
-        → Contains (active_images w.subs) i → IsTrue (after_start range.start range.end i)
-        → ((j : Image) → Contains (active_images w.subs) j
+    ensures start { (w : World) (range : SurfaceRange) (i : FrameData) → KeepsAlways w
+        → ((j : FrameData)
+        → Contains (active_frames w.subs) j → IsFalse (in_range range j))
+        → Contains (active_frames w.subs) i → IsTrue (after_start range.start range.end i)
+        → ((j : FrameData) → Contains (active_frames w.subs) j
         → IsTrue (after_start range.start range.end j)
         → (j ≡ i) ⊎ IsTrue (newer i.id.local j.id.local)) → shown w range ≡ Some i.id }
-    ensures neither { (w : World) (range : SurfaceRange) → ((j : Image)
-        → Contains (active_images w.subs) j → IsFalse (in_range range j)) → ((j : Image)
-        → Contains (active_images w.subs) j → IsFalse (after_start range.start range.end j))
+    ensures neither { (w : World) (range : SurfaceRange) → ((j : FrameData)
+        → Contains (active_frames w.subs) j → IsFalse (in_range range j)) → ((j : FrameData)
+        → Contains (active_frames w.subs) j → IsFalse (after_start range.start range.end j))
         → shown w range ≡ None }
 {}
 

@@ -1,10 +1,10 @@
--- The smallest rectangle round some in reach, and the damages of images from one on.
+-- The smallest rectangle round some in reach, and the damages of frames from one on.
 use Rattle.std.proofs.Common.{◌≡◌, ℕ, ℤ, pos, ◌+◌, ◌+ℤ◌, ◌-ℤ◌, ◌<◌, ◌≤◌, int_lt, Bool, true, false, cond, ◌||◌, List, ◌∷◌, map, filter, drop, length, get_or, sym, ap, ◌∙◌, arith, if◌then◌else◌}
 use Rattle.std.specs.Int.{int_min, int_max}
 use Rattle.std.proofs.lemmas.Int.{ints, clamps}
 use Rattle.std.proofs.lemmas.List.{drop_all, drop_more}
 use Rattle.vz_geom.specs.Rectangle.{Rectangle, is_empty_rect, no_rectangle, with_sides, hull, join, bound}
-use Rattle.vz_rules.specs.World.{Image}
+use Rattle.vz_rules.specs.World.{FrameData}
 use Rattle.vz_rules.specs.Damage.{root_damage, is_between}
 use Rattle.vz_scene.specs.Limits.{IsInReach}
 
@@ -52,12 +52,12 @@ join_in_reach a b p q = by_tests (is_empty_rect a) (is_empty_rect b)
     by_tests false true = p
     by_tests false false = hull_in_reach a b p q
 
--- the damages of those images from a place on that are between
-abbrev pub damages_from : ℕ → Image → List Image → ℕ → List Rectangle
-damages_from from i accepted k = map (λ (j : Image). root_damage j.frame) (filter (is_between from i) (drop k accepted))
+-- the damages of those frames from a place on that are between
+abbrev pub damages_from : ℕ → FrameData → List FrameData → ℕ → List Rectangle
+damages_from from i accepted k = map (λ (j : FrameData). root_damage j.frame) (filter (is_between from i) (drop k accepted))
 
 -- one more to the front that is between
-pub damages_step : (from : ℕ) (i : Image) (accepted : List Image) (k m : ℕ) (d : Image) (best new r : Rectangle) → m + 1 ≡ k → m < length accepted → is_between from i (get_or accepted m d) ≡ true
+pub damages_step : (from : ℕ) (i : FrameData) (accepted : List FrameData) (k m : ℕ) (d : FrameData) (best new r : Rectangle) → m + 1 ≡ k → m < length accepted → is_between from i (get_or accepted m d) ≡ true
     → best ≡ bound (damages_from from i accepted k) → r ≡ root_damage (get_or accepted m d).frame → new ≡ join r best → new ≡ bound (damages_from from i accepted m)
 unfolding bound
 damages_step from i accepted k m d best new r e h between was damage is =
@@ -65,20 +65,20 @@ damages_step from i accepted k m d best new r e h between was damage is =
     let front : drop m accepted ≡ j ∷ drop k accepted = drop_more accepted m d h ∙ ap (λ n. j ∷ drop n accepted) e in
     let chosen : filter (is_between from i) (j ∷ drop k accepted) ≡ j ∷ filter (is_between from i) (drop k accepted) =
     ap (λ t. cond t (j ∷ filter (is_between from i) (drop k accepted)) (filter (is_between from i) (drop k accepted))) between in
-    let all : damages_from from i accepted m ≡ root_damage j.frame ∷ damages_from from i accepted k = ap (λ l. map (λ (j : Image). root_damage j.frame) l) (ap (filter (is_between from i)) front ∙ chosen) in
+    let all : damages_from from i accepted m ≡ root_damage j.frame ∷ damages_from from i accepted k = ap (λ l. map (λ (j : FrameData). root_damage j.frame) l) (ap (filter (is_between from i)) front ∙ chosen) in
     is ∙ (ap (λ x. join x best) damage ∙ (ap (join (root_damage j.frame)) was ∙ sym (ap bound all)))
 
 -- one that is not
-pub damages_skip : (from : ℕ) (i : Image) (accepted : List Image) (k m : ℕ) (d : Image) (best : Rectangle) → m + 1 ≡ k → m < length accepted → is_between from i (get_or accepted m d) ≡ false
+pub damages_skip : (from : ℕ) (i : FrameData) (accepted : List FrameData) (k m : ℕ) (d : FrameData) (best : Rectangle) → m + 1 ≡ k → m < length accepted → is_between from i (get_or accepted m d) ≡ false
     → best ≡ bound (damages_from from i accepted k) → best ≡ bound (damages_from from i accepted m)
 damages_skip from i accepted k m d best e h between was =
     let j = get_or accepted m d in
     let front : drop m accepted ≡ j ∷ drop k accepted = drop_more accepted m d h ∙ ap (λ n. j ∷ drop n accepted) e in
     let chosen : filter (is_between from i) (j ∷ drop k accepted) ≡ filter (is_between from i) (drop k accepted) =
     ap (λ t. cond t (j ∷ filter (is_between from i) (drop k accepted)) (filter (is_between from i) (drop k accepted))) between in
-    was ∙ sym (ap (λ l. bound (map (λ (j : Image). root_damage j.frame) l)) (ap (filter (is_between from i)) front ∙ chosen))
+    was ∙ sym (ap (λ l. bound (map (λ (j : FrameData). root_damage j.frame) l)) (ap (filter (is_between from i)) front ∙ chosen))
 
 -- behind the last there is none
-pub damages_none : (from : ℕ) (i : Image) (accepted : List Image) (k : ℕ) → length accepted ≤ k → no_rectangle ≡ bound (damages_from from i accepted k)
+pub damages_none : (from : ℕ) (i : FrameData) (accepted : List FrameData) (k : ℕ) → length accepted ≤ k → no_rectangle ≡ bound (damages_from from i accepted k)
 unfolding bound
-damages_none from i accepted k h = sym (ap (λ l. bound (map (λ (j : Image). root_damage j.frame) (filter (is_between from i) l))) (drop_all k accepted h))
+damages_none from i accepted k h = sym (ap (λ l. bound (map (λ (j : FrameData). root_damage j.frame) (filter (is_between from i) l))) (drop_all k accepted h))

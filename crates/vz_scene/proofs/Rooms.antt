@@ -7,9 +7,9 @@ use Rattle.vz_geom.specs.declared.Size.{Size}
 use Rattle.vz_geom.specs.Rectangle.{IsOffset, IsNear, plus, minus, corner, with_sides, sized}
 use Rattle.vz_frame.specs.declared.frame.RenderPass.{RenderPass}
 use Rattle.vz_frame.specs.declared.frame.DrawQuad.{DrawQuad}
-use Rattle.vz_rules.specs.Plan.{IsDisplaySize}
-use Rattle.vz_rules.specs.Walk.{Place}
-use Rattle.vz_rules.specs.World.{Image}
+use Rattle.vz_geom.specs.Display.{IsDisplaySize}
+use Rattle.vz_rules.specs.Walk.{Placement}
+use Rattle.vz_rules.specs.World.{FrameData}
 use Rattle.vz_scene.specs.Limits.{FitsFile, HasRoom, IsQuadInReach, room_for}
 use Rattle.vz_scene.specs.Walking.{IsBounded}
 use Rattle.vz_scene.proofs.Fitting.{few_passes}
@@ -39,7 +39,7 @@ near_of_room p h =
     record { left = omega (arith, ints); right = omega (arith, ints); top = omega (arith, ints); bottom = omega (arith, ints) }
 
 -- a place or a point that is another has its room
-pub place_room : (far : ℕ) (a b : Place) → a ≡ b → HasRoom far b.shift → HasRoom far a.shift
+pub place_room : (far : ℕ) (a b : Placement) → a ≡ b → HasRoom far b.shift → HasRoom far a.shift
 place_room far a b e h = rw e h
 
 pub point_room : (far : ℕ) (a b : Point) → a ≡ b → HasRoom far b → HasRoom far a
@@ -59,7 +59,7 @@ unfolding with_sides
 display_sized size h = rw (not_less size.w (pos 1) h.wide, not_less size.h (pos 1) h.high)
 
 -- a surface that is gone into, with one left less
-pub enter_bounded : (levels : ℕ) (i : Image) (passes : List RenderPass) (place : Place) → passes ≡ i.frame.passes → FitsFile i.frame → 0 < levels → 0 < length passes → HasRoom (room_for levels 0) place.shift
+pub enter_bounded : (levels : ℕ) (i : FrameData) (passes : List RenderPass) (place : Placement) → passes ≡ i.frame.passes → FitsFile i.frame → 0 < levels → 0 < length passes → HasRoom (room_for levels 0) place.shift
     → IsBounded (levels - 1) i (length passes - 1) place
 enter_bounded levels i passes place e fits some_levels some_passes h =
     let same = ap length e in
@@ -67,13 +67,13 @@ enter_bounded levels i passes place e fits some_levels some_passes h =
     record { there = omega arith; room = room_less (room_for levels 0) (room_for (levels - 1) (length passes - 1 + 1)) place.shift h (omega arith) }
 
 -- a pass before that of a cursor
-pub group_bounded : (levels : ℕ) (i : Image) (passes : List RenderPass) (k pass : ℕ) (place : Place) (first : Point) → passes ≡ i.frame.passes → k < pass → pass < length i.frame.passes → IsOffset first
+pub group_bounded : (levels : ℕ) (i : FrameData) (passes : List RenderPass) (k pass : ℕ) (place : Placement) (first : Point) → passes ≡ i.frame.passes → k < pass → pass < length i.frame.passes → IsOffset first
     → HasRoom (room_for levels pass + 16384) place.shift → IsBounded levels i k (record place { shift = minus place.shift first })
 group_bounded levels i passes k pass place first e before within is h =
     record { there = omega arith; room = room_minus (room_for levels pass + 16384) (room_for levels (k + 1)) place.shift first h is (omega arith) }
 
 -- what a quad draws has room for the passes before and all surfaces that are left
-pub drawn_room : (levels pass : ℕ) (place : Place) (quad : DrawQuad) → HasRoom (room_for levels (pass + 1)) place.shift → IsQuadInReach quad
+pub drawn_room : (levels pass : ℕ) (place : Placement) (quad : DrawQuad) → HasRoom (room_for levels (pass + 1)) place.shift → IsQuadInReach quad
     → HasRoom (room_for levels pass + 16384) (plus (plus place.shift quad.offset) (corner quad.area))
 drawn_room levels pass place quad h is =
     let moved = room_plus (room_for levels (pass + 1)) (room_for levels pass + 32768) place.shift quad.offset h is.moves (omega arith) in

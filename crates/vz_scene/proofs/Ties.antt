@@ -6,8 +6,8 @@ use Rattle.std.specs.BTreeMap.{BTreeMap, get}
 use Rattle.std.specs.BTreeSet.{BTreeSet, contains}
 use Rattle.std.proofs.lemmas.List.{drop_more}
 use Rattle.std.proofs.lemmas.List.Folds.{list_any-append}
-use Rattle.vz_rules.specs.World.{Image, Aggregation}
-use Rattle.vz_rules.specs.Damage.{same_met, shows_other, is_switched}
+use Rattle.vz_rules.specs.World.{FrameData, Aggregation}
+use Rattle.vz_rules.specs.Damage.{of_same_range, shows_other, is_switched}
 use Rattle.vz_rules.specs.Closure.{adding}
 use Rattle.vz_scene.specs.declared.key.RangeKey.{RangeKey}
 use Rattle.std.specs.Ordering.{is_eq, ordering_then, nat_cmp}
@@ -52,7 +52,7 @@ group_ties a b =
     both_tie _ _ _ _ (both_tie _ _ _ _ (nat_ties a.sink.client_id b.sink.client_id) (nat_ties a.sink.sink_id b.sink.sink_id)) (nat_ties a.local.token.0 b.local.token.0)
 
 -- by surface and number
-pub frame_ties : (i j : Image) → is_eq (by_frame (frame_key i) (frame_key j)) ≡ (same_surface i.id j.id && (i.index == j.index))
+pub frame_ties : (i j : FrameData) → is_eq (by_frame (frame_key i) (frame_key j)) ≡ (same_surface i.id j.id && (i.index == j.index))
 frame_ties i j = both_tie _ _ _ _ (surface_ties i.id j.id) (nat_ties i.index j.index)
 
 start_ties : (a b : Option SurfaceId) → is_eq (option_cmp by_surface a b) ≡ same_start a b
@@ -157,25 +157,25 @@ not_true true e = absurd (cc)
 
 -- a pair whose range was not seen is added
 pub once_added : (all once newer pairs : List Shown) (seen : BTreeSet RangeKey) (k : ℕ) (d : Shown) (key : RangeKey) (added : Bool) → newer ≡ once ++ get_or pairs k d ∷ [] → k < length pairs → key ≡ key_of (get_or pairs k d).0
-    → added ≡ not (contains by_range seen key) → added ≡ true → ((q : Shown) → contains by_range seen (key_of q.0) ≡ list_any (same_met q) once)
-    → all ≡ adding same_met once (drop k pairs) → all ≡ adding same_met newer (drop (k + 1) pairs)
+    → added ≡ not (contains by_range seen key) → added ≡ true → ((q : Shown) → contains by_range seen (key_of q.0) ≡ list_any (of_same_range q) once)
+    → all ≡ adding of_same_range once (drop k pairs) → all ≡ adding of_same_range newer (drop (k + 1) pairs)
 once_added all once newer pairs seen k d key added new h is told new_one has e =
-    let fresh : list_any (same_met (get_or pairs k d)) once ≡ false = sym (has (get_or pairs k d)) ∙ (ap (contains by_range seen) (sym is) ∙ not_true _ (sym told ∙ new_one)) in
-    added_more same_met all once pairs k d h fresh e ∙ ap (λ l. adding same_met l (drop (k + 1) pairs)) (sym new)
+    let fresh : list_any (of_same_range (get_or pairs k d)) once ≡ false = sym (has (get_or pairs k d)) ∙ (ap (contains by_range seen) (sym is) ∙ not_true _ (sym told ∙ new_one)) in
+    added_more of_same_range all once pairs k d h fresh e ∙ ap (λ l. adding of_same_range l (drop (k + 1) pairs)) (sym new)
 
 -- and was then seen
 pub once_seen : (once newer pairs : List Shown) (old new : BTreeSet RangeKey) (k : ℕ) (d : Shown) (key : RangeKey) → newer ≡ once ++ get_or pairs k d ∷ [] → key ≡ key_of (get_or pairs k d).0
-    → ((q : RangeKey) → contains by_range new q ≡ cond (is_eq (by_range key q)) true (contains by_range old q)) → ((q : Shown) → contains by_range old (key_of q.0) ≡ list_any (same_met q) once)
-    → (q : Shown) → contains by_range new (key_of q.0) ≡ list_any (same_met q) newer
-once_seen once newer pairs old new k d key e is updates seen q = seen_more old new once (get_or pairs k d) key is updates seen q ∙ ap (list_any (same_met q)) (sym e)
+    → ((q : RangeKey) → contains by_range new q ≡ cond (is_eq (by_range key q)) true (contains by_range old q)) → ((q : Shown) → contains by_range old (key_of q.0) ≡ list_any (of_same_range q) once)
+    → (q : Shown) → contains by_range new (key_of q.0) ≡ list_any (of_same_range q) newer
+once_seen once newer pairs old new k d key e is updates seen q = seen_more old new once (get_or pairs k d) key is updates seen q ∙ ap (list_any (of_same_range q)) (sym e)
 
 -- a pair whose range was seen is not added
 pub once_again : (all once pairs : List Shown) (seen : BTreeSet RangeKey) (k : ℕ) (d : Shown) (key : RangeKey) → k < length pairs → key ≡ key_of (get_or pairs k d).0 → contains by_range seen key ≡ true
-    → ((q : Shown) → contains by_range seen (key_of q.0) ≡ list_any (same_met q) once) → all ≡ adding same_met once (drop k pairs) → all ≡ adding same_met once (drop (k + 1) pairs)
+    → ((q : Shown) → contains by_range seen (key_of q.0) ≡ list_any (of_same_range q) once) → all ≡ adding of_same_range once (drop k pairs) → all ≡ adding of_same_range once (drop (k + 1) pairs)
 once_again all once pairs seen k d key h is there has e =
-    added_again same_met all once pairs k d h (sym (has (get_or pairs k d)) ∙ (ap (contains by_range seen) (sym is) ∙ there)) e
+    added_again of_same_range all once pairs k d h (sym (has (get_or pairs k d)) ∙ (ap (contains by_range seen) (sym is) ∙ there)) e
 
-found_shows : (o : Option Shown) (before : Option SurfaceId) (now : Option Image) → Some before ≡ option_map (λ (x : Shown). x.1) o → shows_other before now ≡ (elim o [ Some x ↦ shows_other x.1 now | None ↦ true ])
+found_shows : (o : Option Shown) (before : Option SurfaceId) (now : Option FrameData) → Some before ≡ option_map (λ (x : Shown). x.1) o → shows_other before now ≡ (elim o [ Some x ↦ shows_other x.1 now | None ↦ true ])
 found_shows None before now e = absurd (cc)
 found_shows (Some x) before now e = ap (λ b. shows_other b now) (some_same e)
   where
@@ -183,6 +183,6 @@ found_shows (Some x) before now e = ap (λ b. shows_other b now) (some_same e)
     some_same f = cc
 
 -- whether a range is switched, by what was found of it
-pub switched_is : (a : Aggregation) (shown : BTreeMap RangeKey (Option SurfaceId)) (r : SurfaceRange) (key : RangeKey) (before : Option SurfaceId) (now : Option Image) → HasShown shown a.ranges → key ≡ key_of r
+pub switched_is : (a : Aggregation) (shown : BTreeMap RangeKey (Option SurfaceId)) (r : SurfaceRange) (key : RangeKey) (before : Option SurfaceId) (now : Option FrameData) → HasShown shown a.ranges → key ≡ key_of r
     → Some before ≡ get by_range shown key → shows_other before now ≡ is_switched a r now
 switched_is a shown r key before now has is e = found_shows (find (λ (x : Shown). same_range x.0 r) a.ranges) before now (e ∙ (ap (get by_range shown) is ∙ has r))

@@ -1,5 +1,5 @@
 pub mod Walking
-pub mod Meetings
+pub mod Visits
 pub mod Counted
 pub mod Limits
 pub mod Order

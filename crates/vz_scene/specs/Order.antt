@@ -10,7 +10,7 @@ use Rattle.vz_ids.specs.contracts.SubOrd.TheImpl as sub_ord
 use Rattle.vz_ids.specs.contracts.SurfaceIdOrd.TheImpl as surface_ord
 use Rattle.vz_ids.specs.Ids.{same_surface, same_range}
 use Rattle.vz_geom.specs.Rectangle.{Rectangle}
-use Rattle.vz_rules.specs.World.{Image, Aggregation}
+use Rattle.vz_rules.specs.World.{FrameData, Aggregation}
 use Rattle.vz_rules.specs.Damage.{damage_since}
 use Rattle.vz_scene.specs.Limits.{IsInReach}
 use Rattle.vz_scene.specs.declared.key.FrameKey.{FrameKey}
@@ -34,8 +34,8 @@ by_range = (range_ord.ghosts).cmp
 abbrev pub by_frame : FrameKey → FrameKey → Ordering
 by_frame = (frame_ord.ghosts).cmp
 
--- the key of an image's frame
-abbrev pub frame_key : Image → FrameKey
+-- the key of a submitted frame
+abbrev pub frame_key : FrameData → FrameKey
 frame_key i = record { id = i.id; index = i.index }
 
 -- the key of a range
@@ -51,5 +51,5 @@ abbrev pub HasShown : {A : Type 0} → BTreeMap RangeKey A → List (SurfaceRang
 HasShown {A} m pairs = (r : SurfaceRange) → get by_range m (key_of r) ≡ option_map (λ (x : SurfaceRange × A). x.1) (find (λ (x : SurfaceRange × A). same_range x.0 r) pairs)
 
 -- what a map has for a frame is the damage on its surface since an aggregation, where these frames were accepted
-abbrev pub AreDamages : Aggregation → List Image → BTreeMap FrameKey Rectangle → Type 0
-AreDamages last accepted m = (i : Image) → IfSome (get by_frame m (frame_key i)) (λ (r : Rectangle). (r ≡ damage_since last accepted i) × IsInReach r)
+abbrev pub AreDamages : Aggregation → List FrameData → BTreeMap FrameKey Rectangle → Type 0
+AreDamages last accepted m = (i : FrameData) → IfSome (get by_frame m (frame_key i)) (λ (r : Rectangle). (r ≡ damage_since last accepted i) × IsInReach r)

@@ -5,70 +5,70 @@ use Rattle.vz_geom.specs.Rectangle.{minus, corner}
 use Rattle.vz_ids.specs.declared.SurfaceId.{SurfaceId}
 use Rattle.vz_frame.specs.declared.frame.RenderPass.{RenderPass}
 use Rattle.vz_frame.specs.declared.frame.DrawQuad.{DrawQuad}
-use Rattle.vz_rules.specs.World.{Image}
+use Rattle.vz_rules.specs.World.{FrameData}
 use Rattle.vz_scene.specs.Limits.{HasRoom, room_for}
-use Rattle.vz_rules.specs.Walk.{Place, Meeting, WalkRange, WalkNamed, quad_walked, pass_walked, groups_walked, range_walked, walk, too_much}
+use Rattle.vz_rules.specs.Walk.{Placement, Visit, WalkRange, WalkNamed, quad_walked, pass_walked, groups_walked, range_walked, walk, too_much}
 
--- quads that are still to be walked: in the pass at a place of an image's frame, from a quad on, behind the surfaces of a path and with so many surfaces left
+-- quads that are still to be walked: in the pass at a place of a submitted frame, from a quad on, behind the surfaces of a path and with so many surfaces left
 pub record Cursor : Type 0 where
   pub levels : ℕ
   pub path : List SurfaceId
-  pub image : Image
+  pub submitted : FrameData
   pub pass : ℕ
   pub quad : ℕ
-  pub place : Place
+  pub place : Placement
 
 -- the pass is there, and the place has room for it, those before it and all surfaces that are left
-pub record IsBounded (levels : ℕ) (image : Image) (pass : ℕ) (place : Place) : Type 0 where
-  pub there : pass < length image.frame.passes
+pub record IsBounded (levels : ℕ) (submitted : FrameData) (pass : ℕ) (place : Placement) : Type 0 where
+  pub there : pass < length submitted.frame.passes
   pub room : HasRoom (room_for levels (pass + 1)) place.shift
 
 -- what is met at a range behind the path of a cursor
-abbrev pub ranges_of : List Image → Cursor → WalkRange
-ranges_of images it = range_walked (walk it.levels images) images it.path
+abbrev pub ranges_of : List FrameData → Cursor → WalkRange
+ranges_of active it = range_walked (walk it.levels active) active it.path
 
 -- what is met in the passes before that of a cursor, by their ids
-abbrev pub named_of : List Image → Cursor → WalkNamed
-named_of images it = groups_walked (ranges_of images it) (reverse (take it.pass it.image.frame.passes))
+abbrev pub named_of : List FrameData → Cursor → WalkNamed
+named_of active it = groups_walked (ranges_of active it) (reverse (take it.pass it.submitted.frame.passes))
 
 -- what is met in a quad of a pass at a cursor
-abbrev pub walked_at : List Image → Cursor → RenderPass → DrawQuad → List Meeting
-walked_at images it pass quad = quad_walked (named_of images it) (ranges_of images it) pass it.place quad
+abbrev pub walked_at : List FrameData → Cursor → RenderPass → DrawQuad → List Visit
+walked_at active it pass quad = quad_walked (named_of active it) (ranges_of active it) pass it.place quad
 
 -- what is met in the quads of a pass from one on, in front of these passes
-abbrev pub quads_from : WalkRange → List RenderPass → ℕ → Place → ℕ → Option RenderPass → List Meeting
+abbrev pub quads_from : WalkRange → List RenderPass → ℕ → Placement → ℕ → Option RenderPass → List Visit
 quads_from ranges passes k place n None = []
 quads_from ranges passes k place n (Some pass) = flat_map (quad_walked (groups_walked ranges (reverse (take k passes))) ranges pass place) (drop n pass.quads)
 
 -- what is met in the quads of a cursor
-unfoldable pub cursor_walked : List Image → Cursor → List Meeting
-cursor_walked images it =
-    quads_from (ranges_of images it) it.image.frame.passes it.pass it.place it.quad (slice_get it.image.frame.passes it.pass)
+unfoldable pub cursor_walked : List FrameData → Cursor → List Visit
+cursor_walked active it =
+    quads_from (ranges_of active it) it.submitted.frame.passes it.pass it.place it.quad (slice_get it.submitted.frame.passes it.pass)
 
 -- what is met in cursors, of which the last comes first
-unfoldable pub stack_walked : List Image → List Cursor → List Meeting
-stack_walked images cursors = flat_map (cursor_walked images) (reverse cursors)
+unfoldable pub stack_walked : List FrameData → List Cursor → List Visit
+stack_walked active cursors = flat_map (cursor_walked active) (reverse cursors)
 
 -- what is met in a cursor, if there is one
-abbrev pub maybe_walked : List Image → Option Cursor → List Meeting
-maybe_walked images None = []
-maybe_walked images (Some it) = cursor_walked images it
+abbrev pub maybe_walked : List FrameData → Option Cursor → List Visit
+maybe_walked active None = []
+maybe_walked active (Some it) = cursor_walked active it
 
 -- the cursor from the next quad on
 abbrev pub next_cursor : Cursor → Cursor
 next_cursor it = record it { quad = it.quad + 1 }
 
 -- what is met in a pass, seen as a group from a place
-abbrev pub group_of : WalkRange → List RenderPass → ℕ → Place → Option RenderPass → List Meeting
+abbrev pub group_of : WalkRange → List RenderPass → ℕ → Placement → Option RenderPass → List Visit
 group_of ranges passes k place None = []
 group_of ranges passes k place (Some pass) =
     pass_walked (groups_walked ranges (reverse (take k passes))) ranges pass (record place { shift = minus place.shift (corner pass.output) })
 
 -- what is met in the pass at a place, if one is given
-abbrev pub group_at : WalkRange → List RenderPass → Place → Option ℕ → List Meeting
+abbrev pub group_at : WalkRange → List RenderPass → Placement → Option ℕ → List Visit
 group_at ranges passes place None = []
 group_at ranges passes place (Some k) = group_of ranges passes k place (slice_get passes k)
 
 -- nothing where the walk is too much, and else the walk
-abbrev pub IsWalk : List Meeting → Option (List Meeting) → Type 0
+abbrev pub IsWalk : List Visit → Option (List Visit) → Type 0
 IsWalk all o = MatchOption o (too_much all ≡ true) (λ walked. (walked ≡ all) × (too_much all ≡ false))

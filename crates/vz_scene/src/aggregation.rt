@@ -5,7 +5,7 @@ use std::alloc::{AllocError, Global};
 use std::marker::Model;
 use vz_ids::{SurfaceId, SurfaceRange};
 
-/// What is remembered of the last aggregation: the root, the number of each image that was
+/// What is remembered of the last aggregation: the root, the number of each frame that was
 /// active, and what each range that the walk met showed.
 #[derive(Drop)]
 pub struct Aggregation {

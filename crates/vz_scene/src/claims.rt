@@ -2,7 +2,7 @@
 ghost use Rattle.std.specs.Prelude.{◌≡◌, ◌++◌, IfOk, OnOk};
 ghost use Rattle.std.specs.List.{flat_map};
 ghost use Rattle.std.specs.Option.{option_to_list};
-ghost use Rattle.vz_rules.specs.Plan.{IsDisplaySize};
+ghost use Rattle.vz_geom.specs.Display.{IsDisplaySize};
 ghost use Rattle.vz_rules.specs.Damage.{damage_since, damage_at, claims_of, claims, drawn_damage};
 ghost use Rattle.vz_scene.specs.Limits.{IsInReach};
 ghost use Rattle.vz_scene.specs.Order.{AreDamages};
@@ -12,61 +12,61 @@ use crate::aggregation::Aggregation;
 use crate::damage::{bound, damage_since, frame_rect};
 use crate::index::Index;
 use crate::key::{FrameKey, frame_key};
-use crate::meeting::{Kind, Meeting};
 use crate::place::{Place, display_rect, moved};
 use crate::submitted::SubmittedFrame;
+use crate::visit::{Kind, Visit};
 use std::alloc::{AllocError, Global};
 use std::collections::BTreeMap;
 use vz_geom::{Rect, Size};
 use vz_ids::SurfaceId;
 
-/// The damage on an image's surface since the last aggregation. It is looked for once for each
-/// image. Condition: what is known is right.
+/// The damage on a frame's surface since the last aggregation. It is looked for once for each
+/// frame. Condition: what is known is right.
 fn known_damage(
     last: &Index<'_>,
     accepted: &[SubmittedFrame<'_>],
     known: &mut BTreeMap<FrameKey, Rect>,
-    image: &SubmittedFrame<'_>,
+    submitted: &SubmittedFrame<'_>,
 ) -> Result<Rect, AllocError>
     requires { AreDamages last.now accepted.now known.old }
-    ensures value { IfOk result (λ r. r ≡ damage_since last.now accepted.now image.now) }
+    ensures value { IfOk result (λ r. r ≡ damage_since last.now accepted.now submitted.now) }
     ensures reach { IfOk result (λ r. IsInReach r) }
     ensures known { OnOk result (AreDamages last.now accepted.now known.new) }
 {
-    let key = frame_key(image);
+    let key = frame_key(submitted);
     if let Some(damage) = known.get(&key) {
         return Ok(*damage);
     }
-    let damage = damage_since(last, accepted, image);
+    let damage = damage_since(last, accepted, submitted);
     known.insert(key, damage)?;
     Ok(damage)
 }
 
-/// The part of a damage on an image's surface that is seen at a place. Condition: it is the one
+/// The part of a damage on a frame's surface that is seen at a place. Condition: it is the one
 /// since the last aggregation.
-fn seen_damage(damage: &Rect, image: &SubmittedFrame<'_>, place: &Place) -> Rect
+fn seen_damage(damage: &Rect, submitted: &SubmittedFrame<'_>, place: &Place) -> Rect
     requires { IsInReach damage.now }
-    ensures { result ≡ seen_damage damage.now image.now place.now }
+    ensures { result ≡ seen_damage damage.now submitted.now place.now }
 {
-    let surface = moved(&frame_rect(image), place.shift);
+    let surface = moved(&frame_rect(submitted), place.shift);
     let window = place.window.intersect(&surface);
     window.intersect(&moved(damage, place.shift))
 }
 
-/// What a meeting claims, if anything. Condition: what is known is right.
+/// What a visit claims, if anything. Condition: what is known is right.
 #[tactic(auto, unfolding(vz_rules::specs::Damage::claims_of, vz_rules::specs::Damage::damage_at))]
 fn claim_of(
     last: &Index<'_>,
     accepted: &[SubmittedFrame<'_>],
     known: &mut BTreeMap<FrameKey, Rect>,
-    met: &Meeting<'_, '_>,
+    visits: &Visit<'_, '_>,
 ) -> Result<Option<Rect>, AllocError>
     requires { AreDamages last.now accepted.now known.old }
     ensures claim { IfOk result
-        (λ o. option_to_list o ≡ claims_of last.now accepted.now met.now) }
+        (λ o. option_to_list o ≡ claims_of last.now accepted.now visits.now) }
     ensures known { OnOk result (AreDamages last.now accepted.now known.new) }
 {
-    match &met.kind {
+    match &visits.kind {
         Kind::Quad => Ok(None),
         Kind::Shows { range, shown, seen } => {
             if last.is_switched(range, *shown) {
@@ -75,9 +75,13 @@ fn claim_of(
                 Ok(None)
             }
         }
-        Kind::Enters { image, place, .. } => {
-            let damage = known_damage(last, accepted, known, image)?;
-            Ok(Some(seen_damage(&damage, image, place)))
+        Kind::Enters {
+            submitted,
+            place,
+            ..
+        } => {
+            let damage = known_damage(last, accepted, known, submitted)?;
+            Ok(Some(seen_damage(&damage, submitted, place)))
         }
     }
 }
@@ -95,20 +99,20 @@ fn add_claim(all: &mut Vec<Rect>, claim: Option<Rect>) -> Result<(), AllocError>
     }
 }
 
-/// What meetings claim.
+/// What visits claim.
 fn all_claims(
     alloc: Global,
     last: &Aggregation,
     accepted: &[SubmittedFrame<'_>],
-    met: &[Meeting<'_, '_>],
+    visits: &[Visit<'_, '_>],
 ) -> Result<Vec<Rect>, AllocError>
-    ensures { IfOk result (λ v. v.items ≡ flat_map (claims_of last.now accepted.now) met.now) }
+    ensures { IfOk result (λ v. v.items ≡ flat_map (claims_of last.now accepted.now) visits.now) }
 {
     let index = Index::new(alloc, last)?;
     let mut known = BTreeMap::new(alloc);
     let mut all = Vec::new(alloc);
-    for meeting in met {
-        let claim = claim_of(&index, accepted, &mut known, meeting)?;
+    for visit in visits {
+        let claim = claim_of(&index, accepted, &mut known, visit)?;
         add_claim(&mut all, claim)?;
     }
     Ok(all)
@@ -123,16 +127,16 @@ fn claims(
     last: &Option<Aggregation>,
     accepted: &[SubmittedFrame<'_>],
     root: &SurfaceId,
-    met: &[Meeting<'_, '_>],
+    visits: &[Visit<'_, '_>],
 ) -> Result<Vec<Rect>, AllocError>
     requires { IsDisplaySize size }
-    ensures { IfOk result (λ v. v.items ≡ claims size last.now accepted.now root.now met.now) }
+    ensures { IfOk result (λ v. v.items ≡ claims size last.now accepted.now root.now visits.now) }
 {
     match last {
         None => Ok(vec![in alloc; display_rect(size)]?),
         Some(aggregation) => {
             if aggregation.root == *root {
-                Ok(all_claims(alloc, aggregation, accepted, met)?)
+                Ok(all_claims(alloc, aggregation, accepted, visits)?)
             } else {
                 Ok(vec![in alloc; display_rect(size)]?)
             }
@@ -148,11 +152,11 @@ pub fn drawn_damage(
     last: &Option<Aggregation>,
     accepted: &[SubmittedFrame<'_>],
     root: &SurfaceId,
-    met: &[Meeting<'_, '_>],
+    visits: &[Visit<'_, '_>],
 ) -> Result<Rect, AllocError>
     requires { IsDisplaySize size }
-    ensures { IfOk result (λ r. r ≡ drawn_damage size last.now accepted.now root.now met.now) }
+    ensures { IfOk result (λ r. r ≡ drawn_damage size last.now accepted.now root.now visits.now) }
 {
-    let rects = claims(alloc, size, last, accepted, root, met)?;
+    let rects = claims(alloc, size, last, accepted, root, visits)?;
     Ok(bound(&rects))
 }

@@ -2,32 +2,32 @@
 ghost use Rattle.std.specs.Prelude.{◌≡◌, ◌≤◌, ◌<◌, ◌^◌, length, List, ◌+◌, ◌++◌, ◌∷◌, []};
 ghost use Rattle.std.specs.Prelude.{false, take, reverse, IsSome, IfSome, IfOk, OnOk, MatchOption};
 ghost use Rattle.std.specs.Arc.{arc_value};
-ghost use Rattle.vz_rules.specs.World.{Image};
+ghost use Rattle.vz_rules.specs.World.{FrameData};
 ghost use Rattle.vz_rules.specs.Paint.{on_path};
-ghost use Rattle.vz_rules.specs.Walk.{Place as Standing, WalkRange};
+ghost use Rattle.vz_rules.specs.Walk.{Placement, WalkRange};
 ghost use Rattle.vz_rules.specs.Walk.{place_in, groups_walked, walk, weight, too_much};
 ghost use Rattle.vz_scene.specs.Limits.{HasRoom, IsPassInReach, IsQuadInReach, room_for};
 ghost use Rattle.vz_scene.specs.Walking.{ranges_of, named_of, walked_at};
 ghost use Rattle.vz_scene.specs.Walking.{cursor_walked, maybe_walked, group_at, next_cursor};
 
-use crate::images::Images;
-use crate::meeting::Walked;
+use crate::active_frames::ActiveFrames;
 use crate::place::Place;
 use crate::submitted::SubmittedFrame;
+use crate::visit::Walked;
 use std::alloc::{AllocError, Global};
 use std::marker::Model;
 use std::sync::Arc;
 use vz_frame::{DrawQuad, Material, RenderPass};
 use vz_ids::{SurfaceId, SurfaceRange};
 
-/// Quads that are still to be walked: in the pass at a place of an image's frame, from a quad
+/// Quads that are still to be walked: in the pass at a place of a submitted frame, from a quad
 /// on, behind the surfaces of a path and with so many surfaces left. The place has room for
 /// all passes that may still be gone into.
 #[derive(Drop)]
 pub struct Cursor<'b, 'a> {
     levels: u32,
     path: Arc<Vec<SurfaceId>, Global>,
-    image: &'b SubmittedFrame<'a>,
+    submitted: &'b SubmittedFrame<'a>,
     pass: usize,
     quad: usize,
     place: Place,
@@ -42,19 +42,19 @@ impl<'b, 'a> Model for Cursor<'b, 'a> {
     ghost view = { λ c. record {
       levels = c.levels;
       path = (arc_value c.path).items;
-      image = c.image.now;
+      submitted = c.submitted.now;
       pass = c.pass;
       quad = c.quad;
       place = c.place;
     } };
 
-    ghost invariant = { λ c. IsBounded c.levels c.image.now c.pass c.place };
+    ghost invariant = { λ c. IsBounded c.levels c.submitted.now c.pass c.place };
 }
 
 /// The pass of an id before a place, the last one.
 fn pass_of(passes: &[RenderPass], before: usize, id: u32) -> Option<usize>
     requires { before ≤ length passes.now }
-    ensures found { (ranges : WalkRange) (place : Standing)
+    ensures found { (ranges : WalkRange) (place : Placement)
         → groups_walked ranges (reverse (take before passes.now)) id place
         ≡ group_at ranges passes.now place result }
     ensures before { IfSome result (λ k. k < before) }
@@ -86,11 +86,11 @@ fn behind(
     }
 }
 
-/// Whether the image's surface is on the path.
-fn is_on_path(path: &[SurfaceId], image: &SubmittedFrame<'_>) -> bool
-    ensures { result ≡ on_path path.now image.now }
+/// Whether the frame's surface is on the path.
+fn is_on_path(path: &[SurfaceId], submitted: &SubmittedFrame<'_>) -> bool
+    ensures { result ≡ on_path path.now submitted.now }
 {
-    path.iter().any(|id| image.id == *id)
+    path.iter().any(|id| submitted.id == *id)
 }
 
 /// What is to be walked in a surface, behind the surfaces of a path and with so many left.
@@ -99,25 +99,26 @@ pub fn enter<'b, 'a>(
     alloc: Global,
     levels: u32,
     path: &[SurfaceId],
-    image: &'b SubmittedFrame<'a>,
+    submitted: &'b SubmittedFrame<'a>,
     place: Place,
 ) -> Result<Option<Cursor<'b, 'a>>, AllocError>
     requires { HasRoom (room_for levels 0) place.shift }
-    ensures { (images : List Image)
-        → IfOk result (λ o. maybe_walked images o ≡ walk levels images path.now image.now place) }
+    ensures { (active : List FrameData)
+        → IfOk result
+        (λ o. maybe_walked active o ≡ walk levels active path.now submitted.now place) }
 {
     if levels == 0 {
         return Ok(None);
     }
-    let count = image.frame().passes.as_slice().len();
+    let count = submitted.frame().passes.as_slice().len();
     if count == 0 {
         return Ok(None);
     }
-    let path = behind(alloc, image.id, path)?;
+    let path = behind(alloc, submitted.id, path)?;
     Ok(Some(Cursor {
         levels: levels - 1,
         path,
-        image,
+        submitted,
         pass: count - 1,
         quad: 0,
         place,
@@ -127,14 +128,14 @@ pub fn enter<'b, 'a>(
 impl<'b, 'a> Cursor<'b, 'a> {
     /// The next quad with its pass, if there is one.
     pub fn quad_of(&self) -> Option<(&'a RenderPass, &'a DrawQuad)>
-        ensures walked { (images : List Image)
-            → MatchOption result (cursor_walked images self.now ≡ [])
-            (λ r. cursor_walked images self.now ≡ walked_at images self.now r.0.now r.1.now
-            ++ cursor_walked images (next_cursor self.now)) }
+        ensures walked { (active : List FrameData)
+            → MatchOption result (cursor_walked active self.now ≡ [])
+            (λ r. cursor_walked active self.now ≡ walked_at active self.now r.0.now r.1.now
+            ++ cursor_walked active (next_cursor self.now)) }
         ensures reach { IfSome result (λ r. IsPassInReach r.0.now × IsQuadInReach r.1.now) }
         ensures more { IsSome result → self.now.quad + 1 < 2 ^ 64 }
     {
-        let pass = &self.image.frame().passes.as_slice()[self.pass];
+        let pass = &self.submitted.frame().passes.as_slice()[self.pass];
         let quads = pass.quads.as_slice();
         if self.quad < quads.len() {
             Some((pass, &quads[self.quad]))
@@ -166,10 +167,10 @@ impl<'b, 'a> Cursor<'b, 'a> {
     /// Condition: the place has room for the earlier passes and all surfaces that are left.
     fn group(&self, id: u32, place: &Place) -> Result<Option<Cursor<'b, 'a>>, AllocError>
         requires { HasRoom (room_for self.now.levels self.now.pass + 16384) place.now.shift }
-        ensures { (images : List Image)
-            → IfOk result (λ o. maybe_walked images o ≡ named_of images self.now id place.now) }
+        ensures { (active : List FrameData)
+            → IfOk result (λ o. maybe_walked active o ≡ named_of active self.now id place.now) }
     {
-        let passes = self.image.frame().passes.as_slice();
+        let passes = self.submitted.frame().passes.as_slice();
         match pass_of(passes, self.pass, id) {
             None => Ok(None),
             Some(k) => {
@@ -177,7 +178,7 @@ impl<'b, 'a> Cursor<'b, 'a> {
                 Ok(Some(Cursor {
                     levels: self.levels,
                     path,
-                    image: self.image,
+                    submitted: self.submitted,
                     pass: k,
                     quad: 0,
                     place: place.inside(&passes[k]),
@@ -191,27 +192,27 @@ impl<'b, 'a> Cursor<'b, 'a> {
     fn range(
         &self,
         alloc: Global,
-        images: &Images<'b, 'a>,
+        active: &ActiveFrames<'b, 'a>,
         range: SurfaceRange,
         place: Place,
         walked: &mut Walked<'b, 'a>,
     ) -> Result<Option<Cursor<'b, 'a>>, AllocError>
         requires { HasRoom (room_for self.now.levels 0) place.shift }
-        ensures walked { IfOk result (λ o. walked.new ++ maybe_walked images.now o
-            ≡ walked.old ++ ranges_of images.now self.now range place) }
+        ensures walked { IfOk result (λ o. walked.new ++ maybe_walked active.now o
+            ≡ walked.old ++ ranges_of active.now self.now range place) }
         ensures weight { OnOk result (weight walked.new ≡ weight walked.old) }
     {
-        let shown = images.shown_image(&range);
+        let shown = active.shown_frame(&range);
         walked.add_shows(range, shown, place.window)?;
         match shown {
             None => Ok(None),
-            Some(image) => {
+            Some(submitted) => {
                 let path = self.path.as_slice();
-                if is_on_path(path, image) {
+                if is_on_path(path, submitted) {
                     return Ok(None);
                 }
-                walked.add_enters(path.len() + 1, image, place)?;
-                Ok(enter(alloc, self.levels, path, image, place)?)
+                walked.add_enters(path.len() + 1, submitted, place)?;
+                Ok(enter(alloc, self.levels, path, submitted, place)?)
             }
         }
     }
@@ -221,7 +222,7 @@ impl<'b, 'a> Cursor<'b, 'a> {
     pub fn quad(
         &self,
         alloc: Global,
-        images: &Images<'b, 'a>,
+        active: &ActiveFrames<'b, 'a>,
         pass: &RenderPass,
         quad: &DrawQuad,
         walked: &mut Walked<'b, 'a>,
@@ -229,8 +230,8 @@ impl<'b, 'a> Cursor<'b, 'a> {
         requires few { too_much walked.old ≡ false }
         requires pass { IsPassInReach pass.now }
         requires quad { IsQuadInReach quad.now }
-        ensures walked { IfOk result (λ o. walked.new ++ maybe_walked images.now o
-            ≡ walked.old ++ walked_at images.now self.now pass.now quad.now) }
+        ensures walked { IfOk result (λ o. walked.new ++ maybe_walked active.now o
+            ≡ walked.old ++ walked_at active.now self.now pass.now quad.now) }
         ensures weight { OnOk result (weight walked.new ≡ weight walked.old + 1) }
     {
         walked.add_quad()?;
@@ -238,7 +239,7 @@ impl<'b, 'a> Cursor<'b, 'a> {
             Material::Pass(id) => Ok(self.group(id, &self.place_of(pass, quad))?),
             Material::Surface { range, .. } => {
                 let place = self.place_of(pass, quad);
-                Ok(self.range(alloc, images, range, place, walked)?)
+                Ok(self.range(alloc, active, range, place, walked)?)
             }
             Material::Solid(_) => Ok(None),
             Material::Tile { .. } => Ok(None),

@@ -8,9 +8,9 @@ ghost use Rattle.std.specs.BTreeSet.{contains};
 ghost use Rattle.vz_ids.specs.Ids.{same_sub};
 ghost use Rattle.vz_scene.specs.Order.{by_sub};
 ghost use Rattle.vz_frame.specs.Frame.{frame_size};
-ghost use Rattle.vz_rules.specs.World.{Image};
+ghost use Rattle.vz_rules.specs.World.{FrameData};
 ghost use Rattle.vz_rules.specs.Walk.{goes_into};
-ghost use Rattle.vz_rules.specs.Damage.{root_damage, shown_range, same_met, is_between};
+ghost use Rattle.vz_rules.specs.Damage.{root_damage, shown_range, of_same_range, is_between};
 ghost use Rattle.vz_rules.specs.Damage.{damage_since, aggregation_of};
 ghost use Rattle.vz_rules.specs.Closure.{adding};
 ghost use Rattle.vz_scene.specs.Limits.{IsInReach};
@@ -19,9 +19,9 @@ use crate::aggregation::Aggregation;
 use crate::frame::root_pass;
 use crate::index::Index;
 use crate::key::key_of;
-use crate::meeting::{Kind, Meeting};
 use crate::place::nothing;
 use crate::submitted::SubmittedFrame;
+use crate::visit::{Kind, Visit};
 use std::alloc::{AllocError, Global};
 use std::collections::BTreeSet;
 use vz_geom::Rect;
@@ -36,23 +36,23 @@ fn at_origin(r: &Rect) -> Rect
     Rect::new(0, 0, r.w(), r.h())
 }
 
-/// The rectangle of the size of an image's frame.
-pub fn frame_rect(image: &SubmittedFrame<'_>) -> Rect
-    ensures value { result ≡ sized (frame_size image.now.frame) }
+/// The rectangle of the size of a submitted frame.
+pub fn frame_rect(submitted: &SubmittedFrame<'_>) -> Rect
+    ensures value { result ≡ sized (frame_size submitted.now.frame) }
     ensures reach { IsInReach result }
 {
-    match root_pass(image.frame) {
+    match root_pass(submitted.frame) {
         None => nothing(),
         Some(pass) => at_origin(&pass.output),
     }
 }
 
-/// The damage rectangle of the root pass of an image's frame.
-fn root_damage(image: &SubmittedFrame<'_>) -> Rect
-    ensures value { result ≡ root_damage image.now.frame }
+/// The damage rectangle of the root pass of a submitted frame.
+fn root_damage(submitted: &SubmittedFrame<'_>) -> Rect
+    ensures value { result ≡ root_damage submitted.now.frame }
     ensures reach { IsInReach result }
 {
-    match root_pass(image.frame) {
+    match root_pass(submitted.frame) {
         None => nothing(),
         Some(pass) => pass.damage,
     }
@@ -82,38 +82,39 @@ impl<'a> SubmittedFrame<'a> {
     }
 }
 
-/// The rectangle round the damages on an image's surface since the last aggregation.
+/// The rectangle round the damages on a frame's surface since the last aggregation.
 #[tactic(auto, unfolding(vz_rules::specs::Damage::damage_since))]
 pub fn damage_since(
     last: &Index<'_>,
     accepted: &[SubmittedFrame<'_>],
-    image: &SubmittedFrame<'_>,
+    submitted: &SubmittedFrame<'_>,
 ) -> Rect
-    ensures value { result ≡ damage_since last.now accepted.now image.now }
+    ensures value { result ≡ damage_since last.now accepted.now submitted.now }
     ensures reach { IsInReach result }
 {
-    let from = last.index_in(image);
+    let from = last.index_in(submitted);
     let mut best = nothing();
     let mut k = accepted.len();
     while k > 0 {
         k -= 1;
         let frame = &accepted[k];
-        if frame.is_between(from, image) {
+        if frame.is_between(from, submitted) {
             best = root_damage(frame).bound(&best);
         }
     }
     best
 }
 
-impl<'b, 'a> Meeting<'b, 'a> {
+impl<'b, 'a> Visit<'b, 'a> {
     /// The submission on the surface that the walk goes into, if it does.
     fn entered(&self) -> Option<Sub>
-        ensures { (i : Image) → goes_into i self.now ≡ option_map_or (same_sub i.sub) result false }
+        ensures { (i : FrameData)
+            → goes_into i self.now ≡ option_map_or (same_sub i.sub) result false }
     {
         match &self.kind {
             Kind::Quad => None,
             Kind::Shows { .. } => None,
-            Kind::Enters { image, .. } => Some(image.sub()),
+            Kind::Enters { submitted, .. } => Some(submitted.sub()),
         }
     }
 
@@ -125,7 +126,7 @@ impl<'b, 'a> Meeting<'b, 'a> {
             Kind::Quad => None,
             Kind::Shows { range, shown, .. } => match shown {
                 None => Some((*range, None)),
-                Some(image) => Some((*range, Some(image.id()))),
+                Some(submitted) => Some((*range, Some(submitted.id()))),
             },
             Kind::Enters { .. } => None,
         }
@@ -133,13 +134,13 @@ impl<'b, 'a> Meeting<'b, 'a> {
 }
 
 /// The submissions on the surfaces that the walk goes into.
-fn entered_subs(alloc: Global, met: &[Meeting<'_, '_>]) -> Result<BTreeSet<Sub>, AllocError>
+fn entered_subs(alloc: Global, visits: &[Visit<'_, '_>]) -> Result<BTreeSet<Sub>, AllocError>
     ensures { IfOk result
-        (λ s. (i : Image) → contains by_sub s i.sub ≡ list_any (goes_into i) met.now) }
+        (λ s. (i : FrameData) → contains by_sub s i.sub ≡ list_any (goes_into i) visits.now) }
 {
     let mut subs = BTreeSet::new(alloc);
-    for meeting in met {
-        let Some(sub) = meeting.entered() else {
+    for visit in visits {
+        let Some(sub) = visit.entered() else {
             continue;
         };
         subs.insert(sub)?;
@@ -147,35 +148,35 @@ fn entered_subs(alloc: Global, met: &[Meeting<'_, '_>]) -> Result<BTreeSet<Sub>,
     Ok(subs)
 }
 
-/// Those of some images that a set has.
+/// Those of some frames that a set has.
 fn subs_in(
     alloc: Global,
-    images: &[SubmittedFrame<'_>],
+    active: &[SubmittedFrame<'_>],
     subs: &BTreeSet<Sub>,
 ) -> Result<Vec<Sub>, AllocError>
     ensures { IfOk result (λ v. v.items
-        ≡ map (λ (i : Image). i.sub)
-        (filter (λ (i : Image). contains by_sub subs.now i.sub) images.now)) }
+        ≡ map (λ (i : FrameData). i.sub)
+        (filter (λ (i : FrameData). contains by_sub subs.now i.sub) active.now)) }
 {
-    images
+    active
         .iter()
-        .filter(|image| subs.contains(&image.sub))
-        .map(|image| image.sub)
+        .filter(|submitted| subs.contains(&submitted.sub))
+        .map(|submitted| submitted.sub)
         .collect(alloc)
 }
 
 /// The active submissions of the surfaces walked, each once.
 pub fn walked_subs(
     alloc: Global,
-    images: &[SubmittedFrame<'_>],
-    met: &[Meeting<'_, '_>],
+    active: &[SubmittedFrame<'_>],
+    visits: &[Visit<'_, '_>],
 ) -> Result<Vec<Sub>, AllocError>
     ensures { IfOk result (λ v. v.items
-        ≡ map (λ (i : Image). i.sub)
-        (filter (λ (i : Image). list_any (goes_into i) met.now) images.now)) }
+        ≡ map (λ (i : FrameData). i.sub)
+        (filter (λ (i : FrameData). list_any (goes_into i) visits.now) active.now)) }
 {
-    let entered = entered_subs(alloc, met)?;
-    Ok(subs_in(alloc, images, &entered)?)
+    let entered = entered_subs(alloc, visits)?;
+    Ok(subs_in(alloc, active, &entered)?)
 }
 
 /// Each range once, with what it showed first.
@@ -183,7 +184,7 @@ fn each_once(
     alloc: Global,
     pairs: &[(SurfaceRange, Option<SurfaceId>)],
 ) -> Result<Vec<(SurfaceRange, Option<SurfaceId>)>, AllocError>
-    ensures { IfOk result (λ v. v.items ≡ adding same_met [] pairs.now) }
+    ensures { IfOk result (λ v. v.items ≡ adding of_same_range [] pairs.now) }
 {
     let mut once = Vec::new(alloc);
     let mut seen = BTreeSet::new(alloc);
@@ -199,25 +200,26 @@ fn each_once(
 /// The ranges that the walk met, and what they showed.
 fn shown_ranges(
     alloc: Global,
-    met: &[Meeting<'_, '_>],
+    visits: &[Visit<'_, '_>],
 ) -> Result<Vec<(SurfaceRange, Option<SurfaceId>)>, AllocError>
-    ensures { IfOk result (λ v. v.items ≡ filter_map shown_range met.now) }
+    ensures { IfOk result (λ v. v.items ≡ filter_map shown_range visits.now) }
 {
-    met.iter()
-        .filter_map(|meeting| meeting.shown_range())
+    visits
+        .iter()
+        .filter_map(|visit| visit.shown_range())
         .collect(alloc)
 }
 
-/// The number of each image.
+/// The number of each frame.
 fn indices(
     alloc: Global,
-    images: &[SubmittedFrame<'_>],
+    active: &[SubmittedFrame<'_>],
 ) -> Result<Vec<(SurfaceId, u32)>, AllocError>
-    ensures { IfOk result (λ v. v.items ≡ map (λ (i : Image). (i.id, i.index)) images.now) }
+    ensures { IfOk result (λ v. v.items ≡ map (λ (i : FrameData). (i.id, i.index)) active.now) }
 {
-    images
+    active
         .iter()
-        .map(|image| (image.id, image.index))
+        .map(|submitted| (submitted.id, submitted.index))
         .collect(alloc)
 }
 
@@ -226,14 +228,14 @@ fn indices(
 pub fn remember(
     alloc: Global,
     root: SurfaceId,
-    images: &[SubmittedFrame<'_>],
-    met: &[Meeting<'_, '_>],
+    active: &[SubmittedFrame<'_>],
+    visits: &[Visit<'_, '_>],
 ) -> Result<Aggregation, AllocError>
     ensures { IfOk result
-        (λ a. a ≡ aggregation_of (record { root = root; images = images.now }) met.now) }
+        (λ a. a ≡ aggregation_of (record { root = root; active = active.now }) visits.now) }
 {
-    let indices = indices(alloc, images)?;
-    let shown = shown_ranges(alloc, met)?;
+    let indices = indices(alloc, active)?;
+    let shown = shown_ranges(alloc, visits)?;
     Ok(Aggregation {
         root,
         indices,

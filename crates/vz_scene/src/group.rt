@@ -1,9 +1,9 @@
-//! Images of one group, of which the newest up to a surface is found soon.
+//! Frames of one group, of which the newest up to a surface is found soon.
 ghost use Rattle.std.specs.Prelude.{◌≡◌, ◌++◌, ◌∷◌, [], ◌≤◌, length, true, false, IsTrue, OnOk};
 ghost use Rattle.std.specs.Option.{option_copied};
 ghost use Rattle.std.specs.List.Sorted.{IsPartitionPoint};
 ghost use Rattle.vz_ids.specs.Ids.{at_least};
-ghost use Rattle.vz_rules.specs.World.{Image};
+ghost use Rattle.vz_rules.specs.World.{FrameData};
 ghost use Rattle.vz_scene.specs.Groups.{is_newer, IsChain, FindsNewest};
 
 use crate::submitted::{SubmittedFrame, is_at_least};
@@ -11,103 +11,103 @@ use std::alloc::{AllocError, Global};
 use std::marker::Model;
 use vz_ids::SurfaceId;
 
-/// Images of one group, and whether each is on a newer surface than the one before it.
+/// Frames of one group, and whether each is on a newer surface than the one before it.
 #[derive(Drop)]
 pub struct Group<'b, 'a> {
-    images: Vec<&'b SubmittedFrame<'a>>,
+    active: Vec<&'b SubmittedFrame<'a>>,
     is_chain: bool,
 }
 
 impl<'b, 'a> Model for Group<'b, 'a> {
     ghost use Rattle.std.specs.Prelude.{◌≡◌, true, List, map};
-    ghost use Rattle.vz_rules.specs.World.{Image};
+    ghost use Rattle.vz_rules.specs.World.{FrameData};
     ghost use Rattle.vz_scene.specs.Groups.{IsChain};
 
-    ghost Value = { List Image };
+    ghost Value = { List FrameData };
 
-    ghost view = { λ g. map (λ i. i.now) g.images.items };
+    ghost view = { λ g. map (λ i. i.now) g.active.items };
 
-    ghost invariant = { λ g. g.is_chain ≡ true → IsChain (map (λ i. i.now) g.images.items) };
+    ghost invariant = { λ g. g.is_chain ≡ true → IsChain (map (λ i. i.now) g.active.items) };
 }
 
-/// Whether an image is on a newer surface of another's group.
-fn is_newer(image: &SubmittedFrame<'_>, other: &SubmittedFrame<'_>) -> bool
-    ensures { result ≡ is_newer image.now other.now }
+/// Whether a frame is on a newer surface of another's group.
+fn is_newer(submitted: &SubmittedFrame<'_>, other: &SubmittedFrame<'_>) -> bool
+    ensures { result ≡ is_newer submitted.now other.now }
 {
-    image.id.sink == other.id.sink && image.id.local.newer(&other.id.local)
+    submitted.id.sink == other.id.sink && submitted.id.local.newer(&other.id.local)
 }
 
 impl<'b, 'a> Group<'b, 'a> {
-    /// No image.
+    /// No frame.
     pub fn new(alloc: Global) -> Group<'b, 'a>
         ensures { result ≡ [] }
     {
         Group {
-            images: Vec::new(alloc),
+            active: Vec::new(alloc),
             is_chain: true,
         }
     }
 
-    /// Whether this is a chain, also with an image more at the end.
-    fn goes_on(&self, image: &SubmittedFrame<'_>) -> bool
-        ensures { IsTrue result → IsChain (self.now ++ image.now ∷ []) }
+    /// Whether this is a chain, also with a frame more at the end.
+    fn goes_on(&self, submitted: &SubmittedFrame<'_>) -> bool
+        ensures { IsTrue result → IsChain (self.now ++ submitted.now ∷ []) }
     {
         self.is_chain
-            && match self.images.last() {
+            && match self.active.last() {
                 None => true,
-                Some(last) => is_newer(image, last),
+                Some(last) => is_newer(submitted, last),
             }
     }
 
-    /// An image is added at the end.
-    pub fn add(&mut self, image: &'b SubmittedFrame<'a>) -> Result<(), AllocError>
-        ensures { OnOk result (self.new ≡ self.old ++ image.now ∷ []) }
+    /// A frame is added at the end.
+    pub fn add(&mut self, submitted: &'b SubmittedFrame<'a>) -> Result<(), AllocError>
+        ensures { OnOk result (self.new ≡ self.old ++ submitted.now ∷ []) }
     {
-        let is_chain = self.goes_on(image);
-        self.images.push(image)?;
+        let is_chain = self.goes_on(submitted);
+        self.active.push(submitted)?;
         self.is_chain = is_chain;
         Ok(())
     }
 
-    /// Whether each image is on a newer surface than those before it.
+    /// Whether each frame is on a newer surface than those before it.
     pub fn is_chain(&self) -> bool
         ensures { IsTrue result → IsChain self.now }
     {
         self.is_chain
     }
 
-    /// How many images are up to a surface. Condition: this is a chain.
+    /// How many frames are up to a surface. Condition: this is a chain.
     fn count_up_to(&self, end: &SurfaceId) -> usize
         requires { IsChain self.now }
         ensures bound { result ≤ length self.now }
-        ensures point { IsPartitionPoint (λ (i : Image). at_least end.now i.id ≡ true)
-            (λ (i : Image). at_least end.now i.id ≡ false) self.now result }
+        ensures point { IsPartitionPoint (λ (i : FrameData). at_least end.now i.id ≡ true)
+            (λ (i : FrameData). at_least end.now i.id ≡ false) self.now result }
     {
-        self.images
-            .partition_point(|image| is_at_least(end, &image.id))
+        self.active
+            .partition_point(|submitted| is_at_least(end, &submitted.id))
     }
 
-    /// The image on a surface, or else on the next older one. Condition: this is a chain.
+    /// The frame on a surface, or else on the next older one. Condition: this is a chain.
     pub fn newest_up_to(&self, end: &SurfaceId) -> Option<&'b SubmittedFrame<'a>>
         requires { IsChain self.now }
-        ensures { FindsNewest (λ (i : Image). at_least end.now i.id) self.now
+        ensures { FindsNewest (λ (i : FrameData). at_least end.now i.id) self.now
             (option_copied result) }
     {
         let count = self.count_up_to(end);
         if count == 0 {
             return None;
         }
-        Some(self.images[count - 1])
+        Some(self.active[count - 1])
     }
 
-    /// The newest image. Condition: this is a chain.
+    /// The newest frame. Condition: this is a chain.
     pub fn newest(&self) -> Option<&'b SubmittedFrame<'a>>
         requires { IsChain self.now }
         ensures { FindsNewest (λ _. true) self.now (option_copied result) }
     {
-        match self.images.last() {
+        match self.active.last() {
             None => None,
-            Some(image) => Some(*image),
+            Some(submitted) => Some(*submitted),
         }
     }
 }

@@ -73,7 +73,7 @@ fn shows_other(before: Option<SurfaceId>, now: Option<&SubmittedFrame<'_>>) -> b
         None => true,
         Some(id) => match now {
             None => true,
-            Some(image) => id != image.id,
+            Some(submitted) => id != submitted.id,
         },
     }
 }
@@ -90,11 +90,11 @@ impl<'l> Index<'l> {
         })
     }
 
-    /// The number of the image of a surface that was active, 0 where there was none.
-    pub fn index_in(&self, image: &SubmittedFrame<'_>) -> u32
-        ensures { result ≡ index_in self.now image.now }
+    /// The number of the frame of a surface that was active, 0 where there was none.
+    pub fn index_in(&self, submitted: &SubmittedFrame<'_>) -> u32
+        ensures { result ≡ index_in self.now submitted.now }
     {
-        match self.numbers.get(&image.id) {
+        match self.numbers.get(&submitted.id) {
             None => 0,
             Some(number) => *number,
         }

@@ -47,12 +47,12 @@ pub struct FrameKey {
     index: u32,
 }
 
-/// The key of an image's frame.
-pub fn frame_key(image: &SubmittedFrame<'_>) -> FrameKey
-    ensures { result ≡ frame_key image.now }
+/// The key of a submitted frame.
+pub fn frame_key(submitted: &SubmittedFrame<'_>) -> FrameKey
+    ensures { result ≡ frame_key submitted.now }
 {
     FrameKey {
-        id: image.id,
-        index: image.index,
+        id: submitted.id,
+        index: submitted.index,
     }
 }

@@ -2,25 +2,25 @@
 //!
 //! A scene is the root and the frames that are active. The walk goes through it quad by quad,
 //! and stops where it meets too much. What changed since the last aggregation is claimed along
-//! the walk. Each call answers what the definitions of `vz_rules` say. The active images stand by
+//! the walk. Each call answers what the definitions of `vz_rules` say. The active frames stand by
 //! groups, and what an aggregation remembers in order, so that each is found soon among many.
 #![tactic(auto)]
 
+mod active_frames;
 pub mod aggregation;
 pub mod claims;
 mod cursor;
 pub mod damage;
 pub mod frame;
 mod group;
-mod images;
 mod index;
 mod key;
-pub mod meeting;
 pub mod place;
 pub mod scene;
 pub mod submitted;
+pub mod visit;
 pub mod walk;
 
+pub use active_frames::ActiveFrames;
 pub use aggregation::Aggregation;
-pub use images::Images;
 pub use submitted::{SubmittedFrame, is_at_least};

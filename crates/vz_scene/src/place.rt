@@ -2,7 +2,7 @@
 ghost use Rattle.std.specs.Prelude.{◌≡◌};
 ghost use Rattle.vz_geom.specs.Rectangle.{plus, minus, corner, moved, sized, no_rectangle};
 ghost use Rattle.vz_geom.specs.Rectangle.{IsOffset};
-ghost use Rattle.vz_rules.specs.Plan.{IsDisplaySize};
+ghost use Rattle.vz_geom.specs.Display.{IsDisplaySize};
 ghost use Rattle.vz_rules.specs.Walk.{cut, seen_part, place_in, whole};
 ghost use Rattle.vz_scene.specs.Limits.{HasRoom, IsInReach};
 ghost use Rattle.vz_scene.specs.Limits.{IsPassInReach, IsQuadInReach, IsClipInReach};
@@ -20,10 +20,10 @@ pub struct Place {
 }
 
 impl Model for Place {
-    ghost use Rattle.vz_rules.specs.Walk.{Place as Standing};
+    ghost use Rattle.vz_rules.specs.Walk.{Placement};
     ghost use Rattle.vz_scene.specs.Limits.{HasRoom};
 
-    ghost Value = { Standing };
+    ghost Value = { Placement };
 
     ghost view = { λ p. record { shift = p.shift; window = p.window } };
 

@@ -1,9 +1,9 @@
-//! Images that are on a surface or in a range, found by looking at each.
+//! Frames that are on a surface or in a range, found by looking at each.
 ghost use Rattle.std.specs.Prelude.{◌≡◌, filter};
 ghost use Rattle.std.specs.Option.{option_copied};
 ghost use Rattle.vz_ids.specs.Ids.{same_surface};
-ghost use Rattle.vz_rules.specs.World.{image_on};
-ghost use Rattle.vz_rules.specs.Scene.{in_range, after_start, newest, newer_image, shown_image};
+ghost use Rattle.vz_rules.specs.World.{frame_on};
+ghost use Rattle.vz_rules.specs.Scene.{in_range, after_start, newest, newer_frame, shown_frame};
 
 use crate::submitted::{SubmittedFrame, is_at_least};
 use vz_ids::{SurfaceId, SurfaceRange};
@@ -38,85 +38,85 @@ impl<'a> SubmittedFrame<'a> {
     }
 }
 
-/// The image on a surface.
-pub fn image_on<'b, 'a>(
-    images: &'b [SubmittedFrame<'a>],
+/// The frame on a surface.
+pub fn frame_on<'b, 'a>(
+    active: &'b [SubmittedFrame<'a>],
     id: &SurfaceId,
 ) -> Option<&'b SubmittedFrame<'a>>
-    ensures { option_copied result ≡ image_on id.now images.now }
+    ensures { option_copied result ≡ frame_on id.now active.now }
 {
-    images.iter().find(|image| image.is_of(id))
+    active.iter().find(|submitted| submitted.is_of(id))
 }
 
-/// The newer of an image and another of its group, if there is one.
+/// The newer of a frame and another of its group, if there is one.
 fn newer_of<'b, 'a>(
-    image: &'b SubmittedFrame<'a>,
+    submitted: &'b SubmittedFrame<'a>,
     best: Option<&'b SubmittedFrame<'a>>,
 ) -> Option<&'b SubmittedFrame<'a>>
-    ensures { option_copied result ≡ newer_image image.now (option_copied best.entry) }
+    ensures { option_copied result ≡ newer_frame submitted.now (option_copied best.entry) }
 {
     match best {
         Some(other) => {
-            if other.id.local.newer(&image.id.local) {
+            if other.id.local.newer(&submitted.id.local) {
                 Some(other)
             } else {
-                Some(image)
+                Some(submitted)
             }
         }
-        None => Some(image),
+        None => Some(submitted),
     }
 }
 
-/// The newest image of the range's own group.
+/// The newest frame of the range's own group.
 pub(crate) fn newest_in<'b, 'a>(
-    images: &'b [SubmittedFrame<'a>],
+    active: &'b [SubmittedFrame<'a>],
     range: &SurfaceRange,
 ) -> Option<&'b SubmittedFrame<'a>>
-    ensures { option_copied result ≡ newest (filter (in_range range.now) images.now) }
+    ensures { option_copied result ≡ newest (filter (in_range range.now) active.now) }
 {
     let mut best: Option<&'b SubmittedFrame<'a>> = None;
-    let mut k = images.len();
+    let mut k = active.len();
     while k > 0 {
         k -= 1;
-        let image = &images[k];
-        if image.is_in(range) {
-            best = newer_of(image, best);
+        let submitted = &active[k];
+        if submitted.is_in(range) {
+            best = newer_of(submitted, best);
         }
     }
     best
 }
 
-/// The newest image of the group of the range's start.
+/// The newest frame of the group of the range's start.
 pub(crate) fn newest_after<'b, 'a>(
-    images: &'b [SubmittedFrame<'a>],
+    active: &'b [SubmittedFrame<'a>],
     range: &SurfaceRange,
 ) -> Option<&'b SubmittedFrame<'a>>
     ensures { option_copied result
-        ≡ newest (filter (after_start range.now.start range.now.end) images.now) }
+        ≡ newest (filter (after_start range.now.start range.now.end) active.now) }
 {
     let mut best: Option<&'b SubmittedFrame<'a>> = None;
-    let mut k = images.len();
+    let mut k = active.len();
     while k > 0 {
         k -= 1;
-        let image = &images[k];
-        if image.is_after(range) {
-            best = newer_of(image, best);
+        let submitted = &active[k];
+        if submitted.is_after(range) {
+            best = newer_of(submitted, best);
         }
     }
     best
 }
 
-/// The image of the surface that a range shows. Each image is looked at: where many ranges are
-/// asked, `Images` finds each sooner.
-#[tactic(auto, unfolding(vz_rules::specs::Scene::shown_image))]
-pub fn shown_image<'b, 'a>(
-    images: &'b [SubmittedFrame<'a>],
+/// The frame of the surface that a range shows. Each frame is looked at: where many ranges are
+/// asked, `Frames` finds each sooner.
+#[tactic(auto, unfolding(vz_rules::specs::Scene::shown_frame))]
+pub fn shown_frame<'b, 'a>(
+    active: &'b [SubmittedFrame<'a>],
     range: &SurfaceRange,
 ) -> Option<&'b SubmittedFrame<'a>>
-    ensures { option_copied result ≡ shown_image images.now range.now }
+    ensures { option_copied result ≡ shown_frame active.now range.now }
 {
-    match newest_in(images, range) {
-        Some(image) => Some(image),
-        None => newest_after(images, range),
+    match newest_in(active, range) {
+        Some(submitted) => Some(submitted),
+        None => newest_after(active, range),
     }
 }

@@ -24,10 +24,10 @@ pub struct SubmittedFrame<'a> {
 impl<'a> Model for SubmittedFrame<'a> {
     ghost use Rattle.std.specs.Prelude.{map};
     ghost use Rattle.std.specs.Arc.{arc_value};
-    ghost use Rattle.vz_rules.specs.World.{Image};
+    ghost use Rattle.vz_rules.specs.World.{FrameData};
     ghost use Rattle.vz_scene.specs.Limits.{FitsFile};
 
-    ghost Value = { Image };
+    ghost Value = { FrameData };
 
     ghost view = { λ r. record {
       id = r.id;

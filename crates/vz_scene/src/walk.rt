@@ -1,15 +1,15 @@
 //! The walk through a scene, quad by quad. What is still to be walked stands on a stack.
 ghost use Rattle.std.specs.Prelude.{◌≡◌, ◌≤◌, length, List, ◌+◌, ◌*◌, ◌++◌, false, IfOk, OnOk};
 ghost use Rattle.std.specs.Option.{option_to_list};
-ghost use Rattle.vz_rules.specs.Walk.{Meeting, walk_of, weight, too_much};
-ghost use Rattle.vz_rules.specs.Plan.{IsDisplaySize};
+ghost use Rattle.vz_rules.specs.Walk.{Visit, walk_of, weight, too_much};
+ghost use Rattle.vz_geom.specs.Display.{IsDisplaySize};
 ghost use Rattle.vz_scene.specs.Walking.{cursor_walked, stack_walked, IsWalk};
 
+use crate::active_frames::ActiveFrames;
 use crate::cursor::{Cursor, enter};
-use crate::images::Images;
-use crate::meeting::Walked;
 use crate::place::whole;
 use crate::submitted::SubmittedFrame;
+use crate::visit::Walked;
 use std::alloc::{AllocError, Global};
 use vz_geom::Size;
 use vz_ids::SurfaceId;
@@ -35,14 +35,14 @@ fn push_some<'b, 'a>(
 /// was not too much before.
 fn advance<'b, 'a>(
     alloc: Global,
-    images: &Images<'b, 'a>,
+    active: &ActiveFrames<'b, 'a>,
     mut cursor: Cursor<'b, 'a>,
     stack: &mut Vec<Cursor<'b, 'a>>,
     walked: &mut Walked<'b, 'a>,
 ) -> Result<(), AllocError>
     requires { too_much walked.old ≡ false }
-    ensures walked { OnOk result (walked.new ++ stack_walked images.now stack.new.items ≡ walked.old
-        ++ (cursor_walked images.now cursor.entry ++ stack_walked images.now stack.old.items)) }
+    ensures walked { OnOk result (walked.new ++ stack_walked active.now stack.new.items ≡ walked.old
+        ++ (cursor_walked active.now cursor.entry ++ stack_walked active.now stack.old.items)) }
     ensures stack { OnOk result (length stack.new.items + 2 * weight walked.old
         ≤ length stack.old.items + 2 * weight walked.new) }
     ensures weight { OnOk result (weight walked.new ≤ weight walked.old + 1) }
@@ -50,7 +50,7 @@ fn advance<'b, 'a>(
     match cursor.quad_of() {
         None => Ok(()),
         Some((pass, quad)) => {
-            let inner = cursor.quad(alloc, images, pass, quad, walked)?;
+            let inner = cursor.quad(alloc, active, pass, quad, walked)?;
             cursor.go_on();
             stack.push(cursor)?;
             push_some(stack, inner)?;
@@ -62,17 +62,17 @@ fn advance<'b, 'a>(
 /// The walk over a stack, cursor by cursor. None is answered where it is too much.
 fn run<'b, 'a>(
     alloc: Global,
-    images: &Images<'b, 'a>,
+    active: &ActiveFrames<'b, 'a>,
     mut stack: Vec<Cursor<'b, 'a>>,
     mut walked: Walked<'b, 'a>,
 ) -> Result<Option<Walked<'b, 'a>>, AllocError>
-    ensures { (all : List Meeting) → all ≡ walked.entry ++ stack_walked images.now stack.entry.items
+    ensures { (all : List Visit) → all ≡ walked.entry ++ stack_walked active.now stack.entry.items
         → IfOk result (IsWalk all) }
 {
     'quads: while !walked.is_too_much() {
         match stack.pop() {
             None => return Ok(Some(walked)),
-            Some(cursor) => advance(alloc, images, cursor, &mut stack, &mut walked)?,
+            Some(cursor) => advance(alloc, active, cursor, &mut stack, &mut walked)?,
         }
     }
     Ok(None)
@@ -82,23 +82,23 @@ fn run<'b, 'a>(
 /// 65,537 quads. Condition: the size is a display's.
 pub fn walk_of<'b, 'a>(
     alloc: Global,
-    images: &'b [SubmittedFrame<'a>],
+    active: &'b [SubmittedFrame<'a>],
     root: &SurfaceId,
     size: Size,
 ) -> Result<Option<Walked<'b, 'a>>, AllocError>
     requires { IsDisplaySize size }
     ensures { IfOk result
-        (IsWalk (walk_of size (record { root = root.now; images = images.now }))) }
+        (IsWalk (walk_of size (record { root = root.now; active = active.now }))) }
 {
-    let shown = Images::new(alloc, images)?;
+    let shown = ActiveFrames::new(alloc, active)?;
     let mut walked = Walked::new(alloc);
-    match shown.image_on(root) {
+    match shown.frame_on(root) {
         None => Ok(Some(walked)),
-        Some(image) => {
+        Some(submitted) => {
             let place = whole(size);
-            walked.add_enters(1, image, place)?;
+            walked.add_enters(1, submitted, place)?;
             let mut stack = Vec::new(alloc);
-            push_some(&mut stack, enter(alloc, 65, &[], image, place)?)?;
+            push_some(&mut stack, enter(alloc, 65, &[], submitted, place)?)?;
             Ok(run(alloc, &shown, stack, walked)?)
         }
     }

@@ -42,7 +42,8 @@ fn add(out: &mut Room<FrameSinkId>, sink: FrameSinkId)
 
 /// Appends the children of a sink, each unless it is there.
 fn follow(relations: &[(FrameSinkId, FrameSinkId)], from: FrameSinkId, out: &mut Room<FrameSinkId>)
-    requires { length (adding same_sink out.old.list (children relations.now from)) ≤ length out.old.list + out.old.spare }
+    requires { length (adding same_sink out.old.list (children relations.now from))
+        ≤ length out.old.list + out.old.spare }
     ensures list { out.new.list ≡ adding same_sink out.old.list (children relations.now from) }
     ensures room { length out.old.list + out.old.spare ≤ length out.new.list + out.new.spare }
 {

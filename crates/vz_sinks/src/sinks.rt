@@ -91,7 +91,9 @@ impl Sinks {
     pub fn new(sinks: &[FrameSinkId], alloc: Global) -> Result<Sinks, Memory>
         requires some { 0 < length sinks.now }
         requires few { length sinks.now ≤ MOST_FILES }
-        ensures { IfOk result (λ s. (slice_get sinks.now 0 ≡ Some s.first) × (s.seats ≡ seats_from 1 sinks.now) × (s.relations ≡ [])) }
+        ensures { IfOk result
+            (λ s. (slice_get sinks.now 0 ≡ Some s.first) × (s.seats ≡ seats_from 1 sinks.now)
+            × (s.relations ≡ [])) }
     {
         let first = sinks[0];
         let mut seats = Vec::new(alloc);
@@ -120,10 +122,12 @@ impl Sinks {
         alloc: Global,
     ) -> Result<(), SinkError>
         ensures granted { OnOk result (refusal_in self.old by parent child ≡ None) }
-        ensures refused { IfErr result (λ e. (e ≡ error.Memory) ⊎ (refusal_in self.old by parent child ≡ Some e)) }
+        ensures refused { IfErr result
+            (λ e. (e ≡ error.Memory) ⊎ (refusal_in self.old by parent child ≡ Some e)) }
         ensures first { self.new.first ≡ self.old.first }
         ensures seats { self.new.seats ≡ self.old.seats }
-        ensures relations { OnOk result (self.new.relations ≡ relate parent child self.old.relations) }
+        ensures relations { OnOk result (self.new.relations
+            ≡ relate parent child self.old.relations) }
         ensures err { OnErr result (self.new.relations ≡ self.old.relations) }
     {
         if let Some(reason) = self.refusal(by, parent, child, alloc)? {
@@ -161,7 +165,8 @@ impl Sinks {
     ) -> Result<(), Memory>
         ensures first { self.new.first ≡ self.old.first }
         ensures seats { self.new.seats ≡ self.old.seats }
-        ensures relations { OnOk result (self.new.relations ≡ relate parent child self.old.relations) }
+        ensures relations { OnOk result (self.new.relations
+            ≡ relate parent child self.old.relations) }
         ensures err { OnErr result (self.new.relations ≡ self.old.relations) }
     {
         if is_related(&self.relations, &parent, &child) {
@@ -251,9 +256,12 @@ fn put_relation(
     child: FrameSinkId,
     alloc: Global,
 ) -> Result<(), Memory>
-    ensures items { OnOk result (relations.new.items ≡ relations.old.items ++ (parent, child) ∷ []) }
-    ensures reached { OnOk result ((sink : Id) → has_sink reached.new sink ≡ reaches relations.new.items first sink) }
-    ensures err { OnErr result ((relations.new.items ≡ relations.old.items) × (reached.new ≡ reached.old)) }
+    ensures items { OnOk result (relations.new.items
+        ≡ relations.old.items ++ (parent, child) ∷ []) }
+    ensures reached { OnOk result ((sink : Id)
+        → has_sink reached.new sink ≡ reaches relations.new.items first sink) }
+    ensures err { OnErr result ((relations.new.items ≡ relations.old.items)
+        × (reached.new ≡ reached.old)) }
 {
     let mut room = Room::new(alloc);
     room.reserve(relations.len() + 2)?;

@@ -23,25 +23,25 @@ frame_fits m local frame fits is =
     (format, (and_parts (fits_local local) (fits_frame format frame) all).1)
 
 -- a client whose listings are lent and whose answered begin-frame is noted
-abbrev pub submitted : ℕ → CompositorFrame → Client → Client
-submitted tick frame c = answer_tick tick frame.metadata.ack (record c { resources = map (lend frame.resources) c.resources })
+abbrev pub after_submit : ℕ → CompositorFrame → Client → Client
+after_submit tick frame c = answer_tick tick frame.metadata.ack (record c { resources = map (lend frame.resources) c.resources })
 
 -- what was done is what accepting a submission does
 pub accepted_is : (w v1 v2 v3 : World) (x : Client) (local : LocalSurfaceId) (frame : CompositorFrame) (id : SurfaceId) (submission : Submission) (tick ordinal index : ℕ)
-    → ordinal ≡ submission.image.sub.ordinal → index ≡ submission.image.index → id_of x local ≡ id → submission ≡ new_submission w x local frame → tick ≡ w.tick
+    → ordinal ≡ submission.submitted.sub.ordinal → index ≡ submission.submitted.index → id_of x local ≡ id → submission ≡ new_submission w x local frame → tick ≡ w.tick
     → v1 ≡ record w { surfaces = with_surface w x local frame } → v2 ≡ record v1 { subs = map (replace_on id) v1.subs ++ submission ∷ [] }
-    → v3 ≡ taking (submitted tick frame) x v2
+    → v3 ≡ taking (after_submit tick frame) x v2
     → says (reply.Accepted ordinal index) v3 ≡ accepted w x local frame
 unfolding accepted
 accepted_is w v1 v2 v3 x local frame id submission tick ordinal index o n own submissions ticks e1 e2 e3 =
     let adding_submission : World → World = λ u. record u { subs = map (replace_on id) u.subs ++ submission ∷ [] } in
     let wide : World = record w { surfaces = with_surface w x local frame } in
     let answer : SurfaceId → Submission → Answer = λ i s. record {
-      reply = reply.Accepted s.image.sub.ordinal s.image.index;
-      world = record (taking (submitted w.tick frame) x w) { surfaces = with_surface w x local frame; subs = map (replace_on i) w.subs ++ s ∷ [] };
+      reply = reply.Accepted s.submitted.sub.ordinal s.submitted.index;
+      world = record (taking (after_submit w.tick frame) x w) { surfaces = with_surface w x local frame; subs = map (replace_on i) w.subs ++ s ∷ [] };
     } in
-    ap (λ k. says (reply.Accepted k index) v3) o ∙ (ap (λ k. says (reply.Accepted submission.image.sub.ordinal k) v3) n ∙ (ap (says (reply.Accepted submission.image.sub.ordinal submission.image.index))
-    (e3 ∙ (ap (λ (t : ℕ). taking (submitted t frame) x v2) ticks ∙ ap (taking (submitted w.tick frame) x) (e2 ∙ ap adding_submission e1)))
+    ap (λ k. says (reply.Accepted k index) v3) o ∙ (ap (λ k. says (reply.Accepted submission.submitted.sub.ordinal k) v3) n ∙ (ap (says (reply.Accepted submission.submitted.sub.ordinal submission.submitted.index))
+    (e3 ∙ (ap (λ (t : ℕ). taking (after_submit t frame) x v2) ticks ∙ ap (taking (after_submit w.tick frame) x) (e2 ∙ ap adding_submission e1)))
     ∙ (ap (λ i. answer i submission) (sym own) ∙ ap (λ s. answer (id_of x local) s) submissions)))
 
 -- the client is found as before where only surfaces and submissions were added

@@ -2,7 +2,7 @@
 use Rattle.std.proofs.Common.{◌≡◌, Bool, cond, Option, Some, None, List, [], ◌∷◌, map, length, ap, ◌∙◌, if◌then◌else◌}
 use Rattle.std.specs.List.{flat_map}
 use Rattle.vz_ids.specs.declared.SurfaceId.{SurfaceId}
-use Rattle.vz_rules.specs.World.{World, Client, Image, active_images, exists, Submission, Created}
+use Rattle.vz_rules.specs.World.{World, Client, FrameData, active_frames, exists, Submission, Created}
 use Rattle.vz_rules.specs.Reach.{naming, destroy, drop_on, lost_in, lost_of, reach, clearing, collect, destroyed_in, root_list, roots, referenced}
 use Rattle.vz_rules.specs.Closure.{closure}
 use Rattle.vz_ids.specs.Ids.{same_surface}
@@ -40,9 +40,9 @@ root_by w o = elim o [ Some id ↦ (if exists w id then id ∷ [] else []) | Non
 pub root_is : (w : World) (id : SurfaceId) (t : Bool) → w.root ≡ Some id → exists w id ≡ t → root_list w ≡ cond t (id ∷ []) []
 root_is w id t e h = ap (root_by w) e ∙ ap (λ (k : Bool). if k then id ∷ [] else []) h
 
--- the closure over the active images is what is reached
-pub reach_is : (w : World) (images images' : List Image) (submissions : List Submission) (ids : List SurfaceId) → images' ≡ images → images ≡ active_images submissions → submissions ≡ w.subs
-    → ids ≡ closure same_surface (referenced w) (length images') (roots w) → ids ≡ reach w
+-- the closure over the active frames is what is reached
+pub reach_is : (w : World) (active active' : List FrameData) (submissions : List Submission) (ids : List SurfaceId) → active' ≡ active → active ≡ active_frames submissions → submissions ≡ w.subs
+    → ids ≡ closure same_surface (referenced w) (length active') (roots w) → ids ≡ reach w
 unfolding reach
-reach_is w images images' submissions ids e f g is =
-    is ∙ ap (λ (l : List Image). closure same_surface (referenced w) (length l) (roots w)) (e ∙ (f ∙ ap active_images g))
+reach_is w active active' submissions ids e f g is =
+    is ∙ ap (λ (l : List FrameData). closure same_surface (referenced w) (length l) (roots w)) (e ∙ (f ∙ ap active_frames g))

@@ -28,22 +28,22 @@ naming_is w v e surfaces is =
 
 -- an end of a submission's references names a surface where a reference of it does
 end_names : (w : World) (id : SurfaceId) (s : Submission) → list_any (λ i. at_least i id) (ends_of w s)
-    ≡ (is_active s && exists w s.image.id && list_any (names id) s.image.frame.metadata.references)
-end_names w id s = by (is_active s && exists w s.image.id)
+    ≡ (is_active s && exists w s.submitted.id && list_any (names id) s.submitted.frame.metadata.references)
+end_names w id s = by (is_active s && exists w s.submitted.id)
   where
-    by : (t : Bool) → list_any (λ i. at_least i id) (if t then map (λ (r : SurfaceRange). r.end) s.image.frame.metadata.references else [])
-        ≡ (t && list_any (names id) s.image.frame.metadata.references)
-    by true = any_map (λ i. at_least i id) (λ (r : SurfaceRange). r.end) s.image.frame.metadata.references
+    by : (t : Bool) → list_any (λ i. at_least i id) (if t then map (λ (r : SurfaceRange). r.end) s.submitted.frame.metadata.references else [])
+        ≡ (t && list_any (names id) s.submitted.frame.metadata.references)
+    by true = any_map (λ i. at_least i id) (λ (r : SurfaceRange). r.end) s.submitted.frame.metadata.references
     by false = refl
 
 -- and so it is with all of them
 ends_name : (w : World) (id : SurfaceId) (subs : List Submission) → list_any (λ i. at_least i id) (flat_map (ends_of w) subs)
-    ≡ list_any (λ (s : Submission). is_active s && exists w s.image.id && list_any (names id) s.image.frame.metadata.references) subs
+    ≡ list_any (λ (s : Submission). is_active s && exists w s.submitted.id && list_any (names id) s.submitted.frame.metadata.references) subs
 ends_name w id [] = refl
 ends_name w id (s ∷ ss) =
     list_any-append (λ i. at_least i id) (ends_of w s) (flat_map (ends_of w) ss)
     ∙ (ap (λ t. t || list_any (λ i. at_least i id) (flat_map (ends_of w) ss)) (end_names w id s)
-    ∙ ap (λ t. (is_active s && exists w s.image.id && list_any (names id) s.image.frame.metadata.references) || t) (ends_name w id ss))
+    ∙ ap (λ t. (is_active s && exists w s.submitted.id && list_any (names id) s.submitted.frame.metadata.references) || t) (ends_name w id ss))
 
 -- the flags by the ends are those of the surfaces that are named now
 pub flags_are : (w : World) (subs : List Submission) (ends : List SurfaceId) (surfaces : List Created) → subs ≡ w.subs → ends ≡ flat_map (ends_of w) subs

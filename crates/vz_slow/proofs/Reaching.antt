@@ -11,7 +11,7 @@ use Rattle.vz_rules.specs.declared.entry.Effects.{Effects}
 use Rattle.vz_rules.specs.declared.entry.Lost.{Lost}
 use Rattle.vz_rules.specs.declared.entry.Returned.{Returned}
 use Rattle.vz_rules.specs.declared.entry.Fed.{Fed}
-use Rattle.vz_rules.specs.World.{World, Machine, opening, active_images}
+use Rattle.vz_rules.specs.World.{World, Machine, opening, active_frames}
 use Rattle.vz_rules.specs.Kept.{Keeps, no_effects}
 use Rattle.vz_rules.specs.Ends.{landed}
 use Rattle.vz_rules.specs.Returns.{give_back, returned_in, feed, fed_in}
@@ -159,6 +159,6 @@ opening_done p over e is none =
     let w : World = record (opening p) { over = over } in
     done_nothing p w w e (reached_first p over is).keeps refl none refl
 
-pub opening_images : (p : Plan) (over : Bool) → active_images (record (opening p) { over = over }).subs ≡ []
+pub opening_frames : (p : Plan) (over : Bool) → active_frames (record (opening p) { over = over }).subs ≡ []
 unfolding opening
-opening_images p over = refl
+opening_frames p over = refl

@@ -17,7 +17,7 @@ any_map p f (x ∷ xs) = ap (λ t. p (f x) || t) (any_map p f xs)
 -- the names of what rose
 pub subs_noted : (surfaces : List Created) (xs : List Submission) → map (λ (r : Risen). r.sub) (map (risen_of surfaces) xs) ≡ map sub_of xs
 subs_noted surfaces [] = refl
-subs_noted surfaces (x ∷ xs) = ap (λ l. x.image.sub ∷ l) (subs_noted surfaces xs)
+subs_noted surfaces (x ∷ xs) = ap (λ l. x.submitted.sub ∷ l) (subs_noted surfaces xs)
 
 -- a submission by two tests
 abbrev pub gone_on : (Submission → Bool) → (Submission → Bool) → Submission → Submission
@@ -35,8 +35,8 @@ pub round_is : (w v : World) → v ≡ w → (rs : List Risen) → rs ≡ map (r
     → ◌≡◌ {A = World} (record v { subs = submissions; surfaces = surfaces }) (round w)
 unfolding round
 round_is w v e rs rises bs becomes ts replaced ms marked submissions submissions_are surfaces surfaces_are =
-    let q : Submission → Bool = λ s. list_any (is_on s.image.id) (ready w) in
-    let same : on_same rs ≡ q = λ i s. (ap (λ (l : List Risen). on_same l s) rises ∙ any_map (λ (r : Risen). same_surface r.id s.image.id) (risen_of w.surfaces) (ready w)) i in
+    let q : Submission → Bool = λ s. list_any (is_on s.submitted.id) (ready w) in
+    let same : on_same rs ≡ q = λ i s. (ap (λ (l : List Risen). on_same l s) rises ∙ any_map (λ (r : Risen). same_surface r.id s.submitted.id) (risen_of w.surfaces) (ready w)) i in
     let m : Created → Bool = λ c. list_any (is_before w.surfaces c) (ready w) in
     let later : on_later rs ≡ m = λ i c. (ap (λ (l : List Risen). on_later l c) rises ∙ any_map (λ (r : Risen). (c.client == r.sub.client) && nat_lt c.number r.number) (risen_of w.surfaces) (ready w)) i in
     let one : submissions ≡ map (gone_on (is_ready w) q) w.subs =

@@ -12,10 +12,10 @@ use vz_ids::SurfaceId;
 use vz_rules::{Plan, Reply};
 use vz_scene::claims::drawn_damage;
 use vz_scene::damage::{remember, walked_subs};
-use vz_scene::scene::image_on;
+use vz_scene::scene::frame_on;
 use vz_scene::walk::walk_of;
 use vz_scene::{Aggregation, SubmittedFrame};
-use vz_state::{accepted_frames, active_images};
+use vz_state::{accepted_frames, active_frames};
 
 /// Whether there was an aggregation and the damage is empty.
 fn is_unchanged(last: &Option<Aggregation>, damage: &Rect) -> bool
@@ -33,20 +33,20 @@ impl<'a> World<'a> {
         &mut self,
         plan: &Plan,
         root: SurfaceId,
-        images: &[SubmittedFrame<'a>],
+        active: &[SubmittedFrame<'a>],
     ) -> Result<Reply, AllocError>
         ensures { IfOk result (λ r. says r self.new
-            ≡ scene_answer plan.now self.old (record { root = root; images = images.now })) }
+            ≡ scene_answer plan.now self.old (record { root = root; active = active.now })) }
     {
         let size = plan.size();
-        match walk_of(self.alloc, images, &root, size)? {
+        match walk_of(self.alloc, active, &root, size)? {
             None => Ok(Reply::TooMuch),
             Some(walked) => {
-                let met = walked.met();
+                let visits = walked.visits();
                 let accepted = accepted_frames(self.alloc, &self.subs)?;
-                let damage = drawn_damage(self.alloc, size, &self.last, &accepted, &root, met)?;
-                let aggregation = remember(self.alloc, root, images, met)?;
-                let subs = walked_subs(self.alloc, images, met)?;
+                let damage = drawn_damage(self.alloc, size, &self.last, &accepted, &root, visits)?;
+                let aggregation = remember(self.alloc, root, active, visits)?;
+                let subs = walked_subs(self.alloc, active, visits)?;
                 if is_unchanged(&self.last, &damage) {
                     self.last = Some(aggregation);
                     return Ok(Reply::Unchanged);
@@ -68,10 +68,10 @@ impl<'a> World<'a> {
         match self.root {
             None => Ok(Reply::NoRoot),
             Some(root) => {
-                let images = active_images(self.alloc, &self.subs)?;
-                match image_on(&images, &root) {
+                let active = active_frames(self.alloc, &self.subs)?;
+                match frame_on(&active, &root) {
                     None => Ok(Reply::NoRoot),
-                    Some(_) => Ok(self.draw_scene(plan, root, &images)?),
+                    Some(_) => Ok(self.draw_scene(plan, root, &active)?),
                 }
             }
         }

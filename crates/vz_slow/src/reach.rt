@@ -2,7 +2,7 @@
 ghost use Rattle.std.specs.Prelude.{◌≡◌, ◌∷◌, [], map, filter, length, IfOk};
 ghost use Rattle.std.specs.List.{flat_map};
 ghost use Rattle.vz_ids.specs.Ids.{same_surface};
-ghost use Rattle.vz_rules.specs.World.{active_images};
+ghost use Rattle.vz_rules.specs.World.{active_frames};
 ghost use Rattle.vz_rules.specs.Closure.{closure};
 ghost use Rattle.vz_rules.specs.Reach.{is_temporary, root_list, roots, referenced, reach};
 
@@ -10,8 +10,8 @@ use crate::world::World;
 use std::alloc::{AllocError, Global};
 use vz_ids::SurfaceId;
 use vz_scene::SubmittedFrame;
-use vz_scene::scene::image_on;
-use vz_state::{Surface, active_images, add_ids, all_shown, exists, has_closed};
+use vz_scene::scene::frame_on;
+use vz_state::{Surface, active_frames, add_ids, all_shown, exists, has_closed};
 
 impl<'a> World<'a> {
     /// Whether a surface is temporary: it exists, was not named, its client is not closed, and
@@ -64,55 +64,55 @@ impl<'a> World<'a> {
     }
 
     /// What the active frame of a surface references, as it is shown. Condition: these are the
-    /// active images.
+    /// active frames.
     #[tactic(auto, unfolding(vz_rules::specs::Scene::shown))]
     fn referenced(
         &self,
-        images: &[SubmittedFrame<'a>],
+        active: &[SubmittedFrame<'a>],
         id: &SurfaceId,
     ) -> Result<Vec<SurfaceId>, AllocError>
-        requires { images.now ≡ active_images self.now.subs }
+        requires { active.now ≡ active_frames self.now.subs }
         ensures { IfOk result (λ v. v.items ≡ referenced self.now id.now) }
     {
-        match image_on(images, id) {
+        match frame_on(active, id) {
             None => Ok(Vec::new(self.alloc)),
-            Some(image) => Ok(all_shown(
+            Some(submitted) => Ok(all_shown(
                 self.alloc,
-                images,
-                image.frame().metadata.references.as_slice(),
+                active,
+                submitted.frame().metadata.references.as_slice(),
             )?),
         }
     }
 
-    /// What the active frames of surfaces reference. Condition: these are the active images.
+    /// What the active frames of surfaces reference. Condition: these are the active frames.
     fn all_referenced(
         &self,
-        images: &[SubmittedFrame<'a>],
+        active: &[SubmittedFrame<'a>],
         ids: &[SurfaceId],
     ) -> Result<Vec<SurfaceId>, AllocError>
-        requires { images.now ≡ active_images self.now.subs }
+        requires { active.now ≡ active_frames self.now.subs }
         ensures { IfOk result (λ v. v.items ≡ flat_map (referenced self.now) ids.now) }
     {
         let mut all = Vec::new(self.alloc);
         for id in ids {
-            let mut some = self.referenced(images, id)?;
+            let mut some = self.referenced(active, id)?;
             all.append(&mut some)?;
         }
         Ok(all)
     }
 
     /// The reached surfaces. A step that adds none is the last. Condition: these are the active
-    /// images.
-    fn reach_over(&self, images: &[SubmittedFrame<'a>]) -> Result<Vec<SurfaceId>, AllocError>
-        requires { images.now ≡ active_images self.now.subs }
+    /// frames.
+    fn reach_over(&self, active: &[SubmittedFrame<'a>]) -> Result<Vec<SurfaceId>, AllocError>
+        requires { active.now ≡ active_frames self.now.subs }
         ensures { IfOk result (λ v. v.items
-            ≡ closure same_surface (referenced self.now) (length images.now) (roots self.now)) }
+            ≡ closure same_surface (referenced self.now) (length active.now) (roots self.now)) }
     {
         let mut ids = self.roots()?;
-        let mut left = images.len();
+        let mut left = active.len();
         while left > 0 {
             left -= 1;
-            let others = self.all_referenced(images, &ids)?;
+            let others = self.all_referenced(active, &ids)?;
             let before = ids.len();
             add_ids(&mut ids, &others)?;
             if ids.len() == before {
@@ -126,8 +126,8 @@ impl<'a> World<'a> {
     pub fn reach(&self) -> Result<Vec<SurfaceId>, AllocError>
         ensures { IfOk result (λ v. v.items ≡ reach self.now) }
     {
-        let images = active_images(self.alloc, &self.subs)?;
-        Ok(self.reach_over(&images)?)
+        let active = active_frames(self.alloc, &self.subs)?;
+        Ok(self.reach_over(&active)?)
     }
 }
 

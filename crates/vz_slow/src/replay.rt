@@ -16,7 +16,8 @@ use vz_rules::{Entry, Event, History, Plan};
 fn go_on(machine: &mut Slow<'_>, event: Event) -> Result<(), Memory>
     requires { NamesClient machine.old.plan event }
     ensures plan { machine.new.plan ≡ machine.old.plan }
-    ensures world { OnOk result (machine.new.world ≡ (step_in machine.old.plan machine.old.world event).world) }
+    ensures world { OnOk result (machine.new.world
+        ≡ (step_in machine.old.plan machine.old.world event).world) }
 {
     match machine.step(event) {
         Ok(_) => Ok(()),
@@ -34,7 +35,8 @@ fn machine_after<'a>(
 ) -> Result<Slow<'a>, Memory>
     requires count { n ≤ length h.now }
     requires named { NamesClients plan.now h.now }
-    ensures { IfOk result (λ m. m ≡ record { plan = plan.now; world = world plan.now (take n h.now) }) }
+    ensures { IfOk result
+        (λ m. m ≡ record { plan = plan.now; world = world plan.now (take n h.now) }) }
 {
     let mut machine = Slow::new(alloc, plan);
     for k in 0..n {
@@ -54,8 +56,8 @@ pub fn plain_frame(alloc: Global, plan: &Plan, h: &History, n: usize) -> Result<
     ensures { IfOk result (λ l. l ≡ picture_in plan.now (world plan.now (take n h.now))) }
 {
     let machine = machine_after(alloc, plan, h.as_slice(), n)?;
-    let images = machine.images()?;
-    match picture(alloc, &images, &machine.root(), plan.size()) {
+    let active = machine.active()?;
+    match picture(alloc, &active, &machine.root(), plan.size()) {
         Ok(colours) => Ok(List::from_vec(colours)),
         Err(_) => Err(Memory),
     }

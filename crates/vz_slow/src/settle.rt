@@ -2,7 +2,7 @@
 ghost use Rattle.std.specs.Prelude.{◌≡◌, ◌==◌, ◌&&◌, nat_lt, map, [], length, IsTrue, IfOk, OnOk};
 ghost use Rattle.std.specs.List.{list_any, list_all};
 ghost use Rattle.vz_ids.specs.Ids.{same_surface};
-ghost use Rattle.vz_rules.specs.Settle.{met, has_come, is_ready, ready, round, settle, activated_in};
+ghost use Rattle.vz_rules.specs.Settle.{is_met, has_come, is_ready, ready, round, settle, activated_in};
 ghost use Rattle.vz_state.specs.Rising.{risen_of, AreSigns};
 
 use crate::world::World;
@@ -15,9 +15,9 @@ use vz_state::{
 
 impl<'a> World<'a> {
     /// Whether a dependency is met.
-    #[tactic(auto, unfolding(vz_rules::specs::Settle::met))]
+    #[tactic(auto, unfolding(vz_rules::specs::Settle::is_met))]
     fn is_met(&self, d: &SurfaceId) -> bool
-        ensures { result ≡ met self.now d.now }
+        ensures { result ≡ is_met self.now d.now }
     {
         was_met(&self.subs, d) || is_gone(&self.clients, d.sink)
     }
@@ -33,7 +33,7 @@ impl<'a> World<'a> {
 
     /// Whether dependencies are all met.
     fn are_met(&self, dependencies: &[SurfaceId]) -> bool
-        ensures { result ≡ list_all (met self.now) dependencies.now }
+        ensures { result ≡ list_all (is_met self.now) dependencies.now }
     {
         dependencies.iter().all(|d| self.is_met(d))
     }
@@ -83,7 +83,7 @@ impl<'a> World<'a> {
     /// For each submission, whether one that rose is on its surface.
     fn replaced_flags(&self, risen: &[Risen]) -> Result<Vec<bool>, AllocError>
         ensures { IfOk result (λ v. v.items
-            ≡ map (λ s. list_any (λ r. same_surface r.id s.image.id) risen.now) self.now.subs) }
+            ≡ map (λ s. list_any (λ r. same_surface r.id s.submitted.id) risen.now) self.now.subs) }
     {
         self.subs
             .iter()

@@ -1,7 +1,7 @@
 //! The plain machine, step by step.
 ghost use Rattle.std.specs.Prelude.{◌≡◌, ◌≤◌, None, true, [], IfOk, OnOk, OnErr};
 ghost use Rattle.vz_rules.specs.declared.entry.Event.TheVariants as event;
-ghost use Rattle.vz_rules.specs.World.{opening, active_images};
+ghost use Rattle.vz_rules.specs.World.{opening, active_frames};
 ghost use Rattle.vz_rules.specs.Messages.{says};
 ghost use Rattle.vz_rules.specs.Step.{outcome_of, step_in, NamesClient};
 ghost use Rattle.vz_rules.specs.Log.{rest_in};
@@ -18,7 +18,7 @@ use vz_ids::SurfaceId;
 use vz_pixels::Memory;
 use vz_rules::{Effects, Event, Fed, Plan, Reply, Rest, Returned};
 use vz_scene::SubmittedFrame;
-use vz_state::{Client, active_images, make_room};
+use vz_state::{Client, active_frames, make_room};
 
 /// Where the machine stands: at the opening of its plan, for which no memory was taken yet, or
 /// in a world that it has gone on to.
@@ -131,7 +131,8 @@ impl<'a> Slow<'a> {
     /// is then left.
     fn finish(&mut self, mut next: World<'a>, reply: Reply) -> Result<(Reply, Effects), AllocError>
         requires { IsReached self.old.plan (outcome_of [] (says reply next)).world }
-        ensures ok { IfOk result (λ o. IsOutcome (outcome_of [] (says reply next.entry)) o self.new.world) }
+        ensures ok { IfOk result
+            (λ o. IsOutcome (outcome_of [] (says reply next.entry)) o self.new.world) }
         ensures plan { self.new.plan ≡ self.old.plan }
         ensures err { OnErr result (self.new ≡ self.old) }
     {
@@ -145,7 +146,8 @@ impl<'a> Slow<'a> {
     /// The next message of a client. Condition: the plan has that client.
     fn client(&mut self, c: u32) -> Result<(Reply, Effects), AllocError>
         requires { NamesClient self.old.plan (event.Client c) }
-        ensures ok { IfOk result (λ o. IsOutcome (step_in self.old.plan self.old.world (event.Client c)) o self.new.world) }
+        ensures ok { IfOk result
+            (λ o. IsOutcome (step_in self.old.plan self.old.world (event.Client c)) o self.new.world) }
         ensures plan { self.new.plan ≡ self.old.plan }
         ensures err { OnErr result (self.new ≡ self.old) }
     {
@@ -156,7 +158,8 @@ impl<'a> Slow<'a> {
 
     /// A begin-frame.
     fn begin(&mut self) -> Result<(Reply, Effects), AllocError>
-        ensures ok { IfOk result (λ o. IsOutcome (step_in self.old.plan self.old.world event.Begin) o self.new.world) }
+        ensures ok { IfOk result
+            (λ o. IsOutcome (step_in self.old.plan self.old.world event.Begin) o self.new.world) }
         ensures plan { self.new.plan ≡ self.old.plan }
         ensures err { OnErr result (self.new ≡ self.old) }
     {
@@ -167,7 +170,8 @@ impl<'a> Slow<'a> {
 
     /// A drawing.
     fn draw(&mut self) -> Result<(Reply, Effects), AllocError>
-        ensures ok { IfOk result (λ o. IsOutcome (step_in self.old.plan self.old.world event.Draw) o self.new.world) }
+        ensures ok { IfOk result
+            (λ o. IsOutcome (step_in self.old.plan self.old.world event.Draw) o self.new.world) }
         ensures plan { self.new.plan ≡ self.old.plan }
         ensures err { OnErr result (self.new ≡ self.old) }
     {
@@ -201,7 +205,8 @@ impl<'a> Slow<'a> {
     /// world before. Condition: a client's event names a client of the plan.
     pub fn step(&mut self, event: Event) -> Result<(Reply, Effects), Memory>
         requires { NamesClient self.old.plan event }
-        ensures step { IfOk result (λ o. IsOutcome (step_in self.old.plan self.old.world event) o self.new.world) }
+        ensures step { IfOk result
+            (λ o. IsOutcome (step_in self.old.plan self.old.world event) o self.new.world) }
         ensures plan { self.new.plan ≡ self.old.plan }
         ensures err { OnErr result (self.new ≡ self.old) }
     {
@@ -219,22 +224,22 @@ impl<'a> Slow<'a> {
     }
 
     /// The active frames, in the order of acceptance.
-    pub fn images(&self) -> Result<Vec<SubmittedFrame<'a>>, Memory>
-        ensures { IfOk result (λ v. v.items ≡ active_images self.now.world.subs) }
+    pub fn active(&self) -> Result<Vec<SubmittedFrame<'a>>, Memory>
+        ensures { IfOk result (λ v. v.items ≡ active_frames self.now.world.subs) }
     {
-        match self.images_of_world() {
-            Ok(images) => Ok(images),
+        match self.frames_of_world() {
+            Ok(active) => Ok(active),
             Err(_) => Err(Memory),
         }
     }
 
     /// The same, of the world as it is kept.
-    fn images_of_world(&self) -> Result<Vec<SubmittedFrame<'a>>, AllocError>
-        ensures { IfOk result (λ v. v.items ≡ active_images self.now.world.subs) }
+    fn frames_of_world(&self) -> Result<Vec<SubmittedFrame<'a>>, AllocError>
+        ensures { IfOk result (λ v. v.items ≡ active_frames self.now.world.subs) }
     {
         match &self.stage {
             Stage::Opening { .. } => Ok(Vec::new(self.alloc)),
-            Stage::Running(world) => Ok(active_images(self.alloc, &world.subs)?),
+            Stage::Running(world) => Ok(active_frames(self.alloc, &world.subs)?),
         }
     }
 

@@ -31,7 +31,8 @@ impl<'a> World<'a> {
     ) -> Result<Submission<'a>, AllocError>
         requires small { IsSmall self.now }
         requires fits { FitsFile frame.now }
-        ensures { (x : ClientState) (local : Local) → x.number ≡ c → id_of x local ≡ id → map (λ b. b.now) blocks.entry.items ≡ blocks_of x.resources frame.now
+        ensures { (x : ClientState) (local : Local) → x.number ≡ c → id_of x local ≡ id
+            → map (λ b. b.now) blocks.entry.items ≡ blocks_of x.resources frame.now
             → IfOk result (λ r. r ≡ new_submission self.now x local frame.now) }
     {
         let ordinal = number_after(count_of_client(&self.subs, c));
@@ -52,7 +53,8 @@ impl<'a> World<'a> {
     ) -> Result<(), AllocError>
         requires { length self.old.surfaces ≤ 65536 }
         ensures { (x : ClientState) (local : Local) → x.number ≡ c → id_of x local ≡ id
-            → OnOk result (self.new ≡ record self.old { surfaces = with_surface self.old x local frame.now }) }
+            → OnOk result (self.new
+            ≡ record self.old { surfaces = with_surface self.old x local frame.now }) }
     {
         if is_last(last_created(&self.surfaces, c), &id.local) {
             return Ok(());
@@ -70,7 +72,11 @@ impl<'a> World<'a> {
         id: &SurfaceId,
         submission: Submission<'a>,
     ) -> Result<(), AllocError>
-        ensures { OnOk result (self.new ≡ record self.old { subs = map (replace_on id.now) self.old.subs ++ submission.entry ∷ [] }) }
+        ensures { OnOk result (self.new
+            ≡ record self.old {
+              subs = map (replace_on id.now) self.old.subs ++ submission.entry
+                  ∷ [];
+            }) }
     {
         replace_all(&mut self.subs, id);
         self.subs.push(submission)?;
@@ -87,7 +93,9 @@ impl<'a> World<'a> {
     ) -> Result<Reply, AllocError>
         requires small { IsSmall self.old }
         requires fits { FitsFile frame.now }
-        ensures { (x : ClientState) (local : Local) → client_at self.old c ≡ Some x → id_of x local ≡ id → map (λ b. b.now) blocks.entry.items ≡ blocks_of x.resources frame.now
+        ensures { (x : ClientState) (local : Local) → client_at self.old c ≡ Some x
+            → id_of x local ≡ id
+            → map (λ b. b.now) blocks.entry.items ≡ blocks_of x.resources frame.now
             → IfOk result (λ r. says r self.new ≡ accepted self.old x local frame.now) }
     {
         let tick = self.tick;
@@ -111,8 +119,10 @@ impl<'a> World<'a> {
     ) -> Result<Reply, AllocError>
         requires small { IsSmall self.old }
         requires fits { FitsFile frame.now }
-        ensures { (x : ClientState) (local : Local) → client_at self.old c ≡ Some x → refusal ≡ submit_refusal (last_created self.old x.number) x.resources local frame.now
-            → id_of x local ≡ id → map (λ b. b.now) blocks.entry.items ≡ blocks_of x.resources frame.now
+        ensures { (x : ClientState) (local : Local) → client_at self.old c ≡ Some x
+            → refusal ≡ submit_refusal (last_created self.old x.number) x.resources local frame.now
+            → id_of x local ≡ id
+            → map (λ b. b.now) blocks.entry.items ≡ blocks_of x.resources frame.now
             → IfOk result (λ r. says r self.new ≡ submit_answer self.old x local frame.now) }
     {
         match refusal {

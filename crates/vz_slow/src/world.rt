@@ -23,9 +23,9 @@ pub struct World<'a> {
 }
 
 impl<'a> Model for World<'a> {
-    ghost use Rattle.vz_rules.specs.World.{World as Standing};
+    ghost use Rattle.vz_rules.specs.World.{World as Placement};
 
-    ghost Value = { Standing };
+    ghost Value = { Placement };
 
     ghost view = { λ m. record {
       clients = m.clients.items;

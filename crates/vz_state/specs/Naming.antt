@@ -4,18 +4,18 @@ use Rattle.std.specs.List.{list_any}
 use Rattle.vz_ids.specs.declared.SurfaceId.{SurfaceId}
 use Rattle.vz_ids.specs.declared.SurfaceRange.{SurfaceRange}
 use Rattle.vz_ids.specs.Ids.{at_least}
-use Rattle.vz_rules.specs.World.{World, Image, Submission, Created, exists, is_active}
-use Rattle.vz_rules.specs.Scene.{shown_image}
+use Rattle.vz_rules.specs.World.{World, FrameData, Submission, Created, exists, is_active}
+use Rattle.vz_rules.specs.Scene.{shown_frame}
 
 -- the ends of what a submission references, where it is active and its surface exists
 abbrev pub ends_of : World → Submission → List SurfaceId
 ends_of w s =
-    if is_active s && exists w s.image.id then map (λ (r : SurfaceRange). r.end) s.image.frame.metadata.references else []
+    if is_active s && exists w s.submitted.id then map (λ (r : SurfaceRange). r.end) s.submitted.frame.metadata.references else []
 
 -- a surface exists, and one of these ends is it or a newer one of its group
 abbrev pub is_named_by : List SurfaceId → Created → Bool
 is_named_by ends c = not c.destroyed && list_any (λ i. at_least i c.id) ends
 
--- the surface that a range shows among these images
-abbrev pub shown_in : List Image → SurfaceRange → Option SurfaceId
-shown_in images range = elim (shown_image images range) [ Some i ↦ Some i.id | None ↦ None ]
+-- the surface that a range shows among these frames
+abbrev pub shown_in : List FrameData → SurfaceRange → Option SurfaceId
+shown_in active range = elim (shown_frame active range) [ Some i ↦ Some i.id | None ↦ None ]

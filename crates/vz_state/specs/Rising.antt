@@ -9,11 +9,11 @@ use Rattle.vz_state.specs.declared.risen.Signs.{Signs}
 
 -- what is noted of a submission: its surface, its name, and the number of the surface among those of its client
 abbrev pub risen_of : List Created → Submission → Risen
-risen_of surfaces s = record { id = s.image.id; sub = s.image.sub; number = number_of surfaces s }
+risen_of surfaces s = record { id = s.submitted.id; sub = s.submitted.sub; number = number_of surfaces s }
 
 -- one that rose is on the surface of a submission
 abbrev pub on_same : List Risen → Submission → Bool
-on_same rs s = list_any (λ (r : Risen). same_surface r.id s.image.id) rs
+on_same rs s = list_any (λ (r : Risen). same_surface r.id s.submitted.id) rs
 
 -- one that rose is on a later surface of the client
 abbrev pub on_later : List Risen → Created → Bool

@@ -24,7 +24,7 @@ pub fn number_after(count: usize) -> u32
 
 /// How many submissions of a client were accepted.
 pub fn count_of_client(submissions: &[Submission<'_>], c: u32) -> usize
-    ensures { result ≡ count_by (λ s. s.image.sub.client == c) submissions.now }
+    ensures { result ≡ count_by (λ s. s.submitted.sub.client == c) submissions.now }
 {
     submissions
         .iter()
@@ -79,7 +79,9 @@ fn add_block<'a>(
     listing: &Listing,
 ) -> Result<(), AllocError>
     ensures { OnOk result (map (λ b. b.now) blocks.new.items
-        ≡ map (λ b. b.now) blocks.old.items ++ cons_option (option_map (λ (s : ResourceState). s.block) (resource_in listing.now.id resources.now)) []) }
+        ≡ map (λ b. b.now) blocks.old.items
+        ++ cons_option (option_map
+        (λ (s : ResourceState). s.block) (resource_in listing.now.id resources.now)) []) }
 {
     match resource_of(resources, listing.id) {
         None => Ok(()),

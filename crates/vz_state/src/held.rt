@@ -55,7 +55,7 @@ pub fn all_held(alloc: Global, clients: &[Client<'_>]) -> Result<Vec<Returned>, 
 impl<'a> Submission<'a> {
     /// Whether it is a client's and has no feedback.
     pub fn is_unfed(&self, c: u32) -> bool
-        ensures { result ≡ ((self.now.image.sub.client == c) && not self.now.fed) }
+        ensures { result ≡ ((self.now.submitted.sub.client == c) && not self.now.fed) }
     {
         self.sub().client == c && !self.fed
     }

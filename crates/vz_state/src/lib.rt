@@ -38,5 +38,5 @@ pub use returns::{Holders, feed_all, give_back_clients, outs_of, unfed_of};
 pub use risen::{Risen, Signs, is_before_one, is_one_on};
 pub use room::make_room;
 pub use sinks::{has_sink, reached, reaches};
-pub use submission::{Submission, accepted_frames, active_images, was_met};
+pub use submission::{Submission, accepted_frames, active_frames, was_met};
 pub use surface::{Surface, exists, last_created, mark_client, number_of};

@@ -9,7 +9,7 @@ ghost use Rattle.vz_rules.specs.Reach.{has_id};
 use crate::surface::Surface;
 use std::alloc::{AllocError, Global};
 use vz_ids::{SurfaceId, SurfaceRange};
-use vz_scene::scene::shown_image;
+use vz_scene::scene::shown_frame;
 use vz_scene::{SubmittedFrame, is_at_least};
 
 /// The ends of ranges.
@@ -69,11 +69,11 @@ pub fn add_ids(ids: &mut Vec<SurfaceId>, others: &[SurfaceId]) -> Result<(), All
 }
 
 /// The surface that a range shows.
-fn shown(images: &[SubmittedFrame<'_>], range: &SurfaceRange) -> Option<SurfaceId>
-    ensures { result ≡ shown_in images.now range.now }
+fn shown(active: &[SubmittedFrame<'_>], range: &SurfaceRange) -> Option<SurfaceId>
+    ensures { result ≡ shown_in active.now range.now }
 {
-    match shown_image(images, range) {
-        Some(image) => Some(image.id()),
+    match shown_frame(active, range) {
+        Some(submitted) => Some(submitted.id()),
         None => None,
     }
 }
@@ -81,13 +81,13 @@ fn shown(images: &[SubmittedFrame<'_>], range: &SurfaceRange) -> Option<SurfaceI
 /// The surfaces that ranges show.
 pub fn all_shown(
     alloc: Global,
-    images: &[SubmittedFrame<'_>],
+    active: &[SubmittedFrame<'_>],
     ranges: &[SurfaceRange],
 ) -> Result<Vec<SurfaceId>, AllocError>
-    ensures { IfOk result (λ v. v.items ≡ filter_map (shown_in images.now) ranges.now) }
+    ensures { IfOk result (λ v. v.items ≡ filter_map (shown_in active.now) ranges.now) }
 {
     ranges
         .iter()
-        .filter_map(|range| shown(images, range))
+        .filter_map(|range| shown(active, range))
         .collect(alloc)
 }

@@ -3,7 +3,7 @@ ghost use Rattle.std.specs.Prelude.{◌≡◌};
 ghost use Rattle.std.specs.List.{list_any};
 ghost use Rattle.std.specs.Option.{option_copied};
 ghost use Rattle.vz_rules.specs.Messages.{is_unknown, violates, is_last, has_other_size, submit_refusal};
-ghost use Rattle.vz_ids.specs.Ids.{goes_on};
+ghost use Rattle.vz_ids.specs.Ids.{is_raised};
 ghost use Rattle.vz_frame.specs.Frame.{same_size};
 
 use crate::resource::{Resource, is_unknown};
@@ -22,8 +22,8 @@ fn is_same_size(a: Size, b: Size) -> bool
 }
 
 /// Whether no number of the new one is smaller, and one is greater.
-fn goes_on(old: &LocalSurfaceId, new: &LocalSurfaceId) -> bool
-    ensures { result ≡ goes_on old.now new.now }
+fn is_raised(old: &LocalSurfaceId, new: &LocalSurfaceId) -> bool
+    ensures { result ≡ is_raised old.now new.now }
 {
     old.parent <= new.parent
         && old.child <= new.child
@@ -36,7 +36,7 @@ fn violates(last: Option<&Surface>, local: &LocalSurfaceId) -> bool
 {
     match last {
         None => false,
-        Some(surface) => surface.id.local != *local && !goes_on(&surface.id.local, local),
+        Some(surface) => surface.id.local != *local && !is_raised(&surface.id.local, local),
     }
 }
 

@@ -79,8 +79,9 @@ impl<'b, 'a> Holders<'b, 'a> {
 
     /// Whether a submission of a client holds a resource.
     fn holds_of(&self, submission: &Submission<'_>, c: u32, id: u32) -> bool
-        ensures { result ≡ ((submission.now.image.sub.client == c) && holds self.now submission.now
-            && list_any (lists id) submission.now.image.frame.resources) }
+        ensures { result
+            ≡ ((submission.now.submitted.sub.client == c) && holds self.now submission.now
+            && list_any (lists id) submission.now.submitted.frame.resources) }
     {
         submission.sub().client == c
             && self.holds(submission)
@@ -279,7 +280,8 @@ pub fn feed_all(
     told: &mut Room<Fed>,
 )
     requires { unfed submissions.old ≤ told.old.spare }
-    ensures submissions { submissions.new ≡ map (fed_by in_flight.now presented.now) submissions.old }
+    ensures submissions { submissions.new
+        ≡ map (fed_by in_flight.now presented.now) submissions.old }
     ensures told { IsPutInto told.old told.new (filter_map (feedback_by in_flight.now presented.now) submissions.old) }
 {
     for k in 0..submissions.len() {

@@ -1,7 +1,7 @@
 //! Submissions that were accepted, and where they stand.
 ghost use Rattle.std.specs.Prelude.{◌≡◌, ◌&&◌, ◌++◌, map, OnOk, IfOk, [], ◌∷◌, false, cond};
 ghost use Rattle.std.specs.List.{list_any};
-ghost use Rattle.vz_rules.specs.World.{is_active, is_waiting, is_on, active_images, sub_of};
+ghost use Rattle.vz_rules.specs.World.{is_active, is_waiting, is_on, active_frames, sub_of};
 ghost use Rattle.vz_ids.specs.Ids.{at_least};
 ghost use Rattle.vz_rules.specs.declared.entry.State.TheVariants.{Waiting as Waits};
 
@@ -28,7 +28,7 @@ impl<'a> Model for Submission<'a> {
     ghost Value = { SubmissionState };
 
     ghost view = { λ r. record {
-      image = r.submitted;
+      submitted = r.submitted;
       due = r.due;
       state = r.state;
       was_active = r.was_active;
@@ -40,7 +40,7 @@ impl<'a> Submission<'a> {
     /// A submission that waits until it is due: it was never active and has no feedback.
     pub fn new(submitted: SubmittedFrame<'a>, due: u64) -> Submission<'a>
         ensures { result ≡ record {
-          image = submitted.entry;
+          submitted = submitted.entry;
           due = due;
           state = Waits;
           was_active = false;
@@ -92,28 +92,28 @@ impl<'a> Submission<'a> {
 
     /// The surface that it is on.
     pub fn id(&self) -> SurfaceId
-        ensures { result ≡ self.now.image.id }
+        ensures { result ≡ self.now.submitted.id }
     {
         self.submitted.id()
     }
 
     /// Its number among those that were accepted on the surface.
     pub fn index(&self) -> u32
-        ensures { result ≡ self.now.image.index }
+        ensures { result ≡ self.now.submitted.index }
     {
         self.submitted.index()
     }
 
     /// Its frame.
     pub fn frame(&self) -> &'a CompositorFrame
-        ensures { result.now ≡ self.now.image.frame }
+        ensures { result.now ≡ self.now.submitted.frame }
     {
         self.submitted.frame()
     }
 
     /// Whether it was active on the surface or a newer one of its group.
     pub fn meets(&self, d: &SurfaceId) -> bool
-        ensures { result ≡ (self.now.was_active && at_least self.now.image.id d.now) }
+        ensures { result ≡ (self.now.was_active && at_least self.now.submitted.id d.now) }
     {
         self.was_active && is_at_least(&self.submitted.id(), d)
     }
@@ -129,38 +129,38 @@ impl<'a> Submission<'a> {
 /// Whether some submission was active on a surface or a newer one of its group.
 pub fn was_met(submissions: &[Submission<'_>], d: &SurfaceId) -> bool
     ensures { result
-        ≡ list_any (λ s. s.was_active && at_least s.image.id d.now) submissions.now }
+        ≡ list_any (λ s. s.was_active && at_least s.submitted.id d.now) submissions.now }
 {
     submissions.iter().any(|submission| submission.meets(d))
 }
 
-/// The image of a submission is added where it is active.
+/// The frame of a submission is added where it is active.
 fn add_active<'a>(
     alloc: Global,
-    images: &mut Vec<SubmittedFrame<'a>>,
+    active: &mut Vec<SubmittedFrame<'a>>,
     submission: &Submission<'a>,
 ) -> Result<(), AllocError>
-    ensures { OnOk result (images.new.items
-        ≡ images.old.items ++ cond (is_active submission.now) (submission.now.image ∷ []) []) }
+    ensures { OnOk result (active.new.items
+        ≡ active.old.items ++ cond (is_active submission.now) (submission.now.submitted ∷ []) []) }
 {
     if submission.is_active() {
-        images.push(submission.submitted.share()?)?;
+        active.push(submission.submitted.share()?)?;
     }
     Ok(())
 }
 
-/// The active images, in the order of acceptance.
-pub fn active_images<'a>(
+/// The active frames, in the order of acceptance.
+pub fn active_frames<'a>(
     alloc: Global,
     submissions: &[Submission<'a>],
 ) -> Result<Vec<SubmittedFrame<'a>>, AllocError>
-    ensures { IfOk result (λ v. v.items ≡ active_images submissions.now) }
+    ensures { IfOk result (λ v. v.items ≡ active_frames submissions.now) }
 {
-    let mut images = Vec::new(alloc);
+    let mut active = Vec::new(alloc);
     for submission in submissions {
-        add_active(alloc, &mut images, submission)?;
+        add_active(alloc, &mut active, submission)?;
     }
-    Ok(images)
+    Ok(active)
 }
 
 /// What was submitted, in the order of acceptance.
@@ -168,7 +168,7 @@ pub fn accepted_frames<'a>(
     alloc: Global,
     submissions: &[Submission<'a>],
 ) -> Result<Vec<SubmittedFrame<'a>>, AllocError>
-    ensures { IfOk result (λ v. v.items ≡ map (λ s. s.image) submissions.now) }
+    ensures { IfOk result (λ v. v.items ≡ map (λ s. s.submitted) submissions.now) }
 {
     let mut frames = Vec::with_capacity(alloc, submissions.len())?;
     for submission in submissions {

@@ -154,7 +154,7 @@ pub fn last_created(surfaces: &[Surface], c: u32) -> Option<&Surface>
 /// The surface that a submission is on.
 fn surface_of<'b>(surfaces: &'b [Surface], submission: &Submission<'_>) -> Option<&'b Surface>
     ensures { option_copied result
-        ≡ find (λ c. same_surface c.id submission.now.image.id) surfaces.now }
+        ≡ find (λ c. same_surface c.id submission.now.submitted.id) surfaces.now }
 {
     surfaces
         .iter()

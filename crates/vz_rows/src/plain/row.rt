@@ -2,7 +2,7 @@
 ghost use Rattle.std.specs.Prelude.{◌≡◌, ◌<◌, All, IsTrue, IfOk};
 ghost use Rattle.std.specs.List.{list_all};
 ghost use Rattle.vz_frame.specs.Fits.{fits_file};
-ghost use Rattle.vz_rules.specs.Plan.{IsDisplaySize};
+ghost use Rattle.vz_geom.specs.Display.{IsDisplaySize};
 ghost use Rattle.vz_rules.specs.Step.{Legal, NamesClient};
 
 use super::letters::{bytes_of, events_of};

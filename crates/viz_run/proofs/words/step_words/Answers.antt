@@ -3,7 +3,7 @@ use Rattle.std.specs.Prelude.{codes}
 use Rattle.std.specs.Fmt.{decimal}
 use Rattle.std.specs.String.{string_bytes}
 use Rattle.vz_frame.specs.Fits.{within}
-use Rattle.vz_rules.specs.Command.{Text, Step, IsCommand, are_names, same_text}
+use Rattle.vz_rules.specs.Command.{Word, Step, IsCommand, are_names, same_text}
 use Rattle.viz_run.specs.Words.{texts, IsNoStep}
 use Rattle.viz_run.proofs.Spelled.{behind, seven_texts, step_found, too_few, other_count, other_command, other_names, other_width, other_height, no_step_as, same_text_is, same_text_refl}
 use Rattle.viz_run.proofs.words.step_words.Goals as goal
@@ -60,5 +60,5 @@ returns-clause-found c =
     cc (t.0, c.as_str-4.ensures.value, c.as_str-5.ensures.value, c.as_str-6.ensures.value, c.as_str-7.ensures.value) in
     let is = step_found (string_bytes c.command-item.result) (string_bytes c.width-item.result) (string_bytes c.height-item.result) c.as_str-4.result.now c.as_str-5.result.now c.as_str-6.result.now c.as_str-7.result.now
     c.in_ok-width.width c.in_ok-height.height first wide high c.in_ok-width.ensures.within c.in_ok-height.ensures.within named in
-    let P : List Text → Type 0 = λ ws. IsCommand ws (Step c.in_ok-width.width c.in_ok-height.height c.as_str-4.result.now c.as_str-5.result.now c.as_str-6.result.now (c.as_str-7.result.now ∷ [])) in
+    let P : List Word → Type 0 = λ ws. IsCommand ws (Step c.in_ok-width.width c.in_ok-height.height c.as_str-4.result.now c.as_str-5.result.now c.as_str-6.result.now (c.as_str-7.result.now ∷ [])) in
     subst P (sym all) is

@@ -38,7 +38,7 @@ decreases-Painter::group l = l.self.now.levels * wide + 8 * length l.earlier.now
 abbrev pub invariant-Painter::pass-loop-k : goal.invariant-Painter::pass-loop-k
 invariant-Painter::pass-loop-k l =
     (l.k ≤ length l.quads)
-    × (l.colour ≡ quads_painted l.self.image (passes_in l.self l.earlier) (ranges l.self) l.pass (drop l.k l.quads) l.point l.fn.under)
+    × (l.colour ≡ quads_painted l.self.submitted (passes_in l.self l.earlier) (ranges l.self) l.pass (drop l.k l.quads) l.point l.fn.under)
 
 abbrev pub decreases-Painter::pass-loop-k : goal.decreases-Painter::pass-loop-k
 decreases-Painter::pass-loop-k l = l.k

@@ -3,4 +3,4 @@ use Rattle.vz_plain.proofs.Filling.{picture_is}
 use Rattle.vz_plain.proofs.picture.picture.Goals as goal
 
 pub returns : goal.returns
-returns c = c.in_ok-rows.ensures ∙ picture_is c.args.size c.args.images.now c.args.root.now
+returns c = c.in_ok-rows.ensures ∙ picture_is c.args.size c.args.active.now c.args.root.now

@@ -6,5 +6,5 @@ use Rattle.vz_plain.proofs.picture.row.Given as goal
 -- with the columns from x on it is the whole row
 abbrev pub invariant-loop-x : goal.invariant-loop-x
 invariant-loop-x l =
-    l.into.items ++ map (colour_of l.images l.root) (row_points (l.w - l.x) (pos l.x) (pos l.y))
-    ≡ l.fn.into.items ++ map (colour_of l.images l.root) (row_points l.w (pos 0) (pos l.y))
+    l.into.items ++ map (colour_of l.active l.root) (row_points (l.w - l.x) (pos l.x) (pos l.y))
+    ≡ l.fn.into.items ++ map (colour_of l.active l.root) (row_points l.w (pos 0) (pos l.y))

@@ -4,5 +4,5 @@ use Rattle.vz_plain.proofs.picture.rows.Goals as goal
 
 pub loop-y-preserved : goal.loop-y-preserved
 loop-y-preserved c =
-    rows_more (colour_of c.args.images.now c.args.root.now) c.unsigned_abs-h.result c.unsigned_abs-w.result c.loop-y.y _ _ _
+    rows_more (colour_of c.args.active.now c.args.root.now) c.unsigned_abs-h.result c.unsigned_abs-w.result c.loop-y.y _ _ _
     c.loop-y-test.true c.in_ok-row.ensures c.loop-y.invariant

@@ -6,5 +6,5 @@ use Rattle.vz_plain.proofs.picture.rows.Given as goal
 -- with the rows from y on it is the whole picture
 abbrev pub invariant-loop-y : goal.invariant-loop-y
 invariant-loop-y l =
-    l.colours.items ++ map (colour_of l.images l.root) (rows_points (l.h - l.y) l.w (pos l.y))
-    ≡ map (colour_of l.images l.root) (rows_points l.h l.w (pos 0))
+    l.colours.items ++ map (colour_of l.active l.root) (rows_points (l.h - l.y) l.w (pos l.y))
+    ≡ map (colour_of l.active l.root) (rows_points l.h l.w (pos 0))

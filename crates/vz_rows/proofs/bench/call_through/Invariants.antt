@@ -2,4 +2,4 @@ use Rattle.vz_rows.proofs.bench.call_through.Given as goal
 
 -- the ledger is the new one
 abbrev pub ghosts-counted : goal.ghosts-counted
-ghosts-counted a = record { name = a.blank.name; parts = a.blank.parts }
+ghosts-counted g a = record { name = a.blank.name; parts = a.blank.parts }

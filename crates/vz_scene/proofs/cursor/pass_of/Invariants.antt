@@ -1,5 +1,5 @@
 use Rattle.std.proofs.Common.{◌≡◌, ◌≤◌, take, reverse}
-use Rattle.vz_rules.specs.Walk.{Place, WalkRange, groups_walked}
+use Rattle.vz_rules.specs.Walk.{Placement, WalkRange, groups_walked}
 use Rattle.vz_scene.proofs.cursor.pass_of.Given as goal
 
 -- those from k on have other ids
@@ -7,7 +7,7 @@ abbrev pub invariant-loop-k : goal.invariant-loop-k
 invariant-loop-k l =
     record {
       within : l.k ≤ l.before;
-      over : (ranges : WalkRange) (place : Place) → groups_walked ranges (reverse (take l.before l.passes)) l.id place ≡ groups_walked ranges (reverse (take l.k l.passes)) l.id place;
+      over : (ranges : WalkRange) (place : Placement) → groups_walked ranges (reverse (take l.before l.passes)) l.id place ≡ groups_walked ranges (reverse (take l.k l.passes)) l.id place;
     }
 
 abbrev pub decreases-loop-k : goal.decreases-loop-k

@@ -1,5 +1,5 @@
 use Rattle.std.proofs.Common.{◌-◌, subst, sym, ap, ◌∙◌, arith}
-use Rattle.vz_rules.specs.World.{Image}
+use Rattle.vz_rules.specs.World.{FrameData}
 use Rattle.vz_rules.specs.Damage.{root_damage, is_between}
 use Rattle.vz_scene.specs.Limits.{IsInReach}
 use Rattle.vz_scene.proofs.Bounding.{nothing_in_reach, join_in_reach, damages_none, damages_step}
@@ -9,7 +9,7 @@ pub loop-k-init : goal.loop-k-init
 loop-k-init c =
     record {
       within = omega arith;
-      best = c.nothing-best.ensures ∙ damages_none c.index_in-from.result c.args.image.now c.args.accepted.now _ (omega arith);
+      best = c.nothing-best.ensures ∙ damages_none c.index_in-from.result c.args.submitted.now c.args.accepted.now _ (omega arith);
       reach = subst IsInReach (sym c.nothing-best.ensures) nothing_in_reach;
     }
 
@@ -17,13 +17,13 @@ pub loop-k-preserved-then-is_between : goal.loop-k-preserved-then-is_between
 loop-k-preserved-then-is_between c =
     let k = c.loop-k.k in
     let from = c.index_in-from.result in
-    let i = c.args.image.now in
+    let i = c.args.submitted.now in
     let d = c.index-accepted-k.result in
     let here = c.index-accepted-k.is in
     record {
       within = omega arith;
       best = damages_step from i c.args.accepted.now k (k - 1) d c.loop-k.best c.bound-best.result c.root_damage.result (omega arith) (omega arith)
           (ap (is_between from i) (sym here) ∙ (sym c.is_between.ensures ∙ c.if-is_between.true)) c.loop-k.invariant.best
-          (c.root_damage.ensures.value ∙ ap (λ (j : Image). root_damage j.frame) here) c.bound-best.ensures.value;
+          (c.root_damage.ensures.value ∙ ap (λ (j : FrameData). root_damage j.frame) here) c.bound-best.ensures.value;
       reach = subst IsInReach (sym c.bound-best.ensures.value) (join_in_reach c.root_damage.result c.loop-k.best c.root_damage.ensures.reach c.loop-k.invariant.reach);
     }

@@ -9,7 +9,7 @@ abbrev pub invariant-loop-k : goal.invariant-loop-k
 invariant-loop-k l =
     record {
       within : l.k ≤ length l.accepted;
-      best : l.best ≡ bound (damages_from l.from l.image l.accepted l.k);
+      best : l.best ≡ bound (damages_from l.from l.submitted l.accepted l.k);
       reach : IsInReach l.best;
     }
 

@@ -5,7 +5,7 @@ use Rattle.vz_ids.specs.declared.SurfaceId.{SurfaceId}
 use Rattle.vz_ids.specs.declared.SurfaceRange.{SurfaceRange}
 use Rattle.std.proofs.Common.{Option}
 use Rattle.vz_rules.specs.Closure.{adding}
-use Rattle.vz_rules.specs.Damage.{same_met}
+use Rattle.vz_rules.specs.Damage.{of_same_range}
 use Rattle.vz_scene.specs.Order.{by_range, key_of}
 use Rattle.vz_scene.proofs.damage.each_once.Given as goal
 
@@ -13,6 +13,6 @@ use Rattle.vz_scene.proofs.damage.each_once.Given as goal
 abbrev pub invariant-loop-pair : goal.invariant-loop-pair
 invariant-loop-pair l =
     record {
-      added : adding same_met [] l.pairs ≡ adding same_met l.once.items (drop l.pair-index l.pairs);
-      seen : (q : SurfaceRange × Option SurfaceId) → contains by_range l.seen (key_of q.0) ≡ list_any (same_met q) l.once.items;
+      added : adding of_same_range [] l.pairs ≡ adding of_same_range l.once.items (drop l.pair-index l.pairs);
+      seen : (q : SurfaceRange × Option SurfaceId) → contains by_range l.seen (key_of q.0) ≡ list_any (of_same_range q) l.once.items;
     }

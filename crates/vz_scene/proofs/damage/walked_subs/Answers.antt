@@ -1,7 +1,7 @@
 use Rattle.std.proofs.Common.{map, ap, ◌∙◌}
 use Rattle.std.specs.List.{list_any}
 use Rattle.std.specs.BTreeSet.{contains}
-use Rattle.vz_rules.specs.World.{Image}
+use Rattle.vz_rules.specs.World.{FrameData}
 use Rattle.vz_rules.specs.Walk.{goes_into}
 use Rattle.vz_scene.specs.Order.{by_sub}
 use Rattle.vz_scene.proofs.Ties.{filter_same}
@@ -10,4 +10,4 @@ use Rattle.vz_scene.proofs.damage.walked_subs.Goals as goal
 pub returns : goal.returns
 returns c =
     c.in_ok-subs_in.ensures
-    ∙ ap (map (λ (i : Image). i.sub)) (filter_same (λ (i : Image). contains by_sub c.in_ok-entered.entered i.sub) (λ (i : Image). list_any (goes_into i) c.args.met.now) c.args.images.now c.in_ok-entered.ensures)
+    ∙ ap (map (λ (i : FrameData). i.sub)) (filter_same (λ (i : FrameData). contains by_sub c.in_ok-entered.entered i.sub) (λ (i : FrameData). list_any (goes_into i) c.args.visits.now) c.args.active.now c.in_ok-entered.ensures)

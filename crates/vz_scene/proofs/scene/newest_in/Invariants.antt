@@ -7,8 +7,8 @@ use Rattle.vz_scene.proofs.scene.newest_in.Given as goal
 abbrev pub invariant-loop-k : goal.invariant-loop-k
 invariant-loop-k l =
     record {
-      within : l.k ≤ length l.images;
-      best : option_copied l.best ≡ newest (filter (in_range l.range) (drop l.k l.images));
+      within : l.k ≤ length l.active;
+      best : option_copied l.best ≡ newest (filter (in_range l.range) (drop l.k l.active));
     }
 
 abbrev pub decreases-loop-k : goal.decreases-loop-k

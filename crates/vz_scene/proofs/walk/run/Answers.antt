@@ -8,7 +8,7 @@ use Rattle.vz_scene.proofs.walk.run.Goals as goal
 pub quads-preserved : goal.quads-preserved
 quads-preserved c = λ all e.
     c.quads.invariant all e
-    ∙ (ap (λ l. c.quads.walked ++ l) (stack_pop c.args.images.now c.quads.stack.items c.pop.new.self.items c.in-Some.cursor c.in-Some.ensures.items) ∙ sym c.in_ok-advance-in-Some.ensures.walked)
+    ∙ (ap (λ l. c.quads.walked ++ l) (stack_pop c.args.active.now c.quads.stack.items c.pop.new.self.items c.in-Some.cursor c.in-Some.ensures.items) ∙ sym c.in_ok-advance-in-Some.ensures.walked)
 
 pub quads-smaller : goal.quads-smaller
 quads-smaller c =
@@ -19,11 +19,11 @@ quads-smaller c =
 pub returns : goal.returns
 returns c = λ all e.
     ap too_much (c.quads.invariant all e)
-    ∙ too_much_front c.quads.walked (stack_walked c.args.images.now c.quads.stack.items) (sym c.is_too_much.ensures ∙ c.quads-test.false)
+    ∙ too_much_front c.quads.walked (stack_walked c.args.active.now c.quads.stack.items) (sym c.is_too_much.ensures ∙ c.quads-test.false)
 
 pub returns-in-None : goal.returns-in-None
 returns-in-None c = λ all e.
     let none : length c.quads.stack.items ≡ 0 = sym c.quads.stack.ok.0 ∙ c.in-None.ensures.cases.0 in
     let same : all ≡ c.quads.walked =
-    c.quads.invariant all e ∙ (ap (λ l. c.quads.walked ++ l) (stack_empty c.args.images.now c.quads.stack.items none) ∙ append-nil c.quads.walked) in
+    c.quads.invariant all e ∙ (ap (λ l. c.quads.walked ++ l) (stack_empty c.args.active.now c.quads.stack.items none) ∙ append-nil c.quads.walked) in
     (sym same, ap too_much same ∙ (sym c.is_too_much.ensures ∙ c.quads-test.true))

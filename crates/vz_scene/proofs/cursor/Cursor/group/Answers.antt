@@ -28,14 +28,14 @@ invariant_of-result c =
     let place = c.args.place.now in
     let here = c.self.inside in
     let room : HasRoom (room_for here.levels here.pass + 16384) place.shift = subst (λ (i : Cursor). HasRoom (room_for i.levels i.pass + 16384) place.shift) (sym c.self.view_is) c.requires in
-    subst (IsBounded here.levels here.image.now c.in-Some.k) (sym c.inside.ensures)
-    (group_bounded here.levels here.image.now here.image.now.frame.passes c.in-Some.k here.pass place (corner c.index-passes-k.result.output) refl before there pass.drawn.first room)
+    subst (IsBounded here.levels here.submitted.now c.in-Some.k) (sym c.inside.ensures)
+    (group_bounded here.levels here.submitted.now here.submitted.now.frame.passes c.in-Some.k here.pass place (corner c.index-passes-k.result.output) refl before there pass.drawn.first room)
 
 pub returns-in_ok-path-in-Some : goal.returns-in_ok-path-in-Some
-returns-in_ok-path-in-Some c = λ images.
+returns-in_ok-path-in-Some c = λ active.
     let passes = c.as_slice-passes.ensures ∙ ap (λ (f : CompositorFrame). f.passes) c.frame.ensures.value in
     let lengths = ap length passes in
     let there = c.self.invariant.there in
     let before = c.in-Some.ensures.before in
-    cursor_group images c.args.self.now _ c.self.view_is c.as_slice-passes.result.now c.self.inside.pass c.in-Some.k c.args.id c.pass_of.result c.index-passes-k.result c.args.place.now c.inside.result _
+    cursor_group active c.args.self.now _ c.self.view_is c.as_slice-passes.result.now c.self.inside.pass c.in-Some.k c.args.id c.pass_of.result c.index-passes-k.result c.args.place.now c.inside.result _
     passes refl c.pass_of.ensures.found c.in-Some.is (omega arith) c.index-passes-k.is c.inside.ensures (ap (λ v. v.items) c.in_ok-path-in-Some.ensures)

@@ -14,26 +14,26 @@ range-requires c =
 pub returns-in_ok-group-in-Pass-clause-walked : goal.returns-in_ok-group-in-Pass-clause-walked
 returns-in_ok-group-in-Pass-clause-walked c =
     let it = c.args.self.now in
-    let images = c.args.images.now in
-    quad_more (named_of images it) (ranges_of images it) c.args.pass.now it.place c.args.quad.now (material.Pass c.in-Pass.id) c.args.walked.now c.add_quad.new.self _ c.in-Pass.is c.in_ok-add_quad.ensures.met
-    (c.in_ok-group-in-Pass.ensures images ∙ ap (named_of images it c.in-Pass.id) c.place_of.ensures.value)
+    let active = c.args.active.now in
+    quad_more (named_of active it) (ranges_of active it) c.args.pass.now it.place c.args.quad.now (material.Pass c.in-Pass.id) c.args.walked.now c.add_quad.new.self _ c.in-Pass.is c.in_ok-add_quad.ensures.visits
+    (c.in_ok-group-in-Pass.ensures active ∙ ap (named_of active it c.in-Pass.id) c.place_of.ensures.value)
 
 pub returns-in_ok-range-in-Surface-clause-walked : goal.returns-in_ok-range-in-Surface-clause-walked
 returns-in_ok-range-in-Surface-clause-walked c =
     let it = c.args.self.now in
-    let images = c.args.images.now in
+    let active = c.args.active.now in
     c.in_ok-range-in-Surface.ensures.walked
-    ∙ quad_more (named_of images it) (ranges_of images it) c.args.pass.now it.place c.args.quad.now (material.Surface c.in-Surface.range c.in-Surface.background) c.args.walked.now c.add_quad.new.self _ c.in-Surface.is
-    c.in_ok-add_quad.ensures.met (ap (ranges_of images it c.in-Surface.range) c.place_of-place.ensures.value)
+    ∙ quad_more (named_of active it) (ranges_of active it) c.args.pass.now it.place c.args.quad.now (material.Surface c.in-Surface.range c.in-Surface.background) c.args.walked.now c.add_quad.new.self _ c.in-Surface.is
+    c.in_ok-add_quad.ensures.visits (ap (ranges_of active it c.in-Surface.range) c.place_of-place.ensures.value)
 
 pub returns-in-Solid-clause-walked : goal.returns-in-Solid-clause-walked
 returns-in-Solid-clause-walked c =
     let it = c.args.self.now in
-    let images = c.args.images.now in
-    quad_more (named_of images it) (ranges_of images it) c.args.pass.now it.place c.args.quad.now _ c.args.walked.now c.add_quad.new.self [] c.in-Solid.is c.in_ok-add_quad.ensures.met refl
+    let active = c.args.active.now in
+    quad_more (named_of active it) (ranges_of active it) c.args.pass.now it.place c.args.quad.now _ c.args.walked.now c.add_quad.new.self [] c.in-Solid.is c.in_ok-add_quad.ensures.visits refl
 
 pub returns-in-Tile-clause-walked : goal.returns-in-Tile-clause-walked
 returns-in-Tile-clause-walked c =
     let it = c.args.self.now in
-    let images = c.args.images.now in
-    quad_more (named_of images it) (ranges_of images it) c.args.pass.now it.place c.args.quad.now _ c.args.walked.now c.add_quad.new.self [] c.in-Tile.is c.in_ok-add_quad.ensures.met refl
+    let active = c.args.active.now in
+    quad_more (named_of active it) (ranges_of active it) c.args.pass.now it.place c.args.quad.now _ c.args.walked.now c.add_quad.new.self [] c.in-Tile.is c.in_ok-add_quad.ensures.visits refl

@@ -6,21 +6,21 @@ use Rattle.vz_scene.proofs.Stacking.{cursor_done, cursor_next}
 use Rattle.vz_scene.proofs.cursor.Cursor.quad_of.Goals as goal
 
 pub returns-else-self-quads-clause-walked : goal.returns-else-self-quads-clause-walked
-returns-else-self-quads-clause-walked c = λ images.
+returns-else-self-quads-clause-walked c = λ active.
     let own = c.as_slice.ensures ∙ ap (λ (f : CompositorFrame). f.passes) c.frame.ensures.value in
     let lengths = ap length own in
     let there = c.self.invariant.there in
-    cursor_done images c.args.self.now c.as_slice.result.now c.self.inside.pass c.self.inside.quad c.index-as_slice-self.result c.as_slice-quads.result.now
-    (own ∙ ap (λ (i : Cursor). i.image.frame.passes) c.self.view_is) (ap (λ (i : Cursor). i.pass) c.self.view_is) (omega arith) c.index-as_slice-self.is
+    cursor_done active c.args.self.now c.as_slice.result.now c.self.inside.pass c.self.inside.quad c.index-as_slice-self.result c.as_slice-quads.result.now
+    (own ∙ ap (λ (i : Cursor). i.submitted.frame.passes) c.self.view_is) (ap (λ (i : Cursor). i.pass) c.self.view_is) (omega arith) c.index-as_slice-self.is
     c.as_slice-quads.ensures (ap (λ (i : Cursor). i.quad) c.self.view_is) c.if-self-quads.false
 
 pub returns-then-self-quads-clause-walked : goal.returns-then-self-quads-clause-walked
-returns-then-self-quads-clause-walked c = λ images.
+returns-then-self-quads-clause-walked c = λ active.
     let own = c.as_slice.ensures ∙ ap (λ (f : CompositorFrame). f.passes) c.frame.ensures.value in
     let lengths = ap length own in
     let there = c.self.invariant.there in
-    cursor_next images c.args.self.now c.as_slice.result.now c.self.inside.pass c.self.inside.quad c.index-as_slice-self.result c.as_slice-quads.result.now c.index-quads-self.result
-    (own ∙ ap (λ (i : Cursor). i.image.frame.passes) c.self.view_is) (ap (λ (i : Cursor). i.pass) c.self.view_is) (omega arith) c.index-as_slice-self.is
+    cursor_next active c.args.self.now c.as_slice.result.now c.self.inside.pass c.self.inside.quad c.index-as_slice-self.result c.as_slice-quads.result.now c.index-quads-self.result
+    (own ∙ ap (λ (i : Cursor). i.submitted.frame.passes) c.self.view_is) (ap (λ (i : Cursor). i.pass) c.self.view_is) (omega arith) c.index-as_slice-self.is
     c.as_slice-quads.ensures (ap (λ (i : Cursor). i.quad) c.self.view_is) c.if-self-quads.true c.index-quads-self.is
 
 pub returns-then-self-quads-clause-reach : goal.returns-then-self-quads-clause-reach

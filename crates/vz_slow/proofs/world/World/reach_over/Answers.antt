@@ -7,7 +7,7 @@ use Rattle.vz_state.proofs.Closing.{closure_next, closure_zero, closure_end}
 use Rattle.vz_slow.proofs.world.World.reach_over.Goals as goal
 
 pub loop-left-init : goal.loop-left-init
-loop-left-init c = ap (closure same_surface (referenced c.args.self.now) (length c.args.images.now)) (sym c.in_ok-ids.ensures)
+loop-left-init c = ap (closure same_surface (referenced c.args.self.now) (length c.args.active.now)) (sym c.in_ok-ids.ensures)
 
 pub returns-then-len-before : goal.returns-then-len-before
 returns-then-len-before c =

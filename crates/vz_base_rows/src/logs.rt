@@ -1,0 +1,4 @@
+//! Logs written and read.
+
+mod reading;
+mod writing;
