@@ -14,7 +14,7 @@ use Rattle.vz_rules.specs.Command.{Word, fits_command, IsCommand}
 use Rattle.vz_rules.specs.declared.entry.Entry.{Entry}
 use Rattle.vz_rules.specs.World.{World, opening}
 use Rattle.vz_rules.specs.Step.{step_in, LegalFrom, Legal}
-use Rattle.vz_rules.specs.Frames.{written, painted, frames_bytes, pixel_bytes, shots, shots_from}
+use Rattle.vz_rules.specs.Frames.{written, painted, frames_bytes, pixel_bytes, drawn_frames, drawn_frames_from}
 use Rattle.vz_rules.specs.Log.{log_text}
 use Rattle.vz_rules.specs.Narrow.{is_narrow, narrow_events, narrow_history, narrow_colour, nothing_left}
 use Rattle.vz_rules.proofs.Narrow_whole.{history_is_legal, rest_is, frames_are, written_are, painted_are, area_is}
@@ -69,7 +69,7 @@ narrow_events_are size = refl
 
 -- the frames are those that were drawn by the third entry
 drawn_third : (p : Plan) (size : Size) → frames_of p (narrow_history size) ≡ frames_of p (take 3 (narrow_history size))
-unfolding written shots shots_from narrow_history
+unfolding written drawn_frames drawn_frames_from narrow_history
 drawn_third p size = refl
 
 one_frame : (p : List Colour) → frames_bytes (p ∷ []) ≡ flat_map pixel_bytes p
