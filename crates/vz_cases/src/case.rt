@@ -2,6 +2,7 @@
 ghost use Rattle.std.specs.Prelude.{◌≤◌, IfSome};
 ghost use Rattle.vz_geom.specs.Display.{IsDisplaySize};
 
+use vz_base::limits::GREATEST_DISPLAY_SIDE;
 use vz_geom::Size;
 
 /// A case: the folder with its files, the size of its display and the number of its clients.
@@ -40,13 +41,13 @@ impl<'l> Case<'l> {
     }
 }
 
-/// A number of 1 to 2,048 in decimal digits.
+/// A number from 1 to the greatest side of a display, in decimal digits.
 fn number(word: &str) -> Option<u32>
     ensures from { IfSome result (λ n. 1 ≤ n) }
-    ensures upto { IfSome result (λ n. n ≤ 2048) }
+    ensures upto { IfSome result (λ n. n ≤ GREATEST_DISPLAY_SIDE) }
 {
     match word.parse::<u32>() {
-        Ok(n) if 1 <= n && n <= 2048 => Some(n),
+        Ok(n) if 1 <= n && n <= GREATEST_DISPLAY_SIDE => Some(n),
         _ => None,
     }
 }

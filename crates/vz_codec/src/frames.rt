@@ -286,7 +286,7 @@ impl Field for Passes {
 
 /// So many passes, each with no more quads than those before it leave of all.
 fn read_passes(format: u8, count: u8, input: &mut Reader) -> Result<List<RenderPass>, ReadError>
-    ensures { Gives (λ x. (x, input.new)) result (passes_at format count 1024 input.old) }
+    ensures { Gives (λ x. (x, input.new)) result (passes_at format count MOST_QUADS input.old) }
 {
     let mut passes = Vec::with_capacity(input.alloc(), usize::from(count).min(input.left()))?;
     let mut room = MOST_QUADS;
@@ -300,7 +300,7 @@ fn read_passes(format: u8, count: u8, input: &mut Reader) -> Result<List<RenderP
 
 /// Whether the passes have at most 1,024 quads in all.
 fn have_few_quads(passes: &[RenderPass]) -> bool
-    ensures { result ≡ nat_le (sum_by (λ p. length p.quads) passes.now) 1024 }
+    ensures { result ≡ nat_le (sum_by (λ p. length p.quads) passes.now) MOST_QUADS }
 {
     let mut room = usize::from(MOST_QUADS);
     for pass in passes {
