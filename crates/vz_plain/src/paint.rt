@@ -18,21 +18,20 @@ use vz_frame::{Blend, DrawQuad, Material, RenderPass};
 use vz_geom::{Point, Rect};
 use vz_ids::{SurfaceId, SurfaceRange};
 use vz_pixels::Pixel;
-use vz_scene::SubmittedFrame;
 use vz_scene::frame::root_pass;
-use vz_scene::scene::{frame_on, shown_frame};
+use vz_scene::{ActiveFrames, SubmittedFrame};
 
 /// A painter in the frame of a frame, behind the surfaces of a path and with so many
 /// surfaces left.
 #[derive(Drop)]
-struct Painter<'b, 'a> {
-    active: &'b [SubmittedFrame<'a>],
+struct Painter<'b, 'i, 'a> {
+    active: &'b ActiveFrames<'i, 'a>,
     levels: u32,
     path: &'b Path<'b>,
     submitted: &'b SubmittedFrame<'a>,
 }
 
-impl<'b, 'a> Model for Painter<'b, 'a> {
+impl<'b, 'i, 'a> Model for Painter<'b, 'i, 'a> {
     ghost use Rattle.vz_plain.specs.Painting.{Painter as Stand};
     ghost use Rattle.vz_plain.specs.Paths.{ids};
 
@@ -109,7 +108,7 @@ fn point_of(pass: &RenderPass, quad: &DrawQuad, point: Point) -> Option<Point>
 #[tactic(auto, unfolding(vz_rules::specs::Paint::pix, vz_rules::specs::Paint::root_painted))]
 #[cycle(paint)]
 pub fn pix<'a>(
-    active: &[SubmittedFrame<'a>],
+    active: &ActiveFrames<'_, 'a>,
     levels: u32,
     path: &Path<'_>,
     submitted: &SubmittedFrame<'a>,
@@ -137,7 +136,7 @@ pub fn pix<'a>(
     }
 }
 
-impl<'b, 'a> Painter<'b, 'a> {
+impl<'b, 'i, 'a> Painter<'b, 'i, 'a> {
     /// A pass at a point on the colour under it, over the earlier passes.
     #[tactic(auto, unfolding(vz_rules::specs::Paint::pass_painted, vz_rules::specs::Paint::quads_painted))]
     #[cycle(paint)]
@@ -272,7 +271,7 @@ impl<'b, 'a> Painter<'b, 'a> {
     ) -> Pixel
         ensures { result ≡ ranges self.now range.now background mode opacity local under }
     {
-        match shown_frame(self.active, range) {
+        match self.active.shown_frame(range) {
             None => laid(mode, background, opacity, under),
             Some(submitted) => {
                 if self.path.has(&submitted.id()) || is_absent(range, submitted, local) {
@@ -330,10 +329,10 @@ impl<'b, 'a> Painter<'b, 'a> {
 
 /// The colour at a point of the display, black where nothing can be seen.
 #[tactic(auto, unfolding(vz_rules::specs::Paint::full, vz_rules::specs::Paint::levels))]
-pub fn full(active: &[SubmittedFrame<'_>], root: &SurfaceId, point: Point) -> Pixel
+pub fn full(active: &ActiveFrames<'_, '_>, root: &SurfaceId, point: Point) -> Pixel
     ensures { result ≡ full (record { root = root.now; active = active.now }) point }
 {
-    match frame_on(active, root) {
+    match active.frame_on(root) {
         None => Pixel::black(),
         Some(submitted) => {
             if is_inside(submitted, point) {

@@ -13,7 +13,7 @@ use std::alloc::{AllocError, Global};
 use vz_geom::{Point, Size};
 use vz_ids::SurfaceId;
 use vz_pixels::Pixel;
-use vz_scene::SubmittedFrame;
+use vz_scene::{ActiveFrames, SubmittedFrame};
 
 /// The point of a column and a row. Condition: both are a display's.
 fn point_at(x: u32, y: u32) -> Point
@@ -28,7 +28,7 @@ fn point_at(x: u32, y: u32) -> Point
 }
 
 /// The colour at a point of the display, black where there is no root.
-fn colour_at(active: &[SubmittedFrame<'_>], root: &Option<SurfaceId>, p: Point) -> Pixel
+fn colour_at(active: &ActiveFrames<'_, '_>, root: &Option<SurfaceId>, p: Point) -> Pixel
     ensures { result ≡ colour_of active.now root.now p }
 {
     match root {
@@ -40,7 +40,7 @@ fn colour_at(active: &[SubmittedFrame<'_>], root: &Option<SurfaceId>, p: Point) 
 /// The colours of a row are put behind others, from the first column on. Condition: it is a
 /// row of a display.
 pub fn row(
-    active: &[SubmittedFrame<'_>],
+    active: &ActiveFrames<'_, '_>,
     root: &Option<SurfaceId>,
     w: u32,
     y: u32,
@@ -61,7 +61,7 @@ pub fn row(
 #[tactic(auto, unfolding(vz_geom::specs::Rectangle::points_of))]
 fn rows(
     alloc: Global,
-    active: &[SubmittedFrame<'_>],
+    active: &ActiveFrames<'_, '_>,
     root: &Option<SurfaceId>,
     size: Size,
 ) -> Result<Vec<Pixel>, AllocError>
@@ -89,5 +89,6 @@ pub fn picture(
     ensures { IfOk result (λ v. v.items
         ≡ picture_of size (option_and_then (λ (r : Root). scene_at r active.now) root.now)) }
 {
-    Ok(rows(alloc, active, root, size)?)
+    let active = ActiveFrames::new(alloc, active)?;
+    Ok(rows(alloc, &active, root, size)?)
 }

@@ -9,3 +9,4 @@ pub mod Ages
 pub mod Showing
 pub mod Chains
 pub mod Known
+pub mod Reaching

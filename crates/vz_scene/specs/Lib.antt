@@ -5,3 +5,4 @@ pub mod Limits
 pub mod Order
 pub mod Groups
 pub mod Seen
+pub mod Reached

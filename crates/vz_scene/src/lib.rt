@@ -15,12 +15,14 @@ pub mod frame;
 mod group;
 mod index;
 mod key;
+mod newest;
 pub mod place;
-pub mod scene;
+mod scene;
 pub mod submitted;
 pub mod visit;
 pub mod walk;
 
 pub use active_frames::ActiveFrames;
 pub use aggregation::Aggregation;
+pub use newest::Newest;
 pub use submitted::{SubmittedFrame, is_at_least};

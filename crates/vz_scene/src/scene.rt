@@ -3,7 +3,7 @@ ghost use Rattle.std.specs.Prelude.{◌≡◌, filter};
 ghost use Rattle.std.specs.Option.{option_copied};
 ghost use Rattle.vz_ids.specs.Ids.{same_surface};
 ghost use Rattle.vz_rules.specs.World.{frame_on};
-ghost use Rattle.vz_rules.specs.Scene.{in_range, after_start, newest, newer_frame, shown_frame};
+ghost use Rattle.vz_rules.specs.Scene.{in_range, after_start, newest, newer_frame};
 
 use crate::submitted::{SubmittedFrame, is_at_least};
 use vz_ids::{SurfaceId, SurfaceRange};
@@ -68,7 +68,7 @@ fn newer_of<'b, 'a>(
 }
 
 /// The newest frame of the range's own group.
-pub(crate) fn newest_in<'b, 'a>(
+pub fn newest_in<'b, 'a>(
     active: &'b [SubmittedFrame<'a>],
     range: &SurfaceRange,
 ) -> Option<&'b SubmittedFrame<'a>>
@@ -87,7 +87,7 @@ pub(crate) fn newest_in<'b, 'a>(
 }
 
 /// The newest frame of the group of the range's start.
-pub(crate) fn newest_after<'b, 'a>(
+pub fn newest_after<'b, 'a>(
     active: &'b [SubmittedFrame<'a>],
     range: &SurfaceRange,
 ) -> Option<&'b SubmittedFrame<'a>>
@@ -104,19 +104,4 @@ pub(crate) fn newest_after<'b, 'a>(
         }
     }
     best
-}
-
-/// The frame of the surface that a range shows. Each frame is looked at: where many ranges are
-/// asked, `Frames` finds each sooner.
-#[tactic(auto, unfolding(vz_rules::specs::Scene::shown_frame))]
-pub fn shown_frame<'b, 'a>(
-    active: &'b [SubmittedFrame<'a>],
-    range: &SurfaceRange,
-) -> Option<&'b SubmittedFrame<'a>>
-    ensures { option_copied result ≡ shown_frame active.now range.now }
-{
-    match newest_in(active, range) {
-        Some(submitted) => Some(submitted),
-        None => newest_after(active, range),
-    }
 }

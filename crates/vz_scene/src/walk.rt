@@ -8,7 +8,6 @@ ghost use Rattle.vz_scene.specs.Walking.{cursor_walked, stack_walked, IsWalk};
 use crate::active_frames::ActiveFrames;
 use crate::cursor::{Cursor, enter};
 use crate::place::whole;
-use crate::submitted::SubmittedFrame;
 use crate::visit::Walked;
 use std::alloc::{AllocError, Global};
 use vz_geom::Size;
@@ -82,7 +81,7 @@ fn run<'b, 'a>(
 /// 65,537 quads. Condition: the size is a display's.
 pub fn walk_of<'b, 'a>(
     alloc: Global,
-    active: &'b [SubmittedFrame<'a>],
+    active: &ActiveFrames<'b, 'a>,
     root: &SurfaceId,
     size: Size,
 ) -> Result<Option<Walked<'b, 'a>>, AllocError>
@@ -90,16 +89,15 @@ pub fn walk_of<'b, 'a>(
     ensures { IfOk result
         (IsWalk (walk_of size (record { root = root.now; active = active.now }))) }
 {
-    let shown = ActiveFrames::new(alloc, active)?;
     let mut walked = Walked::new(alloc);
-    match shown.frame_on(root) {
+    match active.frame_on(root) {
         None => Ok(Some(walked)),
         Some(submitted) => {
             let place = whole(size);
             walked.add_enters(1, submitted, place)?;
             let mut stack = Vec::new(alloc);
             push_some(&mut stack, enter(alloc, 65, &[], submitted, place)?)?;
-            Ok(run(alloc, &shown, stack, walked)?)
+            Ok(run(alloc, active, stack, walked)?)
         }
     }
 }

@@ -41,8 +41,8 @@ pub root_is : (w : World) (id : SurfaceId) (t : Bool) → w.root ≡ Some id →
 root_is w id t e h = ap (root_by w) e ∙ ap (λ (k : Bool). if k then id ∷ [] else []) h
 
 -- the closure over the active frames is what is reached
-pub reach_is : (w : World) (active active' : List FrameData) (submissions : List Submission) (ids : List SurfaceId) → active' ≡ active → active ≡ active_frames submissions → submissions ≡ w.subs
-    → ids ≡ closure same_surface (referenced w) (length active') (roots w) → ids ≡ reach w
+pub reach_is : (w : World) (active : List FrameData) (submissions : List Submission) (ids : List SurfaceId) → active ≡ active_frames submissions → submissions ≡ w.subs
+    → ids ≡ closure same_surface (referenced w) (length active) (roots w) → ids ≡ reach w
 unfolding reach
-reach_is w active active' submissions ids e f g is =
-    is ∙ ap (λ (l : List FrameData). closure same_surface (referenced w) (length l) (roots w)) (e ∙ (f ∙ ap active_frames g))
+reach_is w active submissions ids f g is =
+    is ∙ ap (λ (l : List FrameData). closure same_surface (referenced w) (length l) (roots w)) (f ∙ ap active_frames g)

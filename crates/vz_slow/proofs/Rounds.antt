@@ -1,13 +1,15 @@
 -- A round of activation, done by flags, and rounds until one changes nothing.
-use Rattle.std.proofs.Common.{◌≡◌, ℕ, zero, suc, ◌-◌, ◌<◌, ◌≤◌, Bool, true, ◌&&◌, ◌||◌, ◌==◌, List, [], ◌∷◌, ◌++◌, map, refl, sym, ap, ◌∙◌, if◌then◌else◌, arith, nat_lt, append_assoc}
+use Rattle.std.proofs.Common.{◌≡◌, ℕ, zero, suc, ◌-◌, ◌<◌, ◌≤◌, Bool, true, false, ◌&&◌, ◌||◌, ◌==◌, List, [], ◌∷◌, ◌++◌, cond, filter, map, refl, sym, ap, ◌∙◌, if◌then◌else◌, arith, nat_lt, append_assoc}
 use Rattle.std.specs.List.{list_any}
-use Rattle.vz_ids.specs.Ids.{same_surface}
+use Rattle.vz_ids.specs.declared.SurfaceId.{SurfaceId}
+use Rattle.vz_ids.specs.Ids.{same_surface, at_least}
+use Rattle.vz_scene.specs.Reached.{is_reached}
 use Rattle.vz_rules.specs.World.{World, Submission, Created, is_active, is_on, sub_of}
-use Rattle.vz_rules.specs.Settle.{is_ready, ready, is_before, round, rounds, activated_over}
+use Rattle.vz_rules.specs.Settle.{is_ready, ready, is_before, after_round, round, rounds, activated_over}
 use Rattle.vz_rules.specs.declared.entry.State.TheVariants.{Active, Past}
 use Rattle.vz_rules.proofs.Settled.{round_stays, rounds_stay}
 use Rattle.vz_state.specs.declared.risen.Risen.{Risen}
-use Rattle.vz_state.specs.Rising.{risen_of, on_same, on_later}
+use Rattle.vz_state.specs.Rising.{risen_of, on_same, on_later, meets, rises_to, IsMetBy}
 
 -- a test of what was noted is one of what it was noted of
 pub any_map : {A B : Type 0} (p : B → Bool) (f : A → B) (xs : List A) → list_any p (map f xs) ≡ list_any (λ x. p (f x)) xs
@@ -104,3 +106,52 @@ activated_zero (suc n) w h = absurd (omega arith)
 -- what became active so far, and one round more
 pub joined : {A : Type 0} (xs ys zs new rest all : List A) → new ≡ xs ++ zs → zs ≡ ys → all ≡ xs ++ (ys ++ rest) → all ≡ new ++ rest
 joined xs ys zs new rest all e f h = h ∙ (sym (append_assoc xs ys rest) ∙ ap (λ l. l ++ rest) (ap (λ l. xs ++ l) (sym f) ∙ sym e))
+
+-- what was met is met, and what is met by what rises
+pub rise_meets : (p : Submission → Bool) (activated : List Submission) (d : SurfaceId) (xs : List Submission) → list_any (meets d) (map (after_round p activated) xs) ≡ (list_any (meets d) xs || list_any (λ (s : Submission). at_least s.submitted.id d) (filter p xs))
+rise_meets p activated d [] = refl
+rise_meets p activated d (x ∷ xs) = by (p x) refl (rise_meets p activated d xs)
+  where
+    old : Bool
+    old = list_any (meets d) xs
+
+    new : Bool
+    new = list_any (λ (s : Submission). at_least s.submitted.id d) (filter p xs)
+
+    joins : (was a m f : Bool) → (a || (m || f)) ≡ (((was && a) || m) || (a || f))
+    joins true true m f = refl
+    joins true false m f = refl
+    joins false true true f = refl
+    joins false true false f = refl
+    joins false false m f = refl
+
+    grouped : (a m f : Bool) → (a || (m || f)) ≡ ((a || m) || f)
+    grouped true m f = refl
+    grouped false m f = refl
+
+    stays : (t : Bool) → meets d (cond t (record x { state = Past }) x) ≡ meets d x
+    stays true = refl
+    stays false = refl
+
+    by : (t : Bool) → p x ≡ t → list_any (meets d) (map (after_round p activated) xs) ≡ (old || new) → list_any (meets d) (map (after_round p activated) (x ∷ xs)) ≡ (list_any (meets d) (x ∷ xs) || list_any (λ (s : Submission). at_least s.submitted.id d) (filter p (x ∷ xs)))
+    by true e rest =
+        ap (λ (t : Bool). meets d (cond t (record x { state = Active; was_active = true }) (if is_active x && list_any (is_on x.submitted.id) activated then record x { state = Past } else x)) || list_any (meets d) (map (after_round p activated) xs)) e
+        ∙ (ap (λ t. at_least x.submitted.id d || t) rest
+        ∙ (joins x.was_active (at_least x.submitted.id d) old new
+        ∙ ap (λ (t : Bool). (meets d x || old) || list_any (λ (s : Submission). at_least s.submitted.id d) (cond t (x ∷ filter p xs) (filter p xs))) (sym e)))
+    by false e rest =
+        ap (λ (t : Bool). meets d (cond t (record x { state = Active; was_active = true }) (if is_active x && list_any (is_on x.submitted.id) activated then record x { state = Past } else x)) || list_any (meets d) (map (after_round p activated) xs)) e
+        ∙ (ap (λ t. t || list_any (meets d) (map (after_round p activated) xs)) (stays (is_active x && list_any (is_on x.submitted.id) activated))
+        ∙ (ap (λ t. meets d x || t) rest
+        ∙ (grouped (meets d x) old new
+        ∙ ap (λ (t : Bool). (meets d x || old) || list_any (λ (s : Submission). at_least s.submitted.id d) (cond t (x ∷ filter p xs) (filter p xs))) (sym e))))
+
+-- what is met after a round, by what was met before it and by what rose
+pub round_meets : (w v : World) (old new : List SurfaceId) (rs : List Risen) → v ≡ round w → rs ≡ map (risen_of w.surfaces) (ready w) → ((d : SurfaceId) → is_reached new d ≡ (is_reached old d || list_any (rises_to d) rs)) → IsMetBy old w.subs → IsMetBy new v.subs
+unfolding round ready
+round_meets w v old new rs e rises more has d =
+    more d
+    ∙ (ap (λ t. t || list_any (rises_to d) rs) (has d)
+    ∙ (ap (λ (l : List Risen). list_any (meets d) w.subs || list_any (rises_to d) l) rises
+    ∙ (ap (λ t. list_any (meets d) w.subs || t) (any_map (rises_to d) (risen_of w.surfaces) (ready w))
+    ∙ (sym (rise_meets (is_ready w) (ready w) d w.subs) ∙ ap (λ (u : World). list_any (meets d) u.subs) (sym e)))))

@@ -12,9 +12,8 @@ use vz_ids::SurfaceId;
 use vz_rules::{Plan, Reply};
 use vz_scene::claims::drawn_damage;
 use vz_scene::damage::{remember, walked_subs};
-use vz_scene::scene::frame_on;
 use vz_scene::walk::walk_of;
-use vz_scene::{Aggregation, SubmittedFrame};
+use vz_scene::{ActiveFrames, Aggregation};
 use vz_state::{accepted_frames, active_frames};
 
 /// Whether there was an aggregation and the damage is empty.
@@ -33,7 +32,7 @@ impl<'a> World<'a> {
         &mut self,
         plan: &Plan,
         root: SurfaceId,
-        active: &[SubmittedFrame<'a>],
+        active: &ActiveFrames<'_, 'a>,
     ) -> Result<Reply, AllocError>
         ensures { IfOk result (λ r. says r self.new
             ≡ scene_answer plan.now self.old (record { root = root; active = active.now })) }
@@ -45,6 +44,7 @@ impl<'a> World<'a> {
                 let visits = walked.visits();
                 let accepted = accepted_frames(self.alloc, &self.subs)?;
                 let damage = drawn_damage(self.alloc, size, &self.last, &accepted, &root, visits)?;
+                let active = active.as_slice();
                 let aggregation = remember(self.alloc, root, active, visits)?;
                 let subs = walked_subs(self.alloc, active, visits)?;
                 if is_unchanged(&self.last, &damage) {
@@ -68,8 +68,9 @@ impl<'a> World<'a> {
         match self.root {
             None => Ok(Reply::NoRoot),
             Some(root) => {
-                let active = active_frames(self.alloc, &self.subs)?;
-                match frame_on(&active, &root) {
+                let frames = active_frames(self.alloc, &self.subs)?;
+                let active = ActiveFrames::new(self.alloc, &frames)?;
+                match active.frame_on(&root) {
                     None => Ok(Reply::NoRoot),
                     Some(_) => Ok(self.draw_scene(plan, root, &active)?),
                 }

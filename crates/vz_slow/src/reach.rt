@@ -9,8 +9,7 @@ ghost use Rattle.vz_rules.specs.Reach.{is_temporary, root_list, roots, reference
 use crate::world::World;
 use std::alloc::{AllocError, Global};
 use vz_ids::SurfaceId;
-use vz_scene::SubmittedFrame;
-use vz_scene::scene::frame_on;
+use vz_scene::ActiveFrames;
 use vz_state::{Surface, active_frames, add_ids, all_shown, exists, has_closed};
 
 impl<'a> World<'a> {
@@ -68,13 +67,13 @@ impl<'a> World<'a> {
     #[tactic(auto, unfolding(vz_rules::specs::Scene::shown))]
     fn referenced(
         &self,
-        active: &[SubmittedFrame<'a>],
+        active: &ActiveFrames<'_, 'a>,
         id: &SurfaceId,
     ) -> Result<Vec<SurfaceId>, AllocError>
         requires { active.now ≡ active_frames self.now.subs }
         ensures { IfOk result (λ v. v.items ≡ referenced self.now id.now) }
     {
-        match frame_on(active, id) {
+        match active.frame_on(id) {
             None => Ok(Vec::new(self.alloc)),
             Some(submitted) => Ok(all_shown(
                 self.alloc,
@@ -87,7 +86,7 @@ impl<'a> World<'a> {
     /// What the active frames of surfaces reference. Condition: these are the active frames.
     fn all_referenced(
         &self,
-        active: &[SubmittedFrame<'a>],
+        active: &ActiveFrames<'_, 'a>,
         ids: &[SurfaceId],
     ) -> Result<Vec<SurfaceId>, AllocError>
         requires { active.now ≡ active_frames self.now.subs }
@@ -103,13 +102,13 @@ impl<'a> World<'a> {
 
     /// The reached surfaces. A step that adds none is the last. Condition: these are the active
     /// frames.
-    fn reach_over(&self, active: &[SubmittedFrame<'a>]) -> Result<Vec<SurfaceId>, AllocError>
+    fn reach_over(&self, active: &ActiveFrames<'_, 'a>) -> Result<Vec<SurfaceId>, AllocError>
         requires { active.now ≡ active_frames self.now.subs }
         ensures { IfOk result (λ v. v.items
             ≡ closure same_surface (referenced self.now) (length active.now) (roots self.now)) }
     {
         let mut ids = self.roots()?;
-        let mut left = active.len();
+        let mut left = active.as_slice().len();
         while left > 0 {
             left -= 1;
             let others = self.all_referenced(active, &ids)?;
@@ -126,7 +125,8 @@ impl<'a> World<'a> {
     pub fn reach(&self) -> Result<Vec<SurfaceId>, AllocError>
         ensures { IfOk result (λ v. v.items ≡ reach self.now) }
     {
-        let active = active_frames(self.alloc, &self.subs)?;
+        let frames = active_frames(self.alloc, &self.subs)?;
+        let active = ActiveFrames::new(self.alloc, &frames)?;
         Ok(self.reach_over(&active)?)
     }
 }

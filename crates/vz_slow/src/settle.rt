@@ -3,23 +3,44 @@ ghost use Rattle.std.specs.Prelude.{◌≡◌, ◌==◌, ◌&&◌, nat_lt, map, 
 ghost use Rattle.std.specs.List.{list_any, list_all};
 ghost use Rattle.vz_ids.specs.Ids.{same_surface};
 ghost use Rattle.vz_rules.specs.Settle.{is_met, has_come, is_ready, ready, round, settle, activated_in};
-ghost use Rattle.vz_state.specs.Rising.{risen_of, AreSigns};
+ghost use Rattle.vz_state.specs.Rising.{risen_of, AreSigns, IsMetBy};
 
 use crate::world::World;
 use std::alloc::{AllocError, Global};
+use std::marker::Model;
 use vz_ids::{Sub, SurfaceId};
+use vz_scene::Newest;
 use vz_state::{
-    Risen, Signs, Submission, go_on_by, is_before_one, is_gone, is_one_on, mark_by, number_of,
-    was_met,
+    Risen, Signs, Submission, add_risen, go_on_by, is_before_one, is_gone, is_one_on, mark_by,
+    met_by, number_of,
 };
 
-impl<'a> World<'a> {
+/// A world where a round begins, with the surfaces on which a submission was ever active.
+#[derive(Drop)]
+struct Round<'w, 'a> {
+    world: &'w World<'a>,
+    ever_active: &'w Newest,
+}
+
+impl<'w, 'a> Model for Round<'w, 'a> {
+    ghost use Rattle.vz_rules.specs.World.{World as Placement};
+    ghost use Rattle.vz_state.specs.Rising.{IsMetBy};
+
+    ghost Value = { Placement };
+
+    ghost view = { λ r. r.world.now };
+
+    ghost invariant = { λ r. IsMetBy r.ever_active.now r.world.now.subs };
+}
+
+impl<'w, 'a> Round<'w, 'a> {
     /// Whether a dependency is met.
     #[tactic(auto, unfolding(vz_rules::specs::Settle::is_met))]
     fn is_met(&self, d: &SurfaceId) -> bool
         ensures { result ≡ is_met self.now d.now }
     {
-        was_met(&self.subs, d) || is_gone(&self.clients, d.sink)
+        let world = self.world;
+        self.ever_active.has(d) || is_gone(&world.clients, d.sink)
     }
 
     /// Whether the dependencies of a submission are all met, or its deadline has come.
@@ -27,8 +48,9 @@ impl<'a> World<'a> {
     fn has_come(&self, submission: &Submission<'_>) -> bool
         ensures { result ≡ has_come self.now submission.now }
     {
+        let world = self.world;
         self.are_met(submission.frame().metadata.dependencies.as_slice())
-            || submission.due() <= u64::from(self.tick)
+            || submission.due() <= u64::from(world.tick)
     }
 
     /// Whether dependencies are all met.
@@ -38,7 +60,7 @@ impl<'a> World<'a> {
         dependencies.iter().all(|d| self.is_met(d))
     }
 
-    /// Whether a submission becomes active in the round that begins now.
+    /// Whether a submission becomes active in the round.
     #[tactic(auto, unfolding(vz_rules::specs::Settle::is_ready))]
     fn is_ready(&self, submission: &Submission<'_>) -> bool
         ensures { result ≡ is_ready self.now submission.now }
@@ -46,6 +68,51 @@ impl<'a> World<'a> {
         submission.is_waiting() && self.has_come(submission)
     }
 
+    /// What becomes active in the round.
+    #[tactic(auto, unfolding(vz_rules::specs::Settle::ready))]
+    fn risen(&self) -> Result<Vec<Risen>, AllocError>
+        ensures { IfOk result (λ v. v.items
+            ≡ map (risen_of self.now.surfaces) (ready self.now)) }
+    {
+        let world = self.world;
+        world
+            .subs
+            .iter()
+            .filter(|submission| self.is_ready(submission))
+            .map(|submission| world.risen_of(submission))
+            .collect(world.alloc)
+    }
+
+    /// For each submission, whether it becomes active in the round.
+    fn ready_flags(&self) -> Result<Vec<bool>, AllocError>
+        ensures { IfOk result (λ v. v.items ≡ map (is_ready self.now) self.now.subs) }
+    {
+        let world = self.world;
+        world
+            .subs
+            .iter()
+            .map(|submission| self.is_ready(submission))
+            .collect(world.alloc)
+    }
+
+    /// What is found of the round before it changes anything.
+    fn signs(&self) -> Result<Signs, AllocError>
+        ensures { IfOk result (λ s. AreSigns self.now s) }
+    {
+        let risen = self.risen()?;
+        let becomes = self.ready_flags()?;
+        let replaced = self.world.replaced_flags(&risen)?;
+        let marked = self.world.marked_flags(&risen)?;
+        Ok(Signs {
+            risen,
+            becomes,
+            replaced,
+            marked,
+        })
+    }
+}
+
+impl<'a> World<'a> {
     /// What is noted of a submission.
     fn risen_of(&self, submission: &Submission<'_>) -> Risen
         ensures { result ≡ risen_of self.now.surfaces submission.now }
@@ -55,29 +122,6 @@ impl<'a> World<'a> {
             sub: submission.sub(),
             number: number_of(&self.surfaces, submission),
         }
-    }
-
-    /// What becomes active in the round that begins now.
-    #[tactic(auto, unfolding(vz_rules::specs::Settle::ready))]
-    fn risen(&self) -> Result<Vec<Risen>, AllocError>
-        ensures { IfOk result (λ v. v.items
-            ≡ map (risen_of self.now.surfaces) (ready self.now)) }
-    {
-        self.subs
-            .iter()
-            .filter(|submission| self.is_ready(submission))
-            .map(|submission| self.risen_of(submission))
-            .collect(self.alloc)
-    }
-
-    /// For each submission, whether it becomes active in the round that begins now.
-    fn ready_flags(&self) -> Result<Vec<bool>, AllocError>
-        ensures { IfOk result (λ v. v.items ≡ map (is_ready self.now) self.now.subs) }
-    {
-        self.subs
-            .iter()
-            .map(|submission| self.is_ready(submission))
-            .collect(self.alloc)
     }
 
     /// For each submission, whether one that rose is on its surface.
@@ -103,20 +147,17 @@ impl<'a> World<'a> {
             .collect(self.alloc)
     }
 
-    /// What is found of a round before it changes anything.
-    fn signs(&self) -> Result<Signs, AllocError>
+    /// What is found of a round before it changes anything. Condition: these are the surfaces on
+    /// which a submission was ever active.
+    fn signs(&self, ever_active: &Newest) -> Result<Signs, AllocError>
+        requires { IsMetBy ever_active.now self.now.subs }
         ensures { IfOk result (λ s. AreSigns self.now s) }
     {
-        let risen = self.risen()?;
-        let becomes = self.ready_flags()?;
-        let replaced = self.replaced_flags(&risen)?;
-        let marked = self.marked_flags(&risen)?;
-        Ok(Signs {
-            risen,
-            becomes,
-            replaced,
-            marked,
-        })
+        let round = Round {
+            world: self,
+            ever_active,
+        };
+        Ok(round.signs()?)
     }
 
     /// One round, by its signs.
@@ -142,14 +183,16 @@ impl<'a> World<'a> {
         ensures world { OnOk result (self.new ≡ settle self.old) }
     {
         let mut all = Vec::new(self.alloc);
+        let mut ever_active = met_by(self.alloc, &self.subs)?;
         let mut left = self.accepted();
         while left > 0 {
             left -= 1;
-            let signs = self.signs()?;
+            let signs = self.signs(&ever_active)?;
             self.round(&signs);
             if is_none(&signs.risen) {
                 return Ok(all);
             }
+            add_risen(&mut ever_active, &signs.risen)?;
             all.append(&mut subs_of(self.alloc, &signs.risen)?)?;
         }
         Ok(all)

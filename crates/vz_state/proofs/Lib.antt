@@ -7,3 +7,4 @@ pub mod Lending
 pub mod Rooming
 pub mod Activating
 pub mod Ends
+pub mod Meets

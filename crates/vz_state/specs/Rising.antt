@@ -1,11 +1,25 @@
 -- What is found of a round before it changes anything.
 use Rattle.std.specs.Prelude.{◌≡◌, ◌==◌, nat_lt, Bool, ◌&&◌, List, map}
 use Rattle.std.specs.List.{list_any}
-use Rattle.vz_ids.specs.Ids.{same_surface}
+use Rattle.vz_ids.specs.declared.SurfaceId.{SurfaceId}
+use Rattle.vz_ids.specs.Ids.{same_surface, at_least}
+use Rattle.vz_scene.specs.Reached.{is_reached}
 use Rattle.vz_rules.specs.World.{World, Submission, Created}
 use Rattle.vz_rules.specs.Settle.{number_of, is_ready, ready}
 use Rattle.vz_state.specs.declared.risen.Risen.{Risen}
 use Rattle.vz_state.specs.declared.risen.Signs.{Signs}
+
+-- a submission was active on a surface or a newer one of its group
+abbrev pub meets : SurfaceId → Submission → Bool
+meets d s = s.was_active && at_least s.submitted.id d
+
+-- some surfaces reach those that a submission was active on, or on a newer one of the group
+abbrev pub IsMetBy : List SurfaceId → List Submission → Type 0
+IsMetBy met subs = (d : SurfaceId) → is_reached met d ≡ list_any (meets d) subs
+
+-- one that rose is on a surface or a newer one of its group
+abbrev pub rises_to : SurfaceId → Risen → Bool
+rises_to d r = at_least r.id d
 
 -- what is noted of a submission: its surface, its name, and the number of the surface among those of its client
 abbrev pub risen_of : List Created → Submission → Risen

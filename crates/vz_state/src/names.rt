@@ -1,7 +1,7 @@
 //! Which surfaces are named and shown by references.
 ghost use Rattle.std.specs.Prelude.{◌≡◌, map, OnOk, IfOk};
-ghost use Rattle.std.specs.List.{list_any, filter_map};
-ghost use Rattle.vz_ids.specs.Ids.{same_surface, at_least};
+ghost use Rattle.std.specs.List.{filter_map};
+ghost use Rattle.vz_ids.specs.Ids.{same_surface};
 ghost use Rattle.vz_state.specs.Naming.{is_named_by, shown_in};
 ghost use Rattle.vz_rules.specs.Closure.{adding};
 ghost use Rattle.vz_rules.specs.Reach.{has_id};
@@ -9,8 +9,7 @@ ghost use Rattle.vz_rules.specs.Reach.{has_id};
 use crate::surface::Surface;
 use std::alloc::{AllocError, Global};
 use vz_ids::{SurfaceId, SurfaceRange};
-use vz_scene::scene::shown_frame;
-use vz_scene::{SubmittedFrame, is_at_least};
+use vz_scene::{ActiveFrames, Newest};
 
 /// The ends of ranges.
 pub fn range_ends(alloc: Global, ranges: &[SurfaceRange]) -> Result<Vec<SurfaceId>, AllocError>
@@ -19,20 +18,24 @@ pub fn range_ends(alloc: Global, ranges: &[SurfaceRange]) -> Result<Vec<SurfaceI
     ranges.iter().map(|range| range.end).collect(alloc)
 }
 
-/// Whether one of these is the surface or a newer one of its group.
-fn is_one_at_least(ids: &[SurfaceId], id: &SurfaceId) -> bool
-    ensures { result ≡ list_any (λ i. at_least i id.now) ids.now }
-{
-    ids.iter().any(|other| is_at_least(other, id))
-}
-
 impl Surface {
     /// Whether it exists, and one of these is it or a newer one of its group.
-    fn is_named_by(&self, ends: &[SurfaceId]) -> bool
+    fn is_named_by(&self, ends: &Newest) -> bool
         ensures { result ≡ is_named_by ends.now self.now }
     {
-        !self.destroyed && is_one_at_least(ends, &self.id)
+        !self.destroyed && ends.has(&self.id)
     }
+}
+
+/// For each surface, whether it exists and is one of those that are reached.
+fn flags_by(alloc: Global, surfaces: &[Surface], ends: &Newest) -> Result<Vec<bool>, AllocError>
+    ensures { IfOk result
+        (λ v. v.items ≡ map (is_named_by ends.now) surfaces.now) }
+{
+    surfaces
+        .iter()
+        .map(|surface| surface.is_named_by(ends))
+        .collect(alloc)
 }
 
 /// For each surface, whether it exists and one of these is it or a newer one of its group.
@@ -43,10 +46,8 @@ pub fn named_flags(
 ) -> Result<Vec<bool>, AllocError>
     ensures { IfOk result (λ v. v.items ≡ map (is_named_by ends.now) surfaces.now) }
 {
-    surfaces
-        .iter()
-        .map(|surface| surface.is_named_by(ends))
-        .collect(alloc)
+    let newest = Newest::of(alloc, ends)?;
+    Ok(flags_by(alloc, surfaces, &newest)?)
 }
 
 /// Whether a surface is one of these.
@@ -69,10 +70,10 @@ pub fn add_ids(ids: &mut Vec<SurfaceId>, others: &[SurfaceId]) -> Result<(), All
 }
 
 /// The surface that a range shows.
-fn shown(active: &[SubmittedFrame<'_>], range: &SurfaceRange) -> Option<SurfaceId>
+fn shown(active: &ActiveFrames<'_, '_>, range: &SurfaceRange) -> Option<SurfaceId>
     ensures { result ≡ shown_in active.now range.now }
 {
-    match shown_frame(active, range) {
+    match active.shown_frame(range) {
         Some(submitted) => Some(submitted.id()),
         None => None,
     }
@@ -81,7 +82,7 @@ fn shown(active: &[SubmittedFrame<'_>], range: &SurfaceRange) -> Option<SurfaceI
 /// The surfaces that ranges show.
 pub fn all_shown(
     alloc: Global,
-    active: &[SubmittedFrame<'_>],
+    active: &ActiveFrames<'_, '_>,
     ranges: &[SurfaceRange],
 ) -> Result<Vec<SurfaceId>, AllocError>
     ensures { IfOk result (λ v. v.items ≡ filter_map (shown_in active.now) ranges.now) }

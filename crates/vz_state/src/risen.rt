@@ -1,10 +1,15 @@
 //! What becomes active in a round.
-ghost use Rattle.std.specs.Prelude.{◌≡◌, ◌&&◌, ◌==◌, nat_lt};
+ghost use Rattle.std.specs.Prelude.{◌≡◌, ◌&&◌, ◌||◌, ◌==◌, nat_lt, OnOk};
 ghost use Rattle.std.specs.List.{list_any};
+ghost use Rattle.vz_ids.specs.declared.SurfaceId.{SurfaceId as Surfaced};
 ghost use Rattle.vz_ids.specs.Ids.{same_surface};
+ghost use Rattle.vz_scene.specs.Reached.{is_reached};
+ghost use Rattle.vz_state.specs.Rising.{rises_to};
 
 use crate::surface::Surface;
+use std::alloc::AllocError;
 use vz_ids::{Sub, SurfaceId};
+use vz_scene::Newest;
 
 /// What is noted of a submission that becomes active in a round.
 #[derive(Clone, Copy, Debug, PartialEq, Eq)]
@@ -43,4 +48,16 @@ pub fn is_before_one(risen: &[Risen], surface: &Surface) -> bool
         && nat_lt surface.now.number r.number) risen.now }
 {
     risen.iter().any(|other| surface.client == other.sub.client && surface.number < other.number)
+}
+
+/// The surfaces of those that rose are added to those that were met.
+pub fn add_risen(met: &mut Newest, risen: &[Risen]) -> Result<(), AllocError>
+    ensures { (d : Surfaced)
+        → OnOk result (is_reached met.new d
+        ≡ (is_reached met.old d || list_any (rises_to d) risen.now)) }
+{
+    for other in risen {
+        met.add(&other.id)?;
+    }
+    Ok(())
 }

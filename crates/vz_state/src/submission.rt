@@ -1,8 +1,9 @@
 //! Submissions that were accepted, and where they stand.
-ghost use Rattle.std.specs.Prelude.{◌≡◌, ◌&&◌, ◌++◌, map, OnOk, IfOk, [], ◌∷◌, false, cond};
-ghost use Rattle.std.specs.List.{list_any};
+ghost use Rattle.std.specs.Prelude.{◌≡◌, ◌||◌, ◌++◌, map, OnOk, IfOk, [], ◌∷◌, false, cond};
 ghost use Rattle.vz_rules.specs.World.{is_active, is_waiting, is_on, active_frames, sub_of};
-ghost use Rattle.vz_ids.specs.Ids.{at_least};
+ghost use Rattle.vz_ids.specs.declared.SurfaceId.{SurfaceId as Surface};
+ghost use Rattle.vz_scene.specs.Reached.{is_reached};
+ghost use Rattle.vz_state.specs.Rising.{meets, IsMetBy};
 ghost use Rattle.vz_rules.specs.declared.entry.State.TheVariants.{Waiting as Waits};
 
 use std::alloc::{AllocError, Global};
@@ -10,7 +11,7 @@ use std::marker::Model;
 use vz_frame::CompositorFrame;
 use vz_ids::{Sub, SurfaceId};
 use vz_rules::State;
-use vz_scene::{SubmittedFrame, is_at_least};
+use vz_scene::{Newest, SubmittedFrame};
 
 /// An accepted submission.
 #[derive(Drop)]
@@ -111,13 +112,6 @@ impl<'a> Submission<'a> {
         self.submitted.frame()
     }
 
-    /// Whether it was active on the surface or a newer one of its group.
-    pub fn meets(&self, d: &SurfaceId) -> bool
-        ensures { result ≡ (self.now.was_active && at_least self.now.submitted.id d.now) }
-    {
-        self.was_active && is_at_least(&self.submitted.id(), d)
-    }
-
     /// The tick at which its deadline has come.
     pub fn due(&self) -> u64
         ensures { result ≡ self.now.due }
@@ -126,12 +120,26 @@ impl<'a> Submission<'a> {
     }
 }
 
-/// Whether some submission was active on a surface or a newer one of its group.
-pub fn was_met(submissions: &[Submission<'_>], d: &SurfaceId) -> bool
-    ensures { result
-        ≡ list_any (λ s. s.was_active && at_least s.submitted.id d.now) submissions.now }
+/// The surface of a submission is added where it was active.
+fn add_met(met: &mut Newest, submission: &Submission<'_>) -> Result<(), AllocError>
+    ensures { (d : Surface) → OnOk result
+        (is_reached met.new d ≡ (is_reached met.old d || meets d submission.now)) }
 {
-    submissions.iter().any(|submission| submission.meets(d))
+    if submission.was_active {
+        met.add(&submission.id())?;
+    }
+    Ok(())
+}
+
+/// The surfaces on which a submission was ever active.
+pub fn met_by(alloc: Global, submissions: &[Submission<'_>]) -> Result<Newest, AllocError>
+    ensures { IfOk result (λ n. IsMetBy n submissions.now) }
+{
+    let mut met = Newest::new(alloc);
+    for submission in submissions {
+        add_met(&mut met, submission)?;
+    }
+    Ok(met)
 }
 
 /// The frame of a submission is added where it is active.

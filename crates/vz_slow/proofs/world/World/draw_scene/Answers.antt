@@ -1,7 +1,7 @@
 use Rattle.std.proofs.Common.{map, sym, ap, ◌∙◌}
 use Rattle.vz_rules.specs.World.{Scene, Submission}
 use Rattle.vz_rules.specs.Walk.{walked_subs}
-use Rattle.vz_rules.specs.Damage.{drawn_damage}
+use Rattle.vz_rules.specs.Damage.{drawn_damage, aggregation_of}
 use Rattle.vz_slow.proofs.Drawing.{walked_none, walked_some, scene_too_much, scene_unchanged, scene_drawn}
 use Rattle.vz_slow.proofs.world.World.draw_scene.Goals as goal
 
@@ -20,7 +20,7 @@ returns-then-is_unchanged c =
     ∙ (ap (λ l. drawn_damage c.size-size.result c.self.inside.last l c.args.root c.visits-visits.result.now) (c.deref-in-Some.ensures.value ∙ c.in_ok-accepted-in-Some.ensures)
     ∙ ap (λ s. drawn_damage s c.self.inside.last (map (λ (x : Submission). x.submitted) c.deref.result.now) c.args.root c.visits-visits.result.now) c.size-size.ensures.value) in
     scene_unchanged p w _ scene c.visits-visits.result.now c.in_ok-damage-in-Some.damage c.deref.result.now _ c.self.view_is (c.visits-visits.ensures ∙ walked.0) walked.1 c.deref.ensures.value damage
-    c.in_ok-aggregation-in-Some.ensures (sym c.is_unchanged.ensures ∙ c.if-is_unchanged.true)
+    (c.in_ok-aggregation-in-Some.ensures ∙ ap (λ l. aggregation_of (record { root = c.args.root; active = l }) c.visits-visits.result.now) c.as_slice-active.ensures) (sym c.is_unchanged.ensures ∙ c.if-is_unchanged.true)
 
 pub returns-else-is_unchanged : goal.returns-else-is_unchanged
 unfolding walked_subs
@@ -33,4 +33,4 @@ returns-else-is_unchanged c =
     ∙ (ap (λ l. drawn_damage c.size-size.result c.self.inside.last l c.args.root c.visits-visits.result.now) (c.deref-in-Some.ensures.value ∙ c.in_ok-accepted-in-Some.ensures)
     ∙ ap (λ s. drawn_damage s c.self.inside.last (map (λ (x : Submission). x.submitted) c.deref.result.now) c.args.root c.visits-visits.result.now) c.size-size.ensures.value) in
     scene_drawn p w _ scene c.visits-visits.result.now c.in_ok-damage-in-Some.damage c.deref.result.now _ _ c.self.view_is (c.visits-visits.ensures ∙ walked.0) walked.1 c.deref.ensures.value damage
-    c.in_ok-aggregation-in-Some.ensures (c.from_vec.ensures ∙ c.in_ok-subs-in-Some.ensures) (sym c.is_unchanged.ensures ∙ c.if-is_unchanged.false)
+    (c.in_ok-aggregation-in-Some.ensures ∙ ap (λ l. aggregation_of (record { root = c.args.root; active = l }) c.visits-visits.result.now) c.as_slice-active.ensures) (c.from_vec.ensures ∙ (c.in_ok-subs-in-Some.ensures ∙ ap (λ l. walked_subs (record { root = c.args.root; active = l }) c.visits-visits.result.now) c.as_slice-active.ensures)) (sym c.is_unchanged.ensures ∙ c.if-is_unchanged.false)

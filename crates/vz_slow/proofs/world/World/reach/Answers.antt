@@ -5,5 +5,5 @@ use Rattle.vz_slow.proofs.world.World.reach.Goals as goal
 
 pub returns : goal.returns
 returns c =
-    reach_is c.args.self.now c.in_ok-active.active.items c.deref-2.result.now c.deref.result.now _ c.deref-2.ensures.value c.in_ok-active.ensures
+    reach_is c.args.self.now c.in_ok-active.active c.deref.result.now _ (c.in_ok-active.ensures ∙ (c.deref-2.ensures.value ∙ c.in_ok-frames.ensures))
     (c.deref.ensures.value ∙ ap (λ (u : World). u.subs) c.self.view_is) c.in_ok-reach_over.ensures

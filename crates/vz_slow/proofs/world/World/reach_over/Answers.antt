@@ -8,6 +8,7 @@ use Rattle.vz_slow.proofs.world.World.reach_over.Goals as goal
 
 pub loop-left-init : goal.loop-left-init
 loop-left-init c = ap (closure same_surface (referenced c.args.self.now) (length c.args.active.now)) (sym c.in_ok-ids.ensures)
+    ∙ ap (λ l. closure same_surface (referenced c.args.self.now) (length l) c.in_ok-ids.ids.items) (sym c.as_slice-left.ensures)
 
 pub returns-then-len-before : goal.returns-then-len-before
 returns-then-len-before c =

@@ -1,0 +1,123 @@
+//! The newest of some surfaces, so that it is found soon whether one is another or a newer one.
+ghost use Rattle.std.specs.Prelude.{◌≡◌, ◌||◌, ◌++◌, ◌∷◌, [], IfOk, OnOk, OnErr};
+ghost use Rattle.std.specs.Option.{option_copied};
+ghost use Rattle.vz_ids.specs.declared.SurfaceId.{SurfaceId as Surface};
+ghost use Rattle.vz_ids.specs.Ids.{at_least};
+ghost use Rattle.vz_scene.specs.Reached.{is_at_least_in, reaches, is_reached};
+
+use crate::key::{GroupKey, group_of};
+use crate::submitted::is_at_least;
+use std::alloc::{AllocError, Global};
+use std::collections::BTreeMap;
+use std::marker::Model;
+use vz_ids::SurfaceId;
+
+/// Some surfaces, and the newest of them: one of each group, and beside it those that are
+/// neither newer nor older than it. A client's surfaces of one group are never such.
+#[derive(Drop)]
+pub struct Newest {
+    all: Vec<SurfaceId>,
+    groups: BTreeMap<GroupKey, SurfaceId>,
+    others: Vec<SurfaceId>,
+}
+
+impl Model for Newest {
+    ghost use Rattle.std.specs.Prelude.{List};
+    ghost use Rattle.vz_ids.specs.declared.SurfaceId.{SurfaceId};
+    ghost use Rattle.vz_scene.specs.Reached.{AreNewest};
+
+    ghost Value = { List SurfaceId };
+
+    ghost view = { λ n. n.all.items };
+
+    ghost invariant = { λ n. AreNewest n.groups n.others.items n.all.items };
+}
+
+/// A surface more is among the newest, where none of them is it or a newer one.
+fn put(
+    groups: &mut BTreeMap<GroupKey, SurfaceId>,
+    others: &mut Vec<SurfaceId>,
+    id: &SurfaceId,
+) -> Result<(), AllocError>
+    ensures ok { (d : Surface) → OnOk result (reaches groups.new others.new.items d
+        ≡ (reaches groups.old others.old.items d || at_least id.now d)) }
+    ensures err { (d : Surface) → OnErr result (reaches groups.new others.new.items d
+        ≡ reaches groups.old others.old.items d) }
+{
+    let key = group_of(id);
+    match groups.get(&key) {
+        None => {
+            groups.insert(key, *id)?;
+            Ok(())
+        }
+        Some(newest) => {
+            if is_at_least(newest, id) {
+                return Ok(());
+            }
+            if is_at_least(id, newest) {
+                groups.insert(key, *id)?;
+                return Ok(());
+            }
+            others.push(*id)?;
+            Ok(())
+        }
+    }
+}
+
+impl Newest {
+    /// No surface.
+    pub fn new(alloc: Global) -> Newest
+        ensures { result ≡ [] }
+    {
+        Newest {
+            all: Vec::new(alloc),
+            groups: BTreeMap::new(alloc),
+            others: Vec::new(alloc),
+        }
+    }
+
+    /// Whether one of them is this surface or a newer one of its group.
+    pub fn has(&self, d: &SurfaceId) -> bool
+        ensures { result ≡ is_reached self.now d.now }
+    {
+        is_at_least_in(self.groups.get(&group_of(d)), d) || is_one_at_least(&self.others, d)
+    }
+
+    /// A surface more.
+    pub fn add(&mut self, id: &SurfaceId) -> Result<(), AllocError>
+        ensures { OnOk result (self.new ≡ self.old ++ id.now ∷ []) }
+    {
+        self.all.try_reserve(1)?;
+        put(&mut self.groups, &mut self.others, id)?;
+        self.all.push_reserved(*id);
+        Ok(())
+    }
+
+    /// These surfaces.
+    pub fn of(alloc: Global, ids: &[SurfaceId]) -> Result<Newest, AllocError>
+        ensures { IfOk result (λ n. n ≡ ids.now) }
+    {
+        let mut newest = Newest::new(alloc);
+        for id in ids {
+            newest.add(id)?;
+        }
+        Ok(newest)
+    }
+}
+
+/// Whether there is a surface, and it is another or a newer one of its group.
+fn is_at_least_in(newest: Option<&SurfaceId>, d: &SurfaceId) -> bool
+    ensures { result ≡ is_at_least_in (option_copied newest.entry) d.now }
+{
+    match newest {
+        None => false,
+        Some(id) => is_at_least(id, d),
+    }
+}
+
+/// Whether one of some surfaces is another or a newer one of its group.
+fn is_one_at_least(ids: &[SurfaceId], d: &SurfaceId) -> bool
+    ensures { result ≡ is_reached ids.now d.now }
+{
+    ids.iter().any(|id| is_at_least(id, d))
+}
