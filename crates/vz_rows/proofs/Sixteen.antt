@@ -4,7 +4,7 @@ use Rattle.std.specs.Prelude.{codes}
 use Rattle.std.specs.Fmt.{decimal}
 use Rattle.std.proofs.lemmas.Fmt.{decimal_digit, decimal_injective}
 use Rattle.std.proofs.lemmas.Int.{ints}
-use Rattle.vz_rules.specs.Command.{Text, IsCommand, command_words}
+use Rattle.vz_rules.specs.Command.{Word, IsCommand, command_words}
 use Rattle.vz_rules.specs.declared.entry.Entry.{Entry}
 use Rattle.viz_run.specs.Headline.{Line, command_for, EndsWell}
 use Rattle.viz_run.specs.Outside.{Outside}
@@ -14,12 +14,12 @@ one_digit : (n d : ℕ) → n ≤ 2048 → d < 10 → decimal n ≡ (48 + d) ∷
 one_digit n d small digit is = decimal_injective n d (omega arith) (omega arith) (is ∙ sym (decimal_digit d digit))
 
 -- the sides are those that the words spell
-sides : (names : List Text) (l : Line) → IsCommand (codes "step" ∷ codes "4" ∷ codes "2" ∷ names) (command_for l) → (codes "4" ≡ decimal l.width) × (codes "2" ≡ decimal l.height)
+sides : (names : List Word) (l : Line) → IsCommand (codes "step" ∷ codes "4" ∷ codes "2" ∷ names) (command_for l) → (codes "4" ≡ decimal l.width) × (codes "2" ≡ decimal l.height)
 unfolding IsCommand command_words
 sides names l is = let e = is.1 in (cc, cc)
 
 pub sixteen :
-    (names : List Text) (h : List Entry) (before after : Outside) →
+    (names : List Word) (h : List Entry) (before after : Outside) →
     EndsWell (codes "step" ∷ codes "4" ∷ codes "2" ∷ names) h before after → after.steps ≡ before.steps + 16
 sixteen names h before after (g, well) =
     let spelled = sides names g.line well.command in
