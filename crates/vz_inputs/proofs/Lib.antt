@@ -1,0 +1,5 @@
+pub mod Behaving
+mod Gathering
+mod Flaws
+mod Accepts
+mod Schedules

@@ -1,0 +1,85 @@
+//! Why an input is refused.
+ghost use Rattle.std.specs.Prelude.{◌≡◌};
+ghost use Rattle.vz_inputs.specs.declared.refused.InputError.TheVariants as input_error;
+
+use std::alloc::AllocFailed;
+use std::error::Error;
+use std::fmt;
+use vz_base::Memory;
+use vz_codec::FileRule;
+
+/// What is wrong with an input.
+#[derive(Clone, Copy, Debug, PartialEq, Eq)]
+pub enum Reason {
+    /// A field of a client's file, or an event of the schedule, breaks this rule.
+    Rule(FileRule),
+    /// An earlier file has the sink of this one.
+    SinkTaken,
+    /// It has more bytes than such an input has at most.
+    Long,
+}
+
+/// An input that is refused.
+#[derive(Clone, Copy, Debug, PartialEq, Eq)]
+pub struct Refused {
+    /// The number of the client's file, from 1 on; 0 for the schedule and for a log.
+    pub file: u32,
+    /// How many bytes stand before what is wrong.
+    pub at: usize,
+    /// What is wrong there.
+    pub reason: Reason,
+}
+
+/// Why inputs are not accepted.
+#[derive(Clone, Copy, Debug, PartialEq, Eq)]
+pub enum InputError {
+    /// The first input that is refused.
+    Refused(Refused),
+    /// Want of memory.
+    Memory,
+}
+
+impl From<Memory> for InputError {
+    ghost from_gives = { λ _ e. e ≡ input_error.Memory };
+
+    fn from(_error: Memory) -> Self {
+        InputError::Memory
+    }
+}
+
+impl<T: Drop> From<AllocFailed<T>> for InputError {
+    ghost from_gives = { λ _ e. e ≡ input_error.Memory };
+
+    fn from(_error: AllocFailed<T>) -> Self {
+        InputError::Memory
+    }
+}
+
+impl fmt::Display for Reason {
+    fn fmt<W: fmt::Write>(&self, f: &mut fmt::Formatter<W>) -> fmt::Result {
+        match self {
+            Reason::Rule(rule) => write!(f, "{rule}"),
+            Reason::SinkTaken => f.write_str("an earlier file has this sink"),
+            Reason::Long => f.write_str("it is too long"),
+        }
+    }
+}
+
+impl fmt::Display for Refused {
+    fn fmt<W: fmt::Write>(&self, f: &mut fmt::Formatter<W>) -> fmt::Result {
+        write!(f, "file {} at {}: {}", self.file, self.at, self.reason)
+    }
+}
+
+impl fmt::Display for InputError {
+    fn fmt<W: fmt::Write>(&self, f: &mut fmt::Formatter<W>) -> fmt::Result {
+        match self {
+            InputError::Refused(refused) => write!(f, "{refused}"),
+            InputError::Memory => f.write_str("memory ran out"),
+        }
+    }
+}
+
+impl Error for Refused {}
+
+impl Error for InputError {}
