@@ -3,13 +3,14 @@
 /// What the words of a command line ask for. Sides are in pixels, and names are those of files.
 #[derive(Clone, Copy)]
 pub enum Command<'a> {
-    /// Clients and a display that run side by side.
+    /// Each client on a thread of its own, with a display beside them.
     Run {
-        /// Whether each begin-frame waits for the display to be done.
+        /// Whether the display waits in each round until every client has answered the begin-frame
+        /// or is idle.
         paced: bool,
         /// How many buffers the display has, where the words say so.
         buffers: Option<u32>,
-        /// Whether the frames go through a pipe.
+        /// Whether a thread of its own writes the frames.
         pipe: bool,
         /// How many columns the display has.
         width: u32,
@@ -52,7 +53,7 @@ pub enum Command<'a> {
         /// The client files, of which the first is that of client 1.
         files: &'a [String],
     },
-    /// The three client files by rule.
+    /// The three client files by rule, written.
     Gen {
         /// How many rounds the files have.
         rounds: u32,
@@ -63,12 +64,12 @@ pub enum Command<'a> {
         /// Where the file of client 3 goes.
         third: &'a str,
     },
-    /// The client files by rule, shown without files.
+    /// The three client files by rule, shown without a file.
     Demo {
         /// How many rounds the files have.
         rounds: u32,
     },
-    /// What is seen at a point of the display at the end of a schedule.
+    /// Which surface is at a point of the last frame of a schedule.
     Hit {
         /// How many columns the display has.
         width: u32,
@@ -83,7 +84,7 @@ pub enum Command<'a> {
         /// The client files, of which the first is that of client 1.
         files: &'a [String],
     },
-    /// The turns that a run takes.
+    /// Clients and a display that take turns, without pictures.
     Turns {
         /// How many columns the display has.
         width: u32,
