@@ -1,4 +1,5 @@
-//! Rows of the base crates: what no clause says of pixels, frames, message files, logs and devices.
+//! Rows of the base crates: what no clause says of pixels, frames, message files, logs, words and
+//! devices.
 #![tactic(auto)]
 
 #[cfg(test)]
@@ -13,3 +14,5 @@ mod frames;
 mod logs;
 #[cfg(test)]
 mod rows_of_pixels;
+#[cfg(test)]
+mod words;

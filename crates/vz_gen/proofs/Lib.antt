@@ -1,2 +1,3 @@
 mod Small
 mod Rounds
+pub mod Fitting

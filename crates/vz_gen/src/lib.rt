@@ -4,6 +4,7 @@
 
 mod child;
 mod files;
+pub mod laws;
 mod page;
 mod parts;
 

@@ -1,0 +1,7 @@
+mod Spelled
+mod Pieces
+mod Given
+mod Firsts
+mod Shapes
+mod Running
+mod One

@@ -1,0 +1,57 @@
+-- The words of the command line, and what is read in front of them.
+use Rattle.std.specs.Prelude.{ℕ, ◌≡◌, ◌+◌, Bool, true, false, not, is_some, ◌==◌, ◌&&◌, nat_le, IsTrue, List, map, codes, [], ◌∷◌, ◌++◌, Option}
+use Rattle.std.specs.Fmt.{decimal}
+use Rattle.std.specs.declared.string.String.{String}
+use Rattle.std.specs.String.{string_bytes}
+use Rattle.vz_base.specs.declared.limits.TheConstants.{MOST_TICKS}
+use Rattle.vz_rules.specs.Command.{Word, Command, Run, Step, Check, Gen, Demo, Hit, Turns, flag_words, buffer_words, buffers_fit, same_text, are_sides, frames_fit}
+use Rattle.vz_words.specs.declared.commands.Command.{Command as Asked}
+use Rattle.vz_words.specs.declared.commands.Command.TheVariants as asked
+
+-- words as the lists of their bytes
+abbrev pub texts : {A : Type 0} → List (String A) → List Word
+texts words = map string_bytes words
+
+-- a text begins neither with a plus nor with a zero before other bytes
+abbrev pub is_plain : List ℕ → Bool
+is_plain [] = true
+is_plain (c ∷ []) = not (c == 43)
+is_plain (c ∷ d ∷ cs) = not (c == 43) && not (c == 48)
+
+-- the first of the words is this one
+abbrev pub begins : Word → List Word → Bool
+begins name [] = false
+begins name (word ∷ words) = same_text word name
+
+-- the option without a value stands in front of the words or not, and the rest behind it
+abbrev pub IsFlag : (name : Word) (words : List Word) (given : Bool) (rest : List Word) → Type 0
+IsFlag name words given rest = (words ≡ flag_words name given ++ rest) × (given ≡ begins name words)
+
+-- the option for the number of buffers stands in front of the words or not, and the rest behind it
+abbrev pub IsBuffers : (words : List Word) (buffers : Option ℕ) (rest : List Word) → Type 0
+IsBuffers words buffers rest =
+    (words ≡ buffer_words buffers ++ rest) × (is_some buffers ≡ begins (codes "--buffers") words) × IsTrue (buffers_fit buffers)
+
+-- the sides of a display stand in front of the words, and the rest behind them
+abbrev pub IsDisplay : (words : List Word) (w h : ℕ) (rest : List Word) → Type 0
+IsDisplay words w h rest = (words ≡ decimal w ∷ decimal h ∷ rest) × IsTrue (are_sides w h)
+
+-- so many begin-frames of a display of this size are made and drawn
+abbrev pub ticks_fit : ℕ → ℕ → ℕ → Bool
+ticks_fit w h ticks = nat_le ticks MOST_TICKS && frames_fit w h (ticks + 1)
+
+-- the sides of a display and the begin-frames stand in front of the words, and the rest behind them
+abbrev pub IsTimed : (words : List Word) (w h ticks : ℕ) (rest : List Word) → Type 0
+IsTimed words w h ticks rest =
+    (words ≡ decimal w ∷ decimal h ∷ decimal ticks ∷ rest) × IsTrue (are_sides w h) × IsTrue (ticks_fit w h ticks)
+
+-- the command that a command of the code is
+abbrev pub command_of : Asked → Command
+command_of (asked.Run paced buffers pipe width height ticks frames log files) =
+    Run paced buffers pipe width height ticks frames.now log.now (texts files.now)
+command_of (asked.Step width height schedule frames log files) = Step width height schedule.now frames.now log.now (texts files.now)
+command_of (asked.Check width height frames log files) = Check width height frames.now log.now (texts files.now)
+command_of (asked.Gen rounds first second third) = Gen rounds first.now second.now third.now
+command_of (asked.Demo rounds) = Demo rounds
+command_of (asked.Hit width height schedule x y files) = Hit width height schedule.now x y (texts files.now)
+command_of (asked.Turns width height ticks files) = Turns width height ticks (texts files.now)

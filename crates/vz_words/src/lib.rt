@@ -1,0 +1,13 @@
+//! The words of the command line: which command they ask for, with which numbers and names.
+#![tactic(auto)]
+
+mod commands;
+mod front;
+pub mod laws;
+mod names;
+mod numbers;
+mod options;
+mod reader;
+
+pub use commands::Command;
+pub use reader::command;
