@@ -31,7 +31,7 @@ pub fn read_file(alloc: Global, bytes: &[u8]) -> Result<ClientFile, ReadError>
     let format = read_version(&mut input)?;
     let sink = read_header(&mut input)?;
     let count = input.u32_within(0, MOST_MESSAGES)?;
-    let messages = read_many(&Messages { format }, count as usize, &mut input)?;
+    let messages = read_many(&Messages(format), count as usize, &mut input)?;
     let file = ClientFile {
         format,
         sink,
@@ -53,7 +53,7 @@ fn ended(file: ClientFile, input: &Reader) -> Result<ClientFile, ReadError>
 }
 
 #[tactic(auto, unfolding(crate::specs::Reading::magic_at))]
-fn read_magic(input: &mut Reader) -> Result<u32, ReadError>
+fn read_magic(input: &mut Reader) -> Result<(), ReadError>
     ensures { Gives (λ x. (x, input.new)) result (magic_at input.old) }
 {
     let left = input.left();
@@ -61,10 +61,10 @@ fn read_magic(input: &mut Reader) -> Result<u32, ReadError>
     if magic != MAGIC {
         return Err(ReadError::refused(left, FileRule::Magic));
     }
-    Ok(magic)
+    Ok(())
 }
 
-#[tactic(auto, unfolding(crate::specs::Reading::version_at))]
+#[tactic(auto, unfolding(crate::specs::Reading::ranged_at))]
 fn read_version(input: &mut Reader) -> Result<u8, ReadError>
     ensures { Gives (λ x. (x, input.new)) result (version_at input.old) }
 {
@@ -98,13 +98,7 @@ pub fn write_file(file: &ClientFile, out: &mut Writer) -> Result<(), AllocError>
     out.u16(u16::from(file.format))?;
     Sinks.write(&file.sink, out)?;
     out.u32_count(messages.len())?;
-    write_many(
-        &Messages {
-            format: file.format,
-        },
-        messages,
-        out,
-    )
+    write_many(&Messages(file.format), messages, out)
 }
 
 #[tactic(auto, unfolding(crate::specs::Spelling::u32_bytes))]
@@ -133,7 +127,7 @@ pub fn fits(file: &ClientFile) -> bool
     is_format(format)
         && is_file_sink(file.sink)
         && messages.len() <= MOST_MESSAGES as usize
-        && fit_all(&Messages { format }, messages)
+        && fit_all(&Messages(format), messages)
 }
 
 /// Whether a number is that of a format.

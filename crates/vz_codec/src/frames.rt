@@ -2,7 +2,7 @@
 ghost use Rattle.std.specs.Prelude.{◌≡◌, ◌≤◌, ◌++◌, ◌&&◌, nat_le, length, sum_by, OnOk};
 ghost use Rattle.std.specs.List.{list_all};
 ghost use Rattle.vz_frame.specs.Fits.{fits_optional, fits_surface, fits_range, is_number, fits_listing, fits_pass, fits_frame, within};
-ghost use Rattle.vz_codec.specs.Fitting.{fits_metadata};
+ghost use Rattle.vz_codec.specs.Fields.{field, fits_metadata};
 ghost use Rattle.vz_codec.specs.Giving.{Gives};
 ghost use Rattle.vz_codec.specs.Reading.{pass_at, passes_at, listing_at, deadline_at, metadata_at, frame_at};
 ghost use Rattle.vz_codec.specs.Spelling.{counted_bytes, deadline_bytes, listing_bytes, pass_bytes, metadata_bytes, frame_bytes};
@@ -39,25 +39,19 @@ const RESOURCES: Counted<Listings> = Counted {
 
 /// The frames of a file of this format.
 #[derive(Drop)]
-pub struct Frames {
-    pub format: u8,
-}
+pub struct Frames(pub u8);
 
 #[tactic(auto, unfolding(crate::specs::Reading::frame_at, crate::specs::Reading::all_passes_at, crate::specs::Spelling::frame_bytes, vz_frame::specs::Fits::fits_frame), using(crate::proofs::Appended::appended))]
 impl Field for Frames {
     type Value = CompositorFrame;
 
-    ghost value_at = { λ f. frame_at f.format };
-
-    ghost spelling = { λ f. frame_bytes f.format };
-
-    ghost is_fitting = { λ f. fits_frame f.format };
+    ghost kind = { λ f. field (frame_at f.0) (frame_bytes f.0) (fits_frame f.0) };
 
     fn read(&self, input: &mut Reader) -> Result<CompositorFrame, ReadError> {
         let metadata = Metadatas.read(input)?;
         let resources = RESOURCES.read(input)?;
-        let count = input.u8_within(0, MOST_PASSES)?;
-        let passes = read_passes(self.format, count, input)?;
+        let count = input.u8_within(FileRule::Limit, 0, MOST_PASSES)?;
+        let passes = read_passes(self.0, count, input)?;
         let frame = CompositorFrame {
             metadata,
             resources,
@@ -89,11 +83,11 @@ impl Field for Frames {
 impl Frames {
     /// The first pass of a frame.
     fn passes(&self) -> Passes
-        ensures { result.format ≡ self.now.format }
+        ensures { result.format ≡ self.now.0 }
     {
         Passes {
-            format: self.format,
-            room: MOST_QUADS,
+            format: self.0,
+            room: usize::from(MOST_QUADS),
         }
     }
 }
@@ -105,11 +99,7 @@ struct Metadatas;
 impl Field for Metadatas {
     type Value = Metadata;
 
-    ghost value_at = { λ _. metadata_at };
-
-    ghost spelling = { λ _. metadata_bytes };
-
-    ghost is_fitting = { λ _. fits_metadata };
+    ghost kind = { λ _. field metadata_at metadata_bytes fits_metadata };
 
     fn read(&self, input: &mut Reader) -> Result<Metadata, ReadError> {
         let token = input.u32()?;
@@ -154,11 +144,7 @@ struct Deadlines;
 impl Field for Deadlines {
     type Value = Option<u8>;
 
-    ghost value_at = { λ _. deadline_at };
-
-    ghost spelling = { λ _. deadline_bytes };
-
-    ghost is_fitting = { λ _. fits_optional (λ d. nat_le d 64) };
+    ghost kind = { λ _. field deadline_at deadline_bytes (fits_optional (λ d. nat_le d 64)) };
 
     fn read(&self, input: &mut Reader) -> Result<Option<u8>, ReadError> {
         let left = input.left();
@@ -192,11 +178,7 @@ struct Listings;
 impl Field for Listings {
     type Value = Listing;
 
-    ghost value_at = { λ _. listing_at };
-
-    ghost spelling = { λ _. listing_bytes };
-
-    ghost is_fitting = { λ _. fits_listing };
+    ghost kind = { λ _. field listing_at listing_bytes fits_listing };
 
     fn read(&self, input: &mut Reader) -> Result<Listing, ReadError> {
         let id = input.u32_within(1, u32::MAX)?;
@@ -227,28 +209,25 @@ fn is_short_side(number: u16) -> bool
 #[derive(Drop)]
 struct Passes {
     format: u8,
-    room: u16,
+    room: usize,
 }
 
-#[tactic(auto, unfolding(crate::specs::Reading::pass_at, crate::specs::Reading::counted_at, crate::specs::Spelling::pass_bytes, vz_frame::specs::Fits::fits_pass), using(crate::proofs::Appended::appended))]
+#[tactic(auto, unfolding(crate::specs::Reading::pass_at, crate::specs::Reading::counted_at, crate::specs::Reading::ranged_at, crate::specs::Spelling::pass_bytes, vz_frame::specs::Fits::fits_pass), using(crate::proofs::Appended::appended))]
 impl Field for Passes {
     type Value = RenderPass;
 
-    ghost value_at = { λ p. pass_at p.format p.room };
-
-    ghost spelling = { λ p. pass_bytes p.format };
-
-    ghost is_fitting = { λ p. fits_pass p.format };
+    ghost kind = { λ p. field (pass_at p.format p.room) (pass_bytes p.format) (fits_pass p.format) };
 
     fn read(&self, input: &mut Reader) -> Result<RenderPass, ReadError> {
         let id = input.u32()?;
         let output = Rects.read(input)?;
         let damage = Rects.read(input)?;
-        let count = input.u16_within(0, self.room)?;
-        let quads = Quads {
-            format: self.format,
-        };
-        let quads = read_many(&quads, usize::from(count), input)?;
+        let left = input.left();
+        let count = usize::from(input.u16()?);
+        if count > self.room {
+            return Err(ReadError::refused(left, FileRule::Limit));
+        }
+        let quads = read_many(&Quads(self.format), count, input)?;
         let pass = RenderPass {
             id,
             output,
@@ -264,23 +243,14 @@ impl Field for Passes {
         Rects.write(&pass.output, out)?;
         Rects.write(&pass.damage, out)?;
         out.u16_count(quads.len())?;
-        write_many(
-            &Quads {
-                format: self.format,
-            },
-            quads,
-            out,
-        )
+        write_many(&Quads(self.format), quads, out)
     }
 
     fn fits(&self, pass: &RenderPass) -> bool {
-        let quads = Quads {
-            format: self.format,
-        };
         is_number(pass.id)
             && Rects.fits(&pass.output)
             && Rects.fits(&pass.damage)
-            && fit_all(&quads, pass.quads.as_slice())
+            && fit_all(&Quads(self.format), pass.quads.as_slice())
     }
 }
 
@@ -289,10 +259,10 @@ fn read_passes(format: u8, count: u8, input: &mut Reader) -> Result<List<RenderP
     ensures { Gives (λ x. (x, input.new)) result (passes_at format count MOST_QUADS input.old) }
 {
     let mut passes = Vec::with_capacity(input.alloc(), usize::from(count).min(input.left()))?;
-    let mut room = MOST_QUADS;
+    let mut room = usize::from(MOST_QUADS);
     for _ in 0..count {
         let pass = Passes { format, room }.read(input)?;
-        room -= pass.quads.as_slice().len() as u16;
+        room = room.saturating_sub(pass.quads.as_slice().len());
         passes.push(pass)?;
     }
     Ok(List::from_vec(passes))

@@ -1,9 +1,9 @@
 //! Bytes that are read from the front, and the numbers at the front of them, low byte first.
-ghost use Rattle.std.specs.Prelude.{◌≡◌, ◌<◌, ◌≤◌, length, drop};
+ghost use Rattle.std.specs.Prelude.{◌≡◌, ◌<◌, ◌≤◌, length, drop, IfOk};
 ghost use Rattle.std.specs.Int.{w8, w16, w32, w128};
 ghost use Rattle.vz_frame.specs.Fits.{in_reach};
 ghost use Rattle.vz_codec.specs.Giving.{Gives, four_at};
-ghost use Rattle.vz_codec.specs.Reading.{front_at, number_at, limited_at, tag_at, signed_at, coordinate_at};
+ghost use Rattle.vz_codec.specs.Reading.{front_at, number_at, ranged_at, limited_at, signed_at, coordinate_at};
 
 use crate::error::ReadError;
 use crate::fault::FileRule;
@@ -135,23 +135,24 @@ impl<'a> Reader<'a> {
         Ok(self.u32()?.cast_signed())
     }
 
-    /// A number from low to high.
-    #[tactic(auto, unfolding(crate::specs::Reading::limited_at))]
-    pub fn u8_within(&mut self, low: u8, high: u8) -> Result<u8, ReadError>
-        ensures { Gives (λ x. (x, self.new)) result (limited_at w8 low high self.old) }
+    /// A number from low to high, or what breaks this rule.
+    #[tactic(auto, unfolding(crate::specs::Reading::ranged_at))]
+    pub fn u8_within(&mut self, rule: FileRule, low: u8, high: u8) -> Result<u8, ReadError>
+        ensures { Gives (λ x. (x, self.new)) result (ranged_at rule w8 low high self.old) }
     {
         let left = self.left();
         let number = self.u8()?;
         if number < low || number > high {
-            return Err(ReadError::refused(left, FileRule::Limit));
+            return Err(ReadError::refused(left, rule));
         }
         Ok(number)
     }
 
     /// A number from low to high.
-    #[tactic(auto, unfolding(crate::specs::Reading::limited_at))]
+    #[tactic(auto, unfolding(crate::specs::Reading::ranged_at))]
     pub fn u16_within(&mut self, low: u16, high: u16) -> Result<u16, ReadError>
-        ensures { Gives (λ x. (x, self.new)) result (limited_at w16 low high self.old) }
+        ensures given { Gives (λ x. (x, self.new)) result (limited_at w16 low high self.old) }
+        ensures range { IfOk result (λ x. (low ≤ x) × (x ≤ high)) }
     {
         let left = self.left();
         let number = self.u16()?;
@@ -162,7 +163,7 @@ impl<'a> Reader<'a> {
     }
 
     /// A number from low to high.
-    #[tactic(auto, unfolding(crate::specs::Reading::limited_at))]
+    #[tactic(auto, unfolding(crate::specs::Reading::ranged_at))]
     pub fn u32_within(&mut self, low: u32, high: u32) -> Result<u32, ReadError>
         ensures { Gives (λ x. (x, self.new)) result (limited_at w32 low high self.old) }
     {
@@ -170,19 +171,6 @@ impl<'a> Reader<'a> {
         let number = self.u32()?;
         if number < low || number > high {
             return Err(ReadError::refused(left, FileRule::Limit));
-        }
-        Ok(number)
-    }
-
-    /// A tag or a flag from low to high.
-    #[tactic(auto, unfolding(crate::specs::Reading::tag_at))]
-    pub fn tag(&mut self, low: u8, high: u8) -> Result<u8, ReadError>
-        ensures { Gives (λ x. (x, self.new)) result (tag_at low high self.old) }
-    {
-        let left = self.left();
-        let number = self.u8()?;
-        if number < low || number > high {
-            return Err(ReadError::refused(left, FileRule::Tag));
         }
         Ok(number)
     }

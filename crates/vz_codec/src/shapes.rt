@@ -1,5 +1,6 @@
 //! Rectangles and colours.
 ghost use Rattle.std.specs.Prelude.{◌≡◌, ◌++◌, ◌&&◌, is_some, IfSome, OnOk};
+ghost use Rattle.vz_codec.specs.Fields.{field};
 ghost use Rattle.vz_codec.specs.Reading.{rect_at, colour_at};
 ghost use Rattle.vz_codec.specs.Sides.{rectangle};
 ghost use Rattle.vz_codec.specs.Spelling.{rect_bytes, colour_bytes};
@@ -23,11 +24,7 @@ pub struct Rects;
 impl Field for Rects {
     type Value = Rect;
 
-    ghost value_at = { λ _. rect_at };
-
-    ghost spelling = { λ _. rect_bytes };
-
-    ghost is_fitting = { λ _. fits_rect };
+    ghost kind = { λ _. field rect_at rect_bytes fits_rect };
 
     fn read(&self, input: &mut Reader) -> Result<Rect, ReadError> {
         let left = input.left();
@@ -131,11 +128,7 @@ pub struct Colours;
 impl Field for Colours {
     type Value = Pixel;
 
-    ghost value_at = { λ _. colour_at };
-
-    ghost spelling = { λ _. colour_bytes };
-
-    ghost is_fitting = { λ _. fits_colour };
+    ghost kind = { λ _. field colour_at colour_bytes fits_colour };
 
     #[tactic(auto, unfolding(crate::specs::Reading::colour_at))]
     fn read(&self, input: &mut Reader) -> Result<Pixel, ReadError> {

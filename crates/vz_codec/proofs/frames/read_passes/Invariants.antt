@@ -1,4 +1,4 @@
-use Rattle.std.proofs.Common.{◌≡◌, ◌≤◌, ◌-◌}
+use Rattle.std.proofs.Common.{◌≡◌, ◌-◌}
 use Rattle.vz_codec.specs.Reading.{passes_at}
 use Rattle.vz_codec.proofs.Loop.{with_front}
 use Rattle.vz_codec.proofs.frames.read_passes.Given as goal
