@@ -21,8 +21,8 @@ use Rattle.vz_codec.specs.Spelling.{mode_number, mode_bytes, quad_bytes, pass_by
 use Rattle.vz_codec.specs.Spelling.{counted_bytes, metadata_bytes, frame_bytes}
 use Rattle.vz_codec.specs.Reading.{made, bare, named, tagged, number_at, ranged_at, limited_at, counted_at}
 use Rattle.vz_codec.specs.Fields.{Kind, field, optional, counted, fits_counted, fits_metadata}
-use Rattle.vz_codec.specs.Reading.{optional_at, range_at, tile_at, embedding_at, materials_at, material_at, mode_at, quad_of}
-use Rattle.vz_codec.specs.Reading.{quad_at, pass_at, listing_at, deadline_of, deadline_at, metadata_at, all_passes_at, frame_at}
+use Rattle.vz_codec.specs.Reading.{optional_at, range_at, materials_at, material_at, mode_at, quad_of}
+use Rattle.vz_codec.specs.Reading.{quad_at, left_of, pass_at, listing_at, deadline_of, deadline_at, metadata_at, all_passes_at, frame_at}
 use Rattle.vz_codec.proofs.Lawful.{IsField, refit, implied, fewer, ◌⊠◌, checks, makes, remade, records, alone}
 use Rattle.vz_codec.proofs.Many.{all_in, rows, manys, counts}
 use Rattle.vz_codec.proofs.Tagged.{◌⨾◌, tag_of, behind, turned, lone, tagged_field}
@@ -81,7 +81,7 @@ material_told (material.Pass id) = (refl, refl)
 material_back : (m : Material) (rest : List ℕ) → fits_material m ≡ true
     → named 1 materials_at (made material.Pass (number_at w32)) (tag_of material_bytes m) (behind material_bytes m ++ rest)
     ≡ Ok (m, rest)
-unfolding material_bytes fits_material tile_at embedding_at
+unfolding material_bytes fits_material
 material_back (material.Solid c) rest h = remade colours material.Solid c rest h
 material_back (material.Tile id tx ty) rest h = remade (ids ⊠ places ⊠ places) (λ p. material.Tile p.0.0 p.0.1 p.1) ((id, tx), ty) rest h
 material_back (material.Surface range back) rest h =
@@ -89,7 +89,7 @@ material_back (material.Surface range back) rest h =
 material_back (material.Pass id) rest h = remade numbers32 material.Pass id rest h
 
 pub materials : IsField (field material_at material_bytes fits_material) 1
-unfolding material_at material_bytes fits_material tile_at embedding_at
+unfolding material_at material_bytes fits_material
 materials =
     tagged_field material_bytes fits_material 1 materials_at (made material.Pass (number_at w32)) (omega arith) (
     turned colours material_bytes fits_material 1 material.Solid (λ _ h. (refl, h))
@@ -178,9 +178,6 @@ pass_law format room =
 -- all quads of a frame
 abbrev pub quad_count : List RenderPass → ℕ
 quad_count ps = sum_by (λ p. length p.quads) ps
-
-abbrev left_of : ℕ → RenderPass → ℕ
-left_of room pass = room - length pass.quads
 
 swapped : (a b c d : Bool) → ((a && b) && (c && d)) ≡ ((a && c) && (b && d))
 swapped true true c d = refl

@@ -41,12 +41,6 @@ pub refit : {A : Type 0} {k : Kind A} {l : ℕ} → IsField k l → (good : A �
     → IsField (field k.reading k.spelling good) l
 refit {A} {k} {l} t good same = subst (λ (f : A → Bool). IsField (field k.reading k.spelling f) l) (λ i a. same a i) t
 
--- the same kind by another reading that reads the same
-pub reread : {A : Type 0} {k : Kind A} {l : ℕ} → IsField k l → (read : Reading A)
-    → ((bytes : List ℕ) → k.reading bytes ≡ read bytes) → IsField (field read k.spelling k.fitting) l
-reread {A} {k} {l} t read same =
-    subst (λ (r : Reading A). IsField (field r k.spelling k.fitting) l) (λ i bytes. same bytes i) t
-
 -- a test that another one makes needless
 pub implied : (a b : Bool) → (b ≡ true → a ≡ true) → (a && b) ≡ b
 implied true b h = refl

@@ -18,8 +18,8 @@ use Rattle.vz_codec.specs.Spelling.{surface_bytes, rect_bytes, colour_bytes}
 use Rattle.vz_codec.specs.Reading.{number_at, ranged_at, limited_at, tag_at, signed_at, coordinate_at}
 use Rattle.vz_codec.specs.Fields.{Kind, field}
 use Rattle.vz_codec.specs.Reading.{sink_at, local_of, local_at, surface_at, rect_of, rect_at, colour_of, colour_at}
-use Rattle.vz_codec.proofs.Numbers.{le_length, le_back, le_again, le_below}
-use Rattle.vz_codec.proofs.Rects.{has_room, reach_is}
+use Rattle.vz_codec.proofs.Numbers.{IsBytes, le_length, le_back, le_again, le_below}
+use Rattle.vz_codec.proofs.Rects.{is_made}
 use Rattle.vz_codec.proofs.Lawful.{IsField, refit, implied, fronts, ◌⊠◌, checks, makes, records}
 
 -- ---- numbers
@@ -103,14 +103,13 @@ signed =
     let fits = fits_signed z h in
     (cast_unsigned w32 z, to_z-of_z w32 z fits, refl, lt-ltb _ _ (Fits-of_z fits).fits))
 
-near : (z : ℤ) → (pos 0 -ℤ pos 1073741824) ≤ℤ z → z ≤ℤ pos 1073741824 → is_signed z ≡ true
-near z low high = grind (arith, ints)
+near : (z : ℤ) → in_reach z ≡ true → is_signed z ≡ true
+near z h = grind (arith, ints)
 
 pub coordinates : IsField (field coordinate_at i32_bytes in_reach) 4
 unfolding coordinate_at
 coordinates =
-    refit (checks signed (omega arith) fault.Limit (λ e. cc) in_reach) in_reach
-    (λ z. implied _ _ (λ h. let reach = reach_is z h in near z (omega (arith, ints)) (omega (arith, ints))))
+    refit (checks signed (omega arith) fault.Limit (λ e. cc) in_reach) in_reach (λ z. implied _ _ (λ h. near z h))
 
 -- ---- ids
 
@@ -149,17 +148,14 @@ rects =
     records (signed ⊠ signed ⊠ signed ⊠ signed) rect_of (λ r. (((r.x, r.y), r.w), r.h)) rect_bytes fit
     (λ _. refl) (λ _. refl) (λ _. refl) (λ _. refl) in
     refit (checks four (omega arith) fault.Limit (λ e. cc) fits_rect) fits_rect (λ r. implied (fit r) (fits_rect r) (λ h.
-    let room = has_room r.x r.y r.w r.h h in
-    let left = near r.x (omega (arith, ints, room.left)) (omega (arith, ints, room.wide, room.right)) in
-    let top = near r.y (omega (arith, ints, room.top)) (omega (arith, ints, room.high, room.bottom)) in
-    let wide = near r.w (omega (arith, ints, room.wide)) (omega (arith, ints, room.left, room.right)) in
-    let high = near r.h (omega (arith, ints, room.high)) (omega (arith, ints, room.top, room.bottom)) in
-    and_from _ _ (and_from _ _ (and_from _ _ left top) wide) high))
+    let made = is_made r.x r.y r.w r.h h in
+    let place = and_from _ _ (near r.x made.left) (near r.y made.top) in
+    and_from _ _ (and_from _ _ place (near r.w made.wide)) (near r.h made.high)))
 
 abbrev is_least : Colour → Bool
 is_least c = leb c.r c.a && leb c.g c.a && leb c.b c.a
 
-four_bytes : (f : List ℕ) → length f ≡ 4 → colour_bytes (colour_of f) ≡ f
+pub four_bytes : (f : List ℕ) → length f ≡ 4 → colour_bytes (colour_of f) ≡ f
 four_bytes (r ∷ g ∷ b ∷ a ∷ []) h = refl
 four_bytes [] h = absurd (omega arith)
 four_bytes (r ∷ []) h = absurd (omega arith)
@@ -167,12 +163,18 @@ four_bytes (r ∷ g ∷ []) h = absurd (omega arith)
 four_bytes (r ∷ g ∷ b ∷ []) h = absurd (omega arith)
 four_bytes (r ∷ g ∷ b ∷ a ∷ x ∷ xs) h = absurd (omega arith)
 
-pub colours : IsField (field colour_at colour_bytes fits_colour) 4
+-- colours that pass another test by their bytes alone
+pub colours_where : (good : Colour → Bool) → ((f : List ℕ) → IsBytes f → good (colour_of f) ≡ true)
+    → IsField (field colour_at colour_bytes (λ c. good c && is_least c)) 4
 unfolding colour_at
-colours =
+colours_where good all =
     let four =
-    makes (fronts 4) colour_of colour_bytes (λ c. ltb c.a 256)
-    (λ f fits h. (four_bytes f (eqb-true _ _ h), lt-ltb _ _ (fits 3))) (λ c h. (colour_bytes c, refl, refl, refl)) in
-    refit (checks four (omega arith) fault.Colour (λ e. cc) is_least) fits_colour
+    makes (fronts 4) colour_of colour_bytes good (λ f fits h. (four_bytes f (eqb-true _ _ h), all f fits))
+    (λ c h. (colour_bytes c, refl, refl, refl)) in
+    checks four (omega arith) fault.Colour (λ e. cc) is_least
+
+pub colours : IsField (field colour_at colour_bytes fits_colour) 4
+colours =
+    refit (colours_where (λ c. ltb c.a 256) (λ f fits. lt-ltb _ _ (fits 3))) fits_colour
     (λ c. sym (and_assoc (ltb c.a 256) (leb c.r c.a && leb c.g c.a) (leb c.b c.a))
     ∙ ap (λ t. t && leb c.b c.a) (sym (and_assoc (ltb c.a 256) (leb c.r c.a) (leb c.g c.a))))

@@ -18,39 +18,16 @@ use Rattle.vz_codec.specs.Spelling.{u8_bytes, u16_bytes, u32_bytes, sink_bytes, 
 use Rattle.vz_codec.specs.Spelling.{magic, file_bytes}
 use Rattle.vz_codec.specs.Reading.{Fault, Read, Reading, ◌>>=◌, ◌⊗◌, made, bare, named, limited_at}
 use Rattle.vz_codec.specs.Fields.{field}
-use Rattle.vz_codec.specs.Reading.{colour_at, many_at, block_at, upload_at, submit_at, hierarchy_at}
+use Rattle.vz_codec.specs.Reading.{colour_at, many_at, block_at}
 use Rattle.vz_codec.specs.Reading.{messages_at, message_at, magic_at, version_at, header_at, file_at, ended, file_in}
 use Rattle.vz_codec.proofs.Numbers.{IsBytes}
-use Rattle.vz_codec.proofs.Steps.{bind_ok}
-use Rattle.vz_codec.proofs.Lawful.{IsField, Judged, Placed, refit, reread, thens, ◌⊠◌, checks, makes, remade, records}
+use Rattle.vz_codec.proofs.Lawful.{IsField, Judged, Placed, refit, thens, ◌⊠◌, checks, makes, remade, records}
 use Rattle.vz_codec.proofs.Many.{manys, counts}
 use Rattle.vz_codec.proofs.Tagged.{◌⨾◌, tag_of, behind, turned, lone, tagged_field}
 use Rattle.vz_codec.proofs.Simple.{from_zero, numbers32, ranged, limited16, limited32, sinks, locals, colours}
 use Rattle.vz_codec.proofs.Framed.{ids, frames}
 
 -- ---- blocks
-
--- a value before another, and what is made of one
-abbrev before : {A B : Type 0} → A → Read B → Read (A × B)
-before a read = read >>= λ y. Ok ((a, y.0), y.1)
-
-abbrev turned_to : {A B : Type 0} → (A → B) → Read A → Read B
-turned_to to read = read >>= λ x. Ok (to x.0, x.1)
-
--- what is made of a field and the one before it, in one step or two
-module _ {A B C : Type 0} (to : A → B → C) where
-  made_behind : (a : A) (read : Read B)
-      → turned_to (λ p. to p.0 p.1) (before a read) ≡ turned_to (λ p. p.1) (before a (turned_to (to a) read))
-  made_behind a (Ok y) = refl
-  made_behind a (Err e) = refl
-
-  one_step : (b : A → Reading B) (read : Read A) → turned_to (λ p. to p.0 p.1) (read >>= λ x. before x.0 (b x.0 x.1))
-      ≡ turned_to (λ p. p.1) (read >>= λ x. before x.0 (made (to x.0) (b x.0) x.1))
-  one_step b (Ok x) = made_behind x.0 (b x.0 x.1)
-  one_step b (Err e) = refl
-
-abbrev block_of : ℕ × ℕ → List Colour → Block
-block_of sides pixels = record { w = sides.0; h = sides.1; pixels = pixels }
 
 sized : (a b c d : Bool) → (a && b && c && d) ≡ (a && b && (c && d))
 sized a b c d = and_assoc (a && b) c d
@@ -59,12 +36,9 @@ blocks : IsField (field block_at block_bytes fits_block) 4
 unfolding block_at block_bytes
 blocks =
     let side = limited16 1 256 (omega arith) in
-    let sides_at = limited_at w16 1 256 ⊗ limited_at w16 1 256 in
-    let whole =
-    records (thens (side ⊠ side) (λ s. manys colours (s.0 * s.1))) (λ p. block_of p.0 p.1) (λ b. ((b.w, b.h), b.pixels))
-    block_bytes fits_block (λ _. refl) (λ _. refl) (λ _. refl)
-    (λ b. sized (within 1 256 b.w) (within 1 256 b.h) (length b.pixels == b.w * b.h) (list_all fits_colour b.pixels)) in
-    reread whole block_at (λ bytes. one_step block_of (λ s. many_at colour_at (s.0 * s.1)) (sides_at bytes))
+    records (thens (side ⊠ side) (λ s. manys colours (s.0 * s.1))) (λ p. record { w = p.0.0; h = p.0.1; pixels = p.1 })
+    (λ b. ((b.w, b.h), b.pixels)) block_bytes fits_block (λ _. refl) (λ _. refl) (λ _. refl)
+    (λ b. sized (within 1 256 b.w) (within 1 256 b.h) (length b.pixels == b.w * b.h) (list_all fits_colour b.pixels))
 
 -- ---- messages
 
@@ -83,7 +57,7 @@ message_told format message.Close = (refl, refl)
 message_back : (format : ℕ) (m : Message) (rest : List ℕ) → fits_message format m ≡ true
     → let spell = message_bytes format in
     named 1 (messages_at format) (bare message.Close) (tag_of spell m) (behind spell m ++ rest) ≡ Ok (m, rest)
-unfolding message_bytes fits_message upload_at submit_at hierarchy_at
+unfolding message_bytes fits_message
 message_back format (message.Upload id block) rest h = remade (ids ⊠ blocks) (λ p. message.Upload p.0 p.1) (id, block) rest h
 message_back format (message.Submit local frame) rest h =
     remade (locals ⊠ frames format) (λ p. message.Submit p.0 p.1) (local, frame) rest h
@@ -96,7 +70,7 @@ message_back format message.Await rest h = refl
 message_back format message.Close rest h = refl
 
 messages : (format : ℕ) → IsField (field (message_at format) (message_bytes format) (fits_message format)) 1
-unfolding message_at message_bytes fits_message upload_at submit_at hierarchy_at
+unfolding message_at message_bytes fits_message
 messages format =
     let spell = message_bytes format in
     let fit = fits_message format in
@@ -134,7 +108,7 @@ headers = checks sinks (omega arith) fault.Limit (λ e. cc) not_zero
 grouped : (a b c d e : Bool) → (a && b && c && d && e) ≡ (a && (b && c) && (d && e))
 grouped a b c d e = simp and_assoc
 
-files : IsField (field file_at file_bytes fits_file) 18
+pub files : IsField (field file_at file_bytes fits_file) 18
 unfolding file_at file_bytes fits_file u32_bytes
 files =
     let few : ℕ → Bool = λ n. leb n 4096 in
@@ -145,50 +119,3 @@ files =
     (λ f. append_assoc (magic ++ u16_bytes f.format ++ sink_bytes f.sink) (u32_bytes (length f.messages)) _)
     (λ f. grouped (within 1 2 f.format) (fits_sink f.sink) (not_zero f.sink) (few (length f.messages))
     (list_all (fits_message f.format) f.messages))
-
--- ---- whole files
-
-ended_is : (a x : ClientFile) (rest : List ℕ) → ended (a, rest) ≡ Ok x → (rest ≡ []) × (a ≡ x)
-unfolding ended
-ended_is a x [] e = (refl, cc)
-ended_is a x (b ∷ bs) e = absurd cc
-
-pub file_took : (bytes : List ℕ) (f : ClientFile) → IsBytes bytes → file_in bytes ≡ Ok f → (fits_file f ≡ true) × (bytes ≡ file_bytes f)
-unfolding file_in
-file_took bytes f fits e =
-    let x = bind_ok (file_at bytes) ended f e in
-    let last = ended_is x.0.0 f x.0.1 x.2 in
-    let judged = subst (λ (r : Result (ClientFile × List ℕ) Fault). Judged file_bytes fits_file 18 bytes r) x.1 (files.law bytes) in
-    let took = judged.1 fits in
-    subst (λ (g : ClientFile). (fits_file g ≡ true) × (bytes ≡ file_bytes g)) last.1
-    (took.fits, took.parts ∙ ap (λ (r : List ℕ). file_bytes x.0.0 ++ r) last.0 ∙ append-nil (file_bytes x.0.0))
-
--- the file is read, and then nothing may be left
-pub file_read : (f : ClientFile) (rest : List ℕ) → fits_file f ≡ true → file_in (file_bytes f ++ rest) ≡ ended (f, rest)
-unfolding file_in
-file_read f rest fits = rw (files.again f rest fits) refl
-
-pub file_again : (f : ClientFile) → fits_file f ≡ true → file_in (file_bytes f) ≡ Ok f
-unfolding ended
-file_again f fits = ap file_in (sym (append-nil (file_bytes f))) ∙ file_read f [] fits
-
-abbrev failed : Fault → Result ClientFile Fault
-failed e = Err e
-
-err_is : (d e : Fault) → failed d ≡ failed e → d ≡ e
-err_is d e h = cc
-
-end_placed : (n : ℕ) (f : ClientFile) (rest : List ℕ) (e : Fault) → length rest ≤ n → ended (f, rest) ≡ Err e → Placed n e
-unfolding ended
-end_placed n f [] e few given = absurd cc
-end_placed n f (b ∷ bs) e few given =
-    subst (λ (d : Fault). Placed n d) (err_is (record { left = length (b ∷ bs); rule = fault.Trailing }) e given)
-    (record { within = few; at_end = λ h. absurd cc; before_end = λ other. omega arith })
-
-placed_by : (bytes : List ℕ) (r : Result (ClientFile × List ℕ) Fault) (e : Fault) → Judged file_bytes fits_file 18 bytes r → (r >>= ended) ≡ Err e → Placed (length bytes) e
-placed_by bytes (Ok x) e j given = end_placed (length bytes) x.0 x.1 e (omega (arith, j.0)) given
-placed_by bytes (Err d) e j given = subst (λ (g : Fault). Placed (length bytes) g) (err_is d e given) j
-
-pub fault_placed : (bytes : List ℕ) (e : Fault) → file_in bytes ≡ Err e → Placed (length bytes) e
-unfolding file_in
-fault_placed bytes e given = placed_by bytes (file_at bytes) e (files.law bytes) given

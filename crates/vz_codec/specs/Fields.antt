@@ -3,8 +3,10 @@ use Rattle.std.specs.Prelude.{ℕ, Bool, ◌&&◌, nat_le, Option, List, length}
 use Rattle.std.specs.Int.{w8}
 use Rattle.std.specs.List.{list_all}
 use Rattle.vz_base.specs.declared.limits.TheConstants.{GREATEST_DEADLINE, MOST_DEPENDENCIES, MOST_REFERENCES}
+use Rattle.vz_geom.specs.Rectangle.{Rectangle}
 use Rattle.vz_frame.specs.declared.frame.Metadata.{Metadata}
 use Rattle.vz_frame.specs.Fits.{is_number, fits_optional, fits_surface, fits_range}
+use Rattle.vz_codec.specs.declared.shapes.Sides.{Sides}
 use Rattle.vz_codec.specs.Reading.{Reading, many_at, optional_at, counted_at}
 use Rattle.vz_codec.specs.Spelling.{optional_bytes, counted_bytes}
 
@@ -35,3 +37,7 @@ abbrev pub fits_metadata : Metadata → Bool
 fits_metadata m =
     is_number m.token && is_number m.ack && fits_optional (λ d. nat_le d GREATEST_DEADLINE) m.deadline
     && fits_counted fits_surface MOST_DEPENDENCIES m.dependencies && fits_counted fits_range MOST_REFERENCES m.references
+
+-- the rectangle of four numbers
+abbrev pub rectangle : Sides → Rectangle
+rectangle s = record { x = s.x; y = s.y; w = s.w; h = s.h }

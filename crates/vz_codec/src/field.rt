@@ -66,32 +66,29 @@ impl<F: Field + Drop> Field for Optional<F> {
 
 /// A count of one byte up to a limit, and so many values.
 #[derive(Drop)]
-pub struct Counted<F> {
-    pub limit: u8,
-    pub field: F,
-}
+pub struct Counted<F>(pub u8, pub F);
 
 #[tactic(auto, unfolding(crate::specs::Reading::counted_at), using(crate::proofs::Appended::appended))]
 impl<F: Field + Drop> Field for Counted<F> {
     type Value = List<F::Value>;
 
-    ghost kind = { λ c. counted c.limit (F.kind c.field) };
+    ghost kind = { λ c. counted c.0 (F.kind c.1) };
 
     fn read(&self, input: &mut Reader) -> Result<List<F::Value>, ReadError> {
-        let count = input.u8_within(FileRule::Limit, 0, self.limit)?;
-        let values = read_many(&self.field, usize::from(count), input)?;
+        let count = input.u8_within(FileRule::Limit, 0, self.0)?;
+        let values = read_many(&self.1, usize::from(count), input)?;
         Ok(List::from_vec(values))
     }
 
     fn write(&self, values: &List<F::Value>, out: &mut Writer) -> Result<(), AllocError> {
         let values = values.as_slice();
         out.u8_count(values.len())?;
-        write_many(&self.field, values, out)
+        write_many(&self.1, values, out)
     }
 
     fn fits(&self, values: &List<F::Value>) -> bool {
         let values = values.as_slice();
-        values.len() <= usize::from(self.limit) && fit_all(&self.field, values)
+        values.len() <= usize::from(self.0) && fit_all(&self.1, values)
     }
 }
 

@@ -3,7 +3,7 @@ ghost use Rattle.std.specs.Prelude.{◌≡◌, ◌++◌, ◌&&◌, ◌==◌, not
 ghost use Rattle.std.specs.List.{list_all};
 ghost use Rattle.vz_frame.specs.Fits.{within, fits_sink, fits_message, fits_file};
 ghost use Rattle.vz_codec.specs.Giving.{Gives};
-ghost use Rattle.vz_codec.specs.Reading.{magic_at, version_at, header_at, ended, file_in};
+ghost use Rattle.vz_codec.specs.Reading.{magic_at, header_at, ended, file_in};
 ghost use Rattle.vz_codec.specs.Spelling.{magic, file_bytes};
 
 use crate::error::ReadError;
@@ -28,9 +28,9 @@ pub fn read_file(alloc: Global, bytes: &[u8]) -> Result<ClientFile, ReadError>
 {
     let mut input = Reader::new(alloc, bytes);
     read_magic(&mut input)?;
-    let format = read_version(&mut input)?;
+    let format = input.u16_within(FileRule::Version, 1, u16::from(NEWEST_FORMAT))? as u8;
     let sink = read_header(&mut input)?;
-    let count = input.u32_within(0, MOST_MESSAGES)?;
+    let count = input.u32_within(FileRule::Limit, 0, MOST_MESSAGES)?;
     let messages = read_many(&Messages(format), count as usize, &mut input)?;
     let file = ClientFile {
         format,
@@ -41,15 +41,14 @@ pub fn read_file(alloc: Global, bytes: &[u8]) -> Result<ClientFile, ReadError>
 }
 
 /// The file, where no byte is left.
-#[tactic(auto, using(crate::proofs::Steps::ended_there, crate::proofs::Steps::ended_before))]
+#[tactic(auto, unfolding(crate::specs::Reading::ended))]
 fn ended(file: ClientFile, input: &Reader) -> Result<ClientFile, ReadError>
     ensures { Gives (λ f. f) result (ended (file, input.now)) }
 {
-    let left = input.left();
-    if left > 0 {
-        return Err(ReadError::refused(left, FileRule::Trailing));
+    match input.rest() {
+        [] => Ok(file),
+        [_, ..] => Err(ReadError::refused(input.left(), FileRule::Trailing)),
     }
-    Ok(file)
 }
 
 #[tactic(auto, unfolding(crate::specs::Reading::magic_at))]
@@ -62,18 +61,6 @@ fn read_magic(input: &mut Reader) -> Result<(), ReadError>
         return Err(ReadError::refused(left, FileRule::Magic));
     }
     Ok(())
-}
-
-#[tactic(auto, unfolding(crate::specs::Reading::ranged_at))]
-fn read_version(input: &mut Reader) -> Result<u8, ReadError>
-    ensures { Gives (λ x. (x, input.new)) result (version_at input.old) }
-{
-    let left = input.left();
-    let version = input.u16()?;
-    if version < 1 || version > u16::from(NEWEST_FORMAT) {
-        return Err(ReadError::refused(left, FileRule::Version));
-    }
-    Ok(version as u8)
 }
 
 /// The sink of a file.

@@ -22,20 +22,11 @@ use crate::writer::Writer;
 use std::alloc::AllocError;
 use vz_frame::{CompositorFrame, List, Listing, Metadata, RenderPass};
 
-const DEPENDENCIES: Counted<Surfaces> = Counted {
-    limit: MOST_DEPENDENCIES,
-    field: Surfaces,
-};
+const DEPENDENCIES: Counted<Surfaces> = Counted(MOST_DEPENDENCIES, Surfaces);
 
-const REFERENCES: Counted<Ranges> = Counted {
-    limit: MOST_REFERENCES,
-    field: Ranges,
-};
+const REFERENCES: Counted<Ranges> = Counted(MOST_REFERENCES, Ranges);
 
-const RESOURCES: Counted<Listings> = Counted {
-    limit: MOST_RESOURCES,
-    field: Listings,
-};
+const RESOURCES: Counted<Listings> = Counted(MOST_RESOURCES, Listings);
 
 /// The frames of a file of this format.
 #[derive(Drop)]
@@ -61,13 +52,9 @@ impl Field for Frames {
     }
 
     fn write(&self, frame: &CompositorFrame, out: &mut Writer) -> Result<(), AllocError> {
-        let passes = Counted {
-            limit: MOST_PASSES,
-            field: self.passes(),
-        };
         Metadatas.write(&frame.metadata, out)?;
         RESOURCES.write(&frame.resources, out)?;
-        passes.write(&frame.passes, out)
+        Counted(MOST_PASSES, self.passes()).write(&frame.passes, out)
     }
 
     fn fits(&self, frame: &CompositorFrame) -> bool {
@@ -181,9 +168,9 @@ impl Field for Listings {
     ghost kind = { λ _. field listing_at listing_bytes fits_listing };
 
     fn read(&self, input: &mut Reader) -> Result<Listing, ReadError> {
-        let id = input.u32_within(1, u32::MAX)?;
-        let w = input.u16_within(1, MOST_SIDE)?;
-        let h = input.u16_within(1, MOST_SIDE)?;
+        let id = input.u32_within(FileRule::Limit, 1, u32::MAX)?;
+        let w = input.u16_within(FileRule::Limit, 1, MOST_SIDE)?;
+        let h = input.u16_within(FileRule::Limit, 1, MOST_SIDE)?;
         Ok(Listing { id, w, h })
     }
 

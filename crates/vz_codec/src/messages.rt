@@ -1,9 +1,9 @@
 //! Messages, and blocks of pixels.
-ghost use Rattle.std.specs.Prelude.{◌≤◌};
+ghost use Rattle.std.specs.Prelude.{◌≡◌, ◌≤◌, ◌*◌, IfOk};
 ghost use Rattle.vz_frame.specs.Fits.{fits_block, fits_message};
 ghost use Rattle.vz_codec.specs.Fields.{field};
 ghost use Rattle.vz_codec.specs.Giving.{Gives};
-ghost use Rattle.vz_codec.specs.Reading.{bare, named, texels_at, block_at, messages_at, message_at};
+ghost use Rattle.vz_codec.specs.Reading.{bare, named, colour_at, many_at, block_at, messages_at, message_at};
 ghost use Rattle.vz_frame.specs.declared.message.Message.TheVariants.{Close};
 ghost use Rattle.vz_codec.specs.Spelling.{block_bytes, message_bytes};
 
@@ -99,14 +99,13 @@ impl Field for Messages {
 
 impl Messages {
     /// The message of a tag.
-    #[tactic(auto, unfolding(crate::specs::Reading::upload_at, crate::specs::Reading::submit_at, crate::specs::Reading::hierarchy_at))]
     fn read_by(&self, tag: u8, input: &mut Reader) -> Result<Message, ReadError>
         ensures { let read = named 1 (messages_at self.now.0) (bare Close) tag in
             Gives (λ x. (x, input.new)) result (read input.old) }
     {
         match tag {
             UPLOAD => {
-                let id = input.u32_within(1, u32::MAX)?;
+                let id = input.u32_within(FileRule::Limit, 1, u32::MAX)?;
                 let block = Blocks.read(input)?;
                 Ok(Message::Upload { id, block })
             }
@@ -140,9 +139,9 @@ impl Field for Blocks {
     ghost kind = { λ _. field block_at block_bytes fits_block };
 
     fn read(&self, input: &mut Reader) -> Result<PixelBlock, ReadError> {
-        let w = input.u16_within(1, MOST_SIDE)?;
-        let h = input.u16_within(1, MOST_SIDE)?;
-        read_texels(w, h, input)
+        let w = input.u16_within(FileRule::Limit, 1, MOST_SIDE)?;
+        let h = input.u16_within(FileRule::Limit, 1, MOST_SIDE)?;
+        read_texels(u32::from(w), u32::from(h), input)
     }
 
     fn write(&self, block: &PixelBlock, out: &mut Writer) -> Result<(), AllocError> {
@@ -160,22 +159,19 @@ impl Field for Blocks {
 }
 
 /// The block of the texels of these sides.
-fn read_texels(w: u16, h: u16, input: &mut Reader) -> Result<PixelBlock, ReadError>
+fn read_texels(w: u32, h: u32, input: &mut Reader) -> Result<PixelBlock, ReadError>
     requires w { (1 ≤ w) × (w ≤ 256) }
     requires h { (1 ≤ h) × (h ≤ 256) }
-    ensures { Gives (λ x. (x, input.new)) result (texels_at w h input.old) }
+    ensures pixels { let read = many_at colour_at (w * h) in
+        Gives (λ b. (b.pixels, input.new)) result (read input.old) }
+    ensures sides { IfOk result (λ b. (b.w ≡ w) × (b.h ≡ h)) }
 {
-    let count = usize::from(w) * usize::from(h);
+    let count = w as usize * h as usize;
     let size = TEXEL_BYTES * count;
     if input.left() < size {
         return read_each_texel(w, h, input);
     }
-    match PixelBlock::of_bytes(
-        input.alloc(),
-        u32::from(w),
-        u32::from(h),
-        &input.rest()[..size],
-    ) {
+    match PixelBlock::of_bytes(input.alloc(), w, h, &input.rest()[..size]) {
         Ok(block) => {
             input.skip(size);
             Ok(block)
@@ -186,14 +182,16 @@ fn read_texels(w: u16, h: u16, input: &mut Reader) -> Result<PixelBlock, ReadErr
 }
 
 /// The block of the texels of these sides, read one by one, which finds the first fault.
-fn read_each_texel(w: u16, h: u16, input: &mut Reader) -> Result<PixelBlock, ReadError>
+fn read_each_texel(w: u32, h: u32, input: &mut Reader) -> Result<PixelBlock, ReadError>
     requires w { (1 ≤ w) × (w ≤ 256) }
     requires h { (1 ≤ h) × (h ≤ 256) }
-    ensures { Gives (λ x. (x, input.new)) result (texels_at w h input.old) }
+    ensures pixels { let read = many_at colour_at (w * h) in
+        Gives (λ b. (b.pixels, input.new)) result (read input.old) }
+    ensures sides { IfOk result (λ b. (b.w ≡ w) × (b.h ≡ h)) }
 {
-    let count = usize::from(w) * usize::from(h);
+    let count = w as usize * h as usize;
     let pixels = read_many(&Colours, count, input)?;
-    match PixelBlock::of_pixels(input.alloc(), u32::from(w), u32::from(h), pixels) {
+    match PixelBlock::of_pixels(input.alloc(), w, h, pixels) {
         Ok(block) => Ok(block),
         Err(_) => Err(ReadError::Memory),
     }

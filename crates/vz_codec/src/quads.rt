@@ -150,7 +150,7 @@ const PASS: u8 = 4;
 #[derive(Drop)]
 struct Materials;
 
-#[tactic(auto, unfolding(crate::specs::Reading::material_at, crate::specs::Reading::tagged, crate::specs::Reading::tile_at, crate::specs::Reading::embedding_at, crate::specs::Spelling::material_bytes, vz_frame::specs::Fits::fits_material), using(crate::proofs::Appended::appended))]
+#[tactic(auto, unfolding(crate::specs::Reading::material_at, crate::specs::Reading::tagged, crate::specs::Spelling::material_bytes, vz_frame::specs::Fits::fits_material), using(crate::proofs::Appended::appended))]
 impl Field for Materials {
     type Value = Material;
 
@@ -160,9 +160,9 @@ impl Field for Materials {
         match input.u8_within(FileRule::Tag, SOLID, PASS)? {
             SOLID => Ok(Material::Solid(Colours.read(input)?)),
             TILE => {
-                let resource = input.u32_within(1, u32::MAX)?;
-                let tx = input.u16_within(0, MOST_SIDE - 1)?;
-                let ty = input.u16_within(0, MOST_SIDE - 1)?;
+                let resource = input.u32_within(FileRule::Limit, 1, u32::MAX)?;
+                let tx = input.u16_within(FileRule::Limit, 0, MOST_SIDE - 1)?;
+                let ty = input.u16_within(FileRule::Limit, 0, MOST_SIDE - 1)?;
                 Ok(Material::Tile { resource, tx, ty })
             }
             SURFACE => {

@@ -1,8 +1,7 @@
 //! Rectangles and colours.
 ghost use Rattle.std.specs.Prelude.{◌≡◌, ◌++◌, ◌&&◌, is_some, IfSome, OnOk};
-ghost use Rattle.vz_codec.specs.Fields.{field};
+ghost use Rattle.vz_codec.specs.Fields.{field, rectangle};
 ghost use Rattle.vz_codec.specs.Reading.{rect_at, colour_at};
-ghost use Rattle.vz_codec.specs.Sides.{rectangle};
 ghost use Rattle.vz_codec.specs.Spelling.{rect_bytes, colour_bytes};
 ghost use Rattle.vz_frame.specs.Fits.{fits_rect, fits_colour, in_reach, is_side, is_zero};
 
@@ -39,7 +38,10 @@ impl Field for Rects {
     }
 
     fn write(&self, rect: &Rect, out: &mut Writer) -> Result<(), AllocError> {
-        write_sides(&sides_of(rect), out)
+        out.i32(rect.x())?;
+        out.i32(rect.y())?;
+        out.i32(rect.w())?;
+        out.i32(rect.h())
     }
 
     fn fits(&self, rect: &Rect) -> bool {
@@ -66,16 +68,6 @@ fn sides_of(rect: &Rect) -> Sides
         w: rect.w(),
         h: rect.h(),
     }
-}
-
-#[tactic(auto, using(crate::proofs::Appended::appended))]
-fn write_sides(sides: &Sides, out: &mut Writer) -> Result<(), AllocError>
-    ensures { OnOk result (out.new ≡ out.old ++ rect_bytes (rectangle sides.now)) }
-{
-    out.i32(sides.x)?;
-    out.i32(sides.y)?;
-    out.i32(sides.w)?;
-    out.i32(sides.h)
 }
 
 /// The rectangle of these numbers, where they are one.

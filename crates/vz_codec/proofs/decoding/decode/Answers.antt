@@ -1,7 +1,6 @@
 use Rattle.std.proofs.Common.{◌-◌, length, Ok, Err, refl, arith}
 use Rattle.vz_codec.specs.declared.fault.DecodeError.TheVariants.{Refused}
-use Rattle.vz_codec.proofs.Found.{is_found, wrong_is, finds}
-use Rattle.vz_codec.proofs.Whole.{fault_placed}
+use Rattle.vz_codec.proofs.Found.{is_found, wrong_is, finds, fault_placed}
 use Rattle.vz_codec.proofs.decoding.decode.Goals as goal
 
 pub overflow_sub-result : goal.overflow_sub-result
