@@ -132,7 +132,8 @@ pub wrong_is : (bytes : List ℕ) (place left : ℕ) (rule : FileRule)
 unfolding wrong
 wrong_is bytes place left rule e p = rw (e, p)
 
-place_by : (bytes : List ℕ) (r : Result ClientFile Fault) (w : Wrong) → IsPlaced (length bytes) r → placed bytes r ≡ Some w
+place_by : (bytes : List ℕ) (r : Result ClientFile Fault) (w : Wrong) → IsPlaced (length bytes) r
+    → placed bytes r ≡ Some w
     → (w.rule ≡ rules.Short → w.at ≡ length bytes) × (w.rule ≢ rules.Short → w.at < length bytes)
 place_by bytes (Ok f) w place given = absurd cc
 place_by bytes (Err e) w place given =

@@ -16,44 +16,40 @@ use Rattle.vz_frame.specs.declared.frame.Material.TheVariants as material
 use Rattle.vz_frame.specs.Fits.{within, fits_rect, is_number, is_id, fits_surface, fits_range, fits_optional}
 use Rattle.vz_frame.specs.Fits.{fits_material, fits_mode, fits_quad, fits_pass, fits_listing, fits_frame}
 use Rattle.vz_codec.specs.declared.fault.FileRule.TheVariants as fault
-use Rattle.vz_codec.specs.Spelling.{u8_bytes, u16_bytes, u32_bytes, rect_bytes, optional_bytes, range_bytes, material_bytes}
+use Rattle.vz_codec.specs.Spelling.{u8_bytes, u16_bytes, u32_bytes, rect_bytes, range_bytes, material_bytes}
 use Rattle.vz_codec.specs.Spelling.{mode_number, mode_bytes, quad_bytes, pass_bytes, listing_bytes, deadline_bytes}
 use Rattle.vz_codec.specs.Spelling.{counted_bytes, metadata_bytes, frame_bytes}
-use Rattle.vz_codec.specs.Reading.{made, bare, named, tagged, number_at, ranged_at, limited_at, counted_at}
+use Rattle.vz_codec.specs.Reading.{made, bare, tagged, number_at, ranged_at, limited_at, counted_at}
 use Rattle.vz_codec.specs.Fields.{Kind, field, optional, counted, fits_counted, fits_metadata}
 use Rattle.vz_codec.specs.Reading.{optional_at, range_at, materials_at, material_at, mode_at, quad_of}
-use Rattle.vz_codec.specs.Reading.{quad_at, left_of, pass_at, listing_at, deadline_of, deadline_at, metadata_at, all_passes_at, frame_at}
+use Rattle.vz_codec.specs.Reading.{quad_at, left_of, pass_at, listing_at, deadline_of, deadline_at}
+use Rattle.vz_codec.specs.Reading.{metadata_of, metadata_at, all_passes_at, frame_at}
 use Rattle.vz_codec.proofs.Lawful.{IsField, refit, implied, fewer, ◌⊠◌, checks, makes, remade, records, alone}
 use Rattle.vz_codec.proofs.Many.{all_in, rows, manys, counts}
-use Rattle.vz_codec.proofs.Tagged.{◌⨾◌, tag_of, behind, turned, lone, tagged_field}
+use Rattle.vz_codec.proofs.Tagged.{◌⨾◌, IsTold, turned, lone, tagged_field}
 use Rattle.vz_codec.proofs.Simple.{in_range, from_zero, numbers8, numbers16, numbers32, limited8, limited16, limited32}
 use Rattle.vz_codec.proofs.Simple.{coordinates, surfaces, rects, colours}
 
 -- ---- flags and counts
 
-optional_told : {A : Type 0} (k : Kind A) (o : Option A) → let spell = optional_bytes k.spelling in
-    (spell o ≡ u8_bytes (tag_of spell o) ++ behind spell o) × (within 0 1 (tag_of spell o) ≡ true)
-optional_told k None = (refl, refl)
-optional_told k (Some a) = (refl, refl)
-
-optional_back : {A : Type 0} {k : Kind A} {l : ℕ} → IsField k l → (o : Option A) (rest : List ℕ)
-    → fits_optional k.fitting o ≡ true → let spell = optional_bytes k.spelling in
-    named 0 (bare None ∷ []) (made Some k.reading) (tag_of spell o) (behind spell o ++ rest) ≡ Ok (o, rest)
-optional_back t None rest h = refl
-optional_back t (Some a) rest h = remade t Some a rest h
+optional_told : {A : Type 0} {k : Kind A} {l : ℕ} → IsField k l → (o : Option A)
+    → IsTold (optional k).spelling (optional k).fitting 0 (bare None ∷ []) (made Some k.reading) o
+optional_told t None = (refl, refl, λ rest h. refl)
+optional_told t (Some a) = (refl, refl, remade t Some a)
 
 pub optionals : {A : Type 0} {k : Kind A} {l : ℕ} → IsField k l → IsField (optional k) 1
 unfolding optional_at
 optionals {A} {k} t =
-    let spell = optional_bytes k.spelling in
-    let fit = fits_optional k.fitting in
-    tagged_field spell fit 0 (bare None ∷ []) (made Some k.reading) (omega arith)
-    (lone spell fit 0 None refl refl, turned t spell fit 1 Some (λ _ h. (refl, h))) (optional_told k) (optional_back t)
+    let spell = (optional k).spelling in
+    let fit = (optional k).fitting in
+    let parts = lone spell fit 0 None refl refl ⨾ turned t spell fit 1 Some (λ _ h. (refl, h)) in
+    tagged_field spell fit 0 (bare None ∷ []) (made Some k.reading) (omega arith) parts (optional_told t)
 
 -- a count of one byte, and so many values
 pub several : {A : Type 0} {k : Kind A} {l : ℕ} → IsField k l → (limit : ℕ) → limit < 256 → IsField (counted limit k) 1
 several t limit small =
-    counts w8 limit (λ n. leb n limit) _ _ (refit (limited8 0 limit small) (λ n. leb n limit) (from_zero limit)) (manys t)
+    let few : ℕ → Bool = λ n. leb n limit in
+    counts w8 limit few _ _ (refit (limited8 0 limit small) few (from_zero limit)) (manys t)
 
 pub ranges : IsField (field range_at range_bytes fits_range) 33
 unfolding range_at
@@ -66,37 +62,30 @@ ranges =
 pub ids : IsField (field (limited_at w32 1 (2 ^ 32 - 1)) u32_bytes is_id) 4
 ids = limited32 1 (2 ^ 32 - 1) (omega arith)
 
--- a number of a tile's place
 places : IsField (field (limited_at w16 0 255) u16_bytes (λ n. leb n 255)) 2
 places = refit (limited16 0 255 (omega arith)) (λ n. leb n 255) (from_zero 255)
 
-material_told : (m : Material) → let tag = tag_of material_bytes m in
-    (material_bytes m ≡ u8_bytes tag ++ behind material_bytes m) × (within 1 4 tag ≡ true)
-unfolding material_bytes
-material_told (material.Solid c) = (refl, refl)
-material_told (material.Tile resource tx ty) = (refl, refl)
-material_told (material.Surface range background) = (refl, refl)
-material_told (material.Pass id) = (refl, refl)
-
-material_back : (m : Material) (rest : List ℕ) → fits_material m ≡ true
-    → named 1 materials_at (made material.Pass (number_at w32)) (tag_of material_bytes m) (behind material_bytes m ++ rest)
-    ≡ Ok (m, rest)
+material_told : (m : Material)
+    → IsTold material_bytes fits_material 1 materials_at (made material.Pass (number_at w32)) m
 unfolding material_bytes fits_material
-material_back (material.Solid c) rest h = remade colours material.Solid c rest h
-material_back (material.Tile id tx ty) rest h = remade (ids ⊠ places ⊠ places) (λ p. material.Tile p.0.0 p.0.1 p.1) ((id, tx), ty) rest h
-material_back (material.Surface range back) rest h =
-    remade (ranges ⊠ colours) (λ p. material.Surface p.0 p.1) (range, back) rest h
-material_back (material.Pass id) rest h = remade numbers32 material.Pass id rest h
+material_told (material.Solid c) = (refl, refl, remade colours material.Solid c)
+material_told (material.Tile id tx ty) =
+    (refl, refl, remade (ids ⊠ places ⊠ places) (λ p. material.Tile p.0.0 p.0.1 p.1) ((id, tx), ty))
+material_told (material.Surface range back) =
+    (refl, refl, remade (ranges ⊠ colours) (λ p. material.Surface p.0 p.1) (range, back))
+material_told (material.Pass id) = (refl, refl, remade numbers32 material.Pass id)
 
 pub materials : IsField (field material_at material_bytes fits_material) 1
 unfolding material_at material_bytes fits_material
 materials =
-    tagged_field material_bytes fits_material 1 materials_at (made material.Pass (number_at w32)) (omega arith) (
-    turned colours material_bytes fits_material 1 material.Solid (λ _ h. (refl, h))
-    ⨾ turned (ids ⊠ places ⊠ places) material_bytes fits_material 2 (λ p. material.Tile p.0.0 p.0.1 p.1) (λ _ h. (refl, h))
-    ⨾ turned (ranges ⊠ colours) material_bytes fits_material 3 (λ p. material.Surface p.0 p.1) (λ _ h. (refl, h))
-    ⨾ turned numbers32 material_bytes fits_material 4 material.Pass (λ _ h. (refl, h))
-    ) material_told material_back
+    let spell = material_bytes in
+    let fit = fits_material in
+    let parts =
+    turned colours spell fit 1 material.Solid (λ _ h. (refl, h))
+    ⨾ turned (ids ⊠ places ⊠ places) spell fit 2 (λ p. material.Tile p.0.0 p.0.1 p.1) (λ _ h. (refl, h))
+    ⨾ turned (ranges ⊠ colours) spell fit 3 (λ p. material.Surface p.0 p.1) (λ _ h. (refl, h))
+    ⨾ turned numbers32 spell fit 4 material.Pass (λ _ h. (refl, h)) in
+    tagged_field spell fit 1 materials_at (made material.Pass (number_at w32)) (omega arith) parts material_told
 
 -- ---- quads
 
@@ -108,17 +97,10 @@ is_mode first _ = not first
 abbrev number_bytes : Blend → List ℕ
 number_bytes m = mode_number m ∷ []
 
-mode_told : (m : Blend) → let tag = tag_of number_bytes m in
-    (number_bytes m ≡ u8_bytes tag ++ behind number_bytes m) × (within 0 2 tag ≡ true)
-mode_told Over = (refl, refl)
-mode_told Src = (refl, refl)
-mode_told DstIn = (refl, refl)
-
-mode_back : (m : Blend) (rest : List ℕ) → is_mode false m ≡ true
-    → named 0 (bare Over ∷ bare Src ∷ []) (bare DstIn) (tag_of number_bytes m) (behind number_bytes m ++ rest) ≡ Ok (m, rest)
-mode_back Over rest h = refl
-mode_back Src rest h = refl
-mode_back DstIn rest h = refl
+mode_told : (m : Blend) → IsTold number_bytes (is_mode false) 0 (bare Over ∷ bare Src ∷ []) (bare DstIn) m
+mode_told Over = (refl, refl, λ rest h. refl)
+mode_told Src = (refl, refl, λ rest h. refl)
+mode_told DstIn = (refl, refl, λ rest h. refl)
 
 mode_only : (m : Blend) → is_mode true m ≡ true → Over ≡ m
 mode_only Over h = refl
@@ -130,11 +112,10 @@ mode_by : (first : Bool) → IsField (
     ) 0
 mode_by true = alone Over (λ _. []) (is_mode true) refl refl mode_only
 mode_by false =
-    let mode = lone number_bytes (is_mode false) in
-    fewer (
-    tagged_field number_bytes (is_mode false) 0 (bare Over ∷ bare Src ∷ []) (bare DstIn) (omega arith)
-    (mode 0 Over refl refl ⨾ mode 1 Src refl refl ⨾ mode 2 DstIn refl refl) mode_told mode_back
-    )
+    let fit = is_mode false in
+    let mode = lone number_bytes fit in
+    let parts = mode 0 Over refl refl ⨾ mode 1 Src refl refl ⨾ mode 2 DstIn refl refl in
+    fewer (tagged_field number_bytes fit 0 (bare Over ∷ bare Src ∷ []) (bare DstIn) (omega arith) parts mode_told)
 
 mode_same : (format : ℕ) (m : Blend) → is_mode (eqb format 1) m ≡ fits_mode format m
 mode_same format Over = refl
@@ -196,7 +177,8 @@ unfolding fits_pass
 room_is format room p small =
     let front = is_number p.id && fits_rect p.output && fits_rect p.damage in
     let all = list_all (fits_quad format) p.quads in
-    ap (λ b. front && (b && all)) (few_is room (length p.quads) small) ∙ swapped true front (leb (length p.quads) room) all
+    ap (λ b. front && (b && all)) (few_is room (length p.quads) small)
+    ∙ swapped true front (leb (length p.quads) room) all
 
 sums : (n m room : ℕ) → (leb n room && leb m (room - n)) ≡ leb (n + m) room
 sums n m room = grind arith
@@ -260,10 +242,9 @@ deadlines =
 metadatas : IsField (field metadata_at metadata_bytes fits_metadata) 11
 unfolding metadata_at
 metadatas =
-    let lists = numbers32 ⊠ numbers32 ⊠ deadlines ⊠ several surfaces 16 (omega arith) ⊠ several ranges 64 (omega arith) in
-    records lists
-    (λ p. record { token = p.0.0.0.0; ack = p.0.0.0.1; deadline = p.0.0.1; dependencies = p.0.1; references = p.1 })
-    (λ m. ((((m.token, m.ack), m.deadline), m.dependencies), m.references)) metadata_bytes fits_metadata
+    let numbers = numbers32 ⊠ numbers32 ⊠ deadlines in
+    records (numbers ⊠ several surfaces 16 (omega arith) ⊠ several ranges 64 (omega arith))
+    metadata_of (λ m. ((((m.token, m.ack), m.deadline), m.dependencies), m.references)) metadata_bytes fits_metadata
     (λ _. refl) (λ _. refl) (λ _. refl) (λ _. refl)
 
 -- the tests of a frame in groups

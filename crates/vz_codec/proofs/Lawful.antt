@@ -8,7 +8,7 @@ use Rattle.std.proofs.lemmas.List.{take_at, drop_at, take-append-drop, length-ap
 use Rattle.std.proofs.lemmas.List.{get_or_append_left, get_or_past}
 use Rattle.vz_codec.specs.declared.fault.FileRule.{FileRule}
 use Rattle.vz_codec.specs.declared.fault.FileRule.TheVariants as fault
-use Rattle.vz_codec.specs.Reading.{Fault, Read, Reading, ◌>>=◌, ◌⊳◌, short, tested, made, checked, front_at}
+use Rattle.vz_codec.specs.Reading.{Fault, Read, ◌>>=◌, ◌⊳◌, short, tested, made, checked, front_at}
 use Rattle.vz_codec.specs.Fields.{Kind, field}
 use Rattle.vz_codec.proofs.Numbers.{IsBytes, IsBytes-drop, Took, also}
 
@@ -48,7 +48,7 @@ implied false true h = h refl
 implied false false h = refl
 
 -- fewer bytes at least
-pub lower : {A : Type 0} (k : Kind A) (l : ℕ) (bytes : List ℕ) (read : Read A) → Judges k l bytes read → Judges k 0 bytes read
+pub lower : {A : Type 0} (k : Kind A) (l : ℕ) (bytes : List ℕ) (r : Read A) → Judges k l bytes r → Judges k 0 bytes r
 lower k l bytes (Ok x) j = (omega (arith, j.0), j.1)
 lower k l bytes (Err e) j = j
 
@@ -91,7 +91,8 @@ pair_of a b =
     field (a.reading ⊳ λ x. (b x).reading) (λ p. a.spelling p.0 ++ (b p.0).spelling p.1)
     (λ p. a.fitting p.0 && (b p.0).fitting p.1)
 
-module _ {A B : Type 0} (a : Kind A) (b : A → Kind B) (la lb : ℕ) (t : IsRead a la) (u : (x : A) → IsRead (b x) lb) where
+module _ {A B : Type 0} (a : Kind A) (b : A → Kind B) (la lb : ℕ)
+    (t : IsRead a la) (u : (x : A) → IsRead (b x) lb) where
   second_by : (bytes : List ℕ) (x : A × List ℕ) → Judges a la bytes (Ok x) → (r : Read B) → Judges (b x.0) lb x.1 r
       → Judges (pair_of a b) (la + lb) bytes (r >>= λ y. Ok ((x.0, y.0), y.1))
   second_by bytes x j (Ok y) k = (omega (arith, j.0, k.0), λ fits. also (j.1 fits) (k.1 (j.1 fits).rest_fits))
@@ -134,8 +135,8 @@ module _ {A : Type 0} {k : Kind A} {l : ℕ} (t : IsField k l) (some : 0 < l) (r
   test_by bytes x j true e = (
     j.0,
     λ fits.
-        let took = j.1 fits in
-        record { parts = took.parts; rest_fits = took.rest_fits; fits = and_from (k.fitting x.0) (good x.0) took.fits e },
+        let t = j.1 fits in
+        record { parts = t.parts; rest_fits = t.rest_fits; fits = and_from (k.fitting x.0) (good x.0) t.fits e },
   )
   test_by bytes x j false e =
       record { within = omega arith; at_end = λ h. absurd (other h); before_end = λ _. omega (arith, j.0, some) }
@@ -161,8 +162,10 @@ text_fits bytes text rest parts fits i =
     ]
 
 module _ {A B : Type 0} (k : Kind A) (l : ℕ) (to : A → B) (spell : B → List ℕ) (fit : B → Bool)
-    (there : (a : A) → IsBytes (k.spelling a) → k.fitting a ≡ true → (spell (to a) ≡ k.spelling a) × (fit (to a) ≡ true)) where
-  pub make_by : (bytes : List ℕ) (q : Read A) → Judges k l bytes q → Judged spell fit l bytes (q >>= λ x. Ok (to x.0, x.1))
+    (there : (a : A) → IsBytes (k.spelling a) → k.fitting a ≡ true
+    → (spell (to a) ≡ k.spelling a) × (fit (to a) ≡ true)) where
+  pub make_by : (bytes : List ℕ) (q : Read A) → Judges k l bytes q
+      → Judged spell fit l bytes (q >>= λ x. Ok (to x.0, x.1))
   make_by bytes (Ok x) j = (
     j.0,
     λ fits.
@@ -173,8 +176,8 @@ module _ {A B : Type 0} (k : Kind A) (l : ℕ) (to : A → B) (spell : B → Lis
   make_by bytes (Err e) j = j
 
 -- what is made of a value is read again where the value is
-pub remade : {A B : Type 0} {k : Kind A} {l : ℕ} → IsField k l → (to : A → B) (a : A) (rest : List ℕ) → k.fitting a ≡ true
-    → made to k.reading (k.spelling a ++ rest) ≡ Ok (to a, rest)
+pub remade : {A B : Type 0} {k : Kind A} {l : ℕ} → IsField k l → (to : A → B) (a : A) (rest : List ℕ)
+    → k.fitting a ≡ true → made to k.reading (k.spelling a ++ rest) ≡ Ok (to a, rest)
 remade t to a rest h = rw (t.again a rest h) refl
 
 pub makes : {A B : Type 0} {k : Kind A} {l : ℕ} → IsField k l → (to : A → B) (spell : B → List ℕ) (fit : B → Bool)
@@ -185,7 +188,8 @@ makes {A} {B} {k} {l} t to spell fit there back = record {
   law = λ bytes. make_by k l to spell fit there bytes (k.reading bytes) (t.law bytes);
   again = λ b rest h.
       let from = back b h in
-      ap (λ text. made to k.reading (text ++ rest)) from.2 ∙ remade t to from.0 rest from.3 ∙ ap (λ x. Ok (x, rest)) from.1;
+      ap (λ text. made to k.reading (text ++ rest)) from.2 ∙ remade t to from.0 rest from.3
+      ∙ ap (λ x. Ok (x, rest)) from.1;
 }
 
 -- a record of a field's values

@@ -28,7 +28,8 @@ module _ {S A : Type 0} {read : S → Reading A} {spell : A → List ℕ} {fit :
   row_there n s x xs h =
       let each = and_parts (fit s x) (row_fits n (after s x) xs) h in
       let rest = and_parts (eqb (length xs) n) (all_in fit after (after s x) xs) each.1 in
-      and_from _ _ (eq-eqb (suc (length xs)) (suc n) (ap suc (eqb-true (length xs) n rest.0))) (and_from _ _ each.0 rest.1)
+      let long = eq-eqb (suc (length xs)) (suc n) (ap suc (eqb-true (length xs) n rest.0)) in
+      and_from _ _ long (and_from _ _ each.0 rest.1)
 
   row_back : (n : ℕ) (s : S) (xs : List A) → row_fits (suc n) s xs ≡ true
       → (p : A × List A) × ((p.0 ∷ p.1) ≡ xs) × (flat_map spell xs ≡ spell p.0 ++ flat_map spell p.1)
@@ -69,7 +70,8 @@ manys {A} {k} t n =
 abbrev pub counted_of : {A : Type 0} → Width → ℕ → (ℕ → Bool) → (ℕ → Reading (List A)) → (A → List ℕ) → (List A → Bool)
     → Kind (List A)
 counted_of w limit few reads spell good =
-    field (counted_at w limit reads) (λ xs. to_le_bytes w (length xs) ++ flat_map spell xs) (λ xs. few (length xs) && good xs)
+    field (counted_at w limit reads) (λ xs. to_le_bytes w (length xs) ++ flat_map spell xs)
+    (λ xs. few (length xs) && good xs)
 
 module _ {A : Type 0} {reads : ℕ → Reading (List A)} {m : ℕ} (w : Width) (limit : ℕ) (few : ℕ → Bool)
     (spell : A → List ℕ) (good : List A → Bool) (number : IsField (field (limited_at w 0 limit) (to_le_bytes w) few) m)

@@ -1,7 +1,8 @@
 -- Numbers of bytes: what is read is spelled so, and what is spelled is read again.
 use Rattle.std.proofs.Common.{◌≡◌, ℕ, zero, suc, ◌+◌, ◌-◌, ◌*◌, ◌/◌, ◌%◌, ◌^◌, ◌<◌, Bool, true, ◌&&◌}
 use Rattle.std.proofs.Common.{List, [], ◌∷◌, ◌++◌, length, get_or, drop, refl, sym, ap, ◌∙◌, append_assoc, arith}
-use Rattle.std.specs.Int.{Width, byte_len, byte_at, byte_worth, bytes_low_first, sum_through, from_le_bytes, to_le_bytes}
+use Rattle.std.specs.Int.{Width, byte_len, byte_at, byte_worth, bytes_low_first, sum_through}
+use Rattle.std.specs.Int.{from_le_bytes, to_le_bytes}
 use Rattle.std.proofs.lemmas.Bool.{and_from}
 use Rattle.std.proofs.lemmas.List.{get_or-drop}
 use Rattle.std.proofs.Math.Nat.{pow-suc, div-div-eq-div-mul}
@@ -74,7 +75,8 @@ scaled x p q is = ap (λ m. x * m) is ∙ grind arith
 total_step : (byte : ℕ → ℕ) (k : ℕ) → total byte (suc k) ≡ byte 0 + 256 * total (λ i. byte (suc i)) k
 total_step byte zero = omega arith
 total_step byte (suc k) =
-    omega (arith, total_step byte k, scaled (byte (suc (suc k))) (256 ^ suc k) (256 ^ suc (suc k)) (pow-suc 256 (suc k)))
+    let last = scaled (byte (suc (suc k))) (256 ^ suc k) (256 ^ suc (suc k)) (pow-suc 256 (suc k)) in
+    omega (arith, total_step byte k, last)
 
 total_is : (k : ℕ) (bs : List ℕ) → length bs ≡ suc k → total (λ i. get_or bs i 0) k ≡ value bs
 total_is k [] len = absurd (omega arith)
@@ -91,14 +93,17 @@ byte_is (suc i) n = refl
 parts_are : (k i n : ℕ) → bytes_low_first i k n ≡ spelled k (n / 256 ^ i)
 parts_are zero i n = refl
 parts_are (suc k) i n =
-    let next : n / 256 ^ suc i ≡ n / 256 ^ i / 256 = ap (λ p. n / p) (pow-suc 256 i) ∙ sym (div-div-eq-div-mul n (256 ^ i) 256) in
+    let next : n / 256 ^ suc i ≡ n / 256 ^ i / 256 =
+    ap (λ p. n / p) (pow-suc 256 i) ∙ sym (div-div-eq-div-mul n (256 ^ i) 256) in
     λ j. byte_is i n j ∷ (parts_are k (suc i) n ∙ ap (spelled k) next) j
 
 -- ---- numbers of a width
 
 module _ (w : Width) (some : 0 < byte_len w) where
   bytes_are : (n : ℕ) → to_le_bytes w n ≡ spelled (byte_len w) n
-  bytes_are n = let whole : n / 256 ^ 0 ≡ n = omega arith in parts_are (byte_len w) 0 n ∙ ap (spelled (byte_len w)) whole
+  bytes_are n =
+      let whole : n / 256 ^ 0 ≡ n = omega arith in
+      parts_are (byte_len w) 0 n ∙ ap (spelled (byte_len w)) whole
 
   number_is : (bytes : List ℕ) → length bytes ≡ byte_len w → from_le_bytes w bytes ≡ value bytes
   number_is bytes len = total_is (byte_len w - 1) bytes (omega arith)
@@ -106,7 +111,8 @@ module _ (w : Width) (some : 0 < byte_len w) where
   pub le_length : (n : ℕ) → length (to_le_bytes w n) ≡ byte_len w
   le_length n = ap (λ (bs : List ℕ). length bs) (bytes_are n) ∙ spelled_length (byte_len w) n
 
-  pub le_back : (bytes : List ℕ) → length bytes ≡ byte_len w → IsBytes bytes → to_le_bytes w (from_le_bytes w bytes) ≡ bytes
+  pub le_back : (bytes : List ℕ) → length bytes ≡ byte_len w → IsBytes bytes
+      → to_le_bytes w (from_le_bytes w bytes) ≡ bytes
   le_back bytes len small =
       bytes_are (from_le_bytes w bytes) ∙ ap (spelled (byte_len w)) (number_is bytes len)
       ∙ ap (λ k. spelled k (value bytes)) (sym len) ∙ spelled_value bytes small
@@ -115,5 +121,4 @@ module _ (w : Width) (some : 0 < byte_len w) where
   le_again n few = number_is (to_le_bytes w n) (le_length n) ∙ ap value (bytes_are n) ∙ value_spelled (byte_len w) n few
 
   pub le_below : (bytes : List ℕ) → length bytes ≡ byte_len w → IsBytes bytes → from_le_bytes w bytes < 256 ^ byte_len w
-  le_below bytes len small =
-      rw (number_is bytes len, sym len) (value_below bytes small)
+  le_below bytes len small = rw (number_is bytes len, sym len) (value_below bytes small)

@@ -1,5 +1,6 @@
 -- What fits is a rectangle that can be made.
-use Rattle.std.proofs.Common.{◌≡◌, ℤ, pos, ◌≤ℤ◌, int_lt, Bool, true, false, ◌&&◌, inl, inr, refl, arith, w32, to_z, of_z, SFits}
+use Rattle.std.proofs.Common.{◌≡◌, ℤ, pos, int_lt, Bool, true, false, ◌&&◌, inl, inr, refl, arith}
+use Rattle.std.proofs.Common.{w32, to_z, of_z, SFits}
 use Rattle.std.proofs.lemmas.Bool.{and_parts, or_cases}
 use Rattle.std.proofs.lemmas.Int.{ints, to_z-of_z}
 use Rattle.vz_geom.specs.Rectangle.{Rectangle, with_sides}
@@ -32,7 +33,8 @@ four a b c d e =
 pub is_made : (x y w h : ℤ) → fits_rect (rectangle x y w h) ≡ true → IsMade x y w h
 unfolding with_sides
 is_made x y w h fits =
-    elim (or_cases (is_zero x && is_zero y && is_zero w && is_zero h) (in_reach x && in_reach y && is_side w && is_side h) fits) [
+    let zero = is_zero x && is_zero y && is_zero w && is_zero h in
+    elim (or_cases zero (in_reach x && in_reach y && is_side w && is_side h) fits) [
       | inl none ↦
           let e = four (is_zero x) (is_zero y) (is_zero w) (is_zero h) none in
           rw (zero_is x e.0, zero_is y e.1, zero_is w e.2, zero_is h e.3)

@@ -1,5 +1,5 @@
 -- The laws of numbers, ids, rectangles and colours.
-use Rattle.std.proofs.Common.{◌≡◌, ℕ, ℤ, pos, negsuc, neg_ℤ, ◌^◌, ◌<◌, ◌≤◌, ◌≤ℤ◌, ◌-ℤ◌, Bool, true, ◌&&◌, leb, ltb}
+use Rattle.std.proofs.Common.{◌≡◌, ℕ, ℤ, pos, negsuc, neg_ℤ, ◌^◌, ◌<◌, ◌≤◌, Bool, true, ◌&&◌, leb, ltb}
 use Rattle.std.proofs.Common.{List, [], ◌∷◌, length, refl, sym, ap, ◌∙◌, arith, SFits}
 use Rattle.std.specs.Int.{Width, byte_len, w8, w16, w32, w128, from_le_bytes, to_le_bytes, cast_signed, cast_unsigned}
 use Rattle.std.proofs.lemmas.Bool.{and_parts, and_from, leb-true, le-leb, ltb-true, lt-ltb, eqb-true, eq-eqb}
@@ -10,7 +10,8 @@ use Rattle.vz_geom.specs.Rectangle.{Rectangle}
 use Rattle.vz_ids.specs.declared.LocalSurfaceId.{LocalSurfaceId}
 use Rattle.vz_ids.specs.Ids.{is_valid}
 use Rattle.vz_pixels.specs.Colour.{Colour}
-use Rattle.vz_frame.specs.Fits.{within, within_z, in_reach, fits_rect, is_number, fits_sink, fits_local, fits_surface, fits_colour}
+use Rattle.vz_frame.specs.Fits.{within, within_z, in_reach, fits_rect, is_number}
+use Rattle.vz_frame.specs.Fits.{fits_sink, fits_local, fits_surface, fits_colour}
 use Rattle.vz_codec.specs.declared.fault.FileRule.{FileRule}
 use Rattle.vz_codec.specs.declared.fault.FileRule.TheVariants as fault
 use Rattle.vz_codec.specs.Spelling.{u8_bytes, u16_bytes, u32_bytes, i32_bytes, u128_bytes, sink_bytes, local_bytes}
@@ -98,7 +99,9 @@ pub signed : IsField (field signed_at i32_bytes is_signed) 4
 unfolding signed_at i32_bytes
 signed =
     makes numbers32 (cast_signed w32) i32_bytes is_signed
-    (λ n _ h. (ap u32_bytes (of_z-to_z w32 n (ltb-true _ _ h)), signed_fits (cast_signed w32 n) (sfits_to_z (record { fits = ltb-true _ _ h }))))
+    (λ n _ h.
+    let few = ltb-true _ _ h in
+    (ap u32_bytes (of_z-to_z w32 n few), signed_fits (cast_signed w32 n) (sfits_to_z (record { fits = few }))))
     (λ z h.
     let fits = fits_signed z h in
     (cast_unsigned w32 z, to_z-of_z w32 z fits, refl, lt-ltb _ _ (Fits-of_z fits).fits))
@@ -135,8 +138,8 @@ locals =
 pub surfaces : IsField (field surface_at surface_bytes fits_surface) 32
 unfolding surface_at
 surfaces =
-    records (sinks ⊠ locals) (λ p. record { sink = p.0; local = p.1 }) (λ s. (s.sink, s.local)) surface_bytes fits_surface
-    (λ _. refl) (λ _. refl) (λ _. refl) (λ _. refl)
+    records (sinks ⊠ locals) (λ p. record { sink = p.0; local = p.1 }) (λ s. (s.sink, s.local))
+    surface_bytes fits_surface (λ _. refl) (λ _. refl) (λ _. refl) (λ _. refl)
 
 -- ---- rectangles and colours
 
@@ -147,7 +150,8 @@ rects =
     let four =
     records (signed ⊠ signed ⊠ signed ⊠ signed) rect_of (λ r. (((r.x, r.y), r.w), r.h)) rect_bytes fit
     (λ _. refl) (λ _. refl) (λ _. refl) (λ _. refl) in
-    refit (checks four (omega arith) fault.Limit (λ e. cc) fits_rect) fits_rect (λ r. implied (fit r) (fits_rect r) (λ h.
+    refit (checks four (omega arith) fault.Limit (λ e. cc) fits_rect) fits_rect
+    (λ r. implied (fit r) (fits_rect r) (λ h.
     let made = is_made r.x r.y r.w r.h h in
     let place = and_from _ _ (near r.x made.left) (near r.y made.top) in
     and_from _ _ (and_from _ _ place (near r.w made.wide)) (near r.h made.high)))

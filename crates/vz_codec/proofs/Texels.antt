@@ -1,7 +1,7 @@
 -- Many colours at once: where their bytes are there and premultiplied, they are what stands there.
-use Rattle.std.proofs.Common.{◌≡◌, ℕ, zero, suc, ◌+◌, ◌*◌, ◌/◌, ◌<◌, ◌≤◌, Bool, true, false, ◌&&◌, ◌↔◌, eqb}
-use Rattle.std.proofs.Common.{Result, List, [], ◌∷◌, ◌++◌, length, take, drop, get_or, Ok, Err, refl, sym, ap, subst, ◌∙◌, arith}
-use Rattle.std.specs.List.{flat_map, list_all}
+use Rattle.std.proofs.Common.{◌≡◌, ℕ, zero, suc, ◌+◌, ◌*◌, ◌/◌, ◌<◌, ◌≤◌, Bool, true, false, ◌↔◌, ◌∙◌, arith}
+use Rattle.std.proofs.Common.{Result, List, [], ◌∷◌, ◌++◌, length, take, drop, get_or, Ok, Err, refl, sym, ap}
+use Rattle.std.specs.List.{flat_map}
 use Rattle.std.proofs.Math.Seq.{take-add}
 use Rattle.std.proofs.lemmas.Bool.{and_from, eq-eqb}
 use Rattle.std.proofs.lemmas.Grind.{flat_map-append}
@@ -29,7 +29,8 @@ texel_is bytes k =
     λ i. record { r = r i; g = g i; b = b i; a = a i }
 
 -- the first colours are spelled by the first bytes
-spelled : (bytes : List ℕ) (k : ℕ) → 4 * k ≤ length bytes → flat_map colour_bytes (colours_upto bytes k) ≡ take (4 * k) bytes
+spelled : (bytes : List ℕ) (k : ℕ) → 4 * k ≤ length bytes
+    → flat_map colour_bytes (colours_upto bytes k) ≡ take (4 * k) bytes
 spelled bytes zero there = refl
 spelled bytes (suc k) there =
     let next : suc k ≡ k + 1 = omega arith in
@@ -37,24 +38,26 @@ spelled bytes (suc k) there =
     let front = spelled bytes k (omega arith) in
     let four = take 4 (drop (4 * k) bytes) in
     let long : length four ≡ 4 = length-take-le 4 (drop (4 * k) bytes) (omega (arith, length-drop (4 * k) bytes)) in
-    let last : colour_bytes (texel_at bytes k) ≡ four = ap colour_bytes (sym (texel_is bytes k)) ∙ four_bytes four long in
+    let last = ap colour_bytes (sym (texel_is bytes k)) ∙ four_bytes four long in
     ap (λ m. flat_map colour_bytes (colours_upto bytes m)) next ∙ ap (flat_map colour_bytes) (one_more bytes k)
     ∙ flat_map-append colour_bytes (colours_upto bytes k) (texel_at bytes k ∷ []) ∙ (λ i. front i ++ last i)
     ∙ sym (take-add (4 * k) 4 bytes) ∙ ap (λ m. take m bytes) more
 
 -- all of them
-texels : (bytes : List ℕ) (n : ℕ) → 4 * n ≤ length bytes → let front = take (4 * n) bytes in are_premultiplied front ≡ true
-    → many_at colour_at n bytes ≡ Ok (colours_of front, drop (4 * n) bytes)
+texels : (bytes : List ℕ) (n : ℕ) → 4 * n ≤ length bytes → let front = take (4 * n) bytes in
+    are_premultiplied front ≡ true → many_at colour_at n bytes ≡ Ok (colours_of front, drop (4 * n) bytes)
 texels bytes n there good =
     let front = take (4 * n) bytes in
     let long : length (take (4 * n) bytes) ≡ 4 * n = length-take-le (4 * n) bytes there in
     let count : n ≡ length front / 4 = omega arith in
     let pixels = colours_upto front n in
-    let text : flat_map colour_bytes pixels ≡ front = spelled front n (omega arith) ∙ take_all (4 * n) front (omega arith) in
-    let fits = and_from _ _ (eq-eqb _ _ (length-map-range_with_len (texel_at front) 0 n)) (all_is front n count ∙ good) in
-    let read = (manys (colours_where (λ _. true) (λ _ _. refl)) n).again pixels (drop (4 * n) bytes) fits in
-    ap (many_at colour_at n) (sym (take-append-drop (4 * n) bytes) ∙ ap (λ xs. xs ++ drop (4 * n) bytes) (sym text)) ∙ read
-    ∙ ap (λ ps. Ok (ps, drop (4 * n) bytes)) (whole_is front n count)
+    let rest = drop (4 * n) bytes in
+    let text = spelled front n (omega arith) ∙ take_all (4 * n) front (omega arith) in
+    let all = eq-eqb _ _ (length-map-range_with_len (texel_at front) 0 n) in
+    let fits = and_from _ _ all (all_is front n count ∙ good) in
+    let read = (manys (colours_where (λ _. true) (λ _ _. refl)) n).again pixels rest fits in
+    ap (many_at colour_at n) (sym (take-append-drop (4 * n) bytes) ∙ ap (λ xs. xs ++ rest) (sym text)) ∙ read
+    ∙ ap (λ ps. Ok (ps, rest)) (whole_is front n count)
 
 -- what is not refused is premultiplied
 not_refused : (r : Result Block BlockError) (block : Block) (sized good : Bool) → r ≡ Ok block
@@ -65,9 +68,10 @@ not_refused r block false false is bad_size refused = let other = bad_size.1 ref
 
 -- a block that is made of the bytes that are left has the colours that are read
 pub block_there : (bytes rest : List ℕ) (n : ℕ) (r : Result Block BlockError) (block : Block) (sized : Bool)
-    → rest ≡ bytes → 4 * n ≤ length bytes → let front = take (4 * n) rest in r ≡ Ok block → (r ≡ Err BadSize) ↔ (sized ≡ false)
-    → (r ≡ Err NotPremultiplied) ↔ ((sized ≡ true) × (are_premultiplied front ≡ false)) → block.pixels ≡ colours_of front
-    → many_at colour_at n bytes ≡ Ok (block.pixels, drop (4 * n) bytes)
+    → rest ≡ bytes → 4 * n ≤ length bytes → let front = take (4 * n) rest in r ≡ Ok block
+    → (r ≡ Err BadSize) ↔ (sized ≡ false)
+    → (r ≡ Err NotPremultiplied) ↔ ((sized ≡ true) × (are_premultiplied front ≡ false))
+    → block.pixels ≡ colours_of front → many_at colour_at n bytes ≡ Ok (block.pixels, drop (4 * n) bytes)
 block_there bytes rest n r block sized same there is bad_size refused block_is =
     let good = not_refused r block sized (are_premultiplied (take (4 * n) rest)) is bad_size refused in
     texels bytes n there (ap (λ xs. are_premultiplied (take (4 * n) xs)) (sym same) ∙ good)

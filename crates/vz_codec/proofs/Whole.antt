@@ -1,29 +1,24 @@
 -- The laws of messages and files.
-use Rattle.std.proofs.Common.{◌≡◌, ℕ, ◌*◌, ◌≤◌, Bool, true, not, ◌&&◌, ◌==◌, leb}
-use Rattle.std.proofs.Common.{List, [], ◌∷◌, ◌++◌, length, Result, Ok, Err, refl, sym, ap, subst, ◌∙◌, append_assoc, arith}
+use Rattle.std.proofs.Common.{◌≡◌, ℕ, ◌*◌, Bool, true, not, ◌&&◌, ◌==◌, leb}
+use Rattle.std.proofs.Common.{◌++◌, length, refl, sym, ap, append_assoc, arith}
 use Rattle.std.specs.List.{list_all}
 use Rattle.std.specs.Int.{w16, w32}
 use Rattle.std.proofs.lemmas.Bool.{and_parts, eqb-true}
-use Rattle.std.proofs.lemmas.List.{append-nil}
 use Rattle.std.proofs.Math.Bool.{and_assoc}
 use Rattle.vz_ids.specs.declared.FrameSinkId.{FrameSinkId}
-use Rattle.vz_pixels.specs.Block.{Block}
-use Rattle.vz_pixels.specs.Colour.{Colour}
-use Rattle.vz_frame.specs.declared.message.ClientFile.{ClientFile}
 use Rattle.vz_frame.specs.declared.message.Message.{Message}
 use Rattle.vz_frame.specs.declared.message.Message.TheVariants as message
 use Rattle.vz_frame.specs.Fits.{within, fits_sink, fits_colour, fits_block, fits_message, fits_file}
 use Rattle.vz_codec.specs.declared.fault.FileRule.TheVariants as fault
-use Rattle.vz_codec.specs.Spelling.{u8_bytes, u16_bytes, u32_bytes, sink_bytes, block_bytes, message_bytes}
+use Rattle.vz_codec.specs.Spelling.{u16_bytes, u32_bytes, sink_bytes, block_bytes, message_bytes}
 use Rattle.vz_codec.specs.Spelling.{magic, file_bytes}
-use Rattle.vz_codec.specs.Reading.{Fault, Read, Reading, ◌>>=◌, ◌⊗◌, made, bare, named, limited_at}
+use Rattle.vz_codec.specs.Reading.{bare}
 use Rattle.vz_codec.specs.Fields.{field}
-use Rattle.vz_codec.specs.Reading.{colour_at, many_at, block_at}
-use Rattle.vz_codec.specs.Reading.{messages_at, message_at, magic_at, version_at, header_at, file_at, ended, file_in}
-use Rattle.vz_codec.proofs.Numbers.{IsBytes}
-use Rattle.vz_codec.proofs.Lawful.{IsField, Judged, Placed, refit, thens, ◌⊠◌, checks, makes, remade, records}
+use Rattle.vz_codec.specs.Reading.{block_at}
+use Rattle.vz_codec.specs.Reading.{messages_at, message_at, magic_at, version_at, header_at, file_at}
+use Rattle.vz_codec.proofs.Lawful.{IsField, refit, thens, ◌⊠◌, checks, makes, remade, records}
 use Rattle.vz_codec.proofs.Many.{manys, counts}
-use Rattle.vz_codec.proofs.Tagged.{◌⨾◌, tag_of, behind, turned, lone, tagged_field}
+use Rattle.vz_codec.proofs.Tagged.{◌⨾◌, IsTold, turned, lone, tagged_field}
 use Rattle.vz_codec.proofs.Simple.{from_zero, numbers32, ranged, limited16, limited32, sinks, locals, colours}
 use Rattle.vz_codec.proofs.Framed.{ids, frames}
 
@@ -42,39 +37,27 @@ blocks =
 
 -- ---- messages
 
-message_told : (format : ℕ) (m : Message) → let tag = tag_of (message_bytes format) m in
-    (message_bytes format m ≡ u8_bytes tag ++ behind (message_bytes format) m) × (within 1 8 tag ≡ true)
-unfolding message_bytes
-message_told format (message.Upload id block) = (refl, refl)
-message_told format (message.Submit local frame) = (refl, refl)
-message_told format (message.DidNotProduce n) = (refl, refl)
-message_told format message.Reclaim = (refl, refl)
-message_told format (message.SetRoot local) = (refl, refl)
-message_told format (message.Hierarchy parent child) = (refl, refl)
-message_told format message.Await = (refl, refl)
-message_told format message.Close = (refl, refl)
-
-message_back : (format : ℕ) (m : Message) (rest : List ℕ) → fits_message format m ≡ true
-    → let spell = message_bytes format in
-    named 1 (messages_at format) (bare message.Close) (tag_of spell m) (behind spell m ++ rest) ≡ Ok (m, rest)
+message_told : (format : ℕ) (m : Message)
+    → IsTold (message_bytes format) (fits_message format) 1 (messages_at format) (bare message.Close) m
 unfolding message_bytes fits_message
-message_back format (message.Upload id block) rest h = remade (ids ⊠ blocks) (λ p. message.Upload p.0 p.1) (id, block) rest h
-message_back format (message.Submit local frame) rest h =
-    remade (locals ⊠ frames format) (λ p. message.Submit p.0 p.1) (local, frame) rest h
-message_back format (message.DidNotProduce n) rest h = remade numbers32 message.DidNotProduce n rest h
-message_back format message.Reclaim rest h = refl
-message_back format (message.SetRoot local) rest h = remade locals message.SetRoot local rest h
-message_back format (message.Hierarchy parent child) rest h =
-    remade (sinks ⊠ sinks) (λ p. message.Hierarchy p.0 p.1) (parent, child) rest h
-message_back format message.Await rest h = refl
-message_back format message.Close rest h = refl
+message_told format (message.Upload id block) =
+    (refl, refl, remade (ids ⊠ blocks) (λ p. message.Upload p.0 p.1) (id, block))
+message_told format (message.Submit local frame) =
+    (refl, refl, remade (locals ⊠ frames format) (λ p. message.Submit p.0 p.1) (local, frame))
+message_told format (message.DidNotProduce n) = (refl, refl, remade numbers32 message.DidNotProduce n)
+message_told format message.Reclaim = (refl, refl, λ rest h. refl)
+message_told format (message.SetRoot local) = (refl, refl, remade locals message.SetRoot local)
+message_told format (message.Hierarchy parent child) =
+    (refl, refl, remade (sinks ⊠ sinks) (λ p. message.Hierarchy p.0 p.1) (parent, child))
+message_told format message.Await = (refl, refl, λ rest h. refl)
+message_told format message.Close = (refl, refl, λ rest h. refl)
 
 messages : (format : ℕ) → IsField (field (message_at format) (message_bytes format) (fits_message format)) 1
 unfolding message_at message_bytes fits_message
 messages format =
     let spell = message_bytes format in
     let fit = fits_message format in
-    tagged_field spell fit 1 (messages_at format) (bare message.Close) (omega arith) (
+    let parts =
     turned (ids ⊠ blocks) spell fit 1 (λ p. message.Upload p.0 p.1) (λ _ h. (refl, h))
     ⨾ turned (locals ⊠ frames format) spell fit 2 (λ p. message.Submit p.0 p.1) (λ _ h. (refl, h))
     ⨾ turned numbers32 spell fit 3 message.DidNotProduce (λ _ h. (refl, h))
@@ -82,16 +65,18 @@ messages format =
     ⨾ turned locals spell fit 5 message.SetRoot (λ _ h. (refl, h))
     ⨾ turned (sinks ⊠ sinks) spell fit 6 (λ p. message.Hierarchy p.0 p.1) (λ _ h. (refl, h))
     ⨾ lone spell fit 7 message.Await refl refl
-    ⨾ lone spell fit 8 message.Close refl refl
-    ) (message_told format) (message_back format)
+    ⨾ lone spell fit 8 message.Close refl refl in
+    tagged_field spell fit 1 (messages_at format) (bare message.Close) (omega arith) parts (message_told format)
 
 -- ---- files
 
 magics : IsField (field magic_at (λ _. magic) (λ _. true)) 4
 unfolding magic_at u32_bytes
 magics =
-    makes (checks numbers32 (omega arith) fault.Magic (λ e. cc) (λ n. n == 0x435a4956)) (λ _. tt) (λ _. magic) (λ _. true)
-    (λ n _ h. (ap u32_bytes (sym (eqb-true n 0x435a4956 (and_parts _ _ h).1)), refl)) (λ _ _. (0x435a4956, refl, refl, refl))
+    let number = checks numbers32 (omega arith) fault.Magic (λ e. cc) (λ n. n == 0x435a4956) in
+    makes number (λ _. tt) (λ _. magic) (λ _. true)
+    (λ n _ h. (ap u32_bytes (sym (eqb-true n 0x435a4956 (and_parts _ _ h).1)), refl))
+    (λ _ _. (0x435a4956, refl, refl, refl))
 
 versions : IsField (field version_at u16_bytes (within 1 2)) 2
 unfolding u16_bytes

@@ -36,7 +36,8 @@ counted limit k =
 abbrev pub fits_metadata : Metadata → Bool
 fits_metadata m =
     is_number m.token && is_number m.ack && fits_optional (λ d. nat_le d GREATEST_DEADLINE) m.deadline
-    && fits_counted fits_surface MOST_DEPENDENCIES m.dependencies && fits_counted fits_range MOST_REFERENCES m.references
+    && fits_counted fits_surface MOST_DEPENDENCIES m.dependencies
+    && fits_counted fits_range MOST_REFERENCES m.references
 
 -- the rectangle of four numbers
 abbrev pub rectangle : Sides → Rectangle

@@ -1,11 +1,11 @@
 //! Frames: what stands with them, their resources and passes.
 ghost use Rattle.std.specs.Prelude.{◌≡◌, ◌≤◌, ◌++◌, ◌&&◌, nat_le, length, sum_by, OnOk};
 ghost use Rattle.std.specs.List.{list_all};
-ghost use Rattle.vz_frame.specs.Fits.{fits_optional, fits_surface, fits_range, is_number, fits_listing, fits_pass, fits_frame, within};
+ghost use Rattle.vz_frame.specs.Fits.{fits_optional, fits_listing, fits_pass, fits_frame, within};
 ghost use Rattle.vz_codec.specs.Fields.{field, fits_metadata};
 ghost use Rattle.vz_codec.specs.Giving.{Gives};
 ghost use Rattle.vz_codec.specs.Reading.{pass_at, passes_at, listing_at, deadline_at, metadata_at, frame_at};
-ghost use Rattle.vz_codec.specs.Spelling.{counted_bytes, deadline_bytes, listing_bytes, pass_bytes, metadata_bytes, frame_bytes};
+ghost use Rattle.vz_codec.specs.Spelling.{deadline_bytes, listing_bytes, pass_bytes, metadata_bytes, frame_bytes};
 
 use crate::error::ReadError;
 use crate::fault::FileRule;
@@ -43,18 +43,18 @@ impl Field for Frames {
         let resources = RESOURCES.read(input)?;
         let count = input.u8_within(FileRule::Limit, 0, MOST_PASSES)?;
         let passes = read_passes(self.0, count, input)?;
-        let frame = CompositorFrame {
+        Ok(CompositorFrame {
             metadata,
             resources,
             passes,
-        };
-        Ok(frame)
+        })
     }
 
     fn write(&self, frame: &CompositorFrame, out: &mut Writer) -> Result<(), AllocError> {
         Metadatas.write(&frame.metadata, out)?;
         RESOURCES.write(&frame.resources, out)?;
-        Counted(MOST_PASSES, self.passes()).write(&frame.passes, out)
+        let passes = Passes(self.0, usize::from(MOST_QUADS));
+        Counted(MOST_PASSES, passes).write(&frame.passes, out)
     }
 
     fn fits(&self, frame: &CompositorFrame) -> bool {
@@ -63,19 +63,7 @@ impl Field for Frames {
             && RESOURCES.fits(&frame.resources)
             && passes.len() <= usize::from(MOST_PASSES)
             && have_few_quads(passes)
-            && fit_all(&self.passes(), passes)
-    }
-}
-
-impl Frames {
-    /// The first pass of a frame.
-    fn passes(&self) -> Passes
-        ensures { result.format ≡ self.now.0 }
-    {
-        Passes {
-            format: self.0,
-            room: usize::from(MOST_QUADS),
-        }
+            && fit_all(&Passes(self.0, usize::from(MOST_QUADS)), passes)
     }
 }
 
@@ -94,14 +82,13 @@ impl Field for Metadatas {
         let deadline = Deadlines.read(input)?;
         let dependencies = DEPENDENCIES.read(input)?;
         let references = REFERENCES.read(input)?;
-        let metadata = Metadata {
+        Ok(Metadata {
             token,
             ack,
             deadline,
             dependencies,
             references,
-        };
-        Ok(metadata)
+        })
     }
 
     fn write(&self, metadata: &Metadata, out: &mut Writer) -> Result<(), AllocError> {
@@ -194,16 +181,13 @@ fn is_short_side(number: u16) -> bool
 
 /// The passes of a frame in a file of this format, which has room for so many more quads.
 #[derive(Drop)]
-struct Passes {
-    format: u8,
-    room: usize,
-}
+struct Passes(u8, usize);
 
 #[tactic(auto, unfolding(crate::specs::Reading::pass_at, crate::specs::Reading::counted_at, crate::specs::Reading::ranged_at, crate::specs::Spelling::pass_bytes, vz_frame::specs::Fits::fits_pass), using(crate::proofs::Appended::appended))]
 impl Field for Passes {
     type Value = RenderPass;
 
-    ghost kind = { λ p. field (pass_at p.format p.room) (pass_bytes p.format) (fits_pass p.format) };
+    ghost kind = { λ p. field (pass_at p.0 p.1) (pass_bytes p.0) (fits_pass p.0) };
 
     fn read(&self, input: &mut Reader) -> Result<RenderPass, ReadError> {
         let id = input.u32()?;
@@ -211,17 +195,16 @@ impl Field for Passes {
         let damage = Rects.read(input)?;
         let left = input.left();
         let count = usize::from(input.u16()?);
-        if count > self.room {
+        if count > self.1 {
             return Err(ReadError::refused(left, FileRule::Limit));
         }
-        let quads = read_many(&Quads(self.format), count, input)?;
-        let pass = RenderPass {
+        let quads = read_many(&Quads(self.0), count, input)?;
+        Ok(RenderPass {
             id,
             output,
             damage,
             quads: List::from_vec(quads),
-        };
-        Ok(pass)
+        })
     }
 
     fn write(&self, pass: &RenderPass, out: &mut Writer) -> Result<(), AllocError> {
@@ -230,14 +213,14 @@ impl Field for Passes {
         Rects.write(&pass.output, out)?;
         Rects.write(&pass.damage, out)?;
         out.u16_count(quads.len())?;
-        write_many(&Quads(self.format), quads, out)
+        write_many(&Quads(self.0), quads, out)
     }
 
     fn fits(&self, pass: &RenderPass) -> bool {
         is_number(pass.id)
             && Rects.fits(&pass.output)
             && Rects.fits(&pass.damage)
-            && fit_all(&Quads(self.format), pass.quads.as_slice())
+            && fit_all(&Quads(self.0), pass.quads.as_slice())
     }
 }
 
@@ -248,7 +231,7 @@ fn read_passes(format: u8, count: u8, input: &mut Reader) -> Result<List<RenderP
     let mut passes = Vec::with_capacity(input.alloc(), usize::from(count).min(input.left()))?;
     let mut room = usize::from(MOST_QUADS);
     for _ in 0..count {
-        let pass = Passes { format, room }.read(input)?;
+        let pass = Passes(format, room).read(input)?;
         room = room.saturating_sub(pass.quads.as_slice().len());
         passes.push(pass)?;
     }

@@ -60,17 +60,15 @@ impl Field for Locals {
         let left = input.left();
         let parent = input.u32()?;
         let child = input.u32()?;
-        let token = input.u128()?;
-        if parent == 0 || child == 0 || token == 0 {
+        let token = EmbedToken(input.u128()?);
+        if parent == 0 || child == 0 || token.0 == 0 {
             return Err(ReadError::refused(left, FileRule::Limit));
         }
-        let token = EmbedToken(token);
-        let local = LocalSurfaceId {
+        Ok(LocalSurfaceId {
             parent,
             child,
             token,
-        };
-        Ok(local)
+        })
     }
 
     fn write(&self, local: &LocalSurfaceId, out: &mut Writer) -> Result<(), AllocError> {

@@ -3,8 +3,7 @@ ghost use Rattle.std.specs.Prelude.{◌≡◌, ◌≤◌, ◌*◌, IfOk};
 ghost use Rattle.vz_frame.specs.Fits.{fits_block, fits_message};
 ghost use Rattle.vz_codec.specs.Fields.{field};
 ghost use Rattle.vz_codec.specs.Giving.{Gives};
-ghost use Rattle.vz_codec.specs.Reading.{bare, named, colour_at, many_at, block_at, messages_at, message_at};
-ghost use Rattle.vz_frame.specs.declared.message.Message.TheVariants.{Close};
+ghost use Rattle.vz_codec.specs.Reading.{colour_at, many_at, block_at, message_at};
 ghost use Rattle.vz_codec.specs.Spelling.{block_bytes, message_bytes};
 
 use crate::error::ReadError;
@@ -50,8 +49,28 @@ impl Field for Messages {
     ghost kind = { λ m. field (message_at m.0) (message_bytes m.0) (fits_message m.0) };
 
     fn read(&self, input: &mut Reader) -> Result<Message, ReadError> {
-        let tag = input.u8_within(FileRule::Tag, UPLOAD, CLOSE)?;
-        self.read_by(tag, input)
+        match input.u8_within(FileRule::Tag, UPLOAD, CLOSE)? {
+            UPLOAD => {
+                let id = input.u32_within(FileRule::Limit, 1, u32::MAX)?;
+                let block = Blocks.read(input)?;
+                Ok(Message::Upload { id, block })
+            }
+            SUBMIT => {
+                let local = Locals.read(input)?;
+                let frame = Frames(self.0).read(input)?;
+                Ok(Message::Submit { local, frame })
+            }
+            DID_NOT_PRODUCE => Ok(Message::DidNotProduce(input.u32()?)),
+            RECLAIM => Ok(Message::Reclaim),
+            SET_ROOT => Ok(Message::SetRoot(Locals.read(input)?)),
+            HIERARCHY => {
+                let parent = Sinks.read(input)?;
+                let child = Sinks.read(input)?;
+                Ok(Message::Hierarchy { parent, child })
+            }
+            AWAIT => Ok(Message::Await),
+            _ => Ok(Message::Close),
+        }
     }
 
     fn write(&self, message: &Message, out: &mut Writer) -> Result<(), AllocError> {
@@ -97,37 +116,6 @@ impl Field for Messages {
     }
 }
 
-impl Messages {
-    /// The message of a tag.
-    fn read_by(&self, tag: u8, input: &mut Reader) -> Result<Message, ReadError>
-        ensures { let read = named 1 (messages_at self.now.0) (bare Close) tag in
-            Gives (λ x. (x, input.new)) result (read input.old) }
-    {
-        match tag {
-            UPLOAD => {
-                let id = input.u32_within(FileRule::Limit, 1, u32::MAX)?;
-                let block = Blocks.read(input)?;
-                Ok(Message::Upload { id, block })
-            }
-            SUBMIT => {
-                let local = Locals.read(input)?;
-                let frame = Frames(self.0).read(input)?;
-                Ok(Message::Submit { local, frame })
-            }
-            DID_NOT_PRODUCE => Ok(Message::DidNotProduce(input.u32()?)),
-            RECLAIM => Ok(Message::Reclaim),
-            SET_ROOT => Ok(Message::SetRoot(Locals.read(input)?)),
-            HIERARCHY => {
-                let parent = Sinks.read(input)?;
-                let child = Sinks.read(input)?;
-                Ok(Message::Hierarchy { parent, child })
-            }
-            AWAIT => Ok(Message::Await),
-            _ => Ok(Message::Close),
-        }
-    }
-}
-
 /// The sides of a block, and its texels row by row.
 #[derive(Drop)]
 struct Blocks;
@@ -145,10 +133,9 @@ impl Field for Blocks {
     }
 
     fn write(&self, block: &PixelBlock, out: &mut Writer) -> Result<(), AllocError> {
-        let pixels = block.pixels();
         out.u16(block.w() as u16)?;
         out.u16(block.h() as u16)?;
-        write_many(&Colours, pixels, out)
+        write_many(&Colours, block.pixels(), out)
     }
 
     /// The sides of a block are 1 to 256.

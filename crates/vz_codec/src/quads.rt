@@ -37,7 +37,7 @@ impl Field for Quads {
         let opacity = input.u8()?;
         let blend = Modes(self.0).read(input)?;
         let material = Materials.read(input)?;
-        let quad = DrawQuad {
+        Ok(DrawQuad {
             offset: Point { x, y },
             area,
             visible,
@@ -45,8 +45,7 @@ impl Field for Quads {
             opacity,
             blend,
             material,
-        };
-        Ok(quad)
+        })
     }
 
     fn write(&self, quad: &DrawQuad, out: &mut Writer) -> Result<(), AllocError> {

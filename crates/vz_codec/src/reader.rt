@@ -77,7 +77,7 @@ impl<'a> Reader<'a> {
     }
 
     /// So many bytes as they stand.
-    fn front(&mut self, count: usize) -> Result<&'a [u8], ReadError>
+    pub fn front(&mut self, count: usize) -> Result<&'a [u8], ReadError>
         ensures { Gives (λ front. (front.now, self.new)) result (front_at count self.old) }
     {
         if self.rest.len() < count {
@@ -110,14 +110,6 @@ impl<'a> Reader<'a> {
     {
         let front = self.front(4)?;
         Ok(LittleEndian::read_u32(front))
-    }
-
-    /// Four bytes as they stand.
-    pub fn four(&mut self) -> Result<[u8; 4], ReadError>
-        ensures { Gives (λ x. (x, self.new)) result (front_at 4 self.old) }
-    {
-        let front = self.front(4)?;
-        Ok([front[0], front[1], front[2], front[3]])
     }
 
     #[tactic(auto, unfolding(crate::specs::Reading::number_at))]

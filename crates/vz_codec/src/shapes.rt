@@ -125,8 +125,8 @@ impl Field for Colours {
     #[tactic(auto, unfolding(crate::specs::Reading::colour_at))]
     fn read(&self, input: &mut Reader) -> Result<Pixel, ReadError> {
         let left = input.left();
-        let [r, g, b, a] = input.four()?;
-        match Pixel::new(r, g, b, a) {
+        let four = input.front(4)?;
+        match Pixel::new(four[0], four[1], four[2], four[3]) {
             Some(colour) => Ok(colour),
             None => Err(ReadError::refused(left, FileRule::Colour)),
         }
