@@ -1,25 +1,17 @@
 -- Numbers of bytes: what is read is spelled so, and what is spelled is read again.
-use Rattle.std.proofs.Common.{◌≡◌, ℕ, ◌+◌, ◌*◌, ◌/◌, ◌%◌, ◌^◌, ◌<◌, ◌≤◌, Bool, true, false, ltb, cond, List, [], ◌∷◌, ◌++◌, length, get_or, take, drop, Ok, Err, refl, sym, ap, ◌∙◌, append_assoc, arith, inl, inr, ◌&&◌}
-use Rattle.std.specs.Int.{Width, w8, w16, w32, w128, byte_len, from_le_bytes, to_le_bytes}
-use Rattle.std.proofs.lemmas.Bool.{cases_lt, ltb-false, le-ltb, lt-ltb, and_from}
-use Rattle.std.proofs.lemmas.List.{take_at, drop_at, take-append-drop, length-append, length-take, get_or-drop, get_or-take, get_or_past}
-use Rattle.std.proofs.lemmas.Nat.{le_bytes_2, le_bytes_4, from_le_bytes-to_le_bytes_2, from_le_bytes-to_le_bytes_4}
-use Rattle.std.proofs.lemmas.Nat.{div-mul-add, mod-mul-add}
-use Rattle.std.proofs.Math.Nat.{div-div-eq-div-mul}
-use Rattle.vz_codec.specs.Reading.{Fault, short, number_at}
+use Rattle.std.proofs.Common.{◌≡◌, ℕ, zero, suc, ◌+◌, ◌-◌, ◌*◌, ◌/◌, ◌%◌, ◌^◌, ◌<◌, Bool, true, ◌&&◌}
+use Rattle.std.proofs.Common.{List, [], ◌∷◌, ◌++◌, length, get_or, drop, refl, sym, ap, ◌∙◌, append_assoc, arith}
+use Rattle.std.specs.Int.{Width, byte_len, byte_at, byte_worth, bytes_low_first, sum_through}
+use Rattle.std.specs.Int.{from_le_bytes, to_le_bytes}
+use Rattle.std.proofs.lemmas.Bool.{and_from}
+use Rattle.std.proofs.lemmas.List.{get_or-drop}
+use Rattle.std.proofs.Math.Nat.{pow-suc, div-div-eq-div-mul}
 
 abbrev pub IsBytes : List ℕ → Type 0
 IsBytes bytes = (i : ℕ) → get_or bytes i 0 < 256
 
 pub IsBytes-drop : (n : ℕ) (bytes : List ℕ) → IsBytes bytes → IsBytes (drop n bytes)
 IsBytes-drop n bytes h i = rw get_or-drop (h (n + i))
-
-IsBytes-take : (n : ℕ) (bytes : List ℕ) → IsBytes bytes → IsBytes (take n bytes)
-IsBytes-take n bytes h i =
-    elim (cases_lt i n) [
-      | inl lt ↦ rw (get_or-take n bytes i 0 lt) (h i)
-      | inr le ↦ rw (get_or_past (take n bytes) i 0 (omega (arith, length-take n bytes))) (omega arith)
-    ]
 
 -- what was taken from the front, and whether it fits
 pub record Took (bytes text rest : List ℕ) (good : Bool) : Type 0 where
@@ -28,7 +20,8 @@ pub record Took (bytes text rest : List ℕ) (good : Bool) : Type 0 where
   pub fits : good ≡ true
 
 -- first one field, and then another
-pub also : {bytes text mid more rest : List ℕ} {p q : Bool} → Took bytes text mid p → Took mid more rest q → Took bytes (text ++ more) rest (p && q)
+pub also : {bytes text mid more rest : List ℕ} {p q : Bool} → Took bytes text mid p → Took mid more rest q
+    → Took bytes (text ++ more) rest (p && q)
 also {bytes} {text} {mid} {more} {rest} {p} {q} t u =
     record {
       parts = t.parts ∙ ap (λ (r : List ℕ). text ++ r) u.parts ∙ sym (append_assoc text more rest);
@@ -36,109 +29,96 @@ also {bytes} {text} {mid} {more} {rest} {p} {q} t u =
       fits = and_from p q t.fits u.fits;
     }
 
--- how numbers of a width stand as bytes
-pub record IsWide (w : Width) (limit : ℕ) : Type 0 where
-  pub len : (n : ℕ) → length (to_le_bytes w n) ≡ byte_len w
-  pub back : (bytes : List ℕ) → length bytes ≡ byte_len w → IsBytes bytes → to_le_bytes w (from_le_bytes w bytes) ≡ bytes
-  pub again : (n : ℕ) → n < limit → from_le_bytes w (to_le_bytes w n) ≡ n
-  pub below : (bytes : List ℕ) → IsBytes bytes → from_le_bytes w bytes < limit
+-- ---- a number by its bytes one after the other, the low one first, and its bytes
 
-byte_back : (bytes : List ℕ) → length bytes ≡ 1 → IsBytes bytes → (get_or bytes 0 0 % 256) ∷ [] ≡ bytes
-byte_back [] l h = absurd (omega arith)
-byte_back (a ∷ []) l h = let small : a < 256 = h 0 in let same : a % 256 ≡ a = omega arith in ap (λ (x : ℕ). x ∷ []) same
-byte_back (a ∷ b ∷ bytes) l h = absurd (omega arith)
+abbrev value : List ℕ → ℕ
+value [] = 0
+value (b ∷ bs) = b + 256 * value bs
 
-pub wide8 : IsWide w8 256
-wide8 =
-    record {
-      len = λ n. refl;
-      back = byte_back;
-      again = λ n lt. omega arith;
-      below = λ bytes fits. fits 0;
-    }
+abbrev spelled : ℕ → ℕ → List ℕ
+spelled zero n = []
+spelled (suc k) n = (n % 256) ∷ spelled k (n / 256)
 
-pub wide16 : IsWide w16 (2 ^ 16)
-wide16 =
-    record {
-      len = λ n. refl;
-      back = λ bytes len fits. le_bytes_2 bytes _ len fits refl;
-      again = λ n lt. from_le_bytes-to_le_bytes_2 n lt;
-      below = λ bytes fits. omega (arith, fits 0, fits 1);
-    }
+spelled_length : (k n : ℕ) → length (spelled k n) ≡ k
+spelled_length zero n = refl
+spelled_length (suc k) n = ap suc (spelled_length k (n / 256))
 
-pub wide32 : IsWide w32 (2 ^ 32)
-wide32 =
-    record {
-      len = λ n. refl;
-      back = λ bytes len fits. le_bytes_4 bytes _ len fits refl;
-      again = λ n lt. from_le_bytes-to_le_bytes_4 n lt;
-      below = λ bytes fits. omega (arith, fits 0, fits 1, fits 2, fits 3);
-    }
+value_spelled : (k n : ℕ) → n < 256 ^ k → value (spelled k n) ≡ n
+value_spelled zero n few = omega arith
+value_spelled (suc k) n few =
+    let p = pow-suc 256 k in
+    let high : n / 256 < 256 ^ k = omega arith in
+    omega (arith, value_spelled k (n / 256) high)
 
-byte_of : (low p x high n : ℕ) → low < p → x < 256 → n ≡ (high * 256 + x) * p + low → n / p % 256 ≡ x
-byte_of low p x high n below small is = ap (λ m. m / p % 256) is ∙ ap (λ m. m % 256) (div-mul-add (high * 256 + x) p low below) ∙ mod-mul-add high 256 x small
+spelled_value : (bs : List ℕ) → IsBytes bs → spelled (length bs) (value bs) ≡ bs
+spelled_value [] small = refl
+spelled_value (b ∷ bs) small =
+    let byte : b < 256 = small 0 in
+    let low : (b + 256 * value bs) % 256 ≡ b = omega arith in
+    let high : (b + 256 * value bs) / 256 ≡ value bs = omega arith in
+    λ i. low i ∷ (ap (spelled (length bs)) high ∙ spelled_value bs (λ j. small (suc j))) i
 
-bytes_16 : (x0 x1 x2 x3 x4 x5 x6 x7 x8 x9 x10 x11 x12 x13 x14 x15 n : ℕ) → x0 < 256 → x1 < 256 → x2 < 256 → x3 < 256 → x4 < 256 → x5 < 256 → x6 < 256 → x7 < 256 → x8 < 256 → x9 < 256 → x10 < 256 → x11 < 256 → x12 < 256 → x13 < 256 → x14 < 256 → x15 < 256 → n ≡ x0 + x1 * 256 + x2 * 65536 + x3 * 16777216 + x4 * 4294967296 + x5 * 1099511627776 + x6 * 281474976710656 + x7 * 72057594037927936 + x8 * 18446744073709551616 + x9 * 4722366482869645213696 + x10 * 1208925819614629174706176 + x11 * 309485009821345068724781056 + x12 * 79228162514264337593543950336 + x13 * 20282409603651670423947251286016 + x14 * 5192296858534827628530496329220096 + x15 * 1329227995784915872903807060280344576 → (n % 256) ∷ (n / 256 % 256) ∷ (n / 65536 % 256) ∷ (n / 16777216 % 256) ∷ (n / 4294967296 % 256) ∷ (n / 1099511627776 % 256) ∷ (n / 281474976710656 % 256) ∷ (n / 72057594037927936 % 256) ∷ (n / 18446744073709551616 % 256) ∷ (n / 4722366482869645213696 % 256) ∷ (n / 1208925819614629174706176 % 256) ∷ (n / 309485009821345068724781056 % 256) ∷ (n / 79228162514264337593543950336 % 256) ∷ (n / 20282409603651670423947251286016 % 256) ∷ (n / 5192296858534827628530496329220096 % 256) ∷ (n / 1329227995784915872903807060280344576 % 256) ∷ [] ≡ x0 ∷ x1 ∷ x2 ∷ x3 ∷ x4 ∷ x5 ∷ x6 ∷ x7 ∷ x8 ∷ x9 ∷ x10 ∷ x11 ∷ x12 ∷ x13 ∷ x14 ∷ x15 ∷ []
-bytes_16 x0 x1 x2 x3 x4 x5 x6 x7 x8 x9 x10 x11 x12 x13 x14 x15 n x0' x1' x2' x3' x4' x5' x6' x7' x8' x9' x10' x11' x12' x13' x14' x15' is =
-    let split : n ≡ (x1 + x2 * 256 + x3 * 65536 + x4 * 16777216 + x5 * 4294967296 + x6 * 1099511627776 + x7 * 281474976710656 + x8 * 72057594037927936 + x9 * 18446744073709551616 + x10 * 4722366482869645213696 + x11 * 1208925819614629174706176 + x12 * 309485009821345068724781056 + x13 * 79228162514264337593543950336 + x14 * 20282409603651670423947251286016 + x15 * 5192296858534827628530496329220096) * 256 + x0 = omega arith in
-    let at_x0 : n % 256 ≡ x0 = ap (λ m. m % 256) split ∙ mod-mul-add (x1 + x2 * 256 + x3 * 65536 + x4 * 16777216 + x5 * 4294967296 + x6 * 1099511627776 + x7 * 281474976710656 + x8 * 72057594037927936 + x9 * 18446744073709551616 + x10 * 4722366482869645213696 + x11 * 1208925819614629174706176 + x12 * 309485009821345068724781056 + x13 * 79228162514264337593543950336 + x14 * 20282409603651670423947251286016 + x15 * 5192296858534827628530496329220096) 256 x0 x0' in
-    let at_x1 = byte_of x0 256 x1 (x2 + x3 * 256 + x4 * 65536 + x5 * 16777216 + x6 * 4294967296 + x7 * 1099511627776 + x8 * 281474976710656 + x9 * 72057594037927936 + x10 * 18446744073709551616 + x11 * 4722366482869645213696 + x12 * 1208925819614629174706176 + x13 * 309485009821345068724781056 + x14 * 79228162514264337593543950336 + x15 * 20282409603651670423947251286016) n (omega arith) x1' (omega arith) in
-    let at_x2 = byte_of (x0 + x1 * 256) 65536 x2 (x3 + x4 * 256 + x5 * 65536 + x6 * 16777216 + x7 * 4294967296 + x8 * 1099511627776 + x9 * 281474976710656 + x10 * 72057594037927936 + x11 * 18446744073709551616 + x12 * 4722366482869645213696 + x13 * 1208925819614629174706176 + x14 * 309485009821345068724781056 + x15 * 79228162514264337593543950336) n (omega arith) x2' (omega arith) in
-    let at_x3 = byte_of (x0 + x1 * 256 + x2 * 65536) 16777216 x3 (x4 + x5 * 256 + x6 * 65536 + x7 * 16777216 + x8 * 4294967296 + x9 * 1099511627776 + x10 * 281474976710656 + x11 * 72057594037927936 + x12 * 18446744073709551616 + x13 * 4722366482869645213696 + x14 * 1208925819614629174706176 + x15 * 309485009821345068724781056) n (omega arith) x3' (omega arith) in
-    let at_x4 = byte_of (x0 + x1 * 256 + x2 * 65536 + x3 * 16777216) 4294967296 x4 (x5 + x6 * 256 + x7 * 65536 + x8 * 16777216 + x9 * 4294967296 + x10 * 1099511627776 + x11 * 281474976710656 + x12 * 72057594037927936 + x13 * 18446744073709551616 + x14 * 4722366482869645213696 + x15 * 1208925819614629174706176) n (omega arith) x4' (omega arith) in
-    let at_x5 = byte_of (x0 + x1 * 256 + x2 * 65536 + x3 * 16777216 + x4 * 4294967296) 1099511627776 x5 (x6 + x7 * 256 + x8 * 65536 + x9 * 16777216 + x10 * 4294967296 + x11 * 1099511627776 + x12 * 281474976710656 + x13 * 72057594037927936 + x14 * 18446744073709551616 + x15 * 4722366482869645213696) n (omega arith) x5' (omega arith) in
-    let at_x6 = byte_of (x0 + x1 * 256 + x2 * 65536 + x3 * 16777216 + x4 * 4294967296 + x5 * 1099511627776) 281474976710656 x6 (x7 + x8 * 256 + x9 * 65536 + x10 * 16777216 + x11 * 4294967296 + x12 * 1099511627776 + x13 * 281474976710656 + x14 * 72057594037927936 + x15 * 18446744073709551616) n (omega arith) x6' (omega arith) in
-    let at_x7 = byte_of (x0 + x1 * 256 + x2 * 65536 + x3 * 16777216 + x4 * 4294967296 + x5 * 1099511627776 + x6 * 281474976710656) 72057594037927936 x7 (x8 + x9 * 256 + x10 * 65536 + x11 * 16777216 + x12 * 4294967296 + x13 * 1099511627776 + x14 * 281474976710656 + x15 * 72057594037927936) n (omega arith) x7' (omega arith) in
-    let at_x8 = byte_of (x0 + x1 * 256 + x2 * 65536 + x3 * 16777216 + x4 * 4294967296 + x5 * 1099511627776 + x6 * 281474976710656 + x7 * 72057594037927936) 18446744073709551616 x8 (x9 + x10 * 256 + x11 * 65536 + x12 * 16777216 + x13 * 4294967296 + x14 * 1099511627776 + x15 * 281474976710656) n (omega arith) x8' (omega arith) in
-    let at_x9 = byte_of (x0 + x1 * 256 + x2 * 65536 + x3 * 16777216 + x4 * 4294967296 + x5 * 1099511627776 + x6 * 281474976710656 + x7 * 72057594037927936 + x8 * 18446744073709551616) 4722366482869645213696 x9 (x10 + x11 * 256 + x12 * 65536 + x13 * 16777216 + x14 * 4294967296 + x15 * 1099511627776) n (omega arith) x9' (omega arith) in
-    let at_x10 = byte_of (x0 + x1 * 256 + x2 * 65536 + x3 * 16777216 + x4 * 4294967296 + x5 * 1099511627776 + x6 * 281474976710656 + x7 * 72057594037927936 + x8 * 18446744073709551616 + x9 * 4722366482869645213696) 1208925819614629174706176 x10 (x11 + x12 * 256 + x13 * 65536 + x14 * 16777216 + x15 * 4294967296) n (omega arith) x10' (omega arith) in
-    let at_x11 = byte_of (x0 + x1 * 256 + x2 * 65536 + x3 * 16777216 + x4 * 4294967296 + x5 * 1099511627776 + x6 * 281474976710656 + x7 * 72057594037927936 + x8 * 18446744073709551616 + x9 * 4722366482869645213696 + x10 * 1208925819614629174706176) 309485009821345068724781056 x11 (x12 + x13 * 256 + x14 * 65536 + x15 * 16777216) n (omega arith) x11' (omega arith) in
-    let at_x12 = byte_of (x0 + x1 * 256 + x2 * 65536 + x3 * 16777216 + x4 * 4294967296 + x5 * 1099511627776 + x6 * 281474976710656 + x7 * 72057594037927936 + x8 * 18446744073709551616 + x9 * 4722366482869645213696 + x10 * 1208925819614629174706176 + x11 * 309485009821345068724781056) 79228162514264337593543950336 x12 (x13 + x14 * 256 + x15 * 65536) n (omega arith) x12' (omega arith) in
-    let at_x13 = byte_of (x0 + x1 * 256 + x2 * 65536 + x3 * 16777216 + x4 * 4294967296 + x5 * 1099511627776 + x6 * 281474976710656 + x7 * 72057594037927936 + x8 * 18446744073709551616 + x9 * 4722366482869645213696 + x10 * 1208925819614629174706176 + x11 * 309485009821345068724781056 + x12 * 79228162514264337593543950336) 20282409603651670423947251286016 x13 (x14 + x15 * 256) n (omega arith) x13' (omega arith) in
-    let at_x14 = byte_of (x0 + x1 * 256 + x2 * 65536 + x3 * 16777216 + x4 * 4294967296 + x5 * 1099511627776 + x6 * 281474976710656 + x7 * 72057594037927936 + x8 * 18446744073709551616 + x9 * 4722366482869645213696 + x10 * 1208925819614629174706176 + x11 * 309485009821345068724781056 + x12 * 79228162514264337593543950336 + x13 * 20282409603651670423947251286016) 5192296858534827628530496329220096 x14 x15 n (omega arith) x14' (omega arith) in
-    let at_x15 = byte_of (x0 + x1 * 256 + x2 * 65536 + x3 * 16777216 + x4 * 4294967296 + x5 * 1099511627776 + x6 * 281474976710656 + x7 * 72057594037927936 + x8 * 18446744073709551616 + x9 * 4722366482869645213696 + x10 * 1208925819614629174706176 + x11 * 309485009821345068724781056 + x12 * 79228162514264337593543950336 + x13 * 20282409603651670423947251286016 + x14 * 5192296858534827628530496329220096) 1329227995784915872903807060280344576 x15 0 n (omega arith) x15' (omega arith) in
-    λ i. at_x0 i ∷ at_x1 i ∷ at_x2 i ∷ at_x3 i ∷ at_x4 i ∷ at_x5 i ∷ at_x6 i ∷ at_x7 i ∷ at_x8 i ∷ at_x9 i ∷ at_x10 i ∷ at_x11 i ∷ at_x12 i ∷ at_x13 i ∷ at_x14 i ∷ at_x15 i ∷ []
+value_below : (bs : List ℕ) → IsBytes bs → value bs < 256 ^ length bs
+value_below [] small = omega arith
+value_below (b ∷ bs) small =
+    let byte : b < 256 = small 0 in
+    omega (arith, pow-suc 256 (length bs), value_below bs (λ j. small (suc j)))
 
-written_16 : (bs : List ℕ) → length bs ≡ 16 → get_or bs 0 0 ∷ get_or bs 1 0 ∷ get_or bs 2 0 ∷ get_or bs 3 0 ∷ get_or bs 4 0 ∷ get_or bs 5 0 ∷ get_or bs 6 0 ∷ get_or bs 7 0 ∷ get_or bs 8 0 ∷ get_or bs 9 0 ∷ get_or bs 10 0 ∷ get_or bs 11 0 ∷ get_or bs 12 0 ∷ get_or bs 13 0 ∷ get_or bs 14 0 ∷ get_or bs 15 0 ∷ [] ≡ bs
-written_16 [] len = absurd (omega arith)
-written_16 (x0 ∷ []) len = absurd (omega arith)
-written_16 (x0 ∷ x1 ∷ []) len = absurd (omega arith)
-written_16 (x0 ∷ x1 ∷ x2 ∷ []) len = absurd (omega arith)
-written_16 (x0 ∷ x1 ∷ x2 ∷ x3 ∷ []) len = absurd (omega arith)
-written_16 (x0 ∷ x1 ∷ x2 ∷ x3 ∷ x4 ∷ []) len = absurd (omega arith)
-written_16 (x0 ∷ x1 ∷ x2 ∷ x3 ∷ x4 ∷ x5 ∷ []) len = absurd (omega arith)
-written_16 (x0 ∷ x1 ∷ x2 ∷ x3 ∷ x4 ∷ x5 ∷ x6 ∷ []) len = absurd (omega arith)
-written_16 (x0 ∷ x1 ∷ x2 ∷ x3 ∷ x4 ∷ x5 ∷ x6 ∷ x7 ∷ []) len = absurd (omega arith)
-written_16 (x0 ∷ x1 ∷ x2 ∷ x3 ∷ x4 ∷ x5 ∷ x6 ∷ x7 ∷ x8 ∷ []) len = absurd (omega arith)
-written_16 (x0 ∷ x1 ∷ x2 ∷ x3 ∷ x4 ∷ x5 ∷ x6 ∷ x7 ∷ x8 ∷ x9 ∷ []) len = absurd (omega arith)
-written_16 (x0 ∷ x1 ∷ x2 ∷ x3 ∷ x4 ∷ x5 ∷ x6 ∷ x7 ∷ x8 ∷ x9 ∷ x10 ∷ []) len = absurd (omega arith)
-written_16 (x0 ∷ x1 ∷ x2 ∷ x3 ∷ x4 ∷ x5 ∷ x6 ∷ x7 ∷ x8 ∷ x9 ∷ x10 ∷ x11 ∷ []) len = absurd (omega arith)
-written_16 (x0 ∷ x1 ∷ x2 ∷ x3 ∷ x4 ∷ x5 ∷ x6 ∷ x7 ∷ x8 ∷ x9 ∷ x10 ∷ x11 ∷ x12 ∷ []) len = absurd (omega arith)
-written_16 (x0 ∷ x1 ∷ x2 ∷ x3 ∷ x4 ∷ x5 ∷ x6 ∷ x7 ∷ x8 ∷ x9 ∷ x10 ∷ x11 ∷ x12 ∷ x13 ∷ []) len = absurd (omega arith)
-written_16 (x0 ∷ x1 ∷ x2 ∷ x3 ∷ x4 ∷ x5 ∷ x6 ∷ x7 ∷ x8 ∷ x9 ∷ x10 ∷ x11 ∷ x12 ∷ x13 ∷ x14 ∷ []) len = absurd (omega arith)
-written_16 (x0 ∷ x1 ∷ x2 ∷ x3 ∷ x4 ∷ x5 ∷ x6 ∷ x7 ∷ x8 ∷ x9 ∷ x10 ∷ x11 ∷ x12 ∷ x13 ∷ x14 ∷ x15 ∷ []) len = refl
-written_16 (x0 ∷ x1 ∷ x2 ∷ x3 ∷ x4 ∷ x5 ∷ x6 ∷ x7 ∷ x8 ∷ x9 ∷ x10 ∷ x11 ∷ x12 ∷ x13 ∷ x14 ∷ x15 ∷ x ∷ bs) len = absurd (omega arith)
+-- ---- the same as one sum and as parts of one number
 
-back_16 : (bytes : List ℕ) → length bytes ≡ 16 → IsBytes bytes → to_le_bytes w128 (from_le_bytes w128 bytes) ≡ bytes
-back_16 bytes len fits = bytes_16 _ _ _ _ _ _ _ _ _ _ _ _ _ _ _ _ (from_le_bytes w128 bytes) (fits 0) (fits 1) (fits 2) (fits 3) (fits 4) (fits 5) (fits 6) (fits 7) (fits 8) (fits 9) (fits 10) (fits 11) (fits 12) (fits 13) (fits 14) (fits 15) refl ∙ written_16 bytes len
+abbrev total : (ℕ → ℕ) → ℕ → ℕ
+total byte k = sum_through (λ i. byte_worth i (byte i)) k
 
-byte_and_rest : (n p : ℕ) → n / p ≡ n / p % 256 + n / (p * 256) * 256
-byte_and_rest n p = omega (arith, div-div-eq-div-mul n p 256)
+scaled : (x p q : ℕ) → q ≡ p * 256 → x * q ≡ 256 * (x * p)
+scaled x p q is = ap (λ m. x * m) is ∙ grind arith
 
-joined_16 : (x0 x1 x2 x3 x4 x5 x6 x7 x8 x9 x10 x11 x12 x13 x14 x15 n p1 p2 p3 p4 p5 p6 p7 p8 p9 p10 p11 p12 p13 p14 p15 : ℕ) → n ≡ x0 + p1 * 256 → p1 ≡ x1 + p2 * 256 → p2 ≡ x2 + p3 * 256 → p3 ≡ x3 + p4 * 256 → p4 ≡ x4 + p5 * 256 → p5 ≡ x5 + p6 * 256 → p6 ≡ x6 + p7 * 256 → p7 ≡ x7 + p8 * 256 → p8 ≡ x8 + p9 * 256 → p9 ≡ x9 + p10 * 256 → p10 ≡ x10 + p11 * 256 → p11 ≡ x11 + p12 * 256 → p12 ≡ x12 + p13 * 256 → p13 ≡ x13 + p14 * 256 → p14 ≡ x14 + p15 * 256 → p15 ≡ x15 → x0 + x1 * 256 + x2 * 65536 + x3 * 16777216 + x4 * 4294967296 + x5 * 1099511627776 + x6 * 281474976710656 + x7 * 72057594037927936 + x8 * 18446744073709551616 + x9 * 4722366482869645213696 + x10 * 1208925819614629174706176 + x11 * 309485009821345068724781056 + x12 * 79228162514264337593543950336 + x13 * 20282409603651670423947251286016 + x14 * 5192296858534827628530496329220096 + x15 * 1329227995784915872903807060280344576 ≡ n
-joined_16 x0 x1 x2 x3 x4 x5 x6 x7 x8 x9 x10 x11 x12 x13 x14 x15 n p1 p2 p3 p4 p5 p6 p7 p8 p9 p10 p11 p12 p13 p14 p15 at_0 at_1 at_2 at_3 at_4 at_5 at_6 at_7 at_8 at_9 at_10 at_11 at_12 at_13 at_14 at_15 = omega arith
+total_step : (byte : ℕ → ℕ) (k : ℕ) → total byte (suc k) ≡ byte 0 + 256 * total (λ i. byte (suc i)) k
+total_step byte zero = omega arith
+total_step byte (suc k) =
+    let last = scaled (byte (suc (suc k))) (256 ^ suc k) (256 ^ suc (suc k)) (pow-suc 256 (suc k)) in
+    omega (arith, total_step byte k, last)
 
-again_16 : (n : ℕ) → n < 2 ^ 128 → from_le_bytes w128 (to_le_bytes w128 n) ≡ n
-again_16 n fits =
-    let low : n ≡ n % 256 + n / 256 * 256 = omega arith in
-    let high : n / 1329227995784915872903807060280344576 ≡ n / 1329227995784915872903807060280344576 % 256 = omega arith in
-    joined_16 _ _ _ _ _ _ _ _ _ _ _ _ _ _ _ _ n _ _ _ _ _ _ _ _ _ _ _ _ _ _ _ low (byte_and_rest n 256) (byte_and_rest n 65536) (byte_and_rest n 16777216) (byte_and_rest n 4294967296) (byte_and_rest n 1099511627776) (byte_and_rest n 281474976710656) (byte_and_rest n 72057594037927936) (byte_and_rest n 18446744073709551616) (byte_and_rest n 4722366482869645213696) (byte_and_rest n 1208925819614629174706176) (byte_and_rest n 309485009821345068724781056) (byte_and_rest n 79228162514264337593543950336) (byte_and_rest n 20282409603651670423947251286016) (byte_and_rest n 5192296858534827628530496329220096) high
+total_is : (k : ℕ) (bs : List ℕ) → length bs ≡ suc k → total (λ i. get_or bs i 0) k ≡ value bs
+total_is k [] len = absurd (omega arith)
+total_is zero (b ∷ []) len = omega arith
+total_is zero (b ∷ c ∷ bs) len = absurd (omega arith)
+total_is (suc k) (b ∷ bs) len =
+    let rest = total_is k bs (omega arith) in
+    total_step (λ i. get_or (b ∷ bs) i 0) k ∙ ap (λ n. b + 256 * n) rest
 
-pub wide128 : IsWide w128 (2 ^ 128)
-wide128 =
-    record {
-      len = λ n. refl;
-      back = back_16;
-      again = again_16;
-      below = λ bytes fits. omega (arith, fits 0, fits 1, fits 2, fits 3, fits 4, fits 5, fits 6, fits 7, fits 8, fits 9, fits 10, fits 11, fits 12, fits 13, fits 14, fits 15);
-    }
+byte_is : (i n : ℕ) → byte_at i n ≡ n / 256 ^ i % 256
+byte_is zero n = omega arith
+byte_is (suc i) n = refl
+
+parts_are : (k i n : ℕ) → bytes_low_first i k n ≡ spelled k (n / 256 ^ i)
+parts_are zero i n = refl
+parts_are (suc k) i n =
+    let next : n / 256 ^ suc i ≡ n / 256 ^ i / 256 =
+    ap (λ p. n / p) (pow-suc 256 i) ∙ sym (div-div-eq-div-mul n (256 ^ i) 256) in
+    λ j. byte_is i n j ∷ (parts_are k (suc i) n ∙ ap (spelled k) next) j
+
+-- ---- numbers of a width
+
+module _ (w : Width) (some : 0 < byte_len w) where
+  bytes_are : (n : ℕ) → to_le_bytes w n ≡ spelled (byte_len w) n
+  bytes_are n =
+      let whole : n / 256 ^ 0 ≡ n = omega arith in
+      parts_are (byte_len w) 0 n ∙ ap (spelled (byte_len w)) whole
+
+  number_is : (bytes : List ℕ) → length bytes ≡ byte_len w → from_le_bytes w bytes ≡ value bytes
+  number_is bytes len = total_is (byte_len w - 1) bytes (omega arith)
+
+  pub le_length : (n : ℕ) → length (to_le_bytes w n) ≡ byte_len w
+  le_length n = ap (λ (bs : List ℕ). length bs) (bytes_are n) ∙ spelled_length (byte_len w) n
+
+  pub le_back : (bytes : List ℕ) → length bytes ≡ byte_len w → IsBytes bytes
+      → to_le_bytes w (from_le_bytes w bytes) ≡ bytes
+  le_back bytes len small =
+      bytes_are (from_le_bytes w bytes) ∙ ap (spelled (byte_len w)) (number_is bytes len)
+      ∙ ap (λ k. spelled k (value bytes)) (sym len) ∙ spelled_value bytes small
+
+  pub le_again : (n : ℕ) → n < 256 ^ byte_len w → from_le_bytes w (to_le_bytes w n) ≡ n
+  le_again n few = number_is (to_le_bytes w n) (le_length n) ∙ ap value (bytes_are n) ∙ value_spelled (byte_len w) n few
+
+  pub le_below : (bytes : List ℕ) → length bytes ≡ byte_len w → IsBytes bytes → from_le_bytes w bytes < 256 ^ byte_len w
+  le_below bytes len small = rw (number_is bytes len, sym len) (value_below bytes small)

@@ -1,8 +1,8 @@
 -- What a reader answers: a value and the bytes after it, a fault by what is left, or no memory.
-use Rattle.std.specs.Prelude.{◌≡◌, ℕ, Result, Ok, Err, List}
+use Rattle.std.specs.Prelude.{◌≡◌, Result, Ok, Err}
 use Rattle.vz_codec.specs.declared.error.ReadError.{ReadError}
 use Rattle.vz_codec.specs.declared.error.ReadError.TheVariants as errors
-use Rattle.vz_codec.specs.Reading.{Fault, Read, front_at}
+use Rattle.vz_codec.specs.Reading.{Fault}
 
 -- reading has the fault that is told, and nothing is said for want of memory
 abbrev pub Fails : {Y : Type 0} → ReadError → Result Y Fault → Type 0
@@ -13,7 +13,3 @@ Fails (errors.Wrong left rule) read = read ≡ Err (record { left = left; rule =
 abbrev pub Gives : {X Y : Type 0} → (X → Y) → Result X ReadError → Result Y Fault → Type 0
 Gives view (Ok x) read = read ≡ Ok (view x)
 Gives view (Err e) read = Fails e read
-
--- four bytes as they stand
-abbrev pub four_at : List ℕ → Read (List ℕ)
-four_at = front_at 4

@@ -1,14 +1,12 @@
 //! Kinds of fields, fields that stand behind a flag, and several in a row.
-ghost use Rattle.std.specs.Prelude.{◌≡◌, ◌++◌, ℕ, Bool, List as Row, OnOk};
-ghost use Rattle.std.specs.Int.{w8};
+ghost use Rattle.std.specs.Prelude.{◌≡◌, ◌++◌, length, OnOk, IfOk};
 ghost use Rattle.std.specs.List.{flat_map, list_all};
-ghost use Rattle.vz_frame.specs.Fits.{fits_optional};
-ghost use Rattle.vz_codec.specs.Fitting.{fits_counted};
+ghost use Rattle.vz_codec.specs.Fields.{Kind, optional, counted};
 ghost use Rattle.vz_codec.specs.Giving.{Gives};
-ghost use Rattle.vz_codec.specs.Reading.{Read, optional_at, many_at, counted_at};
-ghost use Rattle.vz_codec.specs.Spelling.{optional_bytes, counted_bytes};
+ghost use Rattle.vz_codec.specs.Reading.{many_at};
 
 use crate::error::ReadError;
+use crate::fault::FileRule;
 use crate::reader::Reader;
 use crate::writer::Writer;
 use std::alloc::AllocError;
@@ -18,41 +16,31 @@ use vz_frame::List;
 pub trait Field {
     type Value: Drop;
 
-    /// The value at the front of bytes and the bytes after it, or the first fault.
-    ghost value_at: { Self → Row ℕ → Read Self.Value };
-
-    /// The bytes of a value.
-    ghost spelling: { Self → Self.Value → Row ℕ };
-
-    /// Whether every number of a value is in its range.
-    ghost is_fitting: { Self → Self.Value → Bool };
+    /// How a value is read, which bytes spell it, and whether every number of it is in its range.
+    ghost kind: { Self → Kind Self.Value };
 
     fn read(&self, input: &mut Reader) -> Result<Self::Value, ReadError>
-        ensures { Gives (λ x. (x, input.new)) result (value_at self.now input.old) };
+        ensures { Gives (λ x. (x, input.new)) result ((kind self.now).reading input.old) };
 
     fn write(&self, value: &Self::Value, out: &mut Writer) -> Result<(), AllocError>
-        ensures { OnOk result (out.new ≡ out.old ++ spelling self.now value.now) };
+        ensures { OnOk result (out.new ≡ out.old ++ (kind self.now).spelling value.now) };
 
     fn fits(&self, value: &Self::Value) -> bool
-        ensures { result ≡ is_fitting self.now value.now };
+        ensures { result ≡ (kind self.now).fitting value.now };
 }
 
 /// A flag, and the value behind a 1.
 #[derive(Drop)]
 pub struct Optional<F>(pub F);
 
-#[tactic(auto, unfolding(crate::specs::Reading::optional_at), using(crate::proofs::Appended::appended))]
+#[tactic(auto, unfolding(crate::specs::Reading::optional_at, crate::specs::Reading::tagged), using(crate::proofs::Appended::appended))]
 impl<F: Field + Drop> Field for Optional<F> {
     type Value = Option<F::Value>;
 
-    ghost value_at = { λ o. optional_at (F.value_at o.0) };
-
-    ghost spelling = { λ o. optional_bytes (F.spelling o.0) };
-
-    ghost is_fitting = { λ o. fits_optional (F.is_fitting o.0) };
+    ghost kind = { λ o. optional (F.kind o.0) };
 
     fn read(&self, input: &mut Reader) -> Result<Option<F::Value>, ReadError> {
-        if input.tag(0, 1)? == 0 {
+        if input.u8_within(FileRule::Tag, 0, 1)? == 0 {
             return Ok(None);
         }
         Ok(Some(self.0.read(input)?))
@@ -78,36 +66,29 @@ impl<F: Field + Drop> Field for Optional<F> {
 
 /// A count of one byte up to a limit, and so many values.
 #[derive(Drop)]
-pub struct Counted<F> {
-    pub limit: u8,
-    pub field: F,
-}
+pub struct Counted<F>(pub u8, pub F);
 
 #[tactic(auto, unfolding(crate::specs::Reading::counted_at), using(crate::proofs::Appended::appended))]
 impl<F: Field + Drop> Field for Counted<F> {
     type Value = List<F::Value>;
 
-    ghost value_at = { λ c. counted_at w8 (F.value_at c.field) c.limit };
-
-    ghost spelling = { λ c. counted_bytes (F.spelling c.field) };
-
-    ghost is_fitting = { λ c. fits_counted (F.is_fitting c.field) c.limit };
+    ghost kind = { λ c. counted c.0 (F.kind c.1) };
 
     fn read(&self, input: &mut Reader) -> Result<List<F::Value>, ReadError> {
-        let count = input.u8_within(0, self.limit)?;
-        let values = read_many(&self.field, usize::from(count), input)?;
+        let count = input.u8_within(FileRule::Limit, 0, self.0)?;
+        let values = read_many(&self.1, usize::from(count), input)?;
         Ok(List::from_vec(values))
     }
 
     fn write(&self, values: &List<F::Value>, out: &mut Writer) -> Result<(), AllocError> {
         let values = values.as_slice();
         out.u8_count(values.len())?;
-        write_many(&self.field, values, out)
+        write_many(&self.1, values, out)
     }
 
     fn fits(&self, values: &List<F::Value>) -> bool {
         let values = values.as_slice();
-        values.len() <= usize::from(self.limit) && fit_all(&self.field, values)
+        values.len() <= usize::from(self.0) && fit_all(&self.1, values)
     }
 }
 
@@ -117,8 +98,9 @@ pub fn read_many<F: Field>(
     count: usize,
     input: &mut Reader,
 ) -> Result<Vec<F::Value>, ReadError>
-    ensures { let read = many_at (F.value_at field.now) count in
+    ensures given { let read = many_at (F.kind field.now).reading count in
         Gives (λ x. (x.items, input.new)) result (read input.old) }
+    ensures all { IfOk result (λ x. length x.items ≡ count) }
 {
     let mut values = Vec::with_capacity(input.alloc(), count.min(input.left()))?;
 
@@ -138,7 +120,7 @@ pub fn write_many<F: Field>(
     values: &[F::Value],
     out: &mut Writer,
 ) -> Result<(), AllocError>
-    ensures { OnOk result (out.new ≡ out.old ++ flat_map (F.spelling field.now) values.now) }
+    ensures { OnOk result (out.new ≡ out.old ++ flat_map (F.kind field.now).spelling values.now) }
 {
     for value in values {
         field.write(value, out)?;
@@ -148,7 +130,7 @@ pub fn write_many<F: Field>(
 
 /// Whether all of these values fit.
 pub fn fit_all<F: Field>(field: &F, values: &[F::Value]) -> bool
-    ensures { result ≡ list_all (F.is_fitting field.now) values.now }
+    ensures { result ≡ list_all (F.kind field.now).fitting values.now }
 {
     values.iter().all(|value| field.fits(value))
 }

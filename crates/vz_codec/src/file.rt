@@ -3,7 +3,7 @@ ghost use Rattle.std.specs.Prelude.{◌≡◌, ◌++◌, ◌&&◌, ◌==◌, not
 ghost use Rattle.std.specs.List.{list_all};
 ghost use Rattle.vz_frame.specs.Fits.{within, fits_sink, fits_message, fits_file};
 ghost use Rattle.vz_codec.specs.Giving.{Gives};
-ghost use Rattle.vz_codec.specs.Reading.{magic_at, version_at, header_at, ended, file_in};
+ghost use Rattle.vz_codec.specs.Reading.{magic_at, header_at, ended, file_in};
 ghost use Rattle.vz_codec.specs.Spelling.{magic, file_bytes};
 
 use crate::error::ReadError;
@@ -28,10 +28,10 @@ pub fn read_file(alloc: Global, bytes: &[u8]) -> Result<ClientFile, ReadError>
 {
     let mut input = Reader::new(alloc, bytes);
     read_magic(&mut input)?;
-    let format = read_version(&mut input)?;
+    let format = input.u16_within(FileRule::Version, 1, u16::from(NEWEST_FORMAT))? as u8;
     let sink = read_header(&mut input)?;
-    let count = input.u32_within(0, MOST_MESSAGES)?;
-    let messages = read_many(&Messages { format }, count as usize, &mut input)?;
+    let count = input.u32_within(FileRule::Limit, 0, MOST_MESSAGES)?;
+    let messages = read_many(&Messages(format), count as usize, &mut input)?;
     let file = ClientFile {
         format,
         sink,
@@ -41,19 +41,18 @@ pub fn read_file(alloc: Global, bytes: &[u8]) -> Result<ClientFile, ReadError>
 }
 
 /// The file, where no byte is left.
-#[tactic(auto, using(crate::proofs::Steps::ended_there, crate::proofs::Steps::ended_before))]
+#[tactic(auto, unfolding(crate::specs::Reading::ended))]
 fn ended(file: ClientFile, input: &Reader) -> Result<ClientFile, ReadError>
     ensures { Gives (λ f. f) result (ended (file, input.now)) }
 {
-    let left = input.left();
-    if left > 0 {
-        return Err(ReadError::refused(left, FileRule::Trailing));
+    match input.rest() {
+        [] => Ok(file),
+        [_, ..] => Err(ReadError::refused(input.left(), FileRule::Trailing)),
     }
-    Ok(file)
 }
 
 #[tactic(auto, unfolding(crate::specs::Reading::magic_at))]
-fn read_magic(input: &mut Reader) -> Result<u32, ReadError>
+fn read_magic(input: &mut Reader) -> Result<(), ReadError>
     ensures { Gives (λ x. (x, input.new)) result (magic_at input.old) }
 {
     let left = input.left();
@@ -61,19 +60,7 @@ fn read_magic(input: &mut Reader) -> Result<u32, ReadError>
     if magic != MAGIC {
         return Err(ReadError::refused(left, FileRule::Magic));
     }
-    Ok(magic)
-}
-
-#[tactic(auto, unfolding(crate::specs::Reading::version_at))]
-fn read_version(input: &mut Reader) -> Result<u8, ReadError>
-    ensures { Gives (λ x. (x, input.new)) result (version_at input.old) }
-{
-    let left = input.left();
-    let version = input.u16()?;
-    if version < 1 || version > u16::from(NEWEST_FORMAT) {
-        return Err(ReadError::refused(left, FileRule::Version));
-    }
-    Ok(version as u8)
+    Ok(())
 }
 
 /// The sink of a file.
@@ -98,13 +85,7 @@ pub fn write_file(file: &ClientFile, out: &mut Writer) -> Result<(), AllocError>
     out.u16(u16::from(file.format))?;
     Sinks.write(&file.sink, out)?;
     out.u32_count(messages.len())?;
-    write_many(
-        &Messages {
-            format: file.format,
-        },
-        messages,
-        out,
-    )
+    write_many(&Messages(file.format), messages, out)
 }
 
 #[tactic(auto, unfolding(crate::specs::Spelling::u32_bytes))]
@@ -133,7 +114,7 @@ pub fn fits(file: &ClientFile) -> bool
     is_format(format)
         && is_file_sink(file.sink)
         && messages.len() <= MOST_MESSAGES as usize
-        && fit_all(&Messages { format }, messages)
+        && fit_all(&Messages(format), messages)
 }
 
 /// Whether a number is that of a format.

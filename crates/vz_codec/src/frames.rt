@@ -1,11 +1,11 @@
 //! Frames: what stands with them, their resources and passes.
 ghost use Rattle.std.specs.Prelude.{◌≡◌, ◌≤◌, ◌++◌, ◌&&◌, nat_le, length, sum_by, OnOk};
 ghost use Rattle.std.specs.List.{list_all};
-ghost use Rattle.vz_frame.specs.Fits.{fits_optional, fits_surface, fits_range, is_number, fits_listing, fits_pass, fits_frame, within};
-ghost use Rattle.vz_codec.specs.Fitting.{fits_metadata};
+ghost use Rattle.vz_frame.specs.Fits.{fits_optional, fits_listing, fits_pass, fits_frame, within};
+ghost use Rattle.vz_codec.specs.Fields.{field, fits_metadata};
 ghost use Rattle.vz_codec.specs.Giving.{Gives};
 ghost use Rattle.vz_codec.specs.Reading.{pass_at, passes_at, listing_at, deadline_at, metadata_at, frame_at};
-ghost use Rattle.vz_codec.specs.Spelling.{counted_bytes, deadline_bytes, listing_bytes, pass_bytes, metadata_bytes, frame_bytes};
+ghost use Rattle.vz_codec.specs.Spelling.{deadline_bytes, listing_bytes, pass_bytes, metadata_bytes, frame_bytes};
 
 use crate::error::ReadError;
 use crate::fault::FileRule;
@@ -22,58 +22,39 @@ use crate::writer::Writer;
 use std::alloc::AllocError;
 use vz_frame::{CompositorFrame, List, Listing, Metadata, RenderPass};
 
-const DEPENDENCIES: Counted<Surfaces> = Counted {
-    limit: MOST_DEPENDENCIES,
-    field: Surfaces,
-};
+const DEPENDENCIES: Counted<Surfaces> = Counted(MOST_DEPENDENCIES, Surfaces);
 
-const REFERENCES: Counted<Ranges> = Counted {
-    limit: MOST_REFERENCES,
-    field: Ranges,
-};
+const REFERENCES: Counted<Ranges> = Counted(MOST_REFERENCES, Ranges);
 
-const RESOURCES: Counted<Listings> = Counted {
-    limit: MOST_RESOURCES,
-    field: Listings,
-};
+const RESOURCES: Counted<Listings> = Counted(MOST_RESOURCES, Listings);
 
 /// The frames of a file of this format.
 #[derive(Drop)]
-pub struct Frames {
-    pub format: u8,
-}
+pub struct Frames(pub u8);
 
 #[tactic(auto, unfolding(crate::specs::Reading::frame_at, crate::specs::Reading::all_passes_at, crate::specs::Spelling::frame_bytes, vz_frame::specs::Fits::fits_frame), using(crate::proofs::Appended::appended))]
 impl Field for Frames {
     type Value = CompositorFrame;
 
-    ghost value_at = { λ f. frame_at f.format };
-
-    ghost spelling = { λ f. frame_bytes f.format };
-
-    ghost is_fitting = { λ f. fits_frame f.format };
+    ghost kind = { λ f. field (frame_at f.0) (frame_bytes f.0) (fits_frame f.0) };
 
     fn read(&self, input: &mut Reader) -> Result<CompositorFrame, ReadError> {
         let metadata = Metadatas.read(input)?;
         let resources = RESOURCES.read(input)?;
-        let count = input.u8_within(0, MOST_PASSES)?;
-        let passes = read_passes(self.format, count, input)?;
-        let frame = CompositorFrame {
+        let count = input.u8_within(FileRule::Limit, 0, MOST_PASSES)?;
+        let passes = read_passes(self.0, count, input)?;
+        Ok(CompositorFrame {
             metadata,
             resources,
             passes,
-        };
-        Ok(frame)
+        })
     }
 
     fn write(&self, frame: &CompositorFrame, out: &mut Writer) -> Result<(), AllocError> {
-        let passes = Counted {
-            limit: MOST_PASSES,
-            field: self.passes(),
-        };
         Metadatas.write(&frame.metadata, out)?;
         RESOURCES.write(&frame.resources, out)?;
-        passes.write(&frame.passes, out)
+        let passes = Passes(self.0, usize::from(MOST_QUADS));
+        Counted(MOST_PASSES, passes).write(&frame.passes, out)
     }
 
     fn fits(&self, frame: &CompositorFrame) -> bool {
@@ -82,19 +63,7 @@ impl Field for Frames {
             && RESOURCES.fits(&frame.resources)
             && passes.len() <= usize::from(MOST_PASSES)
             && have_few_quads(passes)
-            && fit_all(&self.passes(), passes)
-    }
-}
-
-impl Frames {
-    /// The first pass of a frame.
-    fn passes(&self) -> Passes
-        ensures { result.format ≡ self.now.format }
-    {
-        Passes {
-            format: self.format,
-            room: MOST_QUADS,
-        }
+            && fit_all(&Passes(self.0, usize::from(MOST_QUADS)), passes)
     }
 }
 
@@ -105,11 +74,7 @@ struct Metadatas;
 impl Field for Metadatas {
     type Value = Metadata;
 
-    ghost value_at = { λ _. metadata_at };
-
-    ghost spelling = { λ _. metadata_bytes };
-
-    ghost is_fitting = { λ _. fits_metadata };
+    ghost kind = { λ _. field metadata_at metadata_bytes fits_metadata };
 
     fn read(&self, input: &mut Reader) -> Result<Metadata, ReadError> {
         let token = input.u32()?;
@@ -117,14 +82,13 @@ impl Field for Metadatas {
         let deadline = Deadlines.read(input)?;
         let dependencies = DEPENDENCIES.read(input)?;
         let references = REFERENCES.read(input)?;
-        let metadata = Metadata {
+        Ok(Metadata {
             token,
             ack,
             deadline,
             dependencies,
             references,
-        };
-        Ok(metadata)
+        })
     }
 
     fn write(&self, metadata: &Metadata, out: &mut Writer) -> Result<(), AllocError> {
@@ -154,11 +118,7 @@ struct Deadlines;
 impl Field for Deadlines {
     type Value = Option<u8>;
 
-    ghost value_at = { λ _. deadline_at };
-
-    ghost spelling = { λ _. deadline_bytes };
-
-    ghost is_fitting = { λ _. fits_optional (λ d. nat_le d 64) };
+    ghost kind = { λ _. field deadline_at deadline_bytes (fits_optional (λ d. nat_le d 64)) };
 
     fn read(&self, input: &mut Reader) -> Result<Option<u8>, ReadError> {
         let left = input.left();
@@ -192,16 +152,12 @@ struct Listings;
 impl Field for Listings {
     type Value = Listing;
 
-    ghost value_at = { λ _. listing_at };
-
-    ghost spelling = { λ _. listing_bytes };
-
-    ghost is_fitting = { λ _. fits_listing };
+    ghost kind = { λ _. field listing_at listing_bytes fits_listing };
 
     fn read(&self, input: &mut Reader) -> Result<Listing, ReadError> {
-        let id = input.u32_within(1, u32::MAX)?;
-        let w = input.u16_within(1, MOST_SIDE)?;
-        let h = input.u16_within(1, MOST_SIDE)?;
+        let id = input.u32_within(FileRule::Limit, 1, u32::MAX)?;
+        let w = input.u16_within(FileRule::Limit, 1, MOST_SIDE)?;
+        let h = input.u16_within(FileRule::Limit, 1, MOST_SIDE)?;
         Ok(Listing { id, w, h })
     }
 
@@ -225,37 +181,30 @@ fn is_short_side(number: u16) -> bool
 
 /// The passes of a frame in a file of this format, which has room for so many more quads.
 #[derive(Drop)]
-struct Passes {
-    format: u8,
-    room: u16,
-}
+struct Passes(u8, usize);
 
-#[tactic(auto, unfolding(crate::specs::Reading::pass_at, crate::specs::Reading::counted_at, crate::specs::Spelling::pass_bytes, vz_frame::specs::Fits::fits_pass), using(crate::proofs::Appended::appended))]
+#[tactic(auto, unfolding(crate::specs::Reading::pass_at, crate::specs::Reading::counted_at, crate::specs::Reading::ranged_at, crate::specs::Spelling::pass_bytes, vz_frame::specs::Fits::fits_pass), using(crate::proofs::Appended::appended))]
 impl Field for Passes {
     type Value = RenderPass;
 
-    ghost value_at = { λ p. pass_at p.format p.room };
-
-    ghost spelling = { λ p. pass_bytes p.format };
-
-    ghost is_fitting = { λ p. fits_pass p.format };
+    ghost kind = { λ p. field (pass_at p.0 p.1) (pass_bytes p.0) (fits_pass p.0) };
 
     fn read(&self, input: &mut Reader) -> Result<RenderPass, ReadError> {
         let id = input.u32()?;
         let output = Rects.read(input)?;
         let damage = Rects.read(input)?;
-        let count = input.u16_within(0, self.room)?;
-        let quads = Quads {
-            format: self.format,
-        };
-        let quads = read_many(&quads, usize::from(count), input)?;
-        let pass = RenderPass {
+        let left = input.left();
+        let count = usize::from(input.u16()?);
+        if count > self.1 {
+            return Err(ReadError::refused(left, FileRule::Limit));
+        }
+        let quads = read_many(&Quads(self.0), count, input)?;
+        Ok(RenderPass {
             id,
             output,
             damage,
             quads: List::from_vec(quads),
-        };
-        Ok(pass)
+        })
     }
 
     fn write(&self, pass: &RenderPass, out: &mut Writer) -> Result<(), AllocError> {
@@ -264,23 +213,14 @@ impl Field for Passes {
         Rects.write(&pass.output, out)?;
         Rects.write(&pass.damage, out)?;
         out.u16_count(quads.len())?;
-        write_many(
-            &Quads {
-                format: self.format,
-            },
-            quads,
-            out,
-        )
+        write_many(&Quads(self.0), quads, out)
     }
 
     fn fits(&self, pass: &RenderPass) -> bool {
-        let quads = Quads {
-            format: self.format,
-        };
         is_number(pass.id)
             && Rects.fits(&pass.output)
             && Rects.fits(&pass.damage)
-            && fit_all(&quads, pass.quads.as_slice())
+            && fit_all(&Quads(self.0), pass.quads.as_slice())
     }
 }
 
@@ -289,10 +229,10 @@ fn read_passes(format: u8, count: u8, input: &mut Reader) -> Result<List<RenderP
     ensures { Gives (λ x. (x, input.new)) result (passes_at format count MOST_QUADS input.old) }
 {
     let mut passes = Vec::with_capacity(input.alloc(), usize::from(count).min(input.left()))?;
-    let mut room = MOST_QUADS;
+    let mut room = usize::from(MOST_QUADS);
     for _ in 0..count {
-        let pass = Passes { format, room }.read(input)?;
-        room -= pass.quads.as_slice().len() as u16;
+        let pass = Passes(format, room).read(input)?;
+        room = room.saturating_sub(pass.quads.as_slice().len());
         passes.push(pass)?;
     }
     Ok(List::from_vec(passes))

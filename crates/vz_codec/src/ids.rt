@@ -1,5 +1,6 @@
 //! Ids of sinks and surfaces, and ranges of surfaces.
 ghost use Rattle.vz_frame.specs.Fits.{is_number, fits_sink, fits_local, fits_surface, fits_range};
+ghost use Rattle.vz_codec.specs.Fields.{field};
 ghost use Rattle.vz_codec.specs.Reading.{sink_at, local_at, surface_at, range_at};
 ghost use Rattle.vz_codec.specs.Spelling.{sink_bytes, local_bytes, surface_bytes, range_bytes};
 ghost use Rattle.std.specs.Prelude.{◌≡◌};
@@ -27,11 +28,7 @@ pub struct Sinks;
 impl Field for Sinks {
     type Value = FrameSinkId;
 
-    ghost value_at = { λ _. sink_at };
-
-    ghost spelling = { λ _. sink_bytes };
-
-    ghost is_fitting = { λ _. fits_sink };
+    ghost kind = { λ _. field sink_at sink_bytes fits_sink };
 
     fn read(&self, input: &mut Reader) -> Result<FrameSinkId, ReadError> {
         let client_id = input.u32()?;
@@ -57,27 +54,21 @@ pub struct Locals;
 impl Field for Locals {
     type Value = LocalSurfaceId;
 
-    ghost value_at = { λ _. local_at };
-
-    ghost spelling = { λ _. local_bytes };
-
-    ghost is_fitting = { λ _. fits_local };
+    ghost kind = { λ _. field local_at local_bytes fits_local };
 
     fn read(&self, input: &mut Reader) -> Result<LocalSurfaceId, ReadError> {
         let left = input.left();
         let parent = input.u32()?;
         let child = input.u32()?;
-        let token = input.u128()?;
-        if parent == 0 || child == 0 || token == 0 {
+        let token = EmbedToken(input.u128()?);
+        if parent == 0 || child == 0 || token.0 == 0 {
             return Err(ReadError::refused(left, FileRule::Limit));
         }
-        let token = EmbedToken(token);
-        let local = LocalSurfaceId {
+        Ok(LocalSurfaceId {
             parent,
             child,
             token,
-        };
-        Ok(local)
+        })
     }
 
     fn write(&self, local: &LocalSurfaceId, out: &mut Writer) -> Result<(), AllocError> {
@@ -99,11 +90,7 @@ pub struct Surfaces;
 impl Field for Surfaces {
     type Value = SurfaceId;
 
-    ghost value_at = { λ _. surface_at };
-
-    ghost spelling = { λ _. surface_bytes };
-
-    ghost is_fitting = { λ _. fits_surface };
+    ghost kind = { λ _. field surface_at surface_bytes fits_surface };
 
     fn read(&self, input: &mut Reader) -> Result<SurfaceId, ReadError> {
         let sink = Sinks.read(input)?;
@@ -129,11 +116,7 @@ pub struct Ranges;
 impl Field for Ranges {
     type Value = SurfaceRange;
 
-    ghost value_at = { λ _. range_at };
-
-    ghost spelling = { λ _. range_bytes };
-
-    ghost is_fitting = { λ _. fits_range };
+    ghost kind = { λ _. field range_at range_bytes fits_range };
 
     fn read(&self, input: &mut Reader) -> Result<SurfaceRange, ReadError> {
         let start = Optional(Surfaces).read(input)?;

@@ -1,11 +1,13 @@
 //! Messages, and blocks of pixels.
-ghost use Rattle.std.specs.Prelude.{◌≤◌};
+ghost use Rattle.std.specs.Prelude.{◌≡◌, ◌≤◌, ◌*◌, IfOk};
 ghost use Rattle.vz_frame.specs.Fits.{fits_block, fits_message};
+ghost use Rattle.vz_codec.specs.Fields.{field};
 ghost use Rattle.vz_codec.specs.Giving.{Gives};
-ghost use Rattle.vz_codec.specs.Reading.{texels_at, block_at, message_by, message_at};
+ghost use Rattle.vz_codec.specs.Reading.{colour_at, many_at, block_at, message_at};
 ghost use Rattle.vz_codec.specs.Spelling.{block_bytes, message_bytes};
 
 use crate::error::ReadError;
+use crate::fault::FileRule;
 use crate::field::{Field, fit_all, read_many, write_many};
 use crate::frames::Frames;
 use crate::ids::{Locals, Sinks, is_number};
@@ -38,23 +40,37 @@ const CLOSE: u8 = 8;
 
 /// The messages of a file of this format, each with a tag.
 #[derive(Drop)]
-pub struct Messages {
-    pub format: u8,
-}
+pub struct Messages(pub u8);
 
-#[tactic(auto, unfolding(crate::specs::Reading::message_at, crate::specs::Spelling::message_bytes, vz_frame::specs::Fits::fits_message), using(crate::proofs::Appended::appended))]
+#[tactic(auto, unfolding(crate::specs::Reading::message_at, crate::specs::Reading::tagged, crate::specs::Spelling::message_bytes, vz_frame::specs::Fits::fits_message), using(crate::proofs::Appended::appended))]
 impl Field for Messages {
     type Value = Message;
 
-    ghost value_at = { λ m. message_at m.format };
-
-    ghost spelling = { λ m. message_bytes m.format };
-
-    ghost is_fitting = { λ m. fits_message m.format };
+    ghost kind = { λ m. field (message_at m.0) (message_bytes m.0) (fits_message m.0) };
 
     fn read(&self, input: &mut Reader) -> Result<Message, ReadError> {
-        let tag = input.tag(UPLOAD, CLOSE)?;
-        read_message_by(self.format, tag, input)
+        match input.u8_within(FileRule::Tag, UPLOAD, CLOSE)? {
+            UPLOAD => {
+                let id = input.u32_within(FileRule::Limit, 1, u32::MAX)?;
+                let block = Blocks.read(input)?;
+                Ok(Message::Upload { id, block })
+            }
+            SUBMIT => {
+                let local = Locals.read(input)?;
+                let frame = Frames(self.0).read(input)?;
+                Ok(Message::Submit { local, frame })
+            }
+            DID_NOT_PRODUCE => Ok(Message::DidNotProduce(input.u32()?)),
+            RECLAIM => Ok(Message::Reclaim),
+            SET_ROOT => Ok(Message::SetRoot(Locals.read(input)?)),
+            HIERARCHY => {
+                let parent = Sinks.read(input)?;
+                let child = Sinks.read(input)?;
+                Ok(Message::Hierarchy { parent, child })
+            }
+            AWAIT => Ok(Message::Await),
+            _ => Ok(Message::Close),
+        }
     }
 
     fn write(&self, message: &Message, out: &mut Writer) -> Result<(), AllocError> {
@@ -67,10 +83,7 @@ impl Field for Messages {
             Message::Submit { local, frame } => {
                 out.u8(SUBMIT)?;
                 Locals.write(local, out)?;
-                Frames {
-                    format: self.format,
-                }
-                .write(frame, out)
+                Frames(self.0).write(frame, out)
             }
             Message::DidNotProduce(number) => {
                 out.u8(DID_NOT_PRODUCE)?;
@@ -92,52 +105,14 @@ impl Field for Messages {
     }
 
     fn fits(&self, message: &Message) -> bool {
-        let frames = Frames {
-            format: self.format,
-        };
         match message {
             Message::Upload { id, block } => 1 <= *id && Blocks.fits(block),
-            Message::Submit { local, frame } => Locals.fits(local) && frames.fits(frame),
+            Message::Submit { local, frame } => Locals.fits(local) && Frames(self.0).fits(frame),
             Message::DidNotProduce(number) => is_number(*number),
             Message::SetRoot(local) => Locals.fits(local),
             Message::Hierarchy { parent, child } => Sinks.fits(parent) && Sinks.fits(child),
             Message::Reclaim | Message::Await | Message::Close => true,
         }
-    }
-}
-
-/// The message of a tag.
-#[tactic(auto, unfolding(crate::specs::Reading::message_by, crate::specs::Reading::upload_at, crate::specs::Reading::submit_at, crate::specs::Reading::hierarchy_at))]
-fn read_message_by(format: u8, tag: u8, input: &mut Reader) -> Result<Message, ReadError>
-    ensures { Gives (λ x. (x, input.new)) result (message_by format tag input.old) }
-{
-    match tag {
-        UPLOAD => {
-            let id = input.u32_within(1, u32::MAX)?;
-            let block = Blocks.read(input)?;
-            Ok(Message::Upload { id, block })
-        }
-        SUBMIT => {
-            let local = Locals.read(input)?;
-            let frame = Frames { format }.read(input)?;
-            Ok(Message::Submit { local, frame })
-        }
-        DID_NOT_PRODUCE => {
-            let number = input.u32()?;
-            Ok(Message::DidNotProduce(number))
-        }
-        RECLAIM => Ok(Message::Reclaim),
-        SET_ROOT => {
-            let local = Locals.read(input)?;
-            Ok(Message::SetRoot(local))
-        }
-        HIERARCHY => {
-            let parent = Sinks.read(input)?;
-            let child = Sinks.read(input)?;
-            Ok(Message::Hierarchy { parent, child })
-        }
-        AWAIT => Ok(Message::Await),
-        _ => Ok(Message::Close),
     }
 }
 
@@ -149,23 +124,18 @@ struct Blocks;
 impl Field for Blocks {
     type Value = PixelBlock;
 
-    ghost value_at = { λ _. block_at };
-
-    ghost spelling = { λ _. block_bytes };
-
-    ghost is_fitting = { λ _. fits_block };
+    ghost kind = { λ _. field block_at block_bytes fits_block };
 
     fn read(&self, input: &mut Reader) -> Result<PixelBlock, ReadError> {
-        let w = input.u16_within(1, MOST_SIDE)?;
-        let h = input.u16_within(1, MOST_SIDE)?;
-        read_texels(w, h, input)
+        let w = input.u16_within(FileRule::Limit, 1, MOST_SIDE)?;
+        let h = input.u16_within(FileRule::Limit, 1, MOST_SIDE)?;
+        read_texels(u32::from(w), u32::from(h), input)
     }
 
     fn write(&self, block: &PixelBlock, out: &mut Writer) -> Result<(), AllocError> {
-        let pixels = block.pixels();
         out.u16(block.w() as u16)?;
         out.u16(block.h() as u16)?;
-        write_many(&Colours, pixels, out)
+        write_many(&Colours, block.pixels(), out)
     }
 
     /// The sides of a block are 1 to 256.
@@ -176,22 +146,19 @@ impl Field for Blocks {
 }
 
 /// The block of the texels of these sides.
-fn read_texels(w: u16, h: u16, input: &mut Reader) -> Result<PixelBlock, ReadError>
+fn read_texels(w: u32, h: u32, input: &mut Reader) -> Result<PixelBlock, ReadError>
     requires w { (1 ≤ w) × (w ≤ 256) }
     requires h { (1 ≤ h) × (h ≤ 256) }
-    ensures { Gives (λ x. (x, input.new)) result (texels_at w h input.old) }
+    ensures pixels { let read = many_at colour_at (w * h) in
+        Gives (λ b. (b.pixels, input.new)) result (read input.old) }
+    ensures sides { IfOk result (λ b. (b.w ≡ w) × (b.h ≡ h)) }
 {
-    let count = usize::from(w) * usize::from(h);
+    let count = w as usize * h as usize;
     let size = TEXEL_BYTES * count;
     if input.left() < size {
         return read_each_texel(w, h, input);
     }
-    match PixelBlock::of_bytes(
-        input.alloc(),
-        u32::from(w),
-        u32::from(h),
-        &input.rest()[..size],
-    ) {
+    match PixelBlock::of_bytes(input.alloc(), w, h, &input.rest()[..size]) {
         Ok(block) => {
             input.skip(size);
             Ok(block)
@@ -202,14 +169,16 @@ fn read_texels(w: u16, h: u16, input: &mut Reader) -> Result<PixelBlock, ReadErr
 }
 
 /// The block of the texels of these sides, read one by one, which finds the first fault.
-fn read_each_texel(w: u16, h: u16, input: &mut Reader) -> Result<PixelBlock, ReadError>
+fn read_each_texel(w: u32, h: u32, input: &mut Reader) -> Result<PixelBlock, ReadError>
     requires w { (1 ≤ w) × (w ≤ 256) }
     requires h { (1 ≤ h) × (h ≤ 256) }
-    ensures { Gives (λ x. (x, input.new)) result (texels_at w h input.old) }
+    ensures pixels { let read = many_at colour_at (w * h) in
+        Gives (λ b. (b.pixels, input.new)) result (read input.old) }
+    ensures sides { IfOk result (λ b. (b.w ≡ w) × (b.h ≡ h)) }
 {
-    let count = usize::from(w) * usize::from(h);
+    let count = w as usize * h as usize;
     let pixels = read_many(&Colours, count, input)?;
-    match PixelBlock::of_pixels(input.alloc(), u32::from(w), u32::from(h), pixels) {
+    match PixelBlock::of_pixels(input.alloc(), w, h, pixels) {
         Ok(block) => Ok(block),
         Err(_) => Err(ReadError::Memory),
     }

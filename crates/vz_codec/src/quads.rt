@@ -1,8 +1,9 @@
 //! Quads, their blend modes and their materials.
 ghost use Rattle.std.specs.Prelude.{◌≡◌, ◌++◌, ◌&&◌, ◌==◌, nat_lt, nat_le, ◌^◌, OnOk};
 ghost use Rattle.vz_frame.specs.Fits.{in_reach, fits_mode, fits_material, fits_quad};
+ghost use Rattle.vz_codec.specs.Fields.{field};
 ghost use Rattle.vz_codec.specs.Giving.{Gives};
-ghost use Rattle.vz_codec.specs.Reading.{material_by, material_at, mode_at, quad_at};
+ghost use Rattle.vz_codec.specs.Reading.{material_at, mode_at, quad_at};
 ghost use Rattle.vz_codec.specs.Spelling.{place_bytes, material_bytes, mode_bytes, quad_bytes};
 
 use crate::error::ReadError;
@@ -19,19 +20,13 @@ use vz_geom::Point;
 
 /// The quads of a file of this format.
 #[derive(Drop)]
-pub struct Quads {
-    pub format: u8,
-}
+pub struct Quads(pub u8);
 
 #[tactic(auto, unfolding(crate::specs::Reading::quad_at, crate::specs::Spelling::quad_bytes, vz_frame::specs::Fits::fits_quad), using(crate::proofs::Appended::appended))]
 impl Field for Quads {
     type Value = DrawQuad;
 
-    ghost value_at = { λ q. quad_at q.format };
-
-    ghost spelling = { λ q. quad_bytes q.format };
-
-    ghost is_fitting = { λ q. fits_quad q.format };
+    ghost kind = { λ q. field (quad_at q.0) (quad_bytes q.0) (fits_quad q.0) };
 
     fn read(&self, input: &mut Reader) -> Result<DrawQuad, ReadError> {
         let x = input.coordinate()?;
@@ -40,12 +35,9 @@ impl Field for Quads {
         let visible = Rects.read(input)?;
         let clip = Optional(Rects).read(input)?;
         let opacity = input.u8()?;
-        let blend = Modes {
-            format: self.format,
-        }
-        .read(input)?;
+        let blend = Modes(self.0).read(input)?;
         let material = Materials.read(input)?;
-        let quad = DrawQuad {
+        Ok(DrawQuad {
             offset: Point { x, y },
             area,
             visible,
@@ -53,30 +45,23 @@ impl Field for Quads {
             opacity,
             blend,
             material,
-        };
-        Ok(quad)
+        })
     }
 
     fn write(&self, quad: &DrawQuad, out: &mut Writer) -> Result<(), AllocError> {
-        let modes = Modes {
-            format: self.format,
-        };
         write_place(quad, out)?;
         out.u8(quad.opacity)?;
-        modes.write(&quad.blend, out)?;
+        Modes(self.0).write(&quad.blend, out)?;
         Materials.write(&quad.material, out)
     }
 
     fn fits(&self, quad: &DrawQuad) -> bool {
-        let modes = Modes {
-            format: self.format,
-        };
         fits_offset(&quad.offset)
             && Rects.fits(&quad.area)
             && Rects.fits(&quad.visible)
             && Optional(Rects).fits(&quad.clip)
             && is_byte(quad.opacity)
-            && modes.fits(&quad.blend)
+            && Modes(self.0).fits(&quad.blend)
             && Materials.fits(&quad.material)
     }
 }
@@ -114,35 +99,27 @@ const DST_IN: u8 = 2;
 
 /// Modes by their numbers, which a file of format 1 does not spell.
 #[derive(Drop)]
-struct Modes {
-    format: u8,
-}
+struct Modes(u8);
 
-#[tactic(auto, unfolding(crate::specs::Reading::mode_at))]
+#[tactic(auto, unfolding(crate::specs::Reading::mode_at, crate::specs::Reading::tagged))]
 impl Field for Modes {
     type Value = Blend;
 
-    ghost value_at = { λ m. mode_at m.format };
-
-    ghost spelling = { λ m. mode_bytes m.format };
-
-    ghost is_fitting = { λ m. fits_mode m.format };
+    ghost kind = { λ m. field (mode_at m.0) (mode_bytes m.0) (fits_mode m.0) };
 
     fn read(&self, input: &mut Reader) -> Result<Blend, ReadError> {
-        if self.format == 1 {
+        if self.0 == 1 {
             return Ok(Blend::Over);
         }
-        let number = input.tag(OVER, DST_IN)?;
-        let mode = match number {
-            OVER => Blend::Over,
-            SRC => Blend::Src,
-            _ => Blend::DstIn,
-        };
-        Ok(mode)
+        match input.u8_within(FileRule::Tag, OVER, DST_IN)? {
+            OVER => Ok(Blend::Over),
+            SRC => Ok(Blend::Src),
+            _ => Ok(Blend::DstIn),
+        }
     }
 
     fn write(&self, mode: &Blend, out: &mut Writer) -> Result<(), AllocError> {
-        if self.format == 1 {
+        if self.0 == 1 {
             return Ok(());
         }
         match mode {
@@ -155,7 +132,7 @@ impl Field for Modes {
     fn fits(&self, mode: &Blend) -> bool {
         match mode {
             Blend::Over => true,
-            Blend::Src | Blend::DstIn => self.format != 1,
+            Blend::Src | Blend::DstIn => self.0 != 1,
         }
     }
 }
@@ -172,19 +149,28 @@ const PASS: u8 = 4;
 #[derive(Drop)]
 struct Materials;
 
-#[tactic(auto, unfolding(crate::specs::Reading::material_at, crate::specs::Spelling::material_bytes, vz_frame::specs::Fits::fits_material), using(crate::proofs::Appended::appended))]
+#[tactic(auto, unfolding(crate::specs::Reading::material_at, crate::specs::Reading::tagged, crate::specs::Spelling::material_bytes, vz_frame::specs::Fits::fits_material), using(crate::proofs::Appended::appended))]
 impl Field for Materials {
     type Value = Material;
 
-    ghost value_at = { λ _. material_at };
-
-    ghost spelling = { λ _. material_bytes };
-
-    ghost is_fitting = { λ _. fits_material };
+    ghost kind = { λ _. field material_at material_bytes fits_material };
 
     fn read(&self, input: &mut Reader) -> Result<Material, ReadError> {
-        let tag = input.tag(SOLID, PASS)?;
-        read_material_by(tag, input)
+        match input.u8_within(FileRule::Tag, SOLID, PASS)? {
+            SOLID => Ok(Material::Solid(Colours.read(input)?)),
+            TILE => {
+                let resource = input.u32_within(FileRule::Limit, 1, u32::MAX)?;
+                let tx = input.u16_within(FileRule::Limit, 0, MOST_SIDE - 1)?;
+                let ty = input.u16_within(FileRule::Limit, 0, MOST_SIDE - 1)?;
+                Ok(Material::Tile { resource, tx, ty })
+            }
+            SURFACE => {
+                let range = Ranges.read(input)?;
+                let background = Colours.read(input)?;
+                Ok(Material::Surface { range, background })
+            }
+            _ => Ok(Material::Pass(input.u32()?)),
+        }
     }
 
     fn write(&self, material: &Material, out: &mut Writer) -> Result<(), AllocError> {
@@ -220,34 +206,6 @@ impl Field for Materials {
             Material::Surface { range, background } => Ranges.fits(range)
                 && Colours.fits(background),
             Material::Pass(id) => is_number(*id),
-        }
-    }
-}
-
-/// The material of a tag.
-#[tactic(auto, unfolding(crate::specs::Reading::material_by, crate::specs::Reading::tile_at, crate::specs::Reading::embedding_at))]
-fn read_material_by(tag: u8, input: &mut Reader) -> Result<Material, ReadError>
-    ensures { Gives (λ x. (x, input.new)) result (material_by tag input.old) }
-{
-    match tag {
-        SOLID => {
-            let colour = Colours.read(input)?;
-            Ok(Material::Solid(colour))
-        }
-        TILE => {
-            let resource = input.u32_within(1, u32::MAX)?;
-            let tx = input.u16_within(0, MOST_SIDE - 1)?;
-            let ty = input.u16_within(0, MOST_SIDE - 1)?;
-            Ok(Material::Tile { resource, tx, ty })
-        }
-        SURFACE => {
-            let range = Ranges.read(input)?;
-            let background = Colours.read(input)?;
-            Ok(Material::Surface { range, background })
-        }
-        _ => {
-            let id = input.u32()?;
-            Ok(Material::Pass(id))
         }
     }
 }

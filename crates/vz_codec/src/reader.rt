@@ -1,9 +1,9 @@
 //! Bytes that are read from the front, and the numbers at the front of them, low byte first.
-ghost use Rattle.std.specs.Prelude.{◌≡◌, ◌<◌, ◌≤◌, length, drop};
+ghost use Rattle.std.specs.Prelude.{◌≡◌, ◌<◌, ◌≤◌, length, drop, IfOk};
 ghost use Rattle.std.specs.Int.{w8, w16, w32, w128};
 ghost use Rattle.vz_frame.specs.Fits.{in_reach};
-ghost use Rattle.vz_codec.specs.Giving.{Gives, four_at};
-ghost use Rattle.vz_codec.specs.Reading.{front_at, number_at, limited_at, tag_at, signed_at, coordinate_at};
+ghost use Rattle.vz_codec.specs.Giving.{Gives};
+ghost use Rattle.vz_codec.specs.Reading.{front_at, number_at, ranged_at, signed_at, coordinate_at};
 
 use crate::error::ReadError;
 use crate::fault::FileRule;
@@ -77,7 +77,7 @@ impl<'a> Reader<'a> {
     }
 
     /// So many bytes as they stand.
-    fn front(&mut self, count: usize) -> Result<&'a [u8], ReadError>
+    pub fn front(&mut self, count: usize) -> Result<&'a [u8], ReadError>
         ensures { Gives (λ front. (front.now, self.new)) result (front_at count self.old) }
     {
         if self.rest.len() < count {
@@ -112,14 +112,6 @@ impl<'a> Reader<'a> {
         Ok(LittleEndian::read_u32(front))
     }
 
-    /// Four bytes as they stand.
-    pub fn four(&mut self) -> Result<[u8; 4], ReadError>
-        ensures { Gives (λ x. (x, self.new)) result (four_at self.old) }
-    {
-        let front = self.front(4)?;
-        Ok([front[0], front[1], front[2], front[3]])
-    }
-
     #[tactic(auto, unfolding(crate::specs::Reading::number_at))]
     pub fn u128(&mut self) -> Result<u128, ReadError>
         ensures { Gives (λ x. (x, self.new)) result (number_at w128 self.old) }
@@ -135,54 +127,42 @@ impl<'a> Reader<'a> {
         Ok(self.u32()?.cast_signed())
     }
 
-    /// A number from low to high.
-    #[tactic(auto, unfolding(crate::specs::Reading::limited_at))]
-    pub fn u8_within(&mut self, low: u8, high: u8) -> Result<u8, ReadError>
-        ensures { Gives (λ x. (x, self.new)) result (limited_at w8 low high self.old) }
+    /// A number from low to high, or it breaks this rule.
+    #[tactic(auto, unfolding(crate::specs::Reading::ranged_at))]
+    pub fn u8_within(&mut self, rule: FileRule, low: u8, high: u8) -> Result<u8, ReadError>
+        ensures { Gives (λ x. (x, self.new)) result (ranged_at rule w8 low high self.old) }
     {
         let left = self.left();
         let number = self.u8()?;
         if number < low || number > high {
-            return Err(ReadError::refused(left, FileRule::Limit));
+            return Err(ReadError::refused(left, rule));
         }
         Ok(number)
     }
 
-    /// A number from low to high.
-    #[tactic(auto, unfolding(crate::specs::Reading::limited_at))]
-    pub fn u16_within(&mut self, low: u16, high: u16) -> Result<u16, ReadError>
-        ensures { Gives (λ x. (x, self.new)) result (limited_at w16 low high self.old) }
+    /// A number from low to high, or it breaks this rule.
+    #[tactic(auto, unfolding(crate::specs::Reading::ranged_at))]
+    pub fn u16_within(&mut self, rule: FileRule, low: u16, high: u16) -> Result<u16, ReadError>
+        ensures given { Gives (λ x. (x, self.new)) result (ranged_at rule w16 low high self.old) }
+        ensures range { IfOk result (λ x. (low ≤ x) × (x ≤ high)) }
     {
         let left = self.left();
         let number = self.u16()?;
         if number < low || number > high {
-            return Err(ReadError::refused(left, FileRule::Limit));
+            return Err(ReadError::refused(left, rule));
         }
         Ok(number)
     }
 
-    /// A number from low to high.
-    #[tactic(auto, unfolding(crate::specs::Reading::limited_at))]
-    pub fn u32_within(&mut self, low: u32, high: u32) -> Result<u32, ReadError>
-        ensures { Gives (λ x. (x, self.new)) result (limited_at w32 low high self.old) }
+    /// A number from low to high, or it breaks this rule.
+    #[tactic(auto, unfolding(crate::specs::Reading::ranged_at))]
+    pub fn u32_within(&mut self, rule: FileRule, low: u32, high: u32) -> Result<u32, ReadError>
+        ensures { Gives (λ x. (x, self.new)) result (ranged_at rule w32 low high self.old) }
     {
         let left = self.left();
         let number = self.u32()?;
         if number < low || number > high {
-            return Err(ReadError::refused(left, FileRule::Limit));
-        }
-        Ok(number)
-    }
-
-    /// A tag or a flag from low to high.
-    #[tactic(auto, unfolding(crate::specs::Reading::tag_at))]
-    pub fn tag(&mut self, low: u8, high: u8) -> Result<u8, ReadError>
-        ensures { Gives (λ x. (x, self.new)) result (tag_at low high self.old) }
-    {
-        let left = self.left();
-        let number = self.u8()?;
-        if number < low || number > high {
-            return Err(ReadError::refused(left, FileRule::Tag));
+            return Err(ReadError::refused(left, rule));
         }
         Ok(number)
     }

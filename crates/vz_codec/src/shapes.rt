@@ -1,7 +1,7 @@
 //! Rectangles and colours.
 ghost use Rattle.std.specs.Prelude.{◌≡◌, ◌++◌, ◌&&◌, is_some, IfSome, OnOk};
+ghost use Rattle.vz_codec.specs.Fields.{field, rectangle};
 ghost use Rattle.vz_codec.specs.Reading.{rect_at, colour_at};
-ghost use Rattle.vz_codec.specs.Sides.{rectangle};
 ghost use Rattle.vz_codec.specs.Spelling.{rect_bytes, colour_bytes};
 ghost use Rattle.vz_frame.specs.Fits.{fits_rect, fits_colour, in_reach, is_side, is_zero};
 
@@ -23,11 +23,7 @@ pub struct Rects;
 impl Field for Rects {
     type Value = Rect;
 
-    ghost value_at = { λ _. rect_at };
-
-    ghost spelling = { λ _. rect_bytes };
-
-    ghost is_fitting = { λ _. fits_rect };
+    ghost kind = { λ _. field rect_at rect_bytes fits_rect };
 
     fn read(&self, input: &mut Reader) -> Result<Rect, ReadError> {
         let left = input.left();
@@ -42,7 +38,10 @@ impl Field for Rects {
     }
 
     fn write(&self, rect: &Rect, out: &mut Writer) -> Result<(), AllocError> {
-        write_sides(&sides_of(rect), out)
+        out.i32(rect.x())?;
+        out.i32(rect.y())?;
+        out.i32(rect.w())?;
+        out.i32(rect.h())
     }
 
     fn fits(&self, rect: &Rect) -> bool {
@@ -69,16 +68,6 @@ fn sides_of(rect: &Rect) -> Sides
         w: rect.w(),
         h: rect.h(),
     }
-}
-
-#[tactic(auto, using(crate::proofs::Appended::appended))]
-fn write_sides(sides: &Sides, out: &mut Writer) -> Result<(), AllocError>
-    ensures { OnOk result (out.new ≡ out.old ++ rect_bytes (rectangle sides.now)) }
-{
-    out.i32(sides.x)?;
-    out.i32(sides.y)?;
-    out.i32(sides.w)?;
-    out.i32(sides.h)
 }
 
 /// The rectangle of these numbers, where they are one.
@@ -131,17 +120,13 @@ pub struct Colours;
 impl Field for Colours {
     type Value = Pixel;
 
-    ghost value_at = { λ _. colour_at };
-
-    ghost spelling = { λ _. colour_bytes };
-
-    ghost is_fitting = { λ _. fits_colour };
+    ghost kind = { λ _. field colour_at colour_bytes fits_colour };
 
     #[tactic(auto, unfolding(crate::specs::Reading::colour_at))]
     fn read(&self, input: &mut Reader) -> Result<Pixel, ReadError> {
         let left = input.left();
-        let [r, g, b, a] = input.four()?;
-        match Pixel::new(r, g, b, a) {
+        let four = input.front(4)?;
+        match Pixel::new(four[0], four[1], four[2], four[3]) {
             Some(colour) => Ok(colour),
             None => Err(ReadError::refused(left, FileRule::Colour)),
         }

@@ -1,6 +1,6 @@
 use Rattle.std.proofs.Common.{◌≡◌, true, rules, sym, ◌∙◌}
 use Rattle.vz_frame.specs.Fits.{fits_rect}
-use Rattle.vz_codec.specs.Sides.{rectangle}
+use Rattle.vz_codec.specs.Fields.{rectangle}
 use Rattle.vz_codec.proofs.Rects.{made}
 use Rattle.vz_codec.proofs.shapes.rect_of.Goals as goal
 
