@@ -19,6 +19,7 @@ use vz_geom::{Point, Rect};
 use vz_ids::{SurfaceId, SurfaceRange};
 use vz_pixels::Pixel;
 use vz_scene::frame::root_pass;
+use vz_scene::walk::LEVELS;
 use vz_scene::{ActiveFrames, SubmittedFrame};
 
 /// A painter in the frame of a frame, behind the surfaces of a path and with so many
@@ -336,7 +337,7 @@ pub fn full(active: &ActiveFrames<'_, '_>, root: &SurfaceId, point: Point) -> Pi
         None => Pixel::black(),
         Some(submitted) => {
             if is_inside(submitted, point) {
-                pix(active, 65, &Path::Start, submitted, point, Pixel::black())
+                pix(active, LEVELS, &Path::Start, submitted, point, Pixel::black())
             } else {
                 Pixel::black()
             }

@@ -1,6 +1,7 @@
 //! Whole pictures, row by row.
 ghost use Rattle.std.specs.Prelude.{◌≡◌, ◌≤◌, ◌++◌, pos, map, OnOk, IfOk};
 ghost use Rattle.std.specs.Option.{option_and_then};
+ghost use Rattle.vz_base.specs.declared.limits.TheConstants.{GREATEST_DISPLAY_SIDE};
 ghost use Rattle.vz_geom.specs.Rectangle.{row_points, points_of};
 ghost use Rattle.vz_ids.specs.declared.SurfaceId.{SurfaceId as Root};
 ghost use Rattle.vz_rules.specs.Scene.{scene_at};
@@ -17,8 +18,8 @@ use vz_scene::{ActiveFrames, SubmittedFrame};
 
 /// The point of a column and a row. Condition: both are a display's.
 fn point_at(x: u32, y: u32) -> Point
-    requires across { x ≤ 2048 }
-    requires down { y ≤ 2048 }
+    requires across { x ≤ GREATEST_DISPLAY_SIDE }
+    requires down { y ≤ GREATEST_DISPLAY_SIDE }
     ensures { result ≡ record { x = pos x; y = pos y } }
 {
     Point {
@@ -46,8 +47,8 @@ pub fn row(
     y: u32,
     into: &mut Vec<Pixel>,
 ) -> Result<(), AllocError>
-    requires across { w ≤ 2048 }
-    requires down { y ≤ 2048 }
+    requires across { w ≤ GREATEST_DISPLAY_SIDE }
+    requires down { y ≤ GREATEST_DISPLAY_SIDE }
     ensures { OnOk result (into.new.items
         ≡ into.old.items ++ map (colour_of active.now root.now) (row_points w (pos 0) (pos y))) }
 {

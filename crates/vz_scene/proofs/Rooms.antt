@@ -10,7 +10,7 @@ use Rattle.vz_frame.specs.declared.frame.DrawQuad.{DrawQuad}
 use Rattle.vz_geom.specs.Display.{IsDisplaySize}
 use Rattle.vz_rules.specs.Walk.{Placement}
 use Rattle.vz_rules.specs.World.{FrameData}
-use Rattle.vz_scene.specs.Limits.{FitsFile, HasRoom, IsQuadInReach, room_for}
+use Rattle.vz_scene.specs.Limits.{FitsFile, HasRoom, IsQuadInReach, coordinates, room_for}
 use Rattle.vz_scene.specs.Walking.{IsBounded}
 use Rattle.vz_scene.proofs.Fitting.{few_passes}
 
@@ -20,12 +20,12 @@ room_less far near p h e =
     record { left = omega (arith, ints); right = omega (arith, ints); top = omega (arith, ints); bottom = omega (arith, ints) }
 
 -- moved by an offset
-pub room_plus : (far near : ℕ) (p by : Point) → HasRoom far p → IsOffset by → near + 16384 ≤ far → HasRoom near (plus p by)
+pub room_plus : (far near : ℕ) (p by : Point) → HasRoom far p → IsOffset by → near + coordinates 1 ≤ far → HasRoom near (plus p by)
 room_plus far near p by h o e =
     record { left = omega (arith, ints); right = omega (arith, ints); top = omega (arith, ints); bottom = omega (arith, ints) }
 
 -- and moved back
-pub room_minus : (far near : ℕ) (p by : Point) → HasRoom far p → IsOffset by → near + 16384 ≤ far → HasRoom near (minus p by)
+pub room_minus : (far near : ℕ) (p by : Point) → HasRoom far p → IsOffset by → near + coordinates 1 ≤ far → HasRoom near (minus p by)
 room_minus far near p by h o e =
     record { left = omega (arith, ints); right = omega (arith, ints); top = omega (arith, ints); bottom = omega (arith, ints) }
 
@@ -68,13 +68,13 @@ enter_bounded levels i passes place e fits some_levels some_passes h =
 
 -- a pass before that of a cursor
 pub group_bounded : (levels : ℕ) (i : FrameData) (passes : List RenderPass) (k pass : ℕ) (place : Placement) (first : Point) → passes ≡ i.frame.passes → k < pass → pass < length i.frame.passes → IsOffset first
-    → HasRoom (room_for levels pass + 16384) place.shift → IsBounded levels i k (record place { shift = minus place.shift first })
+    → HasRoom (room_for levels pass + coordinates 1) place.shift → IsBounded levels i k (record place { shift = minus place.shift first })
 group_bounded levels i passes k pass place first e before within is h =
-    record { there = omega arith; room = room_minus (room_for levels pass + 16384) (room_for levels (k + 1)) place.shift first h is (omega arith) }
+    record { there = omega arith; room = room_minus (room_for levels pass + coordinates 1) (room_for levels (k + 1)) place.shift first h is (omega arith) }
 
 -- what a quad draws has room for the passes before and all surfaces that are left
 pub drawn_room : (levels pass : ℕ) (place : Placement) (quad : DrawQuad) → HasRoom (room_for levels (pass + 1)) place.shift → IsQuadInReach quad
-    → HasRoom (room_for levels pass + 16384) (plus (plus place.shift quad.offset) (corner quad.area))
+    → HasRoom (room_for levels pass + coordinates 1) (plus (plus place.shift quad.offset) (corner quad.area))
 drawn_room levels pass place quad h is =
-    let moved = room_plus (room_for levels (pass + 1)) (room_for levels pass + 32768) place.shift quad.offset h is.moves (omega arith) in
-    room_plus (room_for levels pass + 32768) (room_for levels pass + 16384) (plus place.shift quad.offset) (corner quad.area) moved is.drawn.first (omega arith)
+    let moved = room_plus (room_for levels (pass + 1)) (room_for levels pass + coordinates 2) place.shift quad.offset h is.moves (omega arith) in
+    room_plus (room_for levels pass + coordinates 2) (room_for levels pass + coordinates 1) (plus place.shift quad.offset) (corner quad.area) moved is.drawn.first (omega arith)

@@ -1,5 +1,6 @@
 -- Limits of frames that fit a message file, and how far the places of a walk may be moved.
-use Rattle.std.specs.Prelude.{ℕ, pos, ◌+◌, ◌*◌, ◌+ℤ◌, ◌≤ℤ◌, IsTrue, IfSome, Option}
+use Rattle.std.specs.Prelude.{ℕ, pos, unsigned_abs, ◌+◌, ◌*◌, ◌+ℤ◌, ◌≤ℤ◌, IsTrue, IfSome, Option}
+use Rattle.vz_base.specs.declared.limits.TheConstants.{GREATEST_COORDINATE, GREATEST_SIDE, MOST_PASSES}
 use Rattle.vz_geom.specs.declared.Point.{Point}
 use Rattle.vz_geom.specs.Rectangle.{Rectangle, IsOffset, corner}
 use Rattle.vz_frame.specs.declared.frame.CompositorFrame.{CompositorFrame}
@@ -11,13 +12,13 @@ use Rattle.vz_frame.specs.Fits.{fits_frame}
 abbrev pub FitsFile : CompositorFrame → Type 0
 FitsFile frame = (format : ℕ) × IsTrue (fits_frame format frame)
 
--- a rectangle whose first point is a coordinate's, and whose edges are within 32,768
+-- a rectangle whose first point is a coordinate's, and whose edges are no further out than a coordinate and a side
 pub record IsInReach (r : Rectangle) : Type 0 where
   pub first : IsOffset (corner r)
   pub wide : pos 0 ≤ℤ r.w
   pub high : pos 0 ≤ℤ r.h
-  pub right : (r.x +ℤ r.w) ≤ℤ pos 32768
-  pub bottom : (r.y +ℤ r.h) ≤ℤ pos 32768
+  pub right : (r.x +ℤ r.w) ≤ℤ (GREATEST_COORDINATE +ℤ GREATEST_SIDE)
+  pub bottom : (r.y +ℤ r.h) ≤ℤ (GREATEST_COORDINATE +ℤ GREATEST_SIDE)
 
 -- where there is a clip, it is in reach
 abbrev pub IsClipInReach : Option Rectangle → Type 0
@@ -42,6 +43,10 @@ pub record HasRoom (far : ℕ) (p : Point) : Type 0 where
   pub top : pos far ≤ℤ (p.y +ℤ pos 52000000)
   pub bottom : (p.y +ℤ pos far) ≤ℤ pos 52000000
 
--- how far passes may still move places: so many of a frame, and 16 of each of so many surfaces, each by three coordinates at most
+-- how far so many coordinates move a point at most, either way
+abbrev pub coordinates : ℕ → ℕ
+coordinates n = unsigned_abs GREATEST_COORDINATE * n
+
+-- how far passes may still move places: so many of a frame, and all of each of so many surfaces, each by three coordinates at most
 abbrev pub room_for : ℕ → ℕ → ℕ
-room_for levels passes = 49152 * (16 * levels + passes)
+room_for levels passes = coordinates (3 * (MOST_PASSES * levels + passes))

@@ -6,7 +6,7 @@ ghost use Rattle.vz_rules.specs.World.{FrameData};
 ghost use Rattle.vz_rules.specs.Paint.{on_path};
 ghost use Rattle.vz_rules.specs.Walk.{Placement, WalkRange};
 ghost use Rattle.vz_rules.specs.Walk.{place_in, groups_walked, walk, weight, too_much};
-ghost use Rattle.vz_scene.specs.Limits.{HasRoom, IsPassInReach, IsQuadInReach, room_for};
+ghost use Rattle.vz_scene.specs.Limits.{HasRoom, IsPassInReach, IsQuadInReach, coordinates, room_for};
 ghost use Rattle.vz_scene.specs.Walking.{ranges_of, named_of, walked_at};
 ghost use Rattle.vz_scene.specs.Walking.{cursor_walked, maybe_walked, group_at, next_cursor};
 
@@ -158,7 +158,7 @@ impl<'b, 'a> Cursor<'b, 'a> {
         requires pass { IsPassInReach pass.now }
         requires quad { IsQuadInReach quad.now }
         ensures value { result ≡ place_in self.now.place pass.now quad.now }
-        ensures room { HasRoom (room_for self.now.levels self.now.pass + 16384) result.shift }
+        ensures room { HasRoom (room_for self.now.levels self.now.pass + coordinates 1) result.shift }
     {
         self.place.place_in(pass, quad)
     }
@@ -166,7 +166,7 @@ impl<'b, 'a> Cursor<'b, 'a> {
     /// What is to be walked in a pass of an id before the cursor's, seen as a group from a place.
     /// Condition: the place has room for the earlier passes and all surfaces that are left.
     fn group(&self, id: u32, place: &Place) -> Result<Option<Cursor<'b, 'a>>, AllocError>
-        requires { HasRoom (room_for self.now.levels self.now.pass + 16384) place.now.shift }
+        requires { HasRoom (room_for self.now.levels self.now.pass + coordinates 1) place.now.shift }
         ensures { (active : List FrameData)
             → IfOk result (λ o. maybe_walked active o ≡ named_of active self.now id place.now) }
     {

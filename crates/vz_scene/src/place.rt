@@ -4,7 +4,7 @@ ghost use Rattle.vz_geom.specs.Rectangle.{plus, minus, corner, moved, sized, no_
 ghost use Rattle.vz_geom.specs.Rectangle.{IsOffset};
 ghost use Rattle.vz_geom.specs.Display.{IsDisplaySize};
 ghost use Rattle.vz_rules.specs.Walk.{cut, seen_part, place_in, whole};
-ghost use Rattle.vz_scene.specs.Limits.{HasRoom, IsInReach};
+ghost use Rattle.vz_scene.specs.Limits.{HasRoom, IsInReach, coordinates};
 ghost use Rattle.vz_scene.specs.Limits.{IsPassInReach, IsQuadInReach, IsClipInReach};
 
 use std::marker::Model;
@@ -61,7 +61,7 @@ pub fn whole(size: Size) -> Place
 
 /// A point moved by an offset. Condition: it has room for that.
 fn plus(p: Point, by: Point) -> Point
-    requires room { HasRoom 16384 p }
+    requires room { HasRoom (coordinates 1) p }
     requires offset { IsOffset by }
     ensures { result ≡ plus p by }
 {
@@ -107,7 +107,7 @@ impl Place {
     pub fn seen_part(&self, pass: &RenderPass, quad: &DrawQuad) -> Rect
         requires pass { IsPassInReach pass.now }
         requires quad { IsQuadInReach quad.now }
-        requires room { HasRoom 16384 self.now.shift }
+        requires room { HasRoom (coordinates 1) self.now.shift }
         ensures { result ≡ seen_part self.now pass.now quad.now }
     {
         let output = moved(&pass.output, self.shift);
@@ -122,7 +122,7 @@ impl Place {
     pub fn place_in(&self, pass: &RenderPass, quad: &DrawQuad) -> Place
         requires pass { IsPassInReach pass.now }
         requires quad { IsQuadInReach quad.now }
-        requires room { HasRoom 32768 self.now.shift }
+        requires room { HasRoom (coordinates 2) self.now.shift }
         ensures { result ≡ place_in self.now pass.now quad.now }
     {
         let by = plus(self.shift, quad.offset);
@@ -136,7 +136,7 @@ impl Place {
     /// the place has room for its first point.
     pub fn inside(&self, pass: &RenderPass) -> Place
         requires pass { IsPassInReach pass.now }
-        requires room { HasRoom 16384 self.now.shift }
+        requires room { HasRoom (coordinates 1) self.now.shift }
         ensures { result
             ≡ record self.now { shift = minus self.now.shift (corner pass.now.output) } }
     {

@@ -8,6 +8,7 @@ use crate::place::Place;
 use crate::submitted::SubmittedFrame;
 use std::alloc::{AllocError, Global};
 use std::marker::Model;
+use vz_base::limits::{MOST_ON_PATH, MOST_WEIGHT};
 use vz_geom::Rect;
 use vz_ids::SurfaceRange;
 
@@ -51,7 +52,7 @@ impl<'b, 'a> Model for Visit<'b, 'a> {
     ghost view = { λ m. visit_of m.kind };
 }
 
-/// The visits so far, with their weight: at most 65,537 quads are among them.
+/// The visits so far, with their weight: at most one quad more than `MOST_WEIGHT` is among them.
 #[derive(Drop)]
 pub struct Walked<'b, 'a> {
     visits: Vec<Visit<'b, 'a>>,
@@ -133,18 +134,18 @@ impl<'b, 'a> Walked<'b, 'a> {
                 place,
             },
         })?;
-        if depth > 64 {
+        if depth > MOST_ON_PATH {
             self.deep = true;
         }
         Ok(())
     }
 
-    /// Whether more than 65,536 quads are met, or a path has more than 64 surfaces.
+    /// Whether more than `MOST_WEIGHT` quads are met, or a path has more than `MOST_ON_PATH` surfaces.
     #[tactic(auto, unfolding(vz_rules::specs::Walk::too_much, vz_rules::specs::Walk::weight))]
     pub fn is_too_much(&self) -> bool
         ensures { result ≡ too_much self.now }
     {
-        self.quads > 65536 || self.deep
+        self.quads > MOST_WEIGHT || self.deep
     }
 
     /// The visits in order.

@@ -10,8 +10,12 @@ use crate::cursor::{Cursor, enter};
 use crate::place::whole;
 use crate::visit::Walked;
 use std::alloc::{AllocError, Global};
+use vz_base::limits::MOST_ON_PATH;
 use vz_geom::Size;
 use vz_ids::SurfaceId;
+
+/// How many surfaces deep the walk goes: one more than is not too much.
+pub const LEVELS: u32 = MOST_ON_PATH as u32 + 1;
 
 /// A cursor is put on the stack, if there is one.
 fn push_some<'b, 'a>(
@@ -77,8 +81,8 @@ fn run<'b, 'a>(
     Ok(None)
 }
 
-/// The walk from the root pass of the root. None is answered where it is too much, after at most
-/// 65,537 quads. Condition: the size is a display's.
+/// The walk from the root pass of the root. None is answered where it is too much, after at
+/// most one quad more than `MOST_WEIGHT`. Condition: the size is a display's.
 pub fn walk_of<'b, 'a>(
     alloc: Global,
     active: &ActiveFrames<'b, 'a>,
@@ -96,7 +100,7 @@ pub fn walk_of<'b, 'a>(
             let place = whole(size);
             walked.add_enters(1, submitted, place)?;
             let mut stack = Vec::new(alloc);
-            push_some(&mut stack, enter(alloc, 65, &[], submitted, place)?)?;
+            push_some(&mut stack, enter(alloc, LEVELS, &[], submitted, place)?)?;
             Ok(run(alloc, active, stack, walked)?)
         }
     }

@@ -1,5 +1,5 @@
 -- The worlds that a plan leads to: the first one, each next one, and how small their numbers are.
-use Rattle.std.proofs.Common.{◌≡◌, Bool, true, false, Option, Some, None, is_some, List, [], refl, sym, ap, ◌∙◌, arith, subst}
+use Rattle.std.proofs.Common.{◌≡◌, Bool, true, false, Option, Some, None, is_some, List, [], refl, sym, ap, ◌∙◌, subst}
 use Rattle.vz_ids.specs.declared.Sub.{Sub}
 use Rattle.vz_frame.specs.Roomy.{Roomy}
 use Rattle.vz_rules.specs.Plan.{Plan, IsPlan}
@@ -59,8 +59,8 @@ reached_small p w r =
       tick = always.time.tick;
       clients = λ c m.
           record {
-            taken = let few = (small_client p w r.plan always r.keeps_plan c m).1 in omega arith;
-            resources = λ s n. let few = (small_resource p w r.plan always r.keeps_plan c s m n).lent in omega arith;
+            taken = (small_client p w r.plan always r.keeps_plan c m).1;
+            resources = λ s n. (small_resource p w r.plan always r.keeps_plan c s m n).lent;
           };
       accepted = short.subs;
       created = short.surfaces;

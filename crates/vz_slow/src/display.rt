@@ -7,6 +7,7 @@ ghost use Rattle.vz_state.specs.Attached.{attached_sinks};
 
 use crate::world::World;
 use std::alloc::AllocError;
+use vz_base::limits::LAST_TICK;
 use vz_frame::{List, Room};
 use vz_ids::FrameSinkId;
 use vz_rules::{Effects, Plan, Reply};
@@ -14,11 +15,11 @@ use vz_state::{deliver_all, make_room, reached};
 
 /// The tick that follows. Condition: it is at most the last one.
 fn next_tick(tick: u32) -> u32
-    requires { tick ≤ 4294967231 }
+    requires { tick ≤ LAST_TICK }
     ensures value { result ≡ next_tick tick }
-    ensures kept { result ≤ 4294967231 }
+    ensures kept { result ≤ LAST_TICK }
 {
-    if tick == 4294967231 { tick } else { tick + 1 }
+    if tick == LAST_TICK { tick } else { tick + 1 }
 }
 
 impl<'a> World<'a> {
@@ -35,7 +36,7 @@ impl<'a> World<'a> {
     /// A begin-frame: the tick goes on and is delivered. Condition: the tick is none behind the
     /// last one.
     pub fn begin(&mut self, plan: &Plan) -> Result<Reply, AllocError>
-        requires { self.old.tick ≤ 4294967231 }
+        requires { self.old.tick ≤ LAST_TICK }
         ensures { IfOk result (λ r. says r self.new ≡ begin_answer plan.now self.old) }
     {
         let sinks = self.attached_sinks(plan)?;

@@ -8,20 +8,21 @@ ghost use Rattle.vz_rules.specs.Reach.{is_temporary, root_list, roots, reference
 
 use crate::world::World;
 use std::alloc::{AllocError, Global};
+use vz_base::limits::TEMPORARY_TICKS;
 use vz_ids::SurfaceId;
 use vz_scene::ActiveFrames;
 use vz_state::{Surface, active_frames, add_ids, all_shown, exists, has_closed};
 
 impl<'a> World<'a> {
     /// Whether a surface is temporary: it exists, was not named, its client is not closed, and
-    /// it is younger than 16 begin-frames.
+    /// it is younger than `TEMPORARY_TICKS` begin-frames.
     fn is_temporary(&self, surface: &Surface) -> bool
         ensures { result ≡ is_temporary self.now surface.now }
     {
         !surface.is_destroyed()
             && !surface.is_named()
             && !has_closed(&self.clients, surface.client())
-            && u64::from(self.tick) < u64::from(surface.born()) + 16
+            && u64::from(self.tick) < u64::from(surface.born()) + u64::from(TEMPORARY_TICKS)
     }
 
     /// The temporary surfaces.

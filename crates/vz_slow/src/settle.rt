@@ -23,10 +23,10 @@ struct Round<'w, 'a> {
 }
 
 impl<'w, 'a> Model for Round<'w, 'a> {
-    ghost use Rattle.vz_rules.specs.World.{World as Placement};
+    ghost use Rattle.vz_rules.specs.World.{World as State};
     ghost use Rattle.vz_state.specs.Rising.{IsMetBy};
 
-    ghost Value = { Placement };
+    ghost Value = { State };
 
     ghost view = { λ r. r.world.now };
 

@@ -1,5 +1,6 @@
 //! Submissions: why one is refused, and what accepting one changes.
-ghost use Rattle.std.specs.Prelude.{◌≡◌, ◌++◌, ◌∷◌, [], Some, map, ◌≤◌, length, IfOk, OnOk};
+ghost use Rattle.std.specs.Prelude.{◌≡◌, ◌++◌, ◌∷◌, [], Some, map, ◌*◌, ◌≤◌, length, IfOk, OnOk};
+ghost use Rattle.vz_base.specs.declared.limits.TheConstants.{MOST_FILES, MOST_MESSAGES};
 ghost use Rattle.vz_ids.specs.declared.LocalSurfaceId.{LocalSurfaceId as Local};
 ghost use Rattle.vz_rules.specs.World.{Client as ClientState, client_at, last_created};
 ghost use Rattle.vz_rules.specs.Messages.{says, submit_refusal, id_of, blocks_of, new_submission, with_surface, replace_on, accepted, submit_answer};
@@ -51,7 +52,7 @@ impl<'a> World<'a> {
         id: SurfaceId,
         frame: &CompositorFrame,
     ) -> Result<(), AllocError>
-        requires { length self.old.surfaces ≤ 65536 }
+        requires { length self.old.surfaces ≤ MOST_FILES * MOST_MESSAGES }
         ensures { (x : ClientState) (local : Local) → x.number ≡ c → id_of x local ≡ id
             → OnOk result (self.new
             ≡ record self.old { surfaces = with_surface self.old x local frame.now }) }

@@ -23,9 +23,9 @@ pub struct World<'a> {
 }
 
 impl<'a> Model for World<'a> {
-    ghost use Rattle.vz_rules.specs.World.{World as Placement};
+    ghost use Rattle.vz_rules.specs.World.{World as State};
 
-    ghost Value = { Placement };
+    ghost Value = { State };
 
     ghost view = { λ m. record {
       clients = m.clients.items;

@@ -1,15 +1,16 @@
 -- Worlds whose numbers are small, as those are that a plan leads to.
-use Rattle.std.specs.Prelude.{◌≤◌, List, length}
+use Rattle.std.specs.Prelude.{◌≤◌, ◌*◌, List, length}
 use Rattle.std.specs.List.{Contains}
+use Rattle.vz_base.specs.declared.limits.TheConstants.{LAST_TICK, MOST_FILES, MOST_MESSAGES}
 use Rattle.vz_rules.specs.World.{World, Client, Resource}
 
--- no resource was lent often
+-- no resource was lent more often than a client has messages
 abbrev pub AreSmallResources : List Resource → Type 0
-AreSmallResources resources = (r : Resource) → Contains resources r → r.lent ≤ 65536
+AreSmallResources resources = (r : Resource) → Contains resources r → r.lent ≤ MOST_MESSAGES
 
 -- a client took few messages
 pub record IsSmallClient (c : Client) : Type 0 where
-  pub taken : c.taken ≤ 65536
+  pub taken : c.taken ≤ MOST_MESSAGES
   pub resources : AreSmallResources c.resources
 
 -- so it is with each
@@ -18,7 +19,7 @@ AreSmallClients clients = (c : Client) → Contains clients c → IsSmallClient 
 
 -- few submissions were accepted and few surfaces created, and the tick is none of the last ones
 pub record IsSmall (w : World) : Type 0 where
-  pub tick : w.tick ≤ 4294967231
+  pub tick : w.tick ≤ LAST_TICK
   pub clients : AreSmallClients w.clients
-  pub accepted : length w.subs ≤ 65536
-  pub created : length w.surfaces ≤ 65536
+  pub accepted : length w.subs ≤ MOST_FILES * MOST_MESSAGES
+  pub created : length w.surfaces ≤ MOST_FILES * MOST_MESSAGES

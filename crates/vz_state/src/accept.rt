@@ -1,5 +1,6 @@
 //! What accepting a submission counts, replaces and takes along.
-ghost use Rattle.std.specs.Prelude.{◌≡◌, ◌==◌, ◌+◌, ◌++◌, ◌≤◌, map, OnOk, IfOk, [], count_by};
+ghost use Rattle.std.specs.Prelude.{◌≡◌, ◌==◌, ◌+◌, ◌*◌, ◌++◌, ◌≤◌, map, OnOk, IfOk, [], count_by};
+ghost use Rattle.vz_base.specs.declared.limits.TheConstants.{MOST_FILES, MOST_MESSAGES};
 ghost use Rattle.vz_rules.specs.World.{Resource as ResourceState, resource_in, is_on};
 ghost use Rattle.std.specs.List.{cons_option};
 ghost use Rattle.std.specs.Option.{option_map};
@@ -16,7 +17,7 @@ use vz_rules::State;
 
 /// The number behind so many. Condition: they are not many.
 pub fn number_after(count: usize) -> u32
-    requires { count ≤ 65536 }
+    requires { count ≤ MOST_FILES * MOST_MESSAGES }
     ensures { result ≡ count + 1 }
 {
     count as u32 + 1

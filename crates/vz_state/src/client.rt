@@ -2,6 +2,7 @@
 ghost use Rattle.std.specs.Prelude.{◌≡◌, ◌&&◌, ◌==◌, ◌≤◌, length, map, find, IfOk};
 ghost use Rattle.std.specs.List.{list_any};
 ghost use Rattle.std.specs.Option.{option_copied};
+ghost use Rattle.vz_base.specs.declared.limits.TheConstants.{MOST_FILES};
 ghost use Rattle.vz_ids.specs.Ids.{same_sink};
 ghost use Rattle.vz_state.specs.Attached.{deliver_by};
 ghost use Rattle.vz_rules.specs.World.{new_client, new_clients};
@@ -167,7 +168,7 @@ fn new_client<'a>(alloc: Global, number: u32, sink: FrameSinkId) -> Client<'a>
 
 /// The clients of files, numbered from 1 on.
 pub fn new_clients<'a>(alloc: Global, files: &[ClientFile]) -> Result<Vec<Client<'a>>, AllocError>
-    requires { length files.now ≤ 16 }
+    requires { length files.now ≤ MOST_FILES }
     ensures { IfOk result (λ v. v.items ≡ new_clients 1 files.now) }
 {
     let mut clients = Vec::new(alloc);

@@ -2,6 +2,7 @@
 ghost use Rattle.std.specs.Prelude.{◌≡◌, ◌&&◌, ◌==◌, ◌++◌, ◌<◌, ◌≤◌, length, map, take, drop, get_or, OnOk, OnErr};
 ghost use Rattle.std.specs.List.{list_any};
 ghost use Rattle.std.specs.Option.{option_copied};
+ghost use Rattle.vz_base.specs.declared.limits.TheConstants.{MOST_MESSAGES};
 ghost use Rattle.vz_pixels.specs.Block.{Block};
 ghost use Rattle.vz_frame.specs.Frame.{lists};
 ghost use Rattle.vz_rules.specs.World.{Resource as ResourceState, resource_in};
@@ -64,7 +65,7 @@ impl<'a> Resource<'a> {
 
     /// A reference is lent where it is listed. Condition: not many are.
     fn lend(&mut self, listings: &[Listing])
-        requires { self.old.lent ≤ 65536 }
+        requires { self.old.lent ≤ MOST_MESSAGES }
         ensures { self.new ≡ lend listings.now self.old }
     {
         if is_listed(self.id, listings) {

@@ -44,10 +44,10 @@ pub struct Holders<'b, 'a> {
 }
 
 impl<'b, 'a> Model for Holders<'b, 'a> {
-    ghost use Rattle.vz_rules.specs.World.{World as Standing};
+    ghost use Rattle.vz_rules.specs.World.{World as State};
     ghost use Rattle.vz_state.specs.Holding.{holding};
 
-    ghost Value = { Standing };
+    ghost Value = { State };
 
     ghost view = { λ h. holding h.submissions.now h.surfaces.now h.in_flight.now };
 }

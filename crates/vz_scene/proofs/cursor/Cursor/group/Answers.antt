@@ -1,7 +1,7 @@
 use Rattle.std.proofs.Common.{◌+◌, length, subst, sym, ap, refl, ◌∙◌, arith}
 use Rattle.vz_frame.specs.declared.frame.CompositorFrame.{CompositorFrame}
 use Rattle.vz_geom.specs.Rectangle.{corner}
-use Rattle.vz_scene.specs.Limits.{HasRoom, room_for}
+use Rattle.vz_scene.specs.Limits.{HasRoom, coordinates, room_for}
 use Rattle.vz_scene.specs.Walking.{Cursor, IsBounded}
 use Rattle.vz_scene.proofs.Fitting.{pass_at_in_reach}
 use Rattle.vz_scene.proofs.Rooms.{room_less, group_bounded}
@@ -17,7 +17,7 @@ inside-requires-clause-pass c =
 
 pub inside-requires-clause-room : goal.inside-requires-clause-room
 inside-requires-clause-room c =
-    room_less (room_for c.args.self.now.levels c.args.self.now.pass + 16384) 16384 c.args.place.now.shift c.requires (omega arith)
+    room_less (room_for c.args.self.now.levels c.args.self.now.pass + coordinates 1) (coordinates 1) c.args.place.now.shift c.requires (omega arith)
 
 pub invariant_of-result : goal.invariant_of-result
 invariant_of-result c =
@@ -27,7 +27,7 @@ invariant_of-result c =
     let pass = pass_at_in_reach c.frame.result.now c.as_slice-passes.result.now c.in-Some.k c.index-passes-k.result c.frame.ensures.fits c.as_slice-passes.ensures (omega arith) c.index-passes-k.is in
     let place = c.args.place.now in
     let here = c.self.inside in
-    let room : HasRoom (room_for here.levels here.pass + 16384) place.shift = subst (λ (i : Cursor). HasRoom (room_for i.levels i.pass + 16384) place.shift) (sym c.self.view_is) c.requires in
+    let room : HasRoom (room_for here.levels here.pass + coordinates 1) place.shift = subst (λ (i : Cursor). HasRoom (room_for i.levels i.pass + coordinates 1) place.shift) (sym c.self.view_is) c.requires in
     subst (IsBounded here.levels here.submitted.now c.in-Some.k) (sym c.inside.ensures)
     (group_bounded here.levels here.submitted.now here.submitted.now.frame.passes c.in-Some.k here.pass place (corner c.index-passes-k.result.output) refl before there pass.drawn.first room)
 

@@ -1,6 +1,6 @@
 use Rattle.std.proofs.Common.{◌+◌, [], refl, ap, ◌∙◌, arith}
 use Rattle.vz_frame.specs.declared.frame.Material.TheVariants as material
-use Rattle.vz_scene.specs.Limits.{room_for}
+use Rattle.vz_scene.specs.Limits.{coordinates, room_for}
 use Rattle.vz_scene.specs.Walking.{named_of, ranges_of}
 use Rattle.vz_scene.proofs.Rooms.{room_less}
 use Rattle.vz_scene.proofs.Stacking.{quad_more}
@@ -9,7 +9,7 @@ use Rattle.vz_scene.proofs.cursor.Cursor.quad.Goals as goal
 pub range-requires : goal.range-requires
 range-requires c =
     let it = c.args.self.now in
-    room_less (room_for it.levels it.pass + 16384) (room_for it.levels 0) c.place_of-place.result.shift c.place_of-place.ensures.room (omega arith)
+    room_less (room_for it.levels it.pass + coordinates 1) (room_for it.levels 0) c.place_of-place.result.shift c.place_of-place.ensures.room (omega arith)
 
 pub returns-in_ok-group-in-Pass-clause-walked : goal.returns-in_ok-group-in-Pass-clause-walked
 returns-in_ok-group-in-Pass-clause-walked c =

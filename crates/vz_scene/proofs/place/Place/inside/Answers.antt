@@ -1,5 +1,6 @@
 use Rattle.std.proofs.Common.{ap, ◌∙◌, arith}
 use Rattle.vz_geom.specs.Rectangle.{minus, corner}
+use Rattle.vz_scene.specs.Limits.{coordinates}
 use Rattle.vz_scene.proofs.Rooms.{room_minus, place_room, point_room}
 use Rattle.vz_scene.proofs.place.Place.inside.Goals as goal
 
@@ -8,4 +9,4 @@ invariant_of-result c =
     let shift = c.self.inside.shift in
     let first = corner c.args.pass.now.output in
     point_room 0 c.minus.result (minus shift first) (c.minus.ensures ∙ ap (minus shift) c.corner.ensures)
-    (room_minus 16384 0 shift first (place_room 16384 _ c.args.self.now c.self.view_is c.requires.room) c.requires.pass.drawn.first (omega arith))
+    (room_minus (coordinates 1) 0 shift first (place_room (coordinates 1) _ c.args.self.now c.self.view_is c.requires.room) c.requires.pass.drawn.first (omega arith))
