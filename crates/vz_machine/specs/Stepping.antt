@@ -1,16 +1,15 @@
 -- What a step of a machine answers and leaves, and what is asked of its world.
 use Rattle.std.specs.Prelude.{◌≡◌, ℕ, Bool, false, Option, Some, None}
-use Rattle.vz_geom.specs.declared.Point.{Point}
 use Rattle.vz_rules.specs.declared.entry.Event.{Event}
 use Rattle.vz_rules.specs.declared.entry.Event.TheVariants as event
 use Rattle.vz_rules.specs.declared.entry.Reply.{Reply}
 use Rattle.vz_rules.specs.declared.entry.Reply.TheVariants.{Drawn}
 use Rattle.vz_rules.specs.World.{Machine, Client, Scene, client_at}
 use Rattle.vz_rules.specs.Scene.{scene_of}
-use Rattle.vz_rules.specs.Paint.{full}
+use Rattle.vz_rules.specs.Paint.{picture}
 use Rattle.vz_rules.specs.Step.{step_in, is_attached, NamesClient}
 use Rattle.vz_rules.specs.Course.{waits, is_idle, has_answered}
-use Rattle.vz_machine.specs.Pictured.{Pictured}
+use Rattle.vz_machine.specs.Pictured.{Pictured, colours_in}
 use Rattle.vz_machine.specs.declared.machine.Step.{Step}
 
 -- the plan has a client of this number
@@ -26,10 +25,10 @@ pub record Answers (m : Machine) (e : Event) (s : Step) : Type 0 where
 abbrev pub Goes : Machine → Event → Machine → Type 0
 Goes old e new = new ≡ record { plan = old.plan; world = (step_in old.plan old.world e).world }
 
--- a picture of what was to be seen
+-- a picture of what was to be seen, at each point of the display
 pub record IsPictureOf (m : Machine) (scene : Scene) (p : Pictured) : Type 0 where
   pub size : p.size ≡ m.plan.size
-  pub colours : (q : Point) → p.colour q ≡ full scene q
+  pub colours : colours_in p ≡ picture m.plan.size scene
 
 -- there is a picture exactly where something is drawn: of what is to be seen then, and what changed is the damage
 abbrev pub ShowsDrawn : Machine → Reply → Option Pictured → Type 0
