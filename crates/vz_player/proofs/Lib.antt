@@ -1,0 +1,2 @@
+mod Undrawn
+mod Playing
