@@ -1,2 +1,3 @@
 mod Undrawn
+mod Frames
 mod Playing

@@ -2,7 +2,6 @@
 use Rattle.std.proofs.Common.{◌≡◌, ℕ, ◌+◌, ◌≤◌, Bool, true, false, Option, Some, None, Result, Ok, Err, List, [], ◌∷◌, ◌++◌, length, map, reverse, inl, inr, refl, sym, ap, subst, ◌∙◌, arith}
 use Rattle.std.specs.Prelude.{is_some, IfSome, OnErr}
 use Rattle.std.specs.Option.{option_map}
-use Rattle.std.proofs.lemmas.List.{reverse-append, reverse-reverse}
 use Rattle.vz_base.specs.declared.limits.TheConstants.{MOST_FILES}
 use Rattle.vz_geom.specs.declared.Size.{Size}
 use Rattle.vz_geom.specs.Rectangle.{Rectangle}
@@ -18,7 +17,7 @@ use Rattle.vz_rules.specs.declared.entry.Reply.TheVariants.{Drawn}
 use Rattle.vz_rules.specs.declared.entry.Rest.{Rest}
 use Rattle.vz_rules.specs.Log.{rest_in, rest_of}
 use Rattle.vz_rules.specs.Step.{step_in, entry_in, world, world_from, NamesClient, Legal, LegalFrom}
-use Rattle.vz_rules.specs.Frames.{DrawnFrame, drawn_frame_of, drawn_frames, drawn_frames_from, written_of, written, painted}
+use Rattle.vz_rules.specs.Frames.{DrawnFrame, drawn_frame_of, drawn_frames, drawn_frames_from, painted}
 use Rattle.vz_buffers.proofs.Turning.{turns_size}
 use Rattle.vz_rules.proofs.Runs.{world-more, legal-more}
 use Rattle.vz_machine.specs.Pictured.{Pictured}
@@ -26,6 +25,7 @@ use Rattle.vz_machine.specs.Stepping.{Goes, ShowsDrawn}
 use Rattle.vz_display.specs.Displayed.{Displayed, first_displayed, current, buffer_with, display_at, display_after, steps_for}
 use Rattle.vz_display.proofs.Drawings.{first_is, current_is}
 use Rattle.vz_display.proofs.Histories.{drawn_is, written_is, steps_is, other_is}
+use Rattle.vz_player.proofs.Frames.{newest_is}
 use Rattle.vz_player.specs.Played.{Played, machine_of, next_entry, played_on, frames_of, painted_by, display_of, Writes, StopsAt, IsPlayed, shown_with, steps_with}
 
 pub on_err : {A E : Type 0} (r : Result A E) (P : Type 0) → P → OnErr r P
@@ -156,12 +156,10 @@ display_size m d old is going = ap (λ (x : Displayed). x.turns.size) (is.shows 
 -- a display shows the frame that is written last
 pub current_shown : (m : Machine) (d : Displayed) (old : Played) (earlier : List (List Colour)) (frame : List Colour) → IsPlayed m d old → old.stopped ≡ false → frames_of old ≡ earlier ++ frame ∷ []
     → current d ≡ buffer_with old.plan.size frame
-unfolding display_at written
+unfolding display_at
 current_shown m d old earlier frame is going last =
-    let drawn : List DrawnFrame = reverse (drawn_frames old.plan old.history) in
-    let newest : written_of old.plan.size old.buffers drawn ≡ frame ∷ reverse earlier =
-    sym (reverse-reverse (written_of old.plan.size old.buffers drawn)) ∙ (ap reverse last ∙ reverse-append earlier (frame ∷ [])) in
-    ap current (is.shows going) ∙ current_is old.plan.size old.buffers drawn frame (reverse earlier) is.some newest
+    ap current (is.shows going)
+    ∙ current_is old.plan.size old.buffers (reverse (drawn_frames old.plan old.history)) frame (reverse earlier) is.some (newest_is old.plan old.history old.buffers earlier frame last)
 
 -- before the first event
 pub opening_is : (m : Machine) (d : Displayed) (h : List Entry) (size : Size) (count : ℕ) → m.world ≡ opening m.plan → length m.plan.files ≤ MOST_FILES → m.plan.size ≡ size → IsDisplaySize size → 1 ≤ count

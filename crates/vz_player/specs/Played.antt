@@ -13,7 +13,7 @@ use Rattle.vz_rules.specs.Frames.{written, painted}
 use Rattle.vz_machine.specs.Pictured.{Pictured}
 use Rattle.vz_display.specs.Displayed.{Displayed, display_at, shown, steps_for}
 
--- the plan, the history so far, on how many buffers it is shown, and whether want of memory came after a step, before it was shown
+-- the plan, the history so far, how many buffers the display has, and whether want of memory kept the last drawing off it
 pub record Played : Type 0 where
   pub plan : Plan
   pub history : List Entry

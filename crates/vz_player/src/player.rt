@@ -3,6 +3,7 @@ ghost use Rattle.std.specs.Prelude.{◌≡◌, ◌+◌, ◌≤◌, ◌++◌, ◌
 ghost use Rattle.vz_base.specs.declared.limits.TheConstants.{MOST_FILES};
 ghost use Rattle.vz_geom.specs.Display.{IsDisplaySize};
 ghost use Rattle.vz_pixels.specs.Colour.{Colour};
+ghost use Rattle.vz_buffers.specs.Canvas.{pixel_count};
 ghost use Rattle.vz_rules.specs.World.{opening};
 ghost use Rattle.vz_rules.specs.Step.{NamesClient, Legal};
 ghost use Rattle.vz_rules.specs.Log.{rest_of};
@@ -127,8 +128,8 @@ impl<M: Machine + Drop> Player<M> {
         self.history.into_list()
     }
 
-    /// The display. Its current buffer has the last frame that is written. Condition: no want of
-    /// memory has stopped the player.
+    /// The display. Its current buffer has the last frame that is written, which has a pixel for each
+    /// point. Condition: no want of memory has stopped the player.
     pub fn display(&self) -> &Display
         requires { self.now.stopped ≡ false }
         ensures value { result.now ≡ display_of self.now }
@@ -136,6 +137,9 @@ impl<M: Machine + Drop> Player<M> {
         ensures current { (earlier : Row (Row Colour)) (frame : Row Colour)
             → frames_of self.now ≡ earlier ++ frame ∷ []
             → current result.now ≡ buffer_with self.now.plan.size frame }
+        ensures whole { (earlier : Row (Row Colour)) (frame : Row Colour)
+            → frames_of self.now ≡ earlier ++ frame ∷ []
+            → length frame ≡ pixel_count self.now.plan.size }
     {
         &self.display
     }
