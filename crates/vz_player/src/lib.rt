@@ -2,12 +2,12 @@
 //! gate, its history, and a display that shows what is drawn.
 #![tactic(auto)]
 
+mod actors;
 mod gating;
 mod player;
 mod show;
 mod take;
-mod turns;
 
+pub use actors::{Actors, MOST_ACTORS, actor_of};
 pub use gating::{Turn, gated};
 pub use player::Player;
-pub use turns::{MOST_ACTORS, Turns, actor_of};

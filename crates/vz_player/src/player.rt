@@ -10,9 +10,9 @@ ghost use Rattle.vz_rules.specs.Log.{rest_of};
 ghost use Rattle.vz_display.specs.Displayed.{current, buffer_with};
 ghost use Rattle.vz_player.specs.Played.{first_played, played_on, machine_of, display_of, frames_of, painted_by, Writes, StopsAt};
 
+use crate::actors::{Actors, actor_of};
 use crate::show::show_some;
 use crate::take::take_gated;
-use crate::turns::{Turns, actor_of};
 use std::alloc::Global;
 use std::marker::Model;
 use std::sync::ledger::Ledger;
@@ -32,7 +32,7 @@ pub struct Player<M: Machine + Drop> {
     machine: M,
     display: Display,
     history: Room<Entry>,
-    turns: Turns,
+    actors: Actors,
     buffers: u32,
     stopped: bool,
 }
@@ -74,7 +74,7 @@ impl<M: Machine + Drop> Player<M> {
             machine,
             display: Display::new(size, buffers),
             history: Room::new(alloc),
-            turns: Turns::new(),
+            actors: Actors::new(),
             buffers,
             stopped: false,
         }
@@ -103,7 +103,7 @@ impl<M: Machine + Drop> Player<M> {
         ensures err { OnErr result (StopsAt self.old event self.new) }
     {
         self.history.reserve(1)?;
-        let turn = self.turns.next(actor_of(event));
+        let turn = self.actors.next_turn(actor_of(event));
         let (entry, picture) = take_gated(alloc, gate, turn, &mut self.machine, event)?;
         self.history.put(entry);
         self.stopped = true;

@@ -1,6 +1,5 @@
-//! The numbers of the steps of each actor.
-ghost use Rattle.std.specs.Prelude.{◌≡◌, ◌≤◌, ◌<◌, ◌+◌, ◌++◌, ◌∷◌, replicate, length, take, drop, get_or};
-ghost use Rattle.vz_rules.specs.Step.{NamesClient};
+//! Actors, and the numbers of their steps.
+ghost use Rattle.std.specs.Prelude.{◌≡◌, ◌<◌, ◌+◌, ◌++◌, ◌∷◌, replicate, take, drop, get_or};
 ghost use Rattle.vz_player.specs.Played.{next_number, actor_in};
 
 use crate::Turn;
@@ -14,31 +13,31 @@ pub const MOST_ACTORS: usize = MOST_FILES + 1;
 /// How many steps each actor has taken, the display's first and then each client's. A number
 /// stands still at `u64::MAX`.
 #[derive(Drop)]
-pub struct Turns {
+pub struct Actors {
     taken: [u64; MOST_ACTORS],
 }
 
-impl Model for Turns {
+impl Model for Actors {
     ghost use Rattle.std.specs.Prelude.{List, ℕ};
 
     ghost Value = { List ℕ };
 
-    ghost view = { λ t. t.taken };
+    ghost view = { λ a. a.taken };
 }
 
-impl Turns {
+impl Actors {
     /// No step was taken yet.
-    pub fn new() -> Turns
+    pub fn new() -> Actors
         ensures { result ≡ replicate MOST_ACTORS 0 }
     {
-        Turns {
+        Actors {
             taken: [0; MOST_ACTORS],
         }
     }
 
     /// Counts a step of an actor, and tells it as a gate knows it. Condition: it is one of the
     /// actors.
-    pub fn next(&mut self, actor: u32) -> Turn
+    pub fn next_turn(&mut self, actor: u32) -> Turn
         requires { actor < MOST_ACTORS }
         ensures actor { result.actor ≡ actor }
         ensures number { result.number ≡ next_number (get_or self.old actor 0) }
