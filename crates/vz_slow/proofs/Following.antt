@@ -94,3 +94,8 @@ draw_step p w v r a = ap (outcome_of []) a
 pub reached_after : (m : Machine) (e : Event) (r : Reply) (v : World) → IsReached m.plan m.world → outcome_of [] (says r v) ≡ step_in m.plan m.world e
     → IsReached m.plan (outcome_of [] (says r v)).world
 reached_after m e r v h s = subst (λ (o : Outcome). IsReached m.plan o.world) (sym s) (reached_step m.plan m.world e h)
+
+-- what follows leaves the reply
+pub reply_stays : (presented : List Sub) (r q : Reply) (w v : World) (e : Effects) → record { reply = q; effects = e; world = v } ≡ outcome_of presented (says r w) → r ≡ q
+unfolding outcome_of
+reply_stays presented r q w v e is = sym (ap (λ (o : Outcome). o.reply) is)

@@ -1,3 +1,5 @@
+pub mod Asking
+pub mod Attaching
 pub mod Rounds
 pub mod Answering
 pub mod Accepting

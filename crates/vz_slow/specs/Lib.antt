@@ -1,2 +1,4 @@
+pub mod Asked
+pub mod Drawn
 pub mod Reaching
 pub mod Replaying

@@ -5,10 +5,13 @@
 //! what a definition says of a plan and a history.
 #![tactic(auto)]
 
+mod asked;
+mod attached;
 mod collect;
 mod copy;
 mod display;
 mod draw;
+mod drawn;
 pub mod laws;
 mod messages;
 mod naming;

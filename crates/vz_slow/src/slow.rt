@@ -37,9 +37,9 @@ pub(crate) enum Stage<'a> {
 /// flight it keeps room for all that its end gives back and feeds.
 #[derive(Drop)]
 pub struct Slow<'a> {
-    alloc: Global,
-    plan: &'a Plan,
-    stage: Stage<'a>,
+    pub(crate) alloc: Global,
+    pub(crate) plan: &'a Plan,
+    pub(crate) stage: Stage<'a>,
     returned: Room<Returned>,
     fed: Room<Fed>,
 }
@@ -104,7 +104,7 @@ impl<'a> Slow<'a> {
     }
 
     /// A copy of the world, on which a step works until nothing can fail any more.
-    fn copy(&self) -> Result<World<'a>, AllocError>
+    pub(crate) fn copy(&self) -> Result<World<'a>, AllocError>
         ensures { IfOk result (λ w. w ≡ self.now.world) }
     {
         match &self.stage {
@@ -129,7 +129,11 @@ impl<'a> Slow<'a> {
 
     /// What follows an answer that presents nothing. Condition: the plan leads to the world that
     /// is then left.
-    fn finish(&mut self, mut next: World<'a>, reply: Reply) -> Result<(Reply, Effects), AllocError>
+    pub(crate) fn finish(
+        &mut self,
+        mut next: World<'a>,
+        reply: Reply,
+    ) -> Result<(Reply, Effects), AllocError>
         requires { IsReached self.old.plan (outcome_of [] (says reply next)).world }
         ensures ok { IfOk result
             (λ o. IsOutcome (outcome_of [] (says reply next.entry)) o self.new.world) }
@@ -234,7 +238,7 @@ impl<'a> Slow<'a> {
     }
 
     /// The same, of the world as it is kept.
-    fn frames_of_world(&self) -> Result<Vec<SubmittedFrame<'a>>, AllocError>
+    pub(crate) fn frames_of_world(&self) -> Result<Vec<SubmittedFrame<'a>>, AllocError>
         ensures { IfOk result (λ v. v.items ≡ active_frames self.now.world.subs) }
     {
         match &self.stage {

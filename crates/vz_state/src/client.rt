@@ -93,6 +93,13 @@ impl<'a> Client<'a> {
         self.delivered
     }
 
+    /// The tick that it answered last, 0 before it answered one.
+    pub fn answered(&self) -> u32
+        ensures { result ≡ self.now.answered }
+    {
+        self.answered
+    }
+
     /// Whether this is the sink of a client that has closed.
     pub fn has_gone(&self, sink: FrameSinkId) -> bool
         ensures { result ≡ (self.now.closed && same_sink self.now.sink sink) }
@@ -149,8 +156,8 @@ pub fn deliver_all(clients: &mut [Client<'_>], sinks: &[FrameSinkId], tick: u32)
     }
 }
 
-/// A client before its first message.
-fn new_client<'a>(alloc: Global, number: u32, sink: FrameSinkId) -> Client<'a>
+/// A client before its first message. It takes no memory.
+pub fn new_client<'a>(alloc: Global, number: u32, sink: FrameSinkId) -> Client<'a>
     ensures { result ≡ new_client number sink }
 {
     Client {

@@ -11,7 +11,7 @@ use vz_rules::Plan;
 
 /// The file of a client, which is numbered from 1.
 #[tactic(auto, using(std::proofs::lemmas::Option::gets))]
-fn file_of(plan: &Plan, c: u32) -> Option<&ClientFile>
+pub fn file_of(plan: &Plan, c: u32) -> Option<&ClientFile>
     ensures value { option_copied result ≡ file_of plan.now c }
     ensures kept { IsPlan plan.now }
 {

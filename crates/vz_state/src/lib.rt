@@ -25,9 +25,11 @@ mod surface;
 
 pub use accept::{blocks_of, count_created, count_of_client, count_on, number_after, replace_all};
 pub use change::{Change, change_one};
-pub use client::{Client, client_of, deliver_all, has_closed, is_gone, is_known, new_clients};
+pub use client::{
+    Client, client_of, deliver_all, has_closed, is_gone, is_known, new_client, new_clients,
+};
 pub use copy::{copy_clients, copy_submissions};
-pub use files::next_message;
+pub use files::{file_of, next_message};
 pub use flags::{go_on_by, mark_by, name_by};
 pub use held::all_held;
 pub use lost::{by_client, destroy_all, drop_all};

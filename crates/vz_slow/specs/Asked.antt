@@ -1,0 +1,51 @@
+-- What is asked of a machine between steps.
+use Rattle.std.specs.Prelude.{◌≡◌, ◌≤◌, ℕ, Bool, false, Option, Some, None, IsTrue, List, length}
+use Rattle.std.specs.List.{Contains}
+use Rattle.vz_base.specs.declared.limits.TheConstants.{MOST_FILES}
+use Rattle.vz_ids.specs.declared.FrameSinkId.{FrameSinkId}
+use Rattle.vz_rules.specs.Plan.{Plan, has_sink}
+use Rattle.vz_rules.specs.World.{Machine, World, Client, client_at, first_sink}
+use Rattle.vz_rules.specs.Messages.{reaches}
+use Rattle.vz_rules.specs.Step.{is_attached}
+use Rattle.vz_rules.specs.Course.{waits, is_idle, has_answered}
+use Rattle.vz_slow.specs.declared.asked.Asked.{Asked}
+
+-- a test of a client, false where there is none of this number
+abbrev pub tested : Option Client → (Client → Bool) → Bool
+tested None test = false
+tested (Some x) test = test x
+
+-- the next answer of a client would be NotYet
+abbrev pub waits_at : Machine → ℕ → Bool
+waits_at m c = tested (client_at m.world c) (waits m.plan m.world)
+
+-- a client is closed, has no message left or waits
+abbrev pub idle_at : Machine → ℕ → Bool
+idle_at m c = tested (client_at m.world c) (is_idle m.plan m.world)
+
+-- a client has answered the tick
+abbrev pub answered_at : Machine → ℕ → Bool
+answered_at m c = tested (client_at m.world c) (has_answered m.world)
+
+-- a client is attached
+abbrev pub attached_at : Machine → ℕ → Bool
+attached_at m c = tested (client_at m.world c) (is_attached m.plan m.world)
+
+-- what is asked of a client
+abbrev pub asked_of : Plan → World → Client → Asked
+asked_of p w c = record { sink = c.sink; waits = waits p w c; is_idle = is_idle p w c; has_answered = has_answered w c }
+
+-- the first client's sink reaches a sink
+abbrev pub is_below : Plan → List (FrameSinkId × FrameSinkId) → FrameSinkId → Bool
+is_below p relations sink = elim (first_sink p) [ Some first ↦ reaches relations first sink | None ↦ false ]
+
+-- a sink, and each that is related as a child, is among so few as a plan has files
+pub record AreFew (relations : List (FrameSinkId × FrameSinkId)) (from : FrameSinkId) : Type 0 where
+  pub all : List FrameSinkId
+  pub few : length all ≤ MOST_FILES
+  pub first : IsTrue (has_sink all from)
+  pub children : (r : FrameSinkId × FrameSinkId) → Contains relations r → IsTrue (has_sink all r.1)
+
+-- so it is from the first client's sink on
+abbrev pub AreFewFrom : Plan → List (FrameSinkId × FrameSinkId) → Type 0
+AreFewFrom p relations = (first : FrameSinkId) → first_sink p ≡ Some first → AreFew relations first
