@@ -1,5 +1,5 @@
 -- What is asked of a machine between steps.
-use Rattle.std.proofs.Common.{◌≡◌, ℕ, zero, suc, ◌+◌, ◌-◌, ◌<◌, ◌≤◌, Bool, true, false, ◌==◌, Option, Some, None, List, [], ◌∷◌, length, map, find, refl, ap, sym, ◌∙◌, arith, cond, subst, slice_get, Contains}
+use Rattle.std.proofs.Common.{◌≡◌, ℕ, suc, ◌+◌, ◌-◌, ◌<◌, ◌≤◌, Bool, true, false, ◌==◌, Option, Some, None, List, [], ◌∷◌, map, find, refl, ap, sym, ◌∙◌, arith, cond, slice_get, Contains}
 use Rattle.std.specs.Option.{option_map}
 use Rattle.std.proofs.lemmas.Bool.{eqb-true, eqb-false}
 use Rattle.std.proofs.lemmas.List.{length-map}
@@ -8,13 +8,13 @@ use Rattle.vz_ids.specs.Ids.{same_sink}
 use Rattle.vz_frame.specs.declared.message.ClientFile.{ClientFile}
 use Rattle.vz_frame.specs.Frame.{first_of}
 use Rattle.vz_rules.specs.Plan.{Plan, has_sink}
-use Rattle.vz_rules.specs.World.{World, Client, client_at, file_of, first_sink, new_client, new_clients, opening}
+use Rattle.vz_rules.specs.World.{World, Client, client_at, file_of, new_client, new_clients, opening}
 use Rattle.vz_rules.specs.Course.{some_waits}
 use Rattle.vz_rules.specs.Kept.{KeepsFiles}
-use Rattle.vz_rules.proofs.Members.{any_from, contains_here, contains_none, map_contains}
+use Rattle.vz_rules.proofs.Members.{any_from, contains_here, map_contains}
 use Rattle.vz_rules.proofs.Reached.{self_same_sink}
 use Rattle.vz_slow.specs.declared.asked.Asked.{Asked}
-use Rattle.vz_slow.specs.Asked.{AreFew, AreFewFrom, asked_of}
+use Rattle.vz_slow.specs.Asked.{AreFewFrom, asked_of}
 use Rattle.vz_slow.specs.Reaching.{IsReached}
 
 some_same : {A : Type 0} {x y : A} → Some x ≡ Some y → x ≡ y

@@ -1,0 +1,32 @@
+//! The picture of a drawing.
+ghost use Rattle.std.specs.Prelude.{◌≡◌, length, IfSome};
+ghost use Rattle.std.specs.Option.{option_map};
+ghost use Rattle.vz_buffers.specs.Canvas.{pixel_count};
+ghost use Rattle.vz_geom.specs.Display.{IsDisplaySize};
+ghost use Rattle.vz_plain_machine.specs.Drawing.{CoversDamage, pictured};
+
+use vz_geom::Size;
+use vz_machine::PixelPicture;
+use vz_pixels::Pixel;
+use vz_rules::Reply;
+
+/// The picture of what was drawn, if an answer is Drawn. Conditions: a display's size, a pixel
+/// for each point where there are pixels, and a damage that is on the display.
+pub(crate) fn picture_of(
+    size: Size,
+    reply: &Reply,
+    pixels: Option<Vec<Pixel>>,
+) -> Option<PixelPicture>
+    requires sides { IsDisplaySize size }
+    requires all { IfSome pixels (λ v. length v.items ≡ pixel_count size) }
+    requires inside { CoversDamage size reply.now }
+    ensures { result ≡ pictured size reply.now (option_map (λ v. v.items) pixels) }
+{
+    match reply {
+        Reply::Drawn(damage) => match pixels {
+            None => None,
+            Some(pixels) => Some(PixelPicture::new(size, pixels, *damage)),
+        },
+        _ => None,
+    }
+}
