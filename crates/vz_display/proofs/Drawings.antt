@@ -141,10 +141,6 @@ steps_are size (suc k) before s some = steps_by size k before s
 
 -- The frames
 
-map_same : {A B : Type 0} (f g : A → B) (xs : List A) → ((x : A) → f x ≡ g x) → map f xs ≡ map g xs
-map_same f g [] h = refl
-map_same f g (x ∷ xs) h = ap (λ y. y ∷ map f xs) (h x) ∙ ap (λ l. g x ∷ l) (map_same f g xs h)
-
 -- a part with all points of a list changes all
 patched_all : (part : Rectangle) (ps : List Point) (f : Point → Colour) (olds : List Colour) → ((p : Point) → Contains ps p → has part p ≡ true) → patched part ps (map f ps) olds ≡ map f ps
 unfolding patched
@@ -164,7 +160,7 @@ whole_stale size count drawn few =
     ap (λ t. if t then sized size else bound (map (λ (s : DrawnFrame). s.damage) (take count drawn))) test
 
 -- the frame of a picture is the one that is written
-frame_by : (size : Size) (k : ℕ) (before : List DrawnFrame) (scene : Scene) (p : Pictured) → IsDisplaySize size → p.size ≡ size → ((q : Point) → p.colour q ≡ full scene q)
+frame_by : (size : Size) (k : ℕ) (before : List DrawnFrame) (scene : Scene) (p : Pictured) → IsDisplaySize size → p.size ≡ size → colours_in p ≡ picture size scene
     → frame_of (display_after size (suc k) before) p ≡ repainted size (stale size (suc k) (record { scene = Some scene; damage = p.changed } ∷ before)) (Some scene) (slice_get (written_of size (suc k) before) k)
 unfolding frame_of repainted picture_of picture
 frame_by size k before scene p sides same colours =
@@ -172,10 +168,9 @@ frame_by size k before scene p sides same colours =
     let s : DrawnFrame = record { scene = Some scene; damage = p.changed } in
     let part : Rectangle = stale size (suc k) (s ∷ before) in
     let olds : List Colour = pixels_in d.turns.size (last_in d.kept) in
-    let new : colours_in p ≡ map (full scene) (points_of size) = ap (λ z. map p.colour (points_of z)) same ∙ map_same p.colour (full scene) (points_of size) colours in
     ap (λ x. patched x (points_of p.size) (colours_in p) olds) (stale_after size (suc k) s before (omega arith))
     ∙ (ap (λ z. patched part (points_of z) (colours_in p) olds) same
-    ∙ (ap (λ l. patched part (points_of size) l olds) new
+    ∙ (ap (λ l. patched part (points_of size) l olds) colours
     ∙ (ap (λ z. patched part (points_of size) (map (full scene) (points_of size)) (pixels_in z (last_in d.kept))) (turns_sized size (suc k) before)
     ∙ (ap (λ o. patched part (points_of size) (map (full scene) (points_of size)) (pixels_in size o)) (last_is size k before)
     ∙ by_frame (slice_get (written_of size (suc k) before) k) refl))))
@@ -192,7 +187,7 @@ frame_by size k before scene p sides same colours =
         ∙ patched_all (sized size) (points_of size) (full scene) (pixels_in size None) (λ q c. in_display size q (display_size size sides) c)
     by_frame (Some f) e = refl
 
-more_by : (size : Size) (k : ℕ) (before : List DrawnFrame) (scene : Scene) (p : Pictured) → IsDisplaySize size → p.size ≡ size → ((q : Point) → p.colour q ≡ full scene q)
+more_by : (size : Size) (k : ℕ) (before : List DrawnFrame) (scene : Scene) (p : Pictured) → IsDisplaySize size → p.size ≡ size → colours_in p ≡ picture size scene
     → shown (display_after size (suc k) before) p ≡ display_after size (suc k) (record { scene = Some scene; damage = p.changed } ∷ before)
 unfolding shown display_after turns_after written_of
 more_by size k before scene p sides same colours =
@@ -216,7 +211,7 @@ more_by size k before scene p sides same colours =
     upto : (earlier steps all : ℕ) → steps + earlier ≡ all → min (min earlier 18446744073709551615 + steps) 18446744073709551615 ≡ min all 18446744073709551615
     upto earlier steps all e = omega (arith, e)
 
-pub more_is : (size : Size) (count : ℕ) (before : List DrawnFrame) (scene : Scene) (p : Pictured) → IsDisplaySize size → 1 ≤ count → p.size ≡ size → ((q : Point) → p.colour q ≡ full scene q)
+pub more_is : (size : Size) (count : ℕ) (before : List DrawnFrame) (scene : Scene) (p : Pictured) → IsDisplaySize size → 1 ≤ count → p.size ≡ size → colours_in p ≡ picture size scene
     → shown (display_after size count before) p ≡ display_after size count (record { scene = Some scene; damage = p.changed } ∷ before)
 more_is size zero before scene p sides some same colours = absurd (omega arith)
 more_is size (suc k) before scene p sides some same colours = more_by size k before scene p sides same colours

@@ -1,7 +1,6 @@
 -- A display after a history.
 use Rattle.std.proofs.Common.{◌≡◌, ℕ, ◌+◌, ◌≤◌, ◌-◌, Some, slice_get, List, [], ◌∷◌, ◌++◌, reverse, refl, ap, sym, ◌∙◌, append-nil}
 use Rattle.std.proofs.lemmas.List.{reverse-append}
-use Rattle.vz_geom.specs.declared.Point.{Point}
 use Rattle.vz_geom.specs.Rectangle.{Rectangle}
 use Rattle.vz_pixels.specs.Colour.{Colour}
 use Rattle.vz_geom.specs.Display.{IsDisplaySize}
@@ -10,11 +9,11 @@ use Rattle.vz_rules.specs.declared.entry.Entry.{Entry}
 use Rattle.vz_rules.specs.declared.entry.Reply.TheVariants.{Drawn}
 use Rattle.vz_rules.specs.World.{Scene, opening}
 use Rattle.vz_rules.specs.Scene.{scene_of}
-use Rattle.vz_rules.specs.Paint.{full}
+use Rattle.vz_rules.specs.Paint.{picture}
 use Rattle.vz_rules.specs.Step.{world, world_from}
 use Rattle.vz_rules.specs.Frames.{DrawnFrame, drawn_frame_of, drawn_frames, drawn_frames_from, stale, repainted, written_of, written, painted_of, painted}
 use Rattle.vz_rules.proofs.Runs.{drawn_frames_from-append}
-use Rattle.vz_machine.specs.Pictured.{Pictured}
+use Rattle.vz_machine.specs.Pictured.{Pictured, colours_in}
 use Rattle.vz_display.specs.Displayed.{display_after, display_at, shown, steps_for, current, IsNext}
 use Rattle.vz_display.proofs.Drawings.{more_is, steps_are, current_is}
 
@@ -38,13 +37,13 @@ drawn_frames_drawn p h e r drawn = drawn_frames_back p h e ∙ ap (λ reply. rev
 drawn_frames_other : (p : Plan) (h : List Entry) (e : Entry) → drawn_frame_of (scene_of (world p h)) e.reply ≡ [] → reverse (drawn_frames p (h ++ e ∷ [])) ≡ reverse (drawn_frames p h)
 drawn_frames_other p h e none = drawn_frames_back p h e ∙ ap (λ l. reverse l ++ reverse (drawn_frames p h)) none
 
-pub drawn_is : (p : Plan) (h : List Entry) (e : Entry) (count : ℕ) (r : Rectangle) (scene : Scene) (picture : Pictured) → IsDisplaySize p.size → 1 ≤ count → e.reply ≡ Drawn r → scene_of (world p h) ≡ Some scene
-    → picture.size ≡ p.size → ((q : Point) → picture.colour q ≡ full scene q) → picture.changed ≡ r
-    → shown (display_at p h count) picture ≡ display_at p (h ++ e ∷ []) count
+pub drawn_is : (p : Plan) (h : List Entry) (e : Entry) (count : ℕ) (r : Rectangle) (scene : Scene) (pictured : Pictured) → IsDisplaySize p.size → 1 ≤ count → e.reply ≡ Drawn r → scene_of (world p h) ≡ Some scene
+    → pictured.size ≡ p.size → colours_in pictured ≡ picture p.size scene → pictured.changed ≡ r
+    → shown (display_at p h count) pictured ≡ display_at p (h ++ e ∷ []) count
 unfolding display_at
-drawn_is p h e count r scene picture sides some drawn seen same colours changed =
+drawn_is p h e count r scene pictured sides some drawn seen same colours changed =
     let before : List DrawnFrame = reverse (drawn_frames p h) in
-    more_is p.size count before scene picture sides some same colours
+    more_is p.size count before scene pictured sides some same colours
     ∙ (ap (λ x. display_after p.size count (record { scene = Some scene; damage = x } ∷ before)) changed
     ∙ (ap (λ o. display_after p.size count (record { scene = o; damage = r } ∷ before)) (sym seen)
     ∙ ap (display_after p.size count) (sym (drawn_frames_drawn p h e r drawn))))

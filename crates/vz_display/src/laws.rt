@@ -1,6 +1,5 @@
 //! Laws of a display, each the contract of a function that does nothing.
 ghost use Rattle.std.specs.Prelude.{◌≡◌, ℕ, ◌+◌, ◌≤◌, Some, List, [], ◌∷◌, ◌++◌};
-ghost use Rattle.vz_geom.specs.declared.Point.{Point};
 ghost use Rattle.vz_geom.specs.declared.Size.{Size};
 ghost use Rattle.vz_geom.specs.Rectangle.{Rectangle};
 ghost use Rattle.vz_pixels.specs.Colour.{Colour};
@@ -11,9 +10,9 @@ ghost use Rattle.vz_rules.specs.Plan.{Plan};
 ghost use Rattle.vz_rules.specs.Step.{world};
 ghost use Rattle.vz_rules.specs.Scene.{scene_of};
 ghost use Rattle.vz_rules.specs.World.{Scene};
-ghost use Rattle.vz_rules.specs.Paint.{full};
+ghost use Rattle.vz_rules.specs.Paint.{picture};
 ghost use Rattle.vz_rules.specs.Frames.{DrawnFrame, drawn_frame_of, written, painted, written_of, painted_of};
-ghost use Rattle.vz_machine.specs.Pictured.{Pictured};
+ghost use Rattle.vz_machine.specs.Pictured.{Pictured, colours_in};
 ghost use Rattle.vz_display.specs.Displayed.{first_displayed, display_after, shown, steps_for, current, buffer_with};
 ghost use Rattle.vz_display.specs.Displayed.{display_at, IsNext};
 
@@ -23,7 +22,7 @@ pub fn drawings_are_shown()
     ensures first { (size : Size) (count : ℕ)
         → display_after size count [] ≡ first_displayed size count }
     ensures more { (size : Size) (count : ℕ) (before : List DrawnFrame) (scene : Scene) (p : Pictured)
-        → IsDisplaySize size → 1 ≤ count → p.size ≡ size → ((q : Point) → p.colour q ≡ full scene q)
+        → IsDisplaySize size → 1 ≤ count → p.size ≡ size → colours_in p ≡ picture size scene
         → shown (display_after size count before) p
         ≡ display_after size count (record { scene = Some scene; damage = p.changed } ∷ before) }
     ensures steps { (size : Size) (count : ℕ) (before : List DrawnFrame) (s : DrawnFrame)
@@ -40,10 +39,10 @@ pub fn drawings_are_shown()
 /// leaves all as it is.
 pub fn histories_are_shown()
     ensures drawn { (p : Plan) (h : List Entry) (e : Entry) (count : ℕ) (r : Rectangle)
-        (scene : Scene) (picture : Pictured) → IsDisplaySize p.size → 1 ≤ count
-        → e.reply ≡ Drawn r → scene_of (world p h) ≡ Some scene → picture.size ≡ p.size
-        → ((q : Point) → picture.colour q ≡ full scene q) → picture.changed ≡ r
-        → shown (display_at p h count) picture ≡ display_at p (h ++ e ∷ []) count }
+        (scene : Scene) (pictured : Pictured) → IsDisplaySize p.size → 1 ≤ count
+        → e.reply ≡ Drawn r → scene_of (world p h) ≡ Some scene → pictured.size ≡ p.size
+        → colours_in pictured ≡ picture p.size scene → pictured.changed ≡ r
+        → shown (display_at p h count) pictured ≡ display_at p (h ++ e ∷ []) count }
     ensures written { (p : Plan) (h : List Entry) (e : Entry) (count : ℕ) (r : Rectangle)
         → 1 ≤ count → e.reply ≡ Drawn r → IsNext p h e count }
     ensures steps { (p : Plan) (h : List Entry) (e : Entry) (count : ℕ) (r : Rectangle)

@@ -1,0 +1,3 @@
+mod Undrawn
+mod Frames
+mod Playing

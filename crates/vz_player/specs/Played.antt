@@ -1,0 +1,86 @@
+-- What a player has done.
+use Rattle.std.specs.Prelude.{◌≡◌, ℕ, ◌+◌, ◌-◌, ◌^◌, ◌≤◌, Bool, true, false, Option, Some, None, ◌⊎◌, List, [], ◌∷◌, ◌++◌, length, min}
+use Rattle.vz_base.specs.declared.limits.TheConstants.{MOST_FILES}
+use Rattle.vz_geom.specs.Display.{IsDisplaySize}
+use Rattle.vz_pixels.specs.Colour.{Colour}
+use Rattle.vz_rules.specs.Plan.{Plan}
+use Rattle.vz_rules.specs.World.{Machine}
+use Rattle.vz_rules.specs.declared.entry.Event.{Event}
+use Rattle.vz_rules.specs.declared.entry.Event.TheVariants as event
+use Rattle.vz_rules.specs.declared.entry.Entry.{Entry}
+use Rattle.vz_rules.specs.Step.{entry_in, world, Legal}
+use Rattle.vz_rules.specs.Frames.{written, painted}
+use Rattle.vz_machine.specs.Pictured.{Pictured}
+use Rattle.vz_display.specs.Displayed.{Displayed, display_at, shown, steps_for}
+
+-- the plan, the history so far, how many buffers the display has, and whether want of memory kept the last drawing off it
+pub record Played : Type 0 where
+  pub plan : Plan
+  pub history : List Entry
+  pub buffers : ℕ
+  pub stopped : Bool
+
+-- before the first event
+abbrev pub first_played : Plan → ℕ → Played
+first_played p count = record { plan = p; history = []; buffers = count; stopped = false }
+
+-- the plan and the world behind the history
+abbrev pub machine_of : Played → Machine
+machine_of p = record { plan = p.plan; world = world p.plan p.history }
+
+-- the entry that an event makes next
+abbrev pub next_entry : Played → Event → Entry
+next_entry p e = entry_in p.plan (world p.plan p.history) e
+
+-- an event was taken: the history has its entry more
+unfoldable pub played_on : Played → Event → Played
+played_on p e = record p { history = p.history ++ next_entry p e ∷ [] }
+
+-- the frames that are written
+abbrev pub frames_of : Played → List (List Colour)
+frames_of p = written p.plan p.history p.buffers
+
+-- the points that are painted
+abbrev pub painted_by : Played → ℕ
+painted_by p = painted p.plan p.history p.buffers
+
+-- the display
+abbrev pub display_of : Played → Displayed
+display_of p = display_at p.plan p.history p.buffers
+
+-- one frame more is written, or none
+abbrev pub Writes : Played → Played → Bool → Type 0
+Writes old new true = (frame : List Colour) × (frames_of new ≡ frames_of old ++ frame ∷ [])
+Writes old new false = frames_of new ≡ frames_of old
+
+-- want of memory came before the step, and changed nothing, or after it
+unfoldable pub StopsAt : Played → Event → Played → Type 0
+StopsAt old e new = (new ≡ old) ⊎ (new ≡ record (played_on old e) { stopped = true })
+
+-- what a player keeps: its machine stands behind the history, which is legal, and so does its display where it was not stopped
+pub record IsPlayed (m : Machine) (d : Displayed) (p : Played) : Type 0 where
+  pub behind : m ≡ machine_of p
+  pub legal : Legal p.plan p.history
+  pub files : length p.plan.files ≤ MOST_FILES
+  pub sides : IsDisplaySize p.plan.size
+  pub some : 1 ≤ p.buffers
+  pub shows : p.stopped ≡ false → d ≡ display_of p
+
+-- a display with a picture more, where there is one
+abbrev pub shown_with : Displayed → Option Pictured → Displayed
+shown_with d None = d
+shown_with d (Some p) = shown d p
+
+-- the steps for it
+abbrev pub steps_with : Displayed → Option Pictured → ℕ
+steps_with d None = 0
+steps_with d (Some p) = steps_for d p.changed
+
+-- a number more, which stands still at the greatest of 64 bits
+abbrev pub next_number : ℕ → ℕ
+next_number n = min (n + 1) (2 ^ 64 - 1)
+
+-- whose step an event is: the display's, which is 0, or a client's
+abbrev pub actor_in : Event → ℕ
+actor_in (event.Client c) = c
+actor_in _ = 0

@@ -1,0 +1,160 @@
+//! The player.
+ghost use Rattle.std.specs.Prelude.{◌≡◌, ◌+◌, ◌≤◌, ◌++◌, ◌∷◌, [], false, length, IfOk, OnOk, OnErr, List as Row};
+ghost use Rattle.vz_base.specs.declared.limits.TheConstants.{MOST_FILES};
+ghost use Rattle.vz_geom.specs.Display.{IsDisplaySize};
+ghost use Rattle.vz_pixels.specs.Colour.{Colour};
+ghost use Rattle.vz_buffers.specs.Canvas.{pixel_count};
+ghost use Rattle.vz_rules.specs.World.{opening};
+ghost use Rattle.vz_rules.specs.Step.{NamesClient, Legal};
+ghost use Rattle.vz_rules.specs.Log.{rest_of};
+ghost use Rattle.vz_display.specs.Displayed.{current, buffer_with};
+ghost use Rattle.vz_player.specs.Played.{first_played, played_on, machine_of, display_of, frames_of, painted_by, Writes, StopsAt};
+
+use crate::actors::{Actors, actor_of};
+use crate::show::show_some;
+use crate::take::take_gated;
+use std::alloc::Global;
+use std::marker::Model;
+use std::sync::ledger::Ledger;
+use vz_base::Memory;
+use vz_base::limits::MOST_BUFFERS;
+use vz_buffers::Steps;
+use vz_display::Display;
+use vz_frame::{List, Room};
+use vz_geom::Size;
+use vz_machine::Machine;
+use vz_outside::Gate;
+use vz_rules::{Entry, Event, Rest};
+
+/// A machine with its history so far, and a display that shows what is drawn.
+#[derive(Drop)]
+pub struct Player<M: Machine + Drop> {
+    machine: M,
+    display: Display,
+    history: Room<Entry>,
+    actors: Actors,
+    buffers: u32,
+    stopped: bool,
+}
+
+impl<M: Machine + Drop> Model for Player<M> {
+    ghost use Rattle.vz_player.specs.Played.{Played, IsPlayed};
+
+    ghost Value = { Played };
+
+    ghost view = { λ p. record {
+      plan = (M.state p.machine).plan;
+      history = p.history.list;
+      buffers = p.buffers;
+      stopped = p.stopped;
+    } };
+
+    ghost invariant = { λ p. IsPlayed (M.state p.machine) p.display (record {
+      plan = (M.state p.machine).plan;
+      history = p.history.list;
+      buffers = p.buffers;
+      stopped = p.stopped;
+    }) };
+}
+
+impl<M: Machine + Drop> Player<M> {
+    /// A player before the first event. It takes no memory. Conditions: the machine stands at the
+    /// opening of its plan, which has at most `MOST_FILES` files and a display of this size, and
+    /// there are 1 to `MOST_BUFFERS` buffers.
+    pub fn new(alloc: Global, machine: M, size: Size, buffers: u32) -> Player<M>
+        requires opening { (M.state machine).world ≡ opening (M.state machine).plan }
+        requires files { length (M.state machine).plan.files ≤ MOST_FILES }
+        requires size { (M.state machine).plan.size ≡ size }
+        requires sides { IsDisplaySize size }
+        requires from { 1 ≤ buffers }
+        requires upto { buffers ≤ MOST_BUFFERS }
+        ensures { result ≡ first_played (M.state machine).plan buffers }
+    {
+        Player {
+            machine,
+            display: Display::new(size, buffers),
+            history: Room::new(alloc),
+            actors: Actors::new(),
+            buffers,
+            stopped: false,
+        }
+    }
+
+    /// Takes an event between the two calls of a gate, puts its entry at the end of the history,
+    /// and shows the picture where something is drawn. The answer says whether a frame more is
+    /// written. Conditions: no want of memory has stopped the player, and a client's event is of a
+    /// client of the plan. At want of memory the history is the one before, or has the event's
+    /// entry more, and nothing but the history is of further use.
+    pub fn turn<G: Gate, L: Ledger>(
+        &mut self,
+        alloc: Global,
+        gate: &G,
+        event: Event,
+        steps: &mut Steps<L>,
+    ) -> Result<bool, Memory>
+    where
+        M::FrameData: Drop,
+        requires going { self.old.stopped ≡ false }
+        requires named { NamesClient self.old.plan event }
+        ensures taken { OnOk result (self.new ≡ played_on self.old event) }
+        ensures written { IfOk result (λ drawn. Writes self.old self.new drawn) }
+        ensures counted { OnOk result
+            (steps.new + painted_by self.old ≡ steps.old + painted_by self.new) }
+        ensures err { OnErr result (StopsAt self.old event self.new) }
+    {
+        self.history.reserve(1)?;
+        let turn = self.actors.next_turn(actor_of(event));
+        let (entry, picture) = take_gated(alloc, gate, turn, &mut self.machine, event)?;
+        self.history.put(entry);
+        self.stopped = true;
+        let drawn = show_some(alloc, picture, &mut self.display, steps)?;
+        self.stopped = false;
+        Ok(drawn)
+    }
+
+    /// The history so far.
+    pub fn history(&self) -> &[Entry]
+        ensures value { result.now ≡ self.now.history }
+        ensures legal { Legal self.now.plan self.now.history }
+    {
+        self.history.as_slice()
+    }
+
+    /// The history, after which the player is gone. It takes no memory.
+    pub fn into_history(self) -> List<Entry>
+        ensures value { result ≡ self.history }
+        ensures legal { Legal self.plan self.history }
+    {
+        self.history.into_list()
+    }
+
+    /// The display. Its current buffer has the last frame that is written, which has a pixel for each
+    /// point. Condition: no want of memory has stopped the player.
+    pub fn display(&self) -> &Display
+        requires { self.now.stopped ≡ false }
+        ensures value { result.now ≡ display_of self.now }
+        ensures size { result.now.turns.size ≡ self.now.plan.size }
+        ensures current { (earlier : Row (Row Colour)) (frame : Row Colour)
+            → frames_of self.now ≡ earlier ++ frame ∷ []
+            → current result.now ≡ buffer_with self.now.plan.size frame }
+        ensures whole { (earlier : Row (Row Colour)) (frame : Row Colour)
+            → frames_of self.now ≡ earlier ++ frame ∷ []
+            → length frame ≡ pixel_count self.now.plan.size }
+    {
+        &self.display
+    }
+
+    /// The machine, which stands behind the history.
+    pub fn machine(&self) -> &M
+        ensures { M.state result.now ≡ machine_of self.now }
+    {
+        &self.machine
+    }
+
+    /// What is still out: references not given back and submissions without feedback.
+    pub fn rest(&self, alloc: Global) -> Result<Rest, Memory>
+        ensures { IfOk result (λ rest. rest ≡ rest_of self.now.plan self.now.history) }
+    {
+        Ok(self.machine.rest(alloc)?)
+    }
+}

@@ -1,0 +1,35 @@
+//! Pictures shown on a display.
+ghost use Rattle.std.specs.Prelude.{◌≡◌, ◌+◌, is_some, IfOk, IfSome, OnOk};
+ghost use Rattle.std.specs.Option.{option_map};
+ghost use Rattle.vz_player.specs.Played.{shown_with, steps_with};
+
+use std::alloc::Global;
+use std::sync::ledger::Ledger;
+use vz_base::Memory;
+use vz_buffers::Steps;
+use vz_display::Display;
+use vz_machine::Picture;
+
+/// Shows a picture, if there is one, and tells whether there was. Condition: it has the display's
+/// size. At want of memory the display is of no further use.
+pub fn show_some<P: Picture + Drop, L: Ledger>(
+    alloc: Global,
+    picture: Option<P>,
+    display: &mut Display,
+    steps: &mut Steps<L>,
+) -> Result<bool, Memory>
+    requires { IfSome picture (λ p. (P.pictured p).size ≡ display.old.turns.size) }
+    ensures display { OnOk result
+        (display.new ≡ shown_with display.old (option_map P.pictured picture)) }
+    ensures counted { OnOk result
+        (steps.new ≡ steps.old + steps_with display.old (option_map P.pictured picture)) }
+    ensures drawn { IfOk result (λ drawn. drawn ≡ is_some (option_map P.pictured picture)) }
+{
+    match picture {
+        None => Ok(false),
+        Some(picture) => {
+            display.show(alloc, &picture, steps)?;
+            Ok(true)
+        }
+    }
+}
