@@ -9,7 +9,7 @@ mod collect;
 mod copy;
 mod display;
 mod draw;
-pub mod laws;
+mod laws;
 mod messages;
 mod naming;
 mod reach;
@@ -21,5 +21,6 @@ mod slow;
 mod submit;
 mod world;
 
+pub use laws::histories_name_clients;
 pub use replay::plain_frame;
 pub use slow::Slow;
