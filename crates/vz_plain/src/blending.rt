@@ -19,7 +19,7 @@ fn blend(mode: Blend, colour: Pixel, under: Pixel) -> Pixel
 
 /// A colour scaled by an opacity and then laid on another by a mode.
 #[tactic(auto, unfolding(vz_frame::specs::Blending::laid))]
-pub fn laid(mode: Blend, colour: Pixel, opacity: u8, under: Pixel) -> Pixel
+pub(crate) fn laid(mode: Blend, colour: Pixel, opacity: u8, under: Pixel) -> Pixel
     ensures { result ≡ laid mode colour opacity under }
 {
     blend(mode, colour.scale(opacity), under)

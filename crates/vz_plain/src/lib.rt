@@ -4,9 +4,11 @@
 //! memory but for a picture: the path through surfaces stands on the stack.
 #![tactic(auto)]
 
-pub mod blending;
-pub mod paint;
-pub mod path;
-pub mod picture;
-pub mod point;
-pub mod tile;
+mod blending;
+mod paint;
+mod path;
+mod pictures;
+mod point;
+mod tile;
+
+pub use pictures::picture;

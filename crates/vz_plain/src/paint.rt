@@ -18,9 +18,7 @@ use vz_frame::{Blend, DrawQuad, Material, RenderPass};
 use vz_geom::{Point, Rect};
 use vz_ids::{SurfaceId, SurfaceRange};
 use vz_pixels::Pixel;
-use vz_scene::frame::root_pass;
-use vz_scene::walk::LEVELS;
-use vz_scene::{ActiveFrames, SubmittedFrame};
+use vz_scene::{ActiveFrames, LEVELS, SubmittedFrame, root_pass};
 
 /// A painter in the frame of a frame, behind the surfaces of a path and with so many
 /// surfaces left.
@@ -108,7 +106,7 @@ fn point_of(pass: &RenderPass, quad: &DrawQuad, point: Point) -> Option<Point>
 /// and with so many surfaces left.
 #[tactic(auto, unfolding(vz_rules::specs::Paint::pix, vz_rules::specs::Paint::root_painted))]
 #[cycle(paint)]
-pub fn pix<'a>(
+pub(crate) fn pix<'a>(
     active: &ActiveFrames<'_, 'a>,
     levels: u32,
     path: &Path<'_>,
@@ -330,7 +328,7 @@ impl<'b, 'i, 'a> Painter<'b, 'i, 'a> {
 
 /// The colour at a point of the display, black where nothing can be seen.
 #[tactic(auto, unfolding(vz_rules::specs::Paint::full, vz_rules::specs::Paint::levels))]
-pub fn full(active: &ActiveFrames<'_, '_>, root: &SurfaceId, point: Point) -> Pixel
+pub(crate) fn full(active: &ActiveFrames<'_, '_>, root: &SurfaceId, point: Point) -> Pixel
     ensures { result ≡ full (record { root = root.now; active = active.now }) point }
 {
     match active.frame_on(root) {

@@ -8,7 +8,7 @@ use vz_ids::SurfaceId;
 
 /// A path through surfaces. It stands on the stack of those that paint.
 #[derive(Drop)]
-pub enum Path<'p> {
+pub(crate) enum Path<'p> {
     /// No surface.
     Start,
     /// A surface, and those before it.
@@ -22,7 +22,7 @@ pub enum Path<'p> {
 
 impl<'p> Path<'p> {
     /// Whether a surface is on the path.
-    pub fn has(&self, id: &SurfaceId) -> bool
+    pub(crate) fn has(&self, id: &SurfaceId) -> bool
         ensures { result ≡ list_any (same_surface id.now) (ids self.now) }
     {
         match self {

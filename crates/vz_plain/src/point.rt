@@ -21,7 +21,7 @@ fn moved_back(point: Point, by: Point) -> Option<Point>
 }
 
 /// The point moved back by an offset, where a rectangle has it.
-pub fn found_in(r: &Rect, q: Point, by: Point) -> Option<Point>
+pub(crate) fn found_in(r: &Rect, q: Point, by: Point) -> Option<Point>
     ensures { MatchOption result (has r.now (minus q by) ≡ false)
         (λ p. (has r.now (minus q by) ≡ true) × (p ≡ minus q by) × IsNear p) }
 {
@@ -42,7 +42,7 @@ fn corner(r: &Rect) -> Point
 }
 
 /// A point counted from the first point of a rectangle. Condition: it is near.
-pub fn from_corner(p: Point, r: &Rect) -> Point
+pub(crate) fn from_corner(p: Point, r: &Rect) -> Point
     requires { IsNear p }
     ensures value { result ≡ minus p (corner r.now) }
     ensures close { IsClose result }
@@ -55,7 +55,7 @@ pub fn from_corner(p: Point, r: &Rect) -> Point
 }
 
 /// A point of a rectangle that is counted from its first point. Condition: it is close.
-pub fn in_rectangle(p: Point, r: &Rect) -> Point
+pub(crate) fn in_rectangle(p: Point, r: &Rect) -> Point
     requires { IsClose p }
     ensures { result ≡ plus p (corner r.now) }
 {

@@ -10,7 +10,7 @@ use std::alloc::Global;
 use vz_base::Memory;
 use vz_geom::{Rect, Size};
 use vz_machine::PixelPicture;
-use vz_plain::picture::picture;
+use vz_plain::picture;
 use vz_rules::{Effects, Event, Reply};
 use vz_slow::Slow;
 

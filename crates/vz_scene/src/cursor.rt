@@ -24,7 +24,7 @@ use vz_ids::{SurfaceId, SurfaceRange};
 /// on, behind the surfaces of a path and with so many surfaces left. The place has room for
 /// all passes that may still be gone into.
 #[derive(Drop)]
-pub struct Cursor<'b, 'a> {
+pub(crate) struct Cursor<'b, 'a> {
     levels: u32,
     path: Arc<Vec<SurfaceId>, Global>,
     submitted: &'b SubmittedFrame<'a>,
@@ -95,7 +95,7 @@ fn is_on_path(path: &[SurfaceId], submitted: &SubmittedFrame<'_>) -> bool
 
 /// What is to be walked in a surface, behind the surfaces of a path and with so many left.
 /// Condition: the place has room for the passes of all of them.
-pub fn enter<'b, 'a>(
+pub(crate) fn enter<'b, 'a>(
     alloc: Global,
     levels: u32,
     path: &[SurfaceId],
@@ -127,7 +127,7 @@ pub fn enter<'b, 'a>(
 
 impl<'b, 'a> Cursor<'b, 'a> {
     /// The next quad with its pass, if there is one.
-    pub fn quad_of(&self) -> Option<(&'a RenderPass, &'a DrawQuad)>
+    pub(crate) fn quad_of(&self) -> Option<(&'a RenderPass, &'a DrawQuad)>
         ensures walked { (active : List FrameData)
             → MatchOption result (cursor_walked active self.now ≡ [])
             (λ r. cursor_walked active self.now ≡ walked_at active self.now r.0.now r.1.now
@@ -145,7 +145,7 @@ impl<'b, 'a> Cursor<'b, 'a> {
     }
 
     /// The cursor goes on to the next quad. Condition: there are numbers left.
-    pub fn go_on(&mut self)
+    pub(crate) fn go_on(&mut self)
         requires { self.old.quad + 1 < 2 ^ 64 }
         ensures { self.new ≡ next_cursor self.old }
     {
@@ -219,7 +219,7 @@ impl<'b, 'a> Cursor<'b, 'a> {
 
     /// A quad is met. The answer is what is to be walked in what it draws. Conditions: it was not
     /// too much before, and the pass and the quad are in reach.
-    pub fn quad(
+    pub(crate) fn quad(
         &self,
         alloc: Global,
         active: &ActiveFrames<'b, 'a>,

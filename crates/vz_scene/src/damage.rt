@@ -37,7 +37,7 @@ fn at_origin(r: &Rect) -> Rect
 }
 
 /// The rectangle of the size of a submitted frame.
-pub fn frame_rect(submitted: &SubmittedFrame<'_>) -> Rect
+pub(crate) fn frame_rect(submitted: &SubmittedFrame<'_>) -> Rect
     ensures value { result ≡ sized (frame_size submitted.now.frame) }
     ensures reach { IsInReach result }
 {
@@ -60,7 +60,7 @@ fn root_damage(submitted: &SubmittedFrame<'_>) -> Rect
 
 /// The smallest rectangle round some.
 #[tactic(auto, using(std::proofs::lemmas::List::drop_all), unfolding(vz_geom::specs::Rectangle::bound))]
-pub fn bound(rects: &[Rect]) -> Rect
+pub(crate) fn bound(rects: &[Rect]) -> Rect
     ensures { result ≡ bound rects.now }
 {
     let mut best = nothing();
@@ -84,7 +84,7 @@ impl<'a> SubmittedFrame<'a> {
 
 /// The rectangle round the damages on a frame's surface since the last aggregation.
 #[tactic(auto, unfolding(vz_rules::specs::Damage::damage_since))]
-pub fn damage_since(
+pub(crate) fn damage_since(
     last: &Index<'_>,
     accepted: &[SubmittedFrame<'_>],
     submitted: &SubmittedFrame<'_>,

@@ -7,7 +7,7 @@ use vz_frame::{CompositorFrame, RenderPass};
 use vz_geom::Size;
 
 /// The size of a pass's output.
-pub fn size_of(pass: &RenderPass) -> Size
+pub(crate) fn size_of(pass: &RenderPass) -> Size
     ensures { result ≡ record { w = pass.now.output.w; h = pass.now.output.h } }
 {
     Size {

@@ -13,7 +13,7 @@ use vz_ids::SurfaceId;
 
 /// Frames of one group, and whether each is on a newer surface than the one before it.
 #[derive(Drop)]
-pub struct Group<'b, 'a> {
+pub(crate) struct Group<'b, 'a> {
     active: Vec<&'b SubmittedFrame<'a>>,
     is_chain: bool,
 }
@@ -39,7 +39,7 @@ fn is_newer(submitted: &SubmittedFrame<'_>, other: &SubmittedFrame<'_>) -> bool
 
 impl<'b, 'a> Group<'b, 'a> {
     /// No frame.
-    pub fn new(alloc: Global) -> Group<'b, 'a>
+    pub(crate) fn new(alloc: Global) -> Group<'b, 'a>
         ensures { result ≡ [] }
     {
         Group {
@@ -60,7 +60,7 @@ impl<'b, 'a> Group<'b, 'a> {
     }
 
     /// A frame is added at the end.
-    pub fn add(&mut self, submitted: &'b SubmittedFrame<'a>) -> Result<(), AllocError>
+    pub(crate) fn add(&mut self, submitted: &'b SubmittedFrame<'a>) -> Result<(), AllocError>
         ensures { OnOk result (self.new ≡ self.old ++ submitted.now ∷ []) }
     {
         let is_chain = self.goes_on(submitted);
@@ -70,7 +70,7 @@ impl<'b, 'a> Group<'b, 'a> {
     }
 
     /// Whether each frame is on a newer surface than those before it.
-    pub fn is_chain(&self) -> bool
+    pub(crate) fn is_chain(&self) -> bool
         ensures { IsTrue result → IsChain self.now }
     {
         self.is_chain
@@ -88,7 +88,7 @@ impl<'b, 'a> Group<'b, 'a> {
     }
 
     /// The frame on a surface, or else on the next older one. Condition: this is a chain.
-    pub fn newest_up_to(&self, end: &SurfaceId) -> Option<&'b SubmittedFrame<'a>>
+    pub(crate) fn newest_up_to(&self, end: &SurfaceId) -> Option<&'b SubmittedFrame<'a>>
         requires { IsChain self.now }
         ensures { FindsNewest (λ (i : FrameData). at_least end.now i.id) self.now
             (option_copied result) }
@@ -101,7 +101,7 @@ impl<'b, 'a> Group<'b, 'a> {
     }
 
     /// The newest frame. Condition: this is a chain.
-    pub fn newest(&self) -> Option<&'b SubmittedFrame<'a>>
+    pub(crate) fn newest(&self) -> Option<&'b SubmittedFrame<'a>>
         requires { IsChain self.now }
         ensures { FindsNewest (λ _. true) self.now (option_copied result) }
     {

@@ -14,7 +14,7 @@ use vz_ids::{SurfaceId, SurfaceRange};
 
 /// The last aggregation, with the number of each surface and what each range showed by order.
 #[derive(Drop)]
-pub struct Index<'l> {
+pub(crate) struct Index<'l> {
     last: &'l Aggregation,
     numbers: BTreeMap<SurfaceId, u32>,
     shown: BTreeMap<RangeKey, Option<SurfaceId>>,
@@ -80,7 +80,7 @@ fn shows_other(before: Option<SurfaceId>, now: Option<&SubmittedFrame<'_>>) -> b
 
 impl<'l> Index<'l> {
     /// An aggregation in order.
-    pub fn new(alloc: Global, last: &'l Aggregation) -> Result<Index<'l>, AllocError>
+    pub(crate) fn new(alloc: Global, last: &'l Aggregation) -> Result<Index<'l>, AllocError>
         ensures { IfOk result (λ i. i ≡ last.now) }
     {
         Ok(Index {
@@ -91,7 +91,7 @@ impl<'l> Index<'l> {
     }
 
     /// The number of the frame of a surface that was active, 0 where there was none.
-    pub fn index_in(&self, submitted: &SubmittedFrame<'_>) -> u32
+    pub(crate) fn index_in(&self, submitted: &SubmittedFrame<'_>) -> u32
         ensures { result ≡ index_in self.now submitted.now }
     {
         match self.numbers.get(&submitted.id) {
@@ -101,7 +101,7 @@ impl<'l> Index<'l> {
     }
 
     /// Whether a range was not met, or showed nothing or another surface than now.
-    pub fn is_switched(&self, range: &SurfaceRange, now: Option<&SubmittedFrame<'_>>) -> bool
+    pub(crate) fn is_switched(&self, range: &SurfaceRange, now: Option<&SubmittedFrame<'_>>) -> bool
         ensures { result ≡ is_switched self.now range.now (option_copied now.entry) }
     {
         match self.shown.get(&key_of(range)) {

@@ -8,13 +8,13 @@ use vz_ids::{EmbedToken, FrameSinkId, SurfaceId, SurfaceRange};
 
 /// A range, by its start and its end.
 #[derive(Clone, Copy, Debug, PartialEq, Eq, PartialOrd, Ord)]
-pub struct RangeKey {
+pub(crate) struct RangeKey {
     start: Option<SurfaceId>,
     end: SurfaceId,
 }
 
 /// The key of a range.
-pub fn key_of(range: &SurfaceRange) -> RangeKey
+pub(crate) fn key_of(range: &SurfaceRange) -> RangeKey
     ensures { result ≡ key_of range.now }
 {
     RangeKey {
@@ -25,13 +25,13 @@ pub fn key_of(range: &SurfaceRange) -> RangeKey
 
 /// A group of surfaces, by its sink and its token.
 #[derive(Clone, Copy, Debug, PartialEq, Eq, PartialOrd, Ord)]
-pub struct GroupKey {
+pub(crate) struct GroupKey {
     sink: FrameSinkId,
     token: EmbedToken,
 }
 
 /// The key of a surface's group.
-pub fn group_of(id: &SurfaceId) -> GroupKey
+pub(crate) fn group_of(id: &SurfaceId) -> GroupKey
     ensures { result ≡ group_of id.now }
 {
     GroupKey {
@@ -42,13 +42,13 @@ pub fn group_of(id: &SurfaceId) -> GroupKey
 
 /// A frame, by its surface and its number among those of the surface.
 #[derive(Clone, Copy, Debug, PartialEq, Eq, PartialOrd, Ord)]
-pub struct FrameKey {
+pub(crate) struct FrameKey {
     id: SurfaceId,
     index: u32,
 }
 
 /// The key of a submitted frame.
-pub fn frame_key(submitted: &SubmittedFrame<'_>) -> FrameKey
+pub(crate) fn frame_key(submitted: &SubmittedFrame<'_>) -> FrameKey
     ensures { result ≡ frame_key submitted.now }
 {
     FrameKey {

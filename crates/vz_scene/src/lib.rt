@@ -7,22 +7,27 @@
 #![tactic(auto)]
 
 mod active_frames;
-pub mod aggregation;
-pub mod claims;
+mod aggregation;
+mod claims;
 mod cursor;
-pub mod damage;
-pub mod frame;
+mod damage;
+mod frame;
 mod group;
 mod index;
 mod key;
 mod newest;
-pub mod place;
+mod place;
 mod scene;
-pub mod submitted;
-pub mod visit;
-pub mod walk;
+mod submitted;
+mod visit;
+mod walk;
 
 pub use active_frames::ActiveFrames;
 pub use aggregation::Aggregation;
+pub use claims::drawn_damage;
+pub use damage::{remember, walked_subs};
+pub use frame::{frame_size, root_pass};
 pub use newest::Newest;
-pub use submitted::{SubmittedFrame, is_at_least};
+pub use submitted::SubmittedFrame;
+pub use visit::{Visit, Walked};
+pub use walk::{LEVELS, walk_of};

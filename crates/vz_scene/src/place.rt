@@ -14,7 +14,7 @@ use vz_geom::{Point, Rect, Size};
 /// Where a pass or a surface stands: what moves a point of it to the display, within 52,000,000
 /// either way, and the part of the display that the path leaves.
 #[derive(Clone, Copy)]
-pub struct Place {
+pub(crate) struct Place {
     pub(crate) shift: Point,
     pub(crate) window: Rect,
 }
@@ -34,14 +34,14 @@ impl Model for Place {
 
 /// The rectangle without a point.
 #[tactic(auto, unfolding(vz_geom::specs::Rectangle::with_sides))]
-pub fn nothing() -> Rect
+pub(crate) fn nothing() -> Rect
     ensures { result ≡ no_rectangle }
 {
     Rect::new(0, 0, 0, 0)
 }
 
 /// The rectangle of the display. Condition: the size is a display's.
-pub fn display_rect(size: Size) -> Rect
+pub(crate) fn display_rect(size: Size) -> Rect
     requires { IsDisplaySize size }
     ensures { result ≡ sized size }
 {
@@ -49,7 +49,7 @@ pub fn display_rect(size: Size) -> Rect
 }
 
 /// The place of the root on the display. Condition: the size is a display's.
-pub fn whole(size: Size) -> Place
+pub(crate) fn whole(size: Size) -> Place
     requires { IsDisplaySize size }
     ensures { result ≡ whole size }
 {
@@ -79,7 +79,7 @@ fn corner(r: &Rect) -> Point
 }
 
 /// A rectangle moved by an offset. Conditions: it is in reach, and so is the offset.
-pub fn moved(r: &Rect, by: Point) -> Rect
+pub(crate) fn moved(r: &Rect, by: Point) -> Rect
     requires reach { IsInReach r.now }
     requires room { HasRoom 0 by }
     ensures { result ≡ moved r.now by }
@@ -104,7 +104,7 @@ impl Place {
     /// The part of the display in which a quad is seen. Conditions: the pass and the quad are in
     /// reach, and the place has room for the quad's offset.
     #[tactic(auto, unfolding(vz_rules::specs::Walk::seen_part))]
-    pub fn seen_part(&self, pass: &RenderPass, quad: &DrawQuad) -> Rect
+    pub(crate) fn seen_part(&self, pass: &RenderPass, quad: &DrawQuad) -> Rect
         requires pass { IsPassInReach pass.now }
         requires quad { IsQuadInReach quad.now }
         requires room { HasRoom (coordinates 1) self.now.shift }
@@ -119,7 +119,7 @@ impl Place {
 
     /// The place of what a quad draws. Conditions: the pass and the quad are in reach, and the
     /// place has room for the quad's offset and the first point of its rectangle.
-    pub fn place_in(&self, pass: &RenderPass, quad: &DrawQuad) -> Place
+    pub(crate) fn place_in(&self, pass: &RenderPass, quad: &DrawQuad) -> Place
         requires pass { IsPassInReach pass.now }
         requires quad { IsQuadInReach quad.now }
         requires room { HasRoom (coordinates 2) self.now.shift }
@@ -134,7 +134,7 @@ impl Place {
 
     /// The place counted from the first point of a pass. Conditions: the pass is in reach, and
     /// the place has room for its first point.
-    pub fn inside(&self, pass: &RenderPass) -> Place
+    pub(crate) fn inside(&self, pass: &RenderPass) -> Place
         requires pass { IsPassInReach pass.now }
         requires room { HasRoom (coordinates 1) self.now.shift }
         ensures { result

@@ -39,7 +39,7 @@ impl<'a> SubmittedFrame<'a> {
 }
 
 /// The frame on a surface.
-pub fn frame_on<'b, 'a>(
+pub(crate) fn frame_on<'b, 'a>(
     active: &'b [SubmittedFrame<'a>],
     id: &SurfaceId,
 ) -> Option<&'b SubmittedFrame<'a>>
@@ -68,7 +68,7 @@ fn newer_of<'b, 'a>(
 }
 
 /// The newest frame of the range's own group.
-pub fn newest_in<'b, 'a>(
+pub(crate) fn newest_in<'b, 'a>(
     active: &'b [SubmittedFrame<'a>],
     range: &SurfaceRange,
 ) -> Option<&'b SubmittedFrame<'a>>
@@ -87,7 +87,7 @@ pub fn newest_in<'b, 'a>(
 }
 
 /// The newest frame of the group of the range's start.
-pub fn newest_after<'b, 'a>(
+pub(crate) fn newest_after<'b, 'a>(
     active: &'b [SubmittedFrame<'a>],
     range: &SurfaceRange,
 ) -> Option<&'b SubmittedFrame<'a>>

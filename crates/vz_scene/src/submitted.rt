@@ -124,7 +124,7 @@ impl<'a> SubmittedFrame<'a> {
 }
 
 /// Whether a surface is the other or a newer one of its group.
-pub fn is_at_least(a: &SurfaceId, b: &SurfaceId) -> bool
+pub(crate) fn is_at_least(a: &SurfaceId, b: &SurfaceId) -> bool
     ensures { result ≡ at_least a.now b.now }
 {
     a == b || (a.sink == b.sink && a.local.newer(&b.local))

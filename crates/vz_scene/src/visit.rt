@@ -14,7 +14,7 @@ use vz_ids::SurfaceRange;
 
 /// What the walk meets.
 #[derive(Drop)]
-pub enum Kind<'b, 'a> {
+pub(crate) enum Kind<'b, 'a> {
     /// A quad.
     Quad,
     /// The range of a surface quad, what it shows, and the quad's visible part of the display.
@@ -87,7 +87,7 @@ impl<'b, 'a> Walked<'b, 'a> {
 
     /// A quad is met. Condition: it was not too much before.
     #[tactic(auto, unfolding(vz_rules::specs::Walk::weight, vz_rules::specs::Walk::too_much))]
-    pub fn add_quad(&mut self) -> Result<(), AllocError>
+    pub(crate) fn add_quad(&mut self) -> Result<(), AllocError>
         requires { too_much self.old ≡ false }
         ensures visits { OnOk result (self.new ≡ self.old ++ AQuad ∷ []) }
         ensures weight { OnOk result (weight self.new ≡ weight self.old + 1) }
@@ -99,7 +99,7 @@ impl<'b, 'a> Walked<'b, 'a> {
 
     /// A range is met.
     #[tactic(auto, unfolding(vz_rules::specs::Walk::weight))]
-    pub fn add_shows(
+    pub(crate) fn add_shows(
         &mut self,
         range: SurfaceRange,
         shown: Option<&'b SubmittedFrame<'a>>,
@@ -117,7 +117,7 @@ impl<'b, 'a> Walked<'b, 'a> {
 
     /// A surface is gone into.
     #[tactic(auto, unfolding(vz_rules::specs::Walk::weight))]
-    pub fn add_enters(
+    pub(crate) fn add_enters(
         &mut self,
         depth: usize,
         submitted: &'b SubmittedFrame<'a>,
@@ -142,7 +142,7 @@ impl<'b, 'a> Walked<'b, 'a> {
 
     /// Whether more than `MOST_WEIGHT` quads are met, or a path has more than `MOST_ON_PATH` surfaces.
     #[tactic(auto, unfolding(vz_rules::specs::Walk::too_much, vz_rules::specs::Walk::weight))]
-    pub fn is_too_much(&self) -> bool
+    pub(crate) fn is_too_much(&self) -> bool
         ensures { result ≡ too_much self.now }
     {
         self.quads > MOST_WEIGHT || self.deep

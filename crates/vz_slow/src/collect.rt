@@ -35,7 +35,7 @@ impl<'a> World<'a> {
 
     /// Surfaces are named, and then the marked ones that are not reached are destroyed. The
     /// answer is these, by client and creation.
-    pub fn collect(&mut self) -> Result<Vec<Lost>, AllocError>
+    pub(crate) fn collect(&mut self) -> Result<Vec<Lost>, AllocError>
         ensures destroyed { IfOk result (λ v. v.items ≡ destroyed_in self.old) }
         ensures world { OnOk result (self.new ≡ collect self.old) }
     {

@@ -36,7 +36,7 @@ fn copy_last(alloc: Global, last: &Option<Aggregation>) -> Result<Option<Aggrega
 
 impl<'a> World<'a> {
     /// The same world.
-    pub fn copy(&self) -> Result<World<'a>, AllocError>
+    pub(crate) fn copy(&self) -> Result<World<'a>, AllocError>
         ensures { IfOk result (λ w. w ≡ self.now) }
     {
         let alloc = self.alloc;

@@ -35,7 +35,7 @@ impl<'a> World<'a> {
 
     /// A begin-frame: the tick goes on and is delivered. Condition: the tick is none behind the
     /// last one.
-    pub fn begin(&mut self, plan: &Plan) -> Result<Reply, AllocError>
+    pub(crate) fn begin(&mut self, plan: &Plan) -> Result<Reply, AllocError>
         requires { self.old.tick ≤ LAST_TICK }
         ensures { IfOk result (λ r. says r self.new ≡ begin_answer plan.now self.old) }
     {
@@ -47,14 +47,14 @@ impl<'a> World<'a> {
     }
 
     /// No begin-frame will be waited for from now on.
-    pub fn end(&mut self)
+    pub(crate) fn end(&mut self)
         ensures { self.new ≡ record self.old { over = true } }
     {
         self.over = true;
     }
 
     /// What follows a change that presents nothing: activation, collection, returns and feedback.
-    pub fn follow(&mut self) -> Result<Effects, AllocError>
+    pub(crate) fn follow(&mut self) -> Result<Effects, AllocError>
         ensures effects { IfOk result (λ e. (r : Said)
             → e ≡ (outcome_of [] (says r self.old)).effects) }
         ensures world { OnOk result ((r : Said)

@@ -10,10 +10,7 @@ use vz_frame::List;
 use vz_geom::Rect;
 use vz_ids::SurfaceId;
 use vz_rules::{Plan, Reply};
-use vz_scene::claims::drawn_damage;
-use vz_scene::damage::{remember, walked_subs};
-use vz_scene::walk::walk_of;
-use vz_scene::{ActiveFrames, Aggregation};
+use vz_scene::{ActiveFrames, Aggregation, drawn_damage, remember, walk_of, walked_subs};
 use vz_state::{accepted_frames, active_frames};
 
 /// Whether there was an aggregation and the damage is empty.
@@ -59,7 +56,7 @@ impl<'a> World<'a> {
     }
 
     /// A drawing: busy while a frame is in flight, no root where nothing can be seen.
-    pub fn draw(&mut self, plan: &Plan) -> Result<Reply, AllocError>
+    pub(crate) fn draw(&mut self, plan: &Plan) -> Result<Reply, AllocError>
         ensures { IfOk result (λ r. says r self.new ≡ draw_answer plan.now self.old) }
     {
         if self.in_flight.is_some() {

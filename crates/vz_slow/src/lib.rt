@@ -12,7 +12,7 @@ mod copy;
 mod display;
 mod draw;
 mod drawn;
-pub mod laws;
+mod laws;
 mod messages;
 mod naming;
 mod reach;
@@ -24,5 +24,6 @@ mod slow;
 mod submit;
 mod world;
 
+pub use laws::histories_name_clients;
 pub use replay::plain_frame;
 pub use slow::Slow;

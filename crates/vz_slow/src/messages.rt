@@ -39,7 +39,7 @@ impl<'a> World<'a> {
     }
 
     /// A refused message is taken and changes nothing else.
-    pub fn refuse(&mut self, c: u32, refusal: Refusal) -> Result<Reply, AllocError>
+    pub(crate) fn refuse(&mut self, c: u32, refusal: Refusal) -> Result<Reply, AllocError>
         requires { AreSmallClients self.old.clients }
         ensures { (x : ClientState) → client_at self.old c ≡ Some x
             → IfOk result (λ r. says r self.new ≡ refused self.old x refusal) }
@@ -241,7 +241,7 @@ impl<'a> World<'a> {
 
 impl<'a> World<'a> {
     /// What the next message of a client answers and changes.
-    pub fn client(&mut self, plan: &'a Plan, c: u32) -> Result<Reply, AllocError>
+    pub(crate) fn client(&mut self, plan: &'a Plan, c: u32) -> Result<Reply, AllocError>
         requires { IsSmall self.old }
         ensures { IfOk result (λ r. says r self.new ≡ client_answer plan.now self.old c) }
     {

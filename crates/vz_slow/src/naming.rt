@@ -34,7 +34,7 @@ impl<'a> World<'a> {
     }
 
     /// Every existing surface that is named now is named from now on.
-    pub fn name_all(&mut self) -> Result<(), AllocError>
+    pub(crate) fn name_all(&mut self) -> Result<(), AllocError>
         ensures { OnOk result (self.new ≡ naming self.old) }
     {
         let ends = self.ends(&self.subs)?;

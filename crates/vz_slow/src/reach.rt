@@ -123,7 +123,7 @@ impl<'a> World<'a> {
     }
 
     /// The reached surfaces.
-    pub fn reach(&self) -> Result<Vec<SurfaceId>, AllocError>
+    pub(crate) fn reach(&self) -> Result<Vec<SurfaceId>, AllocError>
         ensures { IfOk result (λ v. v.items ≡ reach self.now) }
     {
         let frames = active_frames(self.alloc, &self.subs)?;

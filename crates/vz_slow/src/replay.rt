@@ -8,7 +8,7 @@ use crate::slow::Slow;
 use std::alloc::Global;
 use vz_frame::List;
 use vz_pixels::{Memory, Pixel};
-use vz_plain::picture::picture;
+use vz_plain::picture;
 use vz_rules::{Entry, Event, History, Plan};
 
 /// A step of which only the world that it leaves is wanted. Condition: a client's event is of

@@ -14,7 +14,7 @@ use vz_state::{Client, all_held, new_clients};
 impl<'a> World<'a> {
     /// The world before the first step, where the Over mark may stand already.
     #[tactic(auto, unfolding(vz_rules::specs::World::opening))]
-    pub fn new(alloc: Global, plan: &Plan, over: bool) -> Result<World<'a>, AllocError>
+    pub(crate) fn new(alloc: Global, plan: &Plan, over: bool) -> Result<World<'a>, AllocError>
         ensures { IfOk result (λ w. w ≡ record (opening plan.now) { over = over }) }
     {
         let clients = new_clients(alloc, plan.files())?;
@@ -57,7 +57,7 @@ impl<'a> World<'a> {
 
     /// What is still out: references, by client and id, and submissions, by client and ordinal.
     #[tactic(auto, unfolding(vz_rules::specs::Log::rest_in))]
-    pub fn rest(&self) -> Result<Rest, AllocError>
+    pub(crate) fn rest(&self) -> Result<Rest, AllocError>
         ensures { IfOk result (λ r. r ≡ rest_in self.now) }
     {
         let held = all_held(self.alloc, &self.clients)?;

@@ -13,7 +13,7 @@ use vz_state::{Holders, feed_all, give_back_clients, outs_of, unfed_of};
 impl<'a> World<'a> {
     /// What goes back to its clients is queued, and told, by client and rising id. Condition:
     /// there is room for all that is out.
-    pub fn give_back(&mut self, told: &mut Room<Returned>)
+    pub(crate) fn give_back(&mut self, told: &mut Room<Returned>)
         requires { all_outs self.old.clients ≤ told.old.spare }
         ensures world { self.new ≡ give_back self.old }
         ensures told { IsPutInto told.old told.new (returned_in self.old) }
@@ -24,7 +24,7 @@ impl<'a> World<'a> {
 
     /// Feedback is given, and told, in the order of acceptance. Condition: there is room for
     /// all submissions without feedback.
-    pub fn feed(&mut self, presented: &[Sub], told: &mut Room<Fed>)
+    pub(crate) fn feed(&mut self, presented: &[Sub], told: &mut Room<Fed>)
         requires { unfed self.old.subs ≤ told.old.spare }
         ensures world { self.new ≡ feed presented.now self.old }
         ensures told { IsPutInto told.old told.new (fed_in presented.now self.old) }
@@ -34,14 +34,14 @@ impl<'a> World<'a> {
 
     /// How many resources of all clients have references out. A number that is no `usize` is
     /// want of memory, since there is no room for so many.
-    pub fn outs(&self) -> Result<usize, AllocError>
+    pub(crate) fn outs(&self) -> Result<usize, AllocError>
         ensures { IfOk result (λ n. n ≡ all_outs self.now.clients) }
     {
         Ok(outs_of(&self.clients)?)
     }
 
     /// How many submissions have no feedback.
-    pub fn unfed(&self) -> usize
+    pub(crate) fn unfed(&self) -> usize
         ensures { result ≡ unfed self.now.subs }
     {
         unfed_of(&self.subs)

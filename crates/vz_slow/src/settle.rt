@@ -178,7 +178,7 @@ impl<'a> World<'a> {
 
     /// Rounds until one changes nothing. The answer is what became active, by rounds, and in
     /// a round in the order of acceptance.
-    pub fn settle(&mut self) -> Result<Vec<Sub>, AllocError>
+    pub(crate) fn settle(&mut self) -> Result<Vec<Sub>, AllocError>
         ensures activated { IfOk result (λ v. v.items ≡ activated_in self.old) }
         ensures world { OnOk result (self.new ≡ settle self.old) }
     {

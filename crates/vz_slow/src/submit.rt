@@ -13,8 +13,7 @@ use vz_frame::CompositorFrame;
 use vz_ids::{Sub, SurfaceId};
 use vz_pixels::PixelBlock;
 use vz_rules::{Refusal, Reply};
-use vz_scene::SubmittedFrame;
-use vz_scene::frame::frame_size;
+use vz_scene::{SubmittedFrame, frame_size};
 use vz_state::{
     Change, Submission, Surface, count_created, count_of_client, count_on, is_last, last_created,
     number_after, replace_all,
@@ -110,7 +109,7 @@ impl<'a> World<'a> {
     }
 
     /// A submission is accepted, or refused.
-    pub fn submit(
+    pub(crate) fn submit(
         &mut self,
         c: u32,
         refusal: Option<Refusal>,

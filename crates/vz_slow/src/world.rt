@@ -9,7 +9,7 @@ use vz_state::{Client, Submission, Surface};
 /// The state of the machine. Surfaces stand in the order of creation, submissions in that of
 /// acceptance.
 #[derive(Drop)]
-pub struct World<'a> {
+pub(crate) struct World<'a> {
     pub(crate) alloc: Global,
     pub(crate) clients: Vec<Client<'a>>,
     pub(crate) surfaces: Vec<Surface>,

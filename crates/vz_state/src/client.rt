@@ -102,7 +102,7 @@ impl<'a> Client<'a> {
     }
 
     /// Whether this is the sink of a client that has closed.
-    pub fn has_gone(&self, sink: FrameSinkId) -> bool
+    pub(crate) fn has_gone(&self, sink: FrameSinkId) -> bool
         ensures { result ≡ (self.now.closed && same_sink self.now.sink sink) }
     {
         self.closed && self.sink == sink

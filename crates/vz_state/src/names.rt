@@ -51,7 +51,7 @@ pub fn named_flags(
 }
 
 /// Whether a surface is one of these.
-pub fn has_id(ids: &[SurfaceId], id: &SurfaceId) -> bool
+pub(crate) fn has_id(ids: &[SurfaceId], id: &SurfaceId) -> bool
     ensures { result ≡ has_id ids.now id.now }
 {
     ids.iter().any(|other| *id == *other)

@@ -12,7 +12,7 @@ use vz_frame::{CompositorFrame, Listing, check};
 use vz_geom::Size;
 use vz_ids::LocalSurfaceId;
 use vz_rules::Refusal;
-use vz_scene::frame::frame_size;
+use vz_scene::frame_size;
 
 /// Whether both sides are equal.
 fn is_same_size(a: Size, b: Size) -> bool

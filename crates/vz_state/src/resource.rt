@@ -47,7 +47,7 @@ impl<'a> Resource<'a> {
     }
 
     /// Its block.
-    pub fn block(&self) -> &'a PixelBlock
+    pub(crate) fn block(&self) -> &'a PixelBlock
         ensures { result.now ≡ self.now.block }
     {
         self.block
@@ -89,7 +89,7 @@ impl<'a> Resource<'a> {
 }
 
 /// The resource of this id, if it was ever stored.
-pub fn resource_of<'b, 'a>(resources: &'b [Resource<'a>], id: u32) -> Option<&'b Resource<'a>>
+pub(crate) fn resource_of<'b, 'a>(resources: &'b [Resource<'a>], id: u32) -> Option<&'b Resource<'a>>
     ensures { option_copied result ≡ resource_in id resources.now }
 {
     resources.iter().find(|resource| resource.id == id)
@@ -106,7 +106,7 @@ pub fn in_use(resources: &[Resource<'_>], id: u32) -> bool
 }
 
 /// Whether a resource is listed.
-pub fn is_listed(id: u32, listings: &[Listing]) -> bool
+pub(crate) fn is_listed(id: u32, listings: &[Listing]) -> bool
     ensures { result ≡ list_any (lists id) listings.now }
 {
     listings.iter().any(|listing| listing.id == id)
@@ -121,14 +121,14 @@ fn is_served(resources: &[Resource<'_>], listing: &Listing) -> bool
 }
 
 /// Whether a listing has no stored block of its size.
-pub fn is_unknown(resources: &[Resource<'_>], listing: &Listing) -> bool
+pub(crate) fn is_unknown(resources: &[Resource<'_>], listing: &Listing) -> bool
     ensures { result ≡ is_unknown resources.now listing.now }
 {
     !is_served(resources, listing)
 }
 
 /// Each listing lends one reference. Condition: not many are lent.
-pub fn lend_all(resources: &mut [Resource<'_>], listings: &[Listing])
+pub(crate) fn lend_all(resources: &mut [Resource<'_>], listings: &[Listing])
     requires { AreSmallResources resources.old }
     ensures { resources.new ≡ map (lend listings.now) resources.old }
 {
@@ -138,7 +138,7 @@ pub fn lend_all(resources: &mut [Resource<'_>], listings: &[Listing])
 }
 
 /// What is queued of each resource is reclaimed.
-pub fn reclaim_all(resources: &mut [Resource<'_>])
+pub(crate) fn reclaim_all(resources: &mut [Resource<'_>])
     ensures { resources.new
         ≡ map (λ (s : ResourceState). record s { reclaimed = s.queued }) resources.old }
 {
@@ -166,7 +166,7 @@ fn place_for(resources: &[Resource<'_>], id: u32) -> usize
 }
 
 /// The id names the block from now on, or nothing changes.
-pub fn put<'a>(
+pub(crate) fn put<'a>(
     resources: &mut Vec<Resource<'a>>,
     id: u32,
     block: &'a PixelBlock,

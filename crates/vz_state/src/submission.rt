@@ -78,7 +78,7 @@ impl<'a> Submission<'a> {
     }
 
     /// Whether it is on this surface.
-    pub fn is_on(&self, id: &SurfaceId) -> bool
+    pub(crate) fn is_on(&self, id: &SurfaceId) -> bool
         ensures { result ≡ is_on id.now self.now }
     {
         self.submitted.id() == *id

@@ -15,8 +15,7 @@ use vz_geom::{Rect, Size};
 use vz_pixels::Pixel;
 use vz_play::Played;
 use vz_rules::Event;
-use vz_slow::laws::histories_name_clients;
-use vz_slow::plain_frame as picture_after;
+use vz_slow::{histories_name_clients, plain_frame as picture_after};
 
 /// Puts the bytes of pixels behind others.
 fn put_pixels(bytes: &mut Vec<u8>, pixels: &[Pixel]) -> Result<(), Fail> {

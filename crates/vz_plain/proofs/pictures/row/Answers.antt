@@ -2,7 +2,7 @@ use Rattle.std.proofs.Common.{◌+◌, ◌-◌, ◌++◌, pos, map, ap, ◌∙�
 use Rattle.vz_geom.specs.Rectangle.{row_points}
 use Rattle.vz_plain.specs.Shown.{colour_of}
 use Rattle.vz_plain.proofs.Filling.{row_more}
-use Rattle.vz_plain.proofs.picture.row.Goals as goal
+use Rattle.vz_plain.proofs.pictures.row.Goals as goal
 
 pub loop-x-preserved : goal.loop-x-preserved
 loop-x-preserved c =

@@ -1,7 +1,7 @@
 use Rattle.std.proofs.Common.{◌≡◌, ◌-◌, ◌++◌, pos, map}
 use Rattle.vz_geom.specs.Rectangle.{rows_points}
 use Rattle.vz_plain.specs.Shown.{colour_of}
-use Rattle.vz_plain.proofs.picture.rows.Given as goal
+use Rattle.vz_plain.proofs.pictures.rows.Given as goal
 
 -- with the rows from y on it is the whole picture
 abbrev pub invariant-loop-y : goal.invariant-loop-y

@@ -40,7 +40,7 @@ fn colour_at(active: &ActiveFrames<'_, '_>, root: &Option<SurfaceId>, p: Point) 
 
 /// The colours of a row are put behind others, from the first column on. Condition: it is a
 /// row of a display.
-pub fn row(
+pub(crate) fn row(
     active: &ActiveFrames<'_, '_>,
     root: &Option<SurfaceId>,
     w: u32,

@@ -1,7 +1,7 @@
 use Rattle.std.proofs.Common.{◌≡◌, ◌-◌, ◌++◌, pos, map}
 use Rattle.vz_geom.specs.Rectangle.{row_points}
 use Rattle.vz_plain.specs.Shown.{colour_of}
-use Rattle.vz_plain.proofs.picture.row.Given as goal
+use Rattle.vz_plain.proofs.pictures.row.Given as goal
 
 -- with the columns from x on it is the whole row
 abbrev pub invariant-loop-x : goal.invariant-loop-x

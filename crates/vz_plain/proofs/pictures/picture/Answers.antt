@@ -3,7 +3,7 @@ use Rattle.vz_geom.specs.Rectangle.{points_of}
 use Rattle.vz_rules.specs.World.{FrameData}
 use Rattle.vz_plain.specs.Shown.{colour_of}
 use Rattle.vz_plain.proofs.Filling.{picture_is}
-use Rattle.vz_plain.proofs.picture.picture.Goals as goal
+use Rattle.vz_plain.proofs.pictures.picture.Goals as goal
 
 pub returns : goal.returns
 returns c =

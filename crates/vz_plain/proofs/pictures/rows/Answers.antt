@@ -1,6 +1,6 @@
 use Rattle.vz_plain.specs.Shown.{colour_of}
 use Rattle.vz_plain.proofs.Filling.{rows_more}
-use Rattle.vz_plain.proofs.picture.rows.Goals as goal
+use Rattle.vz_plain.proofs.pictures.rows.Goals as goal
 
 pub loop-y-preserved : goal.loop-y-preserved
 loop-y-preserved c =
