@@ -13,6 +13,7 @@ use std::sync::ledger::Ledger;
 use vz_buffers::Steps;
 use vz_codec::DecodeError;
 use vz_frame::ClientFile;
+use vz_plain_machine::PlainMachine;
 use vz_play::{event_of, is_of_plan, play};
 use vz_rules::{Event, Plan};
 
@@ -38,7 +39,16 @@ pub fn results_of_plain<L: Ledger>(
 {
     let plan = plan_of(rt, case)?;
     let events = events_of(rt, case, &plan)?;
-    let played = memory(play(rt.alloc(), &plan, &events, buffers, steps))?;
+    let _files = plan.files();
+    let machine = PlainMachine::new(rt.alloc(), &plan);
+    let played = memory(play(
+        rt.alloc(),
+        machine,
+        plan.size(),
+        &events,
+        buffers,
+        steps,
+    ))?;
     let log = memory(vz_journal::write(rt.alloc(), &played.history, &played.rest))?;
     Ok(Left {
         log: log.into_bytes(),

@@ -1,63 +1,68 @@
--- A history goes on by an entry, and a display by a picture.
-use Rattle.std.proofs.Common.{◌≡◌, List, [], ◌∷◌, ◌++◌, map, refl, sym, ap, subst, ◌∙◌}
+-- A player goes on by an event.
+use Rattle.std.proofs.Common.{◌≡◌, ℕ, Bool, true, false, List, [], ◌∷◌, ◌++◌, map, length, refl, sym, ap, subst, ◌∙◌, ◌+◌, add-zero, arith}
 use Rattle.std.proofs.lemmas.List.{map-append}
 use Rattle.vz_geom.specs.declared.Size.{Size}
+use Rattle.vz_pixels.specs.Colour.{Colour}
+use Rattle.vz_buffers.specs.Canvas.{pixel_count}
 use Rattle.vz_rules.specs.Plan.{Plan}
+use Rattle.vz_rules.specs.World.{World}
 use Rattle.vz_rules.specs.declared.entry.Event.{Event}
 use Rattle.vz_rules.specs.declared.entry.Entry.{Entry}
-use Rattle.vz_rules.specs.declared.entry.Rest.{Rest}
-use Rattle.vz_rules.specs.World.{World, opening}
-use Rattle.vz_rules.specs.Step.{step_in, entry_in, world, world_from, NamesClient, Legal, LegalFrom}
-use Rattle.vz_rules.specs.Log.{rest_in, rest_of}
-use Rattle.vz_rules.proofs.Runs.{world-more, legal-more}
-use Rattle.vz_buffers.specs.Turns.{damaged, turned}
-use Rattle.vz_machine.specs.Pictured.{Pictured}
-use Rattle.vz_display.specs.Displayed.{Displayed, shown}
+use Rattle.vz_rules.specs.Step.{entry_in}
+use Rattle.vz_rules.specs.Frames.{frames_bytes, written, written_of, painted, painted_of, drawn_frames, drawn_frames_from}
+use Rattle.vz_display.specs.Displayed.{Displayed, current, buffer_with}
+use Rattle.vz_player.specs.Played.{Played, first_played, next_entry, played_on, frames_of, painted_by, Writes}
+use Rattle.vz_play.specs.Playing.{PutsFrame}
+use Rattle.vz_play.proofs.Bytes.{frames_more}
 
--- an entry is of its event
-event_is : (p : Plan) (w : World) (v : Event) (e : Entry) → e ≡ entry_in p w v → e.event ≡ v
+pub same_plan : (old new : Played) (v : Event) → new ≡ played_on old v → new.plan ≡ old.plan
+unfolding played_on
+same_plan old new v is = ap (λ (p : Played). p.plan) is
+
+pub same_buffers : (old new : Played) (v : Event) → new ≡ played_on old v → new.buffers ≡ old.buffers
+unfolding played_on
+same_buffers old new v is = ap (λ (p : Played). p.buffers) is
+
+pub still_going : (old new : Played) (v : Event) → new ≡ played_on old v → old.stopped ≡ false → new.stopped ≡ false
+unfolding played_on
+still_going old new v is going = ap (λ (p : Played). p.stopped) is ∙ going
+
+event_is : (p : Plan) (w : World) (v : Event) → (entry_in p w v).event ≡ v
 unfolding entry_in
-event_is p w v e is = ap (λ (x : Entry). x.event) is
-
--- the world goes on by the step
-pub behind_more : (p : Plan) (w u : World) (v : Event) (e : Entry) (h g : List Entry) → w ≡ world p h → e ≡ entry_in p w v → g ≡ h ++ e ∷ [] → u ≡ (step_in p w v).world → u ≡ world p g
-behind_more p w u v e h g behind is more goes =
-    goes ∙ (ap (λ x. (step_in p x v).world) behind ∙ (ap (λ x. (step_in p (world p h) x).world) (sym (event_is p w v e is))
-    ∙ (sym (world-more p h e) ∙ ap (world p) (sym more))))
-
--- a legal history stays legal
-pub legal_more : (p : Plan) (w : World) (v : Event) (e : Entry) (h g : List Entry) → w ≡ world p h → e ≡ entry_in p w v → g ≡ h ++ e ∷ [] → NamesClient p v → Legal p h → Legal p g
-legal_more p w v e h g behind is more named legal =
-    let same = event_is p w v e is in
-    subst (Legal p) (sym more)
-    (legal-more p h e legal (subst (NamesClient p) (sym same) named)
-    (is ∙ (ap (λ x. entry_in p x v) behind ∙ ap (entry_in p (world p h)) (sym same))))
+event_is p w v = refl
 
 -- the events of a history with an entry more
-pub events_more : (p : Plan) (w : World) (v : Event) (e : Entry) (h g : List Entry) → e ≡ entry_in p w v → g ≡ h ++ e ∷ []
-    → map (λ (x : Entry). x.event) g ≡ map (λ (x : Entry). x.event) h ++ v ∷ []
-events_more p w v e h g is more =
-    ap (map (λ (x : Entry). x.event)) more
-    ∙ (map-append (λ (x : Entry). x.event) h (e ∷ []) ∙ ap (λ y. map (λ (x : Entry). x.event) h ++ y ∷ []) (event_is p w v e is))
+pub events_more : (old new : Played) (v : Event) (events : List Event) → new ≡ played_on old v → map (λ (e : Entry). e.event) old.history ≡ events → map (λ (e : Entry). e.event) new.history ≡ events ++ v ∷ []
+unfolding played_on
+events_more old new v events is so_far =
+    ap (λ (p : Played). map (λ (e : Entry). e.event) p.history) is
+    ∙ (map-append (λ (e : Entry). e.event) old.history (next_entry old v ∷ [])
+    ∙ (ap (λ x. map (λ (e : Entry). e.event) old.history ++ x ∷ []) (event_is old.plan _ v) ∙ ap (λ l. l ++ v ∷ []) so_far))
 
--- a display keeps its size
-pub size_stays : (d n : Displayed) (p : Pictured) (size : Size) → d.turns.size ≡ size → n ≡ shown d p → n.turns.size ≡ size
-unfolding shown damaged turned
-size_stays d n p size same is = ap (λ (x : Displayed). x.turns.size) is ∙ same
+-- nothing was drawn
+pub frames_stay : (old new : Played) (b : Bool) (bytes : List ℕ) → b ≡ false → Writes old new b → bytes ≡ frames_bytes (frames_of old) → bytes ≡ frames_bytes (frames_of new)
+frames_stay old new true bytes none writes before = absurd (cc)
+frames_stay old new false bytes none writes before = before ∙ ap frames_bytes (sym writes)
+
+-- a frame was drawn, and its bytes were put behind those before
+pub frames_put : (old new : Played) (b : Bool) (d : Displayed) (size : Size) (bytes more : List ℕ) → b ≡ true → Writes old new b → bytes ≡ frames_bytes (frames_of old) → new.plan.size ≡ size
+    → ((earlier : List (List Colour)) (frame : List Colour) → frames_of new ≡ earlier ++ frame ∷ [] → current d ≡ buffer_with new.plan.size frame)
+    → ((earlier : List (List Colour)) (frame : List Colour) → frames_of new ≡ earlier ++ frame ∷ [] → length frame ≡ pixel_count new.plan.size)
+    → PutsFrame size d bytes more → more ≡ frames_bytes (frames_of new)
+frames_put old new false d size bytes more some writes before same shown whole puts = absurd (cc)
+frames_put old new true d size bytes more some writes before same shown whole puts =
+    frames_more (frames_of old) (frames_of new) writes.0 bytes more before writes.1
+    (puts writes.0 (shown (frames_of old) writes.0 writes.1 ∙ ap (λ (s : Size). buffer_with s writes.0) same) (whole (frames_of old) writes.0 writes.1 ∙ ap pixel_count same))
 
 -- before the first event
-pub at_first : (p : Plan) (h : List Entry) → h ≡ [] → opening p ≡ world p h
-unfolding world world_from
-at_first p h none = subst (λ l. opening p ≡ world p l) (sym none) refl
+pub starts : (first : Played) (p : Plan) (count start : ℕ) → first ≡ first_played p count
+    → (first.plan ≡ p) × (first.buffers ≡ count) × (first.stopped ≡ false) × (map (λ (e : Entry). e.event) first.history ≡ []) × ([] ≡ frames_bytes (frames_of first)) × (start ≡ start + painted_by first)
+unfolding frames_bytes written written_of drawn_frames drawn_frames_from painted painted_of
+starts first p count start is = subst Starts (sym is) (refl, refl, refl, refl, refl, sym (add-zero start))
+  where
+    Starts : Played → Type 0
+    Starts x = (x.plan ≡ p) × (x.buffers ≡ count) × (x.stopped ≡ false) × (map (λ (e : Entry). e.event) x.history ≡ []) × ([] ≡ frames_bytes (frames_of x)) × (start ≡ start + painted_by x)
 
-pub legal_first : (p : Plan) (h : List Entry) → h ≡ [] → Legal p h
-unfolding Legal LegalFrom
-legal_first p h none = subst (Legal p) (sym none) tt
-
-pub events_first : (h : List Entry) → h ≡ [] → map (λ (x : Entry). x.event) h ≡ []
-events_first h none = ap (map (λ (x : Entry). x.event)) none
-
--- what is out behind a history
-pub rest_is : (p : Plan) (w : World) (h : List Entry) (r : Rest) → w ≡ world p h → r ≡ rest_in w → r ≡ rest_of p h
-unfolding rest_of
-rest_is p w h r behind is = is ∙ ap rest_in behind
+-- the steps so far
+pub steps_more : (start before after old new : ℕ) → before ≡ start + old → after + old ≡ before + new → after ≡ start + new
+steps_more start before after old new so_far counted = omega (arith, so_far, counted)

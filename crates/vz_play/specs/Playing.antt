@@ -1,10 +1,13 @@
--- What is drawn at a step.
-use Rattle.std.specs.Prelude.{Option, Some, None}
-use Rattle.vz_geom.specs.Rectangle.{Rectangle}
-use Rattle.vz_rules.specs.declared.entry.Reply.{Reply}
-use Rattle.vz_rules.specs.declared.entry.Reply.TheVariants.{Drawn}
+-- What is put behind other bytes.
+use Rattle.std.specs.Prelude.{◌≡◌, ℕ, List, ◌++◌, length}
+use Rattle.std.specs.List.{flat_map}
+use Rattle.vz_geom.specs.declared.Size.{Size}
+use Rattle.vz_pixels.specs.Colour.{Colour}
+use Rattle.vz_buffers.specs.Canvas.{pixel_count}
+use Rattle.vz_rules.specs.Frames.{pixel_bytes}
+use Rattle.vz_display.specs.Displayed.{Displayed, current, buffer_with}
 
--- the damage of a reply that says that something is drawn
-abbrev pub damage_in : Reply → Option Rectangle
-damage_in (Drawn damage) = Some damage
-damage_in _ = None
+-- the bytes of the frame in a display's current buffer stand behind those before
+abbrev pub PutsFrame : Size → Displayed → List ℕ → List ℕ → Type 0
+PutsFrame size d old new =
+    (frame : List Colour) → current d ≡ buffer_with size frame → length frame ≡ pixel_count size → new ≡ old ++ flat_map pixel_bytes frame

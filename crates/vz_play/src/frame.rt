@@ -1,7 +1,10 @@
 //! The bytes of the frames of a display.
-ghost use Rattle.std.specs.Prelude.{◌≡◌, ◌*◌, nat_abs, vec_len, IfOk, IsSome};
+ghost use Rattle.std.specs.Prelude.{◌≡◌, ◌*◌, ◌++◌, ◌≤ℤ◌, ◌<ℤ◌, pos, nat_abs, length, vec_len, IfOk, OnOk, IsSome, IfSome};
+ghost use Rattle.std.specs.List.{flat_map};
 ghost use Rattle.vz_geom.specs.Display.{IsDisplaySize};
-ghost use Rattle.vz_display.specs.Displayed.{current};
+ghost use Rattle.vz_rules.specs.Frames.{pixel_bytes};
+ghost use Rattle.vz_display.specs.Displayed.{current, row_at};
+ghost use Rattle.vz_play.specs.Playing.{PutsFrame};
 
 use std::alloc::Global;
 use vz_base::Memory;
@@ -28,11 +31,35 @@ pub fn push_frame(
     requires size { display.now.turns.size ≡ size }
     requires sides { IsDisplaySize size }
     requires shown { IsSome (current display.now) }
+    ensures frame { OnOk result
+        (PutsFrame size display.now frames.old.items frames.new.items) }
 {
     let mut row = row_of(alloc, size)?;
     for y in 0..size.h {
-        display.row(y, &mut row);
-        frames.extend_from_slice(&row)?;
+        push_row(display, size, y, &mut row, frames)?;
     }
+    Ok(())
+}
+
+/// Puts the bytes of a row of the current frame behind others. Conditions: the size is the display's,
+/// a picture was shown, the row is one of the display, and there are four bytes for each of its
+/// pixels.
+fn push_row(
+    display: &Display,
+    size: Size,
+    y: i32,
+    row: &mut [u8],
+    frames: &mut Vec<u8>,
+) -> Result<(), Memory>
+    requires size { display.now.turns.size ≡ size }
+    requires shown { IsSome (current display.now) }
+    requires top { pos 0 ≤ℤ y }
+    requires bottom { y <ℤ size.h }
+    requires bytes { length row.old ≡ 4 * nat_abs size.w }
+    ensures row { OnOk result (IfSome (current display.now)
+        (λ b. frames.new.items ≡ frames.old.items ++ flat_map pixel_bytes (row_at b y))) }
+{
+    display.row(y, row);
+    frames.extend_from_slice(row)?;
     Ok(())
 }

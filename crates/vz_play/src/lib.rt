@@ -1,11 +1,10 @@
-//! Events on the plain machine, and its pictures on a display whose buffers are painted in turn:
-//! the history, what is still out and the frames, by the plain programs alone.
+//! Events taken by a machine one after the other, with no other caller between them, and the bytes
+//! of the frames that its display shows.
 #![tactic(auto)]
 
-mod drawing;
 mod events;
 mod frame;
-mod turns;
+mod playing;
 
 pub use events::{event_of, is_of_plan};
-pub use turns::{Played, play};
+pub use playing::{Results, play};

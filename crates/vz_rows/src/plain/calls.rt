@@ -13,7 +13,7 @@ use vz_buffers::Queue;
 use vz_gen::make;
 use vz_geom::{Rect, Size};
 use vz_pixels::Pixel;
-use vz_play::Played;
+use vz_play::Results;
 use vz_rules::Event;
 use vz_slow::{histories_name_clients, plain_frame as picture_after};
 
@@ -114,7 +114,7 @@ struct Sums {
 }
 
 /// The sums of what is left.
-fn sums_of(left: &Played) -> Sums {
+fn sums_of(left: &Results) -> Sums {
     let mut sums = Sums {
         entries: 0,
         frames: 0,

@@ -13,7 +13,8 @@ use std::test::Fail;
 use vz_buffers::Steps;
 use vz_frame::ClientFile;
 use vz_geom::Size;
-use vz_play::{Played, is_of_plan, play};
+use vz_plain_machine::PlainMachine;
+use vz_play::{Results, is_of_plan, play};
 use vz_rules::{Event, Plan};
 
 /// How many buffers the display has.
@@ -59,7 +60,7 @@ fn of_plan(alloc: Global, plan: &Plan, events: &[Event]) -> Result<Vec<Event>, F
 }
 
 /// What events leave of a plan on the plain machine.
-pub fn played(alloc: Global, plan: &Plan, events: &[Event]) -> Result<Played, Fail>
+pub fn played(alloc: Global, plan: &Plan, events: &[Event]) -> Result<Results, Fail>
     ensures legal { IfOk result (λ p. Legal plan.now p.history) }
 {
     let events = of_plan(alloc, plan, events)?;
@@ -71,7 +72,7 @@ fn counted<L: Ledger>(
     plan: &Plan,
     events: &[Event],
     blank: Blank,
-) -> Result<Played, Fail>
+) -> Result<Results, Fail>
     requires named { All (NamesClient plan.now) events.now }
     requires name { blank.name ≡ L.name }
     requires parts { blank.parts ≡ L.parts }
@@ -79,7 +80,9 @@ fn counted<L: Ledger>(
     ensures legal { IfOk result (λ p. Legal plan.now p.history) }
 {
     let mut steps = Steps::<L>::new(blank);
-    match play(alloc, plan, events, BUFFERS, &mut steps) {
+    let _files = plan.files();
+    let machine = PlainMachine::new(alloc, plan);
+    match play(alloc, machine, plan.size(), events, BUFFERS, &mut steps) {
         Ok(played) => Ok(played),
         Err(_) => Err("want of memory")?,
     }
