@@ -1,0 +1,3 @@
+pub mod Behaving
+pub mod Adding
+mod Row_bytes
