@@ -13,33 +13,39 @@ use vz_outside::{Shelf, ShelfError, write_all};
 /// How many bytes of a frame are written in one piece at most.
 const MOST_PIECE_BYTES: usize = 65_536;
 
-/// Writes the frame that a display shows at the end of a slot's file: its rows from top to bottom,
-/// and of each pixel the bytes r, g, b and a. At an error a front part of it was written, maybe
-/// none. Conditions: the slot is open for writing, the display has this size, and it shows a frame
-/// with a pixel for each point.
+/// Where frames are written: the slot of a file, and the size of the frames.
+#[derive(Clone, Copy, Debug, PartialEq, Eq)]
+pub struct FrameFile {
+    pub slot: u32,
+    pub size: Size,
+}
+
+/// Writes the frame that a display shows at the end of a file: its rows from top to bottom, and of
+/// each pixel the bytes r, g, b and a. At an error a front part of it was written, maybe none.
+/// Conditions: the slot is open for writing, the display has the size of the frames, and it shows a
+/// frame with a pixel for each point.
 pub fn write_frame<F: Shelf>(
     alloc: Global,
     shelf: &mut F,
-    slot: u32,
+    file: FrameFile,
     display: &Display,
-    size: Size,
 ) -> Result<(), ShelfError>
-    requires open { (F.shelved shelf.old).mode slot ≡ Some Writing }
-    requires size { display.now.turns.size ≡ size }
+    requires open { (F.shelved shelf.old).mode file.slot ≡ Some Writing }
+    requires size { display.now.turns.size ≡ file.size }
     requires shows { ShowsFrame display.now }
     ensures appended { OnOk result (Appends (flat_map pixel_bytes (frame_on display.now))
-        ((F.shelved shelf.old).name slot) (F.shelved shelf.old) (F.shelved shelf.new)) }
+        ((F.shelved shelf.old).name file.slot) (F.shelved shelf.old) (F.shelved shelf.new)) }
     ensures begun { OnErr result (AppendsFront (flat_map pixel_bytes (frame_on display.now))
-        ((F.shelved shelf.old).name slot) (F.shelved shelf.old) (F.shelved shelf.new)) }
-    ensures others { KeepsOthers ((F.shelved shelf.old).name slot)
+        ((F.shelved shelf.old).name file.slot) (F.shelved shelf.old) (F.shelved shelf.new)) }
+    ensures others { KeepsOthers ((F.shelved shelf.old).name file.slot)
         (F.shelved shelf.old) (F.shelved shelf.new) }
     ensures behaves { Behaves (F.shelved shelf.old) (F.shelved shelf.new) result }
 {
-    let width = size.w.unsigned_abs() as usize;
-    let height = size.h.unsigned_abs() as usize;
+    let width = file.size.w.unsigned_abs() as usize;
+    let height = file.size.h.unsigned_abs() as usize;
     let mut piece = Vec::new(alloc);
     piece.resize(MOST_PIECE_BYTES.min(4 * width * height), 0)?;
-    write_pieces(shelf, slot, display, width, height, &mut piece)?;
+    write_pieces(shelf, file.slot, display, width, height, &mut piece)?;
     Ok(())
 }
 

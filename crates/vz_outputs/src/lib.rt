@@ -5,8 +5,10 @@ mod create;
 mod file;
 mod frame;
 mod log;
+mod play;
 
 pub use create::{Outputs, create_outputs};
 pub use file::write_file;
-pub use frame::write_frame;
+pub use frame::{FrameFile, write_frame};
 pub use log::write_log;
+pub use play::play_frames;
