@@ -1,0 +1,32 @@
+//! The log, written.
+ghost use Rattle.std.specs.Prelude.{◌≡◌, Some, OnOk, OnErr};
+ghost use Rattle.vz_outside.specs.Shelved.{Writing, KeepsOthers, Appends, AppendsFront, Behaves};
+ghost use Rattle.vz_rules.specs.Log.{log_text};
+
+use std::alloc::Global;
+use vz_frame::List;
+use vz_outside::{Shelf, ShelfError, write_all};
+use vz_rules::{Entry, Rest};
+
+/// Writes the log of a history, and of what is still out behind it, at the end of a slot's file. At
+/// an error a front part of it was written, maybe none. Condition: the slot is open for writing.
+pub fn write_log<F: Shelf>(
+    alloc: Global,
+    shelf: &mut F,
+    slot: u32,
+    history: &List<Entry>,
+    rest: &Rest,
+) -> Result<(), ShelfError>
+    requires { (F.shelved shelf.old).mode slot ≡ Some Writing }
+    ensures appended { OnOk result (Appends (log_text history.now rest.now)
+        ((F.shelved shelf.old).name slot) (F.shelved shelf.old) (F.shelved shelf.new)) }
+    ensures begun { OnErr result (AppendsFront (log_text history.now rest.now)
+        ((F.shelved shelf.old).name slot) (F.shelved shelf.old) (F.shelved shelf.new)) }
+    ensures others { KeepsOthers ((F.shelved shelf.old).name slot)
+        (F.shelved shelf.old) (F.shelved shelf.new) }
+    ensures behaves { Behaves (F.shelved shelf.old) (F.shelved shelf.new) result }
+{
+    let text = vz_journal::write(alloc, history, rest)?;
+    write_all(shelf, slot, text.as_bytes())?;
+    Ok(())
+}
