@@ -2,7 +2,7 @@
 use super::bytes::*;
 use std::alloc::Global;
 use std::test::*;
-use vz_codec::{FileRule, decode};
+use vz_codec::{DecodeError, FileRule, decode};
 use vz_frame::{Blend, ClientFile, DrawQuad, Material, Message};
 use vz_geom::{Point, Rect};
 use vz_ids::{EmbedToken, FrameSinkId, LocalSurfaceId};
@@ -183,5 +183,31 @@ fn every_kind_of_message(rt: HostRuntime) -> Result<(), Fail> {
         }
         _ => assert!(rt; false, "six messages"),
     }
+    Ok(())
+}
+
+/// Whether an error reads so.
+fn reads(alloc: Global, error: DecodeError, text: &str) -> Result<bool, Fail> {
+    let told = format!(in alloc; "{error}")?;
+    Ok(told.as_str() == text)
+}
+
+#[test]
+fn errors_read_aloud(rt: HostRuntime) -> Result<(), Fail> {
+    let alloc = rt.alloc();
+    let texts = [
+        (FileRule::Magic, "byte 3: no message file begins so"),
+        (FileRule::Version, "byte 3: the version is unknown"),
+        (FileRule::Short, "byte 3: the file ends in a field"),
+        (FileRule::Tag, "byte 3: the tag is unknown"),
+        (FileRule::Limit, "byte 3: a number is out of its range"),
+        (FileRule::Colour, "byte 3: a channel exceeds its alpha"),
+        (FileRule::Trailing, "byte 3: bytes are left over"),
+    ];
+    for (rule, text) in texts {
+        let error = DecodeError::Refused { at: 3, rule };
+        assert!(rt; reads(alloc, error, text)?);
+    }
+    assert!(rt; reads(alloc, DecodeError::Memory, "memory ran out")?);
     Ok(())
 }
