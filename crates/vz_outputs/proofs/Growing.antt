@@ -13,7 +13,7 @@ use Rattle.vz_rules.specs.declared.entry.Entry.{Entry}
 use Rattle.vz_rules.specs.Step.{world_from}
 use Rattle.vz_rules.specs.Frames.{DrawnFrame, drawn_frames, drawn_frames_from, pixel_bytes, repainted, stale, written_of, written, frames_bytes}
 use Rattle.vz_rules.proofs.Runs.{drawn_frames_from-append}
-use Rattle.vz_player.specs.Played.{Played, played_on, next_entry, frames_of}
+use Rattle.vz_player.specs.Played.{Played, first_played, played_on, next_entry, frames_of}
 
 -- newer drawings leave the frames of the earlier ones
 newer : (size : Size) (n : ℕ) (more before : List DrawnFrame) → (new : List (List Colour)) × (written_of size n (more ++ before) ≡ new ++ written_of size n before)
@@ -56,3 +56,8 @@ no_frame = refl
 pub one_frame : (frame : List Colour) → frames_bytes (frame ∷ []) ≡ flat_map pixel_bytes frame
 unfolding frames_bytes
 one_frame frame = append-nil (flat_map pixel_bytes frame)
+
+-- before the first event there is none
+pub no_frames : (p : Plan) (count : ℕ) → frames_bytes (frames_of (first_played p count)) ≡ []
+unfolding frames_bytes written drawn_frames drawn_frames_from written_of
+no_frames p count = refl

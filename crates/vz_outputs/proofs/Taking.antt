@@ -1,7 +1,8 @@
 -- What stands as a player takes events, and its frames are written.
-use Rattle.std.proofs.Common.{◌≡◌, ℕ, ◌+◌, ◌<◌, ◌⊎◌, Bool, true, false, List, [], ◌∷◌, ◌++◌, length, take, get_or, suc, Option, Some, None, inl, inr, refl, sym, ap, subst, ◌∙◌, append_assoc, append-nil, arith}
+use Rattle.std.proofs.Common.{◌≡◌, ℕ, ◌+◌, ◌<◌, ◌⊎◌, Bool, true, false, List, [], ◌∷◌, ◌++◌, length, map, take, get_or, suc, Option, Some, None, inl, inr, refl, sym, ap, subst, ◌∙◌, append_assoc, append-nil, arith}
 use Rattle.std.specs.List.{flat_map}
 use Rattle.std.proofs.Math.Seq.{take-suc}
+use Rattle.std.proofs.lemmas.List.{map-append}
 use Rattle.vz_geom.specs.declared.Size.{Size}
 use Rattle.vz_geom.specs.Display.{IsDisplaySize}
 use Rattle.vz_pixels.specs.Colour.{Colour}
@@ -10,8 +11,10 @@ use Rattle.vz_outside.proofs.Calls.{Ran, append_nothing, with_more-nil}
 use Rattle.vz_outside.specs.Shelved.{Shelved, Name, Writing, KeepsOthers, Appends, AppendsFront}
 use Rattle.vz_rules.specs.declared.entry.Event.{Event}
 use Rattle.vz_rules.specs.Frames.{frames_bytes, pixel_bytes}
+use Rattle.vz_rules.specs.declared.entry.Entry.{Entry}
+use Rattle.vz_rules.specs.Step.{entry_in}
 use Rattle.vz_display.specs.Displayed.{Displayed, current, buffer_with}
-use Rattle.vz_player.specs.Played.{Played, played_on, frames_of, painted_by, Writes, StopsAt}
+use Rattle.vz_player.specs.Played.{Played, played_on, next_entry, frames_of, painted_by, Writes, StopsAt}
 use Rattle.vz_outputs.specs.Shown.{ShowsFrame, frame_on}
 use Rattle.vz_outputs.specs.Taken.{played_all, StopsAmong, StopsWriting, AddsFrames, AddsFramesFront}
 use Rattle.vz_outputs.proofs.Adding.{HasAdded, none_added, more_added, front_added}
@@ -123,6 +126,19 @@ pub stopped_all : (p : Played) (events : List Event) → (played_all p events).s
 unfolding played_all played_on
 stopped_all p [] = refl
 stopped_all p (event ∷ events) = stopped_all (played_on p event) events
+
+pub buffers_all : (p : Played) (events : List Event) → (played_all p events).buffers ≡ p.buffers
+unfolding played_all played_on
+buffers_all p [] = refl
+buffers_all p (event ∷ events) = buffers_all (played_on p event) events
+
+-- the history has these events more
+pub events_all : (p : Played) (events : List Event) → map (λ (e : Entry). e.event) (played_all p events).history ≡ map (λ (e : Entry). e.event) p.history ++ events
+unfolding played_all played_on entry_in
+events_all p [] = sym (append-nil (map (λ (e : Entry). e.event) p.history))
+events_all p (event ∷ events) =
+    events_all (played_on p event) events
+    ∙ (ap (λ l. l ++ events) (map-append (λ (e : Entry). e.event) p.history (next_entry p event ∷ [])) ∙ append_assoc (map (λ (e : Entry). e.event) p.history) (event ∷ []) events)
 
 -- one more of the first events
 next_taken : (events : List Event) (i : ℕ) (d : Event) → i < length events → take (i + 1) events ≡ take i events ++ get_or events i d ∷ []

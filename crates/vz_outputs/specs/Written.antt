@@ -1,5 +1,5 @@
 -- Files that are written: what they hold, and what stands of them where writing was cut short.
-use Rattle.std.specs.Prelude.{◌≡◌, ◌≢◌, ◌⊎◌, ℕ, Some, List, [], ◌∷◌, take}
+use Rattle.std.specs.Prelude.{◌≡◌, ◌≢◌, ◌⊎◌, ℕ, Some, List, [], ◌∷◌, map, take}
 use Rattle.vz_outside.specs.Shelved.{Shelved, Name, Writing, IfKnown, Holds}
 
 -- a file that is written: its name, and its bytes
@@ -39,6 +39,20 @@ IsNoneOf name (one ∷ more) = (name ≢ one) × IsNoneOf name more
 abbrev pub KeepsAllBut : List Name → Shelved → Shelved → Type 0
 KeepsAllBut names before after =
     IfKnown before ((name : Name) → IsNoneOf name names → after.bytes name ≡ before.bytes name)
+
+-- the names of files
+abbrev pub names_of : List Output → List Name
+names_of outputs = map (λ output. output.name) outputs
+
+-- all of these files are whole, and every other name keeps its bytes
+pub record WritesAll (outputs : List Output) (before after : Shelved) : Type 0 where
+  pub whole : AreWhole outputs after
+  pub others : KeepsAllBut (names_of outputs) before after
+
+-- these files are begun, and every other name keeps its bytes
+pub record WritesSome (outputs : List Output) (before after : Shelved) : Type 0 where
+  pub begun : AreBegun outputs before after
+  pub others : KeepsAllBut (names_of outputs) before after
 
 -- a file is open for writing under a name, and holds what was written so far
 pub record IsOut (name : Name) (slot : ℕ) (held : List ℕ) (s : Shelved) : Type 0 where
