@@ -8,3 +8,4 @@ pub mod Following
 pub mod Drawing
 pub mod Reaching
 pub mod Replaying
+pub mod Asking
