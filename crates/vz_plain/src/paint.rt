@@ -335,7 +335,14 @@ pub(crate) fn full(active: &ActiveFrames<'_, '_>, root: &SurfaceId, point: Point
         None => Pixel::black(),
         Some(submitted) => {
             if is_inside(submitted, point) {
-                pix(active, LEVELS, &Path::Start, submitted, point, Pixel::black())
+                pix(
+                    active,
+                    LEVELS,
+                    &Path::Start,
+                    submitted,
+                    point,
+                    Pixel::black(),
+                )
             } else {
                 Pixel::black()
             }

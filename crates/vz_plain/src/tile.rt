@@ -61,7 +61,13 @@ fn texel_of(block: Option<&PixelBlock>, p: Point) -> Pixel
 /// The colour of a tile whose texel (tx, ty) stands at the first point. Condition: the point
 /// is close.
 #[tactic(auto, unfolding(vz_rules::specs::Paint::tile_colour))]
-pub(crate) fn tile_colour(submitted: &SubmittedFrame<'_>, id: u32, tx: u16, ty: u16, p: Point) -> Pixel
+pub(crate) fn tile_colour(
+    submitted: &SubmittedFrame<'_>,
+    id: u32,
+    tx: u16,
+    ty: u16,
+    p: Point,
+) -> Pixel
     requires { IsClose p }
     ensures { result ≡ tile_colour submitted.now id tx ty p }
 {

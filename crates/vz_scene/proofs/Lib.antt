@@ -10,3 +10,4 @@ pub mod Showing
 pub mod Chains
 pub mod Known
 pub mod Reaching
+pub mod Gathering

@@ -6,3 +6,4 @@ pub mod Order
 pub mod Groups
 pub mod Seen
 pub mod Reached
+pub mod Gathered

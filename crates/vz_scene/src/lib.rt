@@ -19,6 +19,7 @@ mod newest;
 mod place;
 mod scene;
 mod submitted;
+mod surface_set;
 mod visit;
 mod walk;
 
@@ -29,5 +30,6 @@ pub use damage::{remember, walked_subs};
 pub use frame::{frame_size, root_pass};
 pub use newest::Newest;
 pub use submitted::SubmittedFrame;
+pub use surface_set::SurfaceSet;
 pub use visit::{Visit, Walked};
 pub use walk::{LEVELS, walk_of};

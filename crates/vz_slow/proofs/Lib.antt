@@ -10,3 +10,4 @@ pub mod Following
 pub mod Drawing
 pub mod Reaching
 pub mod Replaying
+pub mod Asked_once

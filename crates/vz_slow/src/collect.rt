@@ -4,14 +4,14 @@ ghost use Rattle.vz_rules.specs.Reach.{reach, lost_in, clearing, collect, destro
 
 use crate::world::World;
 use std::alloc::AllocError;
-use vz_ids::SurfaceId;
 use vz_rules::Lost;
+use vz_scene::SurfaceSet;
 use vz_state::{Surface, by_client, destroy_all, drop_all};
 
 impl<'a> World<'a> {
     /// The surfaces that are lost. Condition: what is kept is what is reached.
     #[tactic(auto, unfolding(vz_rules::specs::Reach::lost_in))]
-    fn lost(&self, kept: &[SurfaceId]) -> Result<Vec<Surface>, AllocError>
+    fn lost(&self, kept: &SurfaceSet) -> Result<Vec<Surface>, AllocError>
         requires { kept.now ≡ reach self.now }
         ensures { IfOk result (λ v. v.items ≡ lost_in self.now) }
     {
@@ -24,7 +24,7 @@ impl<'a> World<'a> {
 
     /// The lost surfaces are destroyed, and the submissions on them end. Conditions: what is
     /// kept is what is reached, and what is lost follows from it.
-    fn clear(&mut self, kept: &[SurfaceId], lost: &[Surface])
+    fn clear(&mut self, kept: &SurfaceSet, lost: &[Surface])
         requires kept { kept.now ≡ reach self.old }
         requires lost { lost.now ≡ lost_in self.old }
         ensures { self.new ≡ clearing self.old }

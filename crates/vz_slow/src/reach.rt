@@ -10,8 +10,8 @@ use crate::world::World;
 use std::alloc::{AllocError, Global};
 use vz_base::limits::TEMPORARY_TICKS;
 use vz_ids::SurfaceId;
-use vz_scene::ActiveFrames;
-use vz_state::{Surface, active_frames, add_ids, all_shown, exists, has_closed};
+use vz_scene::{ActiveFrames, SurfaceSet};
+use vz_state::{Surface, active_frames, all_shown, exists, has_closed};
 
 impl<'a> World<'a> {
     /// Whether a surface is temporary: it exists, was not named, its client is not closed, and
@@ -38,14 +38,14 @@ impl<'a> World<'a> {
     }
 
     /// The root, where it exists.
-    fn root_list(&self) -> Result<Vec<SurfaceId>, AllocError>
-        ensures { IfOk result (λ v. v.items ≡ root_list self.now) }
+    fn root_list(&self) -> Result<SurfaceSet, AllocError>
+        ensures { IfOk result (λ s. s ≡ root_list self.now) }
     {
         match self.root {
-            None => Ok(Vec::new(self.alloc)),
+            None => Ok(SurfaceSet::new(self.alloc)),
             Some(id) => {
                 if !exists(&self.surfaces, &id) {
-                    return Ok(Vec::new(self.alloc));
+                    return Ok(SurfaceSet::new(self.alloc));
                 }
                 Ok(one(self.alloc, id)?)
             }
@@ -54,12 +54,12 @@ impl<'a> World<'a> {
 
     /// The root, where it exists, and every temporary surface.
     #[tactic(auto, unfolding(vz_rules::specs::Reach::roots))]
-    fn roots(&self) -> Result<Vec<SurfaceId>, AllocError>
-        ensures { IfOk result (λ v. v.items ≡ roots self.now) }
+    fn roots(&self) -> Result<SurfaceSet, AllocError>
+        ensures { IfOk result (λ s. s ≡ roots self.now) }
     {
         let mut ids = self.root_list()?;
         let others = self.temporary()?;
-        add_ids(&mut ids, &others)?;
+        ids.add_all(&others)?;
         Ok(ids)
     }
 
@@ -101,21 +101,22 @@ impl<'a> World<'a> {
         Ok(all)
     }
 
-    /// The reached surfaces. A step that adds none is the last. Condition: these are the active
-    /// frames.
-    fn reach_over(&self, active: &ActiveFrames<'_, 'a>) -> Result<Vec<SurfaceId>, AllocError>
+    /// The reached surfaces. What the frame of a surface references is asked once, and a step
+    /// that adds none is the last. Condition: these are the active frames.
+    fn reach_over(&self, active: &ActiveFrames<'_, 'a>) -> Result<SurfaceSet, AllocError>
         requires { active.now ≡ active_frames self.now.subs }
-        ensures { IfOk result (λ v. v.items
+        ensures { IfOk result (λ s. s
             ≡ closure same_surface (referenced self.now) (length active.now) (roots self.now)) }
     {
         let mut ids = self.roots()?;
+        let mut asked = 0;
         let mut left = active.as_slice().len();
         while left > 0 {
             left -= 1;
-            let others = self.all_referenced(active, &ids)?;
-            let before = ids.len();
-            add_ids(&mut ids, &others)?;
-            if ids.len() == before {
+            let others = self.all_referenced(active, &ids.as_slice()[asked..])?;
+            asked = ids.as_slice().len();
+            ids.add_all(&others)?;
+            if ids.as_slice().len() == asked {
                 return Ok(ids);
             }
         }
@@ -123,8 +124,8 @@ impl<'a> World<'a> {
     }
 
     /// The reached surfaces.
-    pub(crate) fn reach(&self) -> Result<Vec<SurfaceId>, AllocError>
-        ensures { IfOk result (λ v. v.items ≡ reach self.now) }
+    pub(crate) fn reach(&self) -> Result<SurfaceSet, AllocError>
+        ensures { IfOk result (λ s. s ≡ reach self.now) }
     {
         let frames = active_frames(self.alloc, &self.subs)?;
         let active = ActiveFrames::new(self.alloc, &frames)?;
@@ -133,10 +134,10 @@ impl<'a> World<'a> {
 }
 
 /// One surface alone.
-fn one(alloc: Global, id: SurfaceId) -> Result<Vec<SurfaceId>, AllocError>
-    ensures { IfOk result (λ v. v.items ≡ id ∷ []) }
+fn one(alloc: Global, id: SurfaceId) -> Result<SurfaceSet, AllocError>
+    ensures { IfOk result (λ s. s ≡ id ∷ []) }
 {
-    let mut ids = Vec::new(alloc);
-    ids.push(id)?;
+    let mut ids = SurfaceSet::new(alloc);
+    ids.add(&id)?;
     Ok(ids)
 }

@@ -33,7 +33,7 @@ pub use files::{file_of, next_message};
 pub use flags::{go_on_by, mark_by, name_by};
 pub use held::all_held;
 pub use lost::{by_client, destroy_all, drop_all};
-pub use names::{add_ids, all_shown, named_flags, range_ends};
+pub use names::{all_shown, named_flags, range_ends};
 pub use refusal::{is_last, submit_refusal};
 pub use resource::{Resource, in_use};
 pub use returns::{Holders, feed_all, give_back_clients, outs_of, unfed_of};

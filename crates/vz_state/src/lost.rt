@@ -5,16 +5,15 @@ ghost use Rattle.vz_rules.specs.World.{is_on};
 ghost use Rattle.vz_rules.specs.Reach.{is_lost, destroy, drop_on, lost_of};
 
 use crate::client::Client;
-use crate::names::has_id;
 use crate::submission::Submission;
 use crate::surface::Surface;
 use std::alloc::{AllocError, Global};
-use vz_ids::SurfaceId;
 use vz_rules::{Lost, State};
+use vz_scene::SurfaceSet;
 
 impl Surface {
     /// It is destroyed where it is marked and is not among those that are kept.
-    fn destroy(&mut self, kept: &[SurfaceId])
+    fn destroy(&mut self, kept: &SurfaceSet)
         ensures { self.new ≡ destroy kept.now self.old }
     {
         if self.is_lost(kept) {
@@ -23,10 +22,10 @@ impl Surface {
     }
 
     /// Whether it is marked, exists and is not among those that are kept.
-    pub fn is_lost(&self, kept: &[SurfaceId]) -> bool
+    pub fn is_lost(&self, kept: &SurfaceSet) -> bool
         ensures { result ≡ is_lost kept.now self.now }
     {
-        self.marked && !self.destroyed && !has_id(kept, &self.id)
+        self.marked && !self.destroyed && !kept.has(&self.id)
     }
 
     /// Its name, where it is this client's: the client, and its number among those that the
@@ -47,7 +46,7 @@ impl Surface {
 }
 
 /// Every marked surface that is not kept is destroyed.
-pub fn destroy_all(surfaces: &mut [Surface], kept: &[SurfaceId])
+pub fn destroy_all(surfaces: &mut [Surface], kept: &SurfaceSet)
     ensures { surfaces.new ≡ map (destroy kept.now) surfaces.old }
 {
     for k in 0..surfaces.len() {

@@ -1,10 +1,7 @@
 //! Which surfaces are named and shown by references.
-ghost use Rattle.std.specs.Prelude.{◌≡◌, map, OnOk, IfOk};
+ghost use Rattle.std.specs.Prelude.{◌≡◌, map, IfOk};
 ghost use Rattle.std.specs.List.{filter_map};
-ghost use Rattle.vz_ids.specs.Ids.{same_surface};
 ghost use Rattle.vz_state.specs.Naming.{is_named_by, shown_in};
-ghost use Rattle.vz_rules.specs.Closure.{adding};
-ghost use Rattle.vz_rules.specs.Reach.{has_id};
 
 use crate::surface::Surface;
 use std::alloc::{AllocError, Global};
@@ -48,25 +45,6 @@ pub fn named_flags(
 {
     let newest = Newest::of(alloc, ends)?;
     Ok(flags_by(alloc, surfaces, &newest)?)
-}
-
-/// Whether a surface is one of these.
-pub(crate) fn has_id(ids: &[SurfaceId], id: &SurfaceId) -> bool
-    ensures { result ≡ has_id ids.now id.now }
-{
-    ids.iter().any(|other| *id == *other)
-}
-
-/// What is not yet there is added.
-pub fn add_ids(ids: &mut Vec<SurfaceId>, others: &[SurfaceId]) -> Result<(), AllocError>
-    ensures { OnOk result (ids.new.items ≡ adding same_surface ids.old.items others.now) }
-{
-    for other in others {
-        if !has_id(ids, other) {
-            ids.push(*other)?;
-        }
-    }
-    Ok(())
 }
 
 /// The surface that a range shows.

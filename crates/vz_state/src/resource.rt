@@ -89,7 +89,10 @@ impl<'a> Resource<'a> {
 }
 
 /// The resource of this id, if it was ever stored.
-pub(crate) fn resource_of<'b, 'a>(resources: &'b [Resource<'a>], id: u32) -> Option<&'b Resource<'a>>
+pub(crate) fn resource_of<'b, 'a>(
+    resources: &'b [Resource<'a>],
+    id: u32,
+) -> Option<&'b Resource<'a>>
     ensures { option_copied result ≡ resource_in id resources.now }
 {
     resources.iter().find(|resource| resource.id == id)

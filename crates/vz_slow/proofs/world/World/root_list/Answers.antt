@@ -8,7 +8,7 @@ pub returns-then-not-exists : goal.returns-then-not-exists
 returns-then-not-exists c =
     let surfaces = c.deref.ensures.value ∙ ap (λ (u : World). u.surfaces) c.self.view_is in
     let there = sym (ap (λ l. is_some (find (λ (s : Created). same_surface s.id c.in-Some.id && not s.destroyed) l)) surfaces) ∙ (sym c.exists.ensures ∙ c.if-not-exists.true) in
-    c.new-then-not-exists.ensures.items ∙ sym (root_is c.args.self.now c.in-Some.id false (sym (ap (λ (u : World). u.root) c.self.view_is) ∙ c.in-Some.is) there)
+    c.new-then-not-exists.ensures ∙ sym (root_is c.args.self.now c.in-Some.id false (sym (ap (λ (u : World). u.root) c.self.view_is) ∙ c.in-Some.is) there)
 
 pub returns-in_ok-one-in-Some : goal.returns-in_ok-one-in-Some
 returns-in_ok-one-in-Some c =
