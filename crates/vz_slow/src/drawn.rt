@@ -12,7 +12,7 @@ use crate::slow::Slow;
 use std::alloc::AllocError;
 use vz_geom::Size;
 use vz_pixels::{Memory, Pixel};
-use vz_plain::picture::picture;
+use vz_plain::picture;
 use vz_rules::{Effects, Reply};
 
 impl<'a> Slow<'a> {
