@@ -41,14 +41,7 @@ pub fn results_of_plain<L: Ledger>(
     let events = events_of(rt, case, &plan)?;
     let _files = plan.files();
     let machine = PlainMachine::new(rt.alloc(), &plan);
-    let played = memory(play(
-        rt.alloc(),
-        machine,
-        plan.size(),
-        &events,
-        buffers,
-        steps,
-    ))?;
+    let played = memory(play(rt.alloc(), machine, plan.size(), &events, buffers, steps))?;
     let log = memory(vz_journal::write(rt.alloc(), &played.history, &played.rest))?;
     Ok(Left {
         log: log.into_bytes(),
