@@ -1,34 +1,92 @@
--- When inputs are admitted, and why not.
-use Rattle.std.proofs.Common.{◌≡◌, ℕ, List, length, Some, Result, Ok, Err, IfOk, OnOk, IsTrue, ap, ◌∙◌, arith}
-use Rattle.vz_frame.specs.declared.message.ClientFile.{ClientFile}
-use Rattle.vz_codec.specs.Grammar.{Spells}
-use Rattle.vz_outside.specs.Shelved.{Shelved}
-use Rattle.vz_rules.specs.Narrow.{is_narrow}
-use Rattle.viz_run.specs.declared.words.StepWords.{StepWords}
+-- When the inputs of `step` are accepted, and when one is refused.
+use Rattle.std.proofs.Common.{rules, ◌≡◌, ℕ, Option, Some, None, Result, Ok, Err, IsErrOf, IsErrAnd, IsTrue, pos, List, [], ◌∷◌, ◌++◌, refl, sym, ap, ◌∙◌, subst, inl, inr}
+use Rattle.std.proofs.lemmas.List.{append-nil}
+use Rattle.std.specs.List.{flat_map}
+use Rattle.vz_base.specs.declared.limits.TheConstants.{MOST_FILE_BYTES, MOST_EVENTS}
+use Rattle.vz_outside.specs.Shelved.{Shelved, SameFiles, IsMissing, Name}
+use Rattle.vz_outside.proofs.Calls.{Ran}
+use Rattle.vz_inputs.specs.Read.{IsReadUpto, AreReadUpto, MissesOne}
+use Rattle.vz_inputs.specs.Refusals.{file_refused, plan_read}
+use Rattle.vz_inputs.specs.Schedule.{events_of, schedule_refused}
+use Rattle.vz_inputs.specs.declared.refused.Refused.{Refused}
+use Rattle.vz_inputs.specs.declared.refused.InputError.{InputError}
+use Rattle.vz_inputs.specs.declared.refused.InputError.TheVariants as input_error
+use Rattle.vz_rules.specs.Command.{Word, Step}
+use Rattle.vz_rules.specs.Plan.{Plan}
+use Rattle.viz_run.specs.Inputs.{Inputs, AreRead, schedules_refused, first_refused}
+use Rattle.viz_run.specs.Stepped.{refused_of}
+use Rattle.viz_run.specs.Stops.{stop_for}
 use Rattle.viz_run.specs.declared.stop.Stop.{Stop}
-use Rattle.viz_run.specs.Files.{IsReadUpto, narrow_schedule}
-use Rattle.viz_run.specs.Shown.{IsAdmitted}
-use Rattle.viz_run.proofs.Narrow_length.{narrow_length}
-use Rattle.viz_run.proofs.Outs.{read_whole}
+use Rattle.viz_run.specs.declared.stop.Stop.TheVariants as stop
+use Rattle.vz_geom.specs.declared.Size.{Size}
 
--- bytes that spell a narrow file are 166
-pub narrow_bytes : (bytes : List ℕ) (client : ClientFile) → Spells bytes client → IsTrue (is_narrow client) → length bytes ≡ 166
-unfolding Spells
-narrow_bytes bytes client spelled narrow = ap length spelled.1 ∙ narrow_length client narrow
+-- what was read of a name before calls that kept the bytes
+read_first : (limit : ℕ) (name : Name) (bytes : List ℕ) (a b : Shelved) → Ran a b → SameFiles a b → IsReadUpto limit name bytes b → IsReadUpto limit name bytes a
+read_first limit name bytes a b ran same read known =
+    let found = read (subst IsTrue (sym ran.call.known) known) in
+    (found.0, sym (same known name) ∙ found.1, found.2)
 
--- what was read and accepted is admitted
-pub admitted :
-    (s : Shelved) (w : StepWords) (bytes schedule : List ℕ) (r : Result ClientFile Stop) →
-    IsReadUpto 166 w.file.now bytes s → IsReadUpto 4 w.schedule.now schedule s →
-    IfOk r (λ client. Spells bytes client) → IfOk r (λ client. IsTrue (is_narrow client)) → OnOk r (schedule ≡ narrow_schedule) →
-    IfOk r (λ client. (b : List ℕ) × IsAdmitted s w client b)
-admitted s w bytes schedule (Ok client) file_read schedule_read spelled narrow is = (
-  bytes,
-  record {
-    spelled = spelled;
-    narrow = narrow;
-    file = read_whole 166 w.file.now bytes s file_read (omega (arith, narrow_bytes bytes client spelled narrow));
-    schedule = λ told. read_whole 4 w.schedule.now schedule s schedule_read (omega (arith, ap length is)) told ∙ ap Some is;
-  },
-)
-admitted s w bytes schedule (Err e) file_read schedule_read spelled narrow is = tt
+-- the inputs of `step`, as they were read
+abbrev pub inputs_with : List (List ℕ) → List ℕ → Inputs
+inputs_with files schedule = record { files = files; schedules = schedule ∷ [] }
+
+-- they were read for it
+pub are_read :
+    (w h : ℕ) (s f l : Word) (names : List Word) (files : List (List ℕ)) (schedule : List ℕ) (a b : Shelved) → Ran a b → SameFiles a b
+    → AreReadUpto MOST_FILE_BYTES names files a → IsReadUpto MOST_EVENTS s schedule b → AreRead a (Step w h s f l names) (inputs_with files schedule)
+are_read w h s f l names files schedule a b ran same first then = record {
+  files = first;
+  schedules = (read_first MOST_EVENTS s schedule a b ran same then, tt);
+}
+
+-- the first that is refused
+pub first_of : (w h : ℕ) (s f l : Word) (names : List Word) (size : Size) (files : List (List ℕ)) (schedule : List ℕ)
+    → size ≡ record { w = pos w; h = pos h } → first_refused (Step w h s f l names) (inputs_with files schedule) ≡ refused_of size files schedule
+first_of w h s f l names size files schedule is =
+    by_files (file_refused files) ∙ ap (λ (z : Size). refused_of z files schedule) (sym is)
+  where
+    by_schedule : (p : Plan) (o : Option Refused) → ◌≡◌ {A = Option Refused} (elim o [ Some r ↦ Some r | None ↦ None ]) o
+    by_schedule p None = refl
+    by_schedule p (Some r) = refl
+
+    by_files : (o : Option Refused) → ◌≡◌ {A = Option Refused}
+        (elim o [ Some r ↦ Some r | None ↦ schedules_refused (plan_read (record { w = pos w; h = pos h }) files) (schedule ∷ []) ])
+        (elim o [ Some r ↦ Some r | None ↦ schedule_refused (plan_read (record { w = pos w; h = pos h }) files) schedule ])
+    by_files None = by_schedule (plan_read (record { w = pos w; h = pos h }) files) (schedule_refused (plan_read (record { w = pos w; h = pos h }) files) schedule)
+    by_files (Some r) = refl
+
+-- the events of one schedule
+pub one_schedule : (bytes : List ℕ) → flat_map events_of (bytes ∷ []) ≡ events_of bytes
+one_schedule bytes = append-nil (events_of bytes)
+
+-- a stop for an input is one for a refusal
+pub input_of : {T V : Type 0} (e : InputError) (r : Result T Stop) (P : Refused → Type 0) → IsErrAnd r (λ s. s ≡ stop_for e)
+    → ((x : Refused) → IsErrOf {T = V} (Err e) (input_error.Refused x) → P x) → (x : Refused) → IsErrOf r (stop.Input x) → P x
+input_of e (Ok v) P is said x this = absurd is
+input_of {T = T} {V = V} (input_error.Refused y) (Err s) P is said x this = said x (same (input_is (sym is ∙ stop_is s this)))
+  where
+    stop_is : (s : Stop) → IsErrOf {T = T} (Err s) (stop.Input x) → s ≡ stop.Input x
+    stop_is s h = search rules
+
+    input_is : stop.Input y ≡ stop.Input x → y ≡ x
+    input_is h = search rules
+
+    same : y ≡ x → IsErrOf {T = V} (Err (input_error.Refused y)) (input_error.Refused x)
+    same h = search rules
+input_of {T = T} input_error.Memory (Err s) P is said x this = absurd (apart (sym is ∙ stop_is s this))
+  where
+    stop_is : (s : Stop) → IsErrOf {T = T} (Err s) (stop.Input x) → s ≡ stop.Input x
+    stop_is s h = search rules
+
+    apart : stop.Memory ≡ stop.Input x → ⊥
+    apart h = search rules
+
+-- a name that is missing among some is missing among more
+pub misses_left : (names more : List Name) (s : Shelved) → MissesOne names s → MissesOne (names ++ more) s
+misses_left [] more s missing = absurd missing
+misses_left (name ∷ names) more s (inl missing) = inl missing
+misses_left (name ∷ names) more s (inr missing) = inr (misses_left names more s missing)
+
+pub misses_right : (names : List Name) (name : Name) (s : Shelved) → IsMissing name s → MissesOne (names ++ name ∷ []) s
+misses_right [] name s missing = inl missing
+misses_right (first ∷ names) name s missing = inr (misses_right names name s missing)

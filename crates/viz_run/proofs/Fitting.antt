@@ -1,28 +1,41 @@
 -- What the words of `step` say of the display and of the names.
-use Rattle.std.proofs.Common.{◌≡◌, ℕ, ◌≤◌, pos, [], ◌∷◌, Bool, true, false, not, ◌||◌, IsTrue, sym, ap, ◌∙◌, arith}
+use Rattle.std.proofs.Common.{◌≡◌, ℕ, ◌≤◌, pos, List, [], ◌∷◌, length, Bool, true, false, not, ◌||◌, ◌&&◌, leb, IsTrue, sym, ap, ◌∙◌, arith}
+use Rattle.std.proofs.lemmas.Bool.{and_parts, leb-true}
 use Rattle.std.proofs.lemmas.Int.{ints}
 use Rattle.std.specs.List.{list_any, list_all}
+use Rattle.vz_base.specs.declared.limits.TheConstants.{MOST_FILES}
 use Rattle.vz_frame.specs.Fits.{within}
 use Rattle.vz_frame.specs.Frame.{has_repeat}
 use Rattle.vz_geom.specs.Display.{IsDisplaySize}
-use Rattle.vz_rules.specs.Command.{Word, Step, fits_command, is_name, are_names, same_text}
-use Rattle.viz_run.proofs.Spelled.{within_parts, parts, same_text_refl}
+use Rattle.vz_rules.specs.Command.{Word, Step, fits_command, are_sides, are_files, is_name, are_names, same_text}
+
+in_range : (low high n : ℕ) → within low high n ≡ true → (low ≤ n) × (n ≤ high)
+in_range low high n is =
+    let both = and_parts (leb low n) (leb n high) is in
+    (leb-true low n both.0, leb-true n high both.1)
+
+same_text_self : (a : Word) → same_text a a ≡ true
+same_text_self [] = grind arith
+same_text_self (c ∷ cs) = let h = same_text_self cs in grind arith
 
 repeats : (x t y z : Bool) → t ≡ true → not (x || ((t || y) || z)) ≡ true → ⊥
 repeats true t y z is none = cc
 repeats false true y z is none = cc
 repeats false false y z is none = cc
 
-module _ (w h : ℕ) (s f l a : Word) (fits : IsTrue (fits_command (Step w h s f l (a ∷ [])))) where
-  fit_parts : (within 1 2048 w ≡ true) × (within 1 2048 h ≡ true) × (are_names (s ∷ f ∷ l ∷ a ∷ []) ≡ true)
+module _ (w h : ℕ) (s f l : Word) (files : List Word) (fits : IsTrue (fits_command (Step w h s f l files))) where
+  fit_parts : (are_sides w h ≡ true) × (are_files files ≡ true) × (are_names (s ∷ f ∷ l ∷ files) ≡ true)
   unfolding fits_command
-  fit_parts = within_parts w h (are_names (s ∷ f ∷ l ∷ a ∷ [])) fits
+  fit_parts =
+      let most = and_parts (are_sides w h && are_files files) (are_names (s ∷ f ∷ l ∷ files)) fits in
+      let first = and_parts (are_sides w h) (are_files files) most.0 in
+      (first.0, first.1, most.1)
 
   pub wide : (1 ≤ w) × (w ≤ 2048)
-  wide = let e = fit_parts.0 in (grind arith, grind arith)
+  wide = in_range 1 2048 w (and_parts (within 1 2048 w) (within 1 2048 h) fit_parts.0).0
 
   pub high : (1 ≤ h) × (h ≤ 2048)
-  high = let e = fit_parts.1 in (grind arith, grind arith)
+  high = in_range 1 2048 h (and_parts (within 1 2048 w) (within 1 2048 h) fit_parts.0).1
 
   pub display_fits : IsDisplaySize (record { w = pos w; h = pos h })
   display_fits =
@@ -30,14 +43,11 @@ module _ (w h : ℕ) (s f l a : Word) (fits : IsTrue (fits_command (Step w h s f
       let down = high in
       record { wide = omega (arith, ints); not_too_wide = omega (arith, ints); high = omega (arith, ints); not_too_high = omega (arith, ints) }
 
-  pub canvas_fits : IsDisplaySize (record { w = pos w; h = pos h })
-  canvas_fits =
-      let across = wide in
-      let down = high in
-      record { wide = omega (arith, ints); not_too_wide = omega (arith, ints); high = omega (arith, ints); not_too_high = omega (arith, ints) }
+  pub files_fit : (1 ≤ length files) × (length files ≤ MOST_FILES)
+  files_fit = in_range 1 MOST_FILES (length files) fit_parts.1
 
   pub names_differ : f ≡ l → ⊥
   names_differ same =
-      let named = parts (list_all is_name (s ∷ f ∷ l ∷ a ∷ [])) (not (has_repeat same_text (s ∷ f ∷ l ∷ a ∷ []))) fit_parts.2 in
-      let again : same_text f l ≡ true = ap (same_text f) (sym same) ∙ same_text_refl f in
-      repeats (list_any (same_text s) (f ∷ l ∷ a ∷ [])) (same_text f l) _ _ again named.1
+      let named = and_parts (list_all is_name (s ∷ f ∷ l ∷ files)) (not (has_repeat same_text (s ∷ f ∷ l ∷ files))) fit_parts.2 in
+      let again : same_text f l ≡ true = ap (same_text f) (sym same) ∙ same_text_self f in
+      repeats (list_any (same_text s) (f ∷ l ∷ files)) (same_text f l) _ _ again named.1

@@ -1,142 +1,101 @@
--- Why a call answers what it answers: refusals of files, and what a call leaves that was cut short.
-use Rattle.std.specs.Prelude.{◌≡◌, ◌≢◌, ℕ, ◌≤◌, ◌⊎◌, Some, IsTrue, List, [], take}
-use Rattle.vz_frame.specs.declared.message.ClientFile.{ClientFile}
-use Rattle.vz_codec.specs.Grammar.{Spells}
-use Rattle.vz_outside.specs.Shelved.{Shelved, Name, SameFiles, StaysFaultless}
-use Rattle.vz_outside.specs.Sunk as sinks
-use Rattle.vz_rules.specs.Plan.{Plan}
-use Rattle.vz_rules.specs.Command.{Word, IsCommand}
+-- Why a call answers what it answers, and what it leaves.
+use Rattle.std.specs.Prelude.{◌≡◌, ℕ, ◌≤◌, ◌⊎◌, List, []}
+use Rattle.vz_outside.specs.Shelved.{Shelved, Name, IfKnown}
+use Rattle.vz_outside.specs.Sunk.{Takes, TakesFront}
+use Rattle.vz_outputs.specs.Written.{IsNoneOf}
+use Rattle.vz_inputs.specs.Read.{MissesOne}
+use Rattle.vz_inputs.specs.declared.refused.Refused.{Refused}
+use Rattle.vz_rules.specs.Command.{Word, Command}
 use Rattle.vz_rules.specs.declared.entry.Entry.{Entry}
-use Rattle.vz_rules.specs.Step.{Legal}
-use Rattle.vz_rules.specs.Narrow.{is_narrow, narrow_history}
-use Rattle.viz_run.specs.Files.{IsReadUpto, IsThere, narrow_schedule, narrow_length, schedule_length, HasFront, KeepsAllBut}
-use Rattle.viz_run.specs.Words.{IsNoStep}
-use Rattle.viz_run.specs.Lines.{words_line, file_line, schedule_line}
-use Rattle.viz_run.specs.Headline.{Line, Given, command_for, plan_of, IsRead, frames_of, log_of}
-use Rattle.viz_run.specs.Outside.{Outside}
+use Rattle.viz_run.specs.Commands.{Asks, AsksNothing, input_names, output_names}
+use Rattle.viz_run.specs.Inputs.{Inputs, AreAccepted, AreRefused, plan_of}
+use Rattle.viz_run.specs.Lines.{words_line, refused_line, end_line}
+use Rattle.viz_run.specs.Ends.{IsDone, IsCutShort, IsUnbegun}
+use Rattle.viz_run.specs.Site.{Site, Outside}
+
+-- Of a command
+
+-- its inputs were accepted, all was done with them, and this is the line that tells it
+abbrev pub DoesFor : Command → List Entry → Site → Site → List ℕ → Type 0
+DoesFor c h before after line =
+    (i : Inputs) × AreAccepted before.shelf c i × IsDone c i h before after × (line ≡ end_line c (plan_of c i) h)
+
+-- this is the first of its inputs that is refused
+abbrev pub RefusesFor : Command → Shelved → Refused → Type 0
+RefusesFor c shelf r = (i : Inputs) × AreRefused shelf c i r
+
+-- nothing was begun, or work on accepted inputs was cut short
+abbrev pub LeavesFor : Command → List Entry → Site → Site → Type 0
+LeavesFor c h before after =
+    IsUnbegun h before after ⊎ ((i : Inputs) × AreAccepted before.shelf c i × IsCutShort c i h before after)
+
+-- Ends
+
+-- all was done that the words ask for, and this is the line that tells it
+abbrev pub DoesAll : List Word → List Entry → Site → Site → List ℕ → Type 0
+DoesAll words h before after line = (c : Command) × Asks words c × DoesFor c h before after line
+
+-- all was done, and the line was printed
+abbrev pub EndsWell : List Word → List Entry → Outside → Outside → Type 0
+EndsWell words h before after =
+    (line : List ℕ) × DoesAll words h before.site after.site line × Takes line before.sink after.sink
 
 -- Refusals
 
--- no file in the narrow form is spelled by the bytes
-abbrev pub IsNotNarrow : List ℕ → Type 0
-IsNotNarrow bytes = (client : ClientFile) → Spells bytes client → IsTrue (is_narrow client) → ⊥
+-- this is the first input that the words name that is refused
+abbrev pub RefusesOne : List Word → Shelved → Refused → Type 0
+RefusesOne words shelf r = (c : Command) × Asks words c × RefusesFor c shelf r
 
--- the client's file, as it was read, is not in the narrow form
-pub record RefusesFile (shelf : Shelved) (l : Line) : Type 0 where
-  pub bytes : List ℕ
-  pub read : IsReadUpto narrow_length l.file bytes shelf
-  pub other : IsNotNarrow bytes
-
--- the client's file, as it was read, is in the narrow form, and the schedule, as it was read,
--- is not the one that is taken
-pub record RefusesSchedule (shelf : Shelved) (l : Line) : Type 0 where
-  pub bytes : List ℕ
-  pub client : ClientFile
-  pub read : IsReadUpto narrow_length l.file bytes shelf
-  pub spelled : Spells bytes client
-  pub narrow : IsTrue (is_narrow client)
-  pub schedule : List ℕ
-  pub schedule_read : IsReadUpto schedule_length l.schedule schedule shelf
-  pub other : schedule ≢ narrow_schedule
-
--- nothing was begun: the history is empty, the bytes of every name stay, and no step was counted
-pub record IsUnbegun (h : List Entry) (before after : Outside) : Type 0 where
-  pub history : h ≡ []
-  pub files : SameFiles before.shelf after.shelf
-  pub steps : after.steps ≡ before.steps
-
--- the words name a file that is refused, and nothing was begun
-abbrev pub RefusesNamedFile : List Word → List Entry → Outside → Outside → Type 0
-RefusesNamedFile words h before after =
-    (l : Line) × IsCommand words (command_for l) × RefusesFile before.shelf l × IsUnbegun h before after
-
--- the words name a schedule that is refused, and nothing was begun
-abbrev pub RefusesNamedSchedule : List Word → List Entry → Outside → Outside → Type 0
-RefusesNamedSchedule words h before after =
-    (l : Line) × IsCommand words (command_for l) × RefusesSchedule before.shelf l × IsUnbegun h before after
-
--- the words are those of no `step` with one client file, the line says so, and nothing was begun
+-- the words ask for nothing, the line says so, and nothing was begun
 pub record RefusesWords (words : List Word) (h : List Entry) (before after : Outside) : Type 0 where
-  pub no_step : IsNoStep words
-  pub told : sinks.Takes words_line before.sink after.sink
-  pub unbegun : IsUnbegun h before after
+  pub nothing : AsksNothing words
+  pub told : Takes words_line before.sink after.sink
+  pub unbegun : IsUnbegun h before.site after.site
 
--- the words name a file or a schedule that is refused, the line says which, and nothing was begun
-abbrev pub RefusesInput : List Word → List Entry → Outside → Outside → Type 0
-RefusesInput words h before after =
-    (RefusesNamedFile words h before after × sinks.Takes file_line before.sink after.sink)
-    ⊎ (RefusesNamedSchedule words h before after × sinks.Takes schedule_line before.sink after.sink)
+-- an input is refused, the line says which, where and why, and nothing was begun
+pub record RefusesInput (words : List Word) (h : List Entry) (before after : Outside) : Type 0 where
+  pub input : Refused
+  pub refused : RefusesOne words before.site.shelf input
+  pub told : Takes (refused_line input) before.sink after.sink
+  pub unbegun : IsUnbegun h before.site after.site
 
 -- What a call leaves that did not end
 
--- the history that what is given makes, and so what a call that ends well leaves
-abbrev pub history_for : Given → List Entry
-history_for g = narrow_history (plan_of g).size
-
--- of the frames and the log that a history writes a front part stands, or they are as before;
--- every other name keeps its bytes
-pub record WritesFront (p : Plan) (h : List Entry) (l : Line) (before after : Shelved) : Type 0 where
-  pub frames : HasFront l.frames (frames_of p h) before after
-  pub log : HasFront l.log (log_of p h) before after
-  pub others : KeepsAllBut l.frames l.log before after
-
--- a call was cut short at work on what was given: its history is a front part of the one to be
--- made, and of what that front part writes a front part stands
-pub record IsCutShort (h : List Entry) (g : Given) (before after : Shelved) : Type 0 where
-  pub read : IsRead before g
-  pub legal : Legal (plan_of g) h
-  pub history : (n : ℕ) × (h ≡ take n (history_for g))
-  pub files : WritesFront (plan_of g) h g.line before after
-
--- what a call leaves that did not end well: nothing was begun, or it was cut short at work on
--- something that its words name
-abbrev pub LeavesFront : List Word → List Entry → Outside → Outside → Type 0
+-- nothing was begun, or work on what the words ask for was cut short
+abbrev pub LeavesFront : List Word → List Entry → Site → Site → Type 0
 LeavesFront words h before after =
-    IsUnbegun h before after
-    ⊎ ((g : Given) × IsCommand words (command_for g.line) × IsCutShort h g before.shelf after.shelf)
+    IsUnbegun h before after ⊎ ((c : Command) × Asks words c × LeavesFor c h before after)
 
--- Statuses
+-- this line is due: none, that of refused words, that of a refused input, or that of what was done
+abbrev pub IsDue : List Word → List Entry → Site → Site → List ℕ → Type 0
+IsDue words h before after line =
+    (line ≡ [])
+    ⊎ (AsksNothing words × (line ≡ words_line))
+    ⊎ ((r : Refused) × RefusesOne words before.shelf r × (line ≡ refused_line r))
+    ⊎ DoesAll words h before after line
+
+-- a front part of the line that was due was printed, maybe none of it
+abbrev pub PrintsFront : List Word → List Entry → Outside → Outside → Type 0
+PrintsFront words h before after =
+    (line : List ℕ) × IsDue words h before.site after.site line × TakesFront line before.sink after.sink
+
+-- only the line is missing: the words ask for nothing, an input is refused, or all was done
+abbrev pub MissesLine : List Word → List Entry → Site → Site → Type 0
+MissesLine words h before after =
+    AsksNothing words
+    ⊎ ((r : Refused) × RefusesOne words before.shelf r)
+    ⊎ ((line : List ℕ) × DoesAll words h before after line)
+
+-- a name that no command that the words ask for writes keeps its bytes
+abbrev pub KeepsOthers : List Word → Shelved → Shelved → Type 0
+KeepsOthers words before after =
+    IfKnown before
+    ((name : Name) → ((c : Command) → Asks words c → IsNoneOf name (output_names c)) → after.bytes name ≡ before.bytes name)
+
+-- the names that the words name to be read are there
+abbrev pub FindsInputs : List Word → Shelved → Type 0
+FindsInputs words shelf = (c : Command) → Asks words c → MissesOne (input_names c) shelf → ⊥
 
 -- 0, or 2 to 5
 abbrev pub IsStatus : ℕ → Type 0
 IsStatus status = (status ≡ 0) ⊎ ((2 ≤ status) × (status ≤ 5))
-
--- the files that the words name to be read are there
-abbrev pub NamesFilesThere : List Word → Shelved → Type 0
-NamesFilesThere words shelf =
-    (l : Line) → IsCommand words (command_for l) → IsThere shelf l.file × IsThere shelf l.schedule
-
--- neither the shelf nor the sink fails, but for a name that is not there
-pub record IsFaultless (o : Outside) : Type 0 where
-  pub shelf : IsTrue o.shelf.is_faultless
-  pub sink : IsTrue o.sink.is_faultless
-
--- both are so still, and counted no fault
-pub record KeepsFaultless (before after : Outside) : Type 0 where
-  pub shelf : StaysFaultless before.shelf after.shelf
-  pub sink : sinks.StaysFaultless before.sink after.sink
-
--- the words name files that are read whole and are accepted: the file spells one in the narrow
--- form, and the schedule is the one that is taken
-pub record IsAcceptable (words : List Word) (shelf : Shelved) (g : Given) : Type 0 where
-  pub command : IsCommand words (command_for g.line)
-  pub known : IsTrue shelf.is_known
-  pub file : shelf.bytes g.line.file ≡ Some g.bytes
-  pub spelled : Spells g.bytes g.client
-  pub narrow : IsTrue (is_narrow g.client)
-  pub schedule : shelf.bytes g.line.schedule ≡ Some narrow_schedule
-
--- a file of this name is there that is not in the narrow form
-abbrev pub HoldsNotNarrow : Shelved → Name → Type 0
-HoldsNotNarrow shelf name = (bytes : List ℕ) × (shelf.bytes name ≡ Some bytes) × IsNotNarrow bytes
-
--- a file of this name is there that is not the schedule that is taken
-abbrev pub HoldsOtherSchedule : Shelved → Name → Type 0
-HoldsOtherSchedule shelf name =
-    (bytes : List ℕ) × (shelf.bytes name ≡ Some bytes) × (bytes ≢ narrow_schedule)
-
--- the words name a client's file or a schedule that is there, and is not taken
-pub record IsUnacceptable (words : List Word) (shelf : Shelved) (l : Line) : Type 0 where
-  pub command : IsCommand words (command_for l)
-  pub known : IsTrue shelf.is_known
-  pub other : HoldsNotNarrow shelf l.file ⊎ HoldsOtherSchedule shelf l.schedule

@@ -1,17 +1,65 @@
--- Why a call stops.
-use Rattle.vz_outside.specs.declared.shelf.ShelfError.{ShelfError}
-use Rattle.vz_outside.specs.declared.shelf.ShelfError.TheVariants as shelf_error
-use Rattle.viz_run.specs.declared.stop.Stop.{Stop}
-use Rattle.viz_run.specs.declared.stop.Stop.TheVariants as stop
+-- What holds of a command that ended, and of one that was cut short.
+use Rattle.std.specs.Prelude.{◌≡◌, ℕ, ◌+◌, List, [], ◌∷◌, map, take}
+use Rattle.vz_base.specs.declared.limits.TheConstants.{DEFAULT_BUFFERS}
+use Rattle.vz_frame.specs.declared.message.ClientFile.{ClientFile}
+use Rattle.vz_codec.specs.Spelling.{file_bytes}
+use Rattle.vz_gen.specs.Make.{make}
+use Rattle.vz_outside.specs.Shelved.{SameFiles}
+use Rattle.vz_outputs.specs.Written.{Output, AreWhole, AreBegun}
+use Rattle.vz_rules.specs.Plan.{Plan}
+use Rattle.vz_rules.specs.Command.{Word, Command, Step, Gen}
+use Rattle.vz_rules.specs.declared.entry.Event.{Event}
+use Rattle.vz_rules.specs.declared.entry.Entry.{Entry}
+use Rattle.vz_rules.specs.Step.{Legal}
+use Rattle.vz_rules.specs.Frames.{frames, written, painted, frames_bytes, Honest}
+use Rattle.vz_rules.specs.Log.{log_text, rest_of}
+use Rattle.viz_run.specs.Inputs.{Inputs, plan_of, events_for}
+use Rattle.viz_run.specs.Site.{Site}
 
--- what an error of a shelf or a sink stops a call for
-abbrev pub stop_of : ShelfError → Stop
-stop_of shelf_error.Failed = stop.Fault
-stop_of shelf_error.Memory = stop.Memory
+-- the events of a history
+abbrev pub events_in : List Entry → List Event
+events_in h = map (λ (e : Entry). e.event) h
 
--- a call is stopped for its words or a file
-abbrev pub IsRefusal : Stop → Type 0
-IsRefusal stop.Words = Unit {0}
-IsRefusal stop.File = Unit {0}
-IsRefusal stop.Schedule = Unit {0}
-IsRefusal _ = ⊥
+-- a legal history of these events
+pub record IsHistory (p : Plan) (events : List Event) (h : List Entry) : Type 0 where
+  pub legal : Legal p h
+  pub all : events_in h ≡ events
+
+-- the bytes of the frames that a history writes
+abbrev pub frames_of : Plan → List Entry → List ℕ
+frames_of p h = frames_bytes (written p h DEFAULT_BUFFERS)
+
+-- the text of a history, and of what is left behind it
+abbrev pub log_of : Plan → List Entry → List ℕ
+log_of p h = log_text h (rest_of p h)
+
+-- files under these names
+abbrev pub named_files : List Word → List ClientFile → List Output
+named_files (name ∷ names) (file ∷ files) = record { name = name; bytes = file_bytes file } ∷ named_files names files
+named_files _ _ = []
+
+-- what a command writes of a history of a plan
+abbrev pub outputs_of : Command → Plan → List Entry → List Output
+outputs_of (Step w h schedule frames log files) p history =
+    record { name = frames; bytes = frames_of p history } ∷ record { name = log; bytes = log_of p history } ∷ []
+outputs_of (Gen n first second third) p history = named_files (first ∷ second ∷ third ∷ []) (make n)
+outputs_of _ p history = []
+
+-- all was done that the command is for: a legal history of exactly its events came about, what it writes stands, each painted point
+-- was counted, and where every client's damage covers what it changed, each written frame is the whole picture
+pub record IsDone (c : Command) (i : Inputs) (h : List Entry) (before after : Site) : Type 0 where
+  pub history : IsHistory (plan_of c i) (events_for c i) h
+  pub outputs : AreWhole (outputs_of c (plan_of c i) h) after.shelf
+  pub counted : after.steps ≡ before.steps + painted (plan_of c i) h DEFAULT_BUFFERS
+  pub whole : Honest (plan_of c i) h → written (plan_of c i) h DEFAULT_BUFFERS ≡ frames (plan_of c i) h
+
+-- it was cut short: a legal history of a front part of its events came about, and of what that history writes a front part stands
+pub record IsCutShort (c : Command) (i : Inputs) (h : List Entry) (before after : Site) : Type 0 where
+  pub history : (n : ℕ) × IsHistory (plan_of c i) (take n (events_for c i)) h
+  pub outputs : AreBegun (outputs_of c (plan_of c i) h) before.shelf after.shelf
+
+-- nothing was begun: the history is empty, the bytes of every name stay, and no step was counted
+pub record IsUnbegun (h : List Entry) (before after : Site) : Type 0 where
+  pub history : h ≡ []
+  pub files : SameFiles before.shelf after.shelf
+  pub steps : after.steps ≡ before.steps

@@ -1,47 +1,67 @@
 -- The lines that are printed.
-use Rattle.std.specs.Prelude.{◌≡◌, ◌⊎◌, ℕ, codes, List, [], ◌++◌, length, count_by}
-use Rattle.vz_outside.specs.Sunk.{Sunk, Takes}
+use Rattle.std.specs.Prelude.{ℕ, codes, List, [], ◌++◌, length, count_by, sum_by}
+use Rattle.vz_base.specs.declared.limits.TheConstants.{DEFAULT_BUFFERS}
+use Rattle.vz_codec.specs.declared.fault.FileRule.TheVariants as rule
+use Rattle.vz_inputs.specs.declared.refused.Reason.{Reason}
+use Rattle.vz_inputs.specs.declared.refused.Reason.TheVariants as reason
+use Rattle.vz_inputs.specs.declared.refused.Refused.{Refused}
+use Rattle.vz_rules.specs.Command.{Command, Step, Gen, Demo}
 use Rattle.vz_rules.specs.declared.entry.Entry.{Entry}
-use Rattle.viz_run.specs.declared.stop.Stop.{Stop}
-use Rattle.viz_run.specs.declared.stop.Stop.TheVariants as stop
 use Rattle.vz_rules.specs.Course.{is_drawn}
+use Rattle.vz_rules.specs.Frames.{painted}
 use Rattle.vz_rules.specs.Log.{then_number}
+use Rattle.vz_rules.specs.Plan.{Plan}
+use Rattle.vz_display.specs.Displayed.{upto_most}
 
 -- the number of drawn entries
 abbrev pub drawn_count : List Entry → ℕ
 drawn_count h = count_by (λ e. is_drawn e.reply) h
+
+-- the number of returns queued
+abbrev pub return_count : List Entry → ℕ
+return_count h = sum_by (λ e. length e.effects.returned) h
 
 -- so many entries and so many frames
 unfoldable pub done_text : ℕ → ℕ → List ℕ
 done_text entries frames =
     codes "done" ++ then_number entries ++ codes " entries" ++ then_number frames ++ codes " frames\n"
 
--- what is printed of a history at its end
-abbrev pub done_line : List Entry → List ℕ
-done_line h = done_text (length h) (drawn_count h)
+-- so many entries, frames, returns and painted points
+unfoldable pub demo_text : ℕ → ℕ → ℕ → ℕ → List ℕ
+demo_text entries frames returns painted =
+    codes "entries" ++ then_number entries ++ codes " frames" ++ then_number frames
+    ++ codes " returns" ++ then_number returns ++ codes " painted" ++ then_number painted ++ codes "\n"
 
--- what is printed where the words are those of no command
+-- the files by rule are written
+unfoldable pub made_line : List ℕ
+made_line = codes "made 3 files\n"
+
+-- the words are those of no command
 unfoldable pub words_line : List ℕ
 words_line = codes "words refused\n"
 
--- what is printed where the client's file has not the form that is taken
-unfoldable pub file_line : List ℕ
-file_line = codes "file 1 refused at 0: NotBuilt\n"
+-- what is wrong with an input
+unfoldable pub reason_text : Reason → List ℕ
+reason_text (reason.Rule rule.Magic) = codes "Magic"
+reason_text (reason.Rule rule.Version) = codes "Version"
+reason_text (reason.Rule rule.Short) = codes "Short"
+reason_text (reason.Rule rule.Tag) = codes "Tag"
+reason_text (reason.Rule rule.Limit) = codes "Limit"
+reason_text (reason.Rule rule.Colour) = codes "Colour"
+reason_text (reason.Rule rule.Trailing) = codes "Trailing"
+reason_text reason.SinkTaken = codes "SinkTaken"
+reason_text reason.Long = codes "Long"
 
--- what is printed where the schedule is not the one that is taken
-unfoldable pub schedule_line : List ℕ
-schedule_line = codes "file 0 refused at 0: NotBuilt\n"
+-- an input is refused
+unfoldable pub refused_line : Refused → List ℕ
+refused_line r =
+    codes "file" ++ then_number r.file ++ codes " refused at" ++ then_number r.at ++ codes ": " ++ reason_text r.reason ++ codes "\n"
 
--- a refused file is told by its line
-abbrev pub TellsRefusal : Stop → Sunk → Sunk → Type 0
-TellsRefusal why before after =
-    ((why ≡ stop.File) × Takes file_line before after)
-    ⊎ ((why ≡ stop.Schedule) × Takes schedule_line before after)
-
--- the line that is due where a call stops: none after a fault, nor for want of memory
-abbrev pub due_line : Stop → List ℕ
-due_line stop.Words = words_line
-due_line stop.File = file_line
-due_line stop.Schedule = schedule_line
-due_line stop.Fault = []
-due_line stop.Memory = []
+-- the line of a command at its end, with the history of a plan
+abbrev pub end_line : Command → Plan → List Entry → List ℕ
+end_line (Step w h schedule frames log files) p history = done_text (length history) (drawn_count history)
+end_line (Gen n first second third) p history = made_line
+end_line (Demo n) p history =
+    demo_text (length history) (drawn_count history) (upto_most (return_count history))
+    (upto_most (painted p history DEFAULT_BUFFERS))
+end_line _ p history = []

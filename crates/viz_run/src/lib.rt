@@ -1,15 +1,15 @@
 //! The display compositor's one public call.
 #![tactic(auto)]
 
-mod gated;
-mod input;
+mod demo;
+mod events;
 mod lines;
-mod machine;
-mod narrow;
-mod output;
-mod paint;
+mod make;
+mod perform;
+mod playing;
 mod run;
+mod step;
 mod stop;
-mod words;
+mod telling;
 
 pub use run::{Run, viz};

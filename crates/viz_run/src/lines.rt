@@ -1,103 +1,96 @@
-//! The lines that are printed.
-ghost use Rattle.std.specs.Prelude.{◌≡◌, ◌≢◌, ◌<◌, ◌≤◌, ◌⊎◌, IsTrue, IfOk, OnOk, OnErr, string_bytes, length};
-ghost use Rattle.vz_outside.specs.Faults.{one_more};
-ghost use Rattle.vz_outside.specs.Sunk.{Takes, TakesFront, Behaves, StaysFaultless};
+//! The texts of the lines that are printed.
+ghost use Rattle.std.specs.Prelude.{◌≡◌, ◌+◌, IfOk, string_bytes, length};
+ghost use Rattle.vz_display.specs.Displayed.{upto_most};
 ghost use Rattle.vz_rules.specs.Course.{is_drawn};
-ghost use Rattle.viz_run.specs.Ends.{IsRefusal};
-ghost use Rattle.viz_run.specs.Lines.{done_line, done_text, drawn_count, words_line, due_line, TellsRefusal};
-ghost use Rattle.viz_run.specs.declared.stop.Stop.TheVariants.{Words, Fault as StopOfFault, Memory as StopOfMemory};
+ghost use Rattle.viz_run.specs.Lines.{done_text, demo_text, refused_line, reason_text, made_line};
+ghost use Rattle.viz_run.specs.Lines.{drawn_count, return_count};
 
-use crate::stop::Stop;
 use std::alloc::Global;
 use vz_base::Memory;
-use vz_frame::List;
-use vz_outside::{ShelfError, Sink, print};
+use vz_codec::FileRule;
+use vz_inputs::{Reason, Refused};
 use vz_rules::{Entry, Reply};
 
 /// Where the words are those of no command.
-const WORDS_LINE: &str = "words refused\n";
+pub const WORDS_LINE: &str = "words refused\n";
 
-/// Where the client's file has not the form that is taken.
-const FILE_LINE: &str = "file 1 refused at 0: NotBuilt\n";
+/// Where the files by rule are written.
+pub const MADE_LINE: &str = "made 3 files\n";
 
-/// Where the schedule is not the one that is taken.
-const SCHEDULE_LINE: &str = "file 0 refused at 0: NotBuilt\n";
-
-/// Prints how many entries a history has, and how many frames. At an error a front part of the
-/// line was printed, maybe none.
-pub fn print_done<O: Sink>(
-    alloc: Global,
-    out: &mut O,
-    history: &List<Entry>,
-) -> Result<(), ShelfError>
-    ensures printed { OnOk result
-        (Takes (done_line history.now) (O.sunk out.old) (O.sunk out.new)) }
-    ensures begun { OnErr result
-        (TakesFront (done_line history.now) (O.sunk out.old) (O.sunk out.new)) }
-    ensures behaves { Behaves (O.sunk out.old) (O.sunk out.new) result }
-{
-    let entries = history.as_slice();
-    let line = done_text(alloc, entries.len(), drawn_count(entries))?;
-    print(out, line.as_bytes())?;
-    Ok(())
-}
-
-/// Tells why a call stopped, and answers its status: 2 where the words are refused, 3 where a file
-/// is, 4 after a fault, also of the sink in the telling, and 5 for want of memory. At 4 and 5 a
-/// front part of the line was printed, maybe none.
-#[tactic(auto, unfolding(crate::specs::Lines::words_line, crate::specs::Lines::file_line, crate::specs::Lines::schedule_line))]
-pub fn tell_stop<O: Sink>(out: &mut O, stop: Stop) -> u8
-    ensures words { result ≡ 2 →
-        (stop ≡ Words) × Takes words_line (O.sunk out.old) (O.sunk out.new) }
-    ensures file { result ≡ 3 → TellsRefusal stop (O.sunk out.old) (O.sunk out.new) }
-    ensures begun { 4 ≤ result → TakesFront (due_line stop) (O.sunk out.old) (O.sunk out.new) }
-    ensures at_fault { stop ≡ StopOfFault → result ≡ 4 }
-    ensures at_memory { stop ≡ StopOfMemory → result ≡ 5 }
-    ensures silent { (stop ≡ StopOfFault) ⊎ (stop ≡ StopOfMemory)
-        → O.sunk out.new ≡ O.sunk out.old }
-    ensures fault { result ≡ 4 → (stop ≡ StopOfFault)
-        ⊎ (IsRefusal stop × ((O.sunk out.new).faults ≡ one_more (O.sunk out.old).faults)) }
-    ensures quiet { result ≢ 4 → (O.sunk out.new).faults ≡ (O.sunk out.old).faults }
-    ensures range { (2 ≤ result) × (result ≤ 5) }
-    ensures stays { IsTrue (O.sunk out.old).is_faultless
-        → StaysFaultless (O.sunk out.old) (O.sunk out.new) }
-{
-    match stop {
-        Stop::Words => tell(out, WORDS_LINE, 2),
-        Stop::File => tell(out, FILE_LINE, 3),
-        Stop::Schedule => tell(out, SCHEDULE_LINE, 3),
-        Stop::Fault => 4,
-        Stop::Memory => 5,
-    }
-}
-
-/// Prints a line, and answers a status: the one that is given where all of it was printed.
-fn tell<O: Sink>(out: &mut O, line: &str, status: u8) -> u8
-    requires { status < 4 }
-    ensures told { result ≡ status → Takes line.now (O.sunk out.old) (O.sunk out.new) }
-    ensures begun { 4 ≤ result → TakesFront line.now (O.sunk out.old) (O.sunk out.new) }
-    ensures fault { result ≡ 4 → (O.sunk out.new).faults ≡ one_more (O.sunk out.old).faults }
-    ensures quiet { result ≢ 4 → (O.sunk out.new).faults ≡ (O.sunk out.old).faults }
-    ensures range { (result ≡ status) ⊎ (result ≡ 4) ⊎ (result ≡ 5) }
-    ensures stays { IsTrue (O.sunk out.old).is_faultless
-        → StaysFaultless (O.sunk out.old) (O.sunk out.new) }
-{
-    match print(out, line.as_bytes()) {
-        Ok(()) => status,
-        Err(ShelfError::Failed) => 4,
-        Err(ShelfError::Memory) => 5,
-    }
-}
-
+/// How many entries a history has, and how many frames.
 #[tactic(auto, unfolding(crate::specs::Lines::done_text))]
-fn done_text(alloc: Global, entries: usize, frames: usize) -> Result<String, Memory>
-    ensures { IfOk result (λ text. string_bytes text ≡ done_text entries frames) }
+pub fn done_line(alloc: Global, history: &[Entry]) -> Result<String, Memory>
+    ensures { IfOk result (λ text. string_bytes text
+        ≡ done_text (length history.now) (drawn_count history.now)) }
 {
+    let entries = history.len();
+    let frames = drawn_count(history);
     let mut text = String::new(alloc);
     write!(text, "done {entries}")?;
     write!(text, " entries {frames}")?;
     text.push_str(" frames\n")?;
     Ok(text)
+}
+
+/// How many entries a history has, how many frames, how many returns were queued, and how many
+/// points were painted.
+#[tactic(auto, unfolding(crate::specs::Lines::demo_text))]
+pub fn demo_line(alloc: Global, history: &[Entry], painted: u64) -> Result<String, Memory>
+    ensures { IfOk result (λ text. string_bytes text ≡ demo_text (length history.now)
+        (drawn_count history.now) (upto_most (return_count history.now)) painted) }
+{
+    let entries = history.len();
+    let frames = drawn_count(history);
+    let returns = return_count(history);
+    let mut text = String::new(alloc);
+    write!(text, "entries {entries}")?;
+    write!(text, " frames {frames}")?;
+    write!(text, " returns {returns}")?;
+    write!(text, " painted {painted}")?;
+    text.push_str("\n")?;
+    Ok(text)
+}
+
+/// That the files by rule are written.
+#[tactic(auto, unfolding(crate::specs::Lines::made_line))]
+pub fn made_text(alloc: Global) -> Result<String, Memory>
+    ensures { IfOk result (λ text. string_bytes text ≡ made_line) }
+{
+    let mut text = String::new(alloc);
+    text.push_str(MADE_LINE)?;
+    Ok(text)
+}
+
+/// Which input is refused, where and why.
+pub fn refused_text(alloc: Global, refused: &Refused) -> Result<String, Memory>
+    ensures { IfOk result (λ text. string_bytes text ≡ refused_line refused.now) }
+{
+    let (file, at) = (refused.file, refused.at);
+    let mut text = String::new(alloc);
+    write!(text, "file {file}")?;
+    write!(text, " refused at {at}")?;
+    text.push_str(": ")?;
+    text.push_str(reason_text(refused.reason))?;
+    text.push_str("\n")?;
+    Ok(text)
+}
+
+/// The word for what is wrong with an input.
+#[tactic(auto, unfolding(crate::specs::Lines::reason_text))]
+fn reason_text(reason: Reason) -> &'static str
+    ensures { result.now ≡ reason_text reason }
+{
+    match reason {
+        Reason::Rule(FileRule::Magic) => "Magic",
+        Reason::Rule(FileRule::Version) => "Version",
+        Reason::Rule(FileRule::Short) => "Short",
+        Reason::Rule(FileRule::Tag) => "Tag",
+        Reason::Rule(FileRule::Limit) => "Limit",
+        Reason::Rule(FileRule::Colour) => "Colour",
+        Reason::Rule(FileRule::Trailing) => "Trailing",
+        Reason::SinkTaken => "SinkTaken",
+        Reason::Long => "Long",
+    }
 }
 
 /// How many entries were drawn.
@@ -114,4 +107,15 @@ fn is_drawn(reply: &Reply) -> bool
     ensures { result ≡ is_drawn reply.now }
 {
     matches!(reply, Reply::Drawn(_))
+}
+
+/// How many returns were queued, or `u64::MAX` where they are more.
+fn return_count(history: &[Entry]) -> u64
+    ensures { result ≡ upto_most (return_count history.now) }
+{
+    let mut count: u64 = 0;
+    for entry in history {
+        count = count.saturating_add(entry.effects.returned.len() as u64);
+    }
+    count
 }

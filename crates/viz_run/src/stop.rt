@@ -1,18 +1,19 @@
-//! Why a call stops before its end.
+//! Why a call stops.
 ghost use Rattle.std.specs.Prelude.{◌≡◌};
-ghost use Rattle.viz_run.specs.Ends.{stop_of};
+ghost use Rattle.viz_run.specs.Stops.{stop_of, stop_for};
+ghost use Rattle.viz_run.specs.declared.stop.Stop.TheVariants as stop;
 
+use vz_base::Memory;
+use vz_inputs::{InputError, Refused};
 use vz_outside::ShelfError;
 
 /// Why a call stops before its end.
 #[derive(Clone, Copy, Debug, PartialEq, Eq)]
 pub enum Stop {
-    /// The words are those of no command.
+    /// The words are those of no command that the program has.
     Words,
-    /// The client's file has not the form that is taken.
-    File,
-    /// The schedule is not the one that is taken.
-    Schedule,
+    /// An input is refused.
+    Input(Refused),
     /// The shelf or the sink failed, and counted the fault.
     Fault,
     /// Want of memory.
@@ -27,5 +28,24 @@ impl From<ShelfError> for Stop {
             ShelfError::Failed => Stop::Fault,
             ShelfError::Memory => Stop::Memory,
         }
+    }
+}
+
+impl From<InputError> for Stop {
+    ghost from_gives = { λ e s. s ≡ stop_for e };
+
+    fn from(error: InputError) -> Self {
+        match error {
+            InputError::Refused(refused) => Stop::Input(refused),
+            InputError::Memory => Stop::Memory,
+        }
+    }
+}
+
+impl From<Memory> for Stop {
+    ghost from_gives = { λ _ s. s ≡ stop.Memory };
+
+    fn from(_error: Memory) -> Self {
+        Stop::Memory
     }
 }

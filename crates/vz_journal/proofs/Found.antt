@@ -130,7 +130,7 @@ parts_again bytes x r p =
 
 -- ---- a log is read
 
-end_no_entry : (hs : List Returned) (us : List Sub) → entry_at (helds_text hs ++ (opens_text us ++ codes "end\n")) ≡ None
+pub end_no_entry : (hs : List Returned) (us : List Sub) → entry_at (helds_text hs ++ (opens_text us ++ codes "end\n")) ≡ None
 unfolding entry_at event_at one_of
 end_no_entry (r ∷ rs) us = refl
 end_no_entry [] (s ∷ ss) = refl

@@ -7,5 +7,6 @@ pub mod Again
 pub mod Again_lines
 pub mod Feeds
 pub mod Prefixes
+pub mod First
 pub mod Found
 pub mod Rows

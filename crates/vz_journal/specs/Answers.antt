@@ -1,10 +1,10 @@
 -- What the reading of a log answers.
-use Rattle.std.specs.Prelude.{◌≡◌, ℕ, Result, Ok, Err, List}
+use Rattle.std.specs.Prelude.{◌≡◌, ℕ, IsTrue, Option, Some, None, Result, Ok, Err, List, ◌++◌, length, drop}
 use Rattle.vz_journal.specs.declared.stop.LogError.{LogError}
 use Rattle.vz_journal.specs.declared.stop.LogError.TheVariants as errors
 use Rattle.vz_rules.specs.declared.entry.Entry.{Entry}
 use Rattle.vz_rules.specs.declared.entry.Rest.{Rest}
-use Rattle.vz_rules.specs.Log.{Spellable, log_text, IsFirstBadLine}
+use Rattle.vz_rules.specs.Log.{Spellable, entry_text, log_text, has_text_entry, BeginsWith, IsFirstBadLine}
 
 -- a text is the log of a history and a rest
 abbrev pub IsLog : List ℕ → List Entry → Rest → Type 0
@@ -21,3 +21,9 @@ abbrev pub Finds : Result (List Entry × Rest) LogError → List Entry → Rest 
 Finds (Ok x) h rest = x ≡ (h, rest)
 Finds (Err errors.Memory) h rest = Unit {0}
 Finds (Err (errors.Refused line)) h rest = ⊥
+
+-- the text begins with the line of this entry, which has so many bytes, or with the line of none
+abbrev pub IsFirstEntry : List ℕ → Option (Entry × ℕ) → Type 0
+IsFirstEntry text (Some x) =
+    IsTrue (has_text_entry x.0) × (x.1 ≡ length (entry_text x.0)) × (text ≡ entry_text x.0 ++ drop x.1 text)
+IsFirstEntry text None = (e : Entry) → IsTrue (has_text_entry e) → BeginsWith text (entry_text e) → ⊥

@@ -44,7 +44,7 @@ fn push_entries(out: &mut String, history: &[Entry]) -> Result<(), AllocError>
 }
 
 #[tactic(auto, unfolding(vz_rules::specs::Log::entry_text))]
-fn push_entry(out: &mut String, entry: &Entry) -> Result<(), AllocError>
+pub(crate) fn push_entry(out: &mut String, entry: &Entry) -> Result<(), AllocError>
     ensures { OnOk result (IsAppended out.old out.new (entry_text entry.now)) }
 {
     push_event(out, entry.event)?;

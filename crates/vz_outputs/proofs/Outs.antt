@@ -71,12 +71,12 @@ front_of_nothing name all a b front told = elim (front told) [ inl same ↦ inl 
     nothing (suc n) = refl
 
 -- where a file holds a front part of some bytes
-front_of_out :
+pub front_of_out :
     (name : Name) (slot n : ℕ) (held all : List ℕ) (a b : Shelved) → IsOut name slot held b → held ≡ take n all → IsCall a b → HasFront name all a b
 front_of_out name slot n held all a b out is call told = inr (n, out.holds (known_after a b call told) ∙ ap Some is)
 
 -- where a front part of more was written behind what a file held
-front_of_begun :
+pub front_of_begun :
     (name : Name) (slot : ℕ) (held more all : List ℕ) (a b c : Shelved) →
     IsOut name slot held b → IsCall a b → AppendsFront more (b.name slot) b c → all ≡ held ++ more → HasFront name all a c
 front_of_begun name slot held more all a b c out call begun is told =

@@ -1,18 +1,8 @@
-//! Worked rows through the top call, over a shelf and a sink in memory.
+//! What no row of the program's table tells: calls of the plain machine, of the player and of the
+//! buffers, each once.
 #![tactic(auto)]
 
 #[cfg(test)]
-mod bench;
-#[cfg(test)]
-mod faults;
-#[cfg(test)]
-mod files;
-#[cfg(test)]
-mod gate;
-pub mod laws;
-#[cfg(test)]
 mod plain;
 #[cfg(test)]
-mod refusals;
-#[cfg(test)]
-mod rows;
+mod queue;

@@ -4,4 +4,4 @@ mod Given
 mod Firsts
 mod Shapes
 mod Running
-mod One
+pub mod One

@@ -1,0 +1,474 @@
+#!/usr/bin/env python3
+"""Writes the table of worked rows of `vz_call_rows`: rows.py > ../crates/vz_call_rows/data/rows.txt
+
+Each row is a call of the program: its words, the files that it is given, and what must come, which
+is written here by hand. Client files are spelled from messages. README.md says more.
+"""
+import struct
+
+RED, GREEN, BLUE, WHITE = (255, 0, 0, 255), (0, 255, 0, 255), (0, 0, 255, 255), (255,) * 4
+BLACK, GREY, DARK = (0, 0, 0, 255), (128, 128, 128, 255), (128, 0, 0, 255)
+PIXELS = {"r": RED, "g": GREEN, "b": BLUE, "w": WHITE, ".": BLACK, "h": GREY, "d": DARK}
+OVER, SRC, DST_IN = 0, 1, 2
+CLIENTS = "abcdeghijkmnopqr"      # the names of clients' files; f, l and s stand for others
+
+# ---------------------------------------------------------------- spelling of client files
+
+
+def sink(k):
+    return struct.pack("<II", k, 1)
+
+
+NO_SINK = struct.pack("<II", 9, 9)
+
+
+def local(parent, child, token=1):
+    return struct.pack("<II", parent, child) + token.to_bytes(16, "little")
+
+
+def surface(k, parent=1, child=1, token=1):
+    return sink(k) + local(parent, child, token)
+
+
+def reach(end, start=None):
+    """A range of surfaces."""
+    return b"\0" + end if start is None else b"\1" + start + end
+
+
+def rect(r):
+    return struct.pack("<iiii", *r)
+
+
+def solid(colour):
+    return b"\1" + bytes(colour)
+
+
+def tile(resource):
+    return b"\2" + struct.pack("<IHH", resource, 0, 0)
+
+
+def embed(shown, background=BLACK):
+    return b"\3" + shown + bytes(background)
+
+
+def group(number):
+    return b"\4" + struct.pack("<I", number)
+
+
+def quad(material, area, offset=(0, 0), visible=None, clip=None, opacity=255, mode=None):
+    """A quad. It has a mode in files of format 2 alone."""
+    return (struct.pack("<ii", *offset) + rect(area) + rect(visible or area)
+            + (b"\0" if clip is None else b"\1" + rect(clip)) + bytes([opacity])
+            + (b"" if mode is None else bytes([mode])) + material)
+
+
+RED_QUAD = quad(solid(RED), (1, 0, 2, 2))
+
+
+def render_pass(number, size, quads, damage=None):
+    whole = (0, 0, *size)
+    return (struct.pack("<I", number) + rect(whole) + rect(damage or whole)
+            + struct.pack("<H", len(quads)) + b"".join(quads))
+
+
+def frame(size=(4, 2), quads=(RED_QUAD,), damage=None, passes=None, waits=(), references=(),
+          resources=(), deadline=255, token=7, answers=0):
+    passes = [render_pass(1, size, quads, damage)] if passes is None else passes
+    listed = [struct.pack("<IHH", *r) for r in resources]
+    parts = [[len(part)] + list(part) for part in (waits, references, listed, passes)]
+    return struct.pack("<IIB", token, answers, deadline) + b"".join(
+        bytes(head[:1]) + b"".join(head[1:]) for head in parts)
+
+
+def submit(parent, child, token=1, **parts):
+    return b"\2" + local(parent, child, token) + frame(**parts)
+
+
+def upload(number, size, colour):
+    w, h = size
+    return b"\1" + struct.pack("<IHH", number, w, h) + bytes(colour) * (w * h)
+
+
+def produced_nothing(number):
+    return b"\3" + struct.pack("<I", number)
+
+
+def root(token=1):
+    return b"\5" + local(1, 1, token)
+
+
+def relation(parent, child):
+    return b"\6" + parent + child
+
+
+RECLAIM, AWAIT, CLOSE = b"\4", b"\7", b"\x08"
+UPLOAD, ROOT = upload(1, (1, 1), RED), root()
+LISTED = [(1, 1, 1)]
+
+
+def client(k, *messages, form=1):
+    return b"VIZC" + struct.pack("<H", form) + sink(k) + struct.pack("<I", len(messages)) + b"".join(
+        messages)
+
+
+def schedule(words):
+    codes = {"begin": 0x11, "draw": 0x12, "done": 0x13, "over": 0x14}
+    return bytes(codes[word] if word in codes else int(word[1:]) for word in words.split())
+
+
+def picture(rows):
+    return b"".join(bytes(PIXELS[letter]) for row in rows for letter in row)
+
+
+# ---------------------------------------------------------------- rows
+
+
+def put(name, words, given=(), status=0, line="", log=None, left=(), entries=0, steps=0, ones=(),
+        piece=None, turns=False):
+    """Prints a row."""
+    out = ["row " + name, "words " + words]
+    out += ["given %s %s" % (n, b.hex()) for n, b in given]
+    out += ["ones %s %d" % o for o in ones]
+    out += ["piece %d" % piece] if piece else []
+    out += ["turns"] if turns else []
+    out += ["status %d" % status] if status else []
+    out += ["line " + line] if line else []
+    out += ["log " + part for part in log or ()]
+    out += ["left %s %s" % (n, b.hex()) for n, b in left]
+    out += ["entries %d" % entries] if entries else []
+    out += ["steps %d" % steps] if steps else []
+    TABLE.append("\n".join(part.rstrip() for part in out))
+
+
+TABLE = []
+
+
+def step(name, files, events, log, frames=(), steps=0, size=(4, 2), **more):
+    """A `step` that goes well. `log` is without its last line, `steps` what is painted in all."""
+    names = CLIENTS[:len(files)]
+    entries = sum(not part.startswith(("open", "held")) for part in log)
+    put(name, "step %d %d s f l %s" % (*size, " ".join(names)),
+        [("s", schedule(events)), *zip(names, files)],
+        line="done %d entries %d frames" % (entries, len(frames)), log=[*log, "end"],
+        left=[("f", b"".join(frames)), *more.pop("left", ())], entries=entries, steps=steps, **more)
+
+
+def refused(name, line, data=None, events=None, size=(4, 2), **more):
+    """A `step` of which a file is refused, over files that stand where it would write."""
+    given = [("f", b"old"), ("l", b"older"), ("s", EVENTS if events is None else events),
+             ("a", ONE_QUAD if data is None else data)]
+    ones = more.get("ones", ())
+    put(name, "step %d %d s f l a" % size, [g for g in given if g[0] not in [n for n, _ in ones]],
+        3, line, **more)
+
+
+ONE_QUAD = bytes.fromhex(
+    "56495a43" "0100" "0100000001000000" "02000000" "02"
+    "0100000001000000" "01000000000000000000000000000000"
+    "07000000" "00000000" "ff" "000000" "01" "01000000"
+    "00000000000000000400000002000000" "00000000000000000400000002000000" "0100"
+    "0000000000000000" "01000000000000000200000002000000" "01000000000000000200000002000000"
+    "00" "ff" "01" "ff0000ff" "05"
+    "0100000001000000" "01000000000000000000000000000000")
+assert client(1, submit(1, 1), ROOT) == ONE_QUAD and len(ONE_QUAD) == 166
+EVENTS = bytes.fromhex("01011213")
+QUAD_PICTURE = bytes.fromhex("000000ffff0000ffff0000ff000000ff" * 2)
+QUAD_LOG = ["c1 accepted 1 1 +1.1", "c1 rooted", "draw drawn 0 0 4 2", "done shown p1.1"]
+PLAIN = "c1 c1 draw done"
+
+
+def one_client():
+    step("one_opaque_quad", [ONE_QUAD], PLAIN, QUAD_LOG, [QUAD_PICTURE], 16, turns=True)
+    step("pieces_of_one_byte", [ONE_QUAD], PLAIN, QUAD_LOG, [QUAD_PICTURE], 16, piece=1, turns=True)
+    step("empty_schedule", [ONE_QUAD], "", [])
+    step("no_message", [ONE_QUAD[:14] + bytes(4)], "", [])
+    put("outputs_are_written_over", "step 4 2 s f l a",
+        [("s", EVENTS), ("a", ONE_QUAD), ("f", bytes(99)), ("l", bytes(99)), ("b", b"other")],
+        line="done 4 entries 1 frames", log=[*QUAD_LOG, "end"], left=[("f", QUAD_PICTURE)],
+        entries=4, steps=16)
+    step("every_draw_and_done_answer", [client(1, ROOT, submit(1, 1))],
+         "draw c1 draw c1 draw draw done done draw",
+         ["draw noroot", "c1 rooted", "draw noroot", "c1 accepted 1 1 +1.1", "draw drawn 0 0 4 2",
+          "draw busy", "done shown p1.1", "done nothing", "draw unchanged"], [QUAD_PICTURE], 16)
+    over, first, second = "over ended", QUAD_LOG[0], QUAD_LOG[1]
+    for events, head in (("over c1 c1", [over, first, second]), ("c1 over c1", [first, over, second]),
+                         ("c1 c1 over", [first, second, over])):
+        step("three_orders", [ONE_QUAD], events + " draw done", head + QUAD_LOG[2:],
+             [QUAD_PICTURE], 16)
+
+
+def dot(name, passes, pixel, form=1):
+    step(name, [client(1, submit(1, 1, passes=passes), ROOT, form=form)], PLAIN,
+         ["c1 accepted 1 1 +1.1", "c1 rooted", "draw drawn 0 0 1 1", "done shown p1.1"],
+         [bytes.fromhex(pixel)], 2, (1, 1))
+
+
+def colours():
+    unit, one = (0, 0, 1, 1), (1, 1)
+    half, faint = (128, 0, 0, 128), (0, 0, 0, 128)
+    white, light = quad(solid(WHITE), unit), quad(solid(WHITE), unit, opacity=128)
+    dot("blends_and_group", [render_pass(1, one, [quad(solid(half), unit), white])], "ff7f7fff")
+    dot("blends_and_group", [render_pass(1, one, [light])], "808080ff")
+    dot("blends_and_group", [render_pass(1, one, [white, white]),
+                             render_pass(2, one, [quad(group(1), unit, opacity=128)])], "808080ff")
+    dot("white_laid_twice", [render_pass(1, one, [light, light])], "c0c0c0ff")
+    under, nothing = quad(solid(WHITE), unit, mode=OVER), render_pass(1, one, [])
+    for front, passes, pixel in (
+            (quad(solid(half), unit, mode=SRC), [], "80000080"),
+            (quad(solid(faint), unit, mode=DST_IN), [], "80808080"),
+            (quad(solid(RED), unit, opacity=128, mode=SRC), [], "80000080"),
+            (quad(group(1), unit, mode=DST_IN), [nothing], "00000000"),
+            (quad(group(1), unit, mode=OVER), [nothing], "ffffffff")):
+        dot("blend_modes", passes + [render_pass(2, one, [front, under])], pixel, 2)
+    later = ONE_QUAD[:4] + b"\2" + ONE_QUAD[5:]
+    step("format_two_bytes", [later[:136] + b"\0" + later[136:]], PLAIN, QUAD_LOG, [QUAD_PICTURE], 16)
+    refused("format_two_bytes", "file 1 refused at 136: Tag", later[:136] + b"\3" + later[136:])
+    refused("format_two_bytes", "file 1 refused at 137: Tag", later)
+
+
+def submissions():
+    step("wrong_size_refused", [client(1, submit(1, 1), submit(1, 1, size=(4, 3)), submit(1, 1))],
+         "c1 c1 c1", ["c1 accepted 1 1 +1.1", "c1 refused 5", "c1 accepted 2 2 +1.2 d1.1",
+                      "open 1.2"])
+    ids = [client(1, submit(2, 1), submit(1, 2), submit(2, 2))]
+    head = ["c1 accepted 1 1 +1.1", "c1 refused 4", "c1 accepted 2 1 +1.2"]
+    step("older_id_refused", ids, "c1 c1 c1", head + ["open 1.1", "open 1.2"])
+    ticks = ["begin ticked %d" % n for n in range(1, 16)]
+    step("temporary_reference_ends", ids, "c1 c1 c1" + 16 * " begin",
+         head + ticks + ["begin ticked 16 x1.1 d1.1", "open 1.2"])
+    outside = quad(solid(RED), (1, 0, 2, 2), visible=(0, 0, 2, 2))
+    step("malformed_frames", [client(1, submit(1, 1, passes=[]),
+                                     submit(1, 1, quads=[outside], damage=(0, 0, 5, 2)))],
+         "c1 c1", ["c1 refused 2 1", "c1 refused 2 5"])
+    step("malformed_frames", [client(1, submit(1, 1, resources=[(9, 1, 1)]))], "c1", ["c1 refused 3"])
+    listing = submit(1, 1, resources=LISTED)
+    step("three_references_one_return",
+         [client(1, UPLOAD, listing, listing, listing, ROOT, submit(1, 1))],
+         "c1 c1 c1 c1 c1 draw c1 done",
+         ["c1 stored", "c1 accepted 1 1 +1.1", "c1 accepted 2 2 +1.2 d1.1",
+          "c1 accepted 3 3 +1.3 d1.2", "c1 rooted", "draw drawn 0 0 4 2", "c1 accepted 4 4 +1.4",
+          "done shown <1.1x3 p1.3", "open 1.4"], [QUAD_PICTURE], 16, turns=True)
+    step("upload_while_lent", [client(1, UPLOAD, listing, submit(1, 1), UPLOAD, RECLAIM, UPLOAD)],
+         "c1 c1 c1 c1 c1 c1",
+         ["c1 stored", "c1 accepted 1 1 +1.1", "c1 accepted 2 2 +1.2 <1.1x1 d1.1", "c1 refused 6",
+          "c1 reclaimed 1x1", "c1 stored", "open 1.2"])
+
+
+def waiting():
+    nobody = NO_SINK + local(1, 1)
+    step("deadlock_broken_by_deadline",
+         [client(1, submit(1, 1, waits=[surface(2)], deadline=2)),
+          client(2, submit(1, 1, waits=[surface(1)], deadline=5))], "c1 c2 begin begin",
+         ["c1 accepted 1 1", "c2 accepted 1 1", "begin ticked 1", "begin ticked 2 +1.1 +2.1",
+          "open 1.1", "open 2.1"])
+    step("deadline_bounds", [client(1, submit(1, 1, waits=[nobody], deadline=0))], "c1",
+         ["c1 accepted 1 1 +1.1", "open 1.1"])
+    step("deadline_bounds", [client(1, submit(1, 1, waits=[nobody], deadline=64))],
+         "c1" + 64 * " begin", ["c1 accepted 1 1"] + ["begin ticked %d" % n for n in range(1, 64)]
+         + ["begin ticked 64 +1.1", "open 1.1"])
+    step("begin_frame_delivery", [client(1, AWAIT, produced_nothing(1), AWAIT)],
+         "c1 begin c1 c1 over c1 c1",
+         ["c1 refused 11", "begin ticked 1", "c1 began 1", "c1 noted", "over ended", "c1 over",
+          "c1 refused 12"])
+    step("hierarchy_refusals",
+         [client(1, relation(sink(1), sink(2)), relation(sink(1), NO_SINK),
+                 relation(sink(2), sink(2))),
+          client(2, relation(sink(2), sink(1)), relation(sink(1), sink(2)), ROOT, CLOSE, AWAIT)],
+         "c1 c1 c1 c2 c2 c2 c2 c2",
+         ["c1 joined", "c1 refused 9", "c1 refused 8", "c2 refused 8", "c2 refused 10",
+          "c2 refused 7", "c2 left", "c2 refused 1"])
+    wide = dict(size=(8, 4))
+    step("skipped_frame_damage",
+         [client(1, submit(1, 1, **wide), ROOT,
+                 submit(1, 1, waits=[nobody], damage=(1, 0, 2, 1), **wide),
+                 submit(1, 1, damage=(4, 1, 2, 1), **wide))],
+         "c1 c1 draw done c1 c1 draw done",
+         ["c1 accepted 1 1 +1.1", "c1 rooted", "draw drawn 0 0 8 4", "done shown p1.1",
+          "c1 accepted 2 2", "c1 accepted 3 3 +1.3 d1.2", "draw drawn 1 0 5 2", "done shown p1.3"],
+         2 * [picture([".rr....."] * 2 + ["........"] * 2)], 128, (8, 4))
+
+
+def damages():
+    square = dict(size=(8, 8))
+    hurts = [(0, 0, 8, 8), (0, 0, 2, 2), (0, 6, 2, 2), (6, 6, 1, 1)]
+    first, *others = [submit(1, 1, damage=hurt, **square) for hurt in hurts]
+    log = ["c1 accepted 1 1 +1.1", "c1 rooted", "draw drawn 0 0 8 8", "done shown p1.1"]
+    for n, hurt in ((2, "0 0 2 2"), (3, "0 6 2 2"), (4, "6 6 1 1")):
+        log += ["c1 accepted %d %d +1.%d" % (n, n, n), "draw drawn " + hurt, "done shown p1.%d" % n]
+    step("stale_rectangles", [client(1, first, ROOT, *others)], "c1" + 4 * " c1 draw done", log,
+         4 * [picture([".rr....."] * 2 + ["........"] * 6)], 286, (8, 8))
+    dot_damage = dict(damage=(0, 0, 1, 1))
+    green = [quad(solid(GREEN), (1, 0, 2, 2))]
+    step("dishonest_client",
+         [client(1, submit(1, 1), ROOT, submit(1, 1, **dot_damage),
+                 submit(1, 1, quads=green, **dot_damage))], "c1" + 3 * " c1 draw done",
+         QUAD_LOG + ["c1 accepted 2 2 +1.2", "draw drawn 0 0 1 1", "done shown p1.2",
+                     "c1 accepted 3 3 +1.3", "draw drawn 0 0 1 1", "done shown p1.3"],
+         3 * [QUAD_PICTURE], 33)
+
+
+def embeddings():
+    both = reach(surface(2, 2, 1), surface(2))
+    content = [quad(embed(both, GREEN), (0, 0, 6, 6), offset=(1, 1))]
+    second = client(2, submit(1, 1, size=(4, 4), quads=[quad(solid(RED), (0, 0, 4, 4))]),
+                    submit(2, 1, size=(6, 6), quads=[quad(solid(BLUE), (0, 0, 6, 6))],
+                           damage=(0, 0, 1, 1)))
+    log = ["c2 accepted 1 1 +2.1", "c1 accepted 1 1 +1.1", "c1 rooted", "draw drawn 0 0 8 8",
+           "done shown p2.1 p1.1"]
+    gutter = picture(["........"] + 4 * [".rrrrgg."] + 2 * [".gggggg."] + ["........"])
+    filled = picture(["........"] + 6 * [".bbbbbb."] + ["........"])
+    first = client(1, submit(1, 1, size=(8, 8), quads=content, references=[both]), ROOT)
+    step("switch_and_gutter", [first, second], "c2 c1 c1 draw done c2 draw done",
+         log + ["c2 accepted 2 1 +2.2 x2.1", "draw drawn 1 1 6 6", "done shown p2.2"],
+         [gutter, filled], 256, (8, 8), turns=True)
+    alone = client(1, submit(1, 1, size=(8, 8), quads=content), ROOT)
+    step("embedding_without_references", [alone, second], "c2 c1 c1 draw done", log, [gutter], 128,
+         (8, 8))
+    step("embedding_without_references", [alone, client(2, ROOT)], "c2", ["c2 refused 7"],
+         size=(8, 8))
+
+
+def cycles():
+    def embedding(k, **parts):
+        return submit(1, 1, references=[reach(surface(k))],
+                      quads=[quad(embed(reach(surface(k))), (0, 0, 4, 2)), RED_QUAD], **parts)
+
+    files = [client(1, embedding(2), ROOT, submit(1, 1)),
+             client(2, UPLOAD, embedding(3, resources=LISTED), CLOSE),
+             client(3, UPLOAD, embedding(2, resources=LISTED), CLOSE)]
+    head = ["c2 stored", "c2 accepted 1 1 +2.1", "c3 stored", "c3 accepted 1 1 +3.1",
+            "c1 accepted 1 1 +1.1", "c1 rooted"]
+    step("cycle_of_closed_clients", files, "c2 c2 c3 c3 c1 c1 c2 c3 c1",
+         head + ["c2 left", "c3 left", "c1 accepted 2 2 +1.2 x2.1 x3.1 <2.1x1 <3.1x1 d2.1 d3.1 d1.1",
+                 "open 1.2"])
+    step("cycle_is_drawn", files, "c2 c2 c3 c3 c1 c1 draw",
+         head + ["draw drawn 0 0 4 2", "held 2.1x1", "held 3.1x1", "open 1.1", "open 2.1",
+                 "open 3.1"], [QUAD_PICTURE], 16)
+
+
+def paths():
+    shown = embed(reach(surface(2)))
+    inner = render_pass(1, (6, 6), [quad(shown, (0, 0, 8, 8), offset=(1, 1))])
+    outer = render_pass(2, (16, 16), [
+        quad(shown, (0, 0, 8, 8), offset=(2, 2), clip=(2, 2, 4, 4)),
+        quad(group(1), (0, 0, 6, 6), offset=(9, 9), opacity=128)])
+    white = quad(solid(WHITE), (0, 0, 8, 8))
+    first = client(1, submit(1, 1, passes=[inner, outer], references=[reach(surface(2))]), ROOT)
+    second = client(2, submit(1, 1, size=(8, 8), quads=[white]),
+                    submit(1, 1, size=(8, 8), quads=[quad(solid(RED), (3, 3, 3, 3)), white],
+                           damage=(3, 3, 3, 3)))
+    black, seen, faint = "." * 16, "..wwww" + "." * 10, "." * 10 + "hhhhh."
+    changed, darker = "..wwwr" + "." * 10, "." * 10 + "hhhdd."
+    step("clip_after_move", [first, second], "c2 c1 c1 draw done c2 draw done",
+         ["c2 accepted 1 1 +2.1", "c1 accepted 1 1 +1.1", "c1 rooted", "draw drawn 0 0 16 16",
+          "done shown p2.1 p1.1", "c2 accepted 2 2 +2.2", "draw drawn 5 5 10 10",
+          "done shown p2.2"],
+         [picture([black] * 2 + [seen] * 4 + [black] * 4 + [faint] * 5 + [black]),
+          picture([black] * 2 + [seen] * 3 + [changed] + [black] * 4 + [faint] * 3 + [darker] * 2
+                  + [black])], 1024, (16, 16))
+    for count, answer in ((16, "draw toomuch"), (15, "draw drawn 0 0 4 2")):
+        files = [client(k, submit(1, 1, quads=2 * [
+            RED_QUAD if k == count else quad(embed(reach(surface(k + 1))), (0, 0, 4, 2))]),
+            *([ROOT] if k == 1 else [])) for k in range(1, count + 1)]
+        numbers = range(1, count + 1)
+        step("weight_limit", files, " ".join("c%d" % k for k in numbers) + " c1 draw",
+             ["c%d accepted 1 1 +%d.1" % (k, k) for k in numbers] + ["c1 rooted", answer]
+             + ["open %d.1" % k for k in numbers],
+             [QUAD_PICTURE] if count == 15 else [], 16 if count == 15 else 0)
+
+
+# ---------------------------------------------------------------- files by rule
+
+
+def made_child(k, rounds):
+    messages = []
+    for r in range(1, rounds + 1):
+        place, whole = (4 * (r % 8), 0), (0, 0, 32, 32)
+        damage = (whole if r == 1 else (0, 0, 32, 4) if r % 8 == 0
+                  else (4 * ((r - 1) % 8), 0, 8, 4))
+        number = 1 + r % 2
+        quads = [quad(tile(number), (0, 0, 4, 4), offset=place),
+                 quad(solid((0, 0, 64 * (k - 1), 255)), whole)]
+        messages += [AWAIT, RECLAIM, upload(number, (4, 4), (r % 256, 0, 0, 255)),
+                     b"\2" + local(1, 1, k) + frame((32, 32), quads, damage, token=r, answers=r,
+                                                    resources=[(number, 4, 4)])]
+    return client(k, *messages)
+
+
+def made(rounds):
+    """The three files that are made by rule."""
+    shown = [reach(surface(k, token=k)) for k in (2, 3)]
+    half = (0, 0, 32, 32)
+    quads = [quad(embed(shown[0]), half), quad(embed(shown[1]), half, offset=(32, 0), opacity=128),
+             quad(solid(WHITE), (0, 0, 64, 32))]
+    page = frame((64, 32), quads, references=shown, token=1)
+    first = client(1, relation(sink(1), sink(2)), relation(sink(1), sink(3)),
+                   b"\2" + local(1, 1, 1) + page, root())
+    return [first, made_child(2, rounds), made_child(3, rounds)]
+
+
+def by_rule():
+    for n, line, entries, steps in (
+            (1, "entries 15 frames 1 returns 0 painted 4096", 15, 4096),
+            (3, "entries 37 frames 3 returns 4 painted 8368", 37, 8368)):
+        put("demo_summaries", "demo %d" % n, line=line, entries=entries, steps=steps)
+    for rounds, piece, turns in ((1, None, True), (1, 100, True), (1, 1, False), (3, None, False)):
+        put("made_files", "gen %d f l a" % rounds, line="made 3 files",
+            left=list(zip("fla", made(rounds))), piece=piece, turns=turns)
+
+
+# ---------------------------------------------------------------- refusals
+
+
+def refused_files():
+    for changes, place in (
+            ([(0, 0x57)], "0: Magic"), ([(4, 3)], "4: Version"), ([(6, 0), (10, 0)], "6: Limit"),
+            ([(15, 0x20)], "14: Limit"), ([(18, 9)], "18: Tag"), ([(19, 0)], "19: Limit"),
+            ([(51, 65)], "51: Limit"), ([(110, 0)], "102: Limit"), ([(134, 2)], "134: Tag"),
+            ([(140, 0x7f)], "137: Colour")):
+        data = bytearray(ONE_QUAD)
+        for at, byte in changes:
+            data[at] = byte
+        refused("changed_bytes", "file 1 refused at " + place, bytes(data))
+    for n in range(len(ONE_QUAD)):
+        refused("short_trailing_sink_taken", "file 1 refused at %d: Short" % n, ONE_QUAD[:n])
+    refused("short_trailing_sink_taken", "file 1 refused at 166: Trailing", ONE_QUAD + b"\0")
+    put("short_trailing_sink_taken", "step 4 2 s f l a b",
+        [("s", EVENTS), ("a", ONE_QUAD), ("b", ONE_QUAD)], 3, "file 2 refused at 6: SinkTaken")
+    refused("hostile_files", "file 1 refused at 18: Short", ONE_QUAD[:14] + b"\0\x10\0\0")
+    refused("hostile_files", "file 0 refused at 0: Tag", events=b"\2")
+    refused("hostile_files", "file 0 refused at 64: Limit", events=65 * b"\x12", size=(2048, 2048))
+    refused("hostile_files", "file 0 refused at 65536: Long", ones=[("s", 65537)])
+    refused("hostile_files", "file 1 refused at 16777216: Long", ones=[("a", 16777217)])
+    refused("hostile_files", "file 1 refused at 0: Short", b"", b"\2")
+    for events, place in ((b"\1\1\x12\0", 3), (b"\1\x15\0\0", 1), (b"\2\1\x12\x13", 0)):
+        refused("refused_schedules", "file 0 refused at %d: Tag" % place, events=events)
+
+
+def refused_words():
+    files = [("s", EVENTS), ("a", ONE_QUAD), ("f", b"old"), ("l", b"older")]
+    long, files17 = "n" * 256, " ".join("x%d" % k for k in range(17))
+    for words in (
+            "", "step", "step 4 2 s f l", "steps 4 2 s f l a", "step 0 2 s f l a",
+            "step 4 2049 s f l a", "step 04 2 s f l a", "step +4 2 s f l a",
+            "step 4 4294967298 s f l a", "step 4 2 s f f a", "step 4 2 s f -l a",
+            "step 4 2 s f l -a", "step 4 2 s f l " + long, "step 4 2 s f l " + files17,
+            "step -- 4 2 s f l a", "--help", "--version", "run --buffers 5 4 2 0 f l a",
+            "run --buffers=2 4 2 0 f l a", "gen 1 a b", "gen 1 a b b", "gen 0 a b c",
+            "gen 1001 a b c", "gen 1 a b c d", "demo", "demo 0", "demo 1001", "demo 1 a"):
+        put("refused_words", words, files, 2, "words refused")
+    put("longest_name", "step 4 2 s f l " + long[:255], [("s", b""), (long[:255], ONE_QUAD)],
+        line="done 0 entries 0 frames", log=["end"], left=[("f", b"")])
+
+
+def failing():
+    """A file that is to be read and is not there, also beside one that is refused."""
+    put("failing_devices", "step 4 2 s f l a", [("s", EVENTS)], 4)
+    put("failing_devices", "step 4 2 s f l a", [("a", ONE_QUAD), ("f", b"old")], 4)
+    put("failing_devices", "step 4 2 s f l a b", [("s", EVENTS), ("a", b"")], 4)
+
+
+for part in (one_client, colours, submissions, waiting, damages, embeddings, cycles, paths, by_rule,
+             refused_files, refused_words, failing):
+    part()
+print("\n\n".join(TABLE))

@@ -1,0 +1,51 @@
+-- The plan of the demonstration and its events.
+use Rattle.std.proofs.Common.{◌≡◌, ℕ, zero, suc, ◌≤◌, ◌<◌, All, List, [], ◌∷◌, ◌++◌, length, take, take_all, sym, ap, subst, arith}
+use Rattle.std.proofs.lemmas.List.Elements.{All-nil, All-cons}
+use Rattle.vz_gen.specs.Make.{make}
+use Rattle.vz_rules.specs.Plan.{Plan}
+use Rattle.vz_rules.specs.Step.{NamesClient, Legal, LegalFrom}
+use Rattle.vz_rules.specs.declared.entry.Event.{Event}
+use Rattle.vz_rules.specs.declared.entry.Event.TheVariants as event
+use Rattle.vz_rules.specs.declared.entry.Entry.{Entry}
+use Rattle.vz_demo.specs.Planned.{demo_plan}
+use Rattle.viz_run.specs.Demo.{demo_events, four, round, rounds}
+use Rattle.viz_run.specs.Ends.{IsHistory, events_in}
+
+module _ (n : ℕ) where
+  client_named : (c : ℕ) → 0 < c → c ≤ 3 → NamesClient (demo_plan n) (event.Client c)
+  unfolding make
+  client_named c some few = (some, few)
+
+  four_named : (c : ℕ) → 0 < c → c ≤ 3 → (es : List Event) → All (NamesClient (demo_plan n)) es → All (NamesClient (demo_plan n)) (four c ++ es)
+  four_named c some few es rest =
+      let P : Event → Type 0 = NamesClient (demo_plan n) in
+      let one : P (event.Client c) = client_named c some few in
+      All-cons P (event.Client c) (event.Client c ∷ event.Client c ∷ event.Client c ∷ es) one
+      (All-cons P (event.Client c) (event.Client c ∷ event.Client c ∷ es) one
+      (All-cons P (event.Client c) (event.Client c ∷ es) one (All-cons P (event.Client c) es one rest)))
+
+  round_named : (es : List Event) → All (NamesClient (demo_plan n)) es → All (NamesClient (demo_plan n)) (round ++ es)
+  round_named es rest =
+      let P : Event → Type 0 = NamesClient (demo_plan n) in
+      let shown : List Event = event.Draw ∷ event.Done ∷ es in
+      All-cons P event.Begin (four 2 ++ four 3 ++ shown) tt
+      (four_named 2 (omega arith) (omega arith) (four 3 ++ shown)
+      (four_named 3 (omega arith) (omega arith) shown (All-cons P event.Draw (event.Done ∷ es) tt (All-cons P event.Done es tt rest))))
+
+  rounds_named : (m : ℕ) → All (NamesClient (demo_plan n)) (rounds m)
+  unfolding rounds
+  rounds_named zero = All-nil (NamesClient (demo_plan n))
+  rounds_named (suc m) = round_named (rounds m) (rounds_named m)
+
+  -- each event is of a client that there is
+  pub events_named : All (NamesClient (demo_plan n)) (demo_events n)
+  events_named = four_named 1 (omega arith) (omega arith) (rounds n) (rounds_named n)
+
+-- an empty history is one of no event
+pub none_played : (p : Plan) (es : List Event) (h : List Entry) → h ≡ [] → (n : ℕ) × IsHistory p (take n es) h
+unfolding Legal LegalFrom
+none_played p es h empty = (0, record { legal = subst (Legal p) (sym empty) tt; all = ap events_in empty })
+
+-- one of all events is one of the first of them
+pub all_played : (p : Plan) (es : List Event) (h : List Entry) → IsHistory p es h → (n : ℕ) × IsHistory p (take n es) h
+all_played p es h is = (length es, subst (λ xs. IsHistory p xs h) (sym (take_all (length es) es (omega arith))) is)

@@ -1,0 +1,221 @@
+-- From what a command does to what the words that ask for it do.
+use Rattle.std.proofs.Common.{rules, ◌≡◌, ℕ, ◌+◌, ◌≤◌, Result, Ok, Err, IfOk, IfErr, OnErr, IsErrOf, IsErrAnd, IsTrue, List, [], ◌∷◌, take, inr, refl, sym, ap, subst, ◌∙◌, true, false, arith}
+use Rattle.vz_base.specs.declared.limits.TheConstants.{DEFAULT_BUFFERS, MOST_ROUNDS}
+use Rattle.vz_gen.specs.Make.{make}
+use Rattle.vz_inputs.specs.Read.{MissesOne}
+use Rattle.vz_inputs.specs.Refusals.{refused_behind}
+use Rattle.vz_outside.specs.Shelved.{Shelved}
+use Rattle.vz_outside.specs.declared.shelf.ShelfError.{ShelfError}
+use Rattle.vz_outside.specs.declared.shelf.ShelfError.TheVariants as shelf_error
+use Rattle.vz_outputs.specs.Written.{AreWhole, AreBegun, KeepsAllBut}
+use Rattle.vz_rules.proofs.Chained.{written_is}
+use Rattle.vz_rules.specs.Command.{Word, Command, Gen, Demo, fits_command, IsCommand, IsNoCommand}
+use Rattle.vz_rules.specs.Frames.{frames, written, painted, written_of, painted_of, drawn_frames, drawn_frames_from}
+use Rattle.vz_rules.specs.Plan.{Plan, IsPlan}
+use Rattle.vz_rules.specs.Step.{Legal, LegalFrom}
+use Rattle.vz_rules.specs.declared.entry.Entry.{Entry}
+use Rattle.vz_words.proofs.One.{same_command}
+use Rattle.vz_words.specs.Words.{command_of}
+use Rattle.vz_words.specs.declared.commands.Command.{Command as Found}
+use Rattle.viz_run.specs.Commands.{Asks, AsksNothing, is_built, input_names, output_names}
+use Rattle.viz_run.specs.Inputs.{no_inputs, AreAccepted}
+use Rattle.vz_demo.specs.Planned.{demo_plan}
+use Rattle.viz_run.specs.Demo.{demo_events}
+use Rattle.viz_run.specs.Causes.{DoesFor, LeavesFor, KeepsOthers, FindsInputs}
+use Rattle.viz_run.specs.Ends.{IsHistory, named_files}
+use Rattle.viz_run.specs.Lines.{made_line, end_line}
+use Rattle.viz_run.specs.Site.{site}
+use Rattle.viz_run.specs.Stops.{Behaves, IsRefusal, stop_of}
+use Rattle.viz_run.specs.declared.stop.Stop.{Stop}
+use Rattle.viz_run.specs.declared.stop.Stop.TheVariants as stop
+
+-- Of answers
+
+-- what follows of an answer
+pub if_ok : {T E : Type 0} (r : Result T E) (P Q : T → Type 0) → ((x : T) → P x → Q x) → IfOk r P → IfOk r Q
+if_ok (Ok x) P Q follows is = follows x is
+if_ok (Err e) P Q follows is = tt
+
+-- what follows at an error
+pub at_err : {T E : Type 0} (r : Result T E) (P Q : Type 0) → (P → Q) → OnErr r P → OnErr r Q
+at_err (Ok x) P Q follows is = tt
+at_err (Err e) P Q follows is = follows is
+
+-- a call behaves for one reason more
+pub behaves_for :
+    {T P Q : Type 0} (r : Result T Stop) (a b : Shelved) → (P → Q) → Behaves P a b r → Behaves Q a b r
+behaves_for r a b reason behaves = record {
+  call = behaves.call;
+  fault = behaves.fault;
+  quiet = behaves.quiet;
+  works = λ faultless at. reason (behaves.works faultless at);
+  stays = behaves.stays;
+}
+
+-- what is said of an answer holds at an error
+pub ok_at_err : {T E : Type 0} (Q : E → Type 0) (r : Result T E) (P : T → Type 0) → IsErrAnd r Q → IfOk r P
+ok_at_err Q (Ok x) P is = absurd is
+ok_at_err Q (Err e) P is = tt
+
+-- what an error of a shelf stops a call for is no refusal
+no_refusal : (e : ShelfError) → IsRefusal (stop_of e) → ⊥
+no_refusal shelf_error.Failed is = is
+no_refusal shelf_error.Memory is = is
+
+pub unrefused : {T : Type 0} (e : ShelfError) (r : Result T Stop) (P : Stop → Type 0) → IsErrAnd r (λ s. s ≡ stop_of e) → IfErr r (λ s. IsRefusal s → P s)
+unrefused e (Ok x) P is = tt
+unrefused e (Err s) P is = λ refusal. absurd (no_refusal e (subst IsRefusal is refusal))
+
+-- nor is want of memory
+pub unrefused_memory : {T : Type 0} (r : Result T Stop) (P : Stop → Type 0) → IsErrAnd r (λ s. s ≡ stop.Memory) → IfErr r (λ s. IsRefusal s → P s)
+unrefused_memory (Ok x) P is = tt
+unrefused_memory (Err s) P is = λ refusal. absurd (subst IsRefusal is refusal)
+
+err_is : {T : Type 0} (s t : Stop) → IsErrOf {T = T} (Err s) t → s ≡ t
+err_is s t is = search rules
+
+-- so no error of a shelf is
+pub none_refused : {T : Type 0} (e : ShelfError) (r : Result T Stop) (t : Stop) → IsErrAnd r (λ s. s ≡ stop_of e) → IsRefusal t → IsErrOf r t → ⊥
+none_refused e (Ok x) t is refusal at = is
+none_refused e (Err s) t is refusal at = no_refusal e (subst IsRefusal (sym (err_is s t at) ∙ is) refusal)
+
+pub none_at_memory : {T : Type 0} (r : Result T Stop) (t : Stop) → IsErrAnd r (λ s. s ≡ stop.Memory) → IsRefusal t → IsErrOf r t → ⊥
+none_at_memory (Ok x) t is refusal at = is
+none_at_memory (Err s) t is refusal at = subst IsRefusal (sym (err_is s t at) ∙ is) refusal
+
+-- want of memory is no fault
+pub memory_no_fault : {T : Type 0} (r : Result T Stop) → IsErrAnd r (λ s. s ≡ stop.Memory) → IsErrOf r stop.Fault → ⊥
+memory_no_fault (Ok x) is at = is
+memory_no_fault (Err s) is at = differ (sym (err_is s stop.Fault at) ∙ is)
+  where
+    differ : stop.Fault ≡ stop.Memory → ⊥
+    differ same = search rules
+
+-- nor is an answer
+pub ok_no_fault : {T : Type 0} (x : T) → IsErrOf (Ok x) stop.Fault → ⊥
+ok_no_fault x at = search rules
+
+-- Of words that ask for a command
+
+module _ (words : List Word) (c : Command) (asks : Asks words c) where
+  pub others_of : (a b : Shelved) → KeepsAllBut (output_names c) a b → KeepsOthers words a b
+  others_of a b kept told name none = kept told name (none c asks)
+
+  pub misses_of : (a : Shelved) → MissesOne (input_names c) a → FindsInputs words a → ⊥
+  misses_of a misses finds = finds c asks misses
+
+-- Of `gen`
+
+module _ (n : ℕ) (first second third : Word) where
+  gen_accepted : (s : Shelved) → AreAccepted s (Gen n first second third) no_inputs
+  unfolding refused_behind
+  gen_accepted s = record { read = record { files = tt; schedules = tt }; good = refl }
+
+  none_of : (p : Plan) → IsHistory p [] []
+  unfolding Legal LegalFrom
+  none_of p = record { legal = tt; all = refl }
+
+  none_painted : (p : Plan) (k : ℕ) → painted p [] k ≡ 0
+  unfolding painted painted_of drawn_frames drawn_frames_from
+  none_painted p k = refl
+
+  none_written : (p : Plan) (k : ℕ) → written p [] k ≡ frames p []
+  unfolding written written_of frames drawn_frames drawn_frames_from
+  none_written p k = refl
+
+  -- the files stand, and this is the line
+  pub gen_does :
+      (h : List Entry) (a b : Shelved) (steps : ℕ) (line : List ℕ) → h ≡ []
+      → AreWhole (named_files (first ∷ second ∷ third ∷ []) (make n)) b → line ≡ made_line
+      → DoesFor (Gen n first second third) h (site a steps) (site b steps) line
+  gen_does h a b steps line empty whole is =
+      subst (λ (h : List Entry). DoesFor (Gen n first second third) h (site a steps) (site b steps) line) (sym empty) (
+        no_inputs,
+        gen_accepted a,
+        record {
+          history = none_of (demo_plan n);
+          outputs = whole;
+          counted = (let none = none_painted (demo_plan n) DEFAULT_BUFFERS in omega (arith, none));
+          whole = λ honest. none_written (demo_plan n) DEFAULT_BUFFERS;
+        },
+        is,
+      )
+
+  -- or they are begun
+  pub gen_leaves :
+      (h : List Entry) (a b : Shelved) (steps : ℕ) → h ≡ []
+      → AreBegun (named_files (first ∷ second ∷ third ∷ []) (make n)) a b
+      → LeavesFor (Gen n first second third) h (site a steps) (site b steps)
+  gen_leaves h a b steps empty begun =
+      subst (λ (h : List Entry). LeavesFor (Gen n first second third) h (site a steps) (site b steps)) (sym empty)
+      (inr (no_inputs, gen_accepted a, record { history = (0, none_of (demo_plan n)); outputs = begun }))
+
+-- Of `demo`
+
+module _ (n : ℕ) (plan : IsPlan (demo_plan n)) where
+  demo_accepted : (s : Shelved) → AreAccepted s (Demo n) no_inputs
+  unfolding refused_behind
+  demo_accepted s = record { read = record { files = tt; schedules = tt }; good = refl }
+
+  -- it was played to its end, and this is the line
+  pub demo_does :
+      (h : List Entry) (s : Shelved) (before after : ℕ) (line : List ℕ)
+      → IsHistory (demo_plan n) (demo_events n) h → line ≡ end_line (Demo n) (demo_plan n) h
+      → after ≡ before + painted (demo_plan n) h DEFAULT_BUFFERS
+      → DoesFor (Demo n) h (site s before) (site s after) line
+  demo_does h s before after line history is counted = (
+    no_inputs,
+    demo_accepted s,
+    record {
+      history = history;
+      outputs = tt;
+      counted = counted;
+      whole = λ honest. written_is (demo_plan n) h DEFAULT_BUFFERS plan history.legal honest (omega arith);
+    },
+    is,
+  )
+
+  -- or a front part of it
+  pub demo_leaves :
+      (h : List Entry) (s : Shelved) (before after : ℕ)
+      → (k : ℕ) × IsHistory (demo_plan n) (take k (demo_events n)) h
+      → LeavesFor (Demo n) h (site s before) (site s after)
+  demo_leaves h s before after front =
+      inr (no_inputs, demo_accepted s, record { history = front; outputs = tt })
+
+-- a command of the demonstration has few rounds
+pub demo_few : (words : List Word) (n : ℕ) → IsCommand words (Demo n) → n ≤ MOST_ROUNDS
+unfolding IsCommand fits_command
+demo_few words n is = let fits = is.0 in grind arith
+
+-- what fits of a command that is asked for
+pub asked_fits : (words : List Word) (c : Command) → IsCommand words c → IsTrue (fits_command c)
+unfolding IsCommand
+asked_fits words c is = is.0
+
+-- the words of a command of the code ask for it, where the program has it
+pub asks_for :
+    (words : List Word) (found same : Found) → found ≡ same → IsCommand words (command_of found) → IsTrue (is_built (command_of same))
+    → Asks words (command_of same)
+asks_for words found same is command built = (subst (λ (x : Found). IsCommand words (command_of x)) is command, built)
+
+-- Words of a command that the program does not have
+
+-- of which there is no other command
+unbuilt : (words : List Word) (c : Command) → IsCommand words c → is_built c ≡ false → AsksNothing words
+unbuilt words c is other d asks =
+    apart (sym other ∙ ap is_built (same_command words c d is asks.0) ∙ asks.1)
+  where
+    apart : false ≡ true → ⊥
+    apart h = cc
+
+-- and so of a command of the code that it does not have
+pub unbuilt_found :
+    (words : List Word) (found same : Found) → found ≡ same → IsCommand words (command_of found) → is_built (command_of same) ≡ false
+    → AsksNothing words
+unbuilt_found words found same is command other =
+    unbuilt words (command_of same) (subst (λ (x : Found). IsCommand words (command_of x)) is command) other
+
+-- or of none
+pub unasked : (words : List Word) → IsNoCommand words → AsksNothing words
+unasked words none c asks = none c asks.0

@@ -1,0 +1,155 @@
+use Rattle.std.proofs.Common.{rules, inr, refl}
+use Rattle.vz_demo.proofs.Fitting.{planned}
+use Rattle.vz_outputs.proofs.Behaving.{on_err}
+use Rattle.vz_outside.proofs.Calls.{ran_none, ran_one}
+use Rattle.vz_words.specs.Words.{texts}
+use Rattle.viz_run.proofs.Stopping.{stops_at, stops_after}
+use Rattle.viz_run.proofs.Performing.{if_ok, at_err, behaves_for, ok_at_err, unrefused, unrefused_memory, none_refused, none_at_memory, memory_no_fault, ok_no_fault}
+use Rattle.viz_run.proofs.Performing.{others_of, misses_of, gen_does, gen_leaves, demo_does, demo_leaves, demo_few, asked_fits, asks_for, unbuilt_found, unasked}
+use Rattle.viz_run.specs.declared.stop.Stop.TheVariants as stop
+use Rattle.viz_run.proofs.perform.perform.Goals as goal
+
+pub returns-in-Some-Step-clause-done : goal.returns-in-Some-Step-clause-done
+returns-in-Some-Step-clause-done g c =
+    if_ok c.step.result _ _ (λ line does. (_, (asks_for (texts c.args.words.now) _ _ c.in-Some-Step.field-0-is c.in-Some-Step.ensures.found refl), does)) c.step.ensures.done
+
+pub returns-in-Some-Step-clause-words : goal.returns-in-Some-Step-clause-words
+returns-in-Some-Step-clause-words g c =
+    λ is. absurd (c.step.ensures.words is)
+
+pub returns-in-Some-Step-clause-input : goal.returns-in-Some-Step-clause-input
+returns-in-Some-Step-clause-input g c =
+    λ r is. (_, (asks_for (texts c.args.words.now) _ _ c.in-Some-Step.field-0-is c.in-Some-Step.ensures.found refl), c.step.ensures.input r is)
+
+pub returns-in-Some-Step-clause-unbegun : goal.returns-in-Some-Step-clause-unbegun
+returns-in-Some-Step-clause-unbegun g c =
+    c.step.ensures.unbegun
+
+pub returns-in-Some-Step-clause-front : goal.returns-in-Some-Step-clause-front
+returns-in-Some-Step-clause-front g c =
+    at_err c.step.result _ _ (λ leaves. inr (_, (asks_for (texts c.args.words.now) _ _ c.in-Some-Step.field-0-is c.in-Some-Step.ensures.found refl), leaves)) c.step.ensures.front
+
+pub returns-in-Some-Step-clause-others : goal.returns-in-Some-Step-clause-others
+returns-in-Some-Step-clause-others g c =
+    others_of (texts c.args.words.now) _ (asks_for (texts c.args.words.now) _ _ c.in-Some-Step.field-0-is c.in-Some-Step.ensures.found refl) (g.F.Shelf.shelved c.args.shelf.now) (g.F.Shelf.shelved c.step.new.shelf) c.step.ensures.others
+
+pub returns-in-Some-Step-clause-behaves : goal.returns-in-Some-Step-clause-behaves
+returns-in-Some-Step-clause-behaves g c =
+    behaves_for c.step.result _ _ (misses_of (texts c.args.words.now) _ (asks_for (texts c.args.words.now) _ _ c.in-Some-Step.field-0-is c.in-Some-Step.ensures.found refl) _) c.step.ensures.behaves
+
+pub returns-in_ok-make_files-in-Some-Gen-clause-done : goal.returns-in_ok-make_files-in-Some-Gen-clause-done
+returns-in_ok-make_files-in-Some-Gen-clause-done g c =
+    (_, (asks_for (texts c.args.words.now) _ _ c.in-Some-Gen.field-0-is c.in-Some-Gen.ensures.found refl), gen_does _ _ _ _ _ _ _ _ _ c.requires c.in_ok-make_files-in-Some-Gen.ensures.whole c.in_ok-make_files-in-Some-Gen.ensures.line)
+
+pub returns-in_ok-make_files-in-Some-Gen-clause-words : goal.returns-in_ok-make_files-in-Some-Gen-clause-words
+returns-in_ok-make_files-in-Some-Gen-clause-words g c =
+    λ is. absurd (search rules)
+
+pub returns-in_ok-make_files-in-Some-Gen-clause-others : goal.returns-in_ok-make_files-in-Some-Gen-clause-others
+returns-in_ok-make_files-in-Some-Gen-clause-others g c =
+    others_of (texts c.args.words.now) _ (asks_for (texts c.args.words.now) _ _ c.in-Some-Gen.field-0-is c.in-Some-Gen.ensures.found refl) (g.F.Shelf.shelved c.args.shelf.now) (g.F.Shelf.shelved c.make_files.new.shelf) c.in_ok-make_files-in-Some-Gen.ensures.others
+
+pub returns-in_ok-make_files-in-Some-Gen-clause-behaves : goal.returns-in_ok-make_files-in-Some-Gen-clause-behaves
+returns-in_ok-make_files-in-Some-Gen-clause-behaves g c =
+    stops_after _ _ _ (ran_one _ _ _ c.in_ok-make_files-in-Some-Gen.ensures.behaves) (ok_no_fault _)
+
+pub returns-in_err-make_files-in-Some-Gen-clause-done : goal.returns-in_err-make_files-in-Some-Gen-clause-done
+returns-in_err-make_files-in-Some-Gen-clause-done g c =
+    ok_at_err _ c.from_residual.result _ c.from_residual.ensures.1
+
+pub returns-in_err-make_files-in-Some-Gen-clause-words : goal.returns-in_err-make_files-in-Some-Gen-clause-words
+returns-in_err-make_files-in-Some-Gen-clause-words g c =
+    λ is. absurd (none_refused c.in_err-make_files-in-Some-Gen.field-0.0 c.from_residual.result stop.Words c.from_residual.ensures.1 tt is)
+
+pub returns-in_err-make_files-in-Some-Gen-clause-input : goal.returns-in_err-make_files-in-Some-Gen-clause-input
+returns-in_err-make_files-in-Some-Gen-clause-input g c =
+    λ x is. absurd (none_refused c.in_err-make_files-in-Some-Gen.field-0.0 c.from_residual.result (stop.Input x) c.from_residual.ensures.1 tt is)
+
+pub returns-in_err-make_files-in-Some-Gen-clause-unbegun : goal.returns-in_err-make_files-in-Some-Gen-clause-unbegun
+returns-in_err-make_files-in-Some-Gen-clause-unbegun g c =
+    unrefused c.in_err-make_files-in-Some-Gen.field-0.0 c.from_residual.result _ c.from_residual.ensures.1
+
+pub returns-in_err-make_files-in-Some-Gen-clause-front : goal.returns-in_err-make_files-in-Some-Gen-clause-front
+returns-in_err-make_files-in-Some-Gen-clause-front g c =
+    on_err c.from_residual.result _ (inr (_, (asks_for (texts c.args.words.now) _ _ c.in-Some-Gen.field-0-is c.in-Some-Gen.ensures.found refl), gen_leaves _ _ _ _ _ _ _ _ c.requires c.in_err-make_files-in-Some-Gen.ensures.begun))
+
+pub returns-in_err-make_files-in-Some-Gen-clause-others : goal.returns-in_err-make_files-in-Some-Gen-clause-others
+returns-in_err-make_files-in-Some-Gen-clause-others g c =
+    others_of (texts c.args.words.now) _ (asks_for (texts c.args.words.now) _ _ c.in-Some-Gen.field-0-is c.in-Some-Gen.ensures.found refl) (g.F.Shelf.shelved c.args.shelf.now) (g.F.Shelf.shelved c.make_files.new.shelf) c.in_err-make_files-in-Some-Gen.ensures.others
+
+pub returns-in_err-make_files-in-Some-Gen-clause-behaves : goal.returns-in_err-make_files-in-Some-Gen-clause-behaves
+returns-in_err-make_files-in-Some-Gen-clause-behaves g c =
+    stops_at c.in_err-make_files-in-Some-Gen.field-0.0 c.from_residual.result _ _ _ c.from_residual.ensures.1 (ran_none _) c.in_err-make_files-in-Some-Gen.ensures.behaves (λ (no : ⊥). absurd no)
+
+pub returns-in_ok-demo-in-Some-Demo-clause-done : goal.returns-in_ok-demo-in-Some-Demo-clause-done
+returns-in_ok-demo-in-Some-Demo-clause-done g c =
+    (_, (asks_for (texts c.args.words.now) _ _ c.in-Some-Demo.field-0-is c.in-Some-Demo.ensures.found refl), demo_does _ (planned c.in-Some-Demo.rounds (demo_few (texts c.args.words.now) c.in-Some-Demo.rounds (asks_for (texts c.args.words.now) _ _ c.in-Some-Demo.field-0-is c.in-Some-Demo.ensures.found refl).0)) _ _ _ _ _ c.in_ok-demo-in-Some-Demo.ensures.history c.in_ok-demo-in-Some-Demo.ensures.line c.in_ok-demo-in-Some-Demo.ensures.counted)
+
+pub returns-in_ok-demo-in-Some-Demo-clause-words : goal.returns-in_ok-demo-in-Some-Demo-clause-words
+returns-in_ok-demo-in-Some-Demo-clause-words g c =
+    λ is. absurd (search rules)
+
+pub returns-in_ok-demo-in-Some-Demo-clause-others : goal.returns-in_ok-demo-in-Some-Demo-clause-others
+returns-in_ok-demo-in-Some-Demo-clause-others g c =
+    λ told name none. refl
+
+pub returns-in_ok-demo-in-Some-Demo-clause-behaves : goal.returns-in_ok-demo-in-Some-Demo-clause-behaves
+returns-in_ok-demo-in-Some-Demo-clause-behaves g c =
+    stops_after _ _ _ (ran_none _) (ok_no_fault _)
+
+pub returns-in_err-demo-in-Some-Demo-clause-done : goal.returns-in_err-demo-in-Some-Demo-clause-done
+returns-in_err-demo-in-Some-Demo-clause-done g c =
+    ok_at_err _ c.from_residual-in_err-demo-in-Some-Demo.result _ c.from_residual-in_err-demo-in-Some-Demo.ensures.1
+
+pub returns-in_err-demo-in-Some-Demo-clause-words : goal.returns-in_err-demo-in-Some-Demo-clause-words
+returns-in_err-demo-in-Some-Demo-clause-words g c =
+    λ is. absurd (none_at_memory c.from_residual-in_err-demo-in-Some-Demo.result stop.Words c.from_residual-in_err-demo-in-Some-Demo.ensures.1 tt is)
+
+pub returns-in_err-demo-in-Some-Demo-clause-input : goal.returns-in_err-demo-in-Some-Demo-clause-input
+returns-in_err-demo-in-Some-Demo-clause-input g c =
+    λ x is. absurd (none_at_memory c.from_residual-in_err-demo-in-Some-Demo.result (stop.Input x) c.from_residual-in_err-demo-in-Some-Demo.ensures.1 tt is)
+
+pub returns-in_err-demo-in-Some-Demo-clause-unbegun : goal.returns-in_err-demo-in-Some-Demo-clause-unbegun
+returns-in_err-demo-in-Some-Demo-clause-unbegun g c =
+    unrefused_memory c.from_residual-in_err-demo-in-Some-Demo.result _ c.from_residual-in_err-demo-in-Some-Demo.ensures.1
+
+pub returns-in_err-demo-in-Some-Demo-clause-front : goal.returns-in_err-demo-in-Some-Demo-clause-front
+returns-in_err-demo-in-Some-Demo-clause-front g c =
+    on_err c.from_residual-in_err-demo-in-Some-Demo.result _ (inr (_, (asks_for (texts c.args.words.now) _ _ c.in-Some-Demo.field-0-is c.in-Some-Demo.ensures.found refl), demo_leaves _ (planned c.in-Some-Demo.rounds (demo_few (texts c.args.words.now) c.in-Some-Demo.rounds (asks_for (texts c.args.words.now) _ _ c.in-Some-Demo.field-0-is c.in-Some-Demo.ensures.found refl).0)) _ _ _ _ c.in_err-demo-in-Some-Demo.ensures.front))
+
+pub returns-in_err-demo-in-Some-Demo-clause-others : goal.returns-in_err-demo-in-Some-Demo-clause-others
+returns-in_err-demo-in-Some-Demo-clause-others g c =
+    λ told name none. refl
+
+pub returns-in_err-demo-in-Some-Demo-clause-behaves : goal.returns-in_err-demo-in-Some-Demo-clause-behaves
+returns-in_err-demo-in-Some-Demo-clause-behaves g c =
+    stops_after c.from_residual-in_err-demo-in-Some-Demo.result _ _ (ran_none _) (memory_no_fault c.from_residual-in_err-demo-in-Some-Demo.result c.from_residual-in_err-demo-in-Some-Demo.ensures.1)
+
+pub step-requires-clause-fits : goal.step-requires-clause-fits
+step-requires-clause-fits g c = asked_fits _ _ (asks_for (texts c.args.words.now) _ _ c.in-Some-Step.field-0-is c.in-Some-Step.ensures.found refl).0
+
+pub make_files-requires : goal.make_files-requires
+make_files-requires g c = asked_fits _ _ (asks_for (texts c.args.words.now) _ _ c.in-Some-Gen.field-0-is c.in-Some-Gen.ensures.found refl).0
+
+pub demo-requires-clause-few : goal.demo-requires-clause-few
+demo-requires-clause-few g c = demo_few (texts c.args.words.now) c.in-Some-Demo.rounds (asks_for (texts c.args.words.now) _ _ c.in-Some-Demo.field-0-is c.in-Some-Demo.ensures.found refl).0
+
+pub returns-in-Some-Run-clause-words : goal.returns-in-Some-Run-clause-words
+returns-in-Some-Run-clause-words g c =
+    λ is. unbuilt_found (texts c.args.words.now) _ _ c.in-Some-Run.field-0-is c.in-Some-Run.ensures.found refl
+
+pub returns-in-Some-Check-clause-words : goal.returns-in-Some-Check-clause-words
+returns-in-Some-Check-clause-words g c =
+    λ is. unbuilt_found (texts c.args.words.now) _ _ c.in-Some-Check.field-0-is c.in-Some-Check.ensures.found refl
+
+pub returns-in-Some-Hit-clause-words : goal.returns-in-Some-Hit-clause-words
+returns-in-Some-Hit-clause-words g c =
+    λ is. unbuilt_found (texts c.args.words.now) _ _ c.in-Some-Hit.field-0-is c.in-Some-Hit.ensures.found refl
+
+pub returns-in-Some-Turns-clause-words : goal.returns-in-Some-Turns-clause-words
+returns-in-Some-Turns-clause-words g c =
+    λ is. unbuilt_found (texts c.args.words.now) _ _ c.in-Some-Turns.field-0-is c.in-Some-Turns.ensures.found refl
+
+pub returns-in-None-clause-words : goal.returns-in-None-clause-words
+returns-in-None-clause-words g c =
+    λ is. unasked (texts c.args.words.now) c.in-None.ensures.none

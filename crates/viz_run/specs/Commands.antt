@@ -1,0 +1,38 @@
+-- The commands that the program has, and which names they read and write.
+use Rattle.std.specs.Prelude.{Bool, true, false, IsTrue, List, [], ◌∷◌, ◌++◌}
+use Rattle.vz_rules.specs.Command.{Word, Command, Step, Gen, Demo, IsCommand}
+
+-- the program has the command; the words of another are refused
+abbrev pub is_built : Command → Bool
+is_built (Step w h schedule frames log files) = true
+is_built (Gen n first second third) = true
+is_built (Demo n) = true
+is_built _ = false
+
+-- the words are those of a command that the program has
+abbrev pub Asks : List Word → Command → Type 0
+Asks words c = IsCommand words c × IsTrue (is_built c)
+
+-- the words are those of no such command
+abbrev pub AsksNothing : List Word → Type 0
+AsksNothing words = (c : Command) → Asks words c → ⊥
+
+-- the names of the clients' files
+abbrev pub client_names : Command → List Word
+client_names (Step w h schedule frames log files) = files
+client_names _ = []
+
+-- the name of the schedule, where there is one
+abbrev pub schedule_names : Command → List Word
+schedule_names (Step w h schedule frames log files) = schedule ∷ []
+schedule_names _ = []
+
+-- the names that are read
+abbrev pub input_names : Command → List Word
+input_names c = client_names c ++ schedule_names c
+
+-- the names that are written
+abbrev pub output_names : Command → List Word
+output_names (Step w h schedule frames log files) = frames ∷ log ∷ []
+output_names (Gen n first second third) = first ∷ second ∷ third ∷ []
+output_names _ = []

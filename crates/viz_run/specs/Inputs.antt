@@ -1,0 +1,61 @@
+-- What a command is given: its inputs as they were read, and the plan and the events that they make.
+use Rattle.std.specs.Prelude.{◌≡◌, ℕ, pos, Option, Some, None, List, [], ◌∷◌}
+use Rattle.std.specs.List.{flat_map}
+use Rattle.vz_base.specs.declared.limits.TheConstants.{MOST_FILE_BYTES, MOST_EVENTS}
+use Rattle.vz_outside.specs.Shelved.{Shelved}
+use Rattle.vz_rules.specs.Plan.{Plan}
+use Rattle.vz_rules.specs.Command.{Command, Step, Gen, Demo}
+use Rattle.vz_rules.specs.declared.entry.Event.{Event}
+use Rattle.vz_inputs.specs.Read.{AreReadUpto}
+use Rattle.vz_inputs.specs.Refusals.{file_refused, plan_read}
+use Rattle.vz_inputs.specs.Schedule.{events_of, schedule_refused}
+use Rattle.vz_inputs.specs.declared.refused.Refused.{Refused}
+use Rattle.viz_run.specs.Commands.{client_names, schedule_names}
+use Rattle.vz_demo.specs.Planned.{demo_plan}
+use Rattle.viz_run.specs.Demo.{demo_events}
+
+-- the bytes of the clients' files, and of the schedule where a command has one, as they were read
+pub record Inputs : Type 0 where
+  pub files : List (List ℕ)
+  pub schedules : List (List ℕ)
+
+-- nothing is read
+abbrev pub no_inputs : Inputs
+no_inputs = record { files = []; schedules = [] }
+
+-- each was read to its end, or to one byte above its limit
+pub record AreRead (shelf : Shelved) (c : Command) (i : Inputs) : Type 0 where
+  pub files : AreReadUpto MOST_FILE_BYTES (client_names c) i.files shelf
+  pub schedules : AreReadUpto MOST_EVENTS (schedule_names c) i.schedules shelf
+
+-- the plan: the files that were read, or those by rule, and the size of the display
+abbrev pub plan_of : Command → Inputs → Plan
+plan_of (Step w h schedule frames log files) i = plan_read (record { w = pos w; h = pos h }) i.files
+plan_of (Gen n first second third) i = demo_plan n
+plan_of (Demo n) i = demo_plan n
+plan_of _ i = record { files = []; size = record { w = pos 1; h = pos 1 } }
+
+-- the events: those of the schedule, or of the demonstration
+abbrev pub events_for : Command → Inputs → List Event
+events_for (Step w h schedule frames log files) i = flat_map events_of i.schedules
+events_for (Demo n) i = demo_events n
+events_for _ i = []
+
+-- the first of some schedules that is refused
+abbrev pub schedules_refused : Plan → List (List ℕ) → Option Refused
+schedules_refused p [] = None
+schedules_refused p (bytes ∷ more) = elim (schedule_refused p bytes) [ Some r ↦ Some r | None ↦ schedules_refused p more ]
+
+-- the first input that is refused: the clients' files are tested in order, and then the schedule
+abbrev pub first_refused : Command → Inputs → Option Refused
+first_refused c i = elim (file_refused i.files) [ Some r ↦ Some r | None ↦ schedules_refused (plan_of c i) i.schedules ]
+
+-- these inputs were read for a command, and none of them is refused
+pub record AreAccepted (shelf : Shelved) (c : Command) (i : Inputs) : Type 0 where
+  pub read : AreRead shelf c i
+  pub good : first_refused c i ≡ None
+
+-- these inputs were read for a command, and this one is the first that is refused
+pub record AreRefused (shelf : Shelved) (c : Command) (i : Inputs) (r : Refused) : Type 0 where
+  pub read : AreRead shelf c i
+  pub first : first_refused c i ≡ Some r

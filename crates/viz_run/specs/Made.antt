@@ -1,0 +1,7 @@
+-- What the words of `gen` ask for.
+use Rattle.vz_rules.specs.Command.{Command, Gen}
+use Rattle.viz_run.specs.declared.make.MakeWords.{MakeWords}
+
+-- the command
+abbrev pub command_of : MakeWords → Command
+command_of w = Gen w.rounds w.first.now w.second.now w.third.now

@@ -1,0 +1,116 @@
+//! `demo`: the files by rule, played and shown, but not written.
+ghost use Rattle.std.specs.Prelude.{◌≡◌, ◌+◌, ◌≤◌, ℕ, [], false, length, take, All, string_bytes};
+ghost use Rattle.std.specs.Prelude.{IfOk, OnOk, OnErr};
+ghost use Rattle.vz_base.specs.declared.limits.TheConstants.{DEFAULT_BUFFERS, MOST_FILES, MOST_ROUNDS};
+ghost use Rattle.vz_display.specs.Displayed.{upto_most};
+ghost use Rattle.vz_player.specs.Played.{painted_by};
+ghost use Rattle.vz_rules.specs.Command.{Demo};
+ghost use Rattle.vz_rules.specs.Frames.{painted};
+ghost use Rattle.vz_rules.specs.Step.{NamesClient};
+ghost use Rattle.vz_demo.specs.Planned.{demo_plan};
+ghost use Rattle.viz_run.specs.Demo.{demo_events};
+ghost use Rattle.viz_run.specs.Ends.{IsHistory};
+ghost use Rattle.viz_run.specs.Lines.{end_line};
+ghost use Rattle.viz_run.specs.Taken.{HasTaken};
+
+use crate::events::demo_events;
+use crate::lines::demo_line;
+use std::alloc::Global;
+use std::sync::ledger::Ledger;
+use vz_base::Memory;
+use vz_base::limits::DEFAULT_BUFFERS;
+use vz_buffers::Steps;
+use vz_demo::demo_plan;
+use vz_frame::List;
+use vz_machine::Machine;
+use vz_outside::Gate;
+use vz_plain_machine::PlainMachine;
+use vz_player::Player;
+use vz_rules::{Entry, Event, Plan};
+
+/// Plays the files by rule with so many rounds, paints each frame, and answers the line that tells
+/// it. Nothing is read or written. Conditions: 1 to `MOST_ROUNDS` rounds, and an empty history. At
+/// want of memory, the only error, the history has a front part of the events.
+pub fn demo<G: Gate, L: Ledger>(
+    alloc: Global,
+    rounds: u32,
+    gate: &G,
+    steps: &mut Steps<L>,
+    history: &mut List<Entry>,
+) -> Result<String, Memory>
+    requires few { rounds ≤ MOST_ROUNDS }
+    requires empty { history.old ≡ [] }
+    ensures history { OnOk result
+        (IsHistory (demo_plan rounds) (demo_events rounds) history.new) }
+    ensures line { IfOk result (λ line. string_bytes line
+        ≡ end_line (Demo rounds) (demo_plan rounds) history.new) }
+    ensures counted { OnOk result
+        (steps.new ≡ steps.old + painted (demo_plan rounds) history.new DEFAULT_BUFFERS) }
+    ensures front { OnErr result ((n : ℕ)
+        × IsHistory (demo_plan rounds) (take n (demo_events rounds)) history.new) }
+{
+    let plan = demo_plan(alloc, rounds)?;
+    let events = demo_events(alloc, rounds)?;
+    let painted = play_all(alloc, &plan, &events, gate, steps, history)?;
+    Ok(demo_line(alloc, history.as_slice(), painted)?)
+}
+
+/// Plays the events of a plan one after the other and paints each frame, and answers how many points
+/// were painted. At want of memory, the only error, the history has a front part of the events.
+fn play_all<G: Gate, L: Ledger>(
+    alloc: Global,
+    plan: &Plan,
+    events: &[Event],
+    gate: &G,
+    steps: &mut Steps<L>,
+    history: &mut List<Entry>,
+) -> Result<u64, Memory>
+    requires files { length plan.now.files ≤ MOST_FILES }
+    requires named { All (NamesClient plan.now) events.now }
+    ensures history { OnOk result (IsHistory plan.now events.now history.new) }
+    ensures painted { IfOk result (λ points.
+        points ≡ upto_most (painted plan.now history.new DEFAULT_BUFFERS)) }
+    ensures counted { OnOk result
+        (steps.new ≡ steps.old + painted plan.now history.new DEFAULT_BUFFERS) }
+    ensures front { OnErr result ((n : ℕ)
+        × IsHistory plan.now (take n events.now) history.new) }
+{
+    let machine = PlainMachine::new(alloc, plan);
+    let mut player = Player::new(alloc, machine, plan.size(), DEFAULT_BUFFERS as u32);
+    match take_all(alloc, &mut player, events, gate, steps) {
+        Ok(()) => {
+            let points = player.display().painted();
+            *history = player.into_history();
+            Ok(points)
+        }
+        Err(error) => {
+            *history = player.into_history();
+            Err(error)
+        }
+    }
+}
+
+/// Gives a player the events one after the other. At want of memory it took the first of them.
+fn take_all<M: Machine + Drop, G: Gate, L: Ledger>(
+    alloc: Global,
+    player: &mut Player<M>,
+    events: &[Event],
+    gate: &G,
+    steps: &mut Steps<L>,
+) -> Result<(), Memory>
+where
+    M::FrameData: Drop,
+    requires going { player.old.stopped ≡ false }
+    requires named { All (NamesClient player.old.plan) events.now }
+    ensures taken { OnOk result (HasTaken events.now player.old player.new) }
+    ensures going { OnOk result (player.new.stopped ≡ false) }
+    ensures counted { OnOk result
+        (steps.new + painted_by player.old ≡ steps.old + painted_by player.new) }
+    ensures front { OnErr result ((n : ℕ)
+        × HasTaken (take n events.now) player.old player.new) }
+{
+    for event in events {
+        player.turn(alloc, gate, *event, steps)?;
+    }
+    Ok(())
+}

@@ -1,0 +1,95 @@
+//! The command that the words ask for, carried out.
+ghost use Rattle.std.specs.Prelude.{◌≡◌, [], IfOk, IfErr, OnErr, IsErrOf, string_bytes};
+ghost use Rattle.vz_words.specs.Words.{texts};
+ghost use Rattle.vz_inputs.specs.declared.refused.Refused.{Refused as Refusal};
+ghost use Rattle.viz_run.specs.Commands.{AsksNothing};
+ghost use Rattle.viz_run.specs.Causes.{DoesAll, RefusesOne, LeavesFront, KeepsOthers, FindsInputs};
+ghost use Rattle.viz_run.specs.Ends.{IsUnbegun};
+ghost use Rattle.viz_run.specs.Site.{site};
+ghost use Rattle.viz_run.specs.Stops.{Behaves, IsRefusal};
+ghost use Rattle.viz_run.specs.declared.stop.Stop.TheVariants as stops;
+
+use crate::demo::demo;
+use crate::make::{MakeWords, make_files};
+use crate::step::{StepWords, step};
+use crate::stop::Stop;
+use std::alloc::Global;
+use std::sync::ledger::Ledger;
+use vz_buffers::Steps;
+use vz_frame::List;
+use vz_outside::{Gate, Shelf};
+use vz_rules::Entry;
+use vz_words::{Command, command};
+
+/// Carries out the command that the words ask for, and answers the line that tells it.
+///
+/// `Words` comes where the program has no such command, `Input` where an input is refused, and
+/// after both nothing was begun. `Fault` comes exactly where the shelf counted one.
+pub fn perform<F: Shelf, G: Gate, L: Ledger>(
+    alloc: Global,
+    words: &[String],
+    shelf: &mut F,
+    gate: &G,
+    steps: &mut Steps<L>,
+    history: &mut List<Entry>,
+) -> Result<String, Stop>
+    requires { history.old ≡ [] }
+    ensures done { IfOk result (λ line. DoesAll (texts words.now) history.new
+        (site (F.shelved shelf.old) steps.old) (site (F.shelved shelf.new) steps.new)
+        (string_bytes line)) }
+    ensures words { IsErrOf result stops.Words → AsksNothing (texts words.now) }
+    ensures input { (r : Refusal) → IsErrOf result (stops.Input r)
+        → RefusesOne (texts words.now) (F.shelved shelf.old) r }
+    ensures unbegun { IfErr result (λ stop. IsRefusal stop → IsUnbegun history.new
+        (site (F.shelved shelf.old) steps.old) (site (F.shelved shelf.new) steps.new)) }
+    ensures front { OnErr result (LeavesFront (texts words.now) history.new
+        (site (F.shelved shelf.old) steps.old) (site (F.shelved shelf.new) steps.new)) }
+    ensures others { KeepsOthers (texts words.now) (F.shelved shelf.old) (F.shelved shelf.new) }
+    ensures behaves { Behaves (FindsInputs (texts words.now) (F.shelved shelf.old) → ⊥)
+        (F.shelved shelf.old) (F.shelved shelf.new) result }
+{
+    match command(words) {
+        Some(
+            Command::Step {
+                width,
+                height,
+                schedule,
+                frames,
+                log,
+                files,
+            },
+        ) => {
+            let names = StepWords {
+                width,
+                height,
+                schedule,
+                frames,
+                log,
+                files,
+            };
+            step(alloc, &names, shelf, gate, steps, history)
+        }
+        Some(
+            Command::Gen {
+                rounds,
+                first,
+                second,
+                third,
+            },
+        ) => {
+            let names = MakeWords {
+                rounds,
+                first,
+                second,
+                third,
+            };
+            Ok(make_files(alloc, &names, shelf)?)
+        }
+        Some(Command::Demo { rounds }) => Ok(demo(alloc, rounds, gate, steps, history)?),
+        Some(Command::Run { .. }) => Err(Stop::Words),
+        Some(Command::Check { .. }) => Err(Stop::Words),
+        Some(Command::Hit { .. }) => Err(Stop::Words),
+        Some(Command::Turns { .. }) => Err(Stop::Words),
+        None => Err(Stop::Words),
+    }
+}

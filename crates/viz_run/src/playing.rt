@@ -1,0 +1,130 @@
+//! The events of a schedule played on a machine, with the frames and the log written.
+ghost use Rattle.std.specs.Prelude.{◌≡◌, ◌≢◌, ◌+◌, ℕ, All, Some, [], ◌∷◌, take, OnOk, OnErr, IfOk};
+ghost use Rattle.vz_base.specs.declared.limits.TheConstants.{DEFAULT_BUFFERS};
+ghost use Rattle.vz_outputs.specs.Written.{AreWhole, AreBegun, KeepsAllBut};
+ghost use Rattle.vz_outside.specs.Shelved.{Writing, KeepsOthers, Appends, AppendsFront, Behaves};
+ghost use Rattle.vz_rules.specs.Frames.{painted};
+ghost use Rattle.vz_rules.specs.Log.{rest_of};
+ghost use Rattle.vz_rules.specs.Step.{NamesClient};
+ghost use Rattle.vz_rules.specs.World.{opening};
+ghost use Rattle.viz_run.specs.Ends.{IsHistory, frames_of};
+ghost use Rattle.viz_run.specs.Stepped.{outputs_for};
+
+use crate::step::{Given, StepWords};
+use std::alloc::Global;
+use std::sync::ledger::Ledger;
+use vz_base::limits::DEFAULT_BUFFERS;
+use vz_buffers::Steps;
+use vz_frame::List;
+use vz_machine::Machine;
+use vz_outputs::{FrameFile, create_outputs, play_frames, write_log};
+use vz_outside::{Gate, Shelf, ShelfError};
+use vz_player::Player;
+use vz_rules::{Entry, Rest};
+
+/// Takes the events on a machine at the opening of the plan, and writes the frames and the log.
+/// FRAMES and LOG are made here, once every input is accepted.
+///
+/// `Failed` is the answer exactly where a fault was counted, `Memory` comes for want of memory.
+/// After both, the history is a legal one of a front part of the events, and of what it writes a
+/// front part stands.
+pub fn play<M: Machine + Drop, F: Shelf, G: Gate, L: Ledger>(
+    alloc: Global,
+    machine: M,
+    words: &StepWords<'_>,
+    given: &Given,
+    shelf: &mut F,
+    gate: &G,
+    steps: &mut Steps<L>,
+    history: &mut List<Entry>,
+) -> Result<(), ShelfError>
+where
+    M::FrameData: Drop,
+    requires opening { M.state machine ≡ record {
+      plan = given.now.plan;
+      world = opening given.now.plan;
+    } }
+    requires named { All (NamesClient given.now.plan) given.now.events.items }
+    requires apart { words.now.frames.now ≢ words.now.log.now }
+    requires empty { history.old ≡ [] }
+    ensures history { OnOk result
+        (IsHistory given.now.plan given.now.events.items history.new) }
+    ensures whole { OnOk result (AreWhole
+        (outputs_for words.now given.now.plan history.new) (F.shelved shelf.new)) }
+    ensures counted { OnOk result
+        (steps.new ≡ steps.old + painted given.now.plan history.new DEFAULT_BUFFERS) }
+    ensures front { OnErr result ((n : ℕ)
+        × IsHistory given.now.plan (take n given.now.events.items) history.new) }
+    ensures begun { OnErr result (AreBegun (outputs_for words.now given.now.plan history.new)
+        (F.shelved shelf.old) (F.shelved shelf.new)) }
+    ensures others { KeepsAllBut (words.now.frames.now ∷ words.now.log.now ∷ [])
+        (F.shelved shelf.old) (F.shelved shelf.new) }
+    ensures behaves { Behaves (F.shelved shelf.old) (F.shelved shelf.new) result }
+{
+    let outputs = create_outputs(shelf, words.frames, words.log)?;
+    let rest = show(
+        alloc,
+        machine,
+        given,
+        shelf,
+        outputs.frames,
+        gate,
+        steps,
+        history,
+    )?;
+    write_log(alloc, shelf, outputs.log, history, &rest)?;
+    Ok(())
+}
+
+/// Takes the events on a machine at the opening of the plan, writes the frames to an open slot, and
+/// answers what is still out. After an error the history is a legal one of a front part of the
+/// events, and of the frames that it writes a front part stands.
+fn show<M: Machine + Drop, F: Shelf, G: Gate, L: Ledger>(
+    alloc: Global,
+    machine: M,
+    given: &Given,
+    shelf: &mut F,
+    slot: u32,
+    gate: &G,
+    steps: &mut Steps<L>,
+    history: &mut List<Entry>,
+) -> Result<Rest, ShelfError>
+where
+    M::FrameData: Drop,
+    requires opening { M.state machine ≡ record {
+      plan = given.now.plan;
+      world = opening given.now.plan;
+    } }
+    requires named { All (NamesClient given.now.plan) given.now.events.items }
+    requires open { (F.shelved shelf.old).mode slot ≡ Some Writing }
+    ensures history { OnOk result
+        (IsHistory given.now.plan given.now.events.items history.new) }
+    ensures rest { IfOk result (λ rest. rest ≡ rest_of given.now.plan history.new) }
+    ensures frames { OnOk result (Appends (frames_of given.now.plan history.new)
+        ((F.shelved shelf.old).name slot) (F.shelved shelf.old) (F.shelved shelf.new)) }
+    ensures counted { OnOk result
+        (steps.new ≡ steps.old + painted given.now.plan history.new DEFAULT_BUFFERS) }
+    ensures front { OnErr result ((n : ℕ)
+        × IsHistory given.now.plan (take n given.now.events.items) history.new) }
+    ensures begun { OnErr result (AppendsFront (frames_of given.now.plan history.new)
+        ((F.shelved shelf.old).name slot) (F.shelved shelf.old) (F.shelved shelf.new)) }
+    ensures others { KeepsOthers ((F.shelved shelf.old).name slot)
+        (F.shelved shelf.old) (F.shelved shelf.new) }
+    ensures behaves { Behaves (F.shelved shelf.old) (F.shelved shelf.new) result }
+{
+    let size = given.plan.size();
+    let _ = given.plan.files();
+    let mut player = Player::new(alloc, machine, size, DEFAULT_BUFFERS as u32);
+    let file = FrameFile { slot, size };
+    match play_frames(alloc, &mut player, &given.events, shelf, file, gate, steps) {
+        Ok(()) => {
+            let rest = player.rest(alloc);
+            *history = player.into_history();
+            Ok(rest?)
+        }
+        Err(error) => {
+            *history = player.into_history();
+            Err(error)
+        }
+    }
+}

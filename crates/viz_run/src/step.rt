@@ -1,0 +1,143 @@
+//! `step`: the steps of a schedule, one after the other.
+ghost use Rattle.std.specs.Prelude.{◌≡◌, ◌≤◌, All, None, Some, [], length, IsTrue, string_bytes};
+ghost use Rattle.std.specs.Prelude.{IfOk, IfErr, OnOk, OnErr, IsErrOf};
+ghost use Rattle.vz_base.specs.declared.limits.TheConstants.{MOST_FILES};
+ghost use Rattle.vz_geom.specs.Display.{IsDisplaySize};
+ghost use Rattle.vz_inputs.specs.Read.{MissesOne, contents};
+ghost use Rattle.vz_inputs.specs.Refusals.{plan_read};
+ghost use Rattle.vz_inputs.specs.Schedule.{events_of};
+ghost use Rattle.vz_inputs.specs.declared.refused.Refused.{Refused as Refusal};
+ghost use Rattle.vz_inputs.specs.declared.refused.InputError.TheVariants as input_error;
+ghost use Rattle.vz_outputs.specs.Written.{KeepsAllBut};
+ghost use Rattle.vz_outside.specs.Shelved.{SameFiles};
+ghost use Rattle.vz_rules.specs.Command.{fits_command};
+ghost use Rattle.vz_rules.specs.Step.{NamesClient};
+ghost use Rattle.viz_run.specs.Commands.{input_names, output_names};
+ghost use Rattle.viz_run.specs.Inputs.{Inputs, AreAccepted};
+ghost use Rattle.viz_run.specs.Causes.{DoesFor, RefusesFor, LeavesFor};
+ghost use Rattle.viz_run.specs.Ends.{IsUnbegun};
+ghost use Rattle.viz_run.specs.Site.{site};
+ghost use Rattle.viz_run.specs.Stepped.{command_of, size_of, refused_of, Makes};
+ghost use Rattle.viz_run.specs.Stops.{Behaves, IsRefusal};
+ghost use Rattle.viz_run.specs.declared.stop.Stop.TheVariants as stops;
+
+use crate::lines::done_line;
+use crate::playing::play;
+use crate::stop::Stop;
+use std::alloc::Global;
+use std::sync::ledger::Ledger;
+use vz_base::limits::{MOST_EVENTS, MOST_FILE_BYTES};
+use vz_buffers::Steps;
+use vz_frame::List;
+use vz_geom::Size;
+use vz_inputs::{InputError, events_of, plan_of, read_file, read_files};
+use vz_outside::{Gate, Shelf};
+use vz_plain_machine::PlainMachine;
+use vz_rules::{Entry, Event, Plan};
+
+/// The words of `step`: the sides of the display in pixels, and the names.
+#[derive(Clone, Copy)]
+pub struct StepWords<'a> {
+    pub width: u32,
+    pub height: u32,
+    pub schedule: &'a str,
+    pub frames: &'a str,
+    pub log: &'a str,
+    pub files: &'a [String],
+}
+
+/// What `step` is given: the plan, and the events of the schedule.
+#[derive(Drop)]
+pub struct Given {
+    pub plan: Plan,
+    pub events: Vec<Event>,
+}
+
+/// Takes the events of a schedule, writes the frames and the log, and answers the line that tells it.
+pub fn step<F: Shelf, G: Gate, L: Ledger>(
+    alloc: Global,
+    words: &StepWords<'_>,
+    shelf: &mut F,
+    gate: &G,
+    steps: &mut Steps<L>,
+    history: &mut List<Entry>,
+) -> Result<String, Stop>
+    requires fits { IsTrue (fits_command (command_of words.now)) }
+    requires empty { history.old ≡ [] }
+    ensures done { IfOk result (λ line. DoesFor (command_of words.now) history.new
+        (site (F.shelved shelf.old) steps.old) (site (F.shelved shelf.new) steps.new)
+        (string_bytes line)) }
+    ensures words { IsErrOf result stops.Words → ⊥ }
+    ensures input { (r : Refusal) → IsErrOf result (stops.Input r)
+        → RefusesFor (command_of words.now) (F.shelved shelf.old) r }
+    ensures unbegun { IfErr result (λ stop. IsRefusal stop → IsUnbegun history.new
+        (site (F.shelved shelf.old) steps.old) (site (F.shelved shelf.new) steps.new)) }
+    ensures front { OnErr result (LeavesFor (command_of words.now) history.new
+        (site (F.shelved shelf.old) steps.old) (site (F.shelved shelf.new) steps.new)) }
+    ensures others { KeepsAllBut (output_names (command_of words.now))
+        (F.shelved shelf.old) (F.shelved shelf.new) }
+    ensures behaves { Behaves
+        (MissesOne (input_names (command_of words.now)) (F.shelved shelf.old))
+        (F.shelved shelf.old) (F.shelved shelf.new) result }
+{
+    let given = admit(alloc, shelf, words)?;
+    let _ = given.plan.files();
+    let machine = PlainMachine::new(alloc, &given.plan);
+    play(alloc, machine, words, &given, shelf, gate, steps, history)?;
+    Ok(done_line(alloc, history.as_slice())?)
+}
+
+/// Reads the clients' files and then the schedule, before any is tested, and accepts them.
+fn admit<F: Shelf>(alloc: Global, shelf: &mut F, words: &StepWords<'_>) -> Result<Given, Stop>
+    requires { IsTrue (fits_command (command_of words.now)) }
+    ensures accepted { IfOk result (λ given. (i : Inputs)
+        × AreAccepted (F.shelved shelf.old) (command_of words.now) i
+        × Makes (command_of words.now) i given.plan given.events.items) }
+    ensures named { IfOk result (λ given. All (NamesClient given.plan) given.events.items) }
+    ensures words { IsErrOf result stops.Words → ⊥ }
+    ensures input { (r : Refusal) → IsErrOf result (stops.Input r)
+        → RefusesFor (command_of words.now) (F.shelved shelf.old) r }
+    ensures files { SameFiles (F.shelved shelf.old) (F.shelved shelf.new) }
+    ensures behaves { Behaves
+        (MissesOne (input_names (command_of words.now)) (F.shelved shelf.old))
+        (F.shelved shelf.old) (F.shelved shelf.new) result }
+{
+    let files = read_files(alloc, shelf, words.files, MOST_FILE_BYTES)?;
+    let schedule = read_file(alloc, shelf, words.schedule, MOST_EVENTS)?;
+    Ok(accept(alloc, size_of(words), &files, &schedule)?)
+}
+
+/// The plan and the events, where no input is refused: the clients' files are tested in order,
+/// and then the schedule.
+fn accept(
+    alloc: Global,
+    size: Size,
+    files: &[Vec<u8>],
+    schedule: &[u8],
+) -> Result<Given, InputError>
+    requires some { 1 ≤ length files.now }
+    requires few { length files.now ≤ MOST_FILES }
+    requires size { IsDisplaySize size }
+    ensures plan { IfOk result (λ given. given.plan ≡ plan_read size (contents files.now)) }
+    ensures events { IfOk result (λ given. given.events.items ≡ events_of schedule.now) }
+    ensures named { IfOk result (λ given. All (NamesClient given.plan) given.events.items) }
+    ensures good { OnOk result (refused_of size (contents files.now) schedule.now ≡ None) }
+    ensures refused { (r : Refusal) → IsErrOf result (input_error.Refused r)
+        → refused_of size (contents files.now) schedule.now ≡ Some r }
+{
+    let plan = plan_of(alloc, size, files)?;
+    let events = events_of(alloc, &plan, schedule)?;
+    Ok(Given { plan, events })
+}
+
+/// The size of the display, in pixels.
+fn size_of(words: &StepWords<'_>) -> Size
+    requires { IsTrue (fits_command (command_of words.now)) }
+    ensures size { result ≡ size_of words.now }
+    ensures range { IsDisplaySize result }
+{
+    Size {
+        w: words.width as i32,
+        h: words.height as i32,
+    }
+}

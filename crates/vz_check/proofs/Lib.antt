@@ -1,0 +1,10 @@
+pub mod Answering
+pub mod Behaving
+pub mod Giving
+pub mod Pieces
+pub mod Framing
+pub mod Growing
+pub mod Lines
+pub mod Standing
+pub mod Stepping
+pub mod Once
