@@ -1,8 +1,8 @@
 """Writes the files of a page of 1,280 by 720 pixels: `page.py FOLDER`.
 
-Client 1 is the page: a background, twenty tiles of 256 by 240 pixels and a toolbar of eight coloured buttons, with two
+Client 1 is the page: a background, fifteen tiles of 256 by 240 pixels and a toolbar of eight coloured buttons, with two
 children that it embeds. Client 2 is a tab that moves a bar of 64 by 720 pixels each begin-frame, client 3 a caret of 2 by 20
-that blinks. The schedule has 256 events: the page's messages, then rounds of Begin, a frame of each child, Draw and Done.
+that blinks. The schedule has at most 256 events: the page's messages, then rounds of Begin, a frame of each child, Draw and Done.
 """
 
 import os
