@@ -175,6 +175,21 @@ EVENTS = bytes.fromhex("01011213")
 QUAD_PICTURE = bytes.fromhex("000000ffff0000ffff0000ff000000ff" * 2)
 QUAD_LOG = ["c1 accepted 1 1 +1.1", "c1 rooted", "draw drawn 0 0 4 2", "done shown p1.1"]
 PLAIN = "c1 c1 draw done"
+DOT = dict(damage=(0, 0, 1, 1))
+DISHONEST = client(1, submit(1, 1), ROOT, submit(1, 1, **DOT),
+                   submit(1, 1, quads=[quad(solid(GREEN), (1, 0, 2, 2))], **DOT))
+DISHONEST_LOG = QUAD_LOG + [
+    "c1 accepted 2 2 +1.2", "draw drawn 0 0 1 1", "done shown p1.2", "c1 accepted 3 3 +1.3",
+    "draw drawn 0 0 1 1", "done shown p1.3"]
+
+
+def judged(line, log=(*QUAD_LOG, "end"), frames=QUAD_PICTURE, files=(ONE_QUAD,), size=(4, 2), status=1,
+           name="checker_verdicts", **more):
+    """A `check` of a log and its frames."""
+    names = CLIENTS[:len(files)]
+    put(name, "check %d %d f l %s" % (*size, " ".join(names)),
+        [("f", frames), ("l", "".join(part + "\n" for part in log).encode()), *zip(names, files)],
+        status, line, **more)
 
 
 def one_client():
@@ -297,13 +312,7 @@ def damages():
         log += ["c1 accepted %d %d +1.%d" % (n, n, n), "draw drawn " + hurt, "done shown p1.%d" % n]
     step("stale_rectangles", [client(1, first, ROOT, *others)], "c1" + 4 * " c1 draw done", log,
          4 * [picture([".rr....."] * 2 + ["........"] * 6)], 286, (8, 8))
-    dot_damage = dict(damage=(0, 0, 1, 1))
-    green = [quad(solid(GREEN), (1, 0, 2, 2))]
-    step("dishonest_client",
-         [client(1, submit(1, 1), ROOT, submit(1, 1, **dot_damage),
-                 submit(1, 1, quads=green, **dot_damage))], "c1" + 3 * " c1 draw done",
-         QUAD_LOG + ["c1 accepted 2 2 +1.2", "draw drawn 0 0 1 1", "done shown p1.2",
-                     "c1 accepted 3 3 +1.3", "draw drawn 0 0 1 1", "done shown p1.3"],
+    step("dishonest_client", [DISHONEST], "c1" + 3 * " c1 draw done", DISHONEST_LOG,
          3 * [QUAD_PICTURE], 33)
 
 
@@ -321,6 +330,13 @@ def embeddings():
     step("switch_and_gutter", [first, second], "c2 c1 c1 draw done c2 draw done",
          log + ["c2 accepted 2 1 +2.2 x2.1", "draw drawn 1 1 6 6", "done shown p2.2"],
          [gutter, filled], 256, (8, 8), turns=True)
+    whole = log + ["c2 accepted 2 1 +2.2 x2.1", "draw drawn 1 1 6 6", "done shown p2.2", "end"]
+    judged("yes", whole, gutter + filled, [first, second], (8, 8), 0)
+    cut = ["3 Frame", "2 Reply", "3 Reply", "4 Reply", "6 Reply", "6 Reply", "7 Reply", "8 Rest",
+           "9 LogText"]
+    for k, what in enumerate(cut):
+        judged("no " + what, whole[:k] + whole[k + 1:], gutter + filled, [first, second], (8, 8),
+               name="each_line_cut_out")
     alone = client(1, submit(1, 1, size=(8, 8), quads=content), ROOT)
     step("embedding_without_references", [alone, second], "c2 c1 c1 draw done", log, [gutter], 128,
          (8, 8))
@@ -461,6 +477,34 @@ def refused_words():
         line="done 0 entries 0 frames", log=["end"], left=[("f", b"")])
 
 
+def verdicts():
+    """Logs and frames that are judged."""
+    whole = [*QUAD_LOG, "end"]
+
+    judged("yes", status=0)
+    judged("yes", status=0, piece=1)
+    judged("no 3 Frame", frames=b"\1" + QUAD_PICTURE[1:])
+    judged("no 3 Frame", frames=QUAD_PICTURE[:-1])
+    judged("no 3 Frame", frames=b"")
+    judged("no 4 Reply", log=[*QUAD_LOG[:3], "done shown", "end"])
+    judged("no 1 Reply", log=["c2 rooted", *whole])
+    judged("no 5 Length", frames=QUAD_PICTURE + b"\0")
+    judged("no 5 LogText", log=QUAD_LOG)
+    judged("no 5 LogText", log=[*whole, "end"])
+    judged("no 3 LogText", log=[*QUAD_LOG[:2], "draw drawn 0 0 04 2", *whole[3:]])
+    judged("no 1 LogText", log=[])
+    judged("no 5 Rest", log=[*QUAD_LOG, "held 1.1x1", "end"])
+    judged("yes", log=["end"], frames=b"", status=0)
+    judged("no 1 Length", log=["end"])
+    judged("no 9 Frame", log=DISHONEST_LOG + ["end"], frames=3 * QUAD_PICTURE, files=[DISHONEST])
+    judged("yes", log=DISHONEST_LOG + ["end"], status=0, files=[DISHONEST],
+           frames=2 * QUAD_PICTURE + picture(2 * [".gg."]))
+    put("short_trailing_sink_taken", "check 4 2 f l a b",
+        [("f", b""), ("l", b""), ("a", ONE_QUAD), ("b", ONE_QUAD)], 3, "file 2 refused at 6: SinkTaken")
+    put("failing_devices", "check 4 2 f l a", [("l", b"end\n"), ("a", ONE_QUAD)], 4)
+    put("failing_devices", "check 4 2 f l a", [("f", b""), ("a", b"")], 4)
+
+
 def failing():
     """A file that is to be read and is not there, also beside one that is refused."""
     put("failing_devices", "step 4 2 s f l a", [("s", EVENTS)], 4)
@@ -469,6 +513,6 @@ def failing():
 
 
 for part in (one_client, colours, submissions, waiting, damages, embeddings, cycles, paths, by_rule,
-             refused_files, refused_words, failing):
+             refused_files, refused_words, verdicts, failing):
     part()
 print("\n\n".join(TABLE))

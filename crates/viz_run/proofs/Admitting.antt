@@ -12,8 +12,7 @@ use Rattle.vz_inputs.specs.declared.refused.Refused.{Refused}
 use Rattle.vz_inputs.specs.declared.refused.InputError.{InputError}
 use Rattle.vz_inputs.specs.declared.refused.InputError.TheVariants as input_error
 use Rattle.vz_rules.specs.Command.{Word, Step}
-use Rattle.vz_rules.specs.Plan.{Plan}
-use Rattle.viz_run.specs.Inputs.{Inputs, AreRead, schedules_refused, first_refused}
+use Rattle.viz_run.specs.Inputs.{Inputs, AreRead, first_some, first_refused}
 use Rattle.viz_run.specs.Stepped.{refused_of}
 use Rattle.viz_run.specs.Stops.{stop_for}
 use Rattle.viz_run.specs.declared.stop.Stop.{Stop}
@@ -21,14 +20,14 @@ use Rattle.viz_run.specs.declared.stop.Stop.TheVariants as stop
 use Rattle.vz_geom.specs.declared.Size.{Size}
 
 -- what was read of a name before calls that kept the bytes
-read_first : (limit : ℕ) (name : Name) (bytes : List ℕ) (a b : Shelved) → Ran a b → SameFiles a b → IsReadUpto limit name bytes b → IsReadUpto limit name bytes a
+pub read_first : (limit : ℕ) (name : Name) (bytes : List ℕ) (a b : Shelved) → Ran a b → SameFiles a b → IsReadUpto limit name bytes b → IsReadUpto limit name bytes a
 read_first limit name bytes a b ran same read known =
     let found = read (subst IsTrue (sym ran.call.known) known) in
     (found.0, sym (same known name) ∙ found.1, found.2)
 
 -- the inputs of `step`, as they were read
 abbrev pub inputs_with : List (List ℕ) → List ℕ → Inputs
-inputs_with files schedule = record { files = files; schedules = schedule ∷ [] }
+inputs_with files schedule = record { files = files; schedules = schedule ∷ []; logs = []; frames = [] }
 
 -- they were read for it
 pub are_read :
@@ -37,23 +36,25 @@ pub are_read :
 are_read w h s f l names files schedule a b ran same first then = record {
   files = first;
   schedules = (read_first MOST_EVENTS s schedule a b ran same then, tt);
+  logs = tt;
+  frames = tt;
 }
 
 -- the first that is refused
 pub first_of : (w h : ℕ) (s f l : Word) (names : List Word) (size : Size) (files : List (List ℕ)) (schedule : List ℕ)
     → size ≡ record { w = pos w; h = pos h } → first_refused (Step w h s f l names) (inputs_with files schedule) ≡ refused_of size files schedule
 first_of w h s f l names size files schedule is =
-    by_files (file_refused files) ∙ ap (λ (z : Size). refused_of z files schedule) (sym is)
+    by_files (file_refused files) (schedule_refused (plan_read (record { w = pos w; h = pos h }) files) schedule)
+    ∙ ap (λ (z : Size). refused_of z files schedule) (sym is)
   where
-    by_schedule : (p : Plan) (o : Option Refused) → ◌≡◌ {A = Option Refused} (elim o [ Some r ↦ Some r | None ↦ None ]) o
-    by_schedule p None = refl
-    by_schedule p (Some r) = refl
+    by_schedule : (o : Option Refused) → first_some (elim o [ Some r ↦ Some r | None ↦ None ]) None ≡ o
+    by_schedule None = refl
+    by_schedule (Some r) = refl
 
-    by_files : (o : Option Refused) → ◌≡◌ {A = Option Refused}
-        (elim o [ Some r ↦ Some r | None ↦ schedules_refused (plan_read (record { w = pos w; h = pos h }) files) (schedule ∷ []) ])
-        (elim o [ Some r ↦ Some r | None ↦ schedule_refused (plan_read (record { w = pos w; h = pos h }) files) schedule ])
-    by_files None = by_schedule (plan_read (record { w = pos w; h = pos h }) files) (schedule_refused (plan_read (record { w = pos w; h = pos h }) files) schedule)
-    by_files (Some r) = refl
+    by_files : (o told : Option Refused) → ◌≡◌ {A = Option Refused}
+        (first_some o (first_some (elim told [ Some r ↦ Some r | None ↦ None ]) None)) (elim o [ Some r ↦ Some r | None ↦ told ])
+    by_files None told = by_schedule told
+    by_files (Some r) told = refl
 
 -- the events of one schedule
 pub one_schedule : (bytes : List ℕ) → flat_map events_of (bytes ∷ []) ≡ events_of bytes
@@ -90,3 +91,7 @@ misses_left (name ∷ names) more s (inr missing) = inr (misses_left names more 
 pub misses_right : (names : List Name) (name : Name) (s : Shelved) → IsMissing name s → MissesOne (names ++ name ∷ []) s
 misses_right [] name s missing = inl missing
 misses_right (first ∷ names) name s missing = inr (misses_right names name s missing)
+
+pub misses_behind : (names more : List Name) (s : Shelved) → MissesOne more s → MissesOne (names ++ more) s
+misses_behind [] more s missing = missing
+misses_behind (first ∷ names) more s missing = inr (misses_behind names more s missing)

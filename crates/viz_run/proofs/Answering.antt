@@ -1,7 +1,7 @@
 -- From what a command left, and how it was told, to what a call answers.
 use Rattle.std.proofs.Common.{rules, ◌≡◌, ◌≢◌, ℕ, ◌+◌, ◌≤◌, ◌⊎◌, Bool, true, false, nat_lt, Some, None, Result, Ok, Err, IsErrOf, IsTrue, List, [], ◌∷◌, length, take, take_all, inl, inr, refl, sym, ap, ◌∙◌, subst, arith}
 use Rattle.std.proofs.lemmas.Bool.{ltb-true, ltb-false}
-use Rattle.vz_base.specs.declared.limits.TheConstants.{MOST_FILE_BYTES, MOST_EVENTS}
+use Rattle.vz_base.specs.declared.limits.TheConstants.{MOST_FILE_BYTES, MOST_EVENTS, MOST_LOG_BYTES}
 use Rattle.vz_outside.specs.Faults.{one_more, CountRose}
 use Rattle.vz_outside.proofs.Rises.{one_more_least, one_more_rose}
 use Rattle.vz_outside.specs.Shelved.{Shelved, Name}
@@ -13,10 +13,10 @@ use Rattle.vz_inputs.specs.declared.refused.Refused.{Refused}
 use Rattle.vz_rules.specs.Command.{Word, Command}
 use Rattle.vz_words.proofs.One.{same_command}
 use Rattle.vz_rules.specs.declared.entry.Entry.{Entry}
-use Rattle.viz_run.specs.Commands.{Asks, AsksNothing}
-use Rattle.viz_run.specs.Inputs.{Inputs, AreRead, AreAccepted, AreRefused, first_refused, plan_of, events_for}
+use Rattle.viz_run.specs.Commands.{Asks, AsksNothing, frame_names}
+use Rattle.viz_run.specs.Inputs.{Inputs, AreHeld, AreRead, AreAccepted, AreRefused, first_refused, plan_of, events_for}
 use Rattle.viz_run.specs.Ends.{IsHistory, IsUnbegun, outputs_of}
-use Rattle.viz_run.specs.Causes.{DoesAll, RefusesOne, LeavesFront, IsDue, MissesLine, PrintsFront, RefusesWords, RefusesInput, IsStatus}
+use Rattle.viz_run.specs.Causes.{DoesAll, RefusesOne, LeavesFront, IsDue, MissesLine, PrintsFront, RefusesWords, RefusesInput}
 use Rattle.viz_run.specs.Lines.{words_line, refused_line}
 use Rattle.viz_run.specs.Site.{Site, site, outside, CountsNoFault, CountsOneFault, IsFaultless, KeepsFaultless, IsCalled}
 use Rattle.viz_run.specs.Stops.{Behaves, IsRefusal, due_line}
@@ -47,11 +47,30 @@ reads_once limit (n ∷ ns) (x ∷ xs) [] s known one other = absurd other
 reads_once limit (n ∷ ns) (x ∷ xs) (y ∷ ys) s known one other =
     ap (λ z. z ∷ xs) (read_once limit n x y s known one.0 other.0) ∙ ap (λ zs. y ∷ zs) (reads_once limit ns xs ys s known one.1 other.1)
 
+-- so are the bytes that several hold
+held_once : (names : List Name) (xs ys : List (List ℕ)) (s : Shelved) → IsTrue s.is_known → AreHeld names xs s → AreHeld names ys s → xs ≡ ys
+held_once [] [] [] s known one other = refl
+held_once [] [] (y ∷ ys) s known one other = absurd other
+held_once [] (x ∷ xs) ys s known one other = absurd one
+held_once (n ∷ ns) [] ys s known one other = absurd one
+held_once (n ∷ ns) (x ∷ xs) [] s known one other = absurd other
+held_once (n ∷ ns) (x ∷ xs) (y ∷ ys) s known one other =
+    ap (λ z. z ∷ xs) (some_is (sym (one.0 known) ∙ other.0 known)) ∙ ap (λ zs. y ∷ zs) (held_once ns xs ys s known one.1 other.1)
+  where
+    some_is : Some x ≡ Some y → x ≡ y
+    some_is h = search rules
+
 -- and so the inputs of a command
 inputs_once : (s : Shelved) (c : Command) (i j : Inputs) → IsTrue s.is_known → AreRead s c i → AreRead s c j → i ≡ j
 inputs_once s c i j known one other =
-    ap (λ files. record { files = files; schedules = i.schedules }) (reads_once MOST_FILE_BYTES _ i.files j.files s known one.files other.files)
-    ∙ ap (λ schedules. record { files = j.files; schedules = schedules }) (reads_once MOST_EVENTS _ i.schedules j.schedules s known one.schedules other.schedules)
+    ap (λ files. record { files = files; schedules = i.schedules; logs = i.logs; frames = i.frames })
+    (reads_once MOST_FILE_BYTES _ i.files j.files s known one.files other.files)
+    ∙ (ap (λ schedules. record { files = j.files; schedules = schedules; logs = i.logs; frames = i.frames })
+    (reads_once MOST_EVENTS _ i.schedules j.schedules s known one.schedules other.schedules)
+    ∙ (ap (λ logs. record { files = j.files; schedules = j.schedules; logs = logs; frames = i.frames })
+    (reads_once MOST_LOG_BYTES _ i.logs j.logs s known one.logs other.logs)
+    ∙ ap (λ frames. record { files = j.files; schedules = j.schedules; logs = j.logs; frames = frames })
+    (held_once (frame_names c) i.frames j.frames s known one.frames other.frames)))
 
 -- inputs are not accepted and refused at once
 pub not_both :
@@ -73,8 +92,8 @@ whole_begun [] a b whole = tt
 whole_begun (o ∷ more) a b whole = inl (whole.0, whole_begun more a b whole.1)
 
 -- what was done was done in part
-pub done_front : (words : List Word) (h : List Entry) (before after : Site) (line : List ℕ) → DoesAll words h before after line → LeavesFront words h before after
-done_front words h before after line done =
+pub done_front : (words : List Word) (h : List Entry) (before after : Site) (line : List ℕ) (status : ℕ) → DoesAll words h before after line status → LeavesFront words h before after
+done_front words h before after line status done =
     let c = done.0 in
     let i = done.2.0 in
     let is = done.2.2 in
@@ -155,23 +174,31 @@ four_or_not n = by_test (nat_lt n 4) refl (nat_lt 4 n) refl
 
 -- Of a call that did all
 
--- its status
-pub status_of : (n : ℕ) → (n ≡ 0) ⊎ (n ≡ 4) ⊎ (n ≡ 5) → IsStatus n
-status_of n (inl done) = inl done
-status_of n (inr (inl fault)) = inr (omega (arith, fault), omega (arith, fault))
-status_of n (inr (inr memory)) = inr (omega (arith, memory), omega (arith, memory))
+-- with a status of 0 or 1, which is told, or 4 or 5 comes
+
+-- no status is greater than 5
+pub status_of : (n status : ℕ) → status ≤ 1 → (n ≡ status) ⊎ (n ≡ 4) ⊎ (n ≡ 5) → n ≤ 5
+status_of n status low (inl done) = omega (arith, done, low)
+status_of n status low (inr (inl fault)) = omega (arith, fault)
+status_of n status low (inr (inr memory)) = omega (arith, memory)
+
+-- 0 and 1 are those that are told
+pub told_status : (n status : ℕ) → n ≤ 1 → (n ≡ status) ⊎ (n ≡ 4) ⊎ (n ≡ 5) → n ≡ status
+told_status n status few (inl done) = done
+told_status n status few (inr (inl fault)) = absurd (omega (arith, few, fault))
+told_status n status few (inr (inr memory)) = absurd (omega (arith, few, memory))
 
 -- it is none of a refusal
-pub none_refused : (n k : ℕ) (P : Type 0) → (n ≡ 0) ⊎ (n ≡ 4) ⊎ (n ≡ 5) → 1 ≤ k → k ≤ 3 → n ≡ k → P
-none_refused n k P (inl done) low high same = absurd (omega (arith, done, low, same))
-none_refused n k P (inr (inl fault)) low high same = absurd (omega (arith, fault, high, same))
-none_refused n k P (inr (inr memory)) low high same = absurd (omega (arith, memory, high, same))
+pub none_refused : (n status k : ℕ) (P : Type 0) → status ≤ 1 → (n ≡ status) ⊎ (n ≡ 4) ⊎ (n ≡ 5) → 2 ≤ k → k ≤ 3 → n ≡ k → P
+none_refused n status k P few (inl done) low high same = absurd (omega (arith, few, done, low, same))
+none_refused n status k P few (inr (inl fault)) low high same = absurd (omega (arith, fault, high, same))
+none_refused n status k P few (inr (inr memory)) low high same = absurd (omega (arith, memory, high, same))
 
--- it is 0 or more than 3
-pub done_or_more : (n : ℕ) → (n ≡ 0) ⊎ (n ≡ 4) ⊎ (n ≡ 5) → (n ≡ 0) ⊎ (4 ≤ n)
-done_or_more n (inl done) = inl done
-done_or_more n (inr (inl fault)) = inr (omega (arith, fault))
-done_or_more n (inr (inr memory)) = inr (omega (arith, memory))
+-- it is at most 1 or more than 3
+pub done_or_more : (n status : ℕ) → status ≤ 1 → (n ≡ status) ⊎ (n ≡ 4) ⊎ (n ≡ 5) → (n ≤ 1) ⊎ (4 ≤ n)
+done_or_more n status few (inl done) = inl (omega (arith, few, done))
+done_or_more n status few (inr (inl fault)) = inr (omega (arith, fault))
+done_or_more n status few (inr (inr memory)) = inr (omega (arith, memory))
 
 -- no fault is counted in telling but one at status 4
 pub told_least : (n : ℕ) (a b : ℕ) → (n ≡ 4 → b ≡ one_more a) → (n ≢ 4 → b ≡ a) → a ≤ b
@@ -181,14 +208,14 @@ told_least n a b fault quiet = elim (four_or_not n) [
 ]
 
 -- what was done was asked for
-pub done_asked : (words : List Word) (h : List Entry) (before after : Site) (line : List ℕ) (P : Type 0) → DoesAll words h before after line → AsksNothing words → P
-done_asked words h before after line P done nothing = absurd (nothing done.0 done.1)
+pub done_asked : (words : List Word) (h : List Entry) (before after : Site) (line : List ℕ) (status : ℕ) (P : Type 0) → DoesAll words h before after line status → AsksNothing words → P
+done_asked words h before after line status P done nothing = absurd (nothing done.0 done.1)
 
 -- and its inputs are not refused
 pub done_unrefused :
-    (words : List Word) (h : List Entry) (before after : Site) (line : List ℕ) (P : Type 0) → DoesAll words h before after line
+    (words : List Word) (h : List Entry) (before after : Site) (line : List ℕ) (status : ℕ) (P : Type 0) → DoesAll words h before after line status
     → (c : Command) (i : Inputs) (r : Refused) → Asks words c → IsTrue before.shelf.is_known → AreRefused before.shelf c i r → P
-done_unrefused words h before after line P done c i r asks known refused =
+done_unrefused words h before after line status P done c i r asks known refused =
     absurd (not_both words before.shelf done.0 c done.2.0 i r known done.1 done.2.1 asks refused)
 
 -- an answer is no stop for a fault
@@ -267,7 +294,7 @@ module _
 
         -- accepted inputs
         pub stopped_accepted :
-            (c : Command) (i : Inputs) → Asks words c → IsTrue s.is_known → AreAccepted s c i → (status ≡ 0) ⊎ (4 ≤ status)
+            (c : Command) (i : Inputs) → Asks words c → IsTrue s.is_known → AreAccepted s c i → (status ≤ 1) ⊎ (4 ≤ status)
         stopped_accepted c i asks known is = elim (two_three_more status low) [
           | inl two ↦ (let told = at_words two in absurd (nothing (is_err told.0) c asks))
           | inr (inl three) ↦

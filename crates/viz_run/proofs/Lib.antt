@@ -1,6 +1,7 @@
 mod Fitting
 mod Stopping
 mod Admitting
+mod Logs_read
 mod Answering
 mod Performing
 mod Showing

@@ -9,20 +9,21 @@ use Rattle.vz_outside.specs.declared.shelf.ShelfError.{ShelfError}
 use Rattle.vz_outside.specs.declared.shelf.ShelfError.TheVariants as shelf_error
 use Rattle.vz_outputs.specs.Written.{AreWhole, AreBegun, KeepsAllBut}
 use Rattle.vz_rules.proofs.Chained.{written_is}
-use Rattle.vz_rules.specs.Command.{Word, Command, Gen, Demo, fits_command, IsCommand, IsNoCommand}
+use Rattle.vz_rules.specs.Command.{Word, Command, Check, Gen, Demo, fits_command, IsCommand, IsNoCommand}
 use Rattle.vz_rules.specs.Frames.{frames, written, painted, written_of, painted_of, drawn_frames, drawn_frames_from}
 use Rattle.vz_rules.specs.Plan.{Plan, IsPlan}
 use Rattle.vz_rules.specs.Step.{Legal, LegalFrom}
+use Rattle.vz_rules.specs.declared.entry.Event.{Event}
 use Rattle.vz_rules.specs.declared.entry.Entry.{Entry}
 use Rattle.vz_words.proofs.One.{same_command}
 use Rattle.vz_words.specs.Words.{command_of}
 use Rattle.vz_words.specs.declared.commands.Command.{Command as Found}
 use Rattle.viz_run.specs.Commands.{Asks, AsksNothing, is_built, input_names, output_names}
-use Rattle.viz_run.specs.Inputs.{no_inputs, AreAccepted}
+use Rattle.viz_run.specs.Inputs.{Inputs, no_inputs, AreAccepted, plan_of, events_for}
 use Rattle.vz_demo.specs.Planned.{demo_plan}
 use Rattle.viz_run.specs.Demo.{demo_events}
 use Rattle.viz_run.specs.Causes.{DoesFor, LeavesFor, KeepsOthers, FindsInputs}
-use Rattle.viz_run.specs.Ends.{IsHistory, named_files}
+use Rattle.viz_run.specs.Ends.{IsHistory, IsDone, TellsEnd, outputs_of, named_files}
 use Rattle.viz_run.specs.Lines.{made_line, end_line}
 use Rattle.viz_run.specs.Site.{site}
 use Rattle.viz_run.specs.Stops.{Behaves, IsRefusal, stop_of}
@@ -104,42 +105,57 @@ module _ (words : List Word) (c : Command) (asks : Asks words c) where
   pub misses_of : (a : Shelved) → MissesOne (input_names c) a → FindsInputs words a → ⊥
   misses_of a misses finds = finds c asks misses
 
+-- Of no event
+
+none_of : (p : Plan) → IsHistory p [] []
+unfolding Legal LegalFrom
+none_of p = record { legal = tt; all = refl }
+
+none_painted : (p : Plan) (k : ℕ) → painted p [] k ≡ 0
+unfolding painted painted_of drawn_frames drawn_frames_from
+none_painted p k = refl
+
+none_written : (p : Plan) (k : ℕ) → written p [] k ≡ frames p []
+unfolding written written_of frames drawn_frames drawn_frames_from
+none_written p k = refl
+
+-- nothing happened, and nothing is written
+done_nothing :
+    (c : Command) (i : Inputs) (a b : Shelved) (steps : ℕ) → events_for c i ≡ [] → AreWhole (outputs_of c (plan_of c i) []) b
+    → IsDone c i [] (site a steps) (site b steps)
+done_nothing c i a b steps none whole = record {
+  history = subst (λ (events : List Event). IsHistory (plan_of c i) events []) (sym none) (none_of (plan_of c i));
+  outputs = whole;
+  counted = (let none = none_painted (plan_of c i) DEFAULT_BUFFERS in omega (arith, none));
+  whole = λ honest. none_written (plan_of c i) DEFAULT_BUFFERS;
+}
+
+-- Of `check`
+
+-- it was judged, and this is the line
+pub check_does :
+    (w h : ℕ) (frames log : Word) (files : List Word) (history : List Entry) (a b : Shelved) (steps : ℕ) (line : List ℕ) (status : ℕ)
+    → history ≡ [] → (i : Inputs) → AreAccepted a (Check w h frames log files) i → TellsEnd (Check w h frames log files) i [] line status
+    → DoesFor (Check w h frames log files) history (site a steps) (site b steps) line status
+check_does w h frames log files history a b steps line status empty i accepted tells =
+    subst (λ (h' : List Entry). DoesFor (Check w h frames log files) h' (site a steps) (site b steps) line status) (sym empty)
+    (i, accepted, done_nothing (Check w h frames log files) i a b steps refl tt, tells)
+
 -- Of `gen`
 
 module _ (n : ℕ) (first second third : Word) where
   gen_accepted : (s : Shelved) → AreAccepted s (Gen n first second third) no_inputs
   unfolding refused_behind
-  gen_accepted s = record { read = record { files = tt; schedules = tt }; good = refl }
-
-  none_of : (p : Plan) → IsHistory p [] []
-  unfolding Legal LegalFrom
-  none_of p = record { legal = tt; all = refl }
-
-  none_painted : (p : Plan) (k : ℕ) → painted p [] k ≡ 0
-  unfolding painted painted_of drawn_frames drawn_frames_from
-  none_painted p k = refl
-
-  none_written : (p : Plan) (k : ℕ) → written p [] k ≡ frames p []
-  unfolding written written_of frames drawn_frames drawn_frames_from
-  none_written p k = refl
+  gen_accepted s = record { read = record { files = tt; schedules = tt; logs = tt; frames = tt }; good = refl }
 
   -- the files stand, and this is the line
   pub gen_does :
       (h : List Entry) (a b : Shelved) (steps : ℕ) (line : List ℕ) → h ≡ []
       → AreWhole (named_files (first ∷ second ∷ third ∷ []) (make n)) b → line ≡ made_line
-      → DoesFor (Gen n first second third) h (site a steps) (site b steps) line
+      → DoesFor (Gen n first second third) h (site a steps) (site b steps) line 0
   gen_does h a b steps line empty whole is =
-      subst (λ (h : List Entry). DoesFor (Gen n first second third) h (site a steps) (site b steps) line) (sym empty) (
-        no_inputs,
-        gen_accepted a,
-        record {
-          history = none_of (demo_plan n);
-          outputs = whole;
-          counted = (let none = none_painted (demo_plan n) DEFAULT_BUFFERS in omega (arith, none));
-          whole = λ honest. none_written (demo_plan n) DEFAULT_BUFFERS;
-        },
-        is,
-      )
+      subst (λ (h : List Entry). DoesFor (Gen n first second third) h (site a steps) (site b steps) line 0) (sym empty)
+      (no_inputs, gen_accepted a, done_nothing (Gen n first second third) no_inputs a b steps refl whole, (is, refl))
 
   -- or they are begun
   pub gen_leaves :
@@ -155,14 +171,14 @@ module _ (n : ℕ) (first second third : Word) where
 module _ (n : ℕ) (plan : IsPlan (demo_plan n)) where
   demo_accepted : (s : Shelved) → AreAccepted s (Demo n) no_inputs
   unfolding refused_behind
-  demo_accepted s = record { read = record { files = tt; schedules = tt }; good = refl }
+  demo_accepted s = record { read = record { files = tt; schedules = tt; logs = tt; frames = tt }; good = refl }
 
   -- it was played to its end, and this is the line
   pub demo_does :
       (h : List Entry) (s : Shelved) (before after : ℕ) (line : List ℕ)
       → IsHistory (demo_plan n) (demo_events n) h → line ≡ end_line (Demo n) (demo_plan n) h
       → after ≡ before + painted (demo_plan n) h DEFAULT_BUFFERS
-      → DoesFor (Demo n) h (site s before) (site s after) line
+      → DoesFor (Demo n) h (site s before) (site s after) line 0
   demo_does h s before after line history is counted = (
     no_inputs,
     demo_accepted s,
@@ -172,7 +188,7 @@ module _ (n : ℕ) (plan : IsPlan (demo_plan n)) where
       counted = counted;
       whole = λ honest. written_is (demo_plan n) h DEFAULT_BUFFERS plan history.legal honest (omega arith);
     },
-    is,
+    (is, refl),
   )
 
   -- or a front part of it

@@ -1,9 +1,11 @@
 -- The bytes of a line.
 use Rattle.std.proofs.Common.{◌≡◌, ℕ, List, [], ◌++◌, ap, sym, ◌∙◌, append_assoc, codes}
 use Rattle.std.specs.Fmt.{decimal}
+use Rattle.vz_check.specs.declared.verdict.What.{What}
+use Rattle.vz_check.specs.declared.verdict.Verdict.TheVariants.{No}
 use Rattle.vz_inputs.specs.declared.refused.Refused.{Refused}
 use Rattle.vz_rules.specs.Log.{then_number}
-use Rattle.viz_run.specs.Lines.{refused_line, reason_text}
+use Rattle.viz_run.specs.Lines.{refused_line, reason_text, verdict_line, what_text}
 
 -- the bytes up to the place of a refused input
 place_spelled :
@@ -26,3 +28,16 @@ refused_spelled r none numbered placed marked word worded whole empty is_numbere
     is_marked ∙ ap (λ (xs : List ℕ). xs ++ codes ": ") (place_spelled r.file r.at none numbered placed empty is_numbered is_placed) in
     is ∙ ap (λ (xs : List ℕ). xs ++ codes "\n")
     (is_worded ∙ ap (λ (xs : List ℕ). xs ++ word) colon ∙ ap (λ (xs : List ℕ). (place ++ codes ": ") ++ xs) is_word)
+
+-- the line of a fault: its place, the word for what is wrong, and the end
+pub fault_spelled :
+    (entry : ℕ) (w : What) (none numbered spaced word worded whole : List ℕ) →
+    none ≡ [] → numbered ≡ none ++ (codes "no " ++ decimal entry) → spaced ≡ numbered ++ codes " " →
+    word ≡ what_text w → worded ≡ spaced ++ word → whole ≡ worded ++ codes "\n" → whole ≡ verdict_line (No entry w)
+unfolding verdict_line
+fault_spelled entry w none numbered spaced word worded whole empty is_numbered is_spaced is_word is_worded is =
+    let place : List ℕ = codes "no" ++ then_number entry in
+    let blank : spaced ≡ place ++ codes " " =
+    is_spaced ∙ ap (λ (xs : List ℕ). xs ++ codes " ") (is_numbered ∙ ap (λ (xs : List ℕ). xs ++ (codes "no " ++ decimal entry)) empty) in
+    is ∙ ap (λ (xs : List ℕ). xs ++ codes "\n")
+    (is_worded ∙ ap (λ (xs : List ℕ). xs ++ word) blank ∙ ap (λ (xs : List ℕ). (place ++ codes " ") ++ xs) is_word)

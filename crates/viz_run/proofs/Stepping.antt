@@ -13,9 +13,8 @@ use Rattle.vz_rules.specs.declared.entry.Event.{Event}
 use Rattle.vz_rules.specs.declared.entry.Entry.{Entry}
 use Rattle.vz_rules.proofs.Chained.{written_is}
 use Rattle.viz_run.specs.Causes.{DoesFor, LeavesFor}
-use Rattle.viz_run.specs.Ends.{IsHistory, outputs_of}
+use Rattle.viz_run.specs.Ends.{IsHistory, TellsEnd, outputs_of}
 use Rattle.viz_run.specs.Inputs.{Inputs, AreAccepted, plan_of, events_for}
-use Rattle.viz_run.specs.Lines.{end_line}
 use Rattle.viz_run.specs.Site.{Site}
 use Rattle.viz_run.specs.Stepped.{Makes}
 use Rattle.viz_run.specs.Stops.{Behaves, IsRefusal, stop_of}
@@ -52,9 +51,9 @@ module _ (c : Command) (i : Inputs) (p : Plan) (es : List Event) (makes : Makes 
 
   -- all was done
   pub does_for :
-      (line : List ℕ) → IsPlan p → IsHistory p es h → AreWhole (outputs_of c p h) after.shelf →
-      after.steps ≡ before.steps + painted p h DEFAULT_BUFFERS → line ≡ end_line c p h → DoesFor c h before after line
-  does_for line is history whole counted told = (
+      (line : List ℕ) (status : ℕ) → IsPlan p → IsHistory p es h → AreWhole (outputs_of c p h) after.shelf →
+      after.steps ≡ before.steps + painted p h DEFAULT_BUFFERS → TellsEnd c i h line status → DoesFor c h before after line status
+  does_for line status is history whole counted tells = (
     i,
     accepted,
     record {
@@ -64,7 +63,7 @@ module _ (c : Command) (i : Inputs) (p : Plan) (es : List Event) (makes : Makes 
       whole = subst (λ (x : Plan). Honest x h → written x h DEFAULT_BUFFERS ≡ frames x h) makes.0
           (λ honest. written_is p h DEFAULT_BUFFERS is history.legal honest (omega arith));
     },
-    told ∙ ap (λ (x : Plan). end_line c x h) makes.0,
+    tells,
   )
 
   -- it was cut short
@@ -120,9 +119,9 @@ went_through x a b behaves = record {
 }
 
 -- what holds at an error that may refuse
-pub at_err : {T : Type 0} (r : Result T Stop) (P : Type 0) → P → IfErr r (λ s. IsRefusal s → P)
-at_err (Ok v) P holds = tt
-at_err (Err s) P holds = λ refusal. holds
+pub holds_at_err : {T : Type 0} (r : Result T Stop) (P : Type 0) → P → IfErr r (λ s. IsRefusal s → P)
+holds_at_err (Ok v) P holds = tt
+holds_at_err (Err s) P holds = λ refusal. holds
 
 -- an error that is handed on is the same one
 pub same_err : {T U : Type 0} (e t : Stop) (r : Result T Stop) → IsErrAnd r (λ s. s ≡ e) → IsErrOf r t → IsErrOf {T = U} (Err e) t

@@ -1,5 +1,5 @@
 -- Why a call answers what it answers, and what it leaves.
-use Rattle.std.specs.Prelude.{◌≡◌, ℕ, ◌≤◌, ◌⊎◌, List, []}
+use Rattle.std.specs.Prelude.{◌≡◌, ℕ, ◌⊎◌, List, []}
 use Rattle.vz_outside.specs.Shelved.{Shelved, Name, IfKnown}
 use Rattle.vz_outside.specs.Sunk.{Takes, TakesFront}
 use Rattle.vz_outputs.specs.Written.{IsNoneOf}
@@ -8,17 +8,17 @@ use Rattle.vz_inputs.specs.declared.refused.Refused.{Refused}
 use Rattle.vz_rules.specs.Command.{Word, Command}
 use Rattle.vz_rules.specs.declared.entry.Entry.{Entry}
 use Rattle.viz_run.specs.Commands.{Asks, AsksNothing, input_names, output_names}
-use Rattle.viz_run.specs.Inputs.{Inputs, AreAccepted, AreRefused, plan_of}
-use Rattle.viz_run.specs.Lines.{words_line, refused_line, end_line}
-use Rattle.viz_run.specs.Ends.{IsDone, IsCutShort, IsUnbegun}
+use Rattle.viz_run.specs.Inputs.{Inputs, AreAccepted, AreRefused}
+use Rattle.viz_run.specs.Lines.{words_line, refused_line}
+use Rattle.viz_run.specs.Ends.{TellsEnd, IsDone, IsCutShort, IsUnbegun}
 use Rattle.viz_run.specs.Site.{Site, Outside}
 
 -- Of a command
 
--- its inputs were accepted, all was done with them, and this is the line that tells it
-abbrev pub DoesFor : Command → List Entry → Site → Site → List ℕ → Type 0
-DoesFor c h before after line =
-    (i : Inputs) × AreAccepted before.shelf c i × IsDone c i h before after × (line ≡ end_line c (plan_of c i) h)
+-- its inputs were accepted, all was done with them, and this line tells how it ended, with this status
+abbrev pub DoesFor : Command → List Entry → Site → Site → List ℕ → ℕ → Type 0
+DoesFor c h before after line status =
+    (i : Inputs) × AreAccepted before.shelf c i × IsDone c i h before after × TellsEnd c i h line status
 
 -- this is the first of its inputs that is refused
 abbrev pub RefusesFor : Command → Shelved → Refused → Type 0
@@ -31,14 +31,14 @@ LeavesFor c h before after =
 
 -- Ends
 
--- all was done that the words ask for, and this is the line that tells it
-abbrev pub DoesAll : List Word → List Entry → Site → Site → List ℕ → Type 0
-DoesAll words h before after line = (c : Command) × Asks words c × DoesFor c h before after line
+-- all was done that the words ask for, and this line tells how it ended, with this status
+abbrev pub DoesAll : List Word → List Entry → Site → Site → List ℕ → ℕ → Type 0
+DoesAll words h before after line status = (c : Command) × Asks words c × DoesFor c h before after line status
 
--- all was done, and the line was printed
-abbrev pub EndsWell : List Word → List Entry → Outside → Outside → Type 0
-EndsWell words h before after =
-    (line : List ℕ) × DoesAll words h before.site after.site line × Takes line before.sink after.sink
+-- all was done, with this status, and the line was printed
+abbrev pub EndsWell : List Word → ℕ → List Entry → Outside → Outside → Type 0
+EndsWell words status h before after =
+    (line : List ℕ) × DoesAll words h before.site after.site line status × Takes line before.sink after.sink
 
 -- Refusals
 
@@ -72,7 +72,7 @@ IsDue words h before after line =
     (line ≡ [])
     ⊎ (AsksNothing words × (line ≡ words_line))
     ⊎ ((r : Refused) × RefusesOne words before.shelf r × (line ≡ refused_line r))
-    ⊎ DoesAll words h before after line
+    ⊎ ((status : ℕ) × DoesAll words h before after line status)
 
 -- a front part of the line that was due was printed, maybe none of it
 abbrev pub PrintsFront : List Word → List Entry → Outside → Outside → Type 0
@@ -84,7 +84,7 @@ abbrev pub MissesLine : List Word → List Entry → Site → Site → Type 0
 MissesLine words h before after =
     AsksNothing words
     ⊎ ((r : Refused) × RefusesOne words before.shelf r)
-    ⊎ ((line : List ℕ) × DoesAll words h before after line)
+    ⊎ ((line : List ℕ) × (status : ℕ) × DoesAll words h before after line status)
 
 -- a name that no command that the words ask for writes keeps its bytes
 abbrev pub KeepsOthers : List Word → Shelved → Shelved → Type 0
@@ -95,7 +95,3 @@ KeepsOthers words before after =
 -- the names that the words name to be read are there
 abbrev pub FindsInputs : List Word → Shelved → Type 0
 FindsInputs words shelf = (c : Command) → Asks words c → MissesOne (input_names c) shelf → ⊥
-
--- 0, or 2 to 5
-abbrev pub IsStatus : ℕ → Type 0
-IsStatus status = (status ≡ 0) ⊎ ((2 ≤ status) × (status ≤ 5))

@@ -1,10 +1,11 @@
 -- The commands that the program has, and which names they read and write.
 use Rattle.std.specs.Prelude.{Bool, true, false, IsTrue, List, [], ◌∷◌, ◌++◌}
-use Rattle.vz_rules.specs.Command.{Word, Command, Step, Gen, Demo, IsCommand}
+use Rattle.vz_rules.specs.Command.{Word, Command, Step, Check, Gen, Demo, IsCommand}
 
 -- the program has the command; the words of another are refused
 abbrev pub is_built : Command → Bool
 is_built (Step w h schedule frames log files) = true
+is_built (Check w h frames log files) = true
 is_built (Gen n first second third) = true
 is_built (Demo n) = true
 is_built _ = false
@@ -20,6 +21,7 @@ AsksNothing words = (c : Command) → Asks words c → ⊥
 -- the names of the clients' files
 abbrev pub client_names : Command → List Word
 client_names (Step w h schedule frames log files) = files
+client_names (Check w h frames log files) = files
 client_names _ = []
 
 -- the name of the schedule, where there is one
@@ -27,9 +29,19 @@ abbrev pub schedule_names : Command → List Word
 schedule_names (Step w h schedule frames log files) = schedule ∷ []
 schedule_names _ = []
 
+-- the name of the log that is judged, where one is
+abbrev pub log_names : Command → List Word
+log_names (Check w h frames log files) = log ∷ []
+log_names _ = []
+
+-- the name of the frames that are judged with it
+abbrev pub frame_names : Command → List Word
+frame_names (Check w h frames log files) = frames ∷ []
+frame_names _ = []
+
 -- the names that are read
 abbrev pub input_names : Command → List Word
-input_names c = client_names c ++ schedule_names c
+input_names c = client_names c ++ (schedule_names c ++ (log_names c ++ frame_names c))
 
 -- the names that are written
 abbrev pub output_names : Command → List Word

@@ -1,5 +1,5 @@
 -- What holds of a command that ended, and of one that was cut short.
-use Rattle.std.specs.Prelude.{◌≡◌, ℕ, ◌+◌, List, [], ◌∷◌, map, take}
+use Rattle.std.specs.Prelude.{◌≡◌, ℕ, pos, ◌+◌, List, [], ◌∷◌, map, take}
 use Rattle.vz_base.specs.declared.limits.TheConstants.{DEFAULT_BUFFERS}
 use Rattle.vz_frame.specs.declared.message.ClientFile.{ClientFile}
 use Rattle.vz_codec.specs.Spelling.{file_bytes}
@@ -7,13 +7,17 @@ use Rattle.vz_gen.specs.Make.{make}
 use Rattle.vz_outside.specs.Shelved.{SameFiles}
 use Rattle.vz_outputs.specs.Written.{Output, AreWhole, AreBegun}
 use Rattle.vz_rules.specs.Plan.{Plan}
-use Rattle.vz_rules.specs.Command.{Word, Command, Step, Gen}
+use Rattle.vz_check.specs.Verdict.{IsVerdict}
+use Rattle.vz_check.specs.declared.verdict.Verdict.{Verdict}
+use Rattle.vz_inputs.specs.Refusals.{plan_read}
+use Rattle.vz_rules.specs.Command.{Word, Command, Step, Check, Gen}
 use Rattle.vz_rules.specs.declared.entry.Event.{Event}
 use Rattle.vz_rules.specs.declared.entry.Entry.{Entry}
 use Rattle.vz_rules.specs.Step.{Legal}
 use Rattle.vz_rules.specs.Frames.{frames, written, painted, frames_bytes, Honest}
 use Rattle.vz_rules.specs.Log.{log_text, rest_of}
 use Rattle.viz_run.specs.Inputs.{Inputs, plan_of, events_for}
+use Rattle.viz_run.specs.Lines.{end_line, verdict_line, verdict_status}
 use Rattle.viz_run.specs.Site.{Site}
 
 -- the events of a history
@@ -44,6 +48,18 @@ outputs_of (Step w h schedule frames log files) p history =
     record { name = frames; bytes = frames_of p history } ∷ record { name = log; bytes = log_of p history } ∷ []
 outputs_of (Gen n first second third) p history = named_files (first ∷ second ∷ third ∷ []) (make n)
 outputs_of _ p history = []
+
+-- this is to be said of a log and its frames
+abbrev pub IsSaid : Plan → List (List ℕ) → List (List ℕ) → Verdict → Type 0
+IsSaid p (log ∷ []) (frames ∷ []) verdict = IsVerdict p log frames verdict
+IsSaid p _ _ verdict = ⊥
+
+-- this line tells how it ended, with this status: what is to be said, or that it was done
+abbrev pub TellsEnd : Command → Inputs → List Entry → List ℕ → ℕ → Type 0
+TellsEnd (Check w h frames log files) i history line status =
+    (verdict : Verdict) × IsSaid (plan_read (record { w = pos w; h = pos h }) i.files) i.logs i.frames verdict
+    × (line ≡ verdict_line verdict) × (status ≡ verdict_status verdict)
+TellsEnd c i history line status = (line ≡ end_line c (plan_of c i) history) × (status ≡ 0)
 
 -- all was done that the command is for: a legal history of exactly its events came about, what it writes stands, each painted point
 -- was counted, and where every client's damage covers what it changed, each written frame is the whole picture

@@ -8,4 +8,5 @@ pub mod Taken
 pub mod Causes
 pub mod Stops
 pub mod Stepped
+pub mod Judged
 pub mod Made

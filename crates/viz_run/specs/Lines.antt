@@ -2,6 +2,10 @@
 use Rattle.std.specs.Prelude.{ℕ, codes, List, [], ◌++◌, length, count_by, sum_by}
 use Rattle.vz_base.specs.declared.limits.TheConstants.{DEFAULT_BUFFERS}
 use Rattle.vz_codec.specs.declared.fault.FileRule.TheVariants as rule
+use Rattle.vz_check.specs.declared.verdict.What.{What}
+use Rattle.vz_check.specs.declared.verdict.What.TheVariants as what
+use Rattle.vz_check.specs.declared.verdict.Verdict.{Verdict}
+use Rattle.vz_check.specs.declared.verdict.Verdict.TheVariants as verdict
 use Rattle.vz_inputs.specs.declared.refused.Reason.{Reason}
 use Rattle.vz_inputs.specs.declared.refused.Reason.TheVariants as reason
 use Rattle.vz_inputs.specs.declared.refused.Refused.{Refused}
@@ -56,6 +60,24 @@ reason_text reason.Long = codes "Long"
 unfoldable pub refused_line : Refused → List ℕ
 refused_line r =
     codes "file" ++ then_number r.file ++ codes " refused at" ++ then_number r.at ++ codes ": " ++ reason_text r.reason ++ codes "\n"
+
+-- what is wrong at a place of a log
+unfoldable pub what_text : What → List ℕ
+what_text what.LogText = codes "LogText"
+what_text what.Reply = codes "Reply"
+what_text what.Frame = codes "Frame"
+what_text what.Rest = codes "Rest"
+what_text what.Length = codes "Length"
+
+-- what is said of a log and its frames
+unfoldable pub verdict_line : Verdict → List ℕ
+verdict_line verdict.Yes = codes "yes\n"
+verdict_line (verdict.No entry what) = codes "no" ++ then_number entry ++ codes " " ++ what_text what ++ codes "\n"
+
+-- and the status
+abbrev pub verdict_status : Verdict → ℕ
+verdict_status verdict.Yes = 0
+verdict_status (verdict.No entry what) = 1
 
 -- the line of a command at its end, with the history of a plan
 abbrev pub end_line : Command → Plan → List Entry → List ℕ

@@ -2,12 +2,15 @@
 #![tactic(auto)]
 
 mod demo;
+mod end;
 mod events;
+mod judging;
 mod lines;
 mod make;
 mod perform;
 mod playing;
 mod run;
+mod sides;
 mod step;
 mod stop;
 mod telling;

@@ -1,18 +1,23 @@
 //! The texts of the lines that are printed.
 ghost use Rattle.std.specs.Prelude.{◌≡◌, ◌+◌, IfOk, string_bytes, length};
+ghost use Rattle.vz_check.specs.declared.verdict.Verdict.TheVariants as verdicts;
 ghost use Rattle.vz_display.specs.Displayed.{upto_most};
 ghost use Rattle.vz_rules.specs.Course.{is_drawn};
 ghost use Rattle.viz_run.specs.Lines.{done_text, demo_text, refused_line, reason_text, made_line};
-ghost use Rattle.viz_run.specs.Lines.{drawn_count, return_count};
+ghost use Rattle.viz_run.specs.Lines.{drawn_count, return_count, verdict_line, what_text};
 
 use std::alloc::Global;
 use vz_base::Memory;
+use vz_check::{Verdict, What};
 use vz_codec::FileRule;
 use vz_inputs::{Reason, Refused};
 use vz_rules::{Entry, Reply};
 
 /// Where the words are those of no command.
 pub const WORDS_LINE: &str = "words refused\n";
+
+/// Where a log and its frames are those of the machine.
+const YES_LINE: &str = "yes\n";
 
 /// Where the files by rule are written.
 pub const MADE_LINE: &str = "made 3 files\n";
@@ -59,6 +64,52 @@ pub fn made_text(alloc: Global) -> Result<String, Memory>
     let mut text = String::new(alloc);
     text.push_str(MADE_LINE)?;
     Ok(text)
+}
+
+/// What is said of a log and its frames.
+pub fn verdict_text(alloc: Global, verdict: &Verdict) -> Result<String, Memory>
+    ensures { IfOk result (λ text. string_bytes text ≡ verdict_line verdict.now) }
+{
+    match *verdict {
+        Verdict::Yes => yes_text(alloc),
+        Verdict::No { entry, what } => no_text(alloc, entry, what),
+    }
+}
+
+/// That a log and its frames are those of the machine.
+#[tactic(auto, unfolding(crate::specs::Lines::verdict_line))]
+fn yes_text(alloc: Global) -> Result<String, Memory>
+    ensures { IfOk result (λ text. string_bytes text ≡ verdict_line verdicts.Yes) }
+{
+    let mut text = String::new(alloc);
+    text.push_str(YES_LINE)?;
+    Ok(text)
+}
+
+/// What is wrong first, and at which place.
+fn no_text(alloc: Global, entry: u64, what: What) -> Result<String, Memory>
+    ensures { IfOk result (λ text. string_bytes text ≡ verdict_line (verdicts.No entry what)) }
+{
+    let mut text = String::new(alloc);
+    write!(text, "no {entry}")?;
+    text.push_str(" ")?;
+    text.push_str(what_text(what))?;
+    text.push_str("\n")?;
+    Ok(text)
+}
+
+/// The word for what is wrong at a place of a log.
+#[tactic(auto, unfolding(crate::specs::Lines::what_text))]
+fn what_text(what: What) -> &'static str
+    ensures { result.now ≡ what_text what }
+{
+    match what {
+        What::LogText => "LogText",
+        What::Reply => "Reply",
+        What::Frame => "Frame",
+        What::Rest => "Rest",
+        What::Length => "Length",
+    }
 }
 
 /// Which input is refused, where and why.

@@ -1,5 +1,5 @@
 //! The command that the words ask for, carried out.
-ghost use Rattle.std.specs.Prelude.{◌≡◌, [], IfOk, IfErr, OnErr, IsErrOf, string_bytes};
+ghost use Rattle.std.specs.Prelude.{◌≡◌, ◌≤◌, [], IfOk, IfErr, OnErr, IsErrOf, string_bytes};
 ghost use Rattle.vz_words.specs.Words.{texts};
 ghost use Rattle.vz_inputs.specs.declared.refused.Refused.{Refused as Refusal};
 ghost use Rattle.viz_run.specs.Commands.{AsksNothing};
@@ -10,6 +10,8 @@ ghost use Rattle.viz_run.specs.Stops.{Behaves, IsRefusal};
 ghost use Rattle.viz_run.specs.declared.stop.Stop.TheVariants as stops;
 
 use crate::demo::demo;
+use crate::end::End;
+use crate::judging::{CheckWords, check_log};
 use crate::make::{MakeWords, make_files};
 use crate::step::{StepWords, step};
 use crate::stop::Stop;
@@ -21,7 +23,7 @@ use vz_outside::{Gate, Shelf};
 use vz_rules::Entry;
 use vz_words::{Command, command};
 
-/// Carries out the command that the words ask for, and answers the line that tells it.
+/// Carries out the command that the words ask for, and answers how it ended.
 ///
 /// `Words` comes where the program has no such command, `Input` where an input is refused, and
 /// after both nothing was begun. `Fault` comes exactly where the shelf counted one.
@@ -32,11 +34,12 @@ pub fn perform<F: Shelf, G: Gate, L: Ledger>(
     gate: &G,
     steps: &mut Steps<L>,
     history: &mut List<Entry>,
-) -> Result<String, Stop>
+) -> Result<End, Stop>
     requires { history.old ≡ [] }
-    ensures done { IfOk result (λ line. DoesAll (texts words.now) history.new
+    ensures done { IfOk result (λ ended. DoesAll (texts words.now) history.new
         (site (F.shelved shelf.old) steps.old) (site (F.shelved shelf.new) steps.new)
-        (string_bytes line)) }
+        (string_bytes ended.line) ended.status) }
+    ensures low { IfOk result (λ ended. ended.status ≤ 1) }
     ensures words { IsErrOf result stops.Words → AsksNothing (texts words.now) }
     ensures input { (r : Refusal) → IsErrOf result (stops.Input r)
         → RefusesOne (texts words.now) (F.shelved shelf.old) r }
@@ -70,6 +73,24 @@ pub fn perform<F: Shelf, G: Gate, L: Ledger>(
             step(alloc, &names, shelf, gate, steps, history)
         }
         Some(
+            Command::Check {
+                width,
+                height,
+                frames,
+                log,
+                files,
+            },
+        ) => {
+            let names = CheckWords {
+                width,
+                height,
+                frames,
+                log,
+                files,
+            };
+            check_log(alloc, &names, shelf)
+        }
+        Some(
             Command::Gen {
                 rounds,
                 first,
@@ -83,11 +104,16 @@ pub fn perform<F: Shelf, G: Gate, L: Ledger>(
                 second,
                 third,
             };
-            Ok(make_files(alloc, &names, shelf)?)
+            Ok(End {
+                line: make_files(alloc, &names, shelf)?,
+                status: 0,
+            })
         }
-        Some(Command::Demo { rounds }) => Ok(demo(alloc, rounds, gate, steps, history)?),
+        Some(Command::Demo { rounds }) => Ok(End {
+            line: demo(alloc, rounds, gate, steps, history)?,
+            status: 0,
+        }),
         Some(Command::Run { .. }) => Err(Stop::Words),
-        Some(Command::Check { .. }) => Err(Stop::Words),
         Some(Command::Hit { .. }) => Err(Stop::Words),
         Some(Command::Turns { .. }) => Err(Stop::Words),
         None => Err(Stop::Words),

@@ -7,7 +7,7 @@ ghost use Rattle.vz_rules.specs.Command.{Command as Asked};
 ghost use Rattle.viz_run.specs.Commands.{Asks, AsksNothing};
 ghost use Rattle.viz_run.specs.Inputs.{Inputs, AreAccepted, AreRefused};
 ghost use Rattle.viz_run.specs.Causes.{EndsWell, RefusesWords, RefusesInput, LeavesFront, PrintsFront};
-ghost use Rattle.viz_run.specs.Causes.{MissesLine, KeepsOthers, FindsInputs, IsStatus};
+ghost use Rattle.viz_run.specs.Causes.{MissesLine, KeepsOthers, FindsInputs};
 ghost use Rattle.viz_run.specs.Site.{site, outside, IsCalled, CountsNoFault, CountsOneFault};
 ghost use Rattle.viz_run.specs.Site.{IsFaultless, KeepsFaultless};
 
@@ -23,7 +23,7 @@ use vz_rules::Entry;
 /// How a call ended, and the history that it made.
 #[derive(Drop)]
 pub struct Run {
-    /// 0 done, 2 words refused, 3 an input refused, 4 a fault of the shelf or the sink, 5 want of
+    /// 0 done, 1 a log or its frames have a fault, 2 words refused, 3 an input refused, 4 a fault of the shelf or the sink, 5 want of
     /// memory.
     pub status: u8,
     /// The entries of `step` and `demo`, in the order in which they were made; empty where none
@@ -42,10 +42,11 @@ pub fn viz<F: Shelf + Send, O: Sink, G: Gate + Sync, L: Ledger>(
     gate: &G,
     steps: &mut Steps<L>,
 ) -> Run
-    ensures range { IsStatus result.status }
+    ensures range { result.status ≤ 5 }
 
-    // Status 0: all was done that the command is for, and the line was printed.
-    ensures ends { result.status ≡ 0 → EndsWell (texts words.now) result.history
+    // Status 0 and 1: all was done that the command is for, and the line that tells how it ended was
+    // printed. 1 is that of a log or frames that have a fault.
+    ensures ends { result.status ≤ 1 → EndsWell (texts words.now) result.status result.history
         (outside (F.shelved shelf.old) (O.sunk out.old) steps.old)
         (outside (F.shelved shelf.new) (O.sunk out.new) steps.new) }
 
@@ -69,7 +70,7 @@ pub fn viz<F: Shelf + Send, O: Sink, G: Gate + Sync, L: Ledger>(
     // What is accepted is done, or there is a fault or want of memory.
     ensures complete { (c : Asked) (i : Inputs) → Asks (texts words.now) c
         → IsTrue (F.shelved shelf.old).is_known → AreAccepted (F.shelved shelf.old) c i
-        → (result.status ≡ 0) ⊎ (4 ≤ result.status) }
+        → (result.status ≤ 1) ⊎ (4 ≤ result.status) }
 
     // Status 4: one fault was counted. Any other status: none was.
     ensures fault { result.status ≡ 4 → CountsOneFault
@@ -106,8 +107,8 @@ pub fn viz<F: Shelf + Send, O: Sink, G: Gate + Sync, L: Ledger>(
 {
     let mut history = List::new(alloc);
     match perform(alloc, words, shelf, gate, steps, &mut history) {
-        Ok(line) => Run {
-            status: tell(out, &line, 0),
+        Ok(ended) => Run {
+            status: tell(out, &ended.line, ended.status),
             history,
         },
         Err(stop) => Run {

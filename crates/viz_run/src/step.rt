@@ -17,12 +17,14 @@ ghost use Rattle.viz_run.specs.Inputs.{Inputs, AreAccepted};
 ghost use Rattle.viz_run.specs.Causes.{DoesFor, RefusesFor, LeavesFor};
 ghost use Rattle.viz_run.specs.Ends.{IsUnbegun};
 ghost use Rattle.viz_run.specs.Site.{site};
-ghost use Rattle.viz_run.specs.Stepped.{command_of, size_of, refused_of, Makes};
+ghost use Rattle.viz_run.specs.Stepped.{command_of, refused_of, Makes};
 ghost use Rattle.viz_run.specs.Stops.{Behaves, IsRefusal};
 ghost use Rattle.viz_run.specs.declared.stop.Stop.TheVariants as stops;
 
+use crate::end::End;
 use crate::lines::done_line;
 use crate::playing::play;
+use crate::sides::size_of;
 use crate::stop::Stop;
 use std::alloc::Global;
 use std::sync::ledger::Ledger;
@@ -53,7 +55,7 @@ pub struct Given {
     pub events: Vec<Event>,
 }
 
-/// Takes the events of a schedule, writes the frames and the log, and answers the line that tells it.
+/// Takes the events of a schedule, writes the frames and the log, and answers how that ended.
 pub fn step<F: Shelf, G: Gate, L: Ledger>(
     alloc: Global,
     words: &StepWords<'_>,
@@ -61,12 +63,13 @@ pub fn step<F: Shelf, G: Gate, L: Ledger>(
     gate: &G,
     steps: &mut Steps<L>,
     history: &mut List<Entry>,
-) -> Result<String, Stop>
+) -> Result<End, Stop>
     requires fits { IsTrue (fits_command (command_of words.now)) }
     requires empty { history.old ≡ [] }
-    ensures done { IfOk result (λ line. DoesFor (command_of words.now) history.new
+    ensures done { IfOk result (λ ended. DoesFor (command_of words.now) history.new
         (site (F.shelved shelf.old) steps.old) (site (F.shelved shelf.new) steps.new)
-        (string_bytes line)) }
+        (string_bytes ended.line) ended.status) }
+    ensures low { IfOk result (λ ended. ended.status ≤ 1) }
     ensures words { IsErrOf result stops.Words → ⊥ }
     ensures input { (r : Refusal) → IsErrOf result (stops.Input r)
         → RefusesFor (command_of words.now) (F.shelved shelf.old) r }
@@ -84,7 +87,10 @@ pub fn step<F: Shelf, G: Gate, L: Ledger>(
     let _ = given.plan.files();
     let machine = PlainMachine::new(alloc, &given.plan);
     play(alloc, machine, words, &given, shelf, gate, steps, history)?;
-    Ok(done_line(alloc, history.as_slice())?)
+    Ok(End {
+        line: done_line(alloc, history.as_slice())?,
+        status: 0,
+    })
 }
 
 /// Reads the clients' files and then the schedule, before any is tested, and accepts them.
@@ -104,7 +110,7 @@ fn admit<F: Shelf>(alloc: Global, shelf: &mut F, words: &StepWords<'_>) -> Resul
 {
     let files = read_files(alloc, shelf, words.files, MOST_FILE_BYTES)?;
     let schedule = read_file(alloc, shelf, words.schedule, MOST_EVENTS)?;
-    Ok(accept(alloc, size_of(words), &files, &schedule)?)
+    Ok(accept(alloc, size_of(words.width, words.height), &files, &schedule)?)
 }
 
 /// The plan and the events, where no input is refused: the clients' files are tested in order,
@@ -128,16 +134,4 @@ fn accept(
     let plan = plan_of(alloc, size, files)?;
     let events = events_of(alloc, &plan, schedule)?;
     Ok(Given { plan, events })
-}
-
-/// The size of the display, in pixels.
-fn size_of(words: &StepWords<'_>) -> Size
-    requires { IsTrue (fits_command (command_of words.now)) }
-    ensures size { result ≡ size_of words.now }
-    ensures range { IsDisplaySize result }
-{
-    Size {
-        w: words.width as i32,
-        h: words.height as i32,
-    }
 }

@@ -1,11 +1,12 @@
-use Rattle.std.proofs.Common.{rules, inr, refl}
+use Rattle.std.proofs.Common.{rules, inl, inr, refl}
 use Rattle.vz_demo.proofs.Fitting.{planned}
 use Rattle.vz_outputs.proofs.Behaving.{on_err}
 use Rattle.vz_outside.proofs.Calls.{ran_none, ran_one}
 use Rattle.vz_words.specs.Words.{texts}
 use Rattle.viz_run.proofs.Stopping.{stops_at, stops_after}
 use Rattle.viz_run.proofs.Performing.{if_ok, at_err, behaves_for, ok_at_err, unrefused, unrefused_memory, none_refused, none_at_memory, memory_no_fault, ok_no_fault}
-use Rattle.viz_run.proofs.Performing.{others_of, misses_of, gen_does, gen_leaves, demo_does, demo_leaves, demo_few, asked_fits, asks_for, unbuilt_found, unasked}
+use Rattle.viz_run.proofs.Performing.{check_does, others_of, misses_of, gen_does, gen_leaves, demo_does, demo_leaves, demo_few, asked_fits, asks_for, unbuilt_found, unasked}
+use Rattle.viz_run.proofs.Stepping.{holds_at_err}
 use Rattle.viz_run.specs.declared.stop.Stop.TheVariants as stop
 use Rattle.viz_run.proofs.perform.perform.Goals as goal
 
@@ -138,10 +139,6 @@ pub returns-in-Some-Run-clause-words : goal.returns-in-Some-Run-clause-words
 returns-in-Some-Run-clause-words g c =
     λ is. unbuilt_found (texts c.args.words.now) _ _ c.in-Some-Run.field-0-is c.in-Some-Run.ensures.found refl
 
-pub returns-in-Some-Check-clause-words : goal.returns-in-Some-Check-clause-words
-returns-in-Some-Check-clause-words g c =
-    λ is. unbuilt_found (texts c.args.words.now) _ _ c.in-Some-Check.field-0-is c.in-Some-Check.ensures.found refl
-
 pub returns-in-Some-Hit-clause-words : goal.returns-in-Some-Hit-clause-words
 returns-in-Some-Hit-clause-words g c =
     λ is. unbuilt_found (texts c.args.words.now) _ _ c.in-Some-Hit.field-0-is c.in-Some-Hit.ensures.found refl
@@ -153,3 +150,41 @@ returns-in-Some-Turns-clause-words g c =
 pub returns-in-None-clause-words : goal.returns-in-None-clause-words
 returns-in-None-clause-words g c =
     λ is. unasked (texts c.args.words.now) c.in-None.ensures.none
+
+pub check_log-requires : goal.check_log-requires
+check_log-requires g c = asked_fits _ _ (asks_for (texts c.args.words.now) _ _ c.in-Some-Check.field-0-is c.in-Some-Check.ensures.found refl).0
+
+pub returns-in-Some-Check-clause-done : goal.returns-in-Some-Check-clause-done
+returns-in-Some-Check-clause-done g c =
+    let a = g.F.Shelf.shelved c.args.shelf.now in
+    let b = g.F.Shelf.shelved c.check_log.new.shelf in
+    if_ok c.check_log.result _ _
+    (λ end told. (
+      _,
+      (asks_for (texts c.args.words.now) _ _ c.in-Some-Check.field-0-is c.in-Some-Check.ensures.found refl),
+      check_does _ _ _ _ _ c.args.history.now a b c.args.steps.now _ _ c.requires told.0 told.1 told.2,
+    )) c.check_log.ensures.told
+
+pub returns-in-Some-Check-clause-words : goal.returns-in-Some-Check-clause-words
+returns-in-Some-Check-clause-words g c =
+    λ is. absurd (c.check_log.ensures.words is)
+
+pub returns-in-Some-Check-clause-input : goal.returns-in-Some-Check-clause-input
+returns-in-Some-Check-clause-input g c =
+    λ r is. (_, (asks_for (texts c.args.words.now) _ _ c.in-Some-Check.field-0-is c.in-Some-Check.ensures.found refl), c.check_log.ensures.input r is)
+
+pub returns-in-Some-Check-clause-unbegun : goal.returns-in-Some-Check-clause-unbegun
+returns-in-Some-Check-clause-unbegun g c =
+    holds_at_err c.check_log.result _ (record { history = c.requires; files = c.check_log.ensures.files; steps = refl })
+
+pub returns-in-Some-Check-clause-front : goal.returns-in-Some-Check-clause-front
+returns-in-Some-Check-clause-front g c =
+    on_err c.check_log.result _ (inl (record { history = c.requires; files = c.check_log.ensures.files; steps = refl }))
+
+pub returns-in-Some-Check-clause-others : goal.returns-in-Some-Check-clause-others
+returns-in-Some-Check-clause-others g c =
+    λ told name none. c.check_log.ensures.files told name
+
+pub returns-in-Some-Check-clause-behaves : goal.returns-in-Some-Check-clause-behaves
+returns-in-Some-Check-clause-behaves g c =
+    behaves_for c.check_log.result _ _ (misses_of (texts c.args.words.now) _ (asks_for (texts c.args.words.now) _ _ c.in-Some-Check.field-0-is c.in-Some-Check.ensures.found refl) _) c.check_log.ensures.behaves

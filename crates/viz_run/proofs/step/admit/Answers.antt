@@ -10,7 +10,7 @@ use Rattle.vz_geom.specs.declared.Size.{Size}
 use Rattle.vz_inputs.specs.Refusals.{plan_read}
 use Rattle.vz_inputs.specs.Schedule.{events_of}
 use Rattle.viz_run.specs.Stepped.{size_of, refused_of}
-use Rattle.viz_run.proofs.Fitting.{files_fit}
+use Rattle.viz_run.proofs.Fitting.{files_fit, sides_fit}
 use Rattle.viz_run.proofs.Stopping.{stops_at}
 use Rattle.viz_run.proofs.Admitting.{inputs_with, are_read, first_of, one_schedule, input_of, misses_left, misses_right}
 use Rattle.viz_run.proofs.step.admit.Goals as goal
@@ -100,3 +100,8 @@ returns-clause-accepted g c =
   where
     planned : {A : Type 0} (size other : Size) (xs ys : List (Vec ℕ A)) → size ≡ other → xs ≡ ys → plan_read size (contents xs) ≡ plan_read other (contents ys)
     planned size other xs ys same_size same = ap (λ (z : Size). plan_read z (contents xs)) same_size ∙ ap (λ zs. plan_read other (contents zs)) same
+
+pub size_of-requires : goal.size_of-requires
+size_of-requires g c =
+    let w = c.args.words.now in
+    sides_fit w.width w.height w.schedule.now w.frames.now w.log.now (texts w.files.now) c.requires

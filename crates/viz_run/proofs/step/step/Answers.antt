@@ -5,6 +5,7 @@ use Rattle.vz_inputs.specs.Read.{texts}
 use Rattle.vz_outputs.proofs.Behaving.{on_err}
 use Rattle.viz_run.specs.Commands.{output_names}
 use Rattle.viz_run.specs.Ends.{outputs_of}
+use Rattle.vz_rules.specs.Plan.{Plan}
 use Rattle.vz_rules.specs.declared.entry.Entry.{Entry}
 use Rattle.viz_run.specs.Lines.{end_line}
 use Rattle.viz_run.specs.Site.{site}
@@ -13,7 +14,7 @@ use Rattle.viz_run.specs.declared.stop.Stop.TheVariants as stop
 use Rattle.viz_run.proofs.Demonstrated.{all_played}
 use Rattle.viz_run.proofs.Fitting.{names_differ}
 use Rattle.viz_run.proofs.Stopping.{stops_at, stops_after}
-use Rattle.viz_run.proofs.Stepping.{begun_since, others_since, all_begun, does_for, cut_short, is_none, no_words, no_input, refuses_none, ok_is_none, went_through, at_err, stays_at}
+use Rattle.viz_run.proofs.Stepping.{begun_since, others_since, all_begun, does_for, cut_short, is_none, no_words, no_input, refuses_none, ok_is_none, went_through, holds_at_err, stays_at}
 use Rattle.viz_run.proofs.step.step.Goals as goal
 
 pub play-requires-clause-apart : goal.play-requires-clause-apart
@@ -23,7 +24,7 @@ play-requires-clause-apart g c =
 
 pub returns-in_err-given-clause-unbegun : goal.returns-in_err-given-clause-unbegun
 returns-in_err-given-clause-unbegun g c =
-    at_err c.from_residual.result _ (record { history = c.requires.empty; files = c.in_err-given.ensures.files; steps = refl })
+    holds_at_err c.from_residual.result _ (record { history = c.requires.empty; files = c.in_err-given.ensures.files; steps = refl })
 
 pub returns-in_err-given-clause-front : goal.returns-in_err-given-clause-front
 returns-in_err-given-clause-front g c =
@@ -109,9 +110,9 @@ returns-clause-done g c =
     let p = c.in_ok-given.given.plan in
     let es = c.in_ok-given.given.events.items in
     let h = c.play.new.history in
-    does_for asked got.0 p es got.2 h (site a c.args.steps.now) (site d c.play.new.steps) got.1 _
+    does_for asked got.0 p es got.2 h (site a c.args.steps.now) (site d c.play.new.steps) got.1 _ 0
     c.files.ensures.kept c.in_ok-play.ensures.history c.in_ok-play.ensures.whole c.in_ok-play.ensures.counted
-    (c.in_ok-done_line.ensures ∙ ap (λ (xs : List Entry). end_line asked p xs) c.as_slice.ensures)
+    (c.in_ok-done_line.ensures ∙ (ap (λ (xs : List Entry). end_line asked p xs) c.as_slice.ensures ∙ ap (λ (x : Plan). end_line asked x h) got.2.0), refl)
 
 pub returns-clause-others : goal.returns-clause-others
 returns-clause-others g c =
@@ -123,4 +124,4 @@ returns-clause-behaves g c =
     let a = g.F.Shelf.shelved c.args.shelf.now in
     stops_after _ a _
     (ran_then_ran a _ _ (went_through c.in_ok-given.given a _ c.in_ok-given.ensures.behaves) (ran_one tt _ _ c.in_ok-play.ensures.behaves))
-    (ok_is_none c.in_ok-done_line.field-0 stop.Fault)
+    (ok_is_none _ stop.Fault)

@@ -1,0 +1,16 @@
+-- What the words of `check` ask for.
+use Rattle.std.specs.Prelude.{ℕ, Option, List, [], ◌∷◌}
+use Rattle.vz_inputs.specs.Read.{texts}
+use Rattle.vz_inputs.specs.Refusals.{file_refused}
+use Rattle.vz_inputs.specs.declared.refused.Refused.{Refused}
+use Rattle.vz_rules.specs.Command.{Command, Check}
+use Rattle.viz_run.specs.Inputs.{first_some, logs_refused}
+use Rattle.viz_run.specs.declared.judging.CheckWords.{CheckWords}
+
+-- the command
+abbrev pub command_of : CheckWords → Command
+command_of w = Check w.width w.height w.frames.now w.log.now (texts w.files.now)
+
+-- the first of these inputs that is refused
+abbrev pub refused_of : List (List ℕ) → List ℕ → Option Refused
+refused_of files log = first_some (file_refused files) (logs_refused (log ∷ []))
