@@ -1,0 +1,204 @@
+"""A scene's text to message files and a schedule. FORM.md says what the text may say."""
+
+import re
+import tomllib
+from pathlib import Path
+
+from . import colours, names, png, wire
+from .frame import Frames
+from .lines import Lines
+from .table import Table, expect, text, whole, whole_numbers
+from .words import schedule_bytes, unfold
+from .wrong import Wrong, file, inside
+
+
+class Scene:
+    """What a scene's text gives: files by client, a schedule or None, the display or None."""
+
+    def __init__(self, source, folder):
+        self.folder = folder
+        self.colours, self.sinks, self.numbers = {}, {}, {}
+        top = self.table(source)
+        try:
+            self.read(top)
+        except Wrong as wrong:
+            raise Wrong("line %d: %s" % (Lines(source).line(wrong.keys), wrong)) from None
+
+    def table(self, source):
+        try:
+            return Table(tomllib.loads(source))
+        except ValueError as error:
+            end = "line %d, the end" % (source.rstrip().count("\n") + 1)
+            raise Wrong("no TOML: " + str(error).replace("end of document", end)) from None
+        except RecursionError:
+            raise Wrong("no TOML: nested too deeply") from None
+
+    def read(self, top):
+        top.take("colours", self.own_colours, None)
+        self.parts = top.take("parts", lambda v: expect(v, dict), {})
+        self.display = top.take("display", display_size, None)
+        schedule = top.take("schedule", text, None)
+        clients = top.items("client", Table, "client")
+        top.end()
+        if not 1 <= len(clients) <= 16:
+            raise Wrong("%d clients, not 1 to 16" % len(clients))
+        self.names = []
+        own = [self.introduce(place, client) for place, client in enumerate(clients, 1)]
+        self.files = []
+        for place, (client, sink) in enumerate(zip(clients, own), 1):
+            with inside("client %d" % place, "client", place - 1):
+                if sink in own[:place - 1]:
+                    with inside("sink", "sink"):
+                        raise Wrong("%s is taken by an earlier client" % names.sink_text(sink))
+                self.files.append(Client(self, client, sink).bytes())
+        self.schedule = None
+        if schedule is not None:
+            with inside("schedule", "schedule"):
+                self.schedule = schedule_bytes(schedule, len(clients), self.numbers, self.display)
+
+    def own_colours(self, value):
+        for name, colour in expect(value, dict).items():
+            with inside(name, name):
+                if not re.fullmatch(r"[A-Za-z][A-Za-z0-9_-]*", name):
+                    raise Wrong("a colour's name is letters, digits, '-' and '_'")
+                self.colours[name] = self.colour(colour)
+
+    def introduce(self, place, client):
+        """A client's sink; notes its name."""
+        with inside("client %d" % place, "client", place - 1):
+            sink = client.take("sink", lambda v: names.sink(text(v), {}), (place, 1))
+            name = client.take("name", self.own_name, None)
+            if name is not None:
+                self.sinks[name], self.numbers[name] = sink, place
+            self.names.append(name or "client %d" % place)
+        return sink
+
+    def own_name(self, value):
+        name = text(value)
+        if not re.fullmatch(r"[A-Za-z][A-Za-z0-9_-]*", name) or re.fullmatch(
+                r"begin|draw|done|over|c[0-9]*", name):
+            raise Wrong("%r: letters, digits, '-' and '_', no event's name" % name)
+        if name in self.sinks:
+            raise Wrong("%r is taken by an earlier client" % name)
+        return name
+
+    def colour(self, value):
+        return colours.parse(text(value), self.colours)
+
+    def surface(self, value):
+        return names.surface(text(value), self.sinks)
+
+    def span(self, value):
+        return names.span(text(value), self.sinks)
+
+
+def message_format(value):
+    if whole(value) not in (1, 2):
+        raise Wrong("%d is no format; there are 1 and 2" % value)
+    return value
+
+
+def display_size(value):
+    w, h = whole_numbers(value, (2,))
+    if not (1 <= w <= 2048 and 1 <= h <= 2048):
+        raise Wrong("%d by %d: sides are 1 to 2048" % (w, h))
+    return w, h
+
+
+class Client:
+    """One client's file."""
+
+    def __init__(self, scene, table, sink):
+        form = table.take("format", message_format, None)
+        self.scene, self.sink, self.frames = scene, sink, Frames(scene, form)
+        self.messages = table.items("messages", self.message, "message", [])
+        table.end()
+        self.form = form if form is not None else 2 if self.frames.blends else 1
+
+    def bytes(self):
+        return wire.write({"format": self.form, "sink": self.sink, "messages": self.messages})
+
+    def message(self, value):
+        got = self.one(value)
+        wire.trial(wire.MESSAGE, got)
+        return got
+
+    def one(self, value):
+        if isinstance(value, str):
+            return self.worded(value.split())
+        table = Table(value)
+        kinds = [k for k in ("submit", "upload") if table.has(k)]
+        if len(kinds) != 1:
+            raise Wrong("a message in braces has either 'submit' or 'upload'")
+        return self.frames.submit(table) if kinds == ["submit"] else self.upload(table)
+
+    def worded(self, words):
+        """A message of a few words."""
+        shapes = {
+            "upload": ("ID WxH COLOUR", lambda i, s, c: self.block(
+                names.count(i), names.size(s), self.scene.colour(c))),
+            "did-not-produce": ("NUMBER", lambda n: {"number": names.count(n)}),
+            "reclaim": ("", dict), "await": ("", dict), "close": ("", dict),
+            "set-root": ("LOCAL", lambda l: {"local": names.local(l)}),
+            "hierarchy": ("PARENT CHILD", lambda p, c: {
+                "parent": names.sink(p, self.scene.sinks),
+                "child": names.sink(c, self.scene.sinks)}),
+        }
+        kind = words[0] if words else ""
+        if kind not in shapes:
+            raise Wrong("%r is no message; in words there are %s, in braces submit and upload"
+                        % (kind, ", ".join(shapes)))
+        shape, make = shapes[kind]
+        if len(words) - 1 != len(shape.split()):
+            raise Wrong("%r is written '%s'" % (" ".join(words), (kind + " " + shape).strip()))
+        with inside(kind):
+            return {"kind": kind, **make(*words[1:])}
+
+    def block(self, number, size, colour):
+        self.frames.blocks[number] = size
+        if not (1 <= size[0] <= 256 and 1 <= size[1] <= 256):
+            raise Wrong("%d by %d: sides are 1 to 256" % size)
+        return {"id": number, "size": size, "pixels": bytes(colour) * (size[0] * size[1])}
+
+    def upload(self, table):
+        number = table.take("upload", whole)
+        given = [k for k in ("colour", "rows", "png") if table.has(k)]
+        if len(given) != 1:
+            raise Wrong("an upload has one of 'colour' (with 'size'), 'rows' and 'png'")
+        if given == ["colour"]:
+            size = table.take("size", lambda v: whole_numbers(v, (2,)))
+            made = self.block(number, size, table.take("colour", self.scene.colour))
+        else:
+            reader = self.rows if given == ["rows"] else self.picture
+            made = {"id": number, **table.take(given[0], reader)}
+            self.frames.blocks[number] = made["size"]
+        table.end()
+        return {"kind": "upload", **made}
+
+    def rows(self, value):
+        rows = []
+        for place, row in enumerate(expect(value, list), 1):
+            with inside("row %d" % place, place - 1):
+                pixels = [bytes(self.scene.colour(w)) for w in unfold(text(row))]
+                if rows and len(pixels) != len(rows[0]):
+                    raise Wrong("%d pixels, the first row has %d" % (len(pixels), len(rows[0])))
+                rows.append(pixels)
+        size = (len(rows[0]) if rows else 0, len(rows))
+        return {"size": size, "pixels": b"".join(p for row in rows for p in row)}
+
+    def picture(self, value):
+        name = self.scene.folder / text(value)
+        with file(name):
+            w, h, pixels = png.read(Path(name).read_bytes())
+        return {"size": (w, h), "pixels": pixels}
+
+
+def scene(name):
+    """The scene of a file."""
+    with file(name):
+        data = Path(name).read_bytes()
+        try:
+            source = data.decode("utf-8")
+        except UnicodeDecodeError:
+            raise Wrong("no UTF-8 text") from None
+        return Scene(source.replace("\r\n", "\n"), Path(name).parent)

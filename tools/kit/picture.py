@@ -1,0 +1,76 @@
+"""Pictures of frames: scaled up, with outlines, and laid beside each other."""
+
+from . import png
+from .wrong import Wrong, file
+
+GROUND = bytes((200, 200, 200, 255))
+GAP, STRIP_WIDTH, MOST = 4, 1280, 67108864
+
+
+class Picture:
+    """Rows of pixels that can be written over."""
+
+    def __init__(self, w, h, rows):
+        self.w, self.h, self.rows = w, h, rows
+
+    @classmethod
+    def of(cls, w, h, data, scale):
+        """A frame's bytes, each pixel as a square of `scale`."""
+        rows = []
+        for y in range(h):
+            row = data[y * w * 4:(y + 1) * w * 4]
+            if scale > 1:
+                row = b"".join(row[at:at + 4] * scale for at in range(0, len(row), 4))
+            rows += [bytearray(row) for _ in range(scale)]
+        return cls(w * scale, h * scale, rows)
+
+    @classmethod
+    def ground(cls, w, h):
+        return cls(w, h, [bytearray(GROUND * w) for _ in range(h)])
+
+    def put(self, x, y, data):
+        self.rows[y][x * 4:x * 4 + len(data)] = data
+
+    def outline(self, rect, colour):
+        """The border of a rectangle, inside it."""
+        x, y, w, h = rect
+        for row in (y, y + h - 1):
+            self.put(x, row, colour * w)
+        for row in range(y, y + h):
+            self.put(x, row, colour)
+            self.put(x + w - 1, row, colour)
+
+    def lay(self, other, x, y):
+        for place, row in enumerate(other.rows):
+            self.put(x, y + place, row)
+
+    def save(self, name):
+        with file(name):
+            name.parent.mkdir(parents=True, exist_ok=True)
+            name.write_bytes(png.write(self.w, self.h, b"".join(self.rows)))
+
+
+def strip(pictures):
+    """All pictures in one, in as many columns as fit."""
+    w, h = pictures[0].w + GAP, pictures[0].h + GAP
+    columns = max(1, min(len(pictures), (STRIP_WIDTH - GAP) // w))
+    rows = -(-len(pictures) // columns)
+    if (columns * w + GAP) * (rows * h + GAP) > MOST:
+        raise Wrong("the picture of %d frames would be too large" % len(pictures))
+    whole = Picture.ground(columns * w + GAP, rows * h + GAP)
+    for place, picture in enumerate(pictures):
+        whole.lay(picture, GAP + place % columns * w, GAP + place // columns * h)
+    return whole
+
+
+def bound(rects):
+    """The smallest rectangle round some that are not empty."""
+    x, y = min(r[0] for r in rects), min(r[1] for r in rects)
+    return x, y, max(r[0] + r[2] for r in rects) - x, max(r[1] + r[3] for r in rects) - y
+
+
+def stale(rects, buffers, size):
+    """What of the next buffer is painted again at each drawing: the whole display at a buffer's first use, and
+    then the rectangle round the damages since it was last painted."""
+    return [(0, 0, *size) if place < buffers else bound(rects[place - buffers + 1:place + 1])
+            for place in range(len(rects))]
