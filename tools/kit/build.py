@@ -29,7 +29,8 @@ class Scene:
             return Table(tomllib.loads(source))
         except ValueError as error:
             end = "line %d, the end" % (source.rstrip().count("\n") + 1)
-            raise Wrong("no TOML: " + str(error).replace("end of document", end)) from None
+            hint = "" if "{" not in source else " (a brace stays on one line, a list may go over several)"
+            raise Wrong("no TOML: " + str(error).replace("end of document", end) + hint) from None
         except RecursionError:
             raise Wrong("no TOML: nested too deeply") from None
 

@@ -66,7 +66,7 @@ class Story:
         e, message = self.log.entries[place], self.facts[place].message
         who, n = self.who(e.client), e.numbers
         if e.reply in ("accepted", "refused"):
-            return getattr(self, e.reply)(e, self.facts[place])
+            return self.refused(e, self.facts[place]) if e.reply == "refused" else self.accepted(e, place)
         return {
             "stored": lambda: "%s uploads %s" % (who, "resource %d, %d by %d" % (
                 message["id"], *message["size"]) if message else "a resource"),
@@ -104,8 +104,8 @@ class Story:
         what = REFUSED_WORDS.get(facts.message["kind"] if facts.message else "", "A message")
         return "%s of %s is refused: %s" % (what, self.who(e.client), why)
 
-    def accepted(self, e, facts):
-        new = e.numbers[1] == 1
+    def accepted(self, e, place_in_log):
+        facts, new = self.facts[place_in_log], e.numbers[1] == 1
         place = "on a new surface" if new else "as the %s on its surface" % ordinal(e.numbers[1])
         if facts.message:
             local = names.local_text(facts.message["local"])
@@ -113,7 +113,9 @@ class Story:
                 ordinal(e.numbers[1]), local)
             if facts.message["answers"]:
                 place += " for begin-frame %d" % facts.message["answers"]
-        end = "it becomes active at once" if own(e) in e.effects else "it waits" + self.waits(facts)
+        end = "it waits" + self.waits(facts)
+        if own(e) in e.effects:
+            end = "it becomes active at once" + self.why(place_in_log, (e.client, e.numbers[0]))
         return "%s submits frame %d %s, and %s" % (self.who(e.client), e.numbers[0], place, end)
 
     def waits(self, facts):
@@ -128,7 +130,7 @@ class Story:
     def why(self, place, number):
         """Why a submission became active at a place."""
         reason = self.facts[place].why.get(number)
-        if not reason:
+        if reason is None or reason == []:
             return ""
         if isinstance(reason, int):
             return ", since its deadline, begin-frame %d, has come" % reason
