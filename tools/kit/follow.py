@@ -35,7 +35,8 @@ class Follower:
         return names.sink_text(value)
 
     def surface(self, value):
-        return "%s/%s" % (self.sink(value[0]), names.local_text(value[1]))
+        name, local = self.sink(value[0]), names.local_text(value[1])
+        return "%s of %s" % (local, name) if " " in name else "%s/%s" % (name, local)
 
     def lost(self, client, number):
         """The surface that a client created as its number-th."""
