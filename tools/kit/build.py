@@ -1,8 +1,12 @@
 """A scene's text to message files and a schedule. FORM.md says what the text may say."""
 
 import re
-import tomllib
 from pathlib import Path
+
+try:
+    import tomllib
+except ModuleNotFoundError:
+    raise SystemExit("the tools need Python 3.11 or a later one") from None
 
 from . import colours, names, png, wire
 from .frame import Frames
