@@ -1,15 +1,14 @@
-"""Writes the files of a page of 1,280 by 720 pixels: `page.py FOLDER`.
+"""Writes the files of a page of 1,280 by 720 pixels: `page.py FOLDER [EVENTS]`.
 
 Client 1 is the page: a background, fifteen tiles of 256 by 240 pixels and a toolbar of eight coloured buttons, with two
 children that it embeds. Client 2 is a tab that moves a bar of 64 by 720 pixels each begin-frame, client 3 a caret of 2 by 20
-that blinks. The schedule has at most 256 events: the page's messages, then rounds of Begin, a frame of each child, Draw and Done.
+that blinks. The schedule has at most EVENTS events (256 if left out): the page's messages, then rounds of Begin, a frame of each child, Draw and Done.
 """
 
 import os
 import struct
 import sys
 
-EVENTS = 256
 WIDE, HIGH = 1280, 720
 SINKS = {1: (1, 1), 2: (2, 1), 3: (3, 1)}
 SIZES = {1: (WIDE, HIGH), 2: (1024, 640), 3: (64, 64)}
@@ -82,9 +81,9 @@ def write(folder, name, client, messages):
         file.write(head + b"".join(messages))
 
 
-def main(folder):
+def main(folder, events="256"):
     first = page()
-    rounds = (EVENTS - len(first)) // 5
+    rounds = (int(events) - len(first)) // 5
     write(folder, "page.viz", 1, first)
     write(folder, "tab.viz", 2, [tab(k) for k in range(1, rounds + 1)])
     write(folder, "caret.viz", 3, [caret(k) for k in range(1, rounds + 1)])
