@@ -1,10 +1,12 @@
 -- What a step of a machine answers and leaves, and what is asked of its world.
-use Rattle.std.specs.Prelude.{◌≡◌, ℕ, Bool, false, Option, Some, None}
+use Rattle.std.specs.Prelude.{◌≡◌, ℕ, Bool, false, Option, Some, None, length}
+use Rattle.vz_frame.specs.declared.message.Message.{Message}
+use Rattle.vz_frame.specs.declared.message.Message.TheVariants.{Submit}
 use Rattle.vz_rules.specs.declared.entry.Event.{Event}
 use Rattle.vz_rules.specs.declared.entry.Event.TheVariants as event
 use Rattle.vz_rules.specs.declared.entry.Reply.{Reply}
 use Rattle.vz_rules.specs.declared.entry.Reply.TheVariants.{Drawn}
-use Rattle.vz_rules.specs.World.{Machine, Client, Scene, client_at}
+use Rattle.vz_rules.specs.World.{Machine, Client, Scene, client_at, next_message}
 use Rattle.vz_rules.specs.Scene.{scene_of}
 use Rattle.vz_rules.specs.Paint.{picture}
 use Rattle.vz_rules.specs.Step.{step_in, is_attached, NamesClient}
@@ -57,3 +59,12 @@ answered_at m c = asked (client_at m.world c) (has_answered m.world)
 -- a client is attached
 abbrev pub attached_at : Machine → ℕ → Bool
 attached_at m c = asked (client_at m.world c) (is_attached m.plan m.world)
+
+-- how many resources a message's frame lists, 0 where it has none
+abbrev pub listed_in : Option Message → ℕ
+listed_in (Some (Submit local frame)) = length frame.resources
+listed_in _ = 0
+
+-- how many resources the next message of a client lists
+abbrev pub listed_at : Machine → ℕ → ℕ
+listed_at m c = elim (client_at m.world c) [ Some x ↦ listed_in (next_message m.plan x) | None ↦ 0 ]

@@ -5,7 +5,7 @@ ghost use Rattle.vz_rules.specs.declared.entry.Event.TheVariants.{Client, Begin,
 ghost use Rattle.vz_rules.specs.World.{Machine as State};
 ghost use Rattle.vz_rules.specs.Course.{some_waits};
 ghost use Rattle.vz_rules.specs.Log.{rest_in};
-ghost use Rattle.vz_machine.specs.Stepping.{Answers, Goes, HasClient, waits_at, idle_at, answered_at, attached_at, ShowsDrawn};
+ghost use Rattle.vz_machine.specs.Stepping.{Answers, Goes, HasClient, waits_at, idle_at, answered_at, attached_at, listed_at, ShowsDrawn};
 
 use crate::Picture;
 use std::alloc::Global;
@@ -82,6 +82,12 @@ pub trait Machine {
     fn attached(&self, c: u32) -> bool
         requires { HasClient (state self.now) c }
         ensures { result ≡ attached_at (state self.now) c };
+
+    /// How many resources the next message of a client lists, 0 where it has none or it is no
+    /// submission. Condition: the plan has that client.
+    fn listed(&self, c: u32) -> u64
+        requires { HasClient (state self.now) c }
+        ensures { result ≡ listed_at (state self.now) c };
 
     /// Whether some submission waits to become active.
     fn waiting(&self) -> bool

@@ -83,6 +83,10 @@ impl<'a> Machine for PlainMachine<'a> {
         self.slow.attached(c)
     }
 
+    fn listed(&self, c: u32) -> u64 {
+        self.slow.listed(c)
+    }
+
     fn waiting(&self) -> bool {
         self.slow.waiting()
     }

@@ -3,8 +3,10 @@ use Rattle.std.specs.Prelude.{◌≡◌, ◌≤◌, ℕ, Bool, false, Option, So
 use Rattle.std.specs.List.{Contains}
 use Rattle.vz_base.specs.declared.limits.TheConstants.{MOST_FILES}
 use Rattle.vz_ids.specs.declared.FrameSinkId.{FrameSinkId}
+use Rattle.vz_frame.specs.declared.message.Message.{Message}
+use Rattle.vz_frame.specs.declared.message.Message.TheVariants.{Submit}
 use Rattle.vz_rules.specs.Plan.{Plan, has_sink}
-use Rattle.vz_rules.specs.World.{Machine, World, Client, client_at, first_sink}
+use Rattle.vz_rules.specs.World.{Machine, World, Client, client_at, first_sink, next_message}
 use Rattle.vz_rules.specs.Messages.{reaches}
 use Rattle.vz_rules.specs.Step.{is_attached}
 use Rattle.vz_rules.specs.Course.{waits, is_idle, has_answered}
@@ -31,9 +33,24 @@ answered_at m c = tested (client_at m.world c) (has_answered m.world)
 abbrev pub attached_at : Machine → ℕ → Bool
 attached_at m c = tested (client_at m.world c) (is_attached m.plan m.world)
 
+-- how many resources a message's frame lists, 0 where it has none
+abbrev pub listed_in : Option Message → ℕ
+listed_in (Some (Submit local frame)) = length frame.resources
+listed_in _ = 0
+
+-- how many resources the next message of a client lists
+abbrev pub listed_at : Machine → ℕ → ℕ
+listed_at m c = elim (client_at m.world c) [ Some x ↦ listed_in (next_message m.plan x) | None ↦ 0 ]
+
 -- what is asked of a client
 abbrev pub asked_of : Plan → World → Client → Asked
-asked_of p w c = record { sink = c.sink; waits = waits p w c; is_idle = is_idle p w c; has_answered = has_answered w c }
+asked_of p w c = record {
+  sink = c.sink;
+  waits = waits p w c;
+  is_idle = is_idle p w c;
+  has_answered = has_answered w c;
+  listed = listed_in (next_message p c);
+}
 
 -- the first client's sink reaches a sink
 abbrev pub is_below : Plan → List (FrameSinkId × FrameSinkId) → FrameSinkId → Bool

@@ -1,11 +1,11 @@
 //! What is asked of the machine between steps. No answer takes memory.
 ghost use Rattle.std.specs.Prelude.{◌≡◌, ◌<◌, ◌||◌};
-ghost use Rattle.std.specs.Option.{option_map};
+ghost use Rattle.std.specs.Option.{option_map, option_copied};
 ghost use Rattle.vz_rules.specs.declared.entry.Event.TheVariants as event;
 ghost use Rattle.vz_rules.specs.World.{World as Placement, client_at, next_message, opening};
 ghost use Rattle.vz_rules.specs.Course.{waits, some_waits};
 ghost use Rattle.vz_rules.specs.Step.{NamesClient};
-ghost use Rattle.vz_slow.specs.Asked.{asked_of, waits_at, idle_at, answered_at, attached_at, is_below};
+ghost use Rattle.vz_slow.specs.Asked.{asked_of, waits_at, idle_at, answered_at, attached_at, listed_in, listed_at, is_below};
 
 use crate::attached::is_below;
 use crate::slow::{Slow, Stage};
@@ -27,6 +27,21 @@ pub(crate) struct Asked {
     is_idle: bool,
     /// Whether it has answered the tick.
     has_answered: bool,
+    /// How many resources its next message lists.
+    listed: u64,
+}
+
+/// How many resources the frame of a message lists, 0 where it has none.
+fn listed_in(message: Option<&Message>) -> u64
+    ensures { result ≡ listed_in (option_copied message.entry) }
+{
+    match message {
+        None => 0,
+        Some(message) => match message {
+            Message::Submit { local: _, frame } => frame.resources.as_slice().len() as u64,
+            _ => 0,
+        },
+    }
 }
 
 /// Whether a client's next answer would be NotYet, with the Over mark or without it.
@@ -53,6 +68,7 @@ fn asked_of(plan: &Plan, tick: u32, over: bool, client: &Client<'_>) -> Asked
         waits,
         is_idle: client.is_closed() || next_message(plan, client).is_none() || waits,
         has_answered: 0 < tick && client.answered() == tick,
+        listed: listed_in(next_message(plan, client)),
     }
 }
 
@@ -154,6 +170,18 @@ impl<'a> Slow<'a> {
         match self.asked(c) {
             None => false,
             Some(asked) => self.is_below(asked.sink),
+        }
+    }
+
+    /// How many resources the next message of a client lists, 0 where it has none or it is no
+    /// submission. Condition: the plan has that client.
+    pub fn listed(&self, c: u32) -> u64
+        requires { NamesClient self.now.plan (event.Client c) }
+        ensures { result ≡ listed_at self.now c }
+    {
+        match self.asked(c) {
+            None => 0,
+            Some(asked) => asked.listed,
         }
     }
 
