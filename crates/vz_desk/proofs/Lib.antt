@@ -1,0 +1,11 @@
+mod Booking
+mod Calling
+mod Calming
+mod Dealing
+mod Displaying
+mod Flying
+mod Gathering
+mod Owning
+mod Pausing
+mod Showing
+mod Telling

@@ -1,0 +1,11 @@
+use Rattle.std.proofs.Common.{arith}
+use Rattle.vz_rules.specs.declared.entry.Event.TheVariants as event
+use Rattle.vz_desk.proofs.Booking.{goes_on, keeps_on}
+use Rattle.vz_desk.proofs.book.Book.over.Goals as goal
+
+pub invariant_of-self-2 : goal.invariant_of-self-2
+invariant_of-self-2 g c = keeps_on (g.M.Machine.state c.self.inside.machine) (g.M.Machine.state c.over-step.new.self) _ _ c.args.self.now event.Over _ _ _ _ _ _ c.self.invariant c.self.view_is c.over-step.ensures.answer c.over-step.ensures.world c.entry_of.ensures c.in_ok-reserve.ensures.list c.put.ensures.list tt
+    (λ _. let a = c.in_ok-reserve.ensures.ok in let b = c.put.ensures.spare in omega arith)
+
+pub returns-clause-ok : goal.returns-clause-ok
+returns-clause-ok g c = goes_on (g.M.Machine.state c.self.inside.machine) (g.M.Machine.state c.over-step.new.self) _ c.args.self.now event.Over _ _ _ _ _ _ c.self.invariant c.self.view_is c.over-step.ensures.answer c.over-step.ensures.world c.entry_of.ensures c.in_ok-reserve.ensures.list c.put.ensures.list

@@ -1,0 +1,25 @@
+-- What a drawing on a desk says.
+use Rattle.std.specs.Prelude.{◌≡◌, ◌≢◌, false, Option, Some, None}
+use Rattle.vz_rules.specs.declared.entry.Event.TheVariants as event
+use Rattle.vz_rules.specs.declared.entry.Reply.TheVariants as reply
+use Rattle.vz_rules.specs.Step.{world}
+use Rattle.vz_machine.specs.Pictured.{Pictured}
+use Rattle.vz_machine.specs.Stepping.{ShowsDrawn}
+use Rattle.vz_desk.specs.declared.drawing.Drawing.{Drawing}
+use Rattle.vz_desk.specs.declared.drawing.Drawing.TheVariants.{Drawn, Other, Stopped}
+use Rattle.vz_desk.specs.Owners.{Owner, MakesNone}
+use Rattle.vz_desk.specs.Totals.{DisplayTotals, noted_plainly}
+use Rattle.vz_desk.specs.Displays.{Displays}
+
+-- a drawing made the entry: there is a picture exactly where something is drawn, of what is to be seen at that entry. It is not
+-- busy where no frame is in flight
+pub record Draws (old new : Owner DisplayTotals) (picture : Option Pictured) : Type 0 where
+  pub displays : Displays old new event.Draw
+  pub shows : ShowsDrawn (record { plan = displays.plan; world = world displays.plan displays.before }) displays.made.reply picture
+  pub free : old.totals.in_flight ≡ false → displays.made.reply ≢ reply.Busy
+
+-- a frame was drawn, and its token is of the desk; or an entry was made that draws none; or no entry was made
+abbrev pub IsDrawing : {M S P : Type 0} → (P → Pictured) → Owner DisplayTotals → Owner DisplayTotals → Drawing M S P → Type 0
+IsDrawing pictured old new (Drawn hold picture) = (hold ≡ old.desk) × Draws old new (Some (pictured picture))
+IsDrawing pictured old new (Other note) = (d : Draws old new None) × (note ≡ noted_plainly d.displays.before)
+IsDrawing pictured old new (Stopped why) = MakesNone old new

@@ -1,0 +1,9 @@
+pub mod Books
+pub mod Calm
+pub mod Flights
+pub mod Totals
+pub mod Owners
+pub mod Displays
+pub mod Drawings
+pub mod Answers
+pub mod Gathering

@@ -1,0 +1,193 @@
+//! What lies in a desk's lock.
+ghost use Rattle.std.specs.Prelude.{◌≡◌, ◌<◌, ◌≤◌, [], length, IfOk, OnOk, OnErr, IsTrue, is_some, Some, None, unwrap_or};
+ghost use Rattle.std.specs.Option.{option_map};
+ghost use Rattle.vz_base.specs.declared.limits.TheConstants.{MOST_FILES};
+ghost use Rattle.vz_rules.specs.declared.entry.Event.TheVariants as event;
+ghost use Rattle.vz_rules.specs.World.{opening};
+ghost use Rattle.vz_rules.specs.Step.{NamesClient, Legal};
+ghost use Rattle.vz_machine.specs.Stepping.{ShowsDrawn, waits_at, idle_at};
+ghost use Rattle.vz_desk.specs.Books.{booked_on, next_entry, machine_of};
+ghost use Rattle.vz_desk.specs.Totals.{TellsNext};
+
+use crate::Note;
+use crate::note::{is_in_time, note_of};
+use std::alloc::Global;
+use std::marker::Model;
+use vz_base::Memory;
+use vz_frame::Room;
+use vz_loans::Kept;
+use vz_machine::{Machine, Step};
+use vz_rules::{Entry, Event, Plan};
+
+mod shown;
+
+/// A machine with its history so far, and the reason of the first stop, if there was one.
+#[derive(Drop)]
+pub struct Book<M: Machine, S> {
+    machine: M,
+    clients: u32,
+    history: Room<Entry>,
+    reason: Option<S>,
+}
+
+impl<M: Machine, S> Model for Book<M, S> {
+    ghost use Rattle.vz_desk.specs.Books.{Booked, IsBooked};
+
+    ghost Value = { Booked S };
+
+    ghost view = { λ b. record {
+      plan = (M.state b.machine).plan;
+      history = b.history.list;
+      reason = b.reason;
+    } };
+
+    ghost invariant = { λ b. IsBooked (M.state b.machine) b.clients b.history.spare (record {
+      plan = (M.state b.machine).plan;
+      history = b.history.list;
+      reason = b.reason;
+    }) };
+}
+
+impl<M: Machine + Send, S: Send> Kept for Book<M, S> {
+    ghost use Rattle.vz_desk.specs.Books.{numbered};
+
+    type Plan = Plan;
+
+    type Entry = Entry;
+
+    ghost plan = { λ b. b.plan };
+
+    ghost entries = { λ b. numbered b.history };
+}
+
+impl<M: Machine, S: Copy> Book<M, S> {
+    /// A book before the first event. It takes no memory. Conditions: the machine stands at the
+    /// opening of its plan, which has so many files, at most `MOST_FILES`.
+    pub fn new(alloc: Global, machine: M, clients: u32) -> Book<M, S>
+        requires opening { (M.state machine).world ≡ opening (M.state machine).plan }
+        requires counted { clients ≡ length (M.state machine).plan.files }
+        requires files { length (M.state machine).plan.files ≤ MOST_FILES }
+        ensures plan { result.plan ≡ (M.state machine).plan }
+        ensures history { result.history ≡ [] }
+        ensures reason { result.reason ≡ None }
+    {
+        Book {
+            machine,
+            clients,
+            history: Room::new(alloc),
+            reason: None,
+        }
+    }
+
+    /// Takes the next message of a client, and puts its entry at the end of the history. It tells
+    /// what is noted of the entry, and whether it took a message. At want of memory nothing changes.
+    /// Condition: the plan has that client.
+    pub fn client(&mut self, alloc: Global, client: u32) -> Result<(Note, bool), Memory>
+        requires { NamesClient self.old.plan (event.Client client) }
+        ensures ok { OnOk result (self.new ≡ booked_on self.old (event.Client client)) }
+        ensures told { IfOk result (λ r. TellsNext self.old client r.0 r.1) }
+        ensures err { OnErr result (self.new ≡ self.old) }
+    {
+        self.history.reserve(2)?;
+        let listed = self.machine.listed(client);
+        let step = self.machine.client(alloc, client)?;
+        let entry = entry_of(Event::Client(client), step);
+        let in_time = is_in_time(&entry.reply);
+        let told = note_of(&entry, listed);
+        self.history.put(entry);
+        Ok((told.at(self.history.as_slice().len() as u64), in_time))
+    }
+
+    /// Whether a client's next answer would be that it comes too early. Condition: the plan has that
+    /// client.
+    pub fn waits(&self, client: u32) -> bool
+        requires { NamesClient self.now.plan (event.Client client) }
+        ensures { result ≡ waits_at (machine_of self.now) client }
+    {
+        self.machine.waits(client)
+    }
+
+    /// A begin-frame. At want of memory nothing changes.
+    pub fn begin(&mut self, alloc: Global) -> Result<(), Memory>
+        ensures ok { OnOk result (self.new ≡ booked_on self.old event.Begin) }
+        ensures err { OnErr result (self.new ≡ self.old) }
+    {
+        self.history.reserve(2)?;
+        let step = self.machine.begin(alloc)?;
+        self.history.put(entry_of(Event::Begin, step));
+        Ok(())
+    }
+
+    /// Draws. There is a picture exactly where the answer is Drawn. At want of memory nothing
+    /// changes.
+    pub fn draw(&mut self, alloc: Global) -> Result<Option<M::FrameData>, Memory>
+        ensures ok { OnOk result (self.new ≡ booked_on self.old event.Draw) }
+        ensures picture { IfOk result (λ p. ShowsDrawn (machine_of self.old)
+            (next_entry self.old event.Draw).reply (option_map M.FrameData.pictured p)) }
+        ensures err { OnErr result (self.new ≡ self.old) }
+    {
+        self.history.reserve(2)?;
+        let (step, picture) = self.machine.draw(alloc)?;
+        self.history.put(entry_of(Event::Draw, step));
+        Ok(picture)
+    }
+
+    /// Ends the drawn frame. It takes no memory. Condition: a frame is in flight.
+    pub fn done(&mut self)
+        requires { IsTrue (is_some (machine_of self.old).world.in_flight) }
+        ensures { self.new ≡ booked_on self.old event.Done }
+    {
+        let step = self.machine.done();
+        self.history.put(entry_of(Event::Done, step));
+    }
+
+    /// Tells that no begin-frame will be waited for from now on. At want of memory nothing changes.
+    pub fn over(&mut self) -> Result<(), Memory>
+        ensures ok { OnOk result (self.new ≡ booked_on self.old event.Over) }
+        ensures err { OnErr result (self.new ≡ self.old) }
+    {
+        self.history.reserve(2)?;
+        let step = self.machine.over();
+        self.history.put(entry_of(Event::Over, step));
+        Ok(())
+    }
+
+    /// Whether a client is closed, has no message left or waits. Condition: the plan has that
+    /// client.
+    pub fn idle(&self, client: u32) -> bool
+        requires { NamesClient self.now.plan (event.Client client) }
+        ensures value { result ≡ idle_at (machine_of self.now) client }
+        ensures legal { Legal self.now.plan self.now.history }
+    {
+        self.machine.idle(client)
+    }
+
+    /// The reason of the first stop, if there was one.
+    pub fn reason(&self) -> Option<S>
+        ensures value { result ≡ self.now.reason }
+        ensures legal { Legal self.now.plan self.now.history }
+    {
+        self.reason
+    }
+
+    /// Keeps a reason, where none is kept.
+    pub fn stop(&mut self, why: S)
+        ensures value { self.new ≡ record self.old { reason = Some (unwrap_or self.old.reason why) } }
+        ensures legal { Legal self.new.plan self.new.history }
+    {
+        if self.reason.is_none() {
+            self.reason = Some(why);
+        }
+    }
+}
+
+/// The entry of an event.
+fn entry_of(event: Event, step: Step) -> Entry
+    ensures { result ≡ record { event = event; reply = step.reply; effects = step.effects } }
+{
+    Entry {
+        event,
+        reply: step.reply,
+        effects: step.effects,
+    }
+}

@@ -1,0 +1,84 @@
+//! What the display asks of a book, and how it ends.
+ghost use Rattle.std.specs.Prelude.{◌≡◌, OnOk, OnErr, length, is_none};
+ghost use Rattle.vz_rules.specs.declared.entry.Event.TheVariants as event;
+ghost use Rattle.vz_rules.specs.Step.{NamesClient, Legal};
+ghost use Rattle.vz_desk.specs.Books.{booked_on, machine_of};
+ghost use Rattle.vz_rules.specs.Course.{is_calm};
+ghost use Rattle.vz_desk.specs.Calm.{restless_at};
+
+use super::{Book, entry_of};
+use crate::Gathered;
+use vz_base::Memory;
+use vz_machine::Machine;
+use vz_rules::Event;
+
+impl<M: Machine, S: Copy> Book<M, S> {
+    /// How many entries the history has.
+    pub fn places(&self) -> u64
+        ensures value { result ≡ length self.now.history }
+        ensures legal { Legal self.now.plan self.now.history }
+    {
+        self.history.as_slice().len() as u64
+    }
+
+    /// Ends the drawn frame, if there is one. At want of memory nothing changes.
+    pub fn empty_done(&mut self) -> Result<(), Memory>
+        ensures ok { OnOk result (self.new ≡ booked_on self.old event.Done) }
+        ensures err { OnErr result (self.new ≡ self.old) }
+    {
+        self.history.reserve(2)?;
+        let step = self.machine.done();
+        self.history.put(entry_of(Event::Done, step));
+        Ok(())
+    }
+
+    /// Whether a pause has to wait for a client: it is attached, is not idle, and has not answered
+    /// the tick. Condition: the plan has that client.
+    pub fn is_restless(&self, client: u32) -> bool
+        requires { NamesClient self.now.plan (event.Client client) }
+        ensures { result ≡ restless_at (machine_of self.now) client }
+    {
+        self.machine.attached(client)
+            && !self.machine.idle(client)
+            && !self.machine.answered(client)
+    }
+
+    // The first client for which a pause has to wait.
+    fn first_restless(&self) -> Option<u32>
+        ensures { is_none result ≡ is_calm self.now.plan (machine_of self.now).world }
+    {
+        for before in 0..self.clients {
+            if self.is_restless(before + 1) {
+                return Some(before + 1);
+            }
+        }
+        None
+    }
+
+    /// A client for which a pause has to wait: the one of this number, if it is such a client, so
+    /// that the others need not be asked again. There is none exactly where each attached client is
+    /// idle or has answered the tick.
+    pub fn restless(&self, last: u32) -> Option<u32>
+        ensures { is_none result ≡ is_calm self.now.plan (machine_of self.now).world }
+    {
+        if 0 < last && last <= self.clients && self.is_restless(last) {
+            return Some(last);
+        }
+        self.first_restless()
+    }
+
+    /// The machine and the history. It takes no memory.
+    pub fn into_gathered(self) -> Gathered<M>
+        ensures machine { M.state result.machine ≡ machine_of self }
+        ensures history { result.history.list ≡ self.history }
+        ensures legal { Legal self.plan self.history }
+    {
+        let Book {
+            machine,
+            clients: _,
+            history,
+            reason: _,
+        } = self;
+        Gathered { machine, history }
+    }
+}

@@ -1,0 +1,148 @@
+//! A desk.
+ghost use Rattle.std.specs.Prelude.{◌≡◌, true, false, IfOk, OnErr, IsSome, IfSome};
+ghost use Rattle.vz_desk.specs.Owners.{IsSameOwner, MakesNone};
+ghost use Rattle.vz_desk.specs.Answers.{Answered, Tried, Waited, TellsIdle};
+
+use crate::{Answer, Bell, Book, End};
+use std::marker::Model;
+use std::sync::Wait;
+use vz_base::Memory;
+use vz_loans::Lock;
+use vz_machine::Machine;
+
+/// A machine that threads drive in turns. Beside the lock is a bell, which rings at each entry and
+/// at each stop.
+pub struct Desk<M: Machine + Send, S: Copy + Send + Sync> {
+    pub(crate) lock: Lock<Book<M, S>>,
+    pub(crate) bell: Bell,
+}
+
+impl<M: Machine + Send, S: Copy + Send + Sync> Model for Desk<M, S> {
+    ghost use Rattle.std.specs.Prelude.{◌≤◌};
+    ghost use Rattle.vz_loans.specs.declared.kept.TheConstants.{MOST_CALLERS};
+    ghost use Rattle.vz_loans.specs.Tokens.{Turnstile};
+
+    ghost Value = { Turnstile };
+
+    ghost view = { λ d. d.lock };
+
+    ghost invariant = { λ d. d.lock.callers ≤ MOST_CALLERS };
+}
+
+impl<M: Machine + Send, S: Copy + Send + Sync> Desk<M, S>
+where
+    M::FrameData: Send,
+{
+    /// Keeps a reason, where none is kept, and rings the bell. It makes no entry. Condition: the end
+    /// is of this desk.
+    pub fn stop<R: Wait>(&self, rt: &R, by: &mut End<M, S>, why: S)
+        requires { by.old.desk ≡ self.now.id }
+        ensures same { IsSameOwner by.old by.new }
+        ensures none { MakesNone by.old by.new }
+    {
+        let mut book = self.lock.enter(rt, &mut by.token);
+        book.stop(why);
+        self.lock.leave(&mut by.token, book);
+        self.bell.ring(rt);
+    }
+
+    /// Makes one entry of a client: the answer to its next message, which may be that it comes too
+    /// early. It does not wait for the message's time. Stopped is answered only where a stop gave the
+    /// desk a reason, and then there is no entry. At want of memory there is none either. Condition:
+    /// the end is of this desk.
+    pub fn try_client<R: Wait + AllocGlobal>(
+        &self,
+        rt: &R,
+        end: &mut End<M, S>,
+    ) -> Result<Answer<S>, Memory>
+        requires { end.old.desk ≡ self.now.id }
+        ensures same { IsSameOwner end.old end.new }
+        ensures did { IfOk result (λ a. Answered end.old end.new a) }
+        ensures err { OnErr result (MakesNone end.old end.new) }
+    {
+        match self.take(rt, end, false) {
+            Ok(Some(answer)) => Ok(answer),
+            Ok(None) => unreachable!(),
+            Err(memory) => Err(memory),
+        }
+    }
+
+    /// Waits while the answer to a client's next message would be that it comes too early, and then
+    /// makes one entry: the answer to that message. It waits until the message's time has come or
+    /// the desk is stopped. Stopped is answered only where a stop gave the desk a reason, and then
+    /// there is no entry. At want of memory there is none either. Condition: the end is of this desk.
+    pub fn client<R: Wait + AllocGlobal>(
+        &self,
+        rt: &R,
+        end: &mut End<M, S>,
+    ) -> Result<Answer<S>, Memory>
+        requires { end.old.desk ≡ self.now.id }
+        ensures same { IsSameOwner end.old end.new }
+        ensures did { IfOk result (λ a. Answered end.old end.new a) }
+        ensures waited { IfOk result (λ a. Waited end.new a) }
+        ensures err { OnErr result (MakesNone end.old end.new) }
+    {
+        for _ in rt.forever() {
+            let heard = self.bell.rings(rt);
+            if let Some(answer) = self.take(rt, end, true)? {
+                return Ok(answer);
+            }
+            self.bell.wait_beyond(rt, heard);
+        }
+        unreachable!()
+    }
+
+    /// Makes one entry of a client, unless the desk was stopped. Where the client is patient and its
+    /// message would come too early, it makes none and there is no answer.
+    fn take<R: Wait + AllocGlobal>(
+        &self,
+        rt: &R,
+        end: &mut End<M, S>,
+        patient: bool,
+    ) -> Result<Option<Answer<S>>, Memory>
+        requires { end.old.desk ≡ self.now.id }
+        ensures same { IsSameOwner end.old end.new }
+        ensures tried { IfOk result (λ o. Tried end.old end.new o) }
+        ensures some { patient ≡ false → IfOk result (λ o. IsSome o) }
+        ensures waited { patient ≡ true → IfOk result (λ o. IfSome o (λ a. Waited end.new a)) }
+        ensures err { OnErr result (MakesNone end.old end.new) }
+    {
+        let mut book = self.lock.enter(rt, &mut end.token);
+        if let Some(why) = book.reason() {
+            self.lock.leave(&mut end.token, book);
+            return Ok(Some(Answer::Stopped(why)));
+        }
+        let client = end.token.number();
+        let waits = book.waits(client);
+        if patient & waits {
+            self.lock.leave(&mut end.token, book);
+            return Ok(None);
+        }
+        match book.client(rt.alloc(), client) {
+            Ok((note, in_time)) => {
+                self.lock.leave(&mut end.token, book);
+                end.totals = end.totals.with(&note, in_time);
+                self.bell.ring(rt);
+                Ok(Some(Answer::Did(note)))
+            }
+            Err(memory) => {
+                self.lock.leave(&mut end.token, book);
+                Err(memory)
+            }
+        }
+    }
+
+    /// Whether the end's client is closed, has no message left or waits, in the world behind what
+    /// the end has seen afterwards. It makes no entry. Condition: the end is of this desk.
+    pub fn idle<R: Wait>(&self, rt: &R, end: &mut End<M, S>) -> bool
+        requires { end.old.desk ≡ self.now.id }
+        ensures same { IsSameOwner end.old end.new }
+        ensures none { MakesNone end.old end.new }
+        ensures value { TellsIdle end.new result }
+    {
+        let book = self.lock.enter(rt, &mut end.token);
+        let idle = book.idle(end.token.number());
+        self.lock.leave(&mut end.token, book);
+        idle
+    }
+}

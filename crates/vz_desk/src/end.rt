@@ -1,0 +1,80 @@
+//! What a client's thread owns of a desk.
+ghost use Rattle.std.specs.Prelude.{◌≡◌};
+
+use crate::{Book, Totals};
+use std::marker::Model;
+use vz_loans::Token;
+use vz_machine::Machine;
+
+/// A client's end of a desk. It tells the plan, the history up to the client's last turn, and what
+/// the client's entries in it amount to.
+#[derive(Drop)]
+pub struct End<M: Machine + Send, S: Copy + Send + Sync> {
+    pub(crate) token: Token<Book<M, S>>,
+    pub(crate) totals: Totals,
+}
+
+impl<M: Machine + Send, S: Copy + Send + Sync> Model for End<M, S> {
+    ghost use Rattle.vz_desk.specs.declared.totals.Totals.{Totals};
+    ghost use Rattle.vz_desk.specs.Owners.{Owner, owner_of, IsEnd};
+
+    ghost Value = { Owner Totals };
+
+    ghost view = { λ e. owner_of e.token e.totals };
+
+    ghost invariant = { λ e. IsEnd e.token e.totals };
+}
+
+impl<M: Machine + Send, S: Copy + Send + Sync> End<M, S>
+where
+    M::FrameData: Send,
+{
+    /// The number of the client, from 1 on.
+    pub fn client(&self) -> u32
+        ensures { result ≡ self.now.number }
+    {
+        self.token.number()
+    }
+
+    /// How many entries the client made.
+    pub fn calls(&self) -> u64
+        ensures { result ≡ self.now.totals.calls }
+    {
+        self.totals.calls
+    }
+
+    /// How many messages it took.
+    pub fn taken(&self) -> u64
+        ensures { result ≡ self.now.totals.taken }
+    {
+        self.totals.taken
+    }
+
+    /// How many of its submissions were accepted.
+    pub fn accepted(&self) -> u64
+        ensures { result ≡ self.now.totals.accepted }
+    {
+        self.totals.accepted
+    }
+
+    /// How many of its calls were refused.
+    pub fn refused(&self) -> u64
+        ensures { result ≡ self.now.totals.refused }
+    {
+        self.totals.refused
+    }
+
+    /// How many references its accepted submissions lent, up to 2^64 - 1.
+    pub fn lent(&self) -> u64
+        ensures { result ≡ self.now.totals.lent }
+    {
+        self.totals.lent
+    }
+
+    /// How many references were handed back to it, up to 2^64 - 1.
+    pub fn back(&self) -> u64
+        ensures { result ≡ self.now.totals.back }
+    {
+        self.totals.back
+    }
+}

@@ -1,0 +1,34 @@
+//! A desk: threads take the events of one machine in turns, and what each of them has seen is a
+//! front part of one legal history.
+#![tactic(auto)]
+
+mod answer;
+mod bell;
+mod book;
+mod desk;
+mod display;
+mod display_end;
+mod drawing;
+mod end;
+mod ending;
+mod gathered;
+mod hold;
+pub mod laws;
+mod note;
+mod opening;
+mod pause;
+mod show;
+#[cfg(test)]
+mod tests;
+mod totals;
+
+pub use answer::{Answer, Note};
+pub use bell::Bell;
+pub use book::Book;
+pub use desk::Desk;
+pub use display_end::DisplayEnd;
+pub use drawing::Drawing;
+pub use end::End;
+pub use gathered::Gathered;
+pub use hold::Hold;
+pub use totals::Totals;
