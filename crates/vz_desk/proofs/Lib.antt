@@ -2,10 +2,10 @@ mod Booking
 mod Calling
 mod Calming
 mod Dealing
-mod Displaying
+pub mod Displaying
 mod Flying
 mod Gathering
-mod Owning
+pub mod Owning
 mod Pausing
 mod Showing
 mod Telling

@@ -42,6 +42,14 @@ pub record IsEnd (t : Caller Plan Entry) (totals : Totals) : Type 0 where
   pub client : (0 < t.number) × (t.number ≤ length plan.files)
   pub counted : AreTotals plan history t.number totals
 
+-- what an end of a client stands for: a legal history of its plan, which has that client, and the totals of the client's entries in it
+pub record Stands (o : Owner Totals) : Type 0 where
+  pub plan : Plan
+  pub history : List Entry
+  pub sees : HasSeen o plan history
+  pub client : (0 < o.number) × (o.number ≤ length plan.files)
+  pub counted : AreTotals plan history o.number o.totals
+
 -- the display's end: its token has the number 0 and is at rest, and its totals are those of the display's entries
 pub record IsDisplayEnd (t : Caller Plan Entry) (totals : DisplayTotals) : Type 0 where
   pub rests : t.inside ≡ false

@@ -57,7 +57,7 @@ where
     ) -> Result<Answer<S>, Memory>
         requires { end.old.desk ≡ self.now.id }
         ensures same { IsSameOwner end.old end.new }
-        ensures did { IfOk result (λ a. Answered end.old end.new a) }
+        ensures ok { IfOk result (λ a. Answered end.old end.new a) }
         ensures err { OnErr result (MakesNone end.old end.new) }
     {
         match self.take(rt, end, false) {
@@ -78,7 +78,7 @@ where
     ) -> Result<Answer<S>, Memory>
         requires { end.old.desk ≡ self.now.id }
         ensures same { IsSameOwner end.old end.new }
-        ensures did { IfOk result (λ a. Answered end.old end.new a) }
+        ensures ok { IfOk result (λ a. Answered end.old end.new a) }
         ensures waited { IfOk result (λ a. Waited end.new a) }
         ensures err { OnErr result (MakesNone end.old end.new) }
     {

@@ -1,5 +1,6 @@
 //! What a client's thread owns of a desk.
 ghost use Rattle.std.specs.Prelude.{◌≡◌};
+ghost use Rattle.vz_desk.specs.Owners.{Stands};
 
 use crate::{Book, Totals};
 use std::marker::Model;
@@ -31,7 +32,8 @@ where
 {
     /// The number of the client, from 1 on.
     pub fn client(&self) -> u32
-        ensures { result ≡ self.now.number }
+        ensures number { result ≡ self.now.number }
+        ensures stands { Stands self.now }
     {
         self.token.number()
     }
