@@ -1,5 +1,5 @@
 //! Why a text is not read.
-ghost use Rattle.std.specs.Prelude.{◌≡◌};
+ghost use Rattle.std.specs.Prelude.{◌≡◌, Some};
 ghost use Rattle.vz_journal.specs.declared.stop.Stop.TheVariants.{Memory};
 
 use std::alloc::{AllocError, AllocFailed};
@@ -16,10 +16,14 @@ pub enum LogError {
 }
 
 impl fmt::Display for LogError {
+    ghost use Rattle.vz_journal.specs.Messages.{error_text};
+
+    ghost output = { λ error. Some (error_text error) };
+
     fn fmt<W: fmt::Write>(&self, f: &mut fmt::Formatter<W>) -> fmt::Result {
         match self {
             LogError::Refused { line } => write!(f, "line {line} of the log is refused"),
-            LogError::Memory => vz_base::Memory.fmt(f),
+            LogError::Memory => f.write_str("out of memory"),
         }
     }
 }
