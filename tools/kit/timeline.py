@@ -4,9 +4,10 @@ a bar for each submission."""
 from xml.sax.saxutils import escape, quoteattr
 
 STEP, LANE, LEFT, TOP = 28, 16, 110, 34
-FILL = {"wait": "#f4d58d", "active": "#8fb8de"}
+FILL = {"wait": "#f4d58d", "active": "#8fb8de", "idle": "#e4e4e4"}
 MARKS = [("wait", "accepted, waits"), ("active", "active"), ("p", "presented"), ("d", "dropped"),
-         ("<", "resources go back"), ("!", "message refused"), ("x", "surface destroyed")]
+         ("<", "resources go back"), ("!", "message refused"), ("x", "surface destroyed"),
+         ("idle", "nothing drawn or ended")]
 SAID = {"stored": "load", "noted": "none", "reclaimed": "back", "rooted": "root", "joined": "join",
         "began": "await", "over": "over", "left": "close"}
 
@@ -123,9 +124,9 @@ def columns(out, entries, story, bottom):
         x, title = LEFT + column * STEP, "%d. %s" % (column + 1, story.reply(column))
         if e.event != "c":
             idle = e.event in ("draw", "done") and e.reply not in ("drawn", "shown")
-            out.box(x + 1, TOP - 6, STEP - 2, bottom - TOP, "#f5f5f5" if idle else tints[e.event],
+            out.box(x + 1, TOP - 6, STEP - 2, bottom - TOP, "#f0f0f0" if idle else tints[e.event],
                     title)
-            out.text(x + STEP / 2, TOP + 6, e.event, 9, "middle", "#aaaaaa" if idle else "#222222")
+            out.text(x + STEP / 2, TOP + 6, e.event, 9, "middle", "#888888" if idle else "#222222")
             if e.event == "begin":
                 out.text(x + STEP / 2, TOP + 17, str(e.numbers[0]), 9, "middle")
         if (column + 1) % 5 == 0 or column == 0:
