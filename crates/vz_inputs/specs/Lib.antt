@@ -1,3 +1,4 @@
 pub mod Read
 pub mod Refusals
 pub mod Schedule
+pub mod Messages

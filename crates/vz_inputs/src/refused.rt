@@ -1,5 +1,5 @@
 //! Why an input is refused.
-ghost use Rattle.std.specs.Prelude.{◌≡◌};
+ghost use Rattle.std.specs.Prelude.{◌≡◌, Some};
 ghost use Rattle.vz_inputs.specs.declared.refused.InputError.TheVariants as input_error;
 
 use std::alloc::AllocFailed;
@@ -56,6 +56,10 @@ impl<T: Drop> From<AllocFailed<T>> for InputError {
 }
 
 impl fmt::Display for Reason {
+    ghost use Rattle.vz_inputs.specs.Messages.{reason_told};
+
+    ghost output = { λ reason. Some (reason_told reason) };
+
     fn fmt<W: fmt::Write>(&self, f: &mut fmt::Formatter<W>) -> fmt::Result {
         match self {
             Reason::Rule(rule) => write!(f, "{rule}"),
@@ -66,12 +70,20 @@ impl fmt::Display for Reason {
 }
 
 impl fmt::Display for Refused {
+    ghost use Rattle.vz_inputs.specs.Messages.{refusal_told};
+
+    ghost output = { λ refused. Some (refusal_told refused) };
+
     fn fmt<W: fmt::Write>(&self, f: &mut fmt::Formatter<W>) -> fmt::Result {
         write!(f, "file {} at {}: {}", self.file, self.at, self.reason)
     }
 }
 
 impl fmt::Display for InputError {
+    ghost use Rattle.vz_inputs.specs.Messages.{error_told};
+
+    ghost output = { λ error. Some (error_told error) };
+
     fn fmt<W: fmt::Write>(&self, f: &mut fmt::Formatter<W>) -> fmt::Result {
         match self {
             InputError::Refused(refused) => write!(f, "{refused}"),
