@@ -1,0 +1,96 @@
+-- References that a client lent, and what goes back of them.
+use Rattle.std.specs.Prelude.{ℕ, ◌+◌, ◌-◌, Bool, true, not, ◌&&◌, ◌||◌, ◌==◌, nat_lt, Option, Some, None, List, [], ◌∷◌, ◌++◌}
+use Rattle.std.specs.Prelude.{map, filter, find, option_to_list, if◌then◌else◌}
+use Rattle.std.specs.List.{list_any, list_all}
+use Rattle.vz_rules.specs.declared.entry.Returned.{Returned}
+
+-- a resource: the references received since it last went back, and those that are alive
+pub record Counted : Type 0 where
+  pub id : ℕ
+  pub received : ℕ
+  pub alive : ℕ
+
+-- what a client lent: the resources of which some reference is alive, by rising id, and the returns in the queue
+pub record Holding : Type 0 where
+  pub client : ℕ
+  pub counted : List Counted
+  pub queue : List Returned
+
+-- it, with the room made before
+pub record Held : Type 0 where
+  pub holding : Holding
+  pub spare : ℕ
+
+-- counts of resources, with the room made before
+pub record Counting : Type 0 where
+  pub list : List Counted
+  pub spare : ℕ
+
+-- the most references of a resource that are counted
+abbrev pub MOST_REFERENCES : ℕ
+MOST_REFERENCES = 4294967295
+
+-- the counts of a resource, if some reference is alive
+abbrev pub counted_at : ℕ → List Counted → Option Counted
+counted_at id list = find (λ c. c.id == id) list
+
+-- the references of a resource that were received since it last went back
+unfoldable pub received_of : ℕ → List Counted → ℕ
+received_of id list = elim (counted_at id list) [ Some c ↦ c.received | None ↦ 0 ]
+
+-- the references of a resource that are alive
+unfoldable pub alive_of : ℕ → List Counted → ℕ
+alive_of id list = elim (counted_at id list) [ Some c ↦ c.alive | None ↦ 0 ]
+
+-- the ids rise
+unfoldable pub is_rising : List Counted → Bool
+is_rising [] = true
+is_rising (c ∷ list) = list_all (λ x. nat_lt c.id x.id) list && is_rising list
+
+-- counts in their place by id, instead of others of the id
+unfoldable pub put_in : Counted → List Counted → List Counted
+put_in c [] = c ∷ []
+put_in c (x ∷ list) =
+    if c.id == x.id then c ∷ list
+    else (if nat_lt c.id x.id then c ∷ x ∷ list else x ∷ put_in c list)
+
+-- all but a resource
+unfoldable pub without : ℕ → List Counted → List Counted
+without id list = filter (λ c. not (c.id == id)) list
+
+-- one more reference of a resource is received and alive
+abbrev pub lent : ℕ → Holding → Holding
+lent id h = record h { counted = put_in (record { id = id; received = received_of id h.counted + 1; alive = alive_of id h.counted + 1 }) h.counted }
+
+-- one more is alive
+abbrev pub shared : ℕ → Holding → Holding
+shared id h = record h { counted = put_in (record { id = id; received = received_of id h.counted; alive = alive_of id h.counted + 1 }) h.counted }
+
+-- one is alive, and no other
+abbrev pub is_last : ℕ → Holding → Bool
+is_last id h = alive_of id h.counted == 1
+
+-- what goes back where a reference is released: all that were received, where it was the last
+abbrev pub return_at : ℕ → Holding → Option Returned
+return_at id h = if is_last id h then Some (record { client = h.client; id = id; count = received_of id h.counted }) else None
+
+-- one fewer is alive; what goes back stands at the end of the queue
+abbrev pub released : ℕ → Holding → Holding
+released id h =
+    record h {
+      counted = if is_last id h then without id h.counted
+          else put_in (record { id = id; received = received_of id h.counted; alive = alive_of id h.counted - 1 }) h.counted;
+      queue = h.queue ++ option_to_list (return_at id h);
+    }
+
+-- the queue is handed over
+abbrev pub taken : Holding → Holding
+taken h = record h { queue = [] }
+
+-- some reference of a resource was lent and not handed over: one is alive, or a return of it stands in the queue
+abbrev pub in_use : ℕ → Holding → Bool
+in_use id h = nat_lt 0 (alive_of id h.counted) || list_any (λ r. r.id == id) h.queue
+
+-- each resource of which some reference is alive, by rising id, with all that were received
+unfoldable pub held : Holding → List Returned
+held h = map (λ c. record { client = h.client; id = c.id; count = c.received }) h.counted

@@ -1,0 +1,109 @@
+//! How many references of each resource were received and are alive.
+ghost use Rattle.std.specs.Prelude.{◌≡◌, ◌≤◌, ◌<◌, ◌+◌, [], length, IsOk, OnOk, OnErr};
+ghost use Rattle.vz_returns.specs.Holding.{received_of, alive_of, put_in, without};
+ghost use Rattle.vz_returns.specs.Ordered.{counted_of};
+
+use indexmap::IndexMap;
+use std::alloc::Global;
+use std::marker::Model;
+use vz_base::Memory;
+
+/// The references of a resource: those received since it last went back, and those alive.
+#[derive(Clone, Copy)]
+pub(crate) struct Counts {
+    pub(crate) received: u32,
+    pub(crate) alive: u32,
+}
+
+/// Counts of resources. Contracts see them by rising ids and, beside them, the room that was
+/// made before.
+#[derive(Drop)]
+pub(crate) struct Table {
+    counts: IndexMap<u32, Counts>,
+}
+
+impl Model for Table {
+    ghost use Rattle.vz_returns.specs.Holding.{Counting};
+    ghost use Rattle.vz_returns.specs.Ordered.{in_order};
+    ghost use Rattle.indexmap.specs.IndexMap.{spare as spare_of};
+
+    ghost Value = { Counting };
+
+    ghost view = { λ a. record { list = in_order a.counts.entries; spare = spare_of a.counts } };
+}
+
+impl Table {
+    pub(crate) fn new(alloc: Global) -> Table
+        ensures { result.list ≡ [] }
+    {
+        Table {
+            counts: IndexMap::new(alloc),
+        }
+    }
+
+    /// Makes room for at least so many more.
+    pub(crate) fn reserve(&mut self, n: usize) -> Result<(), Memory>
+        ensures list { self.new.list ≡ self.old.list }
+        ensures ok { OnOk result (n ≤ self.new.spare) }
+        ensures succeeds { n ≤ self.old.spare → IsOk result }
+        ensures spare { self.old.spare ≤ self.new.spare }
+    {
+        self.counts.reserve(n)?;
+        Ok(())
+    }
+
+    /// How many resources have counts.
+    pub(crate) fn len(&self) -> usize
+        ensures { result ≡ length self.now.list }
+    {
+        self.counts.len()
+    }
+
+    /// The counts of a resource, and 0 of both where it has none.
+    pub(crate) fn get(&self, id: u32) -> Counts
+        ensures received { result.received ≡ received_of id self.now.list }
+        ensures alive { result.alive ≡ alive_of id self.now.list }
+    {
+        match self.counts.get(&id) {
+            Some(counts) => *counts,
+            None => Counts {
+                received: 0,
+                alive: 0,
+            },
+        }
+    }
+
+    /// Gives a resource counts. Where there is room for one, it answers Ok.
+    pub(crate) fn put(&mut self, id: u32, counts: Counts) -> Result<(), Memory>
+        ensures list { OnOk result (self.new.list ≡ put_in (counted_of id counts) self.old.list) }
+        ensures err { OnErr result (self.new.list ≡ self.old.list) }
+        ensures len { length self.new.list ≤ length self.old.list + 1 }
+        ensures succeeds { 0 < self.old.spare → IsOk result }
+        ensures spare { self.old.spare ≤ self.new.spare + 1 }
+    {
+        self.counts.insert(id, counts)?;
+        Ok(())
+    }
+
+    /// Gives a resource other counts. Condition: some reference of it is alive.
+    pub(crate) fn set(&mut self, id: u32, counts: Counts)
+        requires { 0 < alive_of id self.old.list }
+        ensures list { self.new.list ≡ put_in (counted_of id counts) self.old.list }
+        ensures len { length self.new.list ≡ length self.old.list }
+        ensures spare { self.old.spare ≤ self.new.spare }
+    {
+        if let Some(place) = self.counts.get_mut(&id) {
+            *place = counts;
+        }
+    }
+
+    /// A resource has no counts any more.
+    pub(crate) fn remove(&mut self, id: u32)
+        ensures list { self.new.list ≡ without id self.old.list }
+        ensures len { 0 < alive_of id self.old.list
+            → length self.new.list + 1 ≡ length self.old.list }
+        ensures spare { self.old.spare ≤ self.new.spare }
+    {
+        self.counts.swap_remove(&id);
+    }
+}
