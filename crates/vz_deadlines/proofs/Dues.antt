@@ -8,7 +8,7 @@ use Rattle.vz_ids.specs.Ids.{same_sub}
 use Rattle.vz_rules.specs.World.{World, Submission, is_waiting, sub_of, has_sub}
 use Rattle.vz_rules.specs.Settle.{has_come, is_ready, ready, is_met}
 use Rattle.vz_deadlines.specs.declared.deadlines.Due.{Due}
-use Rattle.vz_deadlines.specs.Timing.{due_at, left_at, due_of, waiting_in}
+use Rattle.vz_deadlines.specs.Timing.{waits, without, due_at, left_at, due_of, waiting_in}
 
 -- first those, then these
 due_append : (tick : ℕ) (xs ys : List Due) → due_at tick (xs ++ ys) ≡ due_at tick xs ++ due_at tick ys
@@ -198,3 +198,13 @@ ready_subs w n (s ∷ subs) e =
 pub ready_at : (w : World) (n : ℕ) → ready w ≡ [] → map sub_of (ready (record w { tick = n })) ≡ due_at n (waiting_in w)
 unfolding ready
 ready_at w n e = ready_subs w n w.subs e ∙ sym (due_in w n)
+
+-- one that is taken out waits no longer
+pub cleared_waits : (s : Sub) (list : List Due) → waits (without s list) s ≡ false
+unfolding waits without
+cleared_waits s [] = refl
+cleared_waits s (d ∷ list) =
+    elim (same_sub d.sub s) as (λ (t : Bool). same_sub d.sub s ≡ t → waits (cond (not t) (d ∷ without s list) (without s list)) s ≡ false) [
+      | true ↦ λ e. cleared_waits s list
+      | false ↦ λ e. ap (λ b. b || waits (without s list) s) e ∙ cleared_waits s list
+    ] refl

@@ -78,9 +78,11 @@ impl Deadlines {
         Ok(())
     }
 
-    /// A submission waits no longer. Nothing changes where it does not wait.
+    /// A submission waits no longer. Nothing else changes, and nothing at all where it does
+    /// not wait.
     pub fn clear(&mut self, s: Sub)
         ensures list { self.new.list ≡ without s self.old.list }
+        ensures gone { IsFalse (waits self.new.list s) }
         ensures spare { self.old.spare ≤ self.new.spare }
     {
         self.list.retain(|d| !is_of(d, &s));

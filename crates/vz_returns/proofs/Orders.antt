@@ -1,5 +1,5 @@
 -- Lists by rising ids: what is found in them, and that two in which the same is found are one.
-use Rattle.std.proofs.Common.{◌≡◌, ℕ, ◌+◌, Bool, true, false, not, ◌==◌, ◌&&◌, ◌<◌, ◌≤◌, ◌-◌, min, Option, Some, None, IsSome, is_some, List, [], ◌∷◌, filter, find, length, nat_lt, nat_eq, refl, ap, sym, subst, inl, inr, ◌∙◌, arith, cond}
+use Rattle.std.proofs.Common.{◌≡◌, ℕ, ◌+◌, Bool, true, false, not, ◌==◌, ◌&&◌, ◌<◌, ◌≤◌, ◌-◌, min, Option, Some, None, is_some, List, [], ◌∷◌, length, nat_lt, nat_eq, refl, ap, sym, subst, inl, inr, ◌∙◌, arith, cond}
 use Rattle.std.specs.List.{list_all, AllByRecursion, IsDistinct}
 use Rattle.std.specs.Map.{lookup, keys_of}
 use Rattle.std.specs.Option.{option_map}

@@ -1,5 +1,5 @@
 -- References that a client lent, and what goes back of them.
-use Rattle.std.specs.Prelude.{ℕ, ◌+◌, ◌-◌, Bool, true, not, ◌&&◌, ◌||◌, ◌==◌, nat_lt, Option, Some, None, List, [], ◌∷◌, ◌++◌}
+use Rattle.std.specs.Prelude.{ℕ, ◌+◌, ◌-◌, Bool, true, not, ◌&&◌, ◌||◌, ◌==◌, nat_lt, nat_le, Option, Some, None, List, [], ◌∷◌, ◌++◌}
 use Rattle.std.specs.Prelude.{map, filter, find, option_to_list, if◌then◌else◌}
 use Rattle.std.specs.List.{list_any, list_all}
 use Rattle.vz_rules.specs.declared.entry.Returned.{Returned}
@@ -58,6 +58,25 @@ put_in c (x ∷ list) =
 unfoldable pub without : ℕ → List Counted → List Counted
 without id list = filter (λ c. not (c.id == id)) list
 
+-- the counts of the ids from one on
+unfoldable pub from_on : ℕ → List Counted → List Counted
+from_on n list = filter (λ c. nat_le n c.id) list
+
+-- the least id from one on, with the references received
+unfoldable pub first_from : ℕ → List Counted → Option (ℕ × ℕ)
+first_from n [] = None
+first_from n (c ∷ list) = if nat_le n c.id then Some (c.id, c.received) else first_from n list
+
+-- of the least so far and one more id, the lesser one from an id on
+abbrev pub nearer : ℕ → Option (ℕ × ℕ) → ℕ → ℕ → Option (ℕ × ℕ)
+nearer n least id received =
+    if nat_le n id then elim least [ Some p ↦ if nat_le id p.0 then Some (id, received) else Some p | None ↦ Some (id, received) ]
+    else least
+
+-- counts as returns to a client
+unfoldable pub as_returns : ℕ → List Counted → List Returned
+as_returns client list = map (λ c. record { client = client; id = c.id; count = c.received }) list
+
 -- one more reference of a resource is received and alive
 abbrev pub lent : ℕ → Holding → Holding
 lent id h = record h { counted = put_in (record { id = id; received = received_of id h.counted + 1; alive = alive_of id h.counted + 1 }) h.counted }
@@ -92,5 +111,5 @@ abbrev pub in_use : ℕ → Holding → Bool
 in_use id h = nat_lt 0 (alive_of id h.counted) || list_any (λ r. r.id == id) h.queue
 
 -- each resource of which some reference is alive, by rising id, with all that were received
-unfoldable pub held : Holding → List Returned
-held h = map (λ c. record { client = h.client; id = c.id; count = c.received }) h.counted
+abbrev pub held : Holding → List Returned
+held h = as_returns h.client h.counted

@@ -1,3 +1,4 @@
 pub mod Feeding
+pub mod Giving
 pub mod Holding
 pub mod Ordered

@@ -1,12 +1,14 @@
 //! How many references of each resource were received and are alive.
-ghost use Rattle.std.specs.Prelude.{◌≡◌, ◌≤◌, ◌<◌, ◌+◌, [], length, IsOk, OnOk, OnErr};
-ghost use Rattle.vz_returns.specs.Holding.{received_of, alive_of, put_in, without};
+ghost use Rattle.std.specs.Prelude.{◌≡◌, ◌≤◌, ◌<◌, ◌+◌, [], ◌++◌, length, IsTrue, IsOk, OnOk, OnErr};
+ghost use Rattle.vz_returns.specs.Holding.{received_of, alive_of, put_in, without, is_rising, first_from, nearer, as_returns};
 ghost use Rattle.vz_returns.specs.Ordered.{counted_of};
 
 use indexmap::IndexMap;
 use std::alloc::Global;
 use std::marker::Model;
 use vz_base::Memory;
+use vz_frame::Room;
+use vz_rules::Returned;
 
 /// The references of a resource: those received since it last went back, and those alive.
 #[derive(Clone, Copy)]
@@ -105,5 +107,46 @@ impl Table {
         ensures spare { self.old.spare ≤ self.new.spare }
     {
         self.counts.swap_remove(&id);
+    }
+    /// The least id from one on, with the references received.
+    fn next_from(&self, from: u64) -> Option<(u32, u32)>
+        ensures value { result ≡ first_from from self.now.list }
+        ensures rising { IsTrue (is_rising self.now.list) }
+    {
+        let len = self.counts.len();
+        let mut least = None;
+        for k in 0..len {
+            if let Some((id, counts)) = self.counts.get_index(len - 1 - k) {
+                least = nearer(least, from, *id, counts.received);
+            }
+        }
+        least
+    }
+
+    /// Appends each resource with the references received, by rising id. Condition: `out` has
+    /// room for all.
+    pub(crate) fn put_all(&self, client: u32, out: &mut Room<Returned>)
+        requires { length self.now.list ≤ out.old.spare }
+        ensures list { out.new.list ≡ out.old.list ++ as_returns client self.now.list }
+        ensures room { out.old.spare ≡ out.new.spare + length self.now.list }
+    {
+        let mut from = 0;
+        while let Some((id, count)) = self.next_from(from) {
+            out.put(Returned { client, id, count });
+            from = u64::from(id) + 1;
+        }
+    }
+}
+
+/// Of the least so far and one more id, the lesser one from an id on.
+fn nearer(least: Option<(u32, u32)>, from: u64, id: u32, received: u32) -> Option<(u32, u32)>
+    ensures { result ≡ nearer from least id received }
+{
+    if u64::from(id) < from {
+        return least;
+    }
+    match least {
+        Some((other, _)) if other < id => least,
+        _ => Some((id, received)),
     }
 }

@@ -148,6 +148,20 @@ impl Holder {
         self.counts.len()
     }
 
+    /// How many references of a resource were received since it last went back.
+    pub fn received(&self, id: u32) -> u32
+        ensures { result ≡ received_of id self.now.holding.counted }
+    {
+        self.counts.get(id).received
+    }
+
+    /// How many references of a resource are alive.
+    pub fn alive(&self, id: u32) -> u32
+        ensures { result ≡ alive_of id self.now.holding.counted }
+    {
+        self.counts.get(id).alive
+    }
+
     /// Appends the returns in the order in which they were queued, and empties the queue. It
     /// takes no memory, and the places of returns that are still to come stay. Condition:
     /// `out` has room for all in the queue.
@@ -167,5 +181,16 @@ impl Holder {
         ensures { result ≡ in_use id self.now.holding }
     {
         self.counts.get(id).alive > 0 || self.queue.has(id)
+    }
+
+    /// Appends each resource of which some reference is alive, by rising id, with all that
+    /// were received as its count. It takes no memory, and the time that it takes grows with
+    /// the square of their number: it is for the end. Condition: `out` has room for all.
+    pub fn held(&self, out: &mut Room<Returned>)
+        requires { length self.now.holding.counted ≤ out.old.spare }
+        ensures out { out.new.list ≡ out.old.list ++ held self.now.holding }
+        ensures room { out.old.spare ≡ out.new.spare + length self.now.holding.counted }
+    {
+        self.counts.put_all(self.client, out);
     }
 }

@@ -1,9 +1,13 @@
-//! Laws of feedback, each the contract of a function that does nothing.
-ghost use Rattle.std.specs.Prelude.{◌≡◌, not, ◌&&◌, ◌||◌, List, IsTrue, IsFalse, false, [], ◌∷◌, ◌++◌, map};
+//! Laws of feedback and of references, each the contract of a function that does nothing.
+ghost use Rattle.std.specs.Prelude.{◌≡◌, ℕ, ◌+◌, ◌-◌, ◌<◌, ◌==◌, not, ◌&&◌, ◌||◌, if◌then◌else◌, List, IsTrue, IsFalse, false, [], ◌∷◌, ◌++◌, map};
 ghost use Rattle.vz_ids.specs.declared.Sub.{Sub};
 ghost use Rattle.vz_ids.specs.Ids.{same_sub};
-ghost use Rattle.vz_rules.specs.World.{Submission, sub_of};
+ghost use Rattle.vz_rules.specs.World.{World, Client, Submission, sub_of};
+ghost use Rattle.vz_rules.specs.Kept.{AreRising};
+ghost use Rattle.vz_rules.specs.Returns.{returns_of, queue_returns, give_back};
 ghost use Rattle.vz_returns.specs.Feeding.{in_order, is_open, opened, fed, AreUnfed, mark_of};
+ghost use Rattle.vz_returns.specs.Holding.{Holding, received_of, alive_of, is_rising, lent, shared, released, is_last};
+ghost use Rattle.vz_returns.specs.Giving.{are_some, is_sorted, AreCounts, release_all, returns_in};
 
 /// A submission that is opened waits, one that is fed does not, and nothing changes for the
 /// others. Those that wait stay in the order of clients and ordinals.
@@ -25,4 +29,56 @@ pub fn unfed_are_those()
         → AreUnfed subs list → AreUnfed (subs ++ s ∷ []) (opened (sub_of s) list) }
     ensures marked { (subs : List Submission) (list : List Sub) (f : Sub) → AreUnfed subs list
         → AreUnfed (map (mark_of f) subs) (fed f list) }
+{}
+
+/// Where one more reference of a resource is lent, one more of it is received and alive, and
+/// nothing changes for the others. The ids stay in order.
+pub fn lending_counts()
+    ensures received { (h : Holding) (id j : ℕ) → received_of j (lent id h).counted
+        ≡ (if id == j then received_of j h.counted + 1 else received_of j h.counted) }
+    ensures alive { (h : Holding) (id j : ℕ) → alive_of j (lent id h).counted
+        ≡ (if id == j then alive_of j h.counted + 1 else alive_of j h.counted) }
+    ensures rising { (h : Holding) (id : ℕ) → IsTrue (is_rising h.counted)
+        → IsTrue (is_rising (lent id h).counted) }
+    ensures some { (h : Holding) (id : ℕ) → IsTrue (are_some h.counted)
+        → IsTrue (are_some (lent id h).counted) }
+{}
+
+/// Where one more is held, one more is alive, and no more are received.
+pub fn holding_counts()
+    ensures received { (h : Holding) (id j : ℕ)
+        → received_of j (shared id h).counted ≡ received_of j h.counted }
+    ensures alive { (h : Holding) (id j : ℕ) → alive_of j (shared id h).counted
+        ≡ (if id == j then alive_of j h.counted + 1 else alive_of j h.counted) }
+    ensures rising { (h : Holding) (id : ℕ) → IsTrue (is_rising h.counted)
+        → IsTrue (is_rising (shared id h).counted) }
+    ensures some { (h : Holding) (id : ℕ) → 0 < alive_of id h.counted
+        → IsTrue (are_some h.counted) → IsTrue (are_some (shared id h).counted) }
+{}
+
+/// Where one is released, one fewer is alive, and all that were received are gone with the
+/// last.
+pub fn releasing_counts()
+    ensures received { (h : Holding) (id j : ℕ) → received_of j (released id h).counted
+        ≡ (if id == j then (if is_last j h then 0 else received_of j h.counted)
+        else received_of j h.counted) }
+    ensures alive { (h : Holding) (id j : ℕ) → alive_of j (released id h).counted
+        ≡ (if id == j then alive_of j h.counted - 1 else alive_of j h.counted) }
+    ensures rising { (h : Holding) (id : ℕ) → IsTrue (is_rising h.counted)
+        → IsTrue (is_rising (released id h).counted) }
+    ensures some { (h : Holding) (id : ℕ) → 0 < alive_of id h.counted
+        → IsTrue (are_some h.counted) → IsTrue (are_some (released id h).counted) }
+{}
+
+/// Where the counts are those of a client's references once the references in a list are
+/// released, and these are released by rising id, the returns are exactly those that the
+/// machine's state gives back to the client, in their order, and the counts are those of the
+/// client after it.
+pub fn releases_give_back()
+    ensures returns { (w : World) (c : Client) (h : Holding) (ids : List ℕ)
+        → AreCounts w c h ids → AreRising c.resources → IsTrue (is_sorted ids)
+        → returns_in ids h ≡ returns_of w c }
+    ensures counts { (w : World) (c : Client) (h : Holding) (ids : List ℕ)
+        → AreCounts w c h ids → AreRising c.resources → IsTrue (is_sorted ids)
+        → AreCounts (give_back w) (queue_returns w c) (release_all ids h) [] }
 {}

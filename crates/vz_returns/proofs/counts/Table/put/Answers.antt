@@ -1,4 +1,4 @@
-use Rattle.std.proofs.Common.{◌≡◌, ◌≤◌, length, ap, sym, subst, ◌∙◌, arith}
+use Rattle.std.proofs.Common.{length, ap, ◌∙◌, arith}
 use Rattle.vz_returns.specs.Holding.{put_in}
 use Rattle.vz_returns.specs.Ordered.{counted_of, in_order}
 use Rattle.vz_returns.proofs.Orders.{order_put, put_more}

@@ -1,4 +1,4 @@
-use Rattle.std.proofs.Common.{◌≤◌, length, ap, ◌-◌, arith}
+use Rattle.std.proofs.Common.{length, ap, ◌-◌, arith}
 use Rattle.vz_returns.proofs.Orders.{least_kept, least_used, least_room}
 use Rattle.vz_returns.proofs.holder.Holder.lend.Goals as goal
 
