@@ -3,10 +3,11 @@ ghost use Rattle.std.specs.Prelude.{◌≡◌, ℕ, ◌+◌, ◌-◌, ◌<◌, �
 ghost use Rattle.vz_ids.specs.declared.Sub.{Sub};
 ghost use Rattle.vz_ids.specs.Ids.{same_sub};
 ghost use Rattle.vz_rules.specs.World.{World, Client, Submission, sub_of};
-ghost use Rattle.vz_rules.specs.Kept.{AreRising};
-ghost use Rattle.vz_rules.specs.Returns.{returns_of, queue_returns, give_back};
+ghost use Rattle.vz_rules.specs.Kept.{AreRising, KeepsShelf};
+ghost use Rattle.vz_rules.specs.Messages.{in_use as refused_in_use};
+ghost use Rattle.vz_rules.specs.Returns.{holds, returns_of, queue_returns, give_back};
 ghost use Rattle.vz_returns.specs.Feeding.{in_order, is_open, opened, fed, AreUnfed, mark_of};
-ghost use Rattle.vz_returns.specs.Holding.{Holding, received_of, alive_of, is_rising, lent, shared, released, is_last};
+ghost use Rattle.vz_returns.specs.Holding.{Holding, received_of, alive_of, is_rising, lent, shared, released, is_last, in_use};
 ghost use Rattle.vz_returns.specs.Giving.{are_some, is_sorted, AreCounts, release_all, returns_in};
 
 /// A submission that is opened waits, one that is fed does not, and nothing changes for the
@@ -81,4 +82,11 @@ pub fn releases_give_back()
     ensures counts { (w : World) (c : Client) (h : Holding) (ids : List ℕ)
         → AreCounts w c h ids → AreRising c.resources → IsTrue (is_sorted ids)
         → AreCounts (give_back w) (queue_returns w c) (release_all ids h) [] }
+{}
+
+/// Where the counts are those of a client's references, a resource is in use exactly where the
+/// machine's state refuses an upload of it.
+pub fn uses_are_refused()
+    ensures { (w : World) (c : Client) (h : Holding) (id : ℕ) → AreCounts w c h []
+        → KeepsShelf (holds w) w.subs c → in_use id h ≡ refused_in_use c.resources id }
 {}
