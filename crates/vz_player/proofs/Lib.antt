@@ -1,3 +1,4 @@
 mod Undrawn
-mod Frames
+mod Counting
+pub mod Frames
 mod Playing

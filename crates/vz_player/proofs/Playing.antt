@@ -26,7 +26,7 @@ use Rattle.vz_display.specs.Displayed.{Displayed, first_displayed, current, buff
 use Rattle.vz_display.proofs.Drawings.{first_is, current_is}
 use Rattle.vz_display.proofs.Histories.{drawn_is, written_is, steps_is, other_is}
 use Rattle.vz_player.proofs.Frames.{newest_is}
-use Rattle.vz_player.specs.Played.{Played, machine_of, next_entry, played_on, frames_of, painted_by, display_of, Writes, StopsAt, IsPlayed, shown_with, steps_with}
+use Rattle.vz_player.specs.Played.{Played, played_at, machine_of, next_entry, played_on, frames_of, painted_by, display_of, Writes, StopsAt, IsPlayed, shown_with, steps_with}
 
 pub on_err : {A E : Type 0} (r : Result A E) (P : Type 0) → P → OnErr r P
 on_err (Ok x) P p = tt
@@ -198,3 +198,15 @@ pub same_played : (m m' : Machine) (h g : List Entry) (count : ℕ) (s : Bool) (
 same_played m m' h g count s old is same all =
     ap (λ (x : Machine). record { plan = x.plan; history = g; buffers = count; stopped = s }) same
     ∙ (ap (λ (l : List Entry). record { plan = m.plan; history = l; buffers = count; stopped = s }) all ∙ is)
+
+-- behind a history that came about elsewhere
+pub resumed_is : (m : Machine) (d : Displayed) (h : List Entry) (count : ℕ) → m.world ≡ world m.plan h → Legal m.plan h → length m.plan.files ≤ MOST_FILES → IsDisplaySize m.plan.size → 1 ≤ count
+    → d ≡ display_at m.plan h count → IsPlayed m d (played_at m.plan h count)
+resumed_is m d h count behind legal files sides some shown = record {
+  behind = ap (λ (w : World). record { plan = m.plan; world = w }) behind;
+  legal = legal;
+  files = files;
+  sides = sides;
+  some = some;
+  shows = λ t. shown;
+}

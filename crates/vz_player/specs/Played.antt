@@ -1,5 +1,5 @@
 -- What a player has done.
-use Rattle.std.specs.Prelude.{◌≡◌, ℕ, ◌+◌, ◌-◌, ◌^◌, ◌≤◌, Bool, true, false, Option, Some, None, ◌⊎◌, List, [], ◌∷◌, ◌++◌, length, min}
+use Rattle.std.specs.Prelude.{◌≡◌, ℕ, ◌+◌, ◌-◌, ◌^◌, ◌≤◌, Bool, true, false, Option, Some, None, ◌⊎◌, List, [], ◌∷◌, ◌++◌, length, min, ◌==◌, count_by}
 use Rattle.vz_base.specs.declared.limits.TheConstants.{MOST_FILES}
 use Rattle.vz_geom.specs.Display.{IsDisplaySize}
 use Rattle.vz_pixels.specs.Colour.{Colour}
@@ -19,6 +19,10 @@ pub record Played : Type 0 where
   pub history : List Entry
   pub buffers : ℕ
   pub stopped : Bool
+
+-- behind this history, with want of memory nowhere
+abbrev pub played_at : Plan → List Entry → ℕ → Played
+played_at p h count = record { plan = p; history = h; buffers = count; stopped = false }
 
 -- before the first event
 abbrev pub first_played : Plan → ℕ → Played
@@ -84,3 +88,11 @@ next_number n = min (n + 1) (2 ^ 64 - 1)
 abbrev pub actor_in : Event → ℕ
 actor_in (event.Client c) = c
 actor_in _ = 0
+
+-- an entry is a step of an actor
+abbrev pub is_step_of : ℕ → Entry → Bool
+is_step_of actor e = actor_in e.event == actor
+
+-- how many of these entries are steps of an actor, at most the greatest of 64 bits
+abbrev pub steps_of : List Entry → ℕ → ℕ
+steps_of h actor = min (count_by (is_step_of actor) h) (2 ^ 64 - 1)

@@ -1,11 +1,13 @@
 //! Actors, and the numbers of their steps.
-ghost use Rattle.std.specs.Prelude.{◌≡◌, ◌<◌, ◌+◌, ◌++◌, ◌∷◌, replicate, take, drop, get_or};
-ghost use Rattle.vz_player.specs.Played.{next_number, actor_in};
+ghost use Rattle.std.specs.Prelude.{◌≡◌, ℕ, ◌<◌, ◌+◌, ◌++◌, ◌∷◌, replicate, take, drop, get_or};
+ghost use Rattle.std.specs.List.{All};
+ghost use Rattle.vz_rules.specs.declared.entry.Entry.{Entry as OneEntry};
+ghost use Rattle.vz_player.specs.Played.{next_number, actor_in, steps_of};
 
 use crate::Turn;
 use std::marker::Model;
 use vz_base::limits::MOST_FILES;
-use vz_rules::Event;
+use vz_rules::{Entry, Event};
 
 /// How many actors there are at most: the display, and the clients of a plan.
 pub const MOST_ACTORS: usize = MOST_FILES + 1;
@@ -33,6 +35,19 @@ impl Actors {
         Actors {
             taken: [0; MOST_ACTORS],
         }
+    }
+
+    /// The steps of a history were taken. Condition: each entry is a step of one of the actors.
+    pub fn after(history: &[Entry]) -> Actors
+        requires { All (λ (e : OneEntry). actor_in e.event < MOST_ACTORS) history.now }
+        ensures { (actor : ℕ) → actor < MOST_ACTORS
+            → get_or result actor 0 ≡ steps_of history.now actor }
+    {
+        let mut actors = Actors::new();
+        for entry in history {
+            actors.next_turn(actor_of(entry.event));
+        }
+        actors
     }
 
     /// Counts a step of an actor, and tells it as a gate knows it. Condition: it is one of the

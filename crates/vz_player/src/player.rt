@@ -5,10 +5,10 @@ ghost use Rattle.vz_geom.specs.Display.{IsDisplaySize};
 ghost use Rattle.vz_pixels.specs.Colour.{Colour};
 ghost use Rattle.vz_buffers.specs.Canvas.{pixel_count};
 ghost use Rattle.vz_rules.specs.World.{opening};
-ghost use Rattle.vz_rules.specs.Step.{NamesClient, Legal};
+ghost use Rattle.vz_rules.specs.Step.{NamesClient, Legal, world};
 ghost use Rattle.vz_rules.specs.Log.{rest_of};
-ghost use Rattle.vz_display.specs.Displayed.{current, buffer_with};
-ghost use Rattle.vz_player.specs.Played.{first_played, played_on, machine_of, display_of, frames_of, painted_by, Writes, StopsAt};
+ghost use Rattle.vz_display.specs.Displayed.{current, buffer_with, display_at};
+ghost use Rattle.vz_player.specs.Played.{first_played, played_at, played_on, machine_of, display_of, frames_of, painted_by, Writes, StopsAt};
 
 use crate::actors::{Actors, actor_of};
 use crate::show::show_some;
@@ -75,6 +75,30 @@ impl<M: Machine + Drop> Player<M> {
             display: Display::new(size, buffers),
             history: Room::new(alloc),
             actors: Actors::new(),
+            buffers,
+            stopped: false,
+        }
+    }
+
+    /// A player that goes on behind a history that came about elsewhere. It takes no memory.
+    /// Conditions: the machine stands behind the history, which is legal, its plan has at most
+    /// `MOST_FILES` files and a display's size, there are 1 or more buffers, and the display is the
+    /// one behind the history with so many.
+    pub fn resume(machine: M, display: Display, history: Room<Entry>, buffers: u32) -> Player<M>
+        requires behind { (M.state machine).world ≡ world (M.state machine).plan history.list }
+        requires legal { Legal (M.state machine).plan history.list }
+        requires files { length (M.state machine).plan.files ≤ MOST_FILES }
+        requires sides { IsDisplaySize (M.state machine).plan.size }
+        requires from { 1 ≤ buffers }
+        requires display { display ≡ display_at (M.state machine).plan history.list buffers }
+        ensures { result ≡ played_at (M.state machine).plan history.list buffers }
+    {
+        let actors = Actors::after(history.as_slice());
+        Player {
+            machine,
+            display,
+            history,
+            actors,
             buffers,
             stopped: false,
         }
