@@ -1,0 +1,246 @@
+-- From the opening of a run to the history that is gathered when all threads have ended.
+use Rattle.std.proofs.Common.{◌≡◌, ℕ, zero, suc, ◌+◌, ◌-◌, ◌<◌, ◌≤◌, Bool, List, [], map, length, get_or, All, refl, ap, sym, ◌∙◌, subst, arith, Option, Some, Result, Ok, Err, OnOk, OnErr, false}
+use Rattle.std.proofs.lemmas.List.{get_or-map, length-map}
+use mathlib.Core.List.{IsPrefix}
+use Rattle.atomic_table.specs.Seated.{TableId}
+use Rattle.vz_loans.specs.Rule.{places}
+use Rattle.vz_frame.specs.declared.message.ClientFile.{ClientFile}
+use Rattle.vz_outside.specs.Shelved.{Shelved, Appends, AppendsFront, Behaves}
+use Rattle.vz_outside.specs.declared.shelf.ShelfError.{ShelfError}
+use Rattle.vz_outside.specs.declared.shelf.ShelfError.TheVariants.{Memory}
+use Rattle.vz_outside.proofs.Calls.{call_same, kept_same, append_nothing}
+use Rattle.vz_outside.proofs.Rises.{ok_not_failed}
+use Rattle.vz_rules.specs.Plan.{Plan}
+use Rattle.vz_rules.specs.declared.entry.Entry.{Entry}
+use Rattle.vz_rules.specs.Step.{Legal, LegalFrom}
+use Rattle.vz_rules.specs.Course.{displayed, IsPaced}
+use Rattle.vz_rules.specs.Frames.{written, written_of, painted, painted_of, drawn_frames, drawn_frames_from, frames_bytes}
+use Rattle.vz_desk.specs.Books.{numbered}
+use Rattle.vz_desk.specs.declared.totals.Totals.{Totals}
+use Rattle.vz_desk.specs.Totals.{DisplayTotals, no_totals, no_display_totals, AreTotals}
+use Rattle.vz_desk.specs.Owners.{Owner, fresh, fresh_from, IsSameOwner}
+use Rattle.vz_desk.specs.Gathering.{IsGatheredClient, IsGatheredDisplay}
+use Rattle.vz_threads.specs.Courses.{frames_of, message_counts}
+use Rattle.vz_threads.specs.Crews.{IsAtWork, IsCrew, CrewWorksOn, messages_of, TookAll}
+use Rattle.vz_threads.specs.Outlets.{Outlook, file_of}
+use Rattle.vz_threads.specs.Rounds.{Setup, IsCut, HasPlayed, HasEnded, PlaysAll, IsCutShort}
+use Rattle.vz_threads.specs.Runs.{IsReady, IsOpened, IsUpToTail, IsCutThere, IsRestOf, HasRun}
+use Rattle.vz_threads.specs.Tails.{TookAll as TookIts}
+use Rattle.vz_threads.proofs.Ending.{paced_on}
+use Rattle.vz_threads.proofs.Going.{amid}
+use Rattle.vz_threads.proofs.Showing.{shown_amid, frames_amid}
+
+-- Before the first round
+
+behaves_none : (s : Shelved) → Behaves {T = Unit {0}} s s (Ok tt)
+behaves_none s = record {
+  call = call_same s;
+  cause = record { failed = λ is. ok_not_failed tt is; quiet = λ other. refl };
+  works = λ faultless is. ok_not_failed tt is;
+  stays = λ faultless other. record { faultless = faultless; faults = refl };
+}
+
+no_frames : (p : Plan) (n : ℕ) → frames_of p [] n ≡ []
+unfolding frames_bytes written drawn_frames drawn_frames_from written_of
+no_frames p n = refl
+
+none_painted : (p : Plan) (n : ℕ) → painted p [] n ≡ 0
+unfolding painted drawn_frames drawn_frames_from painted_of
+none_painted p n = refl
+
+none_displayed : displayed [] ≡ []
+unfolding displayed
+none_displayed = refl
+
+pub legal_first : (p : Plan) → Legal p []
+unfolding Legal LegalFrom
+legal_first p = tt
+
+-- the display has made no round
+pub none_played : (k : Setup) (paced : Bool) (start : Outlook) (id : TableId) → IsReady k start → HasPlayed k paced start start (fresh id k.plan no_display_totals 0) 0
+none_played k paced start id r = record {
+  history = [];
+  at = record {
+    begins = r.begins;
+    display = refl;
+    sees = record { planned = refl; seen = refl; legal = legal_first k.plan };
+    rests = refl;
+    shown = record {
+      fixed = refl;
+      display = r.display;
+      counted = steps (painted k.plan [] k.buffers) (none_painted k.plan k.buffers);
+      written = subst (λ (l : List ℕ). Appends l (file_of start) start.shelf start.shelf) (sym (no_frames k.plan k.buffers)) (append_nothing (file_of start) start.shelf);
+      others = kept_same (file_of start) start.shelf;
+      behaves = behaves_none start.shelf;
+    };
+  };
+  made = none_displayed;
+  pace = λ t n low. absurd (omega (arith, low));
+}
+  where
+    steps : (n : ℕ) → n ≡ 0 → start.steps ≡ start.steps + n
+    steps n none = omega (arith, none)
+
+-- The ends of the clients
+
+fresh_length : (id : TableId) (p : Plan) (k n : ℕ) → length (fresh_from id p k n) ≡ n
+fresh_length id p k zero = refl
+fresh_length id p k (suc n) = ap suc (fresh_length id p (k + 1) n)
+
+fresh_at : (id : TableId) (p : Plan) (k n i : ℕ) (d : Owner Totals) → i < n → get_or (fresh_from id p k n) i d ≡ fresh id p no_totals (k + i)
+fresh_at id p k zero i d low = absurd (omega (arith, low))
+fresh_at id p k (suc n) zero d low = ap (fresh id p no_totals) (omega arith)
+fresh_at id p k (suc n) (suc i) d low = fresh_at id p (k + 1) n i d (omega (arith, low)) ∙ ap (fresh id p no_totals) (omega arith)
+
+files_are : (p : Plan) (messages : List ℕ) → messages ≡ message_counts p → length messages ≡ length p.files
+files_are p messages counts = ap length counts ∙ length-map p.files (λ (file : ClientFile). length file.messages)
+
+-- they are at work
+pub fresh_work : (id : TableId) (p : Plan) (messages : List ℕ) (ends : List (Owner Totals)) → messages ≡ message_counts p → ends ≡ fresh_from id p 1 (length messages) → All (IsAtWork id p) ends
+fresh_work id p messages ends counts are = subst (All (IsAtWork id p)) (sym are) work
+  where
+    work : All (IsAtWork id p) (fresh_from id p 1 (length messages))
+    work i d low =
+        let here : i < length messages = omega (arith, low, fresh_length id p 1 (length messages)) in
+        subst (IsAtWork id p) (sym (fresh_at id p 1 (length messages) i d here))
+        (record { desk = refl; plan = refl; client = (omega arith, omega (arith, here, files_are p messages counts)); timely = refl; few = omega arith })
+
+pub fresh_crew : (id : TableId) (p : Plan) (messages : List ℕ) (ends : List (Owner Totals)) → messages ≡ message_counts p → ends ≡ fresh_from id p 1 (length messages) → IsCrew id messages ends
+fresh_crew id p messages ends counts are = record { plan = p; work = fresh_work id p messages ends counts are; counts = counts }
+
+pub fresh_many : (id : TableId) (p : Plan) (n : ℕ) (ends : List (Owner Totals)) → ends ≡ fresh_from id p 1 n → length ends ≡ n
+fresh_many id p n ends are = ap length are ∙ fresh_length id p 1 n
+
+-- as many come back
+pub as_many : (a b : List (Owner Totals)) → CrewWorksOn a b → length b ≡ length a
+as_many a b w =
+    sym (length-map b (λ (o : Owner Totals). o.number)) ∙ ap length w.numbers ∙ length-map a (λ (o : Owner Totals). o.number)
+
+-- all of the desk
+pub all_of_desk : (id : TableId) (messages : List ℕ) (os : List (Owner Totals)) → IsCrew id messages os → All (λ (o : Owner Totals). o.desk ≡ id) os
+all_of_desk id messages os crew i d low = (crew.work i d low).desk
+
+-- each client took all of its messages, and each of its calls took one
+pub each_took : (id : TableId) (p q : Plan) (messages : List ℕ) (a b : List (Owner Totals)) (h : List Entry) → messages ≡ message_counts p → a ≡ fresh_from id p 1 (length messages) → CrewWorksOn a b → All (TookAll messages) b
+    → All (IsGatheredClient q h) b → (c : ℕ) → 1 ≤ c → c ≤ length p.files → TookIts p h c
+each_took id p q messages a b h counts are works took gathered c from upto =
+    let one = gathered (c - 1) none low in
+    let w = (works.work id p (fresh_work id p messages a counts are)) (c - 1) none low in
+    let totals = subst (λ (n : ℕ). AreTotals q h n owner.totals) is one.counted in
+    record {
+      each = sym totals.calls ∙ w.timely ∙ totals.taken;
+      all = sym totals.taken ∙ took (c - 1) none low ∙ ap (messages_of messages) is ∙ ap (λ (l : List ℕ). messages_of l c) counts;
+    }
+  where
+    none : Owner Totals
+    none = fresh id p no_totals 0
+
+    owner : Owner Totals
+    owner = get_or b (c - 1) none
+
+    many : length b ≡ length messages
+    many = as_many a b works ∙ fresh_many id p (length messages) a are
+
+    low : c - 1 < length b
+    low = omega (arith, from, upto, many, files_are p messages counts)
+
+    is : owner.number ≡ c
+    is =
+        sym (get_or-map (λ (o : Owner Totals). o.number) b (c - 1) none 0 low)
+        ∙ ap (λ (l : List ℕ). get_or l (c - 1) 0) (works.numbers ∙ ap (map (λ (o : Owner Totals). o.number)) are)
+        ∙ get_or-map (λ (o : Owner Totals). o.number) (fresh_from id p 1 (length messages)) (c - 1) none 0 (omega (arith, low, many, fresh_length id p 1 (length messages)))
+        ∙ ap (λ (o : Owner Totals). o.number) (fresh_at id p 1 (length messages) (c - 1) none (omega (arith, low, many)))
+        ∙ omega (arith, from)
+
+-- The display's end
+
+same_plan : (a b : Plan) → ◌≡◌ {A = Option Plan} (Some a) (Some b) → a ≡ b
+same_plan a b e = cc
+
+-- the plan is the one that was opened
+pub plan_is : (p q : Plan) (h : List Entry) (d : Owner DisplayTotals) → d.plan ≡ Some p → IsGatheredDisplay q h d → q ≡ p
+plan_is p q h d planned g = same_plan q p (sym g.gathered.planned ∙ planned)
+
+-- the rounds are over, and the tail is left
+pub up_to_tail : (k : Setup) (rounds : ℕ) (paced : Bool) (start now : Outlook) (q : Plan) (d : Owner DisplayTotals) (h : List Entry) → HasEnded k paced start now d rounds → Legal k.plan h → IsGatheredDisplay q h d
+    → ((c : ℕ) → 1 ≤ c → c ≤ length k.plan.files → TookIts k.plan h c) → IsUpToTail k rounds paced start now h
+up_to_tail k rounds paced start now q d h e legal g took =
+    let stay : places 0 (numbered h) ≡ places 0 d.seen = ap (λ (n : ℕ). places n (numbered h)) (sym e.at.display) ∙ g.gathered.mine ∙ ap (λ (n : ℕ). places n d.seen) e.at.display in
+    let between = amid d.seen e.history h e.at.sees.seen g.gathered.begun stay in
+    record {
+      first = e.first;
+      over = e.over;
+      all = between.same ∙ e.all;
+      made = e.made;
+      is_over = e.is_over;
+      pace = λ t. subst (λ (l : List Entry). IsPaced k.plan l rounds) (sym between.all) (paced_on k.plan e.history between.more rounds (e.pace t));
+      took = took;
+      shown = shown_amid k start now e.history h legal between e.at.shown;
+    }
+
+-- the drawings up to there are shown still, where what was left could not be taken
+pub ended_cut : (k : Setup) (rounds : ℕ) (paced : Bool) (start now : Outlook) (d : Owner DisplayTotals) → (e : HasEnded k paced start now d rounds) → IsCut k start now d e.history (Err Memory)
+ended_cut k rounds paced start now d e = Rattle.vz_threads.proofs.Following.cut_at k start now d e.history e.at
+
+-- or the run was cut short
+pub cut_there : (k : Setup) (start now : Outlook) (q : Plan) (d : Owner DisplayTotals) (g h : List Entry) (r : Result (Unit {0}) ShelfError) → IsCut k start now d g r → Legal k.plan h → IsGatheredDisplay q h d → IsCutThere k start now h r
+cut_there k start now q d g h r cut legal all =
+    let stay : places 0 (numbered h) ≡ places 0 (numbered g) = ap (λ (n : ℕ). places n (numbered h)) (sym cut.display) ∙ all.gathered.mine ∙ cut.mine in
+    let later : IsPrefix (numbered g) (numbered h) = Rattle.vz_threads.proofs.Following.prefix_then (numbered g) d.seen (numbered h) cut.later all.gathered.begun in
+    let between = amid (numbered g) g h refl later stay in
+    record {
+      fixed = cut.fixed;
+      begun = subst (λ (l : List ℕ). AppendsFront l (file_of start) start.shelf now.shelf) (sym (frames_amid k start g h legal between)) cut.begun;
+      others = cut.others;
+      behaves = cut.behaves;
+    }
+
+-- What comes of a run once all threads have ended
+
+-- no frame is in flight
+pub either_way : {E : Type 0} (r : Result (Unit {0}) E) (A B P : Type 0) → OnOk r A → OnErr r B → (A → P) → (B → P) → P
+either_way (Ok x) A B P a b f g = f a
+either_way (Err e) A B P a b f g = g b
+
+fresh_planned : (p : Plan) (id : TableId) (d0 d : Owner DisplayTotals) → d0 ≡ fresh id p no_display_totals 0 → IsSameOwner d0 d → d.plan ≡ Some p
+fresh_planned p id d0 d is same = same.plan ∙ ap (λ (o : Owner DisplayTotals). o.plan) is
+
+module _ (k : Setup) (rounds : ℕ) (paced : Bool) (start now : Outlook) (id : TableId) (callers : ℕ) (q : Plan) (messages : List ℕ) (ends0 ends2 : List (Owner Totals)) (d0 d : Owner DisplayTotals) (h : List Entry) where
+  module _ (ready : IsReady k start) (opened : IsOpened k.plan messages id callers ends0 d0) (same : IsSameOwner d0 d) where
+    first_played : HasPlayed k paced start start d0 0
+    first_played = subst (λ (o : Owner DisplayTotals). HasPlayed k paced start start o 0) (sym opened.display_is) (none_played k paced start id ready)
+
+    pub plan_same : IsGatheredDisplay q h d → q ≡ k.plan
+    plan_same g = plan_is k.plan q h d (fresh_planned k.plan id d0 d opened.display_is same) g
+
+    pub has_run : (played result : Result (Unit {0}) ShelfError) → OnOk played (PlaysAll paced start d0 now d rounds) → OnErr played (IsCutShort paced start d0 now d played) → IsRestOf played result
+        → OnOk result (All (TookAll messages) ends2) → CrewWorksOn ends0 ends2 → Legal q h → All (IsGatheredClient q h) ends2 → IsGatheredDisplay q h d → HasRun k rounds paced start now h result
+    has_run (Ok x) (Ok y) plays cut rest took works legal clients display =
+        let good = subst (λ (p : Plan). Legal p h) (plan_same display) legal in
+        record {
+          legal = good;
+          whole = up_to_tail k rounds paced start now q d h (plays k start first_played) good display (each_took id k.plan q messages ends0 ends2 h opened.counts opened.ends_are works took clients);
+          cut = tt;
+        }
+    has_run (Ok x) (Err e) plays cut rest took works legal clients display =
+        let good = subst (λ (p : Plan). Legal p h) (plan_same display) legal in
+        let ended = plays k start first_played in
+        record {
+          legal = good;
+          whole = tt;
+          cut = subst (IsCutThere k start now h) (sym rest) (cut_there k start now q d ended.history h (Err Memory) (ended_cut k rounds paced start now d ended) good display);
+        }
+    has_run (Err e) result plays cut rest took works legal clients display =
+        let good = subst (λ (p : Plan). Legal p h) (plan_same display) legal in
+        let short = cut k start first_played in
+        subst (HasRun k rounds paced start now h) (sym rest) (record {
+          legal = good;
+          whole = tt;
+          cut = cut_there k start now q d short.0 h (Err e) short.1 good display;
+        })
+
+    -- no frame is in flight then
+    pub lands : (played : Result (Unit {0}) ShelfError) → OnOk played (PlaysAll paced start d0 now d rounds) → OnErr played (IsCutShort paced start d0 now d played) → d.totals.in_flight ≡ false
+    lands played plays cut =
+        either_way played (PlaysAll paced start d0 now d rounds) (IsCutShort paced start d0 now d played) (d.totals.in_flight ≡ false) plays cut
+        (λ plays. (plays k start first_played).at.rests) (λ short. (short k start first_played).1.rests)

@@ -1,0 +1,17 @@
+pub mod Quiet
+pub mod Places
+pub mod Ending
+pub mod Taken_all
+pub mod Coming_due
+pub mod Counted_ticks
+pub mod Tailing
+pub mod Crewing
+pub mod Taking
+pub mod Working
+pub mod Going
+pub mod Showing
+pub mod Rounding
+pub mod Ends
+pub mod Following
+pub mod Gathered
+pub mod Finished

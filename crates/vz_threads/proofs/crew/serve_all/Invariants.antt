@@ -1,0 +1,9 @@
+use Rattle.std.proofs.Common.{ℕ, ◌<◌, get_or}
+use Rattle.vz_threads.specs.Crews.{CrewWorksOn, crew_of, IsServedHere}
+use Rattle.vz_threads.proofs.crew.serve_all.Given as goal
+
+abbrev pub invariant-loop-one : goal.invariant-loop-one
+invariant-loop-one g l = record {
+  works : CrewWorksOn (crew_of l.fn.started.items) (crew_of l.one-items);
+  served : (k : ℕ) (d : _) → k < l.one-index → IsServedHere l.messages (get_or l.one-items k d);
+}

@@ -1,0 +1,13 @@
+use Rattle.std.proofs.Common.{◌≡◌, vec_len}
+use Rattle.vz_desk.specs.Owners.{IsSameOwner}
+use Rattle.vz_threads.specs.Crews.{CrewWorksOn, crew_of}
+use Rattle.vz_threads.specs.Rounds.{PlaysRounds}
+use Rattle.vz_threads.proofs.playing.play_rounds.Given as goal
+
+abbrev pub invariant-loop : goal.invariant-loop
+invariant-loop g l = record {
+  same : IsSameOwner l.fn.d l.d;
+  crew : CrewWorksOn (crew_of l.fn.started.items) (crew_of l.started.items);
+  count : vec_len l.started ≡ vec_len l.fn.started;
+  played : PlaysRounds l.paced (g.O.Outlet.stands l.fn.outlet) l.fn.d (g.O.Outlet.stands l.outlet) l.d l.counter;
+}

@@ -1,0 +1,19 @@
+use Rattle.vz_threads.specs.Rounds.{IsCutShort}
+use Rattle.vz_threads.proofs.Ends.{err_as}
+use Rattle.vz_threads.proofs.Rounding.{cut_here}
+use Rattle.vz_threads.proofs.Following.{rounds_over}
+use Rattle.vz_threads.proofs.playing.play_to_over.Goals as goal
+
+pub returns-in_err-play_rounds-clause-cut : goal.returns-in_err-play_rounds-clause-cut
+returns-in_err-play_rounds-clause-cut g c =
+    err_as _ c.from_residual.result (IsCutShort c.args.paced (g.O.Outlet.stands c.args.outlet.now) c.args.d.now (g.O.Outlet.stands c.play_rounds.new.outlet) c.play_rounds.new.d) c.from_residual.ensures.1
+    c.in_err-play_rounds.ensures.cut
+
+pub returns-in_default-clause-cut : goal.returns-in_default-clause-cut
+returns-in_default-clause-cut g c = λ k start p.
+    let q = c.in_ok-play_rounds.ensures.played k start p in
+    (q.history, cut_here k start (g.O.Outlet.stands c.play_rounds.new.outlet) c.play_rounds.new.d c.tell_over.new.d q.history q.at c.tell_over.ensures.same c.in_default.ensures.none)
+
+pub returns-clause-played : goal.returns-clause-played
+returns-clause-played g c = λ k start p.
+    rounds_over k c.args.paced start (g.O.Outlet.stands c.play_rounds.new.outlet) c.play_rounds.new.d c.tell_over.new.d c.args.rounds (c.in_ok-play_rounds.ensures.played k start p) c.tell_over.ensures.same c.in-Ok.ensures.made

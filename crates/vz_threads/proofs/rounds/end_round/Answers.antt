@@ -1,0 +1,31 @@
+use Rattle.vz_threads.specs.Rounds.{IsCutFrom}
+use Rattle.vz_threads.proofs.Ends.{err_as}
+use Rattle.vz_threads.proofs.Rounding.{cut_here, paused_by, round_ends, cut_behind}
+use Rattle.vz_threads.proofs.rounds.end_round.Goals as goal
+
+pub returns-in_default-clause-cut : goal.returns-in_default-clause-cut
+returns-in_default-clause-cut g c = λ k start h at.
+    (h, cut_here k start (g.O.Outlet.stands c.args.outlet.now) c.args.d.now c.pause.new.d h at c.pause.ensures.same c.pause.ensures.none)
+
+pub show_drawing-requires-clause-somewhere : goal.show_drawing-requires-clause-somewhere
+show_drawing-requires-clause-somewhere g c κs within =
+    let s = c.requires.somewhere in
+    let q = paused_by s.0 s.1 (g.O.Outlet.stands c.args.outlet.now) c.args.d.now c.pause.new.d s.2 s.3 c.pause.ensures.same c.pause.ensures.none c.args.paced c.in-Ok.ensures.calm c.pause.ensures.stays in
+    (s.0, s.1, q.history, q.at)
+
+pub returns-in_err-show_drawing-clause-cut : goal.returns-in_err-show_drawing-clause-cut
+returns-in_err-show_drawing-clause-cut g c =
+    let was = g.O.Outlet.stands c.args.outlet.now in
+    let now = g.O.Outlet.stands c.show_drawing.new.outlet in
+    err_as _ c.from_residual.result (IsCutFrom was c.args.d.now now c.show_drawing.new.d) c.from_residual.ensures.1
+    (λ k start h at.
+    cut_behind k start was now c.pause.new.d c.show_drawing.new.d h c.args.paced _
+    (paused_by k start was c.args.d.now c.pause.new.d h at c.pause.ensures.same c.pause.ensures.none c.args.paced c.in-Ok.ensures.calm c.pause.ensures.stays)
+    (c.in_err-show_drawing.ensures.cut k start))
+
+pub returns-clause-ended : goal.returns-clause-ended
+returns-clause-ended g c = λ k start n b.
+    let was = g.O.Outlet.stands c.args.outlet.now in
+    round_ends k c.args.paced start was (g.O.Outlet.stands c.show_drawing.new.outlet) c.args.d.now c.pause.new.d c.show_drawing.new.d n b
+    (paused_by k start was c.args.d.now c.pause.new.d b.history b.at c.pause.ensures.same c.pause.ensures.none c.args.paced c.in-Ok.ensures.calm c.pause.ensures.stays)
+    (c.in_ok-show_drawing.ensures.shown k start)

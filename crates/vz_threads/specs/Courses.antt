@@ -1,0 +1,26 @@
+-- What a run with a thread for each client comes to.
+use Rattle.std.specs.Prelude.{ℕ, Bool, IsTrue, List, map, length}
+use Rattle.vz_frame.specs.declared.message.ClientFile.{ClientFile}
+use Rattle.vz_rules.specs.Plan.{Plan}
+use Rattle.vz_rules.specs.declared.entry.Entry.{Entry}
+use Rattle.vz_rules.specs.Step.{world, Legal}
+use Rattle.vz_rules.specs.Course.{IsDisplayPart, IsPaced}
+use Rattle.vz_rules.specs.Whole.{TakesAll, AllInTime}
+use Rattle.vz_rules.specs.Frames.{written, frames_bytes}
+
+-- a legal history in which the display makes so many rounds, paced where that is asked, and then ends, and each client's messages
+-- are all taken, none of them too early and none past the last
+pub record IsRun (p : Plan) (rounds : ℕ) (paced : Bool) (h : List Entry) : Type 0 where
+  pub legal : Legal p h
+  pub display : IsDisplayPart p h rounds
+  pub pace : IsTrue paced → IsPaced p h rounds
+  pub taken : TakesAll p (world p h)
+  pub in_time : AllInTime h
+
+-- the bytes of the frames that a history writes, with so many buffers
+abbrev pub frames_of : Plan → List Entry → ℕ → List ℕ
+frames_of p h buffers = frames_bytes (written p h buffers)
+
+-- how many messages each client's file has
+abbrev pub message_counts : Plan → List ℕ
+message_counts p = map (λ (file : ClientFile). length file.messages) p.files

@@ -1,0 +1,73 @@
+-- What a client's end is while its messages are taken, by a thread or after all threads have ended.
+use Rattle.std.specs.Prelude.{◌≡◌, ℕ, ◌-◌, ◌≤◌, true, ◌⊎◌, All, Some, List, map, reverse, length, slice_index}
+use Rattle.atomic_table.specs.Seated.{TableId}
+use Rattle.vz_rules.specs.Plan.{Plan}
+use Rattle.vz_desk.specs.declared.totals.Totals.{Totals}
+use Rattle.vz_desk.specs.Owners.{Owner}
+use Rattle.vz_desk.specs.Answers.{TellsIdle}
+use Rattle.vz_threads.specs.Courses.{message_counts}
+use Rattle.vz_threads.specs.declared.crew.Started.{Started}
+use Rattle.vz_threads.specs.declared.crew.Started.TheVariants.{Running, Here}
+
+-- how many messages the file of a client has, with the messages of each file
+abbrev pub messages_of : List ℕ → ℕ → ℕ
+messages_of counts c = slice_index counts (c - 1)
+
+-- an end of a client at work: it is of this desk and this plan, which has the client, each of its calls took a message, and it took
+-- no more than its file has
+pub record IsAtWork (id : TableId) (p : Plan) (o : Owner Totals) : Type 0 where
+  pub desk : o.desk ≡ id
+  pub plan : o.plan ≡ Some p
+  pub client : (1 ≤ o.number) × (o.number ≤ length p.files)
+  pub timely : o.totals.calls ≡ o.totals.taken
+  pub few : o.totals.taken ≤ messages_of (message_counts p) o.number
+
+-- an end is at work, and its file has so many messages
+pub record MayTake (id : TableId) (count : ℕ) (o : Owner Totals) : Type 0 where
+  pub plan : Plan
+  pub work : IsAtWork id plan o
+  pub all : count ≡ messages_of (message_counts plan) o.number
+
+-- it is the same client's end, and is at work where it was
+pub record WorksOn (old new : Owner Totals) : Type 0 where
+  pub number : new.number ≡ old.number
+  pub work : (id : TableId) (p : Plan) → IsAtWork id p old → IsAtWork id p new
+
+-- all ends are at work, and the files have so many messages
+pub record IsCrew (id : TableId) (messages : List ℕ) (os : List (Owner Totals)) : Type 0 where
+  pub plan : Plan
+  pub work : All (IsAtWork id plan) os
+  pub counts : messages ≡ message_counts plan
+
+-- they are the ends of the same clients, and all are at work where they were
+pub record CrewWorksOn (old new : List (Owner Totals)) : Type 0 where
+  pub numbers : map (λ (o : Owner Totals). o.number) new ≡ map (λ (o : Owner Totals). o.number) old
+  pub work : (id : TableId) (p : Plan) → All (IsAtWork id p) old → All (IsAtWork id p) new
+
+-- an end took all messages of its file
+abbrev pub TookAll : List ℕ → Owner Totals → Type 0
+TookAll messages o = o.totals.taken ≡ messages_of messages o.number
+
+-- an end took so many messages, or its client is idle in the world behind what it has seen
+abbrev pub IsServed : ℕ → Owner Totals → Type 0
+IsServed count o = (o.totals.taken ≡ count) ⊎ TellsIdle o true
+
+-- an end of the crew, with what the crew knows of the files
+pub record IsInCrew (id : TableId) (messages : List ℕ) (o : Owner Totals) : Type 0 where
+  pub plan : Plan
+  pub work : IsAtWork id plan o
+  pub counts : messages ≡ message_counts plan
+
+-- the end that a thread was given, or that is still here
+abbrev pub end_of : {M D : Type 0} → Started M D → Owner Totals
+end_of (Running handle) = handle.promise.given.value
+end_of (Here end) = end
+
+-- the ends of those that were started, the last started first
+abbrev pub crew_of : {M D : Type 0} → List (Started M D) → List (Owner Totals)
+crew_of started = map end_of (reverse started)
+
+-- an end that is here took all messages of its file, or its client is idle
+abbrev pub IsServedHere : {M D : Type 0} → List ℕ → Started M D → Type 0
+IsServedHere messages (Running handle) = Unit {0}
+IsServedHere messages (Here end) = IsServed (messages_of messages end.number) end

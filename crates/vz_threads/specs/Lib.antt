@@ -1,0 +1,6 @@
+pub mod Courses
+pub mod Tails
+pub mod Crews
+pub mod Outlets
+pub mod Rounds
+pub mod Runs

@@ -1,0 +1,116 @@
+//! The clients' threads beside the display.
+ghost use Rattle.std.specs.Prelude.{◌≡◌, ◌≤◌, [], length, vec_len, vec_capacity, OnOk, OnErr};
+ghost use Rattle.vz_desk.specs.Owners.{IsSameOwner};
+ghost use Rattle.vz_threads.specs.Crews.{IsCrew, CrewWorksOn};
+ghost use Rattle.vz_threads.specs.Rounds.{HasBegunPlay, PlaysAll, IsCutShort};
+
+use crate::crew::{Started, finish_all, start_all};
+use crate::halt::Halt;
+use crate::outlet::Outlet;
+use crate::playing::play;
+use std::alloc::AllocGlobal;
+use std::sync::Wait;
+use std::sync::atomic::AtomicBool;
+use std::thread;
+use std::thread::Threads;
+use vz_desk::{Desk, DisplayEnd, End};
+use vz_machine::Machine;
+use vz_outside::{Gate, ShelfError};
+
+/// What comes back once all threads have ended.
+#[derive(Drop)]
+pub(crate) struct Beside<M: Machine + Send, O> {
+    pub(crate) ends: Vec<End<M, Halt>>,
+    pub(crate) display: DisplayEnd<M, Halt>,
+    pub(crate) outlet: O,
+    pub(crate) played: Result<(), ShelfError>,
+}
+
+/// Starts a thread for each client, makes the rounds of the display on this one, and waits for all
+/// threads. Conditions: the ends are at work, the display has made no round yet, and there is room
+/// and a flag for each thread.
+pub(crate) fn play_beside<
+    M: Machine + Send + Drop,
+    O: Outlet + Drop,
+    G: Gate + Sync,
+    R: Threads + Wait + AllocGlobal + Sync,
+>(
+    rt: &R,
+    desk: &Desk<M, Halt>,
+    gate: &G,
+    refused: &[AtomicBool],
+    messages: &[u64],
+    rounds: u32,
+    paced: bool,
+    started: Vec<Started<M>>,
+    ends: Vec<End<M, Halt>>,
+    display: DisplayEnd<M, Halt>,
+    outlet: O,
+) -> Beside<M, O>
+where
+    M::FrameData: Send + Drop,
+    requires crew { IsCrew desk.now.id messages.now ends.items }
+    requires flags { length refused.now ≡ length messages.now }
+    requires room { (started.items ≡ []) × (vec_len ends ≤ vec_capacity started) }
+    requires display { display.desk ≡ desk.now.id }
+    requires begun { HasBegunPlay paced (O.stands outlet) display }
+    ensures works { CrewWorksOn ends.items result.ends.items }
+    ensures same { IsSameOwner display result.display }
+    ensures played { OnOk result.played
+        (PlaysAll paced (O.stands outlet) display (O.stands result.outlet) result.display rounds) }
+    ensures cut { OnErr result.played (IsCutShort paced (O.stands outlet) display
+        (O.stands result.outlet) result.display result.played) }
+{
+    thread::scope(
+        thread::scope_env(),
+        rt,
+        |scope| -> Beside<M, O>
+            requires crew { IsCrew desk.now.id messages.now ends.items }
+            requires flags { length refused.now ≡ length messages.now }
+            requires room { (started.items ≡ []) × (vec_len ends ≤ vec_capacity started) }
+            requires display { display.desk ≡ desk.now.id }
+            requires begun { HasBegunPlay paced (O.stands outlet) display }
+            ensures works { CrewWorksOn ends.items result.ends.items }
+            ensures same { IsSameOwner display result.display }
+            ensures played { OnOk result.played (PlaysAll paced (O.stands outlet) display
+                (O.stands result.outlet) result.display rounds) }
+            ensures cut { OnErr result.played (IsCutShort paced (O.stands outlet) display
+                (O.stands result.outlet) result.display result.played) }
+        {
+            let mut ends = ends;
+            let mut started = started;
+            let mut display = display;
+            let mut outlet = outlet;
+            let count = ends.len();
+            prove!(count <= ends.capacity());
+            start_all(
+                rt,
+                scope,
+                desk,
+                gate,
+                refused,
+                messages,
+                &mut ends,
+                &mut started,
+            );
+            let played = play(
+                rt,
+                desk,
+                gate,
+                &mut started,
+                messages,
+                rounds,
+                paced,
+                &mut display,
+                &mut outlet,
+            );
+            finish_all(rt, &mut started, &mut ends);
+            Beside {
+                ends,
+                display,
+                outlet,
+                played,
+            }
+        },
+    )
+}

@@ -1,0 +1,220 @@
+//! The clients' threads.
+ghost use Rattle.std.specs.Prelude.{◌≡◌, ◌≤◌, [], All, OnOk, length, vec_len, vec_capacity};
+ghost use Rattle.vz_threads.specs.Crews.{messages_of, MayTake, WorksOn, IsInCrew, IsCrew, CrewWorksOn, end_of, crew_of, IsServedHere};
+
+use crate::halt::Halt;
+use crate::messages::{take_messages, take_until_idle};
+use std::alloc::AllocGlobal;
+use std::snapshot::Snapshot;
+use std::sync::Wait;
+use std::sync::atomic::{AtomicBool, Ordering};
+use std::thread::{Promise, PromisedHandle, Scope, Threads};
+use vz_base::Memory;
+use vz_desk::{Desk, End};
+use vz_machine::Machine;
+use vz_outside::Gate;
+
+/// What a thread gives back is the end that was given to it, at work where it was.
+#[derive(Drop)]
+pub(crate) struct SameEnd<M: Machine + Send> {
+    pub(crate) given: Snapshot<End<M, Halt>>,
+}
+
+impl<M: Machine + Send> Promise<End<M, Halt>> for SameEnd<M> {
+    ghost use Rattle.vz_threads.specs.Crews.{WorksOn};
+
+    ghost kept_by = { λ p r. WorksOn p.given.value r };
+}
+
+/// A client's end: with its thread, or here, where no thread could be started.
+#[derive(Drop)]
+pub(crate) enum Started<M: Machine + Send> {
+    Running(PromisedHandle<End<M, Halt>, SameEnd<M>>),
+    Here(End<M, Halt>),
+}
+
+/// How many messages the file of an end's client has.
+pub(crate) fn count_of<M: Machine + Send>(end: &End<M, Halt>, messages: &[u64]) -> u64
+where
+    M::FrameData: Send,
+    requires from { 1 ≤ end.now.number }
+    requires upto { end.now.number ≤ length messages.now }
+    ensures { result ≡ messages_of messages.now end.now.number }
+{
+    messages[end.client() as usize - 1]
+}
+
+// What a thread does: it takes its client's messages, unless it was refused.
+fn work<M: Machine + Send, G: Gate, R: Wait + AllocGlobal>(
+    rt: &R,
+    desk: &Desk<M, Halt>,
+    gate: &G,
+    refused: &AtomicBool,
+    mut end: End<M, Halt>,
+    count: u64,
+) -> End<M, Halt>
+where
+    M::FrameData: Send,
+    requires { MayTake desk.now.id count end }
+    ensures { WorksOn end result }
+{
+    if !refused.load(Ordering::SeqCst) {
+        // The desk was stopped where this fails, which the display sees.
+        let _ = take_messages(rt, desk, gate, &mut end, count);
+    }
+    end
+}
+
+// Starts the thread of one end. Where it cannot be started the end is still here.
+fn start<
+    's,
+    M: Machine + Send + Drop + 's,
+    G: Gate + Sync + 's,
+    E,
+    R: Threads + Wait + AllocGlobal + Sync + 's,
+>(
+    rt: &'s R,
+    scope: &Scope<'s, E>,
+    desk: &'s Desk<M, Halt>,
+    gate: &'s G,
+    refused: &'s AtomicBool,
+    end: End<M, Halt>,
+    count: u64,
+) -> Started<M>
+where
+    M::FrameData: Send + Drop + 's,
+    requires { MayTake desk.now.id count end }
+    ensures { WorksOn end (end_of result) }
+{
+    let promise = SameEnd {
+        given: Snapshot::of(&end),
+    };
+    let started = scope.spawn_with(
+        promise,
+        move || -> End<M, Halt>
+            requires { MayTake desk.now.id count end }
+            ensures { WorksOn end result }
+        { work(rt, desk, gate, refused, end, count) },
+    );
+    match started {
+        Ok(child) => Started::Running(child),
+        Err(unstarted) => {
+            refused.store(true, Ordering::SeqCst);
+            Started::Here((unstarted.value)())
+        }
+    }
+}
+
+// Takes messages of an end that is here, until its client is idle.
+fn serve<M: Machine + Send, G: Gate, R: Wait + AllocGlobal>(
+    rt: &R,
+    desk: &Desk<M, Halt>,
+    gate: &G,
+    one: &mut Started<M>,
+    messages: &[u64],
+) -> Result<(), Memory>
+where
+    M::FrameData: Send,
+    requires { IsInCrew desk.now.id messages.now (end_of one.old) }
+    ensures works { WorksOn (end_of one.old) (end_of one.new) }
+    ensures served { OnOk result (IsServedHere messages.now one.new) }
+{
+    match one {
+        Started::Running(_) => Ok(()),
+        Started::Here(end) => {
+            let count = count_of(end, messages);
+            take_until_idle(rt, desk, gate, end, count)?;
+            Ok(())
+        }
+    }
+}
+
+// Waits for the thread of one end.
+fn finish<M: Machine + Send + Drop, R: Threads + Wait>(rt: &R, started: Started<M>) -> End<M, Halt>
+where
+    M::FrameData: Send + Drop,
+    ensures { WorksOn (end_of started) result }
+{
+    match started {
+        Started::Running(child) => child.join(rt),
+        Started::Here(end) => end,
+    }
+}
+
+/// Starts a thread for each end, the last first, and takes the ends. Each takes its client's
+/// messages, unless it could not be started: then its end is in the list. `refused` has a place for
+/// each file. Conditions: the ends are the crew's, and there is room for all.
+pub(crate) fn start_all<
+    's,
+    M: Machine + Send + Drop + 's,
+    G: Gate + Sync + 's,
+    E,
+    R: Threads + Wait + AllocGlobal + Sync + 's,
+>(
+    rt: &'s R,
+    scope: &Scope<'s, E>,
+    desk: &'s Desk<M, Halt>,
+    gate: &'s G,
+    refused: &'s [AtomicBool],
+    messages: &[u64],
+    ends: &mut Vec<End<M, Halt>>,
+    started: &mut Vec<Started<M>>,
+)
+where
+    M::FrameData: Send + Drop + 's,
+    requires crew { IsCrew desk.now.id messages.now ends.old.items }
+    requires flags { length refused.now ≡ length messages.now }
+    requires room { (started.old.items ≡ []) × (vec_len ends.old ≤ vec_capacity started.old) }
+    ensures none { ends.new.items ≡ [] }
+    ensures capacity { vec_capacity ends.new ≡ vec_capacity ends.old }
+    ensures count { vec_len started.new ≡ vec_len ends.old }
+    ensures works { CrewWorksOn ends.old.items (crew_of started.new.items) }
+{
+    while let Some(end) = ends.pop() {
+        let count = count_of(&end, messages);
+        let flag = &refused[end.client() as usize - 1];
+        started.push_reserved(start(rt, scope, desk, gate, flag, end, count));
+    }
+}
+
+/// Takes messages of each end whose thread could not be started, until its client is idle. Where
+/// the desk was stopped, or at want of memory, it stops before and answers Memory. At want of memory
+/// the desk is stopped.
+pub(crate) fn serve_all<M: Machine + Send, G: Gate, R: Wait + AllocGlobal>(
+    rt: &R,
+    desk: &Desk<M, Halt>,
+    gate: &G,
+    started: &mut Vec<Started<M>>,
+    messages: &[u64],
+) -> Result<(), Memory>
+where
+    M::FrameData: Send,
+    requires { IsCrew desk.now.id messages.now (crew_of started.old.items) }
+    ensures count { vec_len started.new ≡ vec_len started.old }
+    ensures capacity { vec_capacity started.new ≡ vec_capacity started.old }
+    ensures works { CrewWorksOn (crew_of started.old.items) (crew_of started.new.items) }
+    ensures served { OnOk result (All (IsServedHere messages.now) started.new.items) }
+{
+    for one in started.iter_mut() {
+        serve(rt, desk, gate, one, messages)?;
+    }
+    Ok(())
+}
+
+/// Waits for all threads, and gives the ends back in the order in which `start_all` took them.
+/// Condition: there is room for all.
+pub(crate) fn finish_all<M: Machine + Send + Drop, R: Threads + Wait>(
+    rt: &R,
+    started: &mut Vec<Started<M>>,
+    ends: &mut Vec<End<M, Halt>>,
+)
+where
+    M::FrameData: Send + Drop,
+    requires room { (ends.old.items ≡ []) × (vec_len started.old ≤ vec_capacity ends.old) }
+    ensures none { started.new.items ≡ [] }
+    ensures works { CrewWorksOn (crew_of started.old.items) ends.new.items }
+{
+    while let Some(one) = started.pop() {
+        ends.push_reserved(finish(rt, one));
+    }
+}

@@ -1,0 +1,91 @@
+//! How the messages of one client are taken.
+ghost use Rattle.std.specs.Prelude.{◌≡◌, ◌+◌, ◌<◌, OnOk};
+ghost use Rattle.vz_threads.specs.Crews.{MayTake, WorksOn, IsServed};
+
+use crate::halt::Halt;
+use std::alloc::AllocGlobal;
+use std::sync::Wait;
+use vz_base::Memory;
+use vz_desk::{Answer, Desk, End};
+use vz_machine::Machine;
+use vz_outside::Gate;
+
+// Takes one message, between the two calls of the gate. A stopped desk and want of memory answer
+// Memory. At want of memory the desk is stopped.
+fn take_next<M: Machine + Send, G: Gate, R: Wait + AllocGlobal>(
+    rt: &R,
+    desk: &Desk<M, Halt>,
+    gate: &G,
+    end: &mut End<M, Halt>,
+    count: u64,
+) -> Result<(), Memory>
+where
+    M::FrameData: Send,
+    requires may { MayTake desk.now.id count end.old }
+    requires left { end.old.totals.taken < count }
+    ensures works { WorksOn end.old end.new }
+    ensures one { OnOk result (end.new.totals.taken ≡ end.old.totals.taken + 1) }
+{
+    let client = end.client();
+    let turn = end.calls() + 1;
+    gate.before(client, turn);
+    let answer = desk.client(rt, end);
+    gate.after(end.client(), turn);
+    match answer {
+        Ok(made) => match made {
+            Answer::Did(_) => Ok(()),
+            Answer::Stopped(_) => Err(Memory),
+        },
+        Err(memory) => {
+            desk.stop(rt, end, Halt::Memory);
+            Err(memory)
+        }
+    }
+}
+
+/// Takes the messages of a client that are left: after it the end has taken as many as the file
+/// has, which is `count`. Where the desk was stopped, or at want of memory, it stops before and
+/// answers Memory. At want of memory the desk is stopped.
+pub(crate) fn take_messages<M: Machine + Send, G: Gate, R: Wait + AllocGlobal>(
+    rt: &R,
+    desk: &Desk<M, Halt>,
+    gate: &G,
+    end: &mut End<M, Halt>,
+    count: u64,
+) -> Result<(), Memory>
+where
+    M::FrameData: Send,
+    requires { MayTake desk.now.id count end.old }
+    ensures works { WorksOn end.old end.new }
+    ensures all { OnOk result (end.new.totals.taken ≡ count) }
+{
+    while end.taken() < count {
+        take_next(rt, desk, gate, end, count)?;
+    }
+    Ok(())
+}
+
+/// Takes messages of a client until it is idle or the end has taken as many as the file has, which
+/// is `count`. Where the desk was stopped, or at want of memory, it stops before and answers Memory.
+/// At want of memory the desk is stopped.
+pub(crate) fn take_until_idle<M: Machine + Send, G: Gate, R: Wait + AllocGlobal>(
+    rt: &R,
+    desk: &Desk<M, Halt>,
+    gate: &G,
+    end: &mut End<M, Halt>,
+    count: u64,
+) -> Result<(), Memory>
+where
+    M::FrameData: Send,
+    requires { MayTake desk.now.id count end.old }
+    ensures works { WorksOn end.old end.new }
+    ensures served { OnOk result (IsServed count end.new) }
+{
+    while end.taken() < count {
+        if desk.idle(rt, end) {
+            return Ok(());
+        }
+        take_next(rt, desk, gate, end, count)?;
+    }
+    Ok(())
+}

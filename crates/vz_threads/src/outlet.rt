@@ -1,0 +1,62 @@
+//! Where the display's pictures go.
+ghost use Rattle.std.specs.Prelude.{OnOk, OnErr, ◌≡◌};
+ghost use Rattle.vz_outside.specs.Shelved.{KeepsOthers, Behaves};
+ghost use Rattle.vz_threads.specs.Outlets.{MayShow, Shows, BeginsFrame, file_of};
+
+use std::alloc::Global;
+use std::sync::ledger::Ledger;
+use vz_buffers::Steps;
+use vz_display::Display;
+use vz_machine::Picture;
+use vz_outputs::{FrameFile, write_frame};
+use vz_outside::{Shelf, ShelfError};
+
+/// Shows pictures on a display, and writes the frame of each at the end of a file.
+pub trait Outlet {
+    ghost use Rattle.vz_threads.specs.Outlets.{Outlook};
+
+    /// How it stands.
+    ghost stands: { Self → Outlook };
+
+    /// Shows a picture. At an error a front part of its frame was written, maybe none, and the
+    /// display is of no further use.
+    fn show<P: Picture + Drop>(&mut self, alloc: Global, picture: P) -> Result<(), ShelfError>
+        requires { MayShow (stands self.old) (P.pictured picture) }
+        ensures fixed { (stands self.new).fixed ≡ (stands self.old).fixed }
+        ensures shown { OnOk result
+            (Shows (P.pictured picture) (stands self.old) (stands self.new)) }
+        ensures begun { OnErr result
+            (BeginsFrame (P.pictured picture) (stands self.old) (stands self.new)) }
+        ensures others { KeepsOthers (file_of (stands self.old))
+            (stands self.old).shelf (stands self.new).shelf }
+        ensures behaves { Behaves (stands self.old).shelf (stands self.new).shelf result };
+}
+
+/// A display, with the file of a shelf that its frames are written to, and the counter of steps.
+#[derive(Drop)]
+pub struct FrameOutlet<'a, F: Shelf, L: Ledger> {
+    pub display: Display,
+    pub shelf: &'a mut F,
+    pub file: FrameFile,
+    pub steps: &'a mut Steps<L>,
+}
+
+impl<'a, F: Shelf, L: Ledger> Outlet for FrameOutlet<'a, F, L> {
+    ghost stands = { λ o. record {
+      fixed = record {
+        slot = o.file.slot;
+        size = o.file.size;
+        shelf = o.shelf.ghost_name;
+        steps = o.steps.ghost_name;
+      };
+      display = o.display;
+      shelf = F.shelved o.shelf.now;
+      steps = o.steps.now;
+    } };
+
+    fn show<P: Picture + Drop>(&mut self, alloc: Global, picture: P) -> Result<(), ShelfError> {
+        self.display.show(alloc, &picture, self.steps)?;
+        write_frame(alloc, self.shelf, self.file, &self.display)?;
+        Ok(())
+    }
+}

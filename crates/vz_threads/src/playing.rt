@@ -1,0 +1,184 @@
+//! The display's part of a run while the clients' threads take their messages.
+ghost use Rattle.std.specs.Prelude.{◌≡◌, ◌⊎◌, OnOk, OnErr, vec_len, vec_capacity};
+ghost use Rattle.vz_rules.specs.declared.entry.Event.TheVariants as event;
+ghost use Rattle.vz_desk.specs.Displays.{Displays};
+ghost use Rattle.vz_desk.specs.Owners.{IsSameOwner, MakesNone};
+ghost use Rattle.vz_threads.specs.Crews.{IsCrew, CrewWorksOn, crew_of};
+ghost use Rattle.vz_threads.specs.Rounds.{IsSomewhere, HasBegunPlay, PlaysRound, PlaysRounds, PlaysAll, IsCutFrom, IsCutShort};
+
+use crate::crew::{Started, serve_all};
+use crate::halt::Halt;
+use crate::outlet::Outlet;
+use crate::rounds::{begin_frame, end_round, tell_over};
+use std::alloc::AllocGlobal;
+use std::sync::Wait;
+use vz_base::Memory;
+use vz_desk::{Desk, DisplayEnd};
+use vz_machine::Machine;
+use vz_outside::{Gate, ShelfError};
+
+/// Begins a frame, and takes messages of the clients without a thread until they are idle. A desk
+/// that was stopped is answered as want of memory.
+fn open_round<M: Machine + Send, G: Gate, R: Wait + AllocGlobal>(
+    rt: &R,
+    desk: &Desk<M, Halt>,
+    gate: &G,
+    started: &mut Vec<Started<M>>,
+    messages: &[u64],
+    d: &mut DisplayEnd<M, Halt>,
+) -> Result<(), Memory>
+where
+    M::FrameData: Send,
+    requires desk { d.old.desk ≡ desk.now.id }
+    requires crew { IsCrew desk.now.id messages.now (crew_of started.old.items) }
+    ensures same { IsSameOwner d.old d.new }
+    ensures made { OnOk result (Displays d.old d.new event.Begin) }
+    ensures none { OnErr result (Displays d.old d.new event.Begin ⊎ MakesNone d.old d.new) }
+    ensures count { vec_len started.new ≡ vec_len started.old }
+    ensures works { CrewWorksOn (crew_of started.old.items) (crew_of started.new.items) }
+{
+    begin_frame(rt, desk, gate, d)?;
+    serve_all(rt, desk, gate, started, messages)?;
+    Ok(())
+}
+
+/// Makes a round. At an error a front part of its frame is written. Conditions: the end is of this
+/// desk, the display is somewhere in its run, and the ends of those that were started are at work.
+fn play_round<M: Machine + Send, O: Outlet, G: Gate, R: Wait + AllocGlobal>(
+    rt: &R,
+    desk: &Desk<M, Halt>,
+    gate: &G,
+    started: &mut Vec<Started<M>>,
+    messages: &[u64],
+    paced: bool,
+    d: &mut DisplayEnd<M, Halt>,
+    outlet: &mut O,
+) -> Result<(), ShelfError>
+where
+    M::FrameData: Send + Drop,
+    requires desk { d.old.desk ≡ desk.now.id }
+    requires crew { IsCrew desk.now.id messages.now (crew_of started.old.items) }
+    requires somewhere { IsSomewhere (O.stands outlet.old) d.old }
+    ensures same { IsSameOwner d.old d.new }
+    ensures played { OnOk result
+        (PlaysRound paced (O.stands outlet.old) d.old (O.stands outlet.new) d.new) }
+    ensures cut { OnErr result
+        (IsCutFrom (O.stands outlet.old) d.old (O.stands outlet.new) d.new result) }
+    ensures count { vec_len started.new ≡ vec_len started.old }
+    ensures works { CrewWorksOn (crew_of started.old.items) (crew_of started.new.items) }
+{
+    let Ok(()) = open_round(rt, desk, gate, started, messages, d) else {
+        return Err(ShelfError::Memory);
+    };
+    end_round(rt, desk, gate, paced, d, outlet)?;
+    Ok(())
+}
+
+/// Makes so many rounds. At an error a front part of their frames is written. Conditions: the end is
+/// of this desk, the display has made no round yet, and the ends of those that were started are at
+/// work.
+fn play_rounds<M: Machine + Send, O: Outlet, G: Gate, R: Wait + AllocGlobal>(
+    rt: &R,
+    desk: &Desk<M, Halt>,
+    gate: &G,
+    started: &mut Vec<Started<M>>,
+    messages: &[u64],
+    rounds: u32,
+    paced: bool,
+    d: &mut DisplayEnd<M, Halt>,
+    outlet: &mut O,
+) -> Result<(), ShelfError>
+where
+    M::FrameData: Send + Drop,
+    requires desk { d.old.desk ≡ desk.now.id }
+    requires crew { IsCrew desk.now.id messages.now (crew_of started.old.items) }
+    requires begun { HasBegunPlay paced (O.stands outlet.old) d.old }
+    ensures same { IsSameOwner d.old d.new }
+    ensures played { OnOk result
+        (PlaysRounds paced (O.stands outlet.old) d.old (O.stands outlet.new) d.new rounds) }
+    ensures cut { OnErr result
+        (IsCutShort paced (O.stands outlet.old) d.old (O.stands outlet.new) d.new result) }
+    ensures count { vec_len started.new ≡ vec_len started.old }
+    ensures works { CrewWorksOn (crew_of started.old.items) (crew_of started.new.items) }
+{
+    for _ in 0..rounds {
+        play_round(rt, desk, gate, started, messages, paced, d, outlet)?;
+    }
+    Ok(())
+}
+
+/// Makes the rounds, and tells that they are over.
+fn play_to_over<M: Machine + Send, O: Outlet, G: Gate, R: Wait + AllocGlobal>(
+    rt: &R,
+    desk: &Desk<M, Halt>,
+    gate: &G,
+    started: &mut Vec<Started<M>>,
+    messages: &[u64],
+    rounds: u32,
+    paced: bool,
+    d: &mut DisplayEnd<M, Halt>,
+    outlet: &mut O,
+) -> Result<(), ShelfError>
+where
+    M::FrameData: Send + Drop,
+    requires desk { d.old.desk ≡ desk.now.id }
+    requires crew { IsCrew desk.now.id messages.now (crew_of started.old.items) }
+    requires begun { HasBegunPlay paced (O.stands outlet.old) d.old }
+    ensures same { IsSameOwner d.old d.new }
+    ensures played { OnOk result
+        (PlaysAll paced (O.stands outlet.old) d.old (O.stands outlet.new) d.new rounds) }
+    ensures cut { OnErr result
+        (IsCutShort paced (O.stands outlet.old) d.old (O.stands outlet.new) d.new result) }
+    ensures count { vec_len started.new ≡ vec_len started.old }
+    ensures works { CrewWorksOn (crew_of started.old.items) (crew_of started.new.items) }
+{
+    play_rounds(rt, desk, gate, started, messages, rounds, paced, d, outlet)?;
+    let Ok(()) = tell_over(rt, desk, gate, d) else {
+        return Err(ShelfError::Memory);
+    };
+    Ok(())
+}
+
+/// Makes the rounds, and tells that they are over. At an error the desk is stopped, and a front part
+/// of the frames is written. Conditions: the end is of this desk, the display has made no round yet,
+/// and the ends of those that were started are at work.
+pub(crate) fn play<M: Machine + Send, O: Outlet, G: Gate, R: Wait + AllocGlobal>(
+    rt: &R,
+    desk: &Desk<M, Halt>,
+    gate: &G,
+    started: &mut Vec<Started<M>>,
+    messages: &[u64],
+    rounds: u32,
+    paced: bool,
+    d: &mut DisplayEnd<M, Halt>,
+    outlet: &mut O,
+) -> Result<(), ShelfError>
+where
+    M::FrameData: Send + Drop,
+    requires desk { d.old.desk ≡ desk.now.id }
+    requires crew { IsCrew desk.now.id messages.now (crew_of started.old.items) }
+    requires begun { HasBegunPlay paced (O.stands outlet.old) d.old }
+    ensures same { IsSameOwner d.old d.new }
+    ensures played { OnOk result
+        (PlaysAll paced (O.stands outlet.old) d.old (O.stands outlet.new) d.new rounds) }
+    ensures cut { OnErr result
+        (IsCutShort paced (O.stands outlet.old) d.old (O.stands outlet.new) d.new result) }
+    ensures count { vec_len started.new ≡ vec_len started.old }
+    ensures works { CrewWorksOn (crew_of started.old.items) (crew_of started.new.items) }
+{
+    match play_to_over(rt, desk, gate, started, messages, rounds, paced, d, outlet) {
+        Ok(()) => Ok(()),
+        Err(error) => {
+            desk.stop_display(rt, d, halt_for(error));
+            Err(error)
+        }
+    }
+}
+
+/// What an error stops a run for.
+fn halt_for(error: ShelfError) -> Halt {
+    match error {
+        ShelfError::Failed => Halt::Fault,
+        ShelfError::Memory => Halt::Memory,
+    }
+}

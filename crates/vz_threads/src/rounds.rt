@@ -1,0 +1,212 @@
+//! What the display does in a round: each step between the two calls of a gate.
+ghost use Rattle.std.specs.Prelude.{◌≡◌, true, IfOk, OnOk, OnErr, IsTrue, IsFalse};
+ghost use Rattle.vz_rules.specs.declared.entry.Event.TheVariants as event;
+ghost use Rattle.vz_desk.specs.Answers.{IsPaused};
+ghost use Rattle.vz_desk.specs.Displays.{Displays, EndsFrame};
+ghost use Rattle.vz_desk.specs.Drawings.{IsDrawing};
+ghost use Rattle.vz_desk.specs.Owners.{IsSameOwner, MakesNone};
+ghost use Rattle.vz_threads.specs.Rounds.{IsSomewhere, ShowsOnce, EndsRound, IsCutFrom};
+
+use crate::halt::Halt;
+use crate::outlet::Outlet;
+use std::alloc::AllocGlobal;
+use std::sync::Wait;
+use vz_base::Memory;
+use vz_desk::{Answer, Desk, DisplayEnd, Drawing, Hold};
+use vz_machine::Machine;
+use vz_outside::{Gate, ShelfError};
+use vz_player::Turn;
+
+/// The display's next step, as a gate knows it.
+fn next_turn<M: Machine + Send>(d: &DisplayEnd<M, Halt>) -> Turn
+where
+    M::FrameData: Send,
+{
+    let taken = d
+        .begins()
+        .saturating_add(d.draws())
+        .saturating_add(d.dones());
+    Turn {
+        actor: 0,
+        number: taken.saturating_add(1),
+    }
+}
+
+/// Begins a frame. A desk that was stopped is answered as want of memory.
+pub(crate) fn begin_frame<M: Machine + Send, G: Gate, R: Wait + AllocGlobal>(
+    rt: &R,
+    desk: &Desk<M, Halt>,
+    gate: &G,
+    d: &mut DisplayEnd<M, Halt>,
+) -> Result<(), Memory>
+where
+    M::FrameData: Send,
+    requires { d.old.desk ≡ desk.now.id }
+    ensures same { IsSameOwner d.old d.new }
+    ensures made { OnOk result (Displays d.old d.new event.Begin) }
+    ensures none { OnErr result (MakesNone d.old d.new) }
+{
+    let turn = next_turn(d);
+    gate.before(turn.actor, turn.number);
+    let answer = desk.begin(rt, d);
+    gate.after(turn.actor, turn.number);
+    match answer? {
+        Answer::Did(_) => Ok(()),
+        Answer::Stopped(_) => Err(Memory),
+    }
+}
+
+/// Tells that the rounds are over. A desk that was stopped is answered as want of memory.
+pub(crate) fn tell_over<M: Machine + Send, G: Gate, R: Wait>(
+    rt: &R,
+    desk: &Desk<M, Halt>,
+    gate: &G,
+    d: &mut DisplayEnd<M, Halt>,
+) -> Result<(), Memory>
+where
+    M::FrameData: Send,
+    requires { d.old.desk ≡ desk.now.id }
+    ensures same { IsSameOwner d.old d.new }
+    ensures made { OnOk result (Displays d.old d.new event.Over) }
+    ensures none { OnErr result (MakesNone d.old d.new) }
+{
+    let turn = next_turn(d);
+    gate.before(turn.actor, turn.number);
+    let answer = desk.over(rt, d);
+    gate.after(turn.actor, turn.number);
+    match answer? {
+        Answer::Did(_) => Ok(()),
+        Answer::Stopped(_) => Err(Memory),
+    }
+}
+
+/// Waits, where that is asked, until each attached client is idle or has answered the tick. A desk
+/// that was stopped is answered as want of memory.
+fn pause<M: Machine + Send, R: Wait>(
+    rt: &R,
+    desk: &Desk<M, Halt>,
+    paced: bool,
+    d: &mut DisplayEnd<M, Halt>,
+) -> Result<(), Memory>
+where
+    M::FrameData: Send,
+    requires { d.old.desk ≡ desk.now.id }
+    ensures same { IsSameOwner d.old d.new }
+    ensures none { MakesNone d.old d.new }
+    ensures calm { OnOk result (IsTrue paced → IsPaused d.new) }
+    ensures stays { IsFalse paced → d.new ≡ d.old }
+{
+    if !paced {
+        return Ok(());
+    }
+    match desk.pace(rt, d) {
+        None => Ok(()),
+        Some(_) => Err(Memory),
+    }
+}
+
+/// Ends a round that was begun: a pause, where that is asked, and a drawing, shown. At an error a
+/// front part of its frame is written. Conditions: the end is of this desk, and the display is
+/// somewhere in its run.
+pub(crate) fn end_round<M: Machine + Send, O: Outlet, G: Gate, R: Wait + AllocGlobal>(
+    rt: &R,
+    desk: &Desk<M, Halt>,
+    gate: &G,
+    paced: bool,
+    d: &mut DisplayEnd<M, Halt>,
+    outlet: &mut O,
+) -> Result<(), ShelfError>
+where
+    M::FrameData: Send + Drop,
+    requires desk { d.old.desk ≡ desk.now.id }
+    requires somewhere { IsSomewhere (O.stands outlet.old) d.old }
+    ensures same { IsSameOwner d.old d.new }
+    ensures ended { OnOk result
+        (EndsRound paced (O.stands outlet.old) d.old (O.stands outlet.new) d.new) }
+    ensures cut { OnErr result
+        (IsCutFrom (O.stands outlet.old) d.old (O.stands outlet.new) d.new result) }
+{
+    let Ok(()) = pause(rt, desk, paced, d) else {
+        return Err(ShelfError::Memory);
+    };
+    show_drawing(rt, desk, gate, d, outlet)?;
+    Ok(())
+}
+
+/// Draws, and answers what came of it.
+fn ask_drawing<M: Machine + Send, G: Gate, R: Wait + AllocGlobal>(
+    rt: &R,
+    desk: &Desk<M, Halt>,
+    gate: &G,
+    d: &mut DisplayEnd<M, Halt>,
+) -> Result<Drawing<M, Halt>, Memory>
+where
+    M::FrameData: Send,
+    requires { d.old.desk ≡ desk.now.id }
+    ensures same { IsSameOwner d.old d.new }
+    ensures drawing { IfOk result (λ x. IsDrawing M.FrameData.pictured d.old d.new x) }
+    ensures none { OnErr result (MakesNone d.old d.new) }
+{
+    let turn = next_turn(d);
+    gate.before(turn.actor, turn.number);
+    let drawing = desk.draw(rt, d);
+    gate.after(turn.actor, turn.number);
+    Ok(drawing?)
+}
+
+/// Draws, and shows the picture where there is one, with its Done. At an error the frame in flight
+/// is done all the same, and of the frame a front part is written. Conditions: the end is of this
+/// desk, and the display is somewhere in its run.
+pub(crate) fn show_drawing<M: Machine + Send, O: Outlet, G: Gate, R: Wait + AllocGlobal>(
+    rt: &R,
+    desk: &Desk<M, Halt>,
+    gate: &G,
+    d: &mut DisplayEnd<M, Halt>,
+    outlet: &mut O,
+) -> Result<(), ShelfError>
+where
+    M::FrameData: Send + Drop,
+    requires desk { d.old.desk ≡ desk.now.id }
+    requires somewhere { IsSomewhere (O.stands outlet.old) d.old }
+    ensures same { IsSameOwner d.old d.new }
+    ensures shown { OnOk result
+        (ShowsOnce (O.stands outlet.old) d.old (O.stands outlet.new) d.new) }
+    ensures cut { OnErr result
+        (IsCutFrom (O.stands outlet.old) d.old (O.stands outlet.new) d.new result) }
+{
+    let Ok(drawing) = ask_drawing(rt, desk, gate, d) else {
+        return Err(ShelfError::Memory);
+    };
+    match drawing {
+        Drawing::Drawn(hold, picture) => {
+            let shown = outlet.show(rt.alloc(), picture);
+            end_frame(rt, desk, gate, d, hold);
+            shown
+        }
+        Drawing::Other(_) => Ok(()),
+        Drawing::Stopped(_) => Err(ShelfError::Memory),
+    }
+}
+
+/// Tells that the drawn frame is done. Conditions: the end and the frame's token are of this desk,
+/// and a frame is in flight.
+fn end_frame<M: Machine + Send, G: Gate, R: Wait>(
+    rt: &R,
+    desk: &Desk<M, Halt>,
+    gate: &G,
+    d: &mut DisplayEnd<M, Halt>,
+    hold: Hold<M, Halt>,
+)
+where
+    M::FrameData: Send,
+    requires end { d.old.desk ≡ desk.now.id }
+    requires hold { hold ≡ desk.now.id }
+    requires flies { d.old.totals.in_flight ≡ true }
+    ensures same { IsSameOwner d.old d.new }
+    ensures done { EndsFrame d.old d.new }
+{
+    let turn = next_turn(d);
+    gate.before(turn.actor, turn.number);
+    desk.done(rt, d, hold);
+    gate.after(turn.actor, turn.number);
+}

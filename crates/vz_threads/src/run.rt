@@ -1,0 +1,127 @@
+//! A run.
+ghost use Rattle.std.specs.Prelude.{◌≡◌, ◌+◌, ◌≤◌, [], Some, IfOk, OnOk, OnErr};
+ghost use Rattle.vz_base.specs.declared.limits.TheConstants.{MOST_BUFFERS, MOST_TICKS};
+ghost use Rattle.vz_outside.specs.Shelved.{Writing, KeepsOthers, Appends, AppendsFront, Behaves};
+ghost use Rattle.vz_rules.specs.Frames.{painted};
+ghost use Rattle.vz_rules.specs.Log.{rest_of};
+ghost use Rattle.vz_rules.specs.Plan.{IsPlan};
+ghost use Rattle.vz_rules.specs.Step.{Legal};
+ghost use Rattle.vz_rules.specs.World.{opening};
+ghost use Rattle.vz_threads.specs.Courses.{IsRun, frames_of, message_counts};
+
+use crate::finish::finish_run;
+use crate::opening::open_run;
+use crate::outlet::FrameOutlet;
+use crate::ran::{Ran, run_opened};
+use std::alloc::AllocGlobal;
+use std::sync::Wait;
+use std::sync::ledger::Ledger;
+use std::thread::Threads;
+use vz_buffers::Steps;
+use vz_display::Display;
+use vz_frame::List;
+use vz_machine::Machine;
+use vz_outputs::FrameFile;
+use vz_outside::{Gate, Shelf, ShelfError};
+use vz_rules::{Entry, Rest};
+
+/// What the display does in a run.
+#[derive(Clone, Copy, Debug, PartialEq, Eq)]
+pub struct Course {
+    /// How many rounds of a begin-frame and a drawing it makes, at most `MOST_TICKS`.
+    pub rounds: u32,
+    /// Whether it waits in each round until every attached client has answered or is idle.
+    pub paced: bool,
+    /// How many buffers it paints in turn, 1 to `MOST_BUFFERS`.
+    pub buffers: u32,
+}
+
+/// Runs a plan with a thread for each client, which takes the client's messages, while this thread
+/// is the display: it makes its rounds and writes each frame that is drawn at the end of a file.
+/// `messages` tells how many messages each client's file has.
+/// After the last round it takes the messages that are left, begins frames until no submission
+/// waits, and draws once more. The answer is what is still out.
+///
+/// Conditions: the machine stands at the opening of its plan, the frames have the plan's size, the
+/// slot is open for writing, and the history is empty.
+/// `Failed` comes where writing a frame fails, `Memory` for want of memory: after both the history
+/// is a legal one, and of the frames that it writes a front part stands.
+pub fn play_course<M: Machine + Send + Drop, F: Shelf, G: Gate + Sync, L: Ledger, R>(
+    rt: &R,
+    machine: M,
+    messages: &[u64],
+    course: Course,
+    shelf: &mut F,
+    file: FrameFile,
+    gate: &G,
+    steps: &mut Steps<L>,
+    history: &mut List<Entry>,
+) -> Result<Rest, ShelfError>
+where
+    M::FrameData: Drop + Send,
+    R: Threads + Wait + AllocGlobal + Sync,
+    requires opening { (M.state machine).world ≡ opening (M.state machine).plan }
+    requires plan { IsPlan (M.state machine).plan }
+    requires rounds { course.rounds ≤ MOST_TICKS }
+    requires counts { messages.now ≡ message_counts (M.state machine).plan }
+    requires size { (M.state machine).plan.size ≡ file.size }
+    requires from { 1 ≤ course.buffers }
+    requires upto { course.buffers ≤ MOST_BUFFERS }
+    requires open { (F.shelved shelf.old).mode file.slot ≡ Some Writing }
+    requires empty { history.old ≡ [] }
+    ensures run { OnOk result
+        (IsRun (M.state machine).plan course.rounds course.paced history.new) }
+    ensures rest { IfOk result (λ rest. rest ≡ rest_of (M.state machine).plan history.new) }
+    ensures written { OnOk result
+        (Appends (frames_of (M.state machine).plan history.new course.buffers)
+        ((F.shelved shelf.old).name file.slot) (F.shelved shelf.old) (F.shelved shelf.new)) }
+    ensures counted { OnOk result (steps.new
+        ≡ steps.old + painted (M.state machine).plan history.new course.buffers) }
+    ensures legal { Legal (M.state machine).plan history.new }
+    ensures begun { OnErr result
+        (AppendsFront (frames_of (M.state machine).plan history.new course.buffers)
+        ((F.shelved shelf.old).name file.slot) (F.shelved shelf.old) (F.shelved shelf.new)) }
+    ensures others { KeepsOthers ((F.shelved shelf.old).name file.slot)
+        (F.shelved shelf.old) (F.shelved shelf.new) }
+    ensures behaves { Behaves (F.shelved shelf.old) (F.shelved shelf.new) result }
+{
+    let Ok(opened) = open_run(rt.alloc(), machine, messages) else {
+        return Err(ShelfError::Memory);
+    };
+    let outlet = FrameOutlet {
+        display: Display::new(file.size, course.buffers),
+        shelf,
+        file,
+        steps,
+    };
+    let Ran {
+        machine,
+        history: gathered,
+        outlet,
+        played,
+    } = run_opened(rt, opened, messages, course, gate, outlet);
+    let FrameOutlet {
+        display,
+        shelf,
+        steps,
+        ..
+    } = outlet;
+    match played {
+        Ok(()) => finish_run(
+            rt.alloc(),
+            machine,
+            display,
+            gathered,
+            course.buffers,
+            shelf,
+            file,
+            gate,
+            steps,
+            history,
+        ),
+        Err(error) => {
+            *history = gathered.into_list();
+            Err(error)
+        }
+    }
+}
