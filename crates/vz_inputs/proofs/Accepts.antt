@@ -1,9 +1,7 @@
 -- Clients' files accepted one after the other.
-use Rattle.std.proofs.Common.{rules, ◌≡◌, ℕ, ◌+◌, ◌<◌, ◌≤◌, Bool, true, false, ◌||◌, cond, Option, Some, None, Result, Ok, Err, IsErrOf, IsErrAnd, IsTrue, List, [], ◌∷◌, ◌++◌, take, drop, get_or, length, refl, sym, ap, ◌∙◌, subst}
-use Rattle.std.proofs.Common.{drop-cons, add-one}
+use Rattle.std.proofs.Common.{rules, ◌≡◌, ℕ, zero, suc, ◌+◌, ◌<◌, ◌≤◌, Bool, true, false, ◌||◌, cond, Option, Some, None, Result, Ok, Err, IsErrOf, IsErrAnd, IsTrue, List, [], ◌∷◌, ◌++◌, get_or, length, refl, sym, ap, ◌∙◌, subst, append_assoc, append-nil, arith}
 use Rattle.std.specs.Option.{option_map}
-use Rattle.std.proofs.lemmas.Grind.{take_at_read}
-use Rattle.std.proofs.lemmas.List.{map-append, drop_all}
+use Rattle.std.proofs.lemmas.List.{length-append, length-map}
 use Rattle.std.proofs.lemmas.List.Elements.{filter_map-append}
 use Rattle.std.proofs.lemmas.List.Folds.{list_all-append}
 use Rattle.std.specs.List.{list_all, filter_map}
@@ -14,12 +12,14 @@ use Rattle.vz_frame.specs.declared.message.ClientFile.{ClientFile}
 use Rattle.vz_frame.specs.Fits.{fits_file}
 use Rattle.vz_codec.specs.Reading.{Fault, file_in}
 use Rattle.vz_rules.specs.Plan.{has_sink, taken_from, first_taken}
+use Rattle.vz_inputs.specs.Decoded.{IsDecoded, AreDecoded}
+use Rattle.vz_inputs.specs.Read.{contents}
+use Rattle.vz_inputs.specs.Refusals.{Flaw, file_spelled, files_in, sink_place, takes_sink, file_flaw, file_refused, refused_at, refused_behind}
+use Rattle.vz_inputs.specs.declared.refused.Reason.TheVariants.{SinkTaken}
 use Rattle.vz_inputs.specs.declared.refused.Refused.{Refused}
 use Rattle.vz_inputs.specs.declared.refused.InputError.{InputError}
 use Rattle.vz_inputs.specs.declared.refused.InputError.TheVariants as input_error
-use Rattle.vz_inputs.specs.Read.{contents}
-use Rattle.vz_inputs.proofs.Flaws.{error_is}
-use Rattle.vz_inputs.specs.Refusals.{Flaw, file_spelled, files_in, takes_sink, file_flaw, file_refused, refused_at, refused_behind}
+use Rattle.vz_inputs.proofs.Flaws.{sink_flaw, error_is, refused_is}
 
 -- a sum of two tests that is false
 neither : (a b : Bool) → (a || b) ≡ false → (a ≡ false) × (b ≡ false)
@@ -47,22 +47,26 @@ none_taken before n (f ∷ fs) file none other free =
 
 -- the inputs up to a place were accepted, and these are their files
 pub record HasAccepted (all done left : List (List ℕ)) (files : List ClientFile) : Type 0 where
+  pub whole : all ≡ done ++ left
+  pub count : length files ≡ length done
   pub others : file_refused all ≡ refused_behind files left
   pub spelled : files ≡ files_in done
   pub fitting : IsTrue (list_all fits_file files)
   pub free : first_taken files ≡ None
 
-pub accepted_none : (all : List (List ℕ)) → HasAccepted all [] all []
+accepted_none : (all : List (List ℕ)) → HasAccepted all [] all []
 unfolding first_taken
-accepted_none all = record { others = refl; spelled = refl; fitting = refl; free = refl }
+accepted_none all = record { whole = refl; count = refl; others = refl; spelled = refl; fitting = refl; free = refl }
 
 -- one more is accepted
-pub accepted_more :
+accepted_more :
     (all done left : List (List ℕ)) (files : List ClientFile) (bytes : List ℕ) (file : ClientFile) →
     HasAccepted all done (bytes ∷ left) files → file_in bytes ≡ Ok file → IsTrue (fits_file file) → takes_sink files file ≡ false →
     file_flaw files bytes ≡ None → HasAccepted all (done ++ bytes ∷ []) left (files ++ file ∷ [])
 unfolding refused_behind first_taken
 accepted_more all done left files bytes file has spelled fitting free good = record {
+  whole = has.whole ∙ sym (append_assoc done (bytes ∷ []) left);
+  count = length-append files (file ∷ []) ∙ (ap (λ (n : ℕ). n + 1) has.count ∙ sym (length-append done (bytes ∷ [])));
   others = has.others ∙ goes_on (file_flaw files bytes) good ∙ ap (λ (fs : List ClientFile). refused_behind (files ++ fs) left) one;
   spelled = ap (λ (fs : List ClientFile). fs ++ file ∷ []) has.spelled
       ∙ sym (filter_map-append file_spelled done (bytes ∷ []) ∙ ap (λ (fs : List ClientFile). files_in done ++ fs) one);
@@ -80,26 +84,147 @@ accepted_more all done left files bytes file has spelled fitting free good = rec
     goes_on (Some flaw) is = absurd (search rules)
 
 -- the file at a place is refused: no other before it was
-pub refused_here :
+refused_here :
     (all done left : List (List ℕ)) (files : List ClientFile) (bytes : List ℕ) (r : Refused) →
     HasAccepted all done (bytes ∷ left) files →
-    Some r ≡ option_map (refused_at (length files + 1)) (file_flaw files bytes) → file_refused all ≡ Some r
+    option_map (refused_at (length files + 1)) (file_flaw files bytes) ≡ Some r → file_refused all ≡ Some r
 unfolding refused_behind
 refused_here all done left files bytes r has is = has.others ∙ flawed (file_flaw files bytes) is
   where
-    flawed : (f : Option Flaw) → Some r ≡ option_map (refused_at (length files + 1)) f
+    flawed : (f : Option Flaw) → option_map (refused_at (length files + 1)) f ≡ Some r
         → (elim f [ Some flaw ↦ Some (refused_at (length files + 1) flaw) | None ↦ refused_behind (files ++ files_in (bytes ∷ [])) left ]) ≡ Some r
-    flawed (Some flaw) same = sym same
+    flawed (Some flaw) same = same
     flawed None same = absurd (search rules)
 
--- the contents of the files from a place on, and up to behind it
-pub contents_from : {A : Type 0} (inputs : List (Vec ℕ A)) (n : ℕ) (d : Vec ℕ A) → n < length inputs
-    → contents (drop n inputs) ≡ (get_or inputs n d).items ∷ contents (drop (n + 1) inputs)
-contents_from inputs n d low = rw (drop-cons inputs n d low, add-one) refl
+-- these are the answers of the inputs behind those that were accepted
+pub record IsUnder (all : List (List ℕ)) (files : List ClientFile) (answers : List (Result ClientFile InputError)) : Type 0 where
+  pub done : List (List ℕ)
+  pub left : List (List ℕ)
+  pub has : HasAccepted all done left files
+  pub decoded : AreDecoded (length files) left answers
 
-pub contents_upto : {A : Type 0} (inputs : List (Vec ℕ A)) (n : ℕ) (d : Vec ℕ A) → n < length inputs
-    → contents (take (n + 1) inputs) ≡ contents (take n inputs) ++ (get_or inputs n d).items ∷ []
-contents_upto inputs n d low = ap contents (take_at_read inputs n d low).1 ∙ map-append (λ v. v.items) (take n inputs) (get_or inputs n d ∷ [])
+pub under_none : (all : List (List ℕ)) (answers : List (Result ClientFile InputError)) → AreDecoded 0 all answers → IsUnder all [] answers
+under_none all answers decoded = record { done = []; left = all; has = accepted_none all; decoded = decoded }
+
+-- the input that an answer is of
+record IsNext (all : List (List ℕ)) (files : List ClientFile) (answer : Result ClientFile InputError) (rest : List (Result ClientFile InputError)) : Type 0 where
+  pub done : List (List ℕ)
+  pub bytes : List ℕ
+  pub left : List (List ℕ)
+  pub has : HasAccepted all done (bytes ∷ left) files
+  pub one : IsDecoded (length files) bytes answer
+  pub others : AreDecoded (length files + 1) left rest
+
+next_of :
+    (all : List (List ℕ)) (files : List ClientFile) (answer : Result ClientFile InputError) (rest : List (Result ClientFile InputError))
+    → IsUnder all files (answer ∷ rest) → IsNext all files answer rest
+next_of all files answer rest under = by_left under.left under.has under.decoded
+  where
+    by_left : (left : List (List ℕ)) → HasAccepted all under.done left files → AreDecoded (length files) left (answer ∷ rest) → IsNext all files answer rest
+    by_left [] has decoded = absurd decoded
+    by_left (bytes ∷ more) has decoded =
+        record { done = under.done; bytes = bytes; left = more; has = has; one = decoded.0; others = decoded.1 }
+
+module _ (all : List (List ℕ)) (files : List ClientFile) (rest : List (Result ClientFile InputError)) where
+  -- there is room for one more
+  pub under_few : (answer : Result ClientFile InputError) (earlier : List ClientFile) (most : ℕ) → IsUnder all files (answer ∷ rest) → earlier ≡ files → length all ≤ most → length earlier < most
+  under_few answer earlier most under behind few =
+      let n = next_of all files answer rest under in
+      let parts = length-append n.done (n.bytes ∷ n.left) in
+      omega (arith, few, ap length behind, n.has.count, ap length n.has.whole, parts)
+
+  -- a file whose sink is free is accepted
+  pub under_more :
+      (answer : Result ClientFile InputError) (file kept : ClientFile) (earlier more : List ClientFile) → IsUnder all files (answer ∷ rest)
+      → answer ≡ Ok file → kept ≡ file → earlier ≡ files → takes_sink earlier file ≡ false → more ≡ files ++ kept ∷ [] → IsUnder all more rest
+  under_more answer file kept earlier more under found same behind free_there is =
+      let n = next_of all files (Ok file) rest (subst (λ (a : Result ClientFile InputError). IsUnder all files (a ∷ rest)) found under) in
+      let free : takes_sink files file ≡ false = ap (λ (fs : List ClientFile). takes_sink fs file) (sym behind) ∙ free_there in
+      let then : more ≡ files ++ file ∷ [] = is ∙ ap (λ (x : ClientFile). files ++ x ∷ []) same in
+      let has = accepted_more all n.done n.left files n.bytes file n.has n.one.1 n.one.2 free (sink_flaw files n.bytes file false n.one.0 n.one.1 free) in
+      let long : length more ≡ length files + 1 = ap length then ∙ length-append files (file ∷ []) in
+      record {
+        done = n.done ++ n.bytes ∷ [];
+        left = n.left;
+        has = subst (HasAccepted all (n.done ++ n.bytes ∷ []) n.left) (sym then) has;
+        decoded = subst (λ (k : ℕ). AreDecoded k n.left rest) (sym long) n.others;
+      }
+
+  -- one whose sink is taken is refused
+  pub under_taken :
+      {V : Type 0} (answer : Result ClientFile InputError) (file : ClientFile) (earlier : List ClientFile) (e : InputError) → IsUnder all files (answer ∷ rest)
+      → answer ≡ Ok file → earlier ≡ files → takes_sink earlier file ≡ true
+      → e ≡ input_error.Refused (record { file = length earlier + 1; at = sink_place; reason = SinkTaken })
+      → (r : Refused) → IsErrOf {T = V} (Err e) (input_error.Refused r) → file_refused all ≡ Some r
+  under_taken {V = V} answer file earlier e under found behind taken_there made r is =
+      let n = next_of all files (Ok file) rest (subst (λ (a : Result ClientFile InputError). IsUnder all files (a ∷ rest)) found under) in
+      let taken : takes_sink files file ≡ true = ap (λ (fs : List ClientFile). takes_sink fs file) (sym behind) ∙ taken_there in
+      let told : Refused = record { file = length files + 1; at = sink_place; reason = SinkTaken } in
+      let same : told ≡ r = refused_is (ap (λ (fs : List ClientFile). input_error.Refused (record { file = length fs + 1; at = sink_place; reason = SinkTaken })) (sym behind)
+      ∙ (sym made ∙ error_is {T = V} e (input_error.Refused r) is)) in
+      refused_here all n.done n.left files n.bytes told n.has
+      (ap (option_map (refused_at (length files + 1))) (sink_flaw files n.bytes file true n.one.0 n.one.1 taken)) ∙ ap Some same
+
+  -- so is one that is wrong by itself
+  pub under_refused :
+      {V : Type 0} (answer : Result ClientFile InputError) (e : InputError) → IsUnder all files (answer ∷ rest) → answer ≡ Err e
+      → (r : Refused) → IsErrOf {T = V} (Err e) (input_error.Refused r) → file_refused all ≡ Some r
+  under_refused {V = V} answer e under found r is =
+      let n = next_of all files (Err (input_error.Refused r)) rest
+      (subst (λ (a : Result ClientFile InputError). IsUnder all files (a ∷ rest)) (found ∙ ap Err (error_is {T = V} e (input_error.Refused r) is)) under) in
+      refused_here all n.done n.left files n.bytes r n.has (n.one files)
+
+-- all were accepted
+pub record AreAll (all : List (List ℕ)) (files : List ClientFile) : Type 0 where
+  pub good : file_refused all ≡ None
+  pub count : length files ≡ length all
+  pub spelled : files ≡ files_in all
+  pub fitting : IsTrue (list_all fits_file files)
+  pub free : first_taken files ≡ None
+
+all_done : (all done : List (List ℕ)) (files : List ClientFile) → HasAccepted all done [] files → AreAll all files
+unfolding refused_behind
+all_done all done files has = record {
+  good = has.others;
+  count = has.count ∙ ap length (sym (has.whole ∙ append-nil done));
+  spelled = has.spelled ∙ ap files_in (sym (has.whole ∙ append-nil done));
+  fitting = has.fitting;
+  free = has.free;
+}
+
+pub under_all : (all : List (List ℕ)) (files : List ClientFile) → IsUnder all files [] → AreAll all files
+under_all all files under = by_left under.left under.has under.decoded
+  where
+    by_left : (left : List (List ℕ)) → HasAccepted all under.done left files → AreDecoded (length files) left [] → AreAll all files
+    by_left [] has decoded = all_done all under.done files has
+    by_left (bytes ∷ more) has decoded = absurd decoded
+
+-- what each piece of work answers is what is answered of all
+pub decoded_from :
+    (k : ℕ) (all : List (List ℕ)) (answers : List (Result ClientFile InputError)) → length answers ≡ length all
+    → ((i : ℕ) (e : Result ClientFile InputError) → i < length all → IsDecoded (k + i) (get_or all i []) (get_or answers i e))
+    → AreDecoded k all answers
+decoded_from k [] [] long each = tt
+decoded_from k [] (a ∷ as') long each = absurd (omega (arith, long))
+decoded_from k (v ∷ vs) [] long each = absurd (omega (arith, long))
+decoded_from k (v ∷ vs) (a ∷ as') long each = (
+  subst (λ (n : ℕ). IsDecoded n v a) (omega arith) (each 0 a (omega arith)),
+  decoded_from (k + 1) vs as' (omega (arith, long))
+      (λ i e low. subst (λ (n : ℕ). IsDecoded n (get_or vs i []) (get_or as' i e)) (next i) (each (suc i) e (omega (arith, low)))),
+)
+  where
+    next : (i : ℕ) → k + suc i ≡ k + 1 + i
+    next i = omega arith
+
+-- the bytes of the file at a place
+pub contents_at : {A : Type 0} (inputs : List (Vec ℕ A)) (n : ℕ) (d : Vec ℕ A) → n < length inputs → get_or (contents inputs) n [] ≡ (get_or inputs n d).items
+contents_at [] n d low = absurd (omega (arith, low))
+contents_at (v ∷ vs) zero d low = refl
+contents_at (v ∷ vs) (suc n) d low = contents_at vs n d (omega (arith, low))
+
+-- as many contents as files
+pub contents_count : {A : Type 0} (inputs : List (Vec ℕ A)) → length (contents inputs) ≡ length inputs
+contents_count inputs = length-map inputs (λ v. v.items)
 
 -- what is said of an error is said of a result that is this error
 pub said_of_error :
@@ -110,43 +235,3 @@ said_of_error {V = V} e (Err f) P is said x this = said x (err_of (sym is ∙ er
   where
     err_of : {a b : InputError} → a ≡ b → IsErrOf {T = V} (Err a) b
     err_of same = search rules
-
--- the file at a place is accepted, behind those before it
-pub accepted_next :
-    {A : Type 0} (inputs : List (Vec ℕ A)) (n : ℕ) (item : Vec ℕ A) (files more : List ClientFile) (file : ClientFile)
-    → n < length inputs → item ≡ get_or inputs n item → HasAccepted (contents inputs) (contents (take n inputs)) (contents (drop n inputs)) files
-    → (earlier : List ClientFile) (bytes : List ℕ) → earlier ≡ files → bytes ≡ item.items
-    → file_in bytes ≡ Ok file → IsTrue (fits_file file) → takes_sink earlier file ≡ false → file_flaw earlier bytes ≡ None → more ≡ files ++ file ∷ []
-    → HasAccepted (contents inputs) (contents (take (n + 1) inputs)) (contents (drop (n + 1) inputs)) more
-accepted_next {A = A} inputs n item files more file low at has earlier bytes same_files same_bytes spelled fitting free good pushed =
-    let left : contents (drop n inputs) ≡ item.items ∷ contents (drop (n + 1) inputs) =
-    contents_from inputs n item low ∙ ap (λ (v : Vec ℕ A). v.items ∷ contents (drop (n + 1) inputs)) (sym at) in
-    let done : contents (take (n + 1) inputs) ≡ contents (take n inputs) ++ item.items ∷ [] =
-    contents_upto inputs n item low ∙ ap (λ (v : Vec ℕ A). contents (take n inputs) ++ v.items ∷ []) (sym at) in
-    let then = accepted_more (contents inputs) (contents (take n inputs)) (contents (drop (n + 1) inputs)) files item.items file
-    (subst (λ (l : List (List ℕ)). HasAccepted (contents inputs) (contents (take n inputs)) l files) left has)
-    (ap file_in (sym same_bytes) ∙ spelled) fitting (ap (λ (fs : List ClientFile). takes_sink fs file) (sym same_files) ∙ free)
-    (ap (file_flaw files) (sym same_bytes) ∙ (ap (λ (fs : List ClientFile). file_flaw fs bytes) (sym same_files) ∙ good)) in
-    subst (λ (d : List (List ℕ)). HasAccepted (contents inputs) d (contents (drop (n + 1) inputs)) more) (sym done)
-    (subst (HasAccepted (contents inputs) (contents (take n inputs) ++ item.items ∷ []) (contents (drop (n + 1) inputs))) (sym pushed) then)
-
--- the file at a place is refused
-pub refused_next :
-    {A : Type 0} (inputs : List (Vec ℕ A)) (n : ℕ) (item : Vec ℕ A) (files : List ClientFile) (r : Refused)
-    → n < length inputs → item ≡ get_or inputs n item → HasAccepted (contents inputs) (contents (take n inputs)) (contents (drop n inputs)) files
-    → (earlier : List ClientFile) (bytes : List ℕ) → earlier ≡ files → bytes ≡ item.items
-    → Some r ≡ option_map (refused_at (length earlier + 1)) (file_flaw earlier bytes) → file_refused (contents inputs) ≡ Some r
-refused_next {A = A} inputs n item files r low at has earlier bytes same_files same_bytes is =
-    let left : contents (drop n inputs) ≡ item.items ∷ contents (drop (n + 1) inputs) =
-    contents_from inputs n item low ∙ ap (λ (v : Vec ℕ A). v.items ∷ contents (drop (n + 1) inputs)) (sym at) in
-    refused_here (contents inputs) (contents (take n inputs)) (contents (drop (n + 1) inputs)) files item.items r
-    (subst (λ (l : List (List ℕ)). HasAccepted (contents inputs) (contents (take n inputs)) l files) left has)
-    (is ∙ (ap (λ (fs : List ClientFile). option_map (refused_at (length fs + 1)) (file_flaw fs bytes)) same_files
-    ∙ ap (λ (bs : List ℕ). option_map (refused_at (length files + 1)) (file_flaw files bs)) same_bytes))
-
--- all were accepted
-pub all_accepted :
-    {A : Type 0} (inputs : List (Vec ℕ A)) (n : ℕ) (files : List ClientFile) → length inputs ≤ n
-    → HasAccepted (contents inputs) (contents (take n inputs)) (contents (drop n inputs)) files → file_refused (contents inputs) ≡ None
-unfolding refused_behind
-all_accepted inputs n files high has = has.others ∙ ap (λ (l : List (List ℕ)). refused_behind files l) (ap contents (drop_all n inputs high))

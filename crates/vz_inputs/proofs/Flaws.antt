@@ -1,5 +1,5 @@
 -- What is wrong with a client's file.
-use Rattle.std.proofs.Common.{rules, ◌≡◌, ℕ, ◌+◌, ◌-◌, ◌<◌, ◌≤◌, Bool, true, false, cond, Option, Some, None, Result, Ok, Err, IfErr, OnOk, OnErr, IsErrOf, List, length, refl, sym, ap, ◌∙◌}
+use Rattle.std.proofs.Common.{rules, ◌≡◌, ℕ, ◌+◌, ◌-◌, ◌<◌, ◌≤◌, Bool, cond, Option, Some, None, Result, Ok, Err, IsErrOf, List, length, refl, sym, ap, ◌∙◌, subst}
 use Rattle.std.proofs.lemmas.Bool.{lt-ltb, le-ltb}
 use Rattle.std.specs.Option.{option_map}
 use Rattle.vz_base.specs.declared.limits.TheConstants.{MOST_FILE_BYTES}
@@ -11,6 +11,7 @@ use Rattle.vz_inputs.specs.declared.refused.Reason.TheVariants.{Rule, SinkTaken,
 use Rattle.vz_inputs.specs.declared.refused.Refused.{Refused}
 use Rattle.vz_inputs.specs.declared.refused.InputError.{InputError}
 use Rattle.vz_inputs.specs.declared.refused.InputError.TheVariants as input_error
+use Rattle.vz_inputs.specs.Decoded.{IsDecoded}
 use Rattle.vz_inputs.specs.Refusals.{Flaw, sink_place, takes_sink, file_flaw, refused_at}
 
 -- bytes above the limit are too long
@@ -39,32 +40,17 @@ field_flaw earlier bytes at rule short is =
     read (Ok file) same = absurd (search rules)
     read (Err fault) same = ap (option_map (λ (w : Wrong). record { at = w.at; reason = Rule w.rule })) same
 
--- a refused input is told by one error alone
-pub refused_is : {a b : Refused} → input_error.Refused a ≡ input_error.Refused b → a ≡ b
-refused_is h = search rules
-
--- a refusal of a flaw that is there
-pub refused_for : (n : ℕ) (flaw : Flaw) (found : Option Flaw) (r : Refused) (e : InputError) → found ≡ Some flaw
-    → e ≡ input_error.Refused (refused_at n flaw) → e ≡ input_error.Refused r → Some r ≡ option_map (refused_at n) found
-refused_for n flaw found r e is made same =
-    ap Some (refused_is (sym same ∙ made)) ∙ ap (option_map (refused_at n)) (sym is)
-
 -- an error that is this one
 pub error_is : {T : Type 0} (e x : InputError) → IsErrOf {T = T} (Err e) x → e ≡ x
 error_is e x is = search rules
 
--- a file whose sink is free is accepted
-pub free_accepted : (earlier : List ClientFile) (bytes : List ℕ) (file : ClientFile) (r : Result ClientFile InputError) → length bytes ≤ MOST_FILE_BYTES
-    → file_in bytes ≡ Ok file → OnOk r (takes_sink earlier file ≡ false) → OnOk r (file_flaw earlier bytes ≡ None)
-free_accepted earlier bytes file (Ok f) short read free = sink_flaw earlier bytes file false short read free
-free_accepted earlier bytes file (Err e) short read free = tt
+-- bytes that are wrong whatever the other files are
+pub decoded_wrong : (others : ℕ) (bytes : List ℕ) (flaw : Flaw) (e : InputError) → ((earlier : List ClientFile) → file_flaw earlier bytes ≡ Some flaw)
+    → e ≡ input_error.Refused (refused_at (others + 1) flaw) → IsDecoded others bytes (Err e)
+decoded_wrong others bytes flaw e flawed is =
+    subst (λ (x : InputError). IsDecoded others bytes (Err x)) (sym is)
+    (λ earlier. ap (option_map (refused_at (others + 1))) (flawed earlier))
 
--- a file whose sink is taken is refused
-pub taken_refused : (earlier : List ClientFile) (bytes : List ℕ) (file : ClientFile) (r : Result ClientFile InputError) → length bytes ≤ MOST_FILE_BYTES
-    → file_in bytes ≡ Ok file → OnErr r (takes_sink earlier file ≡ true)
-    → IfErr r (λ e. e ≡ input_error.Refused (record { file = length earlier + 1; at = sink_place; reason = SinkTaken }))
-    → (x : Refused) → IsErrOf r (input_error.Refused x) → Some x ≡ option_map (refused_at (length earlier + 1)) (file_flaw earlier bytes)
-taken_refused earlier bytes file (Ok f) short read taken made x is = absurd (search rules)
-taken_refused earlier bytes file (Err e) short read taken made x is =
-    refused_for (length earlier + 1) (record { at = sink_place; reason = SinkTaken }) (file_flaw earlier bytes) x e
-    (sink_flaw earlier bytes file true short read taken) made (error_is e (input_error.Refused x) is)
+-- a refused input is told by one error alone
+pub refused_is : {a b : Refused} → input_error.Refused a ≡ input_error.Refused b → a ≡ b
+refused_is h = search rules

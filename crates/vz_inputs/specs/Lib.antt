@@ -2,3 +2,4 @@ pub mod Read
 pub mod Refusals
 pub mod Schedule
 pub mod Messages
+pub mod Decoded

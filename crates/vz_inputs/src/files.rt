@@ -1,34 +1,46 @@
 //! The clients' files, accepted one after the other.
-ghost use Rattle.std.specs.Prelude.{◌≡◌, ◌≤◌, ◌<◌, ◌+◌, None, Some, Ok, true, false, length, IsTrue};
+ghost use Rattle.std.specs.Prelude.{◌≡◌, ◌≤◌, ◌<◌, ◌+◌, None, Some, [], true, false};
+ghost use Rattle.std.specs.Prelude.{length, slice_index_or, IsTrue};
 ghost use Rattle.std.specs.Prelude.{IfOk, IfErr, OnOk, OnErr, IsErrOf};
-ghost use Rattle.std.specs.Option.{option_map};
+ghost use Rattle.std.specs.List.{list_all};
 ghost use Rattle.vz_base.specs.declared.limits.TheConstants.{MOST_FILES};
 ghost use Rattle.vz_frame.specs.Fits.{fits_file};
 ghost use Rattle.vz_geom.specs.Display.{IsDisplaySize};
-ghost use Rattle.vz_codec.specs.Reading.{file_in};
+ghost use Rattle.vz_rules.specs.Plan.{first_taken};
 ghost use Rattle.vz_inputs.specs.Read.{contents};
-ghost use Rattle.vz_inputs.specs.Refusals.{sink_place, takes_sink, file_flaw, file_refused};
-ghost use Rattle.vz_inputs.specs.Refusals.{plan_read, refused_at};
+ghost use Rattle.vz_inputs.specs.Decoded.{IsDecoded, AreDecoded};
+ghost use Rattle.vz_inputs.specs.Refusals.{sink_place, takes_sink, file_refused, files_in, plan_read};
 ghost use Rattle.vz_inputs.specs.declared.refused.Reason.TheVariants.{SinkTaken};
 ghost use Rattle.vz_inputs.specs.declared.refused.InputError.TheVariants as input_error;
 ghost use Rattle.vz_inputs.specs.declared.refused.Refused.{Refused as Refusal};
 
 use crate::refused::{InputError, Reason, Refused};
 use std::alloc::Global;
+use std::thread;
+use std::thread::Threads;
+use vz_base::Memory;
 use vz_base::limits::MOST_FILE_BYTES;
 use vz_codec::DecodeError;
 use vz_frame::ClientFile;
 use vz_geom::Size;
 use vz_rules::Plan;
 
+/// What is answered of a file by itself: the file that its bytes spell, or why it is refused.
+type Decoded = Result<ClientFile, InputError>;
+
 /// How many bytes stand before the sink in a client's file.
 const SINK_PLACE: usize = 6;
 
-/// The plan of the clients' files, as they were read, on a display of this size. The first of them
-/// that is refused is told with its number, the place and the reason: a file is refused where it is
-/// longer than `MOST_FILE_BYTES`, then by the first rule of the grammar that it breaks, then where
-/// an earlier one has its sink. Conditions: 1 to `MOST_FILES` files, and a display's sides.
-pub fn plan_of(alloc: Global, size: Size, inputs: &[Vec<u8>]) -> Result<Plan, InputError>
+/// The plan of the clients' files, as they were read, on a display of this size. The files are
+/// decoded at once, one piece of work each. The first of them that is refused is told with its
+/// number, the place and the reason: a file is refused where it is longer than `MOST_FILE_BYTES`,
+/// then by the first rule of the grammar that it breaks, then where an earlier one has its sink.
+/// Conditions: 1 to `MOST_FILES` files, and a display's sides.
+pub fn plan_of<R: Threads + AllocGlobal + Sync>(
+    rt: &R,
+    size: Size,
+    inputs: &[Vec<u8>],
+) -> Result<Plan, InputError>
     requires some { 1 ≤ length inputs.now }
     requires few { length inputs.now ≤ MOST_FILES }
     requires size { IsDisplaySize size }
@@ -37,41 +49,80 @@ pub fn plan_of(alloc: Global, size: Size, inputs: &[Vec<u8>]) -> Result<Plan, In
     ensures refused { (r : Refusal) → IsErrOf result (input_error.Refused r)
         → file_refused (contents inputs.now) ≡ Some r }
 {
-    let mut files = Vec::new(alloc);
-    for bytes in inputs {
-        let file = accepted_file(alloc, &files, bytes)?;
-        files.push(file)?;
-    }
+    let answers = decode_all(rt, inputs)?;
+    let files = accepted_files(rt.alloc(), inputs, answers)?;
     match Plan::new(files, size) {
         Ok(plan) => Ok(plan),
         Err((_, place)) => Err(refused(place, SINK_PLACE, Reason::SinkTaken)),
     }
 }
 
-/// The file that bytes spell, behind others that were accepted.
-fn accepted_file(
-    alloc: Global,
-    earlier: &[ClientFile],
-    bytes: &[u8],
-) -> Result<ClientFile, InputError>
-    requires { length earlier.now < MOST_FILES }
-    ensures spelled { IfOk result (λ file. file_in bytes.now ≡ Ok file) }
-    ensures fitting { IfOk result (λ file. IsTrue (fits_file file)) }
-    ensures free { IfOk result (λ file. takes_sink earlier.now file ≡ false) }
-    ensures accepted { OnOk result (file_flaw earlier.now bytes.now ≡ None) }
-    ensures refused { (r : Refusal) → IsErrOf result (input_error.Refused r) → Some r
-        ≡ option_map (refused_at (length earlier.now + 1)) (file_flaw earlier.now bytes.now) }
+/// Decodes the files at once, one piece of work each, and answers what `decode_one` does of each of
+/// them, in their order.
+fn decode_all<R: Threads + AllocGlobal + Sync>(
+    rt: &R,
+    inputs: &[Vec<u8>],
+) -> Result<Vec<Decoded>, Memory>
+    requires { length inputs.now ≤ MOST_FILES }
+    ensures all { IfOk result (λ answers. length answers.items ≡ length inputs.now) }
+    ensures each { IfOk result (λ answers. AreDecoded 0 (contents inputs.now) answers.items) }
+{
+    let alloc = rt.alloc();
+    let piece = |place: usize| -> Decoded
+        requires { (place < length inputs.now) × (length inputs.now ≤ MOST_FILES) }
+        ensures { IsDecoded place (slice_index_or (contents inputs.entry.now) place []) result }
+    { decode_at(alloc, inputs, place) };
+    let answers = thread::map_indices(rt, alloc, inputs.len(), &piece)?;
+    Ok(answers)
+}
+
+/// What is answered of the input at a place, whatever the others are.
+fn decode_at(alloc: Global, inputs: &[Vec<u8>], place: usize) -> Decoded
+    requires inside { place < length inputs.now }
+    requires few { length inputs.now ≤ MOST_FILES }
+    ensures { IsDecoded place (slice_index_or (contents inputs.now) place []) result }
+{
+    decode_one(alloc, place, &inputs[place])
+}
+
+/// The file that the bytes behind so many other inputs spell, whatever the others are.
+fn decode_one(alloc: Global, others: usize, bytes: &[u8]) -> Decoded
+    requires { others < MOST_FILES }
+    ensures { IsDecoded others bytes.now result }
 {
     if bytes.len() > MOST_FILE_BYTES {
-        return Err(refused(earlier.len(), MOST_FILE_BYTES, Reason::Long));
+        return Err(refused(others, MOST_FILE_BYTES, Reason::Long));
     }
     match vz_codec::decode(alloc, bytes) {
-        Ok(file) => free_file(earlier, file),
+        Ok(file) => Ok(file),
         Err(DecodeError::Memory) => Err(InputError::Memory),
-        Err(DecodeError::Refused { at, rule }) => {
-            Err(refused(earlier.len(), at, Reason::Rule(rule)))
-        }
+        Err(DecodeError::Refused { at, rule }) => { Err(refused(others, at, Reason::Rule(rule))) }
     }
+}
+
+/// The files of inputs, of which these are the answers, where none has the sink of an earlier one.
+fn accepted_files(
+    alloc: Global,
+    inputs: &[Vec<u8>],
+    answers: Vec<Decoded>,
+) -> Result<Vec<ClientFile>, InputError>
+    requires few { length inputs.now ≤ MOST_FILES }
+    requires all { length answers.items ≡ length inputs.now }
+    requires each { AreDecoded 0 (contents inputs.now) answers.items }
+    ensures files { IfOk result (λ files. files.items ≡ files_in (contents inputs.now)) }
+    ensures count { IfOk result (λ files. length files.items ≡ length inputs.now) }
+    ensures fitting { IfOk result (λ files. IsTrue (list_all fits_file files.items)) }
+    ensures free { IfOk result (λ files. first_taken files.items ≡ None) }
+    ensures accepted { OnOk result (file_refused (contents inputs.now) ≡ None) }
+    ensures refused { (r : Refusal) → IsErrOf result (input_error.Refused r)
+        → file_refused (contents inputs.now) ≡ Some r }
+{
+    let mut files = Vec::new(alloc);
+    for answer in answers {
+        let file = free_file(&files, answer?)?;
+        files.push(file)?;
+    }
+    Ok(files)
 }
 
 /// The file, where none of the earlier ones has its sink.
