@@ -47,11 +47,10 @@ IsTimed words w h ticks rest =
 
 -- the command that a command of the code is
 abbrev pub command_of : Asked → Command
-command_of (asked.Run paced buffers pipe width height ticks frames log files) =
-    Run paced buffers pipe width height ticks frames.now log.now (texts files.now)
-command_of (asked.Step width height schedule frames log files) = Step width height schedule.now frames.now log.now (texts files.now)
-command_of (asked.Check width height frames log files) = Check width height frames.now log.now (texts files.now)
-command_of (asked.Gen rounds first second third) = Gen rounds first.now second.now third.now
+command_of (asked.Run w) = Run w.paced w.buffers w.pipe w.width w.height w.ticks w.frames.now w.log.now (texts w.files.now)
+command_of (asked.Step w) = Step w.width w.height w.schedule.now w.frames.now w.log.now (texts w.files.now)
+command_of (asked.Check w) = Check w.width w.height w.frames.now w.log.now (texts w.files.now)
+command_of (asked.Gen w) = Gen w.rounds w.first.now w.second.now w.third.now
 command_of (asked.Demo rounds) = Demo rounds
-command_of (asked.Hit width height schedule x y files) = Hit width height schedule.now x y (texts files.now)
-command_of (asked.Turns width height ticks files) = Turns width height ticks (texts files.now)
+command_of (asked.Hit w) = Hit w.width w.height w.schedule.now w.x w.y (texts w.files.now)
+command_of (asked.Turns w) = Turns w.width w.height w.ticks (texts w.files.now)

@@ -9,5 +9,5 @@ mod numbers;
 mod options;
 mod reader;
 
-pub use commands::Command;
+pub use commands::{CheckWords, Command, HitWords, MakeWords, RunWords, StepWords, TurnsWords};
 pub use reader::command;

@@ -3,7 +3,7 @@ ghost use Rattle.std.specs.Prelude.{codes, ◌∷◌, IfSome, IfNone};
 ghost use Rattle.vz_rules.specs.Command.{IsCommand, IsNoCommand};
 ghost use Rattle.vz_words.specs.Words.{texts, command_of};
 
-use crate::commands::Command;
+use crate::commands::{CheckWords, Command, HitWords, MakeWords, RunWords, StepWords, TurnsWords};
 use crate::front::{Display, Timed, sides, sides_and_ticks};
 use crate::names::{are_names, are_names_with, is_name_before};
 use crate::numbers::number;
@@ -52,7 +52,7 @@ fn run(words: &[String]) -> Option<Command<'_>>
     if !are_names_with(rest, files) {
         return None;
     }
-    Some(Command::Run {
+    Some(Command::Run(RunWords {
         paced,
         buffers,
         pipe,
@@ -62,7 +62,7 @@ fn run(words: &[String]) -> Option<Command<'_>>
         frames: frames.as_str(),
         log: log.as_str(),
         files,
-    })
+    }))
 }
 
 /// The command whose words behind `step` these are.
@@ -81,14 +81,14 @@ fn step(words: &[String]) -> Option<Command<'_>>
     if !are_names_with(rest, files) {
         return None;
     }
-    Some(Command::Step {
+    Some(Command::Step(StepWords {
         width,
         height,
         schedule: schedule.as_str(),
         frames: frames.as_str(),
         log: log.as_str(),
         files,
-    })
+    }))
 }
 
 /// The command whose words behind `check` these are.
@@ -108,13 +108,13 @@ fn check(words: &[String]) -> Option<Command<'_>>
     if !are_names_with(rest, files) {
         return None;
     }
-    Some(Command::Check {
+    Some(Command::Check(CheckWords {
         width,
         height,
         frames: frames.as_str(),
         log: log.as_str(),
         files,
-    })
+    }))
 }
 
 /// The command whose words behind `gen` these are.
@@ -132,12 +132,12 @@ fn make_files(words: &[String]) -> Option<Command<'_>>
     if !are_names(names) {
         return None;
     }
-    Some(Command::Gen {
+    Some(Command::Gen(MakeWords {
         rounds,
         first: names[0].as_str(),
         second: names[1].as_str(),
         third: names[2].as_str(),
-    })
+    }))
 }
 
 /// The command whose words behind `demo` these are.
@@ -170,14 +170,14 @@ fn hit(words: &[String]) -> Option<Command<'_>>
     if !is_name_before(schedule.as_str(), files) {
         return None;
     }
-    Some(Command::Hit {
+    Some(Command::Hit(HitWords {
         width,
         height,
         schedule: schedule.as_str(),
         x,
         y,
         files,
-    })
+    }))
 }
 
 /// The command whose words behind `turns` these are.
@@ -195,10 +195,10 @@ fn turns(words: &[String]) -> Option<Command<'_>>
     if !are_names_with(rest, rest) {
         return None;
     }
-    Some(Command::Turns {
+    Some(Command::Turns(TurnsWords {
         width,
         height,
         ticks,
         files: rest,
-    })
+    }))
 }
