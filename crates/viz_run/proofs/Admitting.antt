@@ -82,6 +82,18 @@ input_of {T = T} input_error.Memory (Err s) P is said x this = absurd (apart (sy
     apart : stop.Memory ≡ stop.Input x → ⊥
     apart h = search rules
 
+-- a stop for an input or for want of memory is none for a fault
+pub input_no_fault : {T : Type 0} (e : InputError) (r : Result T Stop) → IsErrAnd r (λ s. s ≡ stop_for e) → IsErrOf r stop.Fault → ⊥
+input_no_fault e (Ok v) is this = is
+input_no_fault {T = T} e (Err s) is this = apart e (sym is ∙ stop_is s this)
+  where
+    stop_is : (s : Stop) → IsErrOf {T = T} (Err s) stop.Fault → s ≡ stop.Fault
+    stop_is s h = search rules
+
+    apart : (e : InputError) → stop_for e ≡ stop.Fault → ⊥
+    apart (input_error.Refused r) h = search rules
+    apart input_error.Memory h = search rules
+
 -- a name that is missing among some is missing among more
 pub misses_left : (names more : List Name) (s : Shelved) → MissesOne names s → MissesOne (names ++ more) s
 misses_left [] more s missing = absurd missing

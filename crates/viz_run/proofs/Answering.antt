@@ -10,15 +10,16 @@ use Rattle.vz_outside.specs.Sunk as sinks
 use Rattle.vz_outputs.specs.Written.{Output, AreWhole, AreBegun}
 use Rattle.vz_inputs.specs.Read.{IsReadUpto, AreReadUpto}
 use Rattle.vz_inputs.specs.declared.refused.Refused.{Refused}
-use Rattle.vz_rules.specs.Command.{Word, Command}
+use Rattle.vz_rules.specs.Command.{Word, Command, Run, Step, Check, Gen, Demo, Hit, Turns}
 use Rattle.vz_words.proofs.One.{same_command}
 use Rattle.vz_rules.specs.declared.entry.Entry.{Entry}
 use Rattle.viz_run.specs.Commands.{Asks, AsksNothing, frame_names}
 use Rattle.viz_run.specs.Inputs.{Inputs, AreHeld, AreRead, AreAccepted, AreRefused, first_refused, plan_of, events_for}
-use Rattle.viz_run.specs.Ends.{IsHistory, IsUnbegun, outputs_of}
+use Rattle.viz_run.specs.Ends.{IsHistory, IsAsked, IsPart, IsUnbegun, outputs_of}
 use Rattle.viz_run.specs.Causes.{DoesAll, RefusesOne, LeavesFront, IsDue, MissesLine, PrintsFront, RefusesWords, RefusesInput}
 use Rattle.viz_run.specs.Lines.{words_line, refused_line}
 use Rattle.viz_run.specs.Site.{Site, site, outside, CountsNoFault, CountsOneFault, IsFaultless, KeepsFaultless, IsCalled}
+use Rattle.viz_run.proofs.Demonstrated.{all_played}
 use Rattle.viz_run.specs.Stops.{Behaves, IsRefusal, due_line}
 use Rattle.viz_run.specs.declared.stop.Stop.{Stop}
 use Rattle.viz_run.specs.declared.stop.Stop.TheVariants as stop
@@ -91,6 +92,16 @@ whole_begun : (outputs : List Output) (a b : Shelved) → AreWhole outputs b →
 whole_begun [] a b whole = tt
 whole_begun (o ∷ more) a b whole = inl (whole.0, whole_begun more a b whole.1)
 
+-- what is asked for is a part of it
+asked_part : (c : Command) (i : Inputs) (h : List Entry) → IsAsked c i h → IsPart c i h
+asked_part (Run paced buffers pipe w t ticks f l names) i h is = is.legal
+asked_part (Step w t s f l names) i h is = all_played (plan_of (Step w t s f l names) i) (events_for (Step w t s f l names) i) h is
+asked_part (Check w t f l names) i h is = all_played (plan_of (Check w t f l names) i) [] h is
+asked_part (Gen n first second third) i h is = all_played (plan_of (Gen n first second third) i) [] h is
+asked_part (Demo n) i h is = all_played (plan_of (Demo n) i) (events_for (Demo n) i) h is
+asked_part (Hit w t s x y names) i h is = all_played (plan_of (Hit w t s x y names) i) [] h is
+asked_part (Turns w t ticks names) i h is = all_played (plan_of (Turns w t ticks names) i) [] h is
+
 -- what was done was done in part
 pub done_front : (words : List Word) (h : List Entry) (before after : Site) (line : List ℕ) (status : ℕ) → DoesAll words h before after line status → LeavesFront words h before after
 done_front words h before after line status done =
@@ -104,7 +115,7 @@ done_front words h before after line status done =
         i,
         done.2.1,
         record {
-          history = (length (events_for c i), subst (λ events. IsHistory (plan_of c i) events h) (sym (take_all (length (events_for c i)) (events_for c i) (omega arith))) is.history);
+          history = asked_part c i h is.history;
           outputs = whole_begun (outputs_of c (plan_of c i) h) before.shelf after.shelf is.outputs;
         },
       ),

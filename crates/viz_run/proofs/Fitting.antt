@@ -1,13 +1,13 @@
--- What the words of `step` say of the display and of the names.
-use Rattle.std.proofs.Common.{◌≡◌, ℕ, ◌≤◌, pos, List, [], ◌∷◌, length, Bool, true, false, not, ◌||◌, ◌&&◌, leb, IsTrue, sym, ap, ◌∙◌, arith}
+-- What the words of `step`, `check` and `run` say of the display, of the names and of the buffers.
+use Rattle.std.proofs.Common.{◌≡◌, ℕ, ◌+◌, ◌≤◌, pos, Option, Some, None, List, [], ◌∷◌, length, Bool, true, false, not, ◌||◌, ◌&&◌, leb, IsTrue, sym, ap, ◌∙◌, arith}
 use Rattle.std.proofs.lemmas.Bool.{and_parts, leb-true}
 use Rattle.std.proofs.lemmas.Int.{ints}
 use Rattle.std.specs.List.{list_any, list_all}
-use Rattle.vz_base.specs.declared.limits.TheConstants.{MOST_FILES}
+use Rattle.vz_base.specs.declared.limits.TheConstants.{MOST_FILES, MOST_BUFFERS, MOST_TICKS}
 use Rattle.vz_frame.specs.Fits.{within}
 use Rattle.vz_frame.specs.Frame.{has_repeat}
 use Rattle.vz_geom.specs.Display.{IsDisplaySize}
-use Rattle.vz_rules.specs.Command.{Word, Step, Check, fits_command, are_sides, are_files, is_name, are_names, same_text}
+use Rattle.vz_rules.specs.Command.{Word, Run, Step, Check, fits_command, buffers_fit, buffer_count, frames_fit, are_sides, are_files, is_name, are_names, same_text}
 
 in_range : (low high n : ℕ) → within low high n ≡ true → (low ≤ n) × (n ≤ high)
 in_range low high n is =
@@ -68,3 +68,44 @@ module _ (w h : ℕ) (f l : Word) (files : List Word) (fits : IsTrue (fits_comma
 
   pub judged_files_fit : (1 ≤ length files) × (length files ≤ MOST_FILES)
   judged_files_fit = in_range 1 MOST_FILES (length files) judged_parts.1
+
+first_repeats : (t y z : Bool) → t ≡ true → not ((t || y) || z) ≡ true → ⊥
+first_repeats true y z is none = cc
+first_repeats false y z is none = cc
+
+-- the number of buffers is in its range, also where none is given
+some_buffers : (buffers : Option ℕ) → buffers_fit buffers ≡ true → (1 ≤ buffer_count buffers) × (buffer_count buffers ≤ MOST_BUFFERS)
+some_buffers None fits = (omega arith, omega arith)
+some_buffers (Some n) fits = in_range 1 MOST_BUFFERS n fits
+
+module _
+    (paced : Bool) (buffers : Option ℕ) (pipe : Bool) (w h ticks : ℕ) (f l : Word) (files : List Word)
+    (fits : IsTrue (fits_command (Run paced buffers pipe w h ticks f l files)))
+  where
+    run_parts : (buffers_fit buffers ≡ true) × (are_sides w h ≡ true) × (are_files files ≡ true) × (are_names (f ∷ l ∷ files) ≡ true) × (leb ticks MOST_TICKS ≡ true)
+    unfolding fits_command
+    run_parts =
+        let most = and_parts (buffers_fit buffers && are_sides w h && leb ticks MOST_TICKS && frames_fit w h (ticks + 1) && are_files files) (are_names (f ∷ l ∷ files)) fits in
+        let five = and_parts (buffers_fit buffers && are_sides w h && leb ticks MOST_TICKS && frames_fit w h (ticks + 1)) (are_files files) most.0 in
+        let four = and_parts (buffers_fit buffers && are_sides w h && leb ticks MOST_TICKS) (frames_fit w h (ticks + 1)) five.0 in
+        let three = and_parts (buffers_fit buffers && are_sides w h) (leb ticks MOST_TICKS) four.0 in
+        let two = and_parts (buffers_fit buffers) (are_sides w h) three.0 in
+        (two.0, two.1, five.1, most.1, three.1)
+
+    pub run_buffers_fit : (1 ≤ buffer_count buffers) × (buffer_count buffers ≤ MOST_BUFFERS)
+    run_buffers_fit = some_buffers buffers run_parts.0
+
+    pub run_ticks_fit : ticks ≤ MOST_TICKS
+    run_ticks_fit = leb-true ticks MOST_TICKS run_parts.4
+
+    pub run_sides_fit : IsTrue (are_sides w h)
+    run_sides_fit = run_parts.1
+
+    pub run_files_fit : (1 ≤ length files) × (length files ≤ MOST_FILES)
+    run_files_fit = in_range 1 MOST_FILES (length files) run_parts.2
+
+    pub run_names_differ : f ≡ l → ⊥
+    run_names_differ same =
+        let named = and_parts (list_all is_name (f ∷ l ∷ files)) (not (has_repeat same_text (f ∷ l ∷ files))) run_parts.3 in
+        let again : same_text f l ≡ true = ap (same_text f) (sym same) ∙ same_text_self f in
+        first_repeats (same_text f l) _ _ again named.1

@@ -14,3 +14,4 @@ mod Making
 mod Asked_names
 mod Takes
 mod Demonstrated
+mod Run_done

@@ -18,12 +18,12 @@ use Rattle.vz_rules.specs.declared.entry.Entry.{Entry}
 use Rattle.vz_words.proofs.One.{same_command}
 use Rattle.vz_words.specs.Words.{command_of}
 use Rattle.vz_words.specs.declared.commands.Command.{Command as Found}
-use Rattle.viz_run.specs.Commands.{Asks, AsksNothing, is_built, input_names, output_names}
+use Rattle.viz_run.specs.Commands.{Asks, AsksNothing, is_built, buffers_of, input_names, output_names}
 use Rattle.viz_run.specs.Inputs.{Inputs, no_inputs, AreAccepted, plan_of, events_for}
 use Rattle.vz_demo.specs.Planned.{demo_plan}
 use Rattle.viz_run.specs.Demo.{demo_events}
 use Rattle.viz_run.specs.Causes.{DoesFor, LeavesFor, KeepsOthers, FindsInputs}
-use Rattle.viz_run.specs.Ends.{IsHistory, IsDone, TellsEnd, outputs_of, named_files}
+use Rattle.viz_run.specs.Ends.{IsHistory, IsAsked, IsDone, TellsEnd, outputs_of, named_files}
 use Rattle.viz_run.specs.Lines.{made_line, end_line}
 use Rattle.viz_run.specs.Site.{site}
 use Rattle.viz_run.specs.Stops.{Behaves, IsRefusal, stop_of}
@@ -121,13 +121,13 @@ none_written p k = refl
 
 -- nothing happened, and nothing is written
 done_nothing :
-    (c : Command) (i : Inputs) (a b : Shelved) (steps : ℕ) → events_for c i ≡ [] → AreWhole (outputs_of c (plan_of c i) []) b
+    (c : Command) (i : Inputs) (a b : Shelved) (steps : ℕ) → IsAsked c i [] → AreWhole (outputs_of c (plan_of c i) []) b
     → IsDone c i [] (site a steps) (site b steps)
-done_nothing c i a b steps none whole = record {
-  history = subst (λ (events : List Event). IsHistory (plan_of c i) events []) (sym none) (none_of (plan_of c i));
+done_nothing c i a b steps asked whole = record {
+  history = asked;
   outputs = whole;
-  counted = (let none = none_painted (plan_of c i) DEFAULT_BUFFERS in omega (arith, none));
-  whole = λ honest. none_written (plan_of c i) DEFAULT_BUFFERS;
+  counted = (let none = none_painted (plan_of c i) (buffers_of c) in omega (arith, none));
+  whole = λ honest. none_written (plan_of c i) (buffers_of c);
 }
 
 -- Of `check`
@@ -139,7 +139,7 @@ pub check_does :
     → DoesFor (Check w h frames log files) history (site a steps) (site b steps) line status
 check_does w h frames log files history a b steps line status empty i accepted tells =
     subst (λ (h' : List Entry). DoesFor (Check w h frames log files) h' (site a steps) (site b steps) line status) (sym empty)
-    (i, accepted, done_nothing (Check w h frames log files) i a b steps refl tt, tells)
+    (i, accepted, done_nothing (Check w h frames log files) i a b steps (none_of (plan_of (Check w h frames log files) i)) tt, tells)
 
 -- Of `gen`
 
@@ -155,7 +155,7 @@ module _ (n : ℕ) (first second third : Word) where
       → DoesFor (Gen n first second third) h (site a steps) (site b steps) line 0
   gen_does h a b steps line empty whole is =
       subst (λ (h : List Entry). DoesFor (Gen n first second third) h (site a steps) (site b steps) line 0) (sym empty)
-      (no_inputs, gen_accepted a, done_nothing (Gen n first second third) no_inputs a b steps refl whole, (is, refl))
+      (no_inputs, gen_accepted a, done_nothing (Gen n first second third) no_inputs a b steps (none_of (demo_plan n)) whole, (is, refl))
 
   -- or they are begun
   pub gen_leaves :

@@ -6,7 +6,7 @@ use Rattle.vz_outside.specs.declared.shelf.ShelfError.{ShelfError}
 use Rattle.vz_outside.specs.declared.shelf.ShelfError.TheVariants as shelf_error
 use Rattle.vz_outside.proofs.Calls.{Ran, known_after}
 use Rattle.vz_outputs.specs.Written.{Output, AreWhole, AreBegun, AreUnwritten, KeepsAllBut}
-use Rattle.vz_rules.specs.Command.{Command}
+use Rattle.vz_rules.specs.Command.{Word, Step}
 use Rattle.vz_rules.specs.Frames.{Honest, frames, written, painted}
 use Rattle.vz_rules.specs.Plan.{Plan, IsPlan}
 use Rattle.vz_rules.specs.declared.entry.Event.{Event}
@@ -45,43 +45,49 @@ all_begun (o ∷ more) a b whole = inl (whole.0, all_begun more a b whole.1)
 
 -- Of what was made of the inputs
 
-module _ (c : Command) (i : Inputs) (p : Plan) (es : List Event) (makes : Makes c i p es) (h : List Entry) (before after : Site) (accepted : AreAccepted before.shelf c i) where
-  made_history : IsHistory p es h → IsHistory (plan_of c i) (events_for c i) h
-  made_history history = subst (λ (x : Plan). IsHistory x (events_for c i) h) makes.0 (subst (λ (xs : List Event). IsHistory p xs h) makes.1 history)
+module _
+    (w t : ℕ) (s f l : Word) (names : List Word) (i : Inputs) (p : Plan) (es : List Event) (makes : Makes (Step w t s f l names) i p es)
+    (h : List Entry) (before after : Site) (accepted : AreAccepted before.shelf (Step w t s f l names) i)
+  where
+    made_history : IsHistory p es h → IsHistory (plan_of (Step w t s f l names) i) (events_for (Step w t s f l names) i) h
+    made_history history =
+        subst (λ (x : Plan). IsHistory x (events_for (Step w t s f l names) i) h) makes.0 (subst (λ (xs : List Event). IsHistory p xs h) makes.1 history)
 
-  -- all was done
-  pub does_for :
-      (line : List ℕ) (status : ℕ) → IsPlan p → IsHistory p es h → AreWhole (outputs_of c p h) after.shelf →
-      after.steps ≡ before.steps + painted p h DEFAULT_BUFFERS → TellsEnd c i h line status → DoesFor c h before after line status
-  does_for line status is history whole counted tells = (
-    i,
-    accepted,
-    record {
-      history = made_history history;
-      outputs = subst (λ (x : Plan). AreWhole (outputs_of c x h) after.shelf) makes.0 whole;
-      counted = counted ∙ ap (λ (x : Plan). before.steps + painted x h DEFAULT_BUFFERS) makes.0;
-      whole = subst (λ (x : Plan). Honest x h → written x h DEFAULT_BUFFERS ≡ frames x h) makes.0
-          (λ honest. written_is p h DEFAULT_BUFFERS is history.legal honest (omega arith));
-    },
-    tells,
-  )
+    -- all was done
+    pub does_for :
+        (line : List ℕ) (status : ℕ) → IsPlan p → IsHistory p es h → AreWhole (outputs_of (Step w t s f l names) p h) after.shelf →
+        after.steps ≡ before.steps + painted p h DEFAULT_BUFFERS → TellsEnd (Step w t s f l names) i h line status
+        → DoesFor (Step w t s f l names) h before after line status
+    does_for line status is history whole counted tells = (
+      i,
+      accepted,
+      record {
+        history = made_history history;
+        outputs = subst (λ (x : Plan). AreWhole (outputs_of (Step w t s f l names) x h) after.shelf) makes.0 whole;
+        counted = counted ∙ ap (λ (x : Plan). before.steps + painted x h DEFAULT_BUFFERS) makes.0;
+        whole = subst (λ (x : Plan). Honest x h → written x h DEFAULT_BUFFERS ≡ frames x h) makes.0
+            (λ honest. written_is p h DEFAULT_BUFFERS is history.legal honest (omega arith));
+      },
+      tells,
+    )
 
-  -- it was cut short
-  pub cut_short :
-      (n : ℕ) × IsHistory p (take n es) h → AreBegun (outputs_of c p h) before.shelf after.shelf → LeavesFor c h before after
-  cut_short front begun =
-      inr (
-        i,
-        accepted,
-        record {
-          history = (
-            front.0,
-            subst (λ (x : Plan). IsHistory x (take front.0 (events_for c i)) h) makes.0
-                (subst (λ (xs : List Event). IsHistory p (take front.0 xs) h) makes.1 front.1),
-          );
-          outputs = subst (λ (x : Plan). AreBegun (outputs_of c x h) before.shelf after.shelf) makes.0 begun;
-        },
-      )
+    -- it was cut short
+    pub cut_short :
+        (n : ℕ) × IsHistory p (take n es) h → AreBegun (outputs_of (Step w t s f l names) p h) before.shelf after.shelf
+        → LeavesFor (Step w t s f l names) h before after
+    cut_short front begun =
+        inr (
+          i,
+          accepted,
+          record {
+            history = (
+              front.0,
+              subst (λ (x : Plan). IsHistory x (take front.0 (events_for (Step w t s f l names) i)) h) makes.0
+                  (subst (λ (xs : List Event). IsHistory p (take front.0 xs) h) makes.1 front.1),
+            );
+            outputs = subst (λ (x : Plan). AreBegun (outputs_of (Step w t s f l names) x h) before.shelf after.shelf) makes.0 begun;
+          },
+        )
 
 -- Of stops
 

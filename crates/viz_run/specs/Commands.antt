@@ -1,9 +1,11 @@
 -- The commands that the program has, and which names they read and write.
-use Rattle.std.specs.Prelude.{Bool, true, false, IsTrue, List, [], ◌∷◌, ◌++◌}
-use Rattle.vz_rules.specs.Command.{Word, Command, Step, Check, Gen, Demo, IsCommand}
+use Rattle.std.specs.Prelude.{ℕ, Bool, true, false, not, IsTrue, List, [], ◌∷◌, ◌++◌}
+use Rattle.vz_base.specs.declared.limits.TheConstants.{DEFAULT_BUFFERS}
+use Rattle.vz_rules.specs.Command.{Word, Command, Run, Step, Check, Gen, Demo, IsCommand, buffer_count}
 
--- the program has the command; the words of another are refused
+-- the program has the command; the words of another are refused, and of one whose frames a thread of its own would write
 abbrev pub is_built : Command → Bool
+is_built (Run paced buffers pipe w h ticks frames log files) = not pipe
 is_built (Step w h schedule frames log files) = true
 is_built (Check w h frames log files) = true
 is_built (Gen n first second third) = true
@@ -20,6 +22,7 @@ AsksNothing words = (c : Command) → Asks words c → ⊥
 
 -- the names of the clients' files
 abbrev pub client_names : Command → List Word
+client_names (Run paced buffers pipe w h ticks frames log files) = files
 client_names (Step w h schedule frames log files) = files
 client_names (Check w h frames log files) = files
 client_names _ = []
@@ -45,6 +48,12 @@ input_names c = client_names c ++ (schedule_names c ++ (log_names c ++ frame_nam
 
 -- the names that are written
 abbrev pub output_names : Command → List Word
+output_names (Run paced buffers pipe w h ticks frames log files) = frames ∷ log ∷ []
 output_names (Step w h schedule frames log files) = frames ∷ log ∷ []
 output_names (Gen n first second third) = first ∷ second ∷ third ∷ []
 output_names _ = []
+
+-- how many buffers are painted in turn
+abbrev pub buffers_of : Command → ℕ
+buffers_of (Run paced buffers pipe w h ticks frames log files) = buffer_count buffers
+buffers_of _ = DEFAULT_BUFFERS

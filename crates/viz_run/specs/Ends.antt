@@ -1,6 +1,5 @@
 -- What holds of a command that ended, and of one that was cut short.
 use Rattle.std.specs.Prelude.{◌≡◌, ℕ, pos, ◌+◌, List, [], ◌∷◌, map, take}
-use Rattle.vz_base.specs.declared.limits.TheConstants.{DEFAULT_BUFFERS}
 use Rattle.vz_frame.specs.declared.message.ClientFile.{ClientFile}
 use Rattle.vz_codec.specs.Spelling.{file_bytes}
 use Rattle.vz_gen.specs.Make.{make}
@@ -10,12 +9,14 @@ use Rattle.vz_rules.specs.Plan.{Plan}
 use Rattle.vz_check.specs.Verdict.{IsVerdict}
 use Rattle.vz_check.specs.declared.verdict.Verdict.{Verdict}
 use Rattle.vz_inputs.specs.Refusals.{plan_read}
-use Rattle.vz_rules.specs.Command.{Word, Command, Step, Check, Gen}
+use Rattle.vz_rules.specs.Command.{Word, Command, Run, Step, Check, Gen}
 use Rattle.vz_rules.specs.declared.entry.Event.{Event}
 use Rattle.vz_rules.specs.declared.entry.Entry.{Entry}
 use Rattle.vz_rules.specs.Step.{Legal}
-use Rattle.vz_rules.specs.Frames.{frames, written, painted, frames_bytes, Honest}
+use Rattle.vz_rules.specs.Frames.{frames, written, painted, Honest}
 use Rattle.vz_rules.specs.Log.{log_text, rest_of}
+use Rattle.vz_threads.specs.Courses.{IsRun, frames_of}
+use Rattle.viz_run.specs.Commands.{buffers_of}
 use Rattle.viz_run.specs.Inputs.{Inputs, plan_of, events_for}
 use Rattle.viz_run.specs.Lines.{end_line, verdict_line, verdict_status}
 use Rattle.viz_run.specs.Site.{Site}
@@ -29,9 +30,18 @@ pub record IsHistory (p : Plan) (events : List Event) (h : List Entry) : Type 0 
   pub legal : Legal p h
   pub all : events_in h ≡ events
 
--- the bytes of the frames that a history writes
-abbrev pub frames_of : Plan → List Entry → List ℕ
-frames_of p h = frames_bytes (written p h DEFAULT_BUFFERS)
+-- the history that a command asks for: of `run` a legal one in which the display makes its rounds, paced where that is asked, and
+-- each client's messages are all taken in time; of the others the legal one of exactly their events
+abbrev pub IsAsked : Command → Inputs → List Entry → Type 0
+IsAsked (Run paced buffers pipe w h ticks frames log files) i history =
+    IsRun (plan_read (record { w = pos w; h = pos h }) i.files) ticks paced history
+IsAsked c i history = IsHistory (plan_of c i) (events_for c i) history
+
+-- what may come about of it: of `run` a legal history, of the others that of a front part of their events
+abbrev pub IsPart : Command → Inputs → List Entry → Type 0
+IsPart (Run paced buffers pipe w h ticks frames log files) i history =
+    Legal (plan_read (record { w = pos w; h = pos h }) i.files) history
+IsPart c i history = (n : ℕ) × IsHistory (plan_of c i) (take n (events_for c i)) history
 
 -- the text of a history, and of what is left behind it
 abbrev pub log_of : Plan → List Entry → List ℕ
@@ -42,10 +52,17 @@ abbrev pub named_files : List Word → List ClientFile → List Output
 named_files (name ∷ names) (file ∷ files) = record { name = name; bytes = file_bytes file } ∷ named_files names files
 named_files _ _ = []
 
+-- the frames of a history with so many buffers, and its log, under these names
+abbrev pub frames_and_log : Word → Word → Plan → List Entry → ℕ → List Output
+frames_and_log frames log p history buffers =
+    record { name = frames; bytes = frames_of p history buffers } ∷ record { name = log; bytes = log_of p history } ∷ []
+
 -- what a command writes of a history of a plan
 abbrev pub outputs_of : Command → Plan → List Entry → List Output
+outputs_of (Run paced buffers pipe w h ticks frames log files) p history =
+    frames_and_log frames log p history (buffers_of (Run paced buffers pipe w h ticks frames log files))
 outputs_of (Step w h schedule frames log files) p history =
-    record { name = frames; bytes = frames_of p history } ∷ record { name = log; bytes = log_of p history } ∷ []
+    frames_and_log frames log p history (buffers_of (Step w h schedule frames log files))
 outputs_of (Gen n first second third) p history = named_files (first ∷ second ∷ third ∷ []) (make n)
 outputs_of _ p history = []
 
@@ -61,17 +78,17 @@ TellsEnd (Check w h frames log files) i history line status =
     × (line ≡ verdict_line verdict) × (status ≡ verdict_status verdict)
 TellsEnd c i history line status = (line ≡ end_line c (plan_of c i) history) × (status ≡ 0)
 
--- all was done that the command is for: a legal history of exactly its events came about, what it writes stands, each painted point
--- was counted, and where every client's damage covers what it changed, each written frame is the whole picture
+-- all was done that the command is for: a history that it asks for came about, what it writes stands, each painted point was counted,
+-- and where every client's damage covers what it changed, each written frame is the whole picture
 pub record IsDone (c : Command) (i : Inputs) (h : List Entry) (before after : Site) : Type 0 where
-  pub history : IsHistory (plan_of c i) (events_for c i) h
+  pub history : IsAsked c i h
   pub outputs : AreWhole (outputs_of c (plan_of c i) h) after.shelf
-  pub counted : after.steps ≡ before.steps + painted (plan_of c i) h DEFAULT_BUFFERS
-  pub whole : Honest (plan_of c i) h → written (plan_of c i) h DEFAULT_BUFFERS ≡ frames (plan_of c i) h
+  pub counted : after.steps ≡ before.steps + painted (plan_of c i) h (buffers_of c)
+  pub whole : Honest (plan_of c i) h → written (plan_of c i) h (buffers_of c) ≡ frames (plan_of c i) h
 
--- it was cut short: a legal history of a front part of its events came about, and of what that history writes a front part stands
+-- it was cut short: a part of such a history came about, and of what that very history writes a front part stands
 pub record IsCutShort (c : Command) (i : Inputs) (h : List Entry) (before after : Site) : Type 0 where
-  pub history : (n : ℕ) × IsHistory (plan_of c i) (take n (events_for c i)) h
+  pub history : IsPart c i h
   pub outputs : AreBegun (outputs_of c (plan_of c i) h) before.shelf after.shelf
 
 -- nothing was begun: the history is empty, the bytes of every name stay, and no step was counted

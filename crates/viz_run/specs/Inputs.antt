@@ -4,7 +4,7 @@ use Rattle.std.specs.List.{flat_map}
 use Rattle.vz_base.specs.declared.limits.TheConstants.{MOST_FILE_BYTES, MOST_EVENTS, MOST_LOG_BYTES}
 use Rattle.vz_outside.specs.Shelved.{Shelved, Holds}
 use Rattle.vz_rules.specs.Plan.{Plan}
-use Rattle.vz_rules.specs.Command.{Word, Command, Step, Check, Gen, Demo}
+use Rattle.vz_rules.specs.Command.{Word, Command, Run, Step, Check, Gen, Demo}
 use Rattle.vz_rules.specs.declared.entry.Event.{Event}
 use Rattle.vz_inputs.specs.Read.{AreReadUpto}
 use Rattle.vz_inputs.specs.Refusals.{file_refused, plan_read}
@@ -41,13 +41,14 @@ pub record AreRead (shelf : Shelved) (c : Command) (i : Inputs) : Type 0 where
 
 -- the plan: the files that were read, or those by rule, and the size of the display
 abbrev pub plan_of : Command → Inputs → Plan
+plan_of (Run paced buffers pipe w h ticks frames log files) i = plan_read (record { w = pos w; h = pos h }) i.files
 plan_of (Step w h schedule frames log files) i = plan_read (record { w = pos w; h = pos h }) i.files
 plan_of (Check w h frames log files) i = plan_read (record { w = pos w; h = pos h }) i.files
 plan_of (Gen n first second third) i = demo_plan n
 plan_of (Demo n) i = demo_plan n
 plan_of _ i = record { files = []; size = record { w = pos 1; h = pos 1 } }
 
--- the events: those of the schedule, or of the demonstration
+-- the events: those of the schedule, or of the demonstration; those of a run are not known before
 abbrev pub events_for : Command → Inputs → List Event
 events_for (Step w h schedule frames log files) i = flat_map events_of i.schedules
 events_for (Demo n) i = demo_events n

@@ -5,7 +5,7 @@ use Rattle.vz_inputs.specs.Refusals.{file_refused}
 use Rattle.vz_inputs.specs.declared.refused.Refused.{Refused}
 use Rattle.vz_rules.specs.Command.{Command, Check}
 use Rattle.viz_run.specs.Inputs.{first_some, logs_refused}
-use Rattle.viz_run.specs.declared.judging.CheckWords.{CheckWords}
+use Rattle.vz_words.specs.declared.commands.CheckWords.{CheckWords}
 
 -- the command
 abbrev pub command_of : CheckWords → Command

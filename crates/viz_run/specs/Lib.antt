@@ -10,3 +10,4 @@ pub mod Stops
 pub mod Stepped
 pub mod Judged
 pub mod Made
+pub mod Ran

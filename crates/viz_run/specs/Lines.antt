@@ -9,7 +9,7 @@ use Rattle.vz_check.specs.declared.verdict.Verdict.TheVariants as verdict
 use Rattle.vz_inputs.specs.declared.refused.Reason.{Reason}
 use Rattle.vz_inputs.specs.declared.refused.Reason.TheVariants as reason
 use Rattle.vz_inputs.specs.declared.refused.Refused.{Refused}
-use Rattle.vz_rules.specs.Command.{Command, Step, Gen, Demo}
+use Rattle.vz_rules.specs.Command.{Command, Run, Step, Gen, Demo}
 use Rattle.vz_rules.specs.declared.entry.Entry.{Entry}
 use Rattle.vz_rules.specs.Course.{is_drawn}
 use Rattle.vz_rules.specs.Frames.{painted}
@@ -81,6 +81,7 @@ verdict_status (verdict.No entry what) = 1
 
 -- the line of a command at its end, with the history of a plan
 abbrev pub end_line : Command → Plan → List Entry → List ℕ
+end_line (Run paced buffers pipe w h ticks frames log files) p history = done_text (length history) (drawn_count history)
 end_line (Step w h schedule frames log files) p history = done_text (length history) (drawn_count history)
 end_line (Gen n first second third) p history = made_line
 end_line (Demo n) p history =

@@ -1,6 +1,6 @@
 -- What the words of `gen` ask for.
 use Rattle.vz_rules.specs.Command.{Command, Gen}
-use Rattle.viz_run.specs.declared.make.MakeWords.{MakeWords}
+use Rattle.vz_words.specs.declared.commands.MakeWords.{MakeWords}
 
 -- the command
 abbrev pub command_of : MakeWords → Command

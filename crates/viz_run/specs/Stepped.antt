@@ -12,7 +12,7 @@ use Rattle.vz_rules.specs.declared.entry.Entry.{Entry}
 use Rattle.vz_outputs.specs.Written.{Output}
 use Rattle.viz_run.specs.Ends.{outputs_of}
 use Rattle.viz_run.specs.Inputs.{Inputs, plan_of, events_for}
-use Rattle.viz_run.specs.declared.step.StepWords.{StepWords}
+use Rattle.vz_words.specs.declared.commands.StepWords.{StepWords}
 
 -- the command
 abbrev pub command_of : StepWords → Command

@@ -21,27 +21,18 @@ use crate::end::{End, verdict_status};
 use crate::lines::verdict_text;
 use crate::sides::size_of;
 use crate::stop::Stop;
-use std::alloc::Global;
+use std::thread::Threads;
 use vz_base::limits::{MOST_FILE_BYTES, MOST_LOG_BYTES};
 use vz_check::{Verdict, check};
 use vz_geom::Size;
 use vz_inputs::{InputError, Reason, Refused, plan_of, read_file, read_files};
 use vz_outside::Shelf;
 use vz_rules::Plan;
-
-/// The words of `check`: the sides of the display in pixels, and the names.
-#[derive(Clone, Copy)]
-pub struct CheckWords<'a> {
-    pub width: u32,
-    pub height: u32,
-    pub frames: &'a str,
-    pub log: &'a str,
-    pub files: &'a [String],
-}
+use vz_words::CheckWords;
 
 /// Judges a log and its frames, and answers the line that tells the verdict, and its status.
-pub fn check_log<F: Shelf>(
-    alloc: Global,
+pub fn check_log<F: Shelf, R: Threads + AllocGlobal + Sync>(
+    rt: &R,
     words: &CheckWords<'_>,
     shelf: &mut F,
 ) -> Result<End, Stop>
@@ -58,9 +49,9 @@ pub fn check_log<F: Shelf>(
         (MissesOne (input_names (command_of words.now)) (F.shelved shelf.old))
         (F.shelved shelf.old) (F.shelved shelf.new) result }
 {
-    let verdict = judge(alloc, words, shelf)?;
+    let verdict = judge(rt, words, shelf)?;
     Ok(End {
-        line: verdict_text(alloc, &verdict)?,
+        line: verdict_text(rt.alloc(), &verdict)?,
         status: verdict_status(&verdict),
     })
 }
@@ -68,7 +59,11 @@ pub fn check_log<F: Shelf>(
 /// Judges a log and its frames by the clients' files. The files and then the log are read, and the
 /// frames opened, before any is tested; the frames are read as they are judged. The bytes of every
 /// name stay.
-fn judge<F: Shelf>(alloc: Global, words: &CheckWords<'_>, shelf: &mut F) -> Result<Verdict, Stop>
+fn judge<F: Shelf, R: Threads + AllocGlobal + Sync>(
+    rt: &R,
+    words: &CheckWords<'_>,
+    shelf: &mut F,
+) -> Result<Verdict, Stop>
     requires { IsTrue (fits_command (command_of words.now)) }
     ensures verdict { IfOk result (λ verdict. (i : Inputs)
         × AreAccepted (F.shelved shelf.old) (command_of words.now) i
@@ -81,16 +76,21 @@ fn judge<F: Shelf>(alloc: Global, words: &CheckWords<'_>, shelf: &mut F) -> Resu
         (MissesOne (input_names (command_of words.now)) (F.shelved shelf.old))
         (F.shelved shelf.old) (F.shelved shelf.new) result }
 {
-    let files = read_files(alloc, shelf, words.files, MOST_FILE_BYTES)?;
-    let log = read_file(alloc, shelf, words.log, MOST_LOG_BYTES)?;
+    let files = read_files(rt.alloc(), shelf, words.files, MOST_FILE_BYTES)?;
+    let log = read_file(rt.alloc(), shelf, words.log, MOST_LOG_BYTES)?;
     let slot = shelf.open(words.frames)?;
     let size = size_of(words.width, words.height);
-    let plan = accept(alloc, size, &files, &log)?;
-    Ok(check(alloc, &plan, &log, shelf, slot)?)
+    let plan = accept(rt, size, &files, &log)?;
+    Ok(check(rt.alloc(), &plan, &log, shelf, slot)?)
 }
 
 /// The plan, where no input is refused: the clients' files are tested in order, and then the log.
-fn accept(alloc: Global, size: Size, files: &[Vec<u8>], log: &[u8]) -> Result<Plan, InputError>
+fn accept<R: Threads + AllocGlobal + Sync>(
+    rt: &R,
+    size: Size,
+    files: &[Vec<u8>],
+    log: &[u8],
+) -> Result<Plan, InputError>
     requires some { 1 ≤ length files.now }
     requires few { length files.now ≤ MOST_FILES }
     requires size { IsDisplaySize size }
@@ -99,7 +99,7 @@ fn accept(alloc: Global, size: Size, files: &[Vec<u8>], log: &[u8]) -> Result<Pl
     ensures refused { (r : Refusal) → IsErrOf result (input_error.Refused r)
         → refused_of (contents files.now) log.now ≡ Some r }
 {
-    let plan = plan_of(alloc, size, files)?;
+    let plan = plan_of(rt, size, files)?;
     if log.len() > MOST_LOG_BYTES {
         return Err(InputError::Refused(Refused {
             file: 0,

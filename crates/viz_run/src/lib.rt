@@ -1,6 +1,7 @@
 //! The display compositor's one public call.
 #![tactic(auto)]
 
+mod coursing;
 mod demo;
 mod end;
 mod events;
@@ -10,6 +11,7 @@ mod make;
 mod perform;
 mod playing;
 mod run;
+mod running;
 mod sides;
 mod step;
 mod stop;

@@ -17,15 +17,7 @@ use vz_frame::ClientFile;
 use vz_gen::make;
 use vz_outputs::write_file;
 use vz_outside::{Shelf, ShelfError};
-
-/// The words of `gen`: how many rounds the files have, and where those of the clients go.
-#[derive(Clone, Copy)]
-pub struct MakeWords<'a> {
-    pub rounds: u32,
-    pub first: &'a str,
-    pub second: &'a str,
-    pub third: &'a str,
-}
+use vz_words::MakeWords;
 
 /// Makes the files by rule, writes them one after the other, and answers the line that tells it.
 ///

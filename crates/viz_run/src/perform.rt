@@ -11,12 +11,14 @@ ghost use Rattle.viz_run.specs.declared.stop.Stop.TheVariants as stops;
 
 use crate::demo::demo;
 use crate::end::End;
-use crate::judging::{CheckWords, check_log};
-use crate::make::{MakeWords, make_files};
-use crate::step::{StepWords, step};
+use crate::judging::check_log;
+use crate::make::make_files;
+use crate::running::run;
+use crate::step::step;
 use crate::stop::Stop;
-use std::alloc::Global;
+use std::sync::Wait;
 use std::sync::ledger::Ledger;
+use std::thread::Threads;
 use vz_buffers::Steps;
 use vz_frame::List;
 use vz_outside::{Gate, Shelf};
@@ -27,14 +29,16 @@ use vz_words::{Command, command};
 ///
 /// `Words` comes where the program has no such command, `Input` where an input is refused, and
 /// after both nothing was begun. `Fault` comes exactly where the shelf counted one.
-pub fn perform<F: Shelf, G: Gate, L: Ledger>(
-    alloc: Global,
+pub fn perform<F: Shelf, G: Gate + Sync, L: Ledger, R>(
+    rt: &R,
     words: &[String],
     shelf: &mut F,
     gate: &G,
     steps: &mut Steps<L>,
     history: &mut List<Entry>,
 ) -> Result<End, Stop>
+where
+    R: Threads + Wait + AllocGlobal + Sync,
     requires { history.old ≡ [] }
     ensures done { IfOk result (λ ended. DoesAll (texts words.now) history.new
         (site (F.shelved shelf.old) steps.old) (site (F.shelved shelf.new) steps.new)
@@ -52,70 +56,24 @@ pub fn perform<F: Shelf, G: Gate, L: Ledger>(
         (F.shelved shelf.old) (F.shelved shelf.new) result }
 {
     match command(words) {
-        Some(
-            Command::Step {
-                width,
-                height,
-                schedule,
-                frames,
-                log,
-                files,
-            },
-        ) => {
-            let names = StepWords {
-                width,
-                height,
-                schedule,
-                frames,
-                log,
-                files,
-            };
-            step(alloc, &names, shelf, gate, steps, history)
+        Some(Command::Run(words)) => {
+            if words.pipe {
+                return Err(Stop::Words);
+            }
+            run(rt, &words, shelf, gate, steps, history)
         }
-        Some(
-            Command::Check {
-                width,
-                height,
-                frames,
-                log,
-                files,
-            },
-        ) => {
-            let names = CheckWords {
-                width,
-                height,
-                frames,
-                log,
-                files,
-            };
-            check_log(alloc, &names, shelf)
-        }
-        Some(
-            Command::Gen {
-                rounds,
-                first,
-                second,
-                third,
-            },
-        ) => {
-            let names = MakeWords {
-                rounds,
-                first,
-                second,
-                third,
-            };
-            Ok(End {
-                line: make_files(alloc, &names, shelf)?,
-                status: 0,
-            })
-        }
-        Some(Command::Demo { rounds }) => Ok(End {
-            line: demo(alloc, rounds, gate, steps, history)?,
+        Some(Command::Step(words)) => step(rt, &words, shelf, gate, steps, history),
+        Some(Command::Check(words)) => check_log(rt, &words, shelf),
+        Some(Command::Gen(words)) => Ok(End {
+            line: make_files(rt.alloc(), &words, shelf)?,
             status: 0,
         }),
-        Some(Command::Run { .. }) => Err(Stop::Words),
-        Some(Command::Hit { .. }) => Err(Stop::Words),
-        Some(Command::Turns { .. }) => Err(Stop::Words),
+        Some(Command::Demo { rounds }) => Ok(End {
+            line: demo(rt.alloc(), rounds, gate, steps, history)?,
+            status: 0,
+        }),
+        Some(Command::Hit(_)) => Err(Stop::Words),
+        Some(Command::Turns(_)) => Err(Stop::Words),
         None => Err(Stop::Words),
     }
 }

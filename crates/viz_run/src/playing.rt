@@ -7,10 +7,11 @@ ghost use Rattle.vz_rules.specs.Frames.{painted};
 ghost use Rattle.vz_rules.specs.Log.{rest_of};
 ghost use Rattle.vz_rules.specs.Step.{NamesClient};
 ghost use Rattle.vz_rules.specs.World.{opening};
-ghost use Rattle.viz_run.specs.Ends.{IsHistory, frames_of};
+ghost use Rattle.vz_threads.specs.Courses.{frames_of};
+ghost use Rattle.viz_run.specs.Ends.{IsHistory};
 ghost use Rattle.viz_run.specs.Stepped.{outputs_for};
 
-use crate::step::{Given, StepWords};
+use crate::step::Given;
 use std::alloc::Global;
 use std::sync::ledger::Ledger;
 use vz_base::limits::DEFAULT_BUFFERS;
@@ -21,6 +22,7 @@ use vz_outputs::{FrameFile, create_outputs, play_frames, write_log};
 use vz_outside::{Gate, Shelf, ShelfError};
 use vz_player::Player;
 use vz_rules::{Entry, Rest};
+use vz_words::StepWords;
 
 /// Takes the events on a machine at the opening of the plan, and writes the frames and the log.
 /// FRAMES and LOG are made here, once every input is accepted.
@@ -100,13 +102,13 @@ where
     ensures history { OnOk result
         (IsHistory given.now.plan given.now.events.items history.new) }
     ensures rest { IfOk result (λ rest. rest ≡ rest_of given.now.plan history.new) }
-    ensures frames { OnOk result (Appends (frames_of given.now.plan history.new)
+    ensures frames { OnOk result (Appends (frames_of given.now.plan history.new DEFAULT_BUFFERS)
         ((F.shelved shelf.old).name slot) (F.shelved shelf.old) (F.shelved shelf.new)) }
     ensures counted { OnOk result
         (steps.new ≡ steps.old + painted given.now.plan history.new DEFAULT_BUFFERS) }
     ensures front { OnErr result ((n : ℕ)
         × IsHistory given.now.plan (take n given.now.events.items) history.new) }
-    ensures begun { OnErr result (AppendsFront (frames_of given.now.plan history.new)
+    ensures begun { OnErr result (AppendsFront (frames_of given.now.plan history.new DEFAULT_BUFFERS)
         ((F.shelved shelf.old).name slot) (F.shelved shelf.old) (F.shelved shelf.new)) }
     ensures others { KeepsOthers ((F.shelved shelf.old).name slot)
         (F.shelved shelf.old) (F.shelved shelf.new) }

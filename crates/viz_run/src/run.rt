@@ -13,8 +13,9 @@ ghost use Rattle.viz_run.specs.Site.{IsFaultless, KeepsFaultless};
 
 use crate::perform::perform;
 use crate::telling::{tell, tell_stop};
-use std::alloc::Global;
+use std::sync::Wait;
 use std::sync::ledger::Ledger;
+use std::thread::Threads;
 use vz_buffers::Steps;
 use vz_frame::List;
 use vz_outside::{Gate, Shelf, Sink};
@@ -26,22 +27,25 @@ pub struct Run {
     /// 0 done, 1 a log or its frames have a fault, 2 words refused, 3 an input refused, 4 a fault of the shelf or the sink, 5 want of
     /// memory.
     pub status: u8,
-    /// The entries of `step` and `demo`, in the order in which they were made; empty where none
+    /// The entries of `run`, `step` and `demo`, in the order in which they were made; empty where none
     /// was made.
     pub history: List<Entry>,
 }
 
 /// Runs the program: `words` are those of the command line behind the program's name, `shelf` has
 /// the files that they name, and the line at the end goes to `out`. `gate` is told of each step,
-/// and `steps` counts each pixel that is made or painted.
-pub fn viz<F: Shelf + Send, O: Sink, G: Gate + Sync, L: Ledger>(
-    alloc: Global,
+/// and `steps` counts each pixel that is made or painted. `rt` has the memory, and the threads of
+/// `run`, which this call waits for: that they end no clause says.
+pub fn viz<F: Shelf + Send, O: Sink, G: Gate + Sync, L: Ledger, R>(
+    rt: &R,
     words: &[String],
     shelf: &mut F,
     out: &mut O,
     gate: &G,
     steps: &mut Steps<L>,
 ) -> Run
+where
+    R: Threads + Wait + AllocGlobal + Sync,
     ensures range { result.status ≤ 5 }
 
     // Status 0 and 1: all was done that the command is for, and the line that tells how it ended was
@@ -105,14 +109,14 @@ pub fn viz<F: Shelf + Send, O: Sink, G: Gate + Sync, L: Ledger>(
         → KeepsFaultless (outside (F.shelved shelf.old) (O.sunk out.old) steps.old)
         (outside (F.shelved shelf.new) (O.sunk out.new) steps.new) }
 {
-    let mut history = List::new(alloc);
-    match perform(alloc, words, shelf, gate, steps, &mut history) {
+    let mut history = List::new(rt.alloc());
+    match perform(rt, words, shelf, gate, steps, &mut history) {
         Ok(ended) => Run {
             status: tell(out, &ended.line, ended.status),
             history,
         },
         Err(stop) => Run {
-            status: tell_stop(alloc, out, stop),
+            status: tell_stop(rt.alloc(), out, stop),
             history,
         },
     }

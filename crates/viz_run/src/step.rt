@@ -26,8 +26,8 @@ use crate::lines::done_line;
 use crate::playing::play;
 use crate::sides::size_of;
 use crate::stop::Stop;
-use std::alloc::Global;
 use std::sync::ledger::Ledger;
+use std::thread::Threads;
 use vz_base::limits::{MOST_EVENTS, MOST_FILE_BYTES};
 use vz_buffers::Steps;
 use vz_frame::List;
@@ -36,17 +36,7 @@ use vz_inputs::{InputError, events_of, plan_of, read_file, read_files};
 use vz_outside::{Gate, Shelf};
 use vz_plain_machine::PlainMachine;
 use vz_rules::{Entry, Event, Plan};
-
-/// The words of `step`: the sides of the display in pixels, and the names.
-#[derive(Clone, Copy)]
-pub struct StepWords<'a> {
-    pub width: u32,
-    pub height: u32,
-    pub schedule: &'a str,
-    pub frames: &'a str,
-    pub log: &'a str,
-    pub files: &'a [String],
-}
+use vz_words::StepWords;
 
 /// What `step` is given: the plan, and the events of the schedule.
 #[derive(Drop)]
@@ -56,8 +46,8 @@ pub struct Given {
 }
 
 /// Takes the events of a schedule, writes the frames and the log, and answers how that ended.
-pub fn step<F: Shelf, G: Gate, L: Ledger>(
-    alloc: Global,
+pub fn step<F: Shelf, G: Gate, L: Ledger, R: Threads + AllocGlobal + Sync>(
+    rt: &R,
     words: &StepWords<'_>,
     shelf: &mut F,
     gate: &G,
@@ -83,18 +73,31 @@ pub fn step<F: Shelf, G: Gate, L: Ledger>(
         (MissesOne (input_names (command_of words.now)) (F.shelved shelf.old))
         (F.shelved shelf.old) (F.shelved shelf.new) result }
 {
-    let given = admit(alloc, shelf, words)?;
+    let given = admit(rt, shelf, words)?;
     let _ = given.plan.files();
-    let machine = PlainMachine::new(alloc, &given.plan);
-    play(alloc, machine, words, &given, shelf, gate, steps, history)?;
+    let machine = PlainMachine::new(rt.alloc(), &given.plan);
+    play(
+        rt.alloc(),
+        machine,
+        words,
+        &given,
+        shelf,
+        gate,
+        steps,
+        history,
+    )?;
     Ok(End {
-        line: done_line(alloc, history.as_slice())?,
+        line: done_line(rt.alloc(), history.as_slice())?,
         status: 0,
     })
 }
 
 /// Reads the clients' files and then the schedule, before any is tested, and accepts them.
-fn admit<F: Shelf>(alloc: Global, shelf: &mut F, words: &StepWords<'_>) -> Result<Given, Stop>
+fn admit<F: Shelf, R: Threads + AllocGlobal + Sync>(
+    rt: &R,
+    shelf: &mut F,
+    words: &StepWords<'_>,
+) -> Result<Given, Stop>
     requires { IsTrue (fits_command (command_of words.now)) }
     ensures accepted { IfOk result (λ given. (i : Inputs)
         × AreAccepted (F.shelved shelf.old) (command_of words.now) i
@@ -108,15 +111,15 @@ fn admit<F: Shelf>(alloc: Global, shelf: &mut F, words: &StepWords<'_>) -> Resul
         (MissesOne (input_names (command_of words.now)) (F.shelved shelf.old))
         (F.shelved shelf.old) (F.shelved shelf.new) result }
 {
-    let files = read_files(alloc, shelf, words.files, MOST_FILE_BYTES)?;
-    let schedule = read_file(alloc, shelf, words.schedule, MOST_EVENTS)?;
-    Ok(accept(alloc, size_of(words.width, words.height), &files, &schedule)?)
+    let files = read_files(rt.alloc(), shelf, words.files, MOST_FILE_BYTES)?;
+    let schedule = read_file(rt.alloc(), shelf, words.schedule, MOST_EVENTS)?;
+    Ok(accept(rt, size_of(words.width, words.height), &files, &schedule)?)
 }
 
 /// The plan and the events, where no input is refused: the clients' files are tested in order,
 /// and then the schedule.
-fn accept(
-    alloc: Global,
+fn accept<R: Threads + AllocGlobal + Sync>(
+    rt: &R,
     size: Size,
     files: &[Vec<u8>],
     schedule: &[u8],
@@ -131,7 +134,7 @@ fn accept(
     ensures refused { (r : Refusal) → IsErrOf result (input_error.Refused r)
         → refused_of size (contents files.now) schedule.now ≡ Some r }
 {
-    let plan = plan_of(alloc, size, files)?;
-    let events = events_of(alloc, &plan, schedule)?;
+    let plan = plan_of(rt, size, files)?;
+    let events = events_of(rt.alloc(), &plan, schedule)?;
     Ok(Given { plan, events })
 }

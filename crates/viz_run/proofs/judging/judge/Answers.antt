@@ -11,7 +11,9 @@ use Rattle.vz_inputs.specs.Read.{texts, contents}
 use Rattle.vz_inputs.specs.Refusals.{plan_read}
 use Rattle.viz_run.specs.Judged.{refused_of}
 use Rattle.viz_run.proofs.Fitting.{judged_files_fit, judged_sides_fit}
-use Rattle.viz_run.proofs.Stopping.{stops_at}
+use Rattle.viz_run.proofs.Stepping.{ok_is_none}
+use Rattle.viz_run.proofs.Stopping.{stops_at, stops_after}
+use Rattle.viz_run.specs.declared.stop.Stop.TheVariants as stop
 use Rattle.viz_run.proofs.Admitting.{input_of, misses_left, misses_behind}
 use Rattle.viz_run.proofs.Logs_read.{judged_inputs, are_read, first_of, held_by}
 use Rattle.viz_run.proofs.judging.judge.Goals as goal
@@ -142,3 +144,14 @@ returns-clause-verdict g c =
       subst (λ (x : Plan). IsVerdict x log bytes c.in_ok-check.field-0) planned
           (subst (λ (l : List ℕ). IsVerdict c.in_ok-plan.plan l bytes c.in_ok-check.field-0) c.deref-3.ensures.value judged.2),
     )
+
+pub returns-clause-behaves : goal.returns-clause-behaves
+returns-clause-behaves g c =
+    let s = g.F.Shelf.shelved c.args.shelf.now in
+    let t = g.F.Shelf.shelved c.read_file.new.shelf in
+    let u = g.F.Shelf.shelved c.open.new.self in
+    let v = g.F.Shelf.shelved c.check.new.shelf in
+    let read = ran_then_ran s _ t (ran_one c.in_ok-files.files s _ c.in_ok-files.ensures.behaves) (ran_one c.in_ok-log.log _ t c.in_ok-log.ensures.behaves) in
+    let opened = ran_one c.in_ok-slot.slot t u c.in_ok-slot.ensures.behaves in
+    stops_after _ s v (ran_then_ran s u v (ran_then_ran s t u read opened) (ran_one c.in_ok-check.field-0 u v c.in_ok-check.ensures.behaves))
+    (ok_is_none _ stop.Fault)

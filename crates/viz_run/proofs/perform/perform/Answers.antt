@@ -1,4 +1,4 @@
-use Rattle.std.proofs.Common.{rules, inl, inr, refl}
+use Rattle.std.proofs.Common.{rules, not, ap, inl, inr, refl}
 use Rattle.vz_demo.proofs.Fitting.{planned}
 use Rattle.vz_outputs.proofs.Behaving.{on_err}
 use Rattle.vz_outside.proofs.Calls.{ran_none, ran_one}
@@ -127,7 +127,7 @@ returns-in_err-demo-in-Some-Demo-clause-behaves g c =
     stops_after c.from_residual-in_err-demo-in-Some-Demo.result _ _ (ran_none _) (memory_no_fault c.from_residual-in_err-demo-in-Some-Demo.result c.from_residual-in_err-demo-in-Some-Demo.ensures.1)
 
 pub step-requires-clause-fits : goal.step-requires-clause-fits
-step-requires-clause-fits g c = asked_fits _ _ (asks_for (texts c.args.words.now) _ _ c.in-Some-Step.field-0-is c.in-Some-Step.ensures.found refl).0
+step-requires-clause-fits g c = λ _ _. asked_fits _ _ (asks_for (texts c.args.words.now) _ _ c.in-Some-Step.field-0-is c.in-Some-Step.ensures.found refl).0
 
 pub make_files-requires : goal.make_files-requires
 make_files-requires g c = asked_fits _ _ (asks_for (texts c.args.words.now) _ _ c.in-Some-Gen.field-0-is c.in-Some-Gen.ensures.found refl).0
@@ -135,9 +135,40 @@ make_files-requires g c = asked_fits _ _ (asks_for (texts c.args.words.now) _ _ 
 pub demo-requires-clause-few : goal.demo-requires-clause-few
 demo-requires-clause-few g c = demo_few (texts c.args.words.now) c.in-Some-Demo.rounds (asks_for (texts c.args.words.now) _ _ c.in-Some-Demo.field-0-is c.in-Some-Demo.ensures.found refl).0
 
-pub returns-in-Some-Run-clause-words : goal.returns-in-Some-Run-clause-words
-returns-in-Some-Run-clause-words g c =
-    λ is. unbuilt_found (texts c.args.words.now) _ _ c.in-Some-Run.field-0-is c.in-Some-Run.ensures.found refl
+pub returns-else-words-clause-done : goal.returns-else-words-clause-done
+returns-else-words-clause-done g c =
+    if_ok c.run.result _ _ (λ line does. (_, (asks_for (texts c.args.words.now) _ _ c.in-Some-Run.field-0-is c.in-Some-Run.ensures.found (ap not c.if-words.false)), does)) c.run.ensures.done
+
+pub returns-else-words-clause-words : goal.returns-else-words-clause-words
+returns-else-words-clause-words g c =
+    λ is. absurd (c.run.ensures.words is)
+
+pub returns-else-words-clause-input : goal.returns-else-words-clause-input
+returns-else-words-clause-input g c =
+    λ r is. (_, (asks_for (texts c.args.words.now) _ _ c.in-Some-Run.field-0-is c.in-Some-Run.ensures.found (ap not c.if-words.false)), c.run.ensures.input r is)
+
+pub returns-else-words-clause-unbegun : goal.returns-else-words-clause-unbegun
+returns-else-words-clause-unbegun g c =
+    c.run.ensures.unbegun
+
+pub returns-else-words-clause-front : goal.returns-else-words-clause-front
+returns-else-words-clause-front g c =
+    at_err c.run.result _ _ (λ leaves. inr (_, (asks_for (texts c.args.words.now) _ _ c.in-Some-Run.field-0-is c.in-Some-Run.ensures.found (ap not c.if-words.false)), leaves)) c.run.ensures.front
+
+pub returns-else-words-clause-others : goal.returns-else-words-clause-others
+returns-else-words-clause-others g c =
+    others_of (texts c.args.words.now) _ (asks_for (texts c.args.words.now) _ _ c.in-Some-Run.field-0-is c.in-Some-Run.ensures.found (ap not c.if-words.false)) (g.F.Shelf.shelved c.args.shelf.now) (g.F.Shelf.shelved c.run.new.shelf) c.run.ensures.others
+
+pub returns-else-words-clause-behaves : goal.returns-else-words-clause-behaves
+returns-else-words-clause-behaves g c =
+    behaves_for c.run.result _ _ (misses_of (texts c.args.words.now) _ (asks_for (texts c.args.words.now) _ _ c.in-Some-Run.field-0-is c.in-Some-Run.ensures.found (ap not c.if-words.false)) _) c.run.ensures.behaves
+
+pub returns-then-words-clause-words : goal.returns-then-words-clause-words
+returns-then-words-clause-words g c =
+    λ is. unbuilt_found (texts c.args.words.now) _ _ c.in-Some-Run.field-0-is c.in-Some-Run.ensures.found (ap not c.if-words.true)
+
+pub run-requires-clause-fits : goal.run-requires-clause-fits
+run-requires-clause-fits g c = λ _ _. asked_fits _ _ (asks_for (texts c.args.words.now) _ _ c.in-Some-Run.field-0-is c.in-Some-Run.ensures.found (ap not c.if-words.false)).0
 
 pub returns-in-Some-Hit-clause-words : goal.returns-in-Some-Hit-clause-words
 returns-in-Some-Hit-clause-words g c =
@@ -152,7 +183,8 @@ returns-in-None-clause-words g c =
     λ is. unasked (texts c.args.words.now) c.in-None.ensures.none
 
 pub check_log-requires : goal.check_log-requires
-check_log-requires g c = asked_fits _ _ (asks_for (texts c.args.words.now) _ _ c.in-Some-Check.field-0-is c.in-Some-Check.ensures.found refl).0
+check_log-requires g c =
+    (search rules, asked_fits _ _ (asks_for (texts c.args.words.now) _ _ c.in-Some-Check.field-0-is c.in-Some-Check.ensures.found refl).0)
 
 pub returns-in-Some-Check-clause-done : goal.returns-in-Some-Check-clause-done
 returns-in-Some-Check-clause-done g c =

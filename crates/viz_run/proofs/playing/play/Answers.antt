@@ -5,7 +5,9 @@ use Rattle.vz_outputs.proofs.Outs.{made_stands, none_made, log_stands, log_cut, 
 use Rattle.vz_outside.specs.Shelved.{Appends, AppendsFront}
 use Rattle.vz_rules.specs.Log.{log_text}
 use Rattle.vz_rules.specs.declared.entry.Rest.{Rest}
-use Rattle.viz_run.specs.Ends.{frames_of, log_of}
+use Rattle.vz_base.specs.declared.limits.TheConstants.{DEFAULT_BUFFERS}
+use Rattle.vz_threads.specs.Courses.{frames_of}
+use Rattle.viz_run.specs.Ends.{log_of}
 use Rattle.viz_run.proofs.Demonstrated.{none_played, all_played}
 use Rattle.viz_run.proofs.Shown_whole.{shown_stands, shown_cut}
 use Rattle.viz_run.proofs.playing.play.Goals as goal
@@ -20,7 +22,7 @@ returns-in_err-outputs-clause-begun g c =
     let p = c.args.given.now.plan in
     let h = c.args.history.now in
     let e = c.in_err-outputs.ensures in
-    on_err c.from_residual.result _ (none_made w.frames.now w.log.now (frames_of p h) (log_of p h) (g.F.Shelf.shelved c.args.shelf.now) (g.F.Shelf.shelved c.create_outputs.new.shelf) e.no_frames e.no_log e.others).begun
+    on_err c.from_residual.result _ (none_made w.frames.now w.log.now (frames_of p h DEFAULT_BUFFERS) (log_of p h) (g.F.Shelf.shelved c.args.shelf.now) (g.F.Shelf.shelved c.create_outputs.new.shelf) e.no_frames e.no_log e.others).begun
 
 pub show-requires-clause-open : goal.show-requires-clause-open
 show-requires-clause-open g c = c.in_ok-outputs.ensures.frames.writing
@@ -38,7 +40,7 @@ returns-in_err-rest-clause-begun g c =
     let d = g.F.Shelf.shelved c.show.new.shelf in
     let before = made_stands w.frames.now w.log.now outputs a b made.frames made.log made.others made.behaves in
     on_err c.from_residual-in_err-rest.result _
-    (shown_cut w.frames.now w.log.now c.requires.apart outputs a b d (frames_of p h) before shown.others (log_of p h) shown.begun shown.behaves.call).begun
+    (shown_cut w.frames.now w.log.now c.requires.apart outputs a b d (frames_of p h DEFAULT_BUFFERS) before shown.others (log_of p h) shown.begun shown.behaves.call).begun
 
 pub returns-in_err-rest-clause-others : goal.returns-in_err-rest-clause-others
 returns-in_err-rest-clause-others g c =
@@ -52,7 +54,7 @@ returns-in_err-rest-clause-others g c =
     let b = g.F.Shelf.shelved c.create_outputs.new.shelf in
     let d = g.F.Shelf.shelved c.show.new.shelf in
     let before = made_stands w.frames.now w.log.now outputs a b made.frames made.log made.others made.behaves in
-    (shown_cut w.frames.now w.log.now c.requires.apart outputs a b d (frames_of p h) before shown.others (log_of p h) shown.begun shown.behaves.call).others
+    (shown_cut w.frames.now w.log.now c.requires.apart outputs a b d (frames_of p h DEFAULT_BUFFERS) before shown.others (log_of p h) shown.begun shown.behaves.call).others
 
 pub returns-in_err-rest-clause-behaves : goal.returns-in_err-rest-clause-behaves
 returns-in_err-rest-clause-behaves g c =
@@ -72,7 +74,7 @@ write_log-requires g c =
     let b = g.F.Shelf.shelved c.create_outputs.new.shelf in
     let d = g.F.Shelf.shelved c.show.new.shelf in
     let before = made_stands w.frames.now w.log.now outputs a b made.frames made.log made.others made.behaves in
-    (shown_stands w.frames.now w.log.now c.requires.apart outputs a b d (frames_of p h) before shown.others shown.frames (ran_one c.in_ok-rest.rest b d shown.behaves)).log_is.writing
+    (shown_stands w.frames.now w.log.now c.requires.apart outputs a b d (frames_of p h DEFAULT_BUFFERS) before shown.others shown.frames (ran_one c.in_ok-rest.rest b d shown.behaves)).log_is.writing
 
 pub returns-in_err-write_log-clause-front : goal.returns-in_err-write_log-clause-front
 returns-in_err-write_log-clause-front g c =
@@ -93,9 +95,9 @@ returns-in_err-write_log-clause-begun g c =
     let d = g.F.Shelf.shelved c.show.new.shelf in
     let e = g.F.Shelf.shelved c.write_log.new.shelf in
     let before = made_stands w.frames.now w.log.now outputs a b made.frames made.log made.others made.behaves in
-    let then = shown_stands w.frames.now w.log.now c.requires.apart outputs a b d (frames_of p h) before shown.others shown.frames (ran_one c.in_ok-rest.rest b d shown.behaves) in
+    let then = shown_stands w.frames.now w.log.now c.requires.apart outputs a b d (frames_of p h DEFAULT_BUFFERS) before shown.others shown.frames (ran_one c.in_ok-rest.rest b d shown.behaves) in
     on_err c.from_residual-in_err-write_log.result _
-    (log_cut w.frames.now w.log.now c.requires.apart outputs a d e (frames_of p h) (log_of p h) then
+    (log_cut w.frames.now w.log.now c.requires.apart outputs a d e (frames_of p h DEFAULT_BUFFERS) (log_of p h) then
     (subst (λ (r : Rest). AppendsFront (log_text h r) (d.name outputs.log) d e) shown.rest told.begun) told.others told.behaves.call).begun
 
 pub returns-in_err-write_log-clause-others : goal.returns-in_err-write_log-clause-others
@@ -112,8 +114,8 @@ returns-in_err-write_log-clause-others g c =
     let d = g.F.Shelf.shelved c.show.new.shelf in
     let e = g.F.Shelf.shelved c.write_log.new.shelf in
     let before = made_stands w.frames.now w.log.now outputs a b made.frames made.log made.others made.behaves in
-    let then = shown_stands w.frames.now w.log.now c.requires.apart outputs a b d (frames_of p h) before shown.others shown.frames (ran_one c.in_ok-rest.rest b d shown.behaves) in
-    (log_cut w.frames.now w.log.now c.requires.apart outputs a d e (frames_of p h) (log_of p h) then
+    let then = shown_stands w.frames.now w.log.now c.requires.apart outputs a b d (frames_of p h DEFAULT_BUFFERS) before shown.others shown.frames (ran_one c.in_ok-rest.rest b d shown.behaves) in
+    (log_cut w.frames.now w.log.now c.requires.apart outputs a d e (frames_of p h DEFAULT_BUFFERS) (log_of p h) then
     (subst (λ (r : Rest). AppendsFront (log_text h r) (d.name outputs.log) d e) shown.rest told.begun) told.others told.behaves.call).others
 
 pub returns-in_err-write_log-clause-behaves : goal.returns-in_err-write_log-clause-behaves
@@ -138,9 +140,9 @@ returns-clause-whole g c =
     let d = g.F.Shelf.shelved c.show.new.shelf in
     let e = g.F.Shelf.shelved c.write_log.new.shelf in
     let before = made_stands w.frames.now w.log.now outputs a b made.frames made.log made.others made.behaves in
-    let then = shown_stands w.frames.now w.log.now c.requires.apart outputs a b d (frames_of p h) before shown.others shown.frames (ran_one c.in_ok-rest.rest b d shown.behaves) in
-    (stands_whole w.frames.now w.log.now outputs (frames_of p h) a e (log_of p h)
-    (log_stands w.frames.now w.log.now c.requires.apart outputs a d e (frames_of p h) (log_of p h) then
+    let then = shown_stands w.frames.now w.log.now c.requires.apart outputs a b d (frames_of p h DEFAULT_BUFFERS) before shown.others shown.frames (ran_one c.in_ok-rest.rest b d shown.behaves) in
+    (stands_whole w.frames.now w.log.now outputs (frames_of p h DEFAULT_BUFFERS) a e (log_of p h)
+    (log_stands w.frames.now w.log.now c.requires.apart outputs a d e (frames_of p h DEFAULT_BUFFERS) (log_of p h) then
     (subst (λ (r : Rest). Appends (log_text h r) (d.name outputs.log) d e) shown.rest told.appended) told.others (ran_one tt d e told.behaves))).whole
 
 pub returns-clause-others : goal.returns-clause-others
@@ -157,6 +159,6 @@ returns-clause-others g c =
     let d = g.F.Shelf.shelved c.show.new.shelf in
     let e = g.F.Shelf.shelved c.write_log.new.shelf in
     let before = made_stands w.frames.now w.log.now outputs a b made.frames made.log made.others made.behaves in
-    let then = shown_stands w.frames.now w.log.now c.requires.apart outputs a b d (frames_of p h) before shown.others shown.frames (ran_one c.in_ok-rest.rest b d shown.behaves) in
-    (log_stands w.frames.now w.log.now c.requires.apart outputs a d e (frames_of p h) (log_of p h) then
+    let then = shown_stands w.frames.now w.log.now c.requires.apart outputs a b d (frames_of p h DEFAULT_BUFFERS) before shown.others shown.frames (ran_one c.in_ok-rest.rest b d shown.behaves) in
+    (log_stands w.frames.now w.log.now c.requires.apart outputs a d e (frames_of p h DEFAULT_BUFFERS) (log_of p h) then
     (subst (λ (r : Rest). Appends (log_text h r) (d.name outputs.log) d e) shown.rest told.appended) told.others (ran_one tt d e told.behaves)).others

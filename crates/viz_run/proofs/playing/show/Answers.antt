@@ -5,7 +5,8 @@ use Rattle.vz_outputs.specs.Taken.{played_all}
 use Rattle.vz_player.specs.Played.{first_played}
 use Rattle.vz_rules.specs.World.{Machine}
 use Rattle.vz_rules.specs.declared.entry.Event.{Event}
-use Rattle.viz_run.specs.Ends.{IsHistory, frames_of}
+use Rattle.vz_threads.specs.Courses.{frames_of}
+use Rattle.viz_run.specs.Ends.{IsHistory}
 use Rattle.viz_run.proofs.Demonstrated.{all_played}
 use Rattle.viz_run.proofs.Showing.{has_played, has_stopped, is_history, rest_is, frames_appended, frames_begun, whole_appended}
 use Rattle.viz_run.proofs.Takes.{points_counted}
@@ -33,7 +34,7 @@ returns-in_err-rest-in-Ok-clause-begun g c =
     let first = c.new-player.ensures ∙ ap (λ (m : Machine). first_played m.plan DEFAULT_BUFFERS) c.requires.opening in
     let taken = has_played old new es (c.in-Ok.ensures.played ∙ ap (played_all old) c.deref.ensures.value) in
     on_err c.from_residual.result _
-    (whole_appended (frames_of p c.into_history.result) (a.name c.args.slot) a b
+    (whole_appended (frames_of p c.into_history.result DEFAULT_BUFFERS) (a.name c.args.slot) a b
     (frames_appended p DEFAULT_BUFFERS es old new c.into_history.result first taken c.into_history.ensures.value (a.name c.args.slot) a b c.in-Ok.ensures.written))
 
 pub returns-in_ok-rest-in-Ok-clause-history : goal.returns-in_ok-rest-in-Ok-clause-history

@@ -3,7 +3,7 @@ use Rattle.std.proofs.lemmas.List.{length-map}
 use Rattle.std.specs.String.{string_bytes}
 use Rattle.std.specs.declared.string.String.{String}
 use Rattle.std.specs.declared.vec.Vec.{Vec}
-use Rattle.vz_outside.proofs.Calls.{ran_none, ran_one}
+use Rattle.vz_outside.proofs.Calls.{ran_none, ran_one, ran_then_ran}
 use Rattle.vz_inputs.proofs.Behaving.{missing_before}
 use Rattle.vz_inputs.specs.Read.{texts, contents}
 use Rattle.vz_geom.specs.declared.Size.{Size}
@@ -11,8 +11,10 @@ use Rattle.vz_inputs.specs.Refusals.{plan_read}
 use Rattle.vz_inputs.specs.Schedule.{events_of}
 use Rattle.viz_run.specs.Stepped.{size_of, refused_of}
 use Rattle.viz_run.proofs.Fitting.{files_fit, sides_fit}
-use Rattle.viz_run.proofs.Stopping.{stops_at}
-use Rattle.viz_run.proofs.Admitting.{inputs_with, are_read, first_of, one_schedule, input_of, misses_left, misses_right}
+use Rattle.viz_run.proofs.Stepping.{ok_is_none}
+use Rattle.viz_run.proofs.Stopping.{stops_at, stops_after}
+use Rattle.viz_run.specs.declared.stop.Stop.TheVariants as stop
+use Rattle.viz_run.proofs.Admitting.{input_no_fault, inputs_with, are_read, first_of, one_schedule, input_of, misses_left, misses_right}
 use Rattle.viz_run.proofs.step.admit.Goals as goal
 
 -- there are as many texts as names
@@ -105,3 +107,18 @@ pub size_of-requires : goal.size_of-requires
 size_of-requires g c =
     let w = c.args.words.now in
     sides_fit w.width w.height w.schedule.now w.frames.now w.log.now (texts w.files.now) c.requires
+
+pub returns-in_err-accept-clause-behaves : goal.returns-in_err-accept-clause-behaves
+returns-in_err-accept-clause-behaves g c =
+    let s = g.F.Shelf.shelved c.args.shelf.now in
+    let t = g.F.Shelf.shelved c.read_file.new.shelf in
+    let read = ran_one c.in_ok-files.files s _ c.in_ok-files.ensures.behaves in
+    stops_after c.from_residual-in_err-accept.result s t (ran_then_ran s _ t read (ran_one c.in_ok-schedule.schedule _ t c.in_ok-schedule.ensures.behaves))
+    (input_no_fault c.in_err-accept.field-0.0 c.from_residual-in_err-accept.result c.from_residual-in_err-accept.ensures.1)
+
+pub returns-clause-behaves : goal.returns-clause-behaves
+returns-clause-behaves g c =
+    let s = g.F.Shelf.shelved c.args.shelf.now in
+    let t = g.F.Shelf.shelved c.read_file.new.shelf in
+    let read = ran_one c.in_ok-files.files s _ c.in_ok-files.ensures.behaves in
+    stops_after _ s t (ran_then_ran s _ t read (ran_one c.in_ok-schedule.schedule _ t c.in_ok-schedule.ensures.behaves)) (ok_is_none _ stop.Fault)

@@ -43,13 +43,14 @@ returns-in_err-play-clause-front g c =
     let a = g.F.Shelf.shelved c.args.shelf.now in
     let b = g.F.Shelf.shelved c.admit.new.shelf in
     let d = g.F.Shelf.shelved c.play.new.shelf in
-    let asked = command_of c.args.words.now in
+    let w = c.args.words.now in
+    let asked = command_of w in
     let got = c.in_ok-given.ensures.accepted in
     let p = c.in_ok-given.given.plan in
     let es = c.in_ok-given.given.events.items in
     let h = c.play.new.history in
     on_err c.from_residual-in_err-play.result _
-    (cut_short asked got.0 p es got.2 h (site a c.args.steps.now) (site d c.play.new.steps) got.1
+    (cut_short w.width w.height w.schedule.now w.frames.now w.log.now (texts w.files.now) got.0 p es got.2 h (site a c.args.steps.now) (site d c.play.new.steps) got.1
     c.in_err-play.ensures.front (begun_since (outputs_of asked p h) a b d c.in_ok-given.ensures.behaves.call c.admit.ensures.files c.in_err-play.ensures.begun))
 
 pub returns-in_err-play-clause-others : goal.returns-in_err-play-clause-others
@@ -76,13 +77,14 @@ returns-in_err-done_line-clause-front g c =
     let a = g.F.Shelf.shelved c.args.shelf.now in
     let b = g.F.Shelf.shelved c.admit.new.shelf in
     let d = g.F.Shelf.shelved c.play.new.shelf in
-    let asked = command_of c.args.words.now in
+    let w = c.args.words.now in
+    let asked = command_of w in
     let got = c.in_ok-given.ensures.accepted in
     let p = c.in_ok-given.given.plan in
     let es = c.in_ok-given.given.events.items in
     let h = c.play.new.history in
     on_err c.from_residual-in_err-done_line.result _
-    (cut_short asked got.0 p es got.2 h (site a c.args.steps.now) (site d c.play.new.steps) got.1
+    (cut_short w.width w.height w.schedule.now w.frames.now w.log.now (texts w.files.now) got.0 p es got.2 h (site a c.args.steps.now) (site d c.play.new.steps) got.1
     (all_played p es h c.in_ok-play.ensures.history) (all_begun (outputs_of asked p h) a d c.in_ok-play.ensures.whole))
 
 pub returns-in_err-done_line-clause-unbegun : goal.returns-in_err-done_line-clause-unbegun
@@ -105,12 +107,13 @@ pub returns-clause-done : goal.returns-clause-done
 returns-clause-done g c =
     let a = g.F.Shelf.shelved c.args.shelf.now in
     let d = g.F.Shelf.shelved c.play.new.shelf in
-    let asked = command_of c.args.words.now in
+    let w = c.args.words.now in
+    let asked = command_of w in
     let got = c.in_ok-given.ensures.accepted in
     let p = c.in_ok-given.given.plan in
     let es = c.in_ok-given.given.events.items in
     let h = c.play.new.history in
-    does_for asked got.0 p es got.2 h (site a c.args.steps.now) (site d c.play.new.steps) got.1 _ 0
+    does_for w.width w.height w.schedule.now w.frames.now w.log.now (texts w.files.now) got.0 p es got.2 h (site a c.args.steps.now) (site d c.play.new.steps) got.1 _ 0
     c.files.ensures.kept c.in_ok-play.ensures.history c.in_ok-play.ensures.whole c.in_ok-play.ensures.counted
     (c.in_ok-done_line.ensures ∙ (ap (λ (xs : List Entry). end_line asked p xs) c.as_slice.ensures ∙ ap (λ (x : Plan). end_line asked x h) got.2.0), refl)
 

@@ -1,0 +1,141 @@
+//! A plan run with threads, with the frames and the log written.
+ghost use Rattle.std.specs.Prelude.{◌≡◌, ◌≢◌, ◌+◌, Some, [], ◌∷◌, IsTrue};
+ghost use Rattle.std.specs.Prelude.{IfOk, OnOk, OnErr};
+ghost use Rattle.vz_outputs.specs.Written.{AreWhole, AreBegun, KeepsAllBut};
+ghost use Rattle.vz_outside.specs.Shelved.{Writing, KeepsOthers, Appends, AppendsFront, Behaves};
+ghost use Rattle.vz_rules.specs.Command.{fits_command, buffer_count};
+ghost use Rattle.vz_rules.specs.Frames.{painted};
+ghost use Rattle.vz_rules.specs.Log.{rest_of};
+ghost use Rattle.vz_rules.specs.Plan.{IsPlan};
+ghost use Rattle.vz_rules.specs.Step.{Legal};
+ghost use Rattle.vz_rules.specs.World.{opening};
+ghost use Rattle.vz_threads.specs.Courses.{IsRun, frames_of, message_counts};
+ghost use Rattle.viz_run.specs.Ran.{command_of, size_of, outputs_for};
+
+use crate::sides::size_of;
+use std::sync::Wait;
+use std::sync::ledger::Ledger;
+use std::thread::Threads;
+use vz_base::limits::DEFAULT_BUFFERS;
+use vz_buffers::Steps;
+use vz_frame::List;
+use vz_machine::Machine;
+use vz_outputs::{FrameFile, create_outputs, write_log};
+use vz_outside::{Gate, Shelf, ShelfError};
+use vz_rules::{Entry, Plan, Rest};
+use vz_threads::{Course, play_course};
+use vz_words::RunWords;
+
+/// Runs a plan on a machine at its opening, and writes the frames and the log. FRAMES and LOG are
+/// made here, once every file is accepted. `counts` tells how many messages each client has.
+///
+/// `Failed` is the answer exactly where a fault was counted, `Memory` comes for want of memory.
+/// After both the history is a legal one, and of what it writes a front part stands.
+pub fn play_run<M: Machine + Send + Drop, F: Shelf, G: Gate + Sync, L: Ledger, R>(
+    rt: &R,
+    machine: M,
+    plan: &Plan,
+    counts: &[u64],
+    words: &RunWords<'_>,
+    shelf: &mut F,
+    gate: &G,
+    steps: &mut Steps<L>,
+    history: &mut List<Entry>,
+) -> Result<(), ShelfError>
+where
+    M::FrameData: Drop + Send,
+    R: Threads + Wait + AllocGlobal + Sync,
+    requires fits { IsTrue (fits_command (command_of words.now)) }
+    requires opening { M.state machine ≡ record { plan = plan.now; world = opening plan.now } }
+    requires plan { IsPlan plan.now }
+    requires size { plan.now.size ≡ size_of words.now }
+    requires counts { counts.now ≡ message_counts plan.now }
+    requires apart { words.now.frames.now ≢ words.now.log.now }
+    requires empty { history.old ≡ [] }
+    ensures run { OnOk result (IsRun plan.now words.now.ticks words.now.paced history.new) }
+    ensures whole { OnOk result (AreWhole
+        (outputs_for words.now plan.now history.new) (F.shelved shelf.new)) }
+    ensures counted { OnOk result (steps.new
+        ≡ steps.old + painted plan.now history.new (buffer_count words.now.buffers)) }
+    ensures legal { Legal plan.now history.new }
+    ensures begun { OnErr result (AreBegun (outputs_for words.now plan.now history.new)
+        (F.shelved shelf.old) (F.shelved shelf.new)) }
+    ensures others { KeepsAllBut (words.now.frames.now ∷ words.now.log.now ∷ [])
+        (F.shelved shelf.old) (F.shelved shelf.new) }
+    ensures behaves { Behaves (F.shelved shelf.old) (F.shelved shelf.new) result }
+{
+    let outputs = create_outputs(shelf, words.frames, words.log)?;
+    let rest = show_run(
+        rt,
+        machine,
+        plan,
+        counts,
+        words,
+        shelf,
+        outputs.frames,
+        gate,
+        steps,
+        history,
+    )?;
+    write_log(rt.alloc(), shelf, outputs.log, history, &rest)?;
+    Ok(())
+}
+
+/// Runs a plan on a machine at its opening, writes the frames to an open slot, and answers what is
+/// still out. After an error the history is a legal one, and of the frames that it writes a front
+/// part stands.
+fn show_run<M: Machine + Send + Drop, F: Shelf, G: Gate + Sync, L: Ledger, R>(
+    rt: &R,
+    machine: M,
+    plan: &Plan,
+    counts: &[u64],
+    words: &RunWords<'_>,
+    shelf: &mut F,
+    slot: u32,
+    gate: &G,
+    steps: &mut Steps<L>,
+    history: &mut List<Entry>,
+) -> Result<Rest, ShelfError>
+where
+    M::FrameData: Drop + Send,
+    R: Threads + Wait + AllocGlobal + Sync,
+    requires fits { IsTrue (fits_command (command_of words.now)) }
+    requires opening { M.state machine ≡ record { plan = plan.now; world = opening plan.now } }
+    requires plan { IsPlan plan.now }
+    requires size { plan.now.size ≡ size_of words.now }
+    requires counts { counts.now ≡ message_counts plan.now }
+    requires open { (F.shelved shelf.old).mode slot ≡ Some Writing }
+    requires empty { history.old ≡ [] }
+    ensures run { OnOk result (IsRun plan.now words.now.ticks words.now.paced history.new) }
+    ensures rest { IfOk result (λ rest. rest ≡ rest_of plan.now history.new) }
+    ensures frames { OnOk result (Appends
+        (frames_of plan.now history.new (buffer_count words.now.buffers))
+        ((F.shelved shelf.old).name slot) (F.shelved shelf.old) (F.shelved shelf.new)) }
+    ensures counted { OnOk result (steps.new
+        ≡ steps.old + painted plan.now history.new (buffer_count words.now.buffers)) }
+    ensures legal { Legal plan.now history.new }
+    ensures begun { OnErr result (AppendsFront
+        (frames_of plan.now history.new (buffer_count words.now.buffers))
+        ((F.shelved shelf.old).name slot) (F.shelved shelf.old) (F.shelved shelf.new)) }
+    ensures others { KeepsOthers ((F.shelved shelf.old).name slot)
+        (F.shelved shelf.old) (F.shelved shelf.new) }
+    ensures behaves { Behaves (F.shelved shelf.old) (F.shelved shelf.new) result }
+{
+    let course = Course {
+        rounds: words.ticks,
+        paced: words.paced,
+        buffers: buffer_count(words.buffers),
+    };
+    let size = size_of(words.width, words.height);
+    let file = FrameFile { slot, size };
+    play_course(
+        rt, machine, counts, course, shelf, file, gate, steps, history,
+    )
+}
+
+/// How many buffers there are, also where no number is given.
+fn buffer_count(buffers: Option<u32>) -> u32
+    ensures { result ≡ buffer_count buffers }
+{
+    buffers.unwrap_or(DEFAULT_BUFFERS as u32)
+}

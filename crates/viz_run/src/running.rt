@@ -1,0 +1,111 @@
+//! `run`: a thread for each client beside the display.
+ghost use Rattle.std.specs.Prelude.{◌≡◌, ◌≤◌, [], IsTrue, string_bytes};
+ghost use Rattle.std.specs.Prelude.{IfOk, IfErr, OnErr, IsErrOf};
+ghost use Rattle.vz_inputs.specs.Read.{MissesOne};
+ghost use Rattle.vz_inputs.specs.declared.refused.Refused.{Refused as Refusal};
+ghost use Rattle.vz_outputs.specs.Written.{KeepsAllBut};
+ghost use Rattle.vz_outside.specs.Shelved.{SameFiles};
+ghost use Rattle.vz_rules.specs.Command.{fits_command};
+ghost use Rattle.viz_run.specs.Commands.{input_names, output_names};
+ghost use Rattle.viz_run.specs.Inputs.{Inputs, AreAccepted, plan_of};
+ghost use Rattle.viz_run.specs.Causes.{DoesFor, RefusesFor, LeavesFor};
+ghost use Rattle.viz_run.specs.Ends.{IsUnbegun};
+ghost use Rattle.viz_run.specs.Ran.{command_of, counts_of};
+ghost use Rattle.viz_run.specs.Site.{site};
+ghost use Rattle.viz_run.specs.Stops.{Behaves, IsRefusal};
+ghost use Rattle.viz_run.specs.declared.stop.Stop.TheVariants as stops;
+
+use crate::coursing::play_run;
+use crate::end::End;
+use crate::lines::done_line;
+use crate::sides::size_of;
+use crate::stop::Stop;
+use std::alloc::Global;
+use std::sync::Wait;
+use std::sync::ledger::Ledger;
+use std::thread::Threads;
+use vz_base::Memory;
+use vz_base::limits::MOST_FILE_BYTES;
+use vz_buffers::Steps;
+use vz_frame::{ClientFile, List};
+use vz_inputs::{plan_of, read_files};
+use vz_outside::{Gate, Shelf};
+use vz_plain_machine::PlainMachine;
+use vz_rules::{Entry, Plan};
+use vz_words::RunWords;
+
+/// Runs the clients' files, each on a thread of its own beside the display, writes the frames and
+/// the log, and answers how that ended. The frames are written on this thread.
+pub fn run<F: Shelf, G: Gate + Sync, L: Ledger, R>(
+    rt: &R,
+    words: &RunWords<'_>,
+    shelf: &mut F,
+    gate: &G,
+    steps: &mut Steps<L>,
+    history: &mut List<Entry>,
+) -> Result<End, Stop>
+where
+    R: Threads + Wait + AllocGlobal + Sync,
+    requires fits { IsTrue (fits_command (command_of words.now)) }
+    requires empty { history.old ≡ [] }
+    ensures done { IfOk result (λ ended. DoesFor (command_of words.now) history.new
+        (site (F.shelved shelf.old) steps.old) (site (F.shelved shelf.new) steps.new)
+        (string_bytes ended.line) ended.status) }
+    ensures low { IfOk result (λ ended. ended.status ≤ 1) }
+    ensures words { IsErrOf result stops.Words → ⊥ }
+    ensures input { (r : Refusal) → IsErrOf result (stops.Input r)
+        → RefusesFor (command_of words.now) (F.shelved shelf.old) r }
+    ensures unbegun { IfErr result (λ stop. IsRefusal stop → IsUnbegun history.new
+        (site (F.shelved shelf.old) steps.old) (site (F.shelved shelf.new) steps.new)) }
+    ensures front { OnErr result (LeavesFor (command_of words.now) history.new
+        (site (F.shelved shelf.old) steps.old) (site (F.shelved shelf.new) steps.new)) }
+    ensures others { KeepsAllBut (output_names (command_of words.now))
+        (F.shelved shelf.old) (F.shelved shelf.new) }
+    ensures behaves { Behaves
+        (MissesOne (input_names (command_of words.now)) (F.shelved shelf.old))
+        (F.shelved shelf.old) (F.shelved shelf.new) result }
+{
+    let plan = admit(rt, shelf, words)?;
+    let counts = message_counts(rt.alloc(), plan.files())?;
+    let machine = PlainMachine::new(rt.alloc(), &plan);
+    play_run(
+        rt, machine, &plan, &counts, words, shelf, gate, steps, history,
+    )?;
+    Ok(End {
+        line: done_line(rt.alloc(), history.as_slice())?,
+        status: 0,
+    })
+}
+
+/// Reads the clients' files before any is tested, and accepts them: the plan that they make.
+fn admit<F: Shelf, R: Threads + AllocGlobal + Sync>(
+    rt: &R,
+    shelf: &mut F,
+    words: &RunWords<'_>,
+) -> Result<Plan, Stop>
+    requires { IsTrue (fits_command (command_of words.now)) }
+    ensures accepted { IfOk result (λ plan. (i : Inputs)
+        × AreAccepted (F.shelved shelf.old) (command_of words.now) i
+        × (plan ≡ plan_of (command_of words.now) i)) }
+    ensures words { IsErrOf result stops.Words → ⊥ }
+    ensures input { (r : Refusal) → IsErrOf result (stops.Input r)
+        → RefusesFor (command_of words.now) (F.shelved shelf.old) r }
+    ensures files { SameFiles (F.shelved shelf.old) (F.shelved shelf.new) }
+    ensures behaves { Behaves
+        (MissesOne (input_names (command_of words.now)) (F.shelved shelf.old))
+        (F.shelved shelf.old) (F.shelved shelf.new) result }
+{
+    let files = read_files(rt.alloc(), shelf, words.files, MOST_FILE_BYTES)?;
+    Ok(plan_of(rt, size_of(words.width, words.height), &files)?)
+}
+
+/// How many messages each client's file has.
+fn message_counts(alloc: Global, files: &[ClientFile]) -> Result<Vec<u64>, Memory>
+    ensures counts { IfOk result (λ counts. counts.items ≡ counts_of files.now) }
+{
+    let mut counts = Vec::new(alloc);
+    for file in files {
+        counts.push(file.messages.as_slice().len() as u64)?;
+    }
+    Ok(counts)
+}
