@@ -9,37 +9,49 @@ use std::io::ErrorKind;
 use std::marker::Brand;
 use std::process::ExitCode;
 use std::rt::Env;
+use std::sync::Wait;
 use std::sync::ledger::{Blank, Ledger};
+use std::thread::Threads;
 use viz_run::viz;
 use vz_buffers::Steps;
-use vz_outside::{OpenGate, RealShelf, RealSink};
+use vz_outside::{OpenGate, RealShelf, RealSink, Shelf, Sink};
 
 /// The status where memory is wanting.
 const MEMORY: u8 = 5;
 
 fn main(rt: HostRuntime) -> ExitCode {
-    ExitCode::from(run::<Brand>(&rt, Blank::new(1)).unwrap_or(MEMORY))
+    let Ok(words) = words_of(&rt) else {
+        return ExitCode::from(MEMORY);
+    };
+    let Ok((mut shelf, mut out)) = devices(&rt) else {
+        return ExitCode::from(MEMORY);
+    };
+    ExitCode::from(run::<Brand, _, _, _>(&rt, &words, &mut shelf, &mut out, Blank::new(1)))
 }
 
-/// Runs the words of the command line, and answers the status.
-fn run<L: Ledger>(rt: &HostRuntime, blank: Blank) -> Result<u8, AllocError>
+/// The files and standard output of the system.
+fn devices(
+    rt: &HostRuntime,
+) -> Result<(RealShelf<HostRuntime>, RealSink<HostRuntime>), AllocError> {
+    let files = rt.clone()?;
+    let output = rt.clone()?;
+    Ok((RealShelf::new(files), RealSink::new(output)))
+}
+
+/// Runs the words, and answers the status.
+fn run<L: Ledger, F: Shelf + Send, O: Sink, R: Threads + Wait + AllocGlobal + Sync>(
+    rt: &R,
+    words: &[String],
+    shelf: &mut F,
+    out: &mut O,
+    blank: Blank,
+) -> u8
     requires name { blank.name ≡ L.name }
     requires parts { blank.parts ≡ L.parts }
     requires some { 0 < L.parts }
 {
-    let words = words_of(rt)?;
-    let mut shelf = RealShelf::new(rt.clone()?);
-    let mut out = RealSink::new(rt.clone()?);
     let mut steps = Steps::<L>::new(blank);
-    let run = viz(
-        rt.alloc(),
-        &words,
-        &mut shelf,
-        &mut out,
-        &OpenGate,
-        &mut steps,
-    );
-    Ok(run.status)
+    viz(rt, words, shelf, out, &OpenGate, &mut steps).status
 }
 
 /// The words behind the program's name. Where one of them is not UTF-8 there are none, so that they are refused.
