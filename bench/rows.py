@@ -124,19 +124,24 @@ def picture(rows):
 
 
 def put(name, words, given=(), status=0, line="", log=None, left=(), entries=0, steps=0, ones=(),
-        piece=None, turns=False):
-    """Prints a row."""
+        piece=None, turns=False, others=(), packed=(), judge=""):
+    """Prints a row. `others` are logs that may be left in the place of `log`; `packed` are files of
+    pieces; `judge` has the words of a second call that must print `yes`."""
     out = ["row " + name, "words " + words]
     out += ["given %s %s" % (n, b.hex()) for n, b in given]
     out += ["ones %s %d" % o for o in ones]
+    out += ["packed %s %s" % (n, " ".join(pieces)) for n, pieces in packed]
     out += ["piece %d" % piece] if piece else []
     out += ["turns"] if turns else []
     out += ["status %d" % status] if status else []
     out += ["line " + line] if line else []
     out += ["log " + part for part in log or ()]
+    for other in others:
+        out += ["or"] + ["log " + part for part in other]
     out += ["left %s %s" % (n, b.hex()) for n, b in left]
     out += ["entries %d" % entries] if entries else []
     out += ["steps %d" % steps] if steps else []
+    out += ["judge " + judge] if judge else []
     TABLE.append("\n".join(part.rstrip() for part in out))
 
 
@@ -210,6 +215,62 @@ def one_client():
                          ("c1 c1 over", [first, second, over])):
         step("three_orders", [ONE_QUAD], events + " draw done", head + QUAD_LOG[2:],
              [QUAD_PICTURE], 16)
+
+
+def run(name, files, words, logs, frames=(), steps=0, size=(4, 2), ticks=0, **more):
+    """A `run` that goes well, and leaves one of the logs, which are without their last line."""
+    names = CLIENTS[:len(files)]
+    entries = sum(not part.startswith(("open", "held")) for part in logs[0])
+    put(name, " ".join(["run", *words, "%d %d %d f l" % (*size, ticks), *names]),
+        list(zip(names, files)), line="done %d entries %d frames" % (entries, len(frames)),
+        log=[*logs[0], "end"], others=[[*log, "end"] for log in logs[1:]],
+        left=[("f", b"".join(frames))], entries=entries, steps=steps, **more)
+
+
+def answer(number, **parts):
+    """A frame for the surface (1,1) that answers a begin-frame."""
+    return submit(1, 1, answers=number, **parts)
+
+
+def runs():
+    over, first, second = "over ended", QUAD_LOG[0], QUAD_LOG[1]
+    orders = [[over, first, second], [first, over, second], [first, second, over]]
+    logs = [head + QUAD_LOG[2:] for head in orders]
+    run("run_in_three_orders", [ONE_QUAD], [], logs, [QUAD_PICTURE], 16, turns=True)
+    run("run_in_three_orders", [ONE_QUAD], [], logs, [QUAD_PICTURE], 16, piece=1)
+    run("run_without_a_message", [client(1)], [], [["over ended", "draw noroot"]])
+    begin, began = "begin ticked 1", "c1 began 1"
+    paced = ["c1 accepted 2 2 +1.2 d1.1", "draw drawn 0 0 4 2", "done shown p1.2", over,
+             "draw unchanged"]
+    orders = [[begin, first, second], [first, begin, second], [first, second, begin]]
+    run("draw_behind_the_second_acceptance", [client(1, submit(1, 1), ROOT, AWAIT, answer(1))],
+        ["--paced"], [head + [began] + paced for head in orders], [QUAD_PICTURE], 16, ticks=1)
+    square = dict(size=(8, 8))
+    hurts = [(0, 0, 8, 8), (0, 0, 2, 2), (0, 6, 2, 2), (6, 6, 1, 1)]
+    messages, log = [], []
+    for k, hurt in enumerate(hurts, 1):
+        messages += [AWAIT, *([ROOT] if k == 1 else []), answer(k, damage=hurt, **square)]
+        log += ["begin ticked %d" % k, "c1 began %d" % k, *([second] if k == 1 else []),
+                "c1 accepted %d %d +1.%d" % (k, k, k), "draw drawn %d %d %d %d" % hurt,
+                "done shown p1.%d" % k]
+    frames = 4 * [picture([".rr....."] * 2 + ["........"] * 6)]
+    for words, steps in (([], 286), (["--buffers", "1"], 137), (["--buffers", "2"], 286),
+                         (["--buffers", "3"], 440), (["--buffers", "4"], 512)):
+        run("buffers_of_a_run", [client(1, *messages)], ["--paced", *words],
+            [log + [over, "draw unchanged"]], frames, steps, (8, 8), 4)
+    waiting = client(1, submit(1, 1, waits=[NO_SINK + local(1, 1)], deadline=2), ROOT)
+    behind = ["begin ticked 1", "begin ticked 2 +1.1", "draw drawn 0 0 4 2", "done shown p1.1"]
+    run("begins_until_nothing_waits", [waiting], [],
+        [[over, "c1 accepted 1 1", second] + behind, ["c1 accepted 1 1", over, second] + behind,
+         ["c1 accepted 1 1", second, over] + behind], [QUAD_PICTURE], 16)
+    refusals = (("a", ONE_QUAD[:165], "file 1 refused at 165: Short"),
+                ("a b", ONE_QUAD, "file 2 refused at 6: SinkTaken"))
+    for names, data, line in refusals:
+        put("refused_files_of_a_run", "run 4 2 0 f l " + names,
+            [("f", b"old"), ("l", b"older"), *((name, data) for name in names.split())], 3, line)
+    put("refused_files_of_a_run", "run 4 2 0 f l a b", [("a", ONE_QUAD)], 3,
+        "file 2 refused at 16777216: Long", ones=[("b", 16777217)])
+    put("failing_devices", "run 4 2 0 f l a b", [("a", b"")], 4)
 
 
 def dot(name, passes, pixel, form=1):
@@ -433,6 +494,57 @@ def by_rule():
             left=list(zip("fla", made(rounds))), piece=piece, turns=turns)
 
 
+# ---------------------------------------------------------------- a page
+
+
+def packed(data):
+    """The pieces of a file: hexadecimal digits, and where four bytes stand often one behind the other
+    these once, with their number."""
+    pieces, plain, at = [], b"", 0
+    while at < len(data):
+        unit, count = data[at:at + 4], 1
+        while data[at + 4 * count:at + 4 * count + 4] == unit:
+            count += 1
+        if len(unit) == 4 and count > 16:
+            pieces += ([plain.hex()] if plain else []) + ["%sx%d" % (unit.hex(), count)]
+            plain, at = b"", at + 4 * count
+        else:
+            plain, at = plain + data[at:at + 1], at + 1
+    return pieces + ([plain.hex()] if plain else [])
+
+
+def page_child(k, rounds, side, tiles):
+    """A child of the page: tiles, of which those at the right and the lower edge show a half, and in
+    each round a caret that moves inside its damage."""
+    size = (side * tiles - side // 2,) * 2
+    messages = [upload(n + 1, (side, side), (20 * n, 0, 80 * (k - 1), 255)) for n in range(tiles * tiles)]
+    listed = [(n + 1, side, side) for n in range(tiles * tiles)]
+    last = side // 2
+    areas = [(0, 0, last if n % tiles == tiles - 1 else side, last if n // tiles == tiles - 1 else side)
+             for n in range(tiles * tiles)]
+    shown = [quad(tile(n + 1), area, offset=(side * (n % tiles), side * (n // tiles)))
+             for n, area in enumerate(areas)]
+    for r in range(1, rounds + 1):
+        caret = quad(solid(WHITE), (0, 0, 2, 16), offset=(8 * r, 40))
+        damage = (0, 0, *size) if r == 1 else (8 * r - 8, 40, 10, 16)
+        messages += [AWAIT, RECLAIM, submit(1, 1, k, size=size, quads=[caret, *shown], damage=damage,
+                                            resources=listed, answers=r)]
+    return client(k, *messages)
+
+
+def page_run():
+    """A browser page, paced: a toolbar and two children, each on its own thread."""
+    shown = [reach(surface(k, token=k)) for k in (2, 3)]
+    half = (0, 0, 640, 640)
+    quads = [quad(solid(GREY), (0, 0, 1280, 80)), quad(embed(shown[0]), half, offset=(0, 80)),
+             quad(embed(shown[1]), half, offset=(640, 80))]
+    first = client(1, relation(sink(1), sink(2)), relation(sink(1), sink(3)),
+                   submit(1, 1, size=(1280, 720), quads=quads, references=shown), ROOT)
+    files = [("a", first), *((name, page_child(k, 8, 256, 3)) for name, k in (("b", 2), ("c", 3)))]
+    put("browser_page", "run --paced 1280 720 8 f l a b c",
+        packed=[(name, packed(data)) for name, data in files], judge="check 1280 720 f l a b c")
+
+
 # ---------------------------------------------------------------- refusals
 
 
@@ -470,7 +582,10 @@ def refused_words():
             "step 4 4294967298 s f l a", "step 4 2 s f f a", "step 4 2 s f -l a",
             "step 4 2 s f l -a", "step 4 2 s f l " + long, "step 4 2 s f l " + files17,
             "step -- 4 2 s f l a", "--help", "--version", "run --buffers 5 4 2 0 f l a",
-            "run --buffers=2 4 2 0 f l a", "gen 1 a b", "gen 1 a b b", "gen 0 a b c",
+            "run --buffers=2 4 2 0 f l a", "run --buffers 0 4 2 0 f l a", "run --buffers 4 2 0 f l a",
+            "run --buffers 2 --paced 4 2 0 f l a", "run --paced --paced 4 2 0 f l a",
+            "run --pipe 4 2 0 f l a", "run 4 2 f l a", "run 4 2 0 f l", "run 4 2 257 f l a",
+            "run 4 2 00 f l a", "run 4 2 0 f f a", "run 2048 2048 64 f l a", "gen 1 a b", "gen 1 a b b", "gen 0 a b c",
             "gen 1001 a b c", "gen 1 a b c d", "demo", "demo 0", "demo 1001", "demo 1 a"):
         put("refused_words", words, files, 2, "words refused")
     put("longest_name", "step 4 2 s f l " + long[:255], [("s", b""), (long[:255], ONE_QUAD)],
@@ -512,7 +627,7 @@ def failing():
     put("failing_devices", "step 4 2 s f l a b", [("s", EVENTS), ("a", b"")], 4)
 
 
-for part in (one_client, colours, submissions, waiting, damages, embeddings, cycles, paths, by_rule,
-             refused_files, refused_words, verdicts, failing):
+for part in (one_client, runs, colours, submissions, waiting, damages, embeddings, cycles, paths,
+             by_rule, page_run, refused_files, refused_words, verdicts, failing):
     part()
 print("\n\n".join(TABLE))
