@@ -1,7 +1,12 @@
-//! The gate is told of each step of the program.
+//! The gate is told of each step of the program, and two clients can be before their first step at
+//! once.
 #![tactic(auto)]
 
 #[cfg(test)]
+mod call;
+#[cfg(test)]
 mod gate;
+#[cfg(test)]
+mod meeting;
 #[cfg(test)]
 mod telling;
