@@ -2,10 +2,15 @@
 use crate::file::copies;
 use crate::row::Row;
 use std::alloc::{AllocError, Global};
+use std::sync::Wait;
 use std::sync::ledger::Ledger;
+use std::thread::Threads;
 use viz_run::{Run, viz};
 use vz_buffers::Steps;
 use vz_outside::{MemoryShelf, MemorySink, OpenGate};
+
+/// What is printed where a log and its frames are those of the machine.
+const YES: &str = "yes\n";
 
 /// The numbers of the call of the shelf and of the call of the sink that fail, 0 for none.
 #[derive(Clone, Copy)]
@@ -30,25 +35,43 @@ pub struct Left {
 }
 
 /// Calls the program with the words and the files of a row.
-pub fn left_by<L: Ledger>(
-    alloc: Global,
+pub fn left_by<L: Ledger, R: Threads + Wait + AllocGlobal + Sync>(
+    rt: &R,
     row: &Row<'_>,
     failing: Failing,
     steps: &mut Steps<L>,
 ) -> Result<Left, AllocError> {
+    let alloc = rt.alloc();
     let words = words_of(alloc, row.words)?;
     let files = copies(alloc, &row.given)?;
     let piece = (row.piece as usize).max(1);
     let mut shelf = MemoryShelf::new(alloc, files, some(alloc, failing.shelf)?, piece);
     let mut sink = MemorySink::new(alloc, some(alloc, failing.sink)?);
     let before = steps.count();
-    let run = viz(alloc, &words, &mut shelf, &mut sink, &OpenGate, steps);
+    let run = viz(rt, &words, &mut shelf, &mut sink, &OpenGate, steps);
     Ok(Left {
         run,
         shelf,
         sink,
         steps: steps.count().saturating_sub(before),
     })
+}
+
+/// Whether the second call of a row, on what the first one left, says yes, where the row has one.
+pub fn is_judged<L: Ledger, R: Threads + Wait + AllocGlobal + Sync>(
+    rt: &R,
+    row: &Row<'_>,
+    left: &mut Left,
+    steps: &mut Steps<L>,
+) -> Result<bool, AllocError> {
+    if row.judge.is_empty() {
+        return Ok(true);
+    }
+    let alloc = rt.alloc();
+    let words = words_of(alloc, row.judge)?;
+    let mut sink = MemorySink::new(alloc, Vec::new(alloc));
+    let run = viz(rt, &words, &mut left.shelf, &mut sink, &OpenGate, steps);
+    Ok(run.status == 0 && sink.bytes() == YES.as_bytes())
 }
 
 /// The words of a line that are parted by blanks.

@@ -6,11 +6,20 @@ use crate::row::{LOG, Row};
 /// The name of the file that frames are written to.
 pub const FRAMES: &str = "f";
 
-/// What differs first: the status, the line, the entries, the steps or a file.
+/// What differs first: the status, the line, the entries, the steps or a file; of a row that is
+/// judged the status alone.
 pub fn difference(row: &Row<'_>, left: &Left) -> Option<&'static str> {
     if u32::from(left.run.status) != row.status {
         return Some("status");
     }
+    if row.judge.is_empty() {
+        return difference_behind(row, left);
+    }
+    None
+}
+
+/// What differs first behind the status.
+fn difference_behind(row: &Row<'_>, left: &Left) -> Option<&'static str> {
     if !is_line(left.sink.bytes(), row.line.as_bytes()) {
         return Some("line");
     }
@@ -23,7 +32,7 @@ pub fn difference(row: &Row<'_>, left: &Left) -> Option<&'static str> {
     if !has_file(row, left, FRAMES) {
         return Some("frames");
     }
-    if !has_file(row, left, LOG) {
+    if !has_log(row, left) {
         return Some("log");
     }
     if !has_files(row, left, &row.given) || !has_files(row, left, &row.left) {
@@ -38,6 +47,29 @@ fn is_line(bytes: &[u8], line: &[u8]) -> bool {
         Some((last, front)) => *last == b'\n' && front == line && !line.is_empty(),
         None => line.is_empty(),
     }
+}
+
+/// Whether the log is one of those that may be left, or is as before where the row tells none.
+pub fn has_log(row: &Row<'_>, left: &Left) -> bool {
+    let text = left.shelf.bytes_of(LOG);
+    for log in &row.logs {
+        let due = if log.is_empty() { row.due(LOG) } else { Some(log.as_bytes()) };
+        if text == due {
+            return true;
+        }
+    }
+    false
+}
+
+/// Whether the log is a front part of one of those that may be left, or is not there.
+pub fn has_log_front(row: &Row<'_>, left: &Left) -> bool {
+    let text = left.shelf.bytes_of(LOG).unwrap_or_default();
+    for log in &row.logs {
+        if log.as_bytes().starts_with(text) {
+            return true;
+        }
+    }
+    false
 }
 
 /// Whether a file is as it must be.

@@ -1,9 +1,11 @@
 //! Devices that fail: each call of the shelf in turn, and that of the sink.
 use crate::call::{Failing, Left, left_by};
-use crate::compare::{FRAMES, has_files};
+use crate::compare::{FRAMES, has_files, has_log, has_log_front};
 use crate::row::{LOG, Row};
-use std::alloc::{AllocError, Global};
+use std::alloc::AllocError;
+use std::sync::Wait;
 use std::sync::ledger::Ledger;
+use std::thread::Threads;
 use vz_buffers::Steps;
 
 /// More calls than a row makes, also in pieces of one byte.
@@ -11,16 +13,16 @@ const MANY: u64 = 3000;
 
 /// How many calls of the shelf a row makes. None where one of them that fails, or the one call of
 /// the sink, does not leave what it must.
-pub fn calls_of_shelf<L: Ledger>(
-    alloc: Global,
+pub fn calls_of_shelf<L: Ledger, R: Threads + Wait + AllocGlobal + Sync>(
+    rt: &R,
     row: &Row<'_>,
     steps: &mut Steps<L>,
 ) -> Result<Option<u64>, AllocError> {
-    if !misses_line(alloc, row, steps)? {
+    if !misses_line(rt, row, steps)? {
         return Ok(None);
     }
     for shelf in 1..MANY {
-        let left = left_by(alloc, row, Failing { shelf, sink: 0 }, steps)?;
+        let left = left_by(rt, row, Failing { shelf, sink: 0 }, steps)?;
         if left.run.status == 0 {
             return Ok(Some(shelf - 1));
         }
@@ -33,18 +35,18 @@ pub fn calls_of_shelf<L: Ledger>(
 
 /// Whether everything but the line is left where the call of the sink fails, and a second call is
 /// not made.
-fn misses_line<L: Ledger>(
-    alloc: Global,
+fn misses_line<L: Ledger, R: Threads + Wait + AllocGlobal + Sync>(
+    rt: &R,
     row: &Row<'_>,
     steps: &mut Steps<L>,
 ) -> Result<bool, AllocError> {
-    let left = left_by(alloc, row, Failing { shelf: 0, sink: 1 }, steps)?;
-    let again = left_by(alloc, row, Failing { shelf: 0, sink: 2 }, steps)?;
+    let left = left_by(rt, row, Failing { shelf: 0, sink: 1 }, steps)?;
+    let again = left_by(rt, row, Failing { shelf: 0, sink: 2 }, steps)?;
     Ok(
         is_cut_short(row, &left)
             && left.run.history.as_slice().len() == row.entries as usize
             && left.shelf.bytes_of(FRAMES) == row.due(FRAMES)
-            && left.shelf.bytes_of(LOG) == row.due(LOG)
+            && has_log(row, &left)
             && again.run.status == 0,
     )
 }
@@ -68,7 +70,7 @@ fn are_begun(row: &Row<'_>, left: &Left) -> bool {
         }
     }
     let log = left.shelf.bytes_of(LOG).unwrap_or_default();
-    is_begun(row, left, LOG) && (log.is_empty() || left.shelf.bytes_of(FRAMES) == row.due(FRAMES))
+    has_log_front(row, left) && (log.is_empty() || left.shelf.bytes_of(FRAMES) == row.due(FRAMES))
 }
 
 /// Whether a file has a front part of the bytes that it must have, or is not there.

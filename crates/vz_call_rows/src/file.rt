@@ -35,6 +35,34 @@ pub fn put_written(alloc: Global, files: &mut Vec<File>, text: &str) -> Result<b
     Ok(true)
 }
 
+/// Puts the file that a text tells behind others: its name and its pieces, parted by blanks. A piece
+/// is in hexadecimal digits, with an `x` and a number behind it where it is repeated. Answers whether
+/// the text tells one.
+pub fn put_packed(alloc: Global, files: &mut Vec<File>, text: &str) -> Result<bool, AllocError> {
+    let (name, pieces) = text.split_once(' ').unwrap_or((text, ""));
+    let mut bytes = Vec::new(alloc);
+    for piece in pieces.split_ascii_whitespace() {
+        let (digits, count) = piece.split_once('x').unwrap_or((piece, "1"));
+        let Ok(count) = count.parse::<u32>() else {
+            return Ok(false);
+        };
+        let Ok(part) = hex::decode(alloc, digits) else {
+            return Ok(false);
+        };
+        put_times(&mut bytes, &part, count)?;
+    }
+    files.push((String::from_str(alloc, name)?, bytes))?;
+    Ok(true)
+}
+
+/// Puts bytes behind others, so many times.
+fn put_times(bytes: &mut Vec<u8>, part: &[u8], count: u32) -> Result<(), AllocError> {
+    for _ in 0..count {
+        bytes.extend_from_slice(part)?;
+    }
+    Ok(())
+}
+
 /// Puts the file that a text tells behind others: its name, a blank, and how many bytes it has, all
 /// of which are 1. Answers whether the text tells one.
 pub fn put_ones(alloc: Global, files: &mut Vec<File>, text: &str) -> Result<bool, AllocError> {

@@ -19,18 +19,22 @@ use anyhow::{Context, Result, bail};
 use call::Failing;
 use row::Row;
 use std::marker::Brand;
-use std::rt::Env;
+use std::rt::{Env, Files};
+use std::sync::Wait;
 use std::sync::ledger::{Blank, Ledger};
+use std::thread::Threads;
 use std::{env, fs};
 use vz_buffers::Steps;
 use wants::memory;
 
 fn main(rt: HostRuntime) -> Result<()> {
-    run::<Brand>(&rt, Blank::new(1))
+    run::<Brand, _>(&rt, Blank::new(1))
 }
 
 /// Plays the rows of the table that the command line names.
-fn run<L: Ledger>(rt: &HostRuntime, blank: Blank) -> Result<()>
+fn run<L: Ledger, R>(rt: &R, blank: Blank) -> Result<()>
+where
+    R: Threads + Wait + AllocGlobal + Env + Files + Print + Sync,
     requires name { blank.name ≡ L.name }
     requires parts { blank.parts ≡ L.parts }
     requires some { 0 < L.parts }
@@ -58,20 +62,27 @@ fn table_name<R: Env + AllocGlobal>(rt: &R) -> Result<Option<String>> {
 }
 
 /// Plays a row, prints how it went, and tells whether all was as it must be.
-fn is_same<L: Ledger>(rt: &HostRuntime, text: &str, steps: &mut Steps<L>) -> Result<bool> {
+fn is_same<L: Ledger, R>(rt: &R, text: &str, steps: &mut Steps<L>) -> Result<bool>
+where
+    R: Threads + Wait + AllocGlobal + Print + Sync,
+{
     let Some(row) = memory(Row::of_text(rt.alloc(), text))? else {
         bail!("no row: {text}");
     };
-    let left = memory(call::left_by(rt.alloc(), &row, Failing::NONE, steps))?;
+    let mut left = memory(call::left_by(rt, &row, Failing::NONE, steps))?;
     if let Some(what) = compare::difference(&row, &left) {
         println!(rt; "{} differs: {what}", row.name)?;
+        return Ok(false);
+    }
+    if !memory(call::is_judged(rt, &row, &mut left, steps))? {
+        println!(rt; "{} differs: judged", row.name)?;
         return Ok(false);
     }
     if !row.fails_in_turn {
         println!(rt; "{} same", row.name)?;
         return Ok(true);
     }
-    match memory(failing::calls_of_shelf(rt.alloc(), &row, steps))? {
+    match memory(failing::calls_of_shelf(rt, &row, steps))? {
         Some(calls) => println!(rt; "{} same, also where one of {calls} calls fails", row.name)?,
         None => println!(rt; "{} differs where a call fails", row.name)?,
     }

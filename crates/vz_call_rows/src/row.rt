@@ -1,5 +1,5 @@
 //! Rows of the table.
-use crate::file::{File, find, put_ones, put_written};
+use crate::file::{File, find, put_ones, put_packed, put_written};
 use std::alloc::{AllocError, Global};
 
 /// The name of the file that a log is written to.
@@ -17,7 +17,8 @@ pub struct Row<'t> {
     /// `words`: those of the command line, parted by blanks.
     pub words: &'t str,
     /// `given`: a file of the shelf, its name and its bytes in hexadecimal digits. `ones`: one whose
-    /// bytes are all 1, its name and their number.
+    /// bytes are all 1, its name and their number. `packed`: one of pieces, its name and each piece,
+    /// with an `x` and a number where it is repeated.
     pub given: Vec<File>,
     /// `piece`: how many bytes a call of the shelf moves at most.
     pub piece: u32,
@@ -27,20 +28,24 @@ pub struct Row<'t> {
     pub status: u32,
     /// `line`: what is printed, without its line feed.
     pub line: &'t str,
-    /// `log`: a line of the file `l` that must be left.
-    pub log: String,
+    /// `log`: a line of the file `l` that must be left. `or`: what follows is another one that may be
+    /// left in its place.
+    pub logs: Vec<String>,
     /// `left`: another file that must be left, as for `given`.
     pub left: Vec<File>,
     /// `entries`: how many entries the history has.
     pub entries: u32,
     /// `steps`: how many pixels are made or painted.
     pub steps: u32,
+    /// `judge`: the words of a second call, on what the first one left, which must print `yes`. Of
+    /// the first one the status alone is compared then.
+    pub judge: &'t str,
 }
 
 impl<'t> Row<'t> {
     /// The row of some lines, none where one of them is no line of a row.
     pub fn of_text(alloc: Global, text: &'t str) -> Result<Option<Self>, AllocError> {
-        let mut row = Self::empty(alloc);
+        let mut row = Self::empty(alloc)?;
         for line in text.lines() {
             if !row.take(alloc, line)? {
                 return Ok(None);
@@ -50,8 +55,10 @@ impl<'t> Row<'t> {
     }
 
     /// The row of no lines.
-    fn empty(alloc: Global) -> Self {
-        Row {
+    fn empty(alloc: Global) -> Result<Self, AllocError> {
+        let mut logs = Vec::new(alloc);
+        logs.push(String::new(alloc))?;
+        Ok(Row {
             name: "",
             words: "",
             given: Vec::new(alloc),
@@ -59,11 +66,12 @@ impl<'t> Row<'t> {
             fails_in_turn: false,
             status: 0,
             line: "",
-            log: String::new(alloc),
+            logs,
             left: Vec::new(alloc),
             entries: 0,
             steps: 0,
-        }
+            judge: "",
+        })
     }
 
     /// Takes a line, and answers whether it is one of a row.
@@ -77,7 +85,10 @@ impl<'t> Row<'t> {
             "given" => return put_written(alloc, &mut self.given, value),
             "ones" => return put_ones(alloc, &mut self.given, value),
             "left" => return put_written(alloc, &mut self.left, value),
-            "log" => put_line(&mut self.log, value)?,
+            "judge" => self.judge = value,
+            "packed" => return put_packed(alloc, &mut self.given, value),
+            "or" => self.logs.push(String::new(alloc))?,
+            "log" => put_line(&mut self.logs, value)?,
             "piece" => return Ok(put_number(&mut self.piece, value)),
             "status" => return Ok(put_number(&mut self.status, value)),
             "entries" => return Ok(put_number(&mut self.entries, value)),
@@ -87,11 +98,9 @@ impl<'t> Row<'t> {
         Ok(true)
     }
 
-    /// The bytes that a file must have after the call, none where it must not be there.
+    /// The bytes that a file must have after the call, none where it must not be there; the log of a
+    /// row that tells one is in `logs`.
     pub fn due(&self, name: &str) -> Option<&[u8]> {
-        if name == LOG && !self.log.is_empty() {
-            return Some(self.log.as_bytes());
-        }
         match find(&self.left, name) {
             Some(bytes) => Some(bytes),
             None => find(&self.given, name),
@@ -99,8 +108,11 @@ impl<'t> Row<'t> {
     }
 }
 
-/// Puts a line behind a text.
-fn put_line(text: &mut String, line: &str) -> Result<(), AllocError> {
+/// Puts a line behind the last of some texts.
+fn put_line(texts: &mut Vec<String>, line: &str) -> Result<(), AllocError> {
+    let Some(text) = texts.last_mut() else {
+        return Ok(());
+    };
     text.push_str(line)?;
     text.push('\n')
 }
