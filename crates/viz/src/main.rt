@@ -23,19 +23,12 @@ fn main(rt: HostRuntime) -> ExitCode {
     let Ok(words) = words_of(&rt) else {
         return ExitCode::from(MEMORY);
     };
-    let Ok((mut shelf, mut out)) = devices(&rt) else {
+    let Ok(files) = rt.clone() else {
         return ExitCode::from(MEMORY);
     };
+    let mut shelf = RealShelf::new(files);
+    let mut out = RealSink::new(rt.stdout());
     ExitCode::from(run::<Brand, _, _, _>(&rt, &words, &mut shelf, &mut out, Blank::new(1)))
-}
-
-/// The files and standard output of the system.
-fn devices(
-    rt: &HostRuntime,
-) -> Result<(RealShelf<HostRuntime>, RealSink<HostRuntime>), AllocError> {
-    let files = rt.clone()?;
-    let output = rt.clone()?;
-    Ok((RealShelf::new(files), RealSink::new(output)))
 }
 
 /// Runs the words, and answers the status.

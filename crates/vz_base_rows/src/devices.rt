@@ -81,7 +81,7 @@ fn real_shelf_gives_back(rt: HostRuntime) -> Result<(), Fail> {
 
 #[test]
 fn real_sink_prints(rt: HostRuntime) -> Result<(), Fail> {
-    let mut sink = RealSink::new(rt);
+    let mut sink = RealSink::new(rt.stdout());
     print(&mut sink, b"printed\n")?;
     Ok(())
 }

@@ -1,4 +1,5 @@
--- What can be known of the files of the system and of standard output: the open slots, and the count of faults.
+-- What can be known of the files of the system and of standard output: the open slots, what a file or a stream tells
+-- of itself, and the count of faults.
 use Rattle.std.specs.Prelude.{◌≡◌, ℕ, false, Option, None, List, [], ◌∷◌, ◌++◌, length, set, get_or, slice_get}
 use Rattle.vz_outside.specs.Shelved.{Shelved, Mode, Reading, Writing}
 use Rattle.vz_outside.specs.Sunk.{Sunk}
@@ -57,6 +58,13 @@ outer_shelf outer = record {
   is_faultless = false;
 }
 
--- what can be known of standard output, by its count of faults
-abbrev pub outer_sink : ℕ → Sunk
-outer_sink faults = record { is_known = false; bytes = []; faults = faults; is_faultless = false }
+-- what is known of a stream that is printed to
+pub record Stream : Type 0 where
+  -- the bytes that it holds, where it tells them
+  pub known : Option (List ℕ)
+  -- how many faults there were
+  pub faults : ℕ
+
+-- what can be known of standard output
+abbrev pub outer_sink : Stream → Sunk
+outer_sink stream = record { is_known = false; bytes = []; faults = stream.faults; is_faultless = false }

@@ -230,31 +230,32 @@ fn fail(faults: &mut u64) -> ShelfError
     ShelfError::Failed
 }
 
-/// Standard output. Each error of the system is a fault, and so is a write that takes nothing.
+/// A stream of the system that is written to, as standard output. Each error of the system is a fault, and so is a
+/// write that takes nothing.
 #[derive(Drop)]
-pub struct RealSink<R: Print + Drop> {
-    rt: R,
+pub struct RealSink<W: Write + Drop> {
+    stream: W,
     faults: u64,
 }
 
-impl<R: Print + Drop> Model for RealSink<R> {
-    ghost use Rattle.std.specs.Prelude.{ℕ};
+impl<W: Write + Drop> Model for RealSink<W> {
+    ghost use Rattle.vz_outside.specs.Outer.{Stream};
 
-    ghost Value = { ℕ };
+    ghost Value = { Stream };
 
-    ghost view = { λ s. s.faults };
+    ghost view = { λ s. record { known = W.contents s.stream; faults = s.faults } };
 }
 
-impl<R: Print + Drop> RealSink<R> {
-    /// Standard output as a runtime reaches it, with no fault counted.
-    pub fn new(rt: R) -> Self
-        ensures { result ≡ 0 }
+impl<W: Write + Drop> RealSink<W> {
+    /// A stream, with no fault counted.
+    pub fn new(stream: W) -> Self
+        ensures { result ≡ record { known = W.contents stream; faults = 0 } }
     {
-        RealSink { rt, faults: 0 }
+        RealSink { stream, faults: 0 }
     }
 }
 
-impl<R: Print + Drop> Sink for RealSink<R> {
+impl<W: Write + Drop> Sink for RealSink<W> {
     ghost use Rattle.vz_outside.specs.Outer.{outer_sink};
     ghost use Rattle.std.proofs.lemmas.Bool.{false≢true};
 
@@ -262,9 +263,11 @@ impl<R: Print + Drop> Sink for RealSink<R> {
 
     ghost faultless_known = { λ sink faultless. absurd (false≢true faultless) };
 
-    /// Its only error is `Failed`.
+    /// Its only error is `Failed`. Where it is known what the stream holds, exactly those bytes that are answered are
+    /// put at its end, and none at an error.
     fn write(&mut self, from: &[u8]) -> Result<usize, ShelfError>
         requires piece { 0 < length from.now }
+        ensures bytes { WriteAppends self.old.known self.new.known result from.now }
         ensures error { IfErr result (λ e. e ≡ Failed) }
         ensures some { IfOk result (λ n. 0 < n) }
         ensures count { IfOk result (λ n. n ≤ length from.now) }
@@ -274,6 +277,6 @@ impl<R: Print + Drop> Sink for RealSink<R> {
             (sinks.KeepsBytes (outer_sink self.old) (outer_sink self.new)) }
         ensures behaves { sinks.Behaves (outer_sink self.old) (outer_sink self.new) result }
     {
-        put_some(&mut io::writer(&self.rt), from, &mut self.faults)
+        put_some(&mut self.stream, from, &mut self.faults)
     }
 }
