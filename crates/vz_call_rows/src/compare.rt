@@ -49,12 +49,11 @@ fn is_line(bytes: &[u8], line: &[u8]) -> bool {
     }
 }
 
-/// Whether the log is one of those that may be left, or is as before where the row tells none.
+/// Whether the log is one of those that may be left, or as another file where the row tells none.
 pub fn has_log(row: &Row<'_>, left: &Left) -> bool {
     let text = left.shelf.bytes_of(LOG);
     for log in &row.logs {
-        let due = if log.is_empty() { row.due(LOG) } else { Some(log.as_bytes()) };
-        if text == due {
+        if text == due_log(row, log) {
             return true;
         }
     }
@@ -65,16 +64,29 @@ pub fn has_log(row: &Row<'_>, left: &Left) -> bool {
 pub fn has_log_front(row: &Row<'_>, left: &Left) -> bool {
     let text = left.shelf.bytes_of(LOG).unwrap_or_default();
     for log in &row.logs {
-        if log.as_bytes().starts_with(text) {
+        if due_log(row, log).unwrap_or_default().starts_with(text) {
             return true;
         }
     }
     false
 }
 
+/// The bytes of a log that a row tells, and where it tells none, those of the file of that name.
+fn due_log<'r>(row: &'r Row<'_>, log: &'r str) -> Option<&'r [u8]> {
+    if log.is_empty() {
+        row.due(LOG)
+    } else {
+        Some(log.as_bytes())
+    }
+}
+
 /// Whether a file is as it must be.
 fn has_file(row: &Row<'_>, left: &Left, name: &str) -> bool {
-    left.shelf.bytes_of(name) == row.due(name)
+    if name == LOG {
+        has_log(row, left)
+    } else {
+        left.shelf.bytes_of(name) == row.due(name)
+    }
 }
 
 /// Whether each of these files is as it must be.
