@@ -1,5 +1,5 @@
 -- From what a command left, and how it was told, to what a call answers.
-use Rattle.std.proofs.Common.{rules, ◌≡◌, ◌≢◌, ℕ, ◌+◌, ◌≤◌, ◌⊎◌, Bool, true, false, nat_lt, Some, None, Result, Ok, Err, IsErrOf, IsTrue, List, [], ◌∷◌, length, take, take_all, inl, inr, refl, sym, ap, ◌∙◌, subst, arith}
+use Rattle.std.proofs.Common.{rules, ◌≡◌, ◌≢◌, ℕ, ◌+◌, ◌≤◌, ◌⊎◌, Bool, true, false, nat_lt, Some, None, Result, Ok, Err, IsErrOf, IsTrue, List, [], ◌∷◌, take, inl, inr, refl, sym, ap, ◌∙◌, subst, arith}
 use Rattle.std.proofs.lemmas.Bool.{ltb-true, ltb-false}
 use Rattle.vz_base.specs.declared.limits.TheConstants.{MOST_FILE_BYTES, MOST_EVENTS, MOST_LOG_BYTES}
 use Rattle.vz_outside.specs.Faults.{one_more, CountRose}
@@ -15,7 +15,7 @@ use Rattle.vz_words.proofs.One.{same_command}
 use Rattle.vz_rules.specs.declared.entry.Entry.{Entry}
 use Rattle.viz_run.specs.Commands.{Asks, AsksNothing, frame_names}
 use Rattle.viz_run.specs.Inputs.{Inputs, AreHeld, AreRead, AreAccepted, AreRefused, first_refused, plan_of, events_for}
-use Rattle.viz_run.specs.Ends.{IsHistory, IsAsked, IsPart, IsUnbegun, outputs_of}
+use Rattle.viz_run.specs.Ends.{IsAsked, IsPart, IsUnbegun, outputs_of}
 use Rattle.viz_run.specs.Causes.{DoesAll, RefusesOne, LeavesFront, IsDue, MissesLine, PrintsFront, RefusesWords, RefusesInput}
 use Rattle.viz_run.specs.Lines.{words_line, refused_line}
 use Rattle.viz_run.specs.Site.{Site, site, outside, CountsNoFault, CountsOneFault, IsFaultless, KeepsFaultless, IsCalled}

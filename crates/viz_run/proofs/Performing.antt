@@ -13,13 +13,12 @@ use Rattle.vz_rules.specs.Command.{Word, Command, Check, Gen, Demo, fits_command
 use Rattle.vz_rules.specs.Frames.{frames, written, painted, written_of, painted_of, drawn_frames, drawn_frames_from}
 use Rattle.vz_rules.specs.Plan.{Plan, IsPlan}
 use Rattle.vz_rules.specs.Step.{Legal, LegalFrom}
-use Rattle.vz_rules.specs.declared.entry.Event.{Event}
 use Rattle.vz_rules.specs.declared.entry.Entry.{Entry}
 use Rattle.vz_words.proofs.One.{same_command}
 use Rattle.vz_words.specs.Words.{command_of}
 use Rattle.vz_words.specs.declared.commands.Command.{Command as Found}
 use Rattle.viz_run.specs.Commands.{Asks, AsksNothing, is_built, buffers_of, input_names, output_names}
-use Rattle.viz_run.specs.Inputs.{Inputs, no_inputs, AreAccepted, plan_of, events_for}
+use Rattle.viz_run.specs.Inputs.{Inputs, no_inputs, AreAccepted, plan_of}
 use Rattle.vz_demo.specs.Planned.{demo_plan}
 use Rattle.viz_run.specs.Demo.{demo_events}
 use Rattle.viz_run.specs.Causes.{DoesFor, LeavesFor, KeepsOthers, FindsInputs}

@@ -1,4 +1,4 @@
-use Rattle.std.proofs.Common.{◌≡◌, ℕ, ◌+◌, ◌≤◌, IfOk, OnOk, OnErr, List, sym, ap, subst, ◌∙◌}
+use Rattle.std.proofs.Common.{◌≡◌, ℕ, ◌+◌, ◌≤◌, IfOk, OnOk, OnErr, sym, ap, subst, ◌∙◌}
 use Rattle.vz_base.specs.declared.limits.TheConstants.{MOST_BUFFERS}
 use Rattle.vz_inputs.specs.Read.{texts}
 use Rattle.vz_outside.specs.Shelved.{Appends, AppendsFront}

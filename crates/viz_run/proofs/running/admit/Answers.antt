@@ -4,7 +4,7 @@ use Rattle.std.specs.String.{string_bytes}
 use Rattle.std.specs.declared.string.String.{String}
 use Rattle.std.specs.declared.vec.Vec.{Vec}
 use Rattle.vz_geom.specs.declared.Size.{Size}
-use Rattle.vz_outside.proofs.Calls.{ran_none, ran_one}
+use Rattle.vz_outside.proofs.Calls.{ran_none}
 use Rattle.vz_inputs.specs.Read.{texts, contents}
 use Rattle.vz_inputs.specs.Refusals.{file_refused, plan_read}
 use Rattle.viz_run.specs.Ran.{size_of}
