@@ -108,7 +108,8 @@ where
         (steps.new ≡ steps.old + painted given.now.plan history.new DEFAULT_BUFFERS) }
     ensures front { OnErr result ((n : ℕ)
         × IsHistory given.now.plan (take n given.now.events.items) history.new) }
-    ensures begun { OnErr result (AppendsFront (frames_of given.now.plan history.new DEFAULT_BUFFERS)
+    ensures begun { OnErr result (AppendsFront
+        (frames_of given.now.plan history.new DEFAULT_BUFFERS)
         ((F.shelved shelf.old).name slot) (F.shelved shelf.old) (F.shelved shelf.new)) }
     ensures others { KeepsOthers ((F.shelved shelf.old).name slot)
         (F.shelved shelf.old) (F.shelved shelf.new) }

@@ -172,7 +172,8 @@ impl<M: Machine, S: Copy> Book<M, S> {
 
     /// Keeps a reason, where none is kept.
     pub fn stop(&mut self, why: S)
-        ensures value { self.new ≡ record self.old { reason = Some (unwrap_or self.old.reason why) } }
+        ensures value { self.new
+            ≡ record self.old { reason = Some (unwrap_or self.old.reason why) } }
         ensures legal { Legal self.new.plan self.new.history }
     {
         if self.reason.is_none() {

@@ -14,7 +14,7 @@ use Rattle.vz_rules.specs.Closure.{adding, IsLeastClosed}
 use Rattle.vz_refs.specs.declared.references.Edge.{Edge}
 use Rattle.vz_refs.specs.declared.references.Temporary.{Temporary}
 use Rattle.vz_refs.specs.Referring.{Ranged, is_set, ranges_of, set_one, setting, removing, is_named_by, is_named_in, next_in, starts, picked, gathered, edge_from}
-use Rattle.vz_refs.proofs.Adding.{from_or, left_or, right_or, same_flip, has_flip, next_room, Marked, first_room, marked_first, marked_next, marked_room, marked_within, marked_all}
+use Rattle.vz_marking.proofs.Marking.{from_or, left_or, right_or, same_flip, has_flip, next_room, Marked, first_room, marked_first, marked_next, marked_room, marked_within, marked_all}
 
 both : (a b : Bool) → (a && b) ≡ true → (a ≡ true) × (b ≡ true)
 both true b h = (refl, h)

@@ -9,7 +9,7 @@ use Rattle.vz_frame.specs.declared.message.ClientFile.{ClientFile}
 use Rattle.vz_desk.specs.declared.totals.Totals.{Totals}
 use Rattle.vz_desk.specs.Owners.{Owner}
 use Rattle.vz_threads.specs.declared.crew.Started.{Started}
-use Rattle.vz_threads.specs.Crews.{messages_of, IsAtWork, MayTake, WorksOn, IsCrew, CrewWorksOn, IsInCrew, TookAll, end_of, crew_of}
+use Rattle.vz_threads.specs.Crews.{messages_of, IsAtWork, MayTake, WorksOn, IsCrew, CrewWorksOn, IsInCrew, HasTakenAll, end_of, crew_of}
 
 number_of : Owner Totals → ℕ
 number_of o = o.number
@@ -138,7 +138,7 @@ in_files id messages o c =
     let all : length messages ≡ length c.plan.files = ap length c.counts ∙ length-map c.plan.files (λ (file : ClientFile). length file.messages) in
     (c.work.client.0, omega (arith, all, c.work.client.1))
 
-pub took_all : (messages : List ℕ) (count : ℕ) (old new : Owner Totals) → WorksOn old new → count ≡ messages_of messages old.number → new.totals.taken ≡ count → TookAll messages new
+pub took_all : (messages : List ℕ) (count : ℕ) (old new : Owner Totals) → WorksOn old new → count ≡ messages_of messages old.number → new.totals.taken ≡ count → HasTakenAll messages new
 took_all messages count old new w of all = all ∙ of ∙ ap (messages_of messages) (sym w.number)
 
 module _ {A : Type 0} (P : A → Type 0) where

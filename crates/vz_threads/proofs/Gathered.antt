@@ -21,11 +21,11 @@ use Rattle.vz_desk.specs.Totals.{DisplayTotals, no_totals, no_display_totals, Ar
 use Rattle.vz_desk.specs.Owners.{Owner, fresh, fresh_from, IsSameOwner}
 use Rattle.vz_desk.specs.Gathering.{IsGatheredClient, IsGatheredDisplay}
 use Rattle.vz_threads.specs.Courses.{frames_of, message_counts}
-use Rattle.vz_threads.specs.Crews.{IsAtWork, IsCrew, CrewWorksOn, messages_of, TookAll}
+use Rattle.vz_threads.specs.Crews.{IsAtWork, IsCrew, CrewWorksOn, messages_of, HasTakenAll}
 use Rattle.vz_threads.specs.Outlets.{Outlook, file_of}
 use Rattle.vz_threads.specs.Rounds.{Setup, IsCut, HasPlayed, HasEnded, PlaysAll, IsCutShort}
 use Rattle.vz_threads.specs.Runs.{IsReady, IsOpened, IsUpToTail, IsCutThere, IsRestOf, HasRun}
-use Rattle.vz_threads.specs.Tails.{TookAll as TookIts}
+use Rattle.vz_threads.specs.Tails.{TookAll}
 use Rattle.vz_threads.proofs.Ending.{paced_on}
 use Rattle.vz_threads.proofs.Going.{amid}
 use Rattle.vz_threads.proofs.Showing.{shown_amid, frames_amid}
@@ -121,8 +121,8 @@ pub all_of_desk : (id : TableId) (messages : List ℕ) (os : List (Owner Totals)
 all_of_desk id messages os crew i d low = (crew.work i d low).desk
 
 -- each client took all of its messages, and each of its calls took one
-pub each_took : (id : TableId) (p q : Plan) (messages : List ℕ) (a b : List (Owner Totals)) (h : List Entry) → messages ≡ message_counts p → a ≡ fresh_from id p 1 (length messages) → CrewWorksOn a b → All (TookAll messages) b
-    → All (IsGatheredClient q h) b → (c : ℕ) → 1 ≤ c → c ≤ length p.files → TookIts p h c
+pub each_took : (id : TableId) (p q : Plan) (messages : List ℕ) (a b : List (Owner Totals)) (h : List Entry) → messages ≡ message_counts p → a ≡ fresh_from id p 1 (length messages) → CrewWorksOn a b → All (HasTakenAll messages) b
+    → All (IsGatheredClient q h) b → (c : ℕ) → 1 ≤ c → c ≤ length p.files → TookAll p h c
 each_took id p q messages a b h counts are works took gathered c from upto =
     let one = gathered (c - 1) none low in
     let w = (works.work id p (fresh_work id p messages a counts are)) (c - 1) none low in
@@ -163,7 +163,7 @@ plan_is p q h d planned g = same_plan q p (sym g.gathered.planned ∙ planned)
 
 -- the rounds are over, and the tail is left
 pub up_to_tail : (k : Setup) (rounds : ℕ) (paced : Bool) (start now : Outlook) (q : Plan) (d : Owner DisplayTotals) (h : List Entry) → HasEnded k paced start now d rounds → Legal k.plan h → IsGatheredDisplay q h d
-    → ((c : ℕ) → 1 ≤ c → c ≤ length k.plan.files → TookIts k.plan h c) → IsUpToTail k rounds paced start now h
+    → ((c : ℕ) → 1 ≤ c → c ≤ length k.plan.files → TookAll k.plan h c) → IsUpToTail k rounds paced start now h
 up_to_tail k rounds paced start now q d h e legal g took =
     let stay : places 0 (numbered h) ≡ places 0 d.seen = ap (λ (n : ℕ). places n (numbered h)) (sym e.at.display) ∙ g.gathered.mine ∙ ap (λ (n : ℕ). places n d.seen) e.at.display in
     let between = amid d.seen e.history h e.at.sees.seen g.gathered.begun stay in
@@ -214,7 +214,7 @@ module _ (k : Setup) (rounds : ℕ) (paced : Bool) (start now : Outlook) (id : T
     plan_same g = plan_is k.plan q h d (fresh_planned k.plan id d0 d opened.display_is same) g
 
     pub has_run : (played result : Result (Unit {0}) ShelfError) → OnOk played (PlaysAll paced start d0 now d rounds) → OnErr played (IsCutShort paced start d0 now d played) → IsRestOf played result
-        → OnOk result (All (TookAll messages) ends2) → CrewWorksOn ends0 ends2 → Legal q h → All (IsGatheredClient q h) ends2 → IsGatheredDisplay q h d → HasRun k rounds paced start now h result
+        → OnOk result (All (HasTakenAll messages) ends2) → CrewWorksOn ends0 ends2 → Legal q h → All (IsGatheredClient q h) ends2 → IsGatheredDisplay q h d → HasRun k rounds paced start now h result
     has_run (Ok x) (Ok y) plays cut rest took works legal clients display =
         let good = subst (λ (p : Plan). Legal p h) (plan_same display) legal in
         record {

@@ -45,8 +45,8 @@ pub record CrewWorksOn (old new : List (Owner Totals)) : Type 0 where
   pub work : (id : TableId) (p : Plan) → All (IsAtWork id p) old → All (IsAtWork id p) new
 
 -- an end took all messages of its file
-abbrev pub TookAll : List ℕ → Owner Totals → Type 0
-TookAll messages o = o.totals.taken ≡ messages_of messages o.number
+abbrev pub HasTakenAll : List ℕ → Owner Totals → Type 0
+HasTakenAll messages o = o.totals.taken ≡ messages_of messages o.number
 
 -- an end took so many messages, or its client is idle in the world behind what it has seen
 abbrev pub IsServed : ℕ → Owner Totals → Type 0

@@ -1,6 +1,6 @@
 //! The messages that are left once all threads have ended.
 ghost use Rattle.std.specs.Prelude.{◌≡◌, All, OnOk, vec_len, vec_capacity};
-ghost use Rattle.vz_threads.specs.Crews.{IsCrew, CrewWorksOn, TookAll};
+ghost use Rattle.vz_threads.specs.Crews.{IsCrew, CrewWorksOn, HasTakenAll};
 
 use crate::crew::count_of;
 use crate::halt::Halt;
@@ -28,7 +28,7 @@ where
     ensures count { vec_len ends.new ≡ vec_len ends.old }
     ensures capacity { vec_capacity ends.new ≡ vec_capacity ends.old }
     ensures works { CrewWorksOn ends.old.items ends.new.items }
-    ensures all { OnOk result (All (TookAll messages.now) ends.new.items) }
+    ensures all { OnOk result (All (HasTakenAll messages.now) ends.new.items) }
 {
     for end in ends.iter_mut() {
         let count = count_of(end, messages);

@@ -1,7 +1,7 @@
 //! What stands once all threads of a run have ended.
 ghost use Rattle.std.specs.Prelude.{◌≡◌, ◌≤◌, [], length, vec_capacity, All, OnOk};
 ghost use Rattle.vz_rules.specs.Step.{world};
-ghost use Rattle.vz_threads.specs.Crews.{IsCrew, CrewWorksOn, TookAll};
+ghost use Rattle.vz_threads.specs.Crews.{IsCrew, CrewWorksOn, HasTakenAll};
 ghost use Rattle.vz_threads.specs.Rounds.{Setup};
 ghost use Rattle.vz_threads.specs.Runs.{IsReady, IsOpened, IsRestOf, HasRun};
 
@@ -41,7 +41,7 @@ where
     M::FrameData: Send,
     requires { IsCrew desk.now.id messages.now ends.old.items }
     ensures works { CrewWorksOn ends.old.items ends.new.items }
-    ensures all { OnOk result (All (TookAll messages.now) ends.new.items) }
+    ensures all { OnOk result (All (HasTakenAll messages.now) ends.new.items) }
     ensures rest { IsRestOf played result }
 {
     match played {

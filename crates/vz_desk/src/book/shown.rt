@@ -1,5 +1,5 @@
 //! What the display asks of a book, and how it ends.
-ghost use Rattle.std.specs.Prelude.{◌≡◌, OnOk, OnErr, length, is_none};
+ghost use Rattle.std.specs.Prelude.{◌≡◌, OnOk, OnErr, IfSome, length, is_none, true};
 ghost use Rattle.vz_rules.specs.declared.entry.Event.TheVariants as event;
 ghost use Rattle.vz_rules.specs.Step.{NamesClient, Legal};
 ghost use Rattle.vz_desk.specs.Books.{booked_on, machine_of};
@@ -45,7 +45,8 @@ impl<M: Machine, S: Copy> Book<M, S> {
 
     // The first client for which a pause has to wait.
     fn first_restless(&self) -> Option<u32>
-        ensures { is_none result ≡ is_calm self.now.plan (machine_of self.now).world }
+        ensures calm { is_none result ≡ is_calm self.now.plan (machine_of self.now).world }
+        ensures restless { IfSome result (λ c. restless_at (machine_of self.now) c ≡ true) }
     {
         for before in 0..self.clients {
             if self.is_restless(before + 1) {
@@ -59,7 +60,8 @@ impl<M: Machine, S: Copy> Book<M, S> {
     /// that the others need not be asked again. There is none exactly where each attached client is
     /// idle or has answered the tick.
     pub fn restless(&self, last: u32) -> Option<u32>
-        ensures { is_none result ≡ is_calm self.now.plan (machine_of self.now).world }
+        ensures calm { is_none result ≡ is_calm self.now.plan (machine_of self.now).world }
+        ensures restless { IfSome result (λ c. restless_at (machine_of self.now) c ≡ true) }
     {
         if 0 < last && last <= self.clients && self.is_restless(last) {
             return Some(last);

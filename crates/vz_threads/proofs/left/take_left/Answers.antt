@@ -1,5 +1,5 @@
 use Rattle.std.proofs.Common.{◌≡◌, ◌<◌, sym, subst, arith, length, set, get_or, length-set}
-use Rattle.vz_threads.specs.Crews.{IsInCrew, CrewWorksOn, TookAll}
+use Rattle.vz_threads.specs.Crews.{IsInCrew, CrewWorksOn, HasTakenAll}
 use Rattle.vz_threads.proofs.Crewing.{crew_on, crew_at, crew_goes, in_crew_may, in_files, written_back, took_all, holds_more}
 use Rattle.vz_threads.proofs.left.take_left.Goals as goal
 use Rattle.vz_threads.proofs.left.take_left.Goals.{After-end-item}
@@ -37,6 +37,6 @@ loop-end-preserved g c =
     let within = inside g (goal.at.loop-end-preserved g c).After-end-item in
     record {
       works = crew_goes c.args.ends.now.items c.loop-end.end-items c.loop-end.end-index c.end-item.result c.take_messages.new.end c.loop-end.invariant.works within c.take_messages.ensures.works;
-      taken = holds_more (TookAll c.args.messages.now) c.loop-end.end-items c.loop-end.end-index c.take_messages.new.end within c.loop-end.invariant.taken
+      taken = holds_more (HasTakenAll c.args.messages.now) c.loop-end.end-items c.loop-end.end-index c.take_messages.new.end within c.loop-end.invariant.taken
           (took_all c.args.messages.now c.count_of-count.result _ c.take_messages.new.end c.take_messages.ensures.works c.count_of-count.ensures (c.in_ok-take_messages.ensures).all);
     }

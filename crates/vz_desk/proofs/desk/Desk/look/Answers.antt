@@ -13,4 +13,4 @@ invariant_of-d-2 g c = let e = c.enter-book.ensures in let l = c.leave-2.ensures
 
 pub returns-clause-calm : goal.returns-clause-calm
 returns-clause-calm g c = λ none. let e = c.enter-book.ensures in let l = c.leave-2.ensures in
-    paused c.d.inside.token c.enter-book.new.token c.leave-2.new.token c.enter-book.result _ (record { first = e.same; planned = e.plan; found = e.seen; later = e.later; stays = e.mine; legal = c.reason.ensures.legal }) (record { second = l.same; rests = l.outside; seen = l.seen }) (sym c.restless-restless.ensures ∙ ap is_none none)
+    paused c.d.inside.token c.enter-book.new.token c.leave-2.new.token c.enter-book.result _ (record { first = e.same; planned = e.plan; found = e.seen; later = e.later; stays = e.mine; legal = c.reason.ensures.legal }) (record { second = l.same; rests = l.outside; seen = l.seen }) (sym c.restless-restless.ensures.calm ∙ ap is_none none)
