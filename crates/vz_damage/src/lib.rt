@@ -6,6 +6,7 @@
 #![tactic(auto)]
 
 mod damage;
+pub mod laws;
 mod running;
 
 pub use damage::Damage;
