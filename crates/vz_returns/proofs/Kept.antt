@@ -9,7 +9,7 @@ use Rattle.vz_rules.specs.World.{Submission, sub_of}
 use Rattle.vz_rules.proofs.Counts.{count_cons}
 use Rattle.vz_returns.specs.Feeding.{before, in_order, is_open, place_in, opened, fed, AreUnfed, mark_of}
 
-both : (a b : Bool) → (a && b) ≡ true → (a ≡ true) × (b ≡ true)
+pub both : (a b : Bool) → (a && b) ≡ true → (a ≡ true) × (b ≡ true)
 both true b h = (refl, h)
 both false b h = absurd (cc)
 
@@ -19,7 +19,7 @@ from_eqb a b h = grind (arith, nat_tests)
 same_numbers : {c c' o o' : ℕ} → c ≡ c' → o ≡ o' → ◌≡◌ {A = Sub} (record { client = c; ordinal = o }) (record { client = c'; ordinal = o' })
 same_numbers p q = cc
 
-from_same_sub : (a b : Sub) → same_sub a b ≡ true → a ≡ b
+pub from_same_sub : (a b : Sub) → same_sub a b ≡ true → a ≡ b
 from_same_sub a b h = let parts = both (a.client == b.client) (a.ordinal == b.ordinal) h in same_numbers (from_eqb _ _ parts.0) (from_eqb _ _ parts.1)
 
 in_front : (a b c : Bool) → (b || (a || c)) ≡ (a || (b || c))
@@ -61,29 +61,29 @@ fed_has (x ∷ list) s t =
 
 -- The order
 
-over : (a b c : Sub) → before a b ≡ true → before b c ≡ true → before a c ≡ true
+pub over : (a b c : Sub) → before a b ≡ true → before b c ≡ true → before a c ≡ true
 over a b c h k = grind (arith, nat_tests)
 
-or_after : (a b : Sub) → before a b ≡ false → same_sub a b ≡ false → before b a ≡ true
+pub or_after : (a b : Sub) → before a b ≡ false → same_sub a b ≡ false → before b a ≡ true
 or_after a b h k = grind (arith, nat_tests)
 
-not_after : (a b : Sub) → before a b ≡ true → before b a ≡ false
+pub not_after : (a b : Sub) → before a b ≡ true → before b a ≡ false
 not_after a b h = grind (arith, nat_tests)
 
-two_false : (a b : Bool) → (a || b) ≡ false → (a ≡ false) × (b ≡ false)
+pub two_false : (a b : Bool) → (a || b) ≡ false → (a ≡ false) × (b ≡ false)
 two_false true b h = absurd (cc)
 two_false false b h = (refl, h)
 
-two_true : (a b : Bool) → a ≡ true → b ≡ true → (a && b) ≡ true
+pub two_true : (a b : Bool) → a ≡ true → b ≡ true → (a && b) ≡ true
 two_true a b p q = rw (p, q)
 
 -- what one comes before, an earlier one comes before
-all_over : (a b : Sub) (list : List Sub) → before a b ≡ true → list_all (before b) list ≡ true → list_all (before a) list ≡ true
+pub all_over : (a b : Sub) (list : List Sub) → before a b ≡ true → list_all (before b) list ≡ true → list_all (before a) list ≡ true
 all_over a b [] h k = refl
 all_over a b (x ∷ list) h k = let parts = both (before b x) (list_all (before b) list) k in two_true _ _ (over a b x h parts.0) (all_over a b list h parts.1)
 
 -- none comes before one that comes before all
-none_before : (s : Sub) (list : List Sub) → list_all (before s) list ≡ true → place_in list s ≡ 0
+pub none_before : (s : Sub) (list : List Sub) → list_all (before s) list ≡ true → place_in list s ≡ 0
 none_before s [] h = refl
 none_before s (x ∷ list) h =
     let parts = both (before s x) (list_all (before s) list) h in
@@ -95,7 +95,7 @@ all_in a s [] (suc n) h k = two_true _ _ h refl
 all_in a s (x ∷ list) zero h k = two_true _ _ h k
 all_in a s (x ∷ list) (suc n) h k = let parts = both (before a x) (list_all (before a) list) k in two_true _ _ parts.0 (all_in a s list n h parts.1)
 
-one_more : (n : ℕ) → 1 + n ≡ suc n
+pub one_more : (n : ℕ) → 1 + n ≡ suc n
 one_more n = omega arith
 
 pub opened_in_order : (list : List Sub) (s : Sub) → in_order list ≡ true → is_open list s ≡ false → in_order (opened s list) ≡ true

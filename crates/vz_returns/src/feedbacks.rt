@@ -1,7 +1,7 @@
 //! The submissions that wait for feedback.
-ghost use Rattle.std.specs.Prelude.{◌≡◌, ◌≤◌, ◌<◌, ◌+◌, [], ◌++◌, length, IsTrue, IsFalse, IsOk, OnOk, OnErr};
+ghost use Rattle.std.specs.Prelude.{◌≡◌, ◌≤◌, ◌<◌, ◌+◌, [], ◌++◌, length, IsTrue, IsFalse, IsOk, OnOk, OnErr, IfSome, is_some};
 ghost use Rattle.vz_ids.specs.Ids.{same_sub};
-ghost use Rattle.vz_returns.specs.Feeding.{before, is_open, place_in, opened, fed};
+ghost use Rattle.vz_returns.specs.Feeding.{before, in_order, is_open, place_in, opened, fed};
 
 use std::alloc::Global;
 use std::marker::Model;
@@ -10,19 +10,21 @@ use vz_frame::Room;
 use vz_ids::Sub;
 
 /// The submissions that wait for feedback, by client and ordinal. Contracts see their list
-/// and, beside it, the room that was made before.
+/// and, beside it, the room that was made before. A submission is found by halving.
 #[derive(Drop)]
 pub struct Feedbacks {
     list: Vec<Sub>,
 }
 
 impl Model for Feedbacks {
-    ghost use Rattle.std.specs.Prelude.{◌-◌, vec_len, vec_capacity};
-    ghost use Rattle.vz_returns.specs.Feeding.{Unfed};
+    ghost use Rattle.std.specs.Prelude.{◌-◌, IsTrue, vec_len, vec_capacity};
+    ghost use Rattle.vz_returns.specs.Feeding.{Unfed, in_order};
 
     ghost Value = { Unfed };
 
     ghost view = { λ a. record { list = a.list.items; spare = vec_capacity a.list - vec_len a.list } };
+
+    ghost invariant = { λ a. IsTrue (in_order a.list.items) };
 }
 
 impl Feedbacks {
@@ -69,9 +71,13 @@ impl Feedbacks {
         ensures list { self.new.list ≡ fed s self.old.list }
         ensures spare { self.old.spare ≤ self.new.spare }
     {
-        let was_open = is_open(&self.list, &s);
-        self.list.retain(|t| !is_same(t, &s));
-        was_open
+        match find(&self.list, &s) {
+            Some(place) => {
+                self.list.remove(place);
+                true
+            }
+            None => false,
+        }
     }
 
     /// How many wait.
@@ -106,30 +112,27 @@ fn is_before(a: &Sub, b: &Sub) -> bool
     a.client < b.client || (a.client == b.client && a.ordinal < b.ordinal)
 }
 
-/// Whether one of them is this submission.
-fn is_open(list: &[Sub], s: &Sub) -> bool
-    ensures { result ≡ is_open list.now s.now }
-{
-    for t in list {
-        if is_same(t, s) {
-            return true;
-        }
-    }
-    false
-}
-
-/// How many come before a submission.
+/// How many come before a submission. Condition: they are in their order.
 fn place_in(list: &[Sub], s: &Sub) -> usize
+    requires { IsTrue (in_order list.now) }
     ensures value { result ≡ place_in list.now s.now }
     ensures bound { result ≤ length list.now }
 {
-    let mut place = 0;
-    for t in list {
-        if is_before(t, s) {
-            place += 1;
-        }
+    list.partition_point(|t| is_before(t, s))
+}
+
+/// The place of a submission, if it is one of them. Condition: they are in their order.
+fn find(list: &[Sub], s: &Sub) -> Option<usize>
+    requires { IsTrue (in_order list.now) }
+    ensures there { is_some result ≡ is_open list.now s.now }
+    ensures place { IfSome result (λ place. place ≡ place_in list.now s.now) }
+    ensures bound { IfSome result (λ place. place < length list.now) }
+{
+    let place = place_in(list, s);
+    if place < list.len() && is_same(&list[place], s) {
+        return Some(place);
     }
-    place
+    None
 }
 
 /// Appends all of a list.
