@@ -1,5 +1,5 @@
 //! The map that tells in which slot each submission stands.
-ghost use Rattle.std.specs.Prelude.{◌≡◌, ◌≤◌, Some, IsTrue, IsFalse, IsSome};
+ghost use Rattle.std.specs.Prelude.{◌≡◌, ◌≤◌, Some, None, if◌then◌else◌, IsTrue, IsFalse, IsSome};
 ghost use Rattle.indexmap.specs.IndexMap.{get, spare as spare_of};
 ghost use Rattle.vz_ids.specs.declared.Sub.{Sub};
 ghost use Rattle.vz_ids.specs.Ids.{same_sub};
@@ -41,8 +41,8 @@ fn number(places: &mut IndexMap<Sub, usize>, s: Sub, place: usize)
 
 /// The map tells no slots for the submissions in a list, and those that it told for others.
 pub(crate) fn forget_all(list: &[Sub], places: &mut IndexMap<Sub, usize>)
-    ensures others { (t : Sub) → IsFalse (has_sub list.now t)
-        → get same_sub places.new t ≡ get same_sub places.old t }
+    ensures told { (t : Sub) → get same_sub places.new t
+        ≡ if has_sub list.now t then None else get same_sub places.old t }
     ensures spare { spare_of places.old ≤ spare_of places.new }
 {
     for s in list {
