@@ -1,17 +1,16 @@
 -- Those that are due, as a list is gone through.
-use Rattle.std.proofs.Common.{◌≡◌, ℕ, ◌+◌, ◌≤◌, ◌<◌, Bool, true, false, not, ◌&&◌, ◌||◌, nat_le, List, [], ◌∷◌, ◌++◌, length, get_or, take, map, filter, refl, ap, sym, ◌∙◌, arith, cond}
+use Rattle.std.proofs.Common.{◌≡◌, ℕ, ◌≤◌, ◌<◌, Bool, true, false, not, ◌&&◌, ◌||◌, nat_le, List, [], ◌∷◌, ◌++◌, map, filter, refl, ap, sym, ◌∙◌, arith, cond}
 use Rattle.std.specs.List.{list_all}
-use Rattle.std.proofs.lemmas.List.{take_more, append-nil, append_assoc, length-append}
 use Rattle.std.proofs.lemmas.Bool.Decides.{nat_tests}
 use Rattle.vz_ids.specs.declared.Sub.{Sub}
 use Rattle.vz_ids.specs.Ids.{same_sub}
 use Rattle.vz_rules.specs.World.{World, Submission, is_waiting, sub_of, has_sub}
 use Rattle.vz_rules.specs.Settle.{has_come, is_ready, ready, is_met}
-use Rattle.vz_deadlines.specs.declared.deadlines.Due.{Due}
+use Rattle.vz_deadlines.specs.declared.due.Due.{Due}
 use Rattle.vz_deadlines.specs.Timing.{waits, without, due_at, left_at, due_of, waiting_in}
 
 -- first those, then these
-due_append : (tick : ℕ) (xs ys : List Due) → due_at tick (xs ++ ys) ≡ due_at tick xs ++ due_at tick ys
+pub due_append : (tick : ℕ) (xs ys : List Due) → due_at tick (xs ++ ys) ≡ due_at tick xs ++ due_at tick ys
 unfolding due_at
 due_append tick [] ys = refl
 due_append tick (x ∷ xs) ys =
@@ -21,10 +20,6 @@ due_append tick (x ∷ xs) ys =
       | false ↦ due_append tick xs ys
     ]
 
-due_one : (tick : ℕ) (x : Due) → length (due_at tick (x ∷ [])) ≤ 1
-unfolding due_at
-due_one tick x = elim (nat_le x.tick tick) as (λ (t : Bool). length (map (λ (d : Due). d.sub) (cond t (x ∷ []) [])) ≤ 1) [ true ↦ omega arith | false ↦ omega arith ]
-
 -- one that is due, and one that is not
 pub one_due : (tick : ℕ) (x : Due) → nat_le x.tick tick ≡ true → due_at tick (x ∷ []) ≡ x.sub ∷ []
 unfolding due_at
@@ -33,26 +28,6 @@ one_due tick x e = ap (λ t. map (λ (d : Due). d.sub) (cond t (x ∷ []) [])) e
 pub one_later : (tick : ℕ) (x : Due) → nat_le x.tick tick ≡ false → due_at tick (x ∷ []) ≡ []
 unfolding due_at
 one_later tick x e = ap (λ t. map (λ (d : Due). d.sub) (cond t (x ∷ []) [])) e
-
--- what stands when so many were gone through: those that are due are in, and there is room for the rest
-abbrev pub ArePut : ℕ → List Due → ℕ → List Sub → ℕ → List Sub → ℕ → Type 0
-ArePut tick xs k first spare out room =
-    (out ≡ first ++ due_at tick (take k xs)) × (spare ≤ room + length (due_at tick (take k xs))) × (length (due_at tick (take k xs)) ≤ k)
-
-pub put_none : (tick : ℕ) (xs : List Due) (first : List Sub) (spare : ℕ) → ArePut tick xs 0 first spare first spare
-unfolding due_at
-put_none tick xs first spare = (sym (append-nil first), omega arith, omega arith)
-
-pub put_next : (tick : ℕ) (xs : List Due) (k : ℕ) (d : Due) (first out new : List Sub) (spare room left : ℕ) → k < length xs → ArePut tick xs k first spare out room
-    → new ≡ out ++ due_at tick (get_or xs k d ∷ []) → room ≤ left + length (due_at tick (get_or xs k d ∷ [])) → ArePut tick xs (k + 1) first spare new left
-put_next tick xs k d first out new spare room left inside put is enough =
-    let more : due_at tick (take (k + 1) xs) ≡ due_at tick (take k xs) ++ due_at tick (get_or xs k d ∷ []) = ap (due_at tick) (take_more xs k d inside) ∙ due_append tick (take k xs) (get_or xs k d ∷ []) in
-    let one = due_one tick (get_or xs k d) in
-    let long = ap length more ∙ length-append (due_at tick (take k xs)) (due_at tick (get_or xs k d ∷ [])) in (
-      is ∙ ap (λ l. l ++ due_at tick (get_or xs k d ∷ [])) put.0 ∙ append_assoc first (due_at tick (take k xs)) (due_at tick (get_or xs k d ∷ [])) ∙ ap (λ l. first ++ l) (sym more),
-      omega (arith, put.1, enough, long),
-      omega (arith, put.2, one, long),
-    )
 
 -- where none is due before a tick, none is due then
 pub none_due : (tick soonest : ℕ) (xs : List Due) → tick < soonest → list_all (λ d. nat_le soonest d.tick) xs ≡ true → due_at tick xs ≡ []
@@ -67,34 +42,10 @@ none_due tick soonest (x ∷ xs) before all =
     both true b h = (refl, h)
     both false b h = absurd (cc)
 
-pub all_left : (tick soonest : ℕ) (xs : List Due) → tick < soonest → list_all (λ d. nat_le soonest d.tick) xs ≡ true → left_at tick xs ≡ xs
-unfolding left_at
-all_left tick soonest [] before all = refl
-all_left tick soonest (x ∷ xs) before all =
-    let parts = both (nat_le soonest x.tick) (list_all (λ d. nat_le soonest d.tick) xs) all in
-    let later : nat_le x.tick tick ≡ false = grind (arith, nat_tests, before, parts.0) in
-    ap (λ t. cond (not t) (x ∷ filter (λ d. not (nat_le d.tick tick)) xs) (filter (λ d. not (nat_le d.tick tick)) xs)) later ∙ ap (λ l. x ∷ l) (all_left tick soonest xs before parts.1)
-  where
-    both : (a b : Bool) → (a && b) ≡ true → (a ≡ true) × (b ≡ true)
-    both true b h = (refl, h)
-    both false b h = absurd (cc)
-
 -- a smaller bound is a bound too
 pub all_later : (less more : ℕ) (xs : List Due) → less ≤ more → list_all (λ d. nat_le more d.tick) xs ≡ true → list_all (λ d. nat_le less d.tick) xs ≡ true
 all_later less more [] below all = refl
 all_later less more (x ∷ xs) below all = grind (arith, nat_tests, below, all, all_later less more xs below)
-
-pub all_push : (least : ℕ) (xs : List Due) (x : Due) → list_all (λ d. nat_le least d.tick) xs ≡ true → least ≤ x.tick → list_all (λ d. nat_le least d.tick) (xs ++ x ∷ []) ≡ true
-all_push least [] x all below = grind (arith, nat_tests, below)
-all_push least (y ∷ xs) x all below = grind (arith, nat_tests, below, all, all_push least xs x)
-
-pub all_filter : (p : Due → Bool) (least : ℕ) (xs : List Due) → list_all (λ d. nat_le least d.tick) xs ≡ true → list_all (λ d. nat_le least d.tick) (filter p xs) ≡ true
-all_filter p least [] all = refl
-all_filter p least (x ∷ xs) all =
-    elim (p x) as (λ (t : Bool). list_all (λ d. nat_le least d.tick) (cond t (x ∷ filter p xs) (filter p xs)) ≡ true) [
-      | true ↦ grind (arith, nat_tests, all, all_filter p least xs)
-      | false ↦ grind (arith, nat_tests, all, all_filter p least xs)
-    ]
 
 -- The submissions of a state
 

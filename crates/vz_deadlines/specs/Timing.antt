@@ -4,7 +4,7 @@ use Rattle.std.specs.List.{list_any}
 use Rattle.vz_ids.specs.declared.Sub.{Sub}
 use Rattle.vz_ids.specs.Ids.{same_sub}
 use Rattle.vz_rules.specs.World.{World, Submission, is_waiting, sub_of}
-use Rattle.vz_deadlines.specs.declared.deadlines.Due.{Due}
+use Rattle.vz_deadlines.specs.declared.due.Due.{Due}
 
 -- those that wait, in the order in which they were set, with the room made before
 pub record Timed : Type 0 where

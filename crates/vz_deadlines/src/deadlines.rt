@@ -1,40 +1,44 @@
 //! The submissions that wait until a tick.
-ghost use Rattle.std.specs.Prelude.{◌≡◌, ◌≤◌, ◌<◌, ◌+◌, [], ◌∷◌, ◌++◌, length, IsTrue, IsFalse, IsOk, OnOk, OnErr, nat_le};
-ghost use Rattle.std.specs.List.{list_all};
-ghost use Rattle.vz_ids.specs.Ids.{same_sub};
+ghost use Rattle.std.specs.Prelude.{◌≡◌, ◌≤◌, ◌<◌, ◌+◌, [], ◌∷◌, ◌++◌, length, IsTrue, IsFalse, IsOk, OnOk, OnErr};
 ghost use Rattle.vz_deadlines.specs.Timing.{waits, without, due_at, left_at};
 
+use crate::due::Due;
+use crate::numbers::{forget_all, number_all};
+use crate::slots::Slots;
+use indexmap::IndexMap;
 use std::alloc::Global;
 use std::marker::Model;
 use vz_base::Memory;
 use vz_frame::Room;
 use vz_ids::Sub;
 
-/// A submission that waits, and the tick at which it is due.
-#[derive(Clone, Copy)]
-pub(crate) struct Due {
-    pub(crate) sub: Sub,
-    pub(crate) tick: u32,
-}
-
 /// The submissions that wait, each until a tick. Contracts see them in the order in which
 /// they were set and, beside them, the room that was made before.
+///
+/// Each stands in a slot; the slots are in the order of `set`, and a map tells in which one a
+/// submission stands. A slot that becomes free stays so until there is no other room: then
+/// the others close up, where half of the slots are free, so that this costs no more than the
+/// calls that freed them.
 #[derive(Drop)]
 pub struct Deadlines {
-    list: Vec<Due>,
-    soonest: u32,
+    slots: Slots,
+    used: usize,
+    waiting: usize,
+    places: IndexMap<Sub, usize>,
 }
 
 impl Model for Deadlines {
-    ghost use Rattle.std.specs.Prelude.{◌-◌, nat_le, IsTrue, vec_len, vec_capacity};
-    ghost use Rattle.std.specs.List.{list_all};
+    ghost use Rattle.std.specs.Prelude.{◌-◌, length};
+    ghost use Rattle.indexmap.specs.IndexMap.{get, spare as spare_of};
+    ghost use Rattle.vz_ids.specs.Ids.{same_sub};
     ghost use Rattle.vz_deadlines.specs.Timing.{Timed};
+    ghost use Rattle.vz_deadlines.specs.Standing.{standing, AreKept};
 
     ghost Value = { Timed };
 
-    ghost view = { λ a. record { list = a.list.items; spare = vec_capacity a.list - vec_len a.list } };
+    ghost view = { λ a. record { list = standing a.slots; spare = length a.slots - a.used } };
 
-    ghost invariant = { λ a. IsTrue (list_all (λ d. nat_le a.soonest d.tick) a.list.items) };
+    ghost invariant = { λ a. AreKept a.slots a.used a.waiting (get same_sub a.places) (spare_of a.places) };
 }
 
 impl Deadlines {
@@ -43,8 +47,10 @@ impl Deadlines {
         ensures { result.list ≡ [] }
     {
         Deadlines {
-            list: Vec::new(alloc),
-            soonest: u32::MAX,
+            slots: Slots::new(alloc),
+            used: 0,
+            waiting: 0,
+            places: IndexMap::new(alloc),
         }
     }
 
@@ -57,7 +63,23 @@ impl Deadlines {
         ensures succeeds { n ≤ self.old.spare → IsOk result }
         ensures spare { self.old.spare ≤ self.new.spare }
     {
-        self.list.try_reserve(n)?;
+        let len = self.slots.len();
+        if n <= len - self.used {
+            return Ok(());
+        }
+        if self.waiting <= len / 2 && n <= len - self.waiting {
+            self.places.reserve(len - self.waiting)?;
+            self.slots.close_up();
+            number_all(&self.slots, &mut self.places);
+            self.used = self.waiting;
+            return Ok(());
+        }
+        let more = n.max(len);
+        let Some(all) = (len - self.used).checked_add(more) else {
+            return Err(Memory);
+        };
+        self.places.reserve(all)?;
+        self.slots.grow(more)?;
         Ok(())
     }
 
@@ -72,9 +94,11 @@ impl Deadlines {
         ensures succeeds { 0 < self.old.spare → IsOk result }
         ensures spare { self.old.spare ≤ self.new.spare + 1 }
     {
-        self.list.try_reserve(1)?;
-        self.list.push_reserved(Due { sub: s, tick });
-        self.soonest = smaller(self.soonest, tick);
+        self.ready(1)?;
+        self.places.insert(s, self.used).unwrap();
+        self.slots.put(self.used, Due { sub: s, tick });
+        self.used += 1;
+        self.waiting += 1;
         Ok(())
     }
 
@@ -85,14 +109,22 @@ impl Deadlines {
         ensures gone { IsFalse (waits self.new.list s) }
         ensures spare { self.old.spare ≤ self.new.spare }
     {
-        self.list.retain(|d| !is_of(d, &s));
+        match self.places.swap_remove(&s) {
+            Some(place) => {
+                if self.slots.has(place, s) {
+                    self.slots.free(place);
+                    self.waiting -= 1;
+                }
+            }
+            None => {}
+        }
     }
 
     /// How many wait.
     pub fn waiting(&self) -> usize
         ensures { result ≡ length self.now.list }
     {
-        self.list.len()
+        self.waiting
     }
 
     /// Appends exactly the submissions that are due at a tick, in the order in which they
@@ -103,68 +135,12 @@ impl Deadlines {
         ensures out { out.new.list ≡ out.old.list ++ due_at tick self.old.list }
         ensures list { self.new.list ≡ left_at tick self.old.list }
         ensures spare { self.old.spare ≤ self.new.spare }
-        ensures room { out.old.spare ≤ out.new.spare + length (due_at tick self.old.list) }
+        ensures room { out.old.spare ≡ out.new.spare + length (due_at tick self.old.list) }
     {
-        if tick < self.soonest {
-            return;
-        }
-        put_due(&self.list, tick, out);
-        self.list.retain(|d| !is_due(d, tick));
-        self.soonest = soonest(&self.list);
+        let before = out.as_slice().len();
+        self.slots.take_due(tick, out);
+        let due = &out.as_slice()[before..];
+        forget_all(due, &mut self.places);
+        self.waiting -= due.len();
     }
-}
-
-/// Whether an entry is that of a submission.
-fn is_of(d: &Due, s: &Sub) -> bool
-    ensures { result ≡ same_sub d.now.sub s.now }
-{
-    d.sub == *s
-}
-
-/// Whether a submission is due at a tick.
-fn is_due(d: &Due, tick: u32) -> bool
-    ensures { result ≡ nat_le d.now.tick tick }
-{
-    d.tick <= tick
-}
-
-/// The smaller of two ticks.
-fn smaller(a: u32, b: u32) -> u32
-    ensures first { result ≤ a }
-    ensures second { result ≤ b }
-{
-    if a < b { a } else { b }
-}
-
-/// Appends the submissions that are due at a tick.
-fn put_due(list: &[Due], tick: u32, out: &mut Room<Sub>)
-    requires { length list.now ≤ out.old.spare }
-    ensures list { out.new.list ≡ out.old.list ++ due_at tick list.now }
-    ensures room { out.old.spare ≤ out.new.spare + length (due_at tick list.now) }
-{
-    for d in list {
-        put_one(d, tick, out);
-    }
-}
-
-/// Appends a submission if it is due at a tick.
-fn put_one(d: &Due, tick: u32, out: &mut Room<Sub>)
-    requires { 0 < out.old.spare }
-    ensures list { out.new.list ≡ out.old.list ++ due_at tick (d.now ∷ []) }
-    ensures room { out.old.spare ≤ out.new.spare + length (due_at tick (d.now ∷ [])) }
-{
-    if is_due(d, tick) {
-        out.put(d.sub);
-    }
-}
-
-/// A tick before which none is due.
-fn soonest(list: &[Due]) -> u32
-    ensures { IsTrue (list_all (λ d. nat_le result d.tick) list.now) }
-{
-    let mut soonest = u32::MAX;
-    for d in list {
-        soonest = smaller(soonest, d.tick);
-    }
-    soonest
 }

@@ -3,6 +3,10 @@
 #![tactic(auto)]
 
 mod deadlines;
+mod due;
 pub mod laws;
+mod numbers;
+mod slots;
+mod walk;
 
 pub use deadlines::Deadlines;

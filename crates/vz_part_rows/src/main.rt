@@ -10,13 +10,16 @@ mod draws;
 mod due;
 mod holder;
 mod lent;
+mod related;
+mod sinks;
 
 use anyhow::{Result, bail};
 
 fn main(rt: HostRuntime) -> Result<()> {
     let holder = holder::play(&rt)?;
     let deadlines = deadlines::play(&rt)?;
-    if holder && deadlines {
+    let sinks = sinks::play(&rt)?;
+    if holder && deadlines && sinks {
         return Ok(());
     }
     bail!("a part answers otherwise than it must")

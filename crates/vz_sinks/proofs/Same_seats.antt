@@ -11,7 +11,7 @@ use Rattle.vz_rules.specs.World.{World, Client, client_at, change_client, first_
 use Rattle.vz_rules.specs.Messages.{reaches, is_known, hierarchy_refusal, first_some, when}
 use Rattle.vz_rules.specs.declared.entry.Refusal.TheVariants as refusal
 use Rattle.vz_rules.specs.Step.{is_attached, deliver}
-use Rattle.vz_sinks.specs.declared.sinks.Seat.{Seat}
+use Rattle.vz_sinks.specs.declared.seats.Seat.{Seat}
 use Rattle.vz_sinks.specs.Relating.{is_known_in, holds_of, is_own, refusal_for, refusal_in, refusal_of, attached_in, deliver_to, delivered_to, standing, take_one, close_one, seat_of, new_seat, seats_from, related_in}
 
 some_is : {A : Type 0} {a b : A} → Some a ≡ Some b → a ≡ b

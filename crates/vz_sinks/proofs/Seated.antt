@@ -5,9 +5,9 @@ use Rattle.std.proofs.lemmas.List.Edits.{map_over_more}
 use Rattle.vz_ids.specs.declared.FrameSinkId.{FrameSinkId}
 use Rattle.vz_rules.specs.Plan.{has_sink}
 use Rattle.vz_rules.specs.Messages.{reaches}
-use Rattle.vz_sinks.specs.declared.sinks.Seat.{Seat}
-use Rattle.vz_sinks.specs.declared.sinks.SinkError.{SinkError}
-use Rattle.vz_sinks.specs.declared.sinks.SinkError.TheVariants as error
+use Rattle.vz_sinks.specs.declared.seats.Seat.{Seat}
+use Rattle.vz_sinks.specs.declared.refusals.SinkError.{SinkError}
+use Rattle.vz_sinks.specs.declared.refusals.SinkError.TheVariants as error
 use Rattle.vz_sinks.specs.Relating.{new_seat, seats_from, holds_of, standing, attached_in, deliver_to, delivered_to, refusal_for}
 
 -- the next client is looked at

@@ -7,9 +7,9 @@ use Rattle.vz_rules.specs.World.{World, Client}
 use Rattle.vz_rules.specs.declared.entry.Refusal.{Refusal}
 use Rattle.vz_rules.specs.declared.entry.Refusal.TheVariants as refusal
 use Rattle.vz_rules.specs.Messages.{reaches, first_some, when}
-use Rattle.vz_sinks.specs.declared.sinks.Seat.{Seat}
-use Rattle.vz_sinks.specs.declared.sinks.SinkError.{SinkError}
-use Rattle.vz_sinks.specs.declared.sinks.SinkError.TheVariants as error
+use Rattle.vz_sinks.specs.declared.seats.Seat.{Seat}
+use Rattle.vz_sinks.specs.declared.refusals.SinkError.{SinkError}
+use Rattle.vz_sinks.specs.declared.refusals.SinkError.TheVariants as error
 
 -- the first client's sink, the clients with their sinks, and the relations from parent to child
 pub record Related : Type 0 where

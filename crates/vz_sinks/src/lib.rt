@@ -5,6 +5,10 @@
 
 pub mod laws;
 mod reaching;
+mod refusals;
+mod relations;
+mod seats;
 mod sinks;
 
-pub use sinks::{SinkError, Sinks};
+pub use refusals::SinkError;
+pub use sinks::Sinks;

@@ -1,22 +1,23 @@
-use Rattle.std.proofs.Common.{◌≡◌, [], ◌++◌, rules, sym, ap, ◌∙◌}
-use Rattle.std.proofs.lemmas.Fn.{filter_same}
-use Rattle.std.proofs.lemmas.List.{append-nil}
+use Rattle.std.proofs.Common.{cond, None, ap, ◌∙◌}
+use Rattle.indexmap.specs.IndexMap.{get, spare as spare_of}
+use Rattle.vz_ids.specs.Ids.{same_sub}
 use Rattle.vz_deadlines.specs.Timing.{due_at, left_at}
-use Rattle.vz_deadlines.proofs.Dues.{none_due, all_left}
+use Rattle.vz_deadlines.specs.Standing.{standing}
+use Rattle.vz_deadlines.proofs.Stands.{left_standing}
+use Rattle.vz_deadlines.proofs.Begun.{new_ones, begun_fits, kept_begun}
 use Rattle.vz_deadlines.proofs.deadlines.Deadlines.begin.Goals as goal
 
--- none is due before the soonest
-pub returns-then-tick-self-clause-out : goal.returns-then-tick-self-clause-out
-returns-then-tick-self-clause-out c =
-    let none : due_at c.args.tick c.args.self.now.list ≡ [] =
-    sym (ap (λ v. due_at c.args.tick v.list) c.self.view_is) ∙ none_due c.args.tick c.self.inside.soonest c.self.inside.list.items c.if-tick-self.true c.self.invariant in
-    sym (ap (λ l. c.args.out.now.list ++ l) none ∙ append-nil c.args.out.now.list)
+pub overflow_sub-self : goal.overflow_sub-self
+overflow_sub-self c =
+    begun_fits c.args.tick c.self.inside.waiting c.self.inside.used (spare_of c.self.inside.places) c.self.inside.slots (get same_sub c.self.inside.places) _ c.self.invariant
+    (new_ones c.args.out.now.list c.take_due.new.out.list c.as_slice-before.result.now c.as_slice.result.now (due_at c.args.tick (standing c.self.inside.slots)) c.as_slice-before.ensures c.as_slice.ensures c.take_due.ensures.out)
 
-pub returns-then-tick-self-clause-list : goal.returns-then-tick-self-clause-list
-returns-then-tick-self-clause-list c =
-    sym (ap (λ v. v.list) c.self.view_is) ∙ sym (all_left c.args.tick c.self.inside.soonest c.self.inside.list.items c.if-tick-self.true c.self.invariant) ∙ ap (λ v. left_at c.args.tick v.list) c.self.view_is
+pub invariant_of-self : goal.invariant_of-self
+invariant_of-self c =
+    kept_begun c.args.tick c.self.inside.slots c.take_due.new.self c.self.inside.used c.self.inside.waiting (spare_of c.self.inside.places) (spare_of c.forget_all.new.places) (get same_sub c.self.inside.places) (get same_sub c.forget_all.new.places) _
+    c.self.invariant c.take_due.ensures.slots
+    (new_ones c.args.out.now.list c.take_due.new.out.list c.as_slice-before.result.now c.as_slice.result.now (due_at c.args.tick (standing c.self.inside.slots)) c.as_slice-before.ensures c.as_slice.ensures c.take_due.ensures.out)
+    (λ t h. c.forget_all.ensures.told t ∙ ap (λ b. cond b None (get same_sub c.self.inside.places t)) h) c.forget_all.ensures.spare
 
--- those that are not due are left
 pub returns-clause-list : goal.returns-clause-list
-unfolding left_at
-returns-clause-list c = filter_same _ _ _ (λ x b f' k. search rules) _ _ c.retain.ensures.filtered ∙ ap (λ v. left_at c.args.tick v.list) c.self.view_is
+returns-clause-list c = ap standing c.take_due.ensures.slots ∙ left_standing c.args.tick c.self.inside.slots ∙ ap (λ v. left_at c.args.tick v.list) c.self.view_is

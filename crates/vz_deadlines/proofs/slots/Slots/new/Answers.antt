@@ -1,0 +1,6 @@
+use Rattle.vz_deadlines.specs.Standing.{AreBounded}
+use Rattle.vz_deadlines.proofs.slots.Slots.new.Goals as goal
+
+pub invariant_of-result : goal.invariant_of-result
+unfolding AreBounded
+invariant_of-result c = tt

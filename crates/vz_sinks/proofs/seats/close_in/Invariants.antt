@@ -1,0 +1,8 @@
+use Rattle.std.proofs.Common.{◌≡◌, map, take, drop, ◌++◌}
+use Rattle.vz_sinks.specs.Relating.{close_one}
+use Rattle.vz_sinks.proofs.seats.close_in.Given as goal
+
+-- those so far are changed, and the others are as they were
+abbrev pub invariant-loop-seat : goal.invariant-loop-seat
+invariant-loop-seat l =
+    l.seat-items ≡ map (close_one l.c) (take l.seat-index l.initial.seat-items) ++ drop l.seat-index l.initial.seat-items

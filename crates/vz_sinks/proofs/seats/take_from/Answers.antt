@@ -1,0 +1,7 @@
+use Rattle.vz_sinks.specs.Relating.{take_one}
+use Rattle.vz_sinks.proofs.Seated.{changed_next}
+use Rattle.vz_sinks.proofs.seats.take_from.Goals as goal
+
+pub loop-seat-preserved : goal.loop-seat-preserved
+loop-seat-preserved c =
+    changed_next (take_one c.args.c) c.args.seats.now c.loop-seat.seat-items c.loop-seat.seat-index _ c.take_one.new.seat c.loop-seat-test.true c.loop-seat.invariant c.take_one.ensures
