@@ -1,3 +1,9 @@
 pub mod Adding
-pub mod Gathering
+pub mod Same
+pub mod Changing
+pub mod Indexed
 pub mod Keeping
+pub mod Keyed
+pub mod Searching
+pub mod Gathering
+pub mod Noting
