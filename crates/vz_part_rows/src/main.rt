@@ -8,15 +8,18 @@
 mod deadlines;
 mod draws;
 mod due;
+mod edges;
 mod holder;
 mod lent;
+mod references;
 
 use anyhow::{Result, bail};
 
 fn main(rt: HostRuntime) -> Result<()> {
     let holder = holder::play(&rt)?;
     let deadlines = deadlines::play(&rt)?;
-    if holder && deadlines {
+    let references = references::play(&rt)?;
+    if holder && deadlines && references {
         return Ok(());
     }
     bail!("a part answers otherwise than it must")

@@ -168,6 +168,13 @@ impl References {
         self.temporary.retain(|t| t.id.sink != sink);
     }
 
+    /// Whether ranges are set for a surface.
+    pub fn is_set(&self, id: &SurfaceId) -> bool
+        ensures { result ≡ is_set self.now.sets id.now }
+    {
+        self.sets.has(id)
+    }
+
     /// How many surfaces have ranges set.
     pub fn surfaces(&self) -> usize
         ensures { result ≡ length self.now.sets }

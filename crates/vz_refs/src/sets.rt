@@ -109,6 +109,13 @@ impl Sets {
         Ok(())
     }
 
+    /// Whether a surface is set.
+    pub(crate) fn has(&self, id: &SurfaceId) -> bool
+        ensures { result ≡ is_set self.now.list id.now }
+    {
+        self.counts.contains_key(id)
+    }
+
     /// How many ranges a surface has.
     pub(crate) fn count(&self, id: &SurfaceId) -> usize
         ensures { result ≡ length (ranges_of self.now.list id.now) }
