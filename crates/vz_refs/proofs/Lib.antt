@@ -2,6 +2,8 @@ pub mod Adding
 pub mod Same
 pub mod Changing
 pub mod Indexed
+pub mod Growing
+pub mod Shrinking
 pub mod Keeping
 pub mod Keyed
 pub mod Searching

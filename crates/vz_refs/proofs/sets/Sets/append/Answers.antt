@@ -6,7 +6,8 @@ use Rattle.vz_refs.specs.Referring.{is_set, ranges_of}
 use Rattle.vz_refs.specs.Indexing.{same_nth, same_place, same_key, key_of, or_zero, IsIndexed}
 use Rattle.vz_refs.proofs.Same.{from_nth, self_nth, from_place, self_place}
 use Rattle.vz_refs.proofs.Keyed.{surfaces, nths, places, groups, updated, written, of_ok}
-use Rattle.vz_refs.proofs.Indexed.{appended_in, edge_there, no_more}
+use Rattle.vz_refs.proofs.Growing.{appended_in}
+use Rattle.vz_refs.proofs.Indexed.{edge_there, no_more}
 use Rattle.vz_refs.proofs.sets.Sets.append.Goals as goal
 
 pub overflow_add-at : goal.overflow_add-at

@@ -5,7 +5,8 @@ use Rattle.vz_ids.specs.Ids.{same_surface}
 use Rattle.vz_refs.specs.Referring.{is_set, ranges_of}
 use Rattle.vz_refs.specs.Indexing.{same_nth, same_place, same_key, key_of, or_zero, IsIndexed}
 use Rattle.vz_refs.proofs.Keyed.{surfaces, nths, places, groups, at_key, found, updated, written}
-use Rattle.vz_refs.proofs.Indexed.{popped_in, edge_there}
+use Rattle.vz_refs.proofs.Shrinking.{popped_in}
+use Rattle.vz_refs.proofs.Indexed.{edge_there}
 use Rattle.vz_refs.proofs.sets.Sets.pop.Goals as goal
 
 pub unwrap-edge-requires : goal.unwrap-edge-requires
