@@ -1,5 +1,5 @@
 -- What is set, as the ranges of a surface change.
-use Rattle.std.proofs.Common.{◌≡◌, ℕ, zero, suc, ◌+◌, ◌-◌, ◌<◌, ◌≤◌, ◌==◌, Bool, true, false, not, ◌&&◌, ◌||◌, inl, inr, Option, Some, None, List, [], ◌∷◌, ◌++◌, length, take, map, filter, slice_get, get_or, nat_lt, refl, ap, sym, ◌∙◌, arith, cond}
+use Rattle.std.proofs.Common.{◌≡◌, ℕ, zero, suc, ◌+◌, ◌-◌, ◌<◌, ◌≤◌, ◌==◌, Bool, true, false, not, ◌||◌, Some, None, List, [], ◌∷◌, ◌++◌, length, take, map, filter, slice_get, get_or, nat_lt, refl, ap, sym, ◌∙◌, arith, cond}
 use Rattle.std.specs.List.{list_any}
 use Rattle.std.proofs.lemmas.Bool.Decides.{nat_tests}
 use Rattle.std.proofs.lemmas.List.{take_more, take_all}
@@ -10,7 +10,7 @@ use Rattle.vz_rules.specs.Reach.{names}
 use Rattle.vz_frame.specs.Frame.{has_repeat}
 use Rattle.vz_refs.specs.Referring.{Ranged, is_set, ranges_of, set_one, setting, removing, is_named_by, is_named_in}
 use Rattle.vz_refs.specs.Indexing.{changing, opening, one_more, but_last}
-use Rattle.vz_refs.proofs.Adding.{from_or, left_or, right_or}
+use Rattle.vz_refs.proofs.Adding.{left_or, right_or}
 use Rattle.vz_refs.proofs.Same.{from_same, self_same, flip, apart, together}
 
 -- Surfaces that are set, and their ranges

@@ -1,8 +1,8 @@
 -- What can be reached, and the loops that reach it.
-use Rattle.std.proofs.Common.{◌≡◌, ℕ, zero, suc, ◌+◌, ◌-◌, ◌≤◌, ◌<◌, Bool, true, false, ◌||◌, inl, inr, Option, Some, None, IfSome, IsTrue, List, [], ◌∷◌, ◌++◌, length, get_or, drop, map, slice_get, refl, ap, sym, ◌∙◌, arith, cond, subst}
+use Rattle.std.proofs.Common.{◌≡◌, ℕ, ◌+◌, ◌-◌, ◌≤◌, ◌<◌, true, false, inl, inr, Option, Some, None, IfSome, IsTrue, List, [], ◌∷◌, ◌++◌, length, get_or, drop, map, slice_get, refl, ap, sym, ◌∙◌, arith, subst}
 use Rattle.std.specs.List.{list_any, filter_map, cons_option}
 use Rattle.std.specs.Option.{option_to_list}
-use Rattle.std.proofs.lemmas.List.{drop_more, drop_all}
+use Rattle.std.proofs.lemmas.List.{drop_more}
 use Rattle.std.proofs.lemmas.List.Folds.{list_any-append}
 use Rattle.std.proofs.lemmas.Option.{slice_get_within, get_or_from_slice_get}
 use Rattle.vz_ids.specs.declared.SurfaceId.{SurfaceId}

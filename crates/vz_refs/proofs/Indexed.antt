@@ -1,5 +1,5 @@
 -- The indexes, as what is set changes.
-use Rattle.std.proofs.Common.{◌≡◌, ℕ, zero, suc, ◌+◌, ◌-◌, ◌<◌, ◌≤◌, ◌==◌, Bool, true, false, not, ◌&&◌, ◌||◌, Option, Some, None, is_some, IsSome, List, [], ◌∷◌, ◌++◌, length, take, map, slice_get, refl, ap, sym, subst, ◌∙◌, arith, cond}
+use Rattle.std.proofs.Common.{◌≡◌, ℕ, zero, suc, ◌+◌, ◌<◌, ◌≤◌, ◌==◌, Bool, true, false, not, ◌&&◌, ◌||◌, Option, Some, None, is_some, List, [], ◌∷◌, ◌++◌, length, map, slice_get, refl, ap, sym, subst, ◌∙◌, arith, cond}
 use Rattle.std.specs.List.{list_any, IsDistinct, AllByRecursion}
 use Rattle.std.specs.Map.{lookup, keys_of}
 use Rattle.std.specs.Option.{option_map, option_map_or}
@@ -16,11 +16,11 @@ use Rattle.vz_refs.specs.declared.sets.Group.{Group}
 use Rattle.vz_refs.specs.declared.sets.Place.{Place}
 use Rattle.vz_refs.specs.declared.sets.Edge.{Edge}
 use Rattle.vz_refs.specs.Referring.{Ranged, is_set, ranges_of, removing, is_named_by, is_named_in}
-use Rattle.vz_refs.specs.Indexing.{changing, opening, one_more, but_last, same_nth, same_key, same_place, key_of, place_of, or_zero, IsIndexed}
+use Rattle.vz_refs.specs.Indexing.{opening, same_nth, key_of, place_of, or_zero, IsIndexed}
 use Rattle.vz_refs.proofs.Adding.{fits, stays_once}
 use Rattle.vz_refs.proofs.Keeping.{removed_ranges, removed_has}
-use Rattle.vz_refs.proofs.Same.{from_same, self_same, from_nth, self_nth, from_key, self_key, from_place, self_place, second_not, from_eqb, named_group}
-use Rattle.vz_refs.proofs.Changing.{changed_set, changed_other, changed_own, changed_ids, unset_ranges, set_with_some, get_last, get_before, get_but_last, get_over, some_within, take_long, behind, set_behind, ids_behind, set_ids, removed_once, found_there, named_with, Naming, naming}
+use Rattle.vz_refs.proofs.Same.{from_same, self_same, from_nth, from_eqb, named_group}
+use Rattle.vz_refs.proofs.Changing.{unset_ranges, some_within, behind, set_behind, ids_behind, set_ids, removed_once, found_there, named_with, Naming, naming}
 
 -- the range that stands at a place of a group names a surface
 abbrev pub named_at : (Nth → Option Edge) → (Place → Option Nth) → SurfaceId → Place → Bool

@@ -1,5 +1,5 @@
 -- The derived tests of keys are those of the definitions.
-use Rattle.std.proofs.Common.{◌≡◌, Bool, rules, is_some, refl, List, [], Option, Some, None, Result, Ok, Err, OnOk, sym, ap, subst, ◌∙◌, cond}
+use Rattle.std.proofs.Common.{◌≡◌, Bool, rules, is_some, refl, [], Option, Some, None, Result, Ok, Err, OnOk, sym, ap, subst, ◌∙◌, cond}
 use Rattle.std.specs.Map.{lookup}
 use Rattle.std.specs.Option.{option_map}
 use Rattle.indexmap.specs.IndexMap.{IndexMap, get, Updates}

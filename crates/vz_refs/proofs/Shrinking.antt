@@ -1,26 +1,18 @@
 -- The indexes, where a surface has its last range no more.
-use Rattle.std.proofs.Common.{◌≡◌, ℕ, zero, suc, ◌+◌, ◌-◌, ◌<◌, ◌≤◌, ◌==◌, Bool, true, false, not, ◌&&◌, ◌||◌, Option, Some, None, is_some, IsSome, List, [], ◌∷◌, ◌++◌, length, take, map, slice_get, refl, ap, sym, subst, ◌∙◌, arith, cond}
-use Rattle.std.specs.List.{list_any, IsDistinct, AllByRecursion}
-use Rattle.std.specs.Map.{lookup, keys_of}
-use Rattle.std.specs.Option.{option_map, option_map_or}
-use Rattle.std.proofs.lemmas.Map.Made.{is_some-lookup}
-use Rattle.std.proofs.lemmas.Map.Entries.{length-keys_of}
+use Rattle.std.proofs.Common.{◌≡◌, ℕ, ◌+◌, ◌-◌, ◌<◌, ◌==◌, Bool, true, false, ◌&&◌, Option, Some, None, is_some, List, length, take, slice_get, refl, ap, sym, subst, ◌∙◌, arith, cond}
+use Rattle.std.specs.Option.{option_map}
 use Rattle.std.proofs.lemmas.Bool.Decides.{nat_tests}
 use Rattle.vz_ids.specs.declared.SurfaceId.{SurfaceId}
-use Rattle.vz_ids.specs.declared.SurfaceRange.{SurfaceRange}
 use Rattle.vz_ids.specs.Ids.{same_surface}
-use Rattle.vz_rules.specs.Reach.{names}
 use Rattle.vz_frame.specs.Frame.{has_repeat}
 use Rattle.vz_refs.specs.declared.sets.Nth.{Nth}
 use Rattle.vz_refs.specs.declared.sets.Group.{Group}
 use Rattle.vz_refs.specs.declared.sets.Place.{Place}
 use Rattle.vz_refs.specs.declared.sets.Edge.{Edge}
-use Rattle.vz_refs.specs.Referring.{Ranged, is_set, ranges_of, removing, is_named_by, is_named_in}
-use Rattle.vz_refs.specs.Indexing.{changing, opening, one_more, but_last, same_nth, same_key, same_place, key_of, place_of, or_zero, IsIndexed}
-use Rattle.vz_refs.proofs.Adding.{fits, stays_once}
-use Rattle.vz_refs.proofs.Keeping.{removed_ranges, removed_has}
-use Rattle.vz_refs.proofs.Same.{from_same, self_same, from_nth, self_nth, from_key, self_key, from_place, self_place, second_not, from_eqb, named_group}
-use Rattle.vz_refs.proofs.Changing.{changed_set, changed_other, changed_own, changed_ids, unset_ranges, set_with_some, get_last, get_before, get_but_last, get_over, some_within, take_long, behind, set_behind, ids_behind, set_ids, removed_once, found_there, named_with, Naming, naming}
+use Rattle.vz_refs.specs.Referring.{Ranged, is_set, ranges_of}
+use Rattle.vz_refs.specs.Indexing.{changing, but_last, same_nth, same_key, same_place, key_of, place_of, or_zero, IsIndexed}
+use Rattle.vz_refs.proofs.Same.{from_same, from_nth, self_nth, from_key, self_key, from_place, self_place, second_not}
+use Rattle.vz_refs.proofs.Changing.{changed_set, changed_other, changed_own, changed_ids, set_with_some, get_but_last, get_over, take_long}
 
 module _ (sets : List Ranged) (count : SurfaceId → Option ℕ) (edge : Nth → Option Edge) (ends : Place → Option Nth) (size : Group → Option ℕ) (good : IsIndexed sets count edge ends size) where
   -- A range fewer

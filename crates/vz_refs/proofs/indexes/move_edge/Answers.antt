@@ -1,11 +1,8 @@
-use Rattle.std.proofs.Common.{◌≡◌, Bool, true, false, Option, Some, None, refl, ap, sym, subst, ◌∙◌, cond, is_some}
-use Rattle.std.specs.Option.{option_map}
+use Rattle.std.proofs.Common.{Some, ap, sym, ◌∙◌, is_some}
 use Rattle.indexmap.specs.IndexMap.{get}
-use Rattle.vz_refs.specs.declared.sets.Nth.{Nth}
 use Rattle.vz_refs.specs.declared.sets.Edge.{Edge}
 use Rattle.vz_refs.specs.Indexing.{same_nth}
 use Rattle.vz_refs.proofs.Keyed.{nths, at_key, updated}
-use Rattle.vz_refs.proofs.Same.{from_nth}
 use Rattle.vz_refs.proofs.Indexed.{moved_edge}
 use Rattle.vz_refs.proofs.indexes.move_edge.Goals as goal
 

@@ -1,4 +1,4 @@
-use Rattle.std.proofs.Common.{Option, Some, None, false, sym, ap, ◌∙◌}
+use Rattle.std.proofs.Common.{Option, Some, false, sym, ap, ◌∙◌}
 use Rattle.std.specs.Option.{option_map_or}
 use Rattle.indexmap.specs.IndexMap.{get}
 use Rattle.vz_rules.specs.Reach.{names}

@@ -1,5 +1,5 @@
 use Rattle.std.proofs.Common.{◌≡◌, true, false, cond, [], ◌∷◌, ◌++◌, sym, ap, ◌∙◌, arith}
-use Rattle.vz_refs.specs.Referring.{keeping, is_named_in}
+use Rattle.vz_refs.specs.Referring.{keeping}
 use Rattle.vz_refs.proofs.references.References.keep.Goals as goal
 
 pub returns-then-not-is_named-clause-temporary : goal.returns-then-not-is_named-clause-temporary

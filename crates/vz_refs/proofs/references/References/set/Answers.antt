@@ -1,7 +1,7 @@
-use Rattle.std.proofs.Common.{[], ◌++◌, map, rules, sym, ap, ◌∙◌}
+use Rattle.std.proofs.Common.{[], ◌++◌, map, rules, ap, ◌∙◌}
 use Rattle.std.proofs.lemmas.Fn.{filter_same}
 use Rattle.vz_refs.specs.Referring.{is_set, set_one, setting, unnamed}
-use Rattle.vz_refs.specs.Indexing.{changing, opening}
+use Rattle.vz_refs.specs.Indexing.{changing}
 use Rattle.vz_refs.proofs.Changing.{set_anew, opened_set}
 use Rattle.vz_refs.proofs.references.References.set.Goals as goal
 

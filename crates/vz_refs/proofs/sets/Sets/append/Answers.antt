@@ -1,9 +1,8 @@
-use Rattle.std.proofs.Common.{◌≡◌, ℕ, ◌+◌, ◌<◌, ◌≤◌, Some, length, refl, sym, ap, subst, ◌∙◌, arith}
+use Rattle.std.proofs.Common.{◌+◌, length, sym, ap, subst, ◌∙◌, arith}
 use Rattle.indexmap.specs.IndexMap.{get}
 use Rattle.vz_ids.specs.Ids.{same_surface}
-use Rattle.vz_refs.specs.declared.sets.Group.{Group}
 use Rattle.vz_refs.specs.Referring.{is_set, ranges_of}
-use Rattle.vz_refs.specs.Indexing.{same_nth, same_place, same_key, key_of, or_zero, IsIndexed}
+use Rattle.vz_refs.specs.Indexing.{same_nth, same_place, same_key, IsIndexed}
 use Rattle.vz_refs.proofs.Same.{from_nth, self_nth, from_place, self_place}
 use Rattle.vz_refs.proofs.Keyed.{surfaces, nths, places, groups, updated, written, of_ok}
 use Rattle.vz_refs.proofs.Growing.{appended_in}

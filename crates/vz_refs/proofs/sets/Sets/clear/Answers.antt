@@ -1,4 +1,4 @@
-use Rattle.std.proofs.Common.{◌≡◌, ◌+◌, ◌-◌, ◌<◌, ◌≤◌, true, length, map, sym, ap, subst, ◌∙◌, arith}
+use Rattle.std.proofs.Common.{◌≡◌, ◌+◌, ◌-◌, true, length, map, sym, ap, ◌∙◌, arith}
 use Rattle.vz_frame.specs.Frame.{has_repeat}
 use Rattle.vz_ids.specs.Ids.{same_surface}
 use Rattle.vz_refs.specs.Referring.{is_set, ranges_of}

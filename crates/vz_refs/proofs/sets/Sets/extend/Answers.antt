@@ -1,4 +1,4 @@
-use Rattle.std.proofs.Common.{◌≡◌, ◌+◌, ◌++◌, take, sym, ap, ◌∙◌, arith}
+use Rattle.std.proofs.Common.{◌+◌, ◌++◌, take, sym, ap, ◌∙◌, arith}
 use Rattle.vz_refs.specs.Referring.{is_set}
 use Rattle.vz_refs.specs.Indexing.{changing, one_more}
 use Rattle.vz_refs.proofs.Changing.{changed_set, changing_same, changing_twice, changing_alike, next_longer, nothing_longer}

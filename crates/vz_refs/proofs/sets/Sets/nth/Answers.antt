@@ -1,4 +1,4 @@
-use Rattle.std.proofs.Common.{◌≡◌, ◌<◌, Some, is_some, length, slice_get, sym, ap, ◌∙◌, arith}
+use Rattle.std.proofs.Common.{is_some, length, slice_get, sym, ap, ◌∙◌, arith}
 use Rattle.std.specs.Option.{option_map, option_copied}
 use Rattle.vz_refs.specs.declared.sets.Edge.{Edge}
 use Rattle.vz_refs.specs.Referring.{ranges_of}

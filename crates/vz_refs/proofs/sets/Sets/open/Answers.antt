@@ -1,7 +1,7 @@
-use Rattle.std.proofs.Common.{◌≡◌, Bool, true, false, Some, None, [], ◌∷◌, ◌++◌, is_some, length, refl, sym, ap, subst, ◌∙◌, cond, arith}
+use Rattle.std.proofs.Common.{◌≡◌, true, false, Some, [], ◌∷◌, ◌++◌, is_some, refl, sym, ap, subst, ◌∙◌, cond, arith}
 use Rattle.indexmap.specs.IndexMap.{get}
 use Rattle.vz_ids.specs.Ids.{same_surface}
-use Rattle.vz_refs.specs.Referring.{is_set, ranges_of}
+use Rattle.vz_refs.specs.Referring.{is_set}
 use Rattle.vz_refs.specs.Indexing.{opening, same_nth, same_place, same_key, IsIndexed}
 use Rattle.vz_refs.proofs.Keyed.{surfaces, at_key, updated, of_ok}
 use Rattle.vz_refs.proofs.Indexed.{opened, counts_set}

@@ -1,9 +1,8 @@
-use Rattle.std.proofs.Common.{◌≡◌, ℕ, ◌+◌, ◌-◌, ◌<◌, ◌≤◌, Some, None, is_some, length, refl, sym, ap, subst, ◌∙◌, arith}
-use Rattle.std.specs.Option.{option_map}
+use Rattle.std.proofs.Common.{◌-◌, None, is_some, length, sym, ap, subst, ◌∙◌, arith}
 use Rattle.indexmap.specs.IndexMap.{get}
 use Rattle.vz_ids.specs.Ids.{same_surface}
-use Rattle.vz_refs.specs.Referring.{is_set, ranges_of}
-use Rattle.vz_refs.specs.Indexing.{same_nth, same_place, same_key, key_of, or_zero, IsIndexed}
+use Rattle.vz_refs.specs.Referring.{ranges_of}
+use Rattle.vz_refs.specs.Indexing.{same_nth, same_place, same_key, or_zero, IsIndexed}
 use Rattle.vz_refs.proofs.Keyed.{surfaces, nths, places, groups, at_key, found, updated, written}
 use Rattle.vz_refs.proofs.Shrinking.{popped_in}
 use Rattle.vz_refs.proofs.Indexed.{edge_there}
