@@ -8,8 +8,10 @@
 mod deadlines;
 mod draws;
 mod due;
+mod edges;
 mod holder;
 mod lent;
+mod references;
 mod related;
 mod sinks;
 
@@ -19,7 +21,8 @@ fn main(rt: HostRuntime) -> Result<()> {
     let holder = holder::play(&rt)?;
     let deadlines = deadlines::play(&rt)?;
     let sinks = sinks::play(&rt)?;
-    if holder && deadlines && sinks {
+    let references = references::play(&rt)?;
+    if holder && deadlines && sinks && references {
         return Ok(());
     }
     bail!("a part answers otherwise than it must")

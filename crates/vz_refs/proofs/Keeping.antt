@@ -11,14 +11,8 @@ use Rattle.vz_rules.specs.Closure.{IsLeastClosed}
 use Rattle.vz_refs.specs.declared.references.Temporary.{Temporary}
 use Rattle.vz_refs.specs.Referring.{Ranged, is_set, ranges_of, set_one, setting, removing, next_in, starts}
 use Rattle.vz_refs.specs.Meaning.{references_of, AreReferences, AreRoots}
-use Rattle.vz_refs.proofs.Gathering.{from_same, flip}
-
--- a surface is another than one that is the same as a third
-apart : (a b c : SurfaceId) → same_surface a b ≡ true → same_surface b c ≡ false → same_surface a c ≡ false
-apart a b c e f = ap (λ z. same_surface z c) (from_same a b e) ∙ f
-
-together : (a b c : SurfaceId) → same_surface a b ≡ true → same_surface b c ≡ true → same_surface a c ≡ true
-together a b c e f = ap (λ z. same_surface z c) (from_same a b e) ∙ f
+use Rattle.vz_refs.proofs.Same.{from_same, flip, apart, together}
+use Rattle.vz_refs.proofs.Changing.{behind, set_behind}
 
 -- Others keep their ranges
 
@@ -42,28 +36,6 @@ set_own (s ∷ sets) id ranges e =
       | false ↦ λ f g. ap (λ t. cond t s.ranges (ranges_of (map (set_one id ranges) sets) id)) f ∙ set_own sets id ranges g
     ] refl e
 
-behind : (sets : List Ranged) (id other : SurfaceId) (ranges : List SurfaceRange) → is_set sets id ≡ false → ranges_of (sets ++ record { id = id; ranges = ranges } ∷ []) other ≡ cond (same_surface id other) ranges (ranges_of sets other)
-unfolding ranges_of
-behind [] id other ranges e = refl
-behind (s ∷ sets) id other ranges e =
-    elim (same_surface s.id other) as (λ (t : Bool). same_surface s.id other ≡ t → cond t s.ranges (ranges_of (sets ++ record { id = id; ranges = ranges } ∷ []) other) ≡ cond (same_surface id other) ranges (cond t s.ranges (ranges_of sets other))) [
-      | true ↦ λ f. sym (ap (λ t. cond t ranges s.ranges) (elsewhere (same_surface id other) refl f))
-      | false ↦ λ f. behind sets id other ranges (later (same_surface s.id id) (is_set sets id) e)
-    ] refl
-  where
-    later : (a b : Bool) → (a || b) ≡ false → b ≡ false
-    later true b h = absurd (cc)
-    later false b h = h
-
-    first : (a b : Bool) → (a || b) ≡ false → a ≡ false
-    first true b h = absurd (cc)
-    first false b h = refl
-
-    elsewhere : (t : Bool) → same_surface id other ≡ t → same_surface s.id other ≡ true → same_surface id other ≡ false
-    elsewhere true f g =
-        let no_way : false ≡ true = sym (first (same_surface s.id id) (is_set sets id) e) ∙ together s.id other id g (flip other id ∙ f) in absurd (cc)
-    elsewhere false f g = f
-
 by_set : (sets : List Ranged) (id other : SurfaceId) (ranges : List SurfaceRange) (t u : Bool) → is_set sets id ≡ t → same_surface id other ≡ u
     → ranges_of (cond t (map (set_one id ranges) sets) (sets ++ record { id = id; ranges = ranges } ∷ [])) other ≡ cond u ranges (ranges_of sets other)
 by_set sets id other ranges true true e f = ap (ranges_of (map (set_one id ranges) sets)) (sym (from_same id other f)) ∙ set_own sets id ranges e
@@ -83,15 +55,6 @@ same_sets (s ∷ sets) id other ranges =
       | true ↦ ap (λ t. same_surface s.id other || t) (same_sets sets id other ranges)
       | false ↦ ap (λ t. same_surface s.id other || t) (same_sets sets id other ranges)
     ]
-
-set_behind : (sets : List Ranged) (id other : SurfaceId) (ranges : List SurfaceRange) → is_set (sets ++ record { id = id; ranges = ranges } ∷ []) other ≡ (same_surface id other || is_set sets other)
-set_behind [] id other ranges = refl
-set_behind (s ∷ sets) id other ranges = ap (λ t. same_surface s.id other || t) (set_behind sets id other ranges) ∙ turn (same_surface s.id other) (same_surface id other) (is_set sets other)
-  where
-    turn : (a b c : Bool) → (a || (b || c)) ≡ (b || (a || c))
-    turn true true c = refl
-    turn true false c = refl
-    turn false b c = refl
 
 by_has : (sets : List Ranged) (id other : SurfaceId) (ranges : List SurfaceRange) (t u : Bool) → is_set sets id ≡ t → same_surface id other ≡ u
     → is_set (cond t (map (set_one id ranges) sets) (sets ++ record { id = id; ranges = ranges } ∷ [])) other ≡ (u || is_set sets other)

@@ -1,2 +1,10 @@
-pub mod Gathering
+pub mod Same
+pub mod Changing
+pub mod Indexed
+pub mod Growing
+pub mod Shrinking
 pub mod Keeping
+pub mod Keyed
+pub mod Searching
+pub mod Gathering
+pub mod Noting

@@ -1,2 +1,3 @@
 pub mod Referring
+pub mod Indexing
 pub mod Meaning

@@ -7,7 +7,6 @@ use Rattle.vz_ids.specs.declared.SurfaceId.{SurfaceId}
 use Rattle.vz_ids.specs.declared.SurfaceRange.{SurfaceRange}
 use Rattle.vz_ids.specs.Ids.{same_surface, same_sink}
 use Rattle.vz_rules.specs.Reach.{names}
-use Rattle.vz_refs.specs.declared.references.Edge.{Edge}
 use Rattle.vz_refs.specs.declared.references.Temporary.{Temporary}
 
 -- a surface and the ranges that are set for it
@@ -76,15 +75,3 @@ next_in shows sets id = filter_map shows (ranges_of sets id)
 -- where reaching starts: at the root, if there is one, and at the temporary surfaces
 unfoldable pub starts : Option SurfaceId → List Temporary → List SurfaceId
 starts root kept = option_to_list root ++ map (λ t. t.id) kept
-
--- the ranges among these edges that are those of a surface
-abbrev pub picked : List Edge → SurfaceId → List SurfaceRange
-picked edges id = map (λ e. e.range) (filter (λ e. same_surface e.from id) edges)
-
--- surfaces with their ranges among these edges
-unfoldable pub gathered : List SurfaceId → List Edge → List Ranged
-gathered ids edges = map (λ id. record { id = id; ranges = picked edges id }) ids
-
--- the edge of a range
-abbrev pub edge_from : SurfaceId → SurfaceRange → Edge
-edge_from id range = record { from = id; range = range }

@@ -5,10 +5,13 @@
 //! the ranges show.
 #![tactic(auto)]
 
+mod indexes;
 pub mod laws;
+mod listing;
 mod marking;
 mod naming;
 mod references;
+mod sets;
 mod surfaces;
 
 pub use references::{References, Shows};

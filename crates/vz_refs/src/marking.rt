@@ -1,86 +1,134 @@
-//! Lists of surfaces in which nothing stands twice.
-ghost use Rattle.std.specs.Prelude.{◌≡◌, ◌≤◌, ◌<◌, ◌+◌, [], ◌∷◌, length, map, IsFalse};
-ghost use Rattle.std.specs.List.{list_any, filter_map};
+//! Lists of surfaces in which nothing stands twice. A surface that is set has a place in the
+//! index, and there it is noted where it stands in the list, so that it is not looked for.
+ghost use Rattle.std.specs.Prelude.{◌≡◌, ◌≤◌, ◌<◌, ◌+◌, [], ◌∷◌, length, map, false, IsFalse, slice_get};
+ghost use Rattle.std.specs.List.{list_any};
+ghost use Rattle.std.specs.Option.{option_map_or};
 ghost use Rattle.vz_ids.specs.Ids.{same_surface};
 ghost use Rattle.vz_rules.specs.Closure.{adding};
-ghost use Rattle.vz_refs.specs.Referring.{picked, gathered, next_in, starts};
+ghost use Rattle.vz_refs.specs.Referring.{next_in, starts};
+ghost use Rattle.vz_refs.specs.Indexing.{noted, noting, AreNoted};
 
-use crate::references::{Edge, Shows, Temporary};
+use crate::references::{Shows, Temporary};
+use crate::sets::Sets;
 use crate::surfaces::{has_surface, is_same};
 use vz_frame::Room;
 use vz_ids::SurfaceId;
 
+/// The place that is noted for a surface.
+fn noted(sets: &Sets, id: &SurfaceId, places: &[usize]) -> Option<usize>
+    ensures { result ≡ noted sets.now.keys places.now id.now }
+{
+    match sets.place(id) {
+        Some(index) => places.get(index).copied(),
+        None => None,
+    }
+}
+
+/// Notes a place for a surface, where there is room for it.
+fn note(sets: &Sets, id: &SurfaceId, places: &mut [usize], place: usize)
+    ensures { places.new ≡ noting sets.now.keys id.now place places.old }
+{
+    if let Some(index) = sets.place(id) {
+        if index < places.len() {
+            places[index] = place;
+        }
+    }
+}
+
+/// Whether a surface stands at a place.
+fn stands_at(out: &[SurfaceId], place: usize, id: &SurfaceId) -> bool
+    ensures { result ≡ option_map_or (same_surface id.now) (slice_get out.now place) false }
+{
+    match out.get(place) {
+        Some(other) => is_same(id, other),
+        None => false,
+    }
+}
+
+/// Whether a surface is out. One without a place is looked for.
+fn is_out(sets: &Sets, id: &SurfaceId, places: &[usize], out: &[SurfaceId]) -> bool
+    requires { AreNoted sets.now.keys places.now out.now }
+    ensures { result ≡ list_any (same_surface id.now) out.now }
+{
+    match noted(sets, id, places) {
+        Some(place) => stands_at(out, place, id),
+        None => has_surface(out, id),
+    }
+}
+
 /// Appends a surface unless it is there.
-pub(crate) fn add(out: &mut Room<SurfaceId>, id: SurfaceId)
-    requires { IsFalse (list_any (same_surface id) out.old.list) → 0 < out.old.spare }
+pub(crate) fn add(sets: &Sets, id: SurfaceId, places: &mut [usize], out: &mut Room<SurfaceId>)
+    requires noted { AreNoted sets.now.keys places.old out.old.list }
+    requires room { IsFalse (list_any (same_surface id) out.old.list) → 0 < out.old.spare }
     ensures list { out.new.list ≡ adding same_surface out.old.list (id ∷ []) }
     ensures room { length out.old.list + out.old.spare ≤ length out.new.list + out.new.spare }
+    ensures noted { AreNoted sets.now.keys places.new out.new.list }
 {
-    if !has_surface(out.as_slice(), &id) {
+    if !is_out(sets, &id, places, out.as_slice()) {
+        note(sets, &id, places, out.as_slice().len());
         out.put(id);
     }
 }
 
 /// Appends the surfaces where reaching starts, each unless it is there.
-pub(crate) fn start(root: Option<SurfaceId>, kept: &[Temporary], out: &mut Room<SurfaceId>)
-    requires { length (adding same_surface out.old.list (starts root kept.now))
+pub(crate) fn start(
+    sets: &Sets,
+    root: Option<SurfaceId>,
+    kept: &[Temporary],
+    places: &mut [usize],
+    out: &mut Room<SurfaceId>,
+)
+    requires noted { AreNoted sets.now.keys places.old out.old.list }
+    requires room { length (adding same_surface out.old.list (starts root kept.now))
         ≤ length out.old.list + out.old.spare }
     ensures list { out.new.list ≡ adding same_surface out.old.list (starts root kept.now) }
     ensures room { length out.old.list + out.old.spare ≤ length out.new.list + out.new.spare }
+    ensures noted { AreNoted sets.now.keys places.new out.new.list }
 {
     match root {
-        None => add_kept(kept, out),
+        None => add_kept(sets, kept, places, out),
         Some(id) => {
-            add(out, id);
-            add_kept(kept, out);
+            add(sets, id, places, out);
+            add_kept(sets, kept, places, out);
         }
     }
 }
 
 /// Appends the temporary surfaces, each unless it is there.
-fn add_kept(kept: &[Temporary], out: &mut Room<SurfaceId>)
-    requires { length (adding same_surface out.old.list (map (λ t. t.id) kept.now))
+fn add_kept(sets: &Sets, kept: &[Temporary], places: &mut [usize], out: &mut Room<SurfaceId>)
+    requires noted { AreNoted sets.now.keys places.old out.old.list }
+    requires room { length (adding same_surface out.old.list (map (λ t. t.id) kept.now))
         ≤ length out.old.list + out.old.spare }
     ensures list { out.new.list ≡ adding same_surface out.old.list (map (λ t. t.id) kept.now) }
     ensures room { length out.old.list + out.old.spare ≤ length out.new.list + out.new.spare }
+    ensures noted { AreNoted sets.now.keys places.new out.new.list }
 {
     for temporary in kept {
-        add(out, temporary.id);
+        add(sets, temporary.id, places, out);
     }
 }
 
 /// Appends what the ranges of a surface show, each unless it is there.
 pub(crate) fn follow<S: Shows>(
-    ids: &[SurfaceId],
-    edges: &[Edge],
+    sets: &Sets,
     from: SurfaceId,
     s: &S,
+    places: &mut [usize],
     out: &mut Room<SurfaceId>,
 )
-    requires { length (adding same_surface out.old.list (next_in (S.shows s.now) (gathered ids.now edges.now) from))
+    requires noted { AreNoted sets.now.keys places.old out.old.list }
+    requires room { length (adding same_surface out.old.list (next_in (S.shows s.now) sets.now.list from))
         ≤ length out.old.list + out.old.spare }
     ensures list { out.new.list
-        ≡ adding same_surface out.old.list (next_in (S.shows s.now) (gathered ids.now edges.now) from) }
+        ≡ adding same_surface out.old.list (next_in (S.shows s.now) sets.now.list from) }
     ensures room { length out.old.list + out.old.spare ≤ length out.new.list + out.new.spare }
+    ensures noted { AreNoted sets.now.keys places.new out.new.list }
 {
-    if has_surface(ids, &from) {
-        follow_edges(edges, from, s, out);
-    }
-}
-
-/// Appends what the ranges of the edges from a surface show, each unless it is there.
-fn follow_edges<S: Shows>(edges: &[Edge], from: SurfaceId, s: &S, out: &mut Room<SurfaceId>)
-    requires { length (adding same_surface out.old.list (filter_map (S.shows s.now) (picked edges.now from)))
-        ≤ length out.old.list + out.old.spare }
-    ensures list { out.new.list
-        ≡ adding same_surface out.old.list (filter_map (S.shows s.now) (picked edges.now from)) }
-    ensures room { length out.old.list + out.old.spare ≤ length out.new.list + out.new.spare }
-{
-    for edge in edges {
-        if is_same(&edge.from, &from) {
-            if let Some(id) = s.shown(&edge.range) {
-                add(out, id);
-            }
+    for nth in 0..sets.count(&from) {
+        let range = sets.nth(from, nth);
+        match s.shown(&range) {
+            Some(id) => add(sets, id, places, out),
+            None => {}
         }
     }
 }

@@ -1,10 +1,14 @@
 //! Which ranges name a surface: those whose end is in its group, at it or newer.
-ghost use Rattle.std.specs.Prelude.{◌≡◌};
+ghost use Rattle.std.specs.Prelude.{◌≡◌, false};
+ghost use Rattle.std.specs.Option.{option_map_or};
+ghost use Rattle.indexmap.specs.IndexMap.{get};
 ghost use Rattle.vz_rules.specs.Reach.{names};
-ghost use Rattle.vz_refs.specs.Referring.{is_named_by, is_named_in, gathered};
+ghost use Rattle.vz_refs.specs.Referring.{is_named_by};
+ghost use Rattle.vz_refs.specs.Indexing.{same_nth, same_place};
 
-use crate::references::Edge;
-use crate::surfaces::{has_surface, is_same};
+use crate::sets::{Edge, Nth, Place};
+use crate::surfaces::is_same;
+use indexmap::IndexMap;
 use vz_ids::{SurfaceId, SurfaceRange};
 
 /// Whether a range names a surface.
@@ -26,14 +30,21 @@ pub(crate) fn is_named_by(ranges: &[SurfaceRange], id: &SurfaceId) -> bool
     false
 }
 
-/// Whether a range that is set for one of these surfaces names a surface.
-pub(crate) fn is_named_in(ids: &[SurfaceId], edges: &[Edge], id: &SurfaceId) -> bool
-    ensures { result ≡ is_named_in (gathered ids.now edges.now) id.now }
+/// Whether the range that stands at a place of a group names a surface.
+pub(crate) fn names_at(
+    edges: &IndexMap<Nth, Edge>,
+    ends: &IndexMap<Place, Nth>,
+    place: Place,
+    id: &SurfaceId,
+) -> bool
+    ensures { result ≡ option_map_or (λ n. option_map_or (λ e. names id.now e.range)
+        (get same_nth edges.now n) false) (get same_place ends.now place) false }
 {
-    for edge in edges {
-        if names(&edge.range, id) && has_surface(ids, &edge.from) {
-            return true;
-        }
+    match ends.get(&place) {
+        Some(slot) => match edges.get(slot) {
+            Some(edge) => names(&edge.range, id),
+            None => false,
+        },
+        None => false,
     }
-    false
 }

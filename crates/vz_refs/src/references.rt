@@ -1,15 +1,15 @@
 //! The references between surfaces.
-ghost use Rattle.std.specs.Prelude.{◌≡◌, ◌≤◌, ◌<◌, ◌+◌, [], ◌∷◌, ◌++◌, if◌then◌else◌, length, map, false, IsTrue, IsOk, OnOk, OnErr, IfSome, vec_len, vec_capacity};
-ghost use Rattle.std.specs.List.{list_any};
+ghost use Rattle.std.specs.Prelude.{◌≡◌, ◌≤◌, ◌<◌, ◌+◌, [], length, false, IsTrue, IsOk, OnOk, OnErr, IfSome};
 ghost use Rattle.vz_ids.specs.Ids.{same_surface};
 ghost use Rattle.vz_frame.specs.Frame.{has_repeat};
 ghost use Rattle.vz_rules.specs.Closure.{IsLeastClosed};
-ghost use Rattle.vz_refs.specs.Referring.{is_set, setting, removing, keeping, unnamed, lasting, of_others, next_in, starts, edge_from};
+ghost use Rattle.vz_refs.specs.Referring.{is_set, setting, removing, keeping, unnamed, lasting, of_others, next_in, starts};
 
 use crate::marking::{follow, start};
-use crate::naming::{is_named_by, is_named_in};
-use crate::surfaces::{has_surface, is_same};
+use crate::naming::is_named_by;
+use crate::sets::Sets;
 use std::alloc::Global;
+use std::cell::Cell;
 use std::marker::Model;
 use vz_base::Memory;
 use vz_frame::Room;
@@ -28,13 +28,6 @@ pub trait Shows {
         ensures { result ≡ shows self.now r.now };
 }
 
-/// A range that is set for a surface.
-#[derive(Clone, Copy)]
-pub(crate) struct Edge {
-    pub(crate) from: SurfaceId,
-    pub(crate) range: SurfaceRange,
-}
-
 /// A surface that is kept until a tick.
 #[derive(Clone, Copy)]
 pub(crate) struct Temporary {
@@ -43,24 +36,26 @@ pub(crate) struct Temporary {
 }
 
 /// Which ranges are set for which surfaces, and which surfaces are temporary. Contracts see
-/// both lists and, beside them, the room that was made before.
+/// both lists and, beside them, the room that was made before. A place for each surface that
+/// is set is made beside; in it `reachable` notes where the surface stands among the reached.
+/// What stands there before has no meaning.
 #[derive(Drop)]
 pub struct References {
-    ids: Vec<SurfaceId>,
-    edges: Vec<Edge>,
+    sets: Sets,
     temporary: Vec<Temporary>,
+    places: Cell<Option<Vec<usize>>>,
 }
 
 impl Model for References {
-    ghost use Rattle.std.specs.Prelude.{◌-◌, min, vec_len, vec_capacity};
-    ghost use Rattle.vz_refs.specs.Referring.{Referring, gathered};
+    ghost use Rattle.std.specs.Prelude.{◌-◌, vec_len, vec_capacity};
+    ghost use Rattle.vz_refs.specs.Referring.{Referring};
 
     ghost Value = { Referring };
 
     ghost view = { λ a. record {
-      sets = gathered a.ids.items a.edges.items;
+      sets = a.sets.list;
       temporary = a.temporary.items;
-      spare = min (vec_capacity a.ids - vec_len a.ids) (vec_capacity a.edges - vec_len a.edges);
+      spare = a.sets.spare;
       room = vec_capacity a.temporary - vec_len a.temporary;
     } };
 }
@@ -72,9 +67,9 @@ impl References {
         ensures temporary { result.temporary ≡ [] }
     {
         References {
-            ids: Vec::new(alloc),
-            edges: Vec::new(alloc),
+            sets: Sets::new(alloc),
             temporary: Vec::new(alloc),
+            places: Cell::new(Some(Vec::new(alloc))),
         }
     }
 
@@ -88,9 +83,7 @@ impl References {
         ensures spare { self.old.spare ≤ self.new.spare }
         ensures room { self.new.room ≡ self.old.room }
     {
-        self.ids.try_reserve(n)?;
-        self.edges.try_reserve(n)?;
-        Ok(())
+        self.sets.reserve(n)
     }
 
     /// Makes room for one temporary surface. Memory is the only error. Nothing else changes
@@ -121,10 +114,11 @@ impl References {
         ensures spare { self.old.spare ≤ self.new.spare + (length ranges.now + 1) }
         ensures room { self.old.room ≤ self.new.room }
     {
-        self.ready(ranges.len() + 1)?;
-        self.edges.retain(|edge| !is_same(&edge.from, &id));
-        put_edges(&mut self.edges, id, ranges);
-        put_id(&mut self.ids, id);
+        self.sets.reserve(ranges.len() + 1)?;
+        self.sets.open(id);
+        self.sets.clear(id);
+        self.sets.extend(id, ranges);
+        make_places(&mut self.places, self.sets.len());
         self.temporary.retain(|t| !is_named_by(ranges, &t.id));
         Ok(())
     }
@@ -136,9 +130,8 @@ impl References {
         ensures spare { self.old.spare ≤ self.new.spare }
         ensures room { self.new.room ≡ self.old.room }
     {
-        let id = *id;
-        self.ids.retain(|other| !is_same(other, &id));
-        self.edges.retain(|edge| !is_same(&edge.from, &id));
+        self.sets.clear(*id);
+        self.sets.forget(*id);
     }
 
     /// Makes a surface temporary until a tick, unless a range that is set names it. It takes
@@ -150,7 +143,7 @@ impl References {
         ensures spare { self.new.spare ≡ self.old.spare }
         ensures room { self.old.room ≤ self.new.room + 1 }
     {
-        if !is_named_in(&self.ids, &self.edges, &id) {
+        if !self.sets.is_named(&id) {
             self.temporary.push_reserved(Temporary { id, until });
         }
     }
@@ -175,11 +168,18 @@ impl References {
         self.temporary.retain(|t| t.id.sink != sink);
     }
 
+    /// Whether ranges are set for a surface.
+    pub fn is_set(&self, id: &SurfaceId) -> bool
+        ensures { result ≡ is_set self.now.sets id.now }
+    {
+        self.sets.has(id)
+    }
+
     /// How many surfaces have ranges set.
     pub fn surfaces(&self) -> usize
         ensures { result ≡ length self.now.sets }
     {
-        self.ids.len()
+        self.sets.len()
     }
 
     /// How many surfaces are temporary.
@@ -202,41 +202,48 @@ impl References {
             (starts root self.now.temporary) out.new.list }
         ensures once { has_repeat same_surface out.new.list ≡ false }
     {
-        start(root, &self.temporary, out);
-        let mut at = 0;
-        while at < out.as_slice().len() {
-            let id = out.as_slice()[at];
-            follow(&self.ids, &self.edges, id, s, out);
-            at += 1;
+        match self.places.take() {
+            Some(mut places) => {
+                reach(&self.sets, &self.temporary, root, s, &mut places, out);
+                self.places.set(Some(places));
+            }
+            None => reach(&self.sets, &self.temporary, root, s, &mut [], out),
         }
     }
 }
 
-/// Puts a surface behind the others, unless it is there.
-fn put_id(ids: &mut Vec<SurfaceId>, id: SurfaceId)
-    requires { vec_len ids.old < vec_capacity ids.old }
-    ensures items { ids.new.items
-        ≡ (if list_any (same_surface id) ids.old.items then ids.old.items else ids.old.items ++ id
-        ∷ []) }
-    ensures len { vec_len ids.new ≤ vec_len ids.old + 1 }
-    ensures capacity { vec_capacity ids.new ≡ vec_capacity ids.old }
-{
-    if !has_surface(ids, &id) {
-        ids.push_reserved(id);
+/// Makes a place for each of so many surfaces. Where there is no memory for it, those without
+/// a place are looked for.
+fn make_places(places: &mut Cell<Option<Vec<usize>>>, n: usize) {
+    if let Some(places) = places.get_mut() {
+        if places.len() < n {
+            let _ = places.resize(n, 0);
+        }
     }
 }
 
-/// Puts an edge from a surface for each range.
-fn put_edges(edges: &mut Vec<Edge>, from: SurfaceId, ranges: &[SurfaceRange])
-    requires { vec_len edges.old + length ranges.now ≤ vec_capacity edges.old }
-    ensures items { edges.new.items ≡ edges.old.items ++ map (edge_from from) ranges.now }
-    ensures len { vec_len edges.new ≡ vec_len edges.old + length ranges.now }
-    ensures capacity { vec_capacity edges.new ≡ vec_capacity edges.old }
+/// Gives the reached surfaces, as `reachable` does.
+fn reach<S: Shows>(
+    sets: &Sets,
+    kept: &[Temporary],
+    root: Option<SurfaceId>,
+    s: &S,
+    places: &mut [usize],
+    out: &mut Room<SurfaceId>,
+)
+    requires empty { out.old.list ≡ [] }
+    requires room { length sets.now.list + length kept.now < out.old.spare }
+    requires shown { (r : SurfaceRange)
+        → IfSome (S.shows s.now r) (λ id. IsTrue (is_set sets.now.list id)) }
+    ensures least { IsLeastClosed same_surface (next_in (S.shows s.now) sets.now.list)
+        (starts root kept.now) out.new.list }
+    ensures once { has_repeat same_surface out.new.list ≡ false }
 {
-    for range in ranges {
-        edges.push_reserved(Edge {
-            from,
-            range: *range,
-        });
+    start(sets, root, kept, places, out);
+    let mut at = 0;
+    while at < out.as_slice().len() {
+        let id = out.as_slice()[at];
+        follow(sets, id, s, places, out);
+        at += 1;
     }
 }

@@ -1,23 +1,12 @@
-use Rattle.std.proofs.Common.{◌≡◌, true, false, cond, [], ◌∷◌, ◌++◌, sym, ap, ◌∙◌, arith}
-use Rattle.std.specs.List.{list_any}
-use Rattle.vz_ids.specs.Ids.{same_surface}
+use Rattle.std.proofs.Common.{length, sym, ap, subst}
+use Rattle.vz_refs.specs.Indexing.{noting, AreNoted}
+use Rattle.vz_refs.proofs.Noting.{noted_more}
 use Rattle.vz_refs.proofs.marking.add.Goals as goal
 
--- it is not there, and there is room
-pub put-requires : goal.put-requires
-put-requires c =
-    let no : c.has_surface.result ≡ false = grind (arith, c.if-not-has_surface.true) in
-    c.requires (sym (ap (list_any (same_surface c.args.id)) c.as_slice.ensures) ∙ sym c.has_surface.ensures ∙ no)
-
-pub returns-then-not-has_surface-clause-list : goal.returns-then-not-has_surface-clause-list
-returns-then-not-has_surface-clause-list c =
-    let out = c.args.out.now.list in
-    let no : c.has_surface.result ≡ false = grind (arith, c.if-not-has_surface.true) in
-    c.put.ensures.list ∙ sym (ap (λ t. cond t out (out ++ c.args.id ∷ [])) (sym (ap (list_any (same_surface c.args.id)) c.as_slice.ensures) ∙ sym c.has_surface.ensures ∙ no))
-
--- it is there
-pub returns-else-not-has_surface-clause-list : goal.returns-else-not-has_surface-clause-list
-returns-else-not-has_surface-clause-list c =
-    let out = c.args.out.now.list in
-    let yet : c.has_surface.result ≡ true = grind (arith, c.if-not-has_surface.false) in
-    sym (ap (λ t. cond t out (out ++ c.args.id ∷ [])) (sym (ap (list_any (same_surface c.args.id)) c.as_slice.ensures) ∙ sym c.has_surface.ensures ∙ yet))
+pub returns-then-not-is_out-clause-noted : goal.returns-then-not-is_out-clause-noted
+returns-then-not-is_out-clause-noted c =
+    let keys = c.args.sets.now.keys in
+    let end = length c.as_slice-then-not-is_out.result.now in
+    subst (λ ps. AreNoted keys ps c.put.new.self.list) (sym c.note.ensures)
+    (subst (λ l. AreNoted keys (noting keys c.args.id end c.args.places.now) l) (sym c.put.ensures.list)
+    (noted_more keys c.args.places.now c.args.out.now.list c.args.id end c.requires.noted (ap length c.as_slice-then-not-is_out.ensures)))

@@ -1,7 +1,7 @@
 use Rattle.std.proofs.Common.{sym, ◌∙◌, arith}
 use Rattle.vz_rules.specs.Reach.{names}
 use Rattle.vz_refs.specs.Referring.{is_named_by}
-use Rattle.vz_refs.proofs.Gathering.{any_found, any_end}
+use Rattle.vz_refs.proofs.Searching.{any_found, any_end}
 use Rattle.vz_refs.proofs.naming.is_named_by.Goals as goal
 
 pub returns-then-names : goal.returns-then-names

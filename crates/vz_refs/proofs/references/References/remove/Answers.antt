@@ -1,12 +1,11 @@
-use Rattle.std.proofs.Common.{rules, not, ap, ◌∙◌}
-use Rattle.std.proofs.lemmas.Fn.{filter_same}
-use Rattle.vz_ids.specs.Ids.{same_surface}
-use Rattle.vz_refs.specs.Referring.{gathered, removing}
-use Rattle.vz_refs.proofs.Gathering.{removed}
+use Rattle.std.proofs.Common.{ap, ◌∙◌}
+use Rattle.vz_refs.specs.Referring.{ranges_of, removing}
+use Rattle.vz_refs.proofs.Changing.{no_ranges, removed_anyway}
 use Rattle.vz_refs.proofs.references.References.remove.Goals as goal
+
+pub forget-requires : goal.forget-requires
+forget-requires c = ap (λ l. ranges_of l c.args.id.now) c.clear.ensures.list ∙ no_ranges c.args.id.now c.self.inside.sets.list
 
 pub returns-clause-sets : goal.returns-clause-sets
 returns-clause-sets c =
-    let ids = filter_same _ (λ i. not (same_surface i c.args.id.now)) _ (λ x b f' k. search rules) _ _ c.retain.ensures.filtered in
-    let edges = filter_same _ (λ e. not (same_surface e.from c.args.id.now)) _ (λ x b f' k. search rules) _ _ c.retain-2.ensures.filtered in
-    (λ i. gathered (ids i) (edges i)) ∙ removed c.self.inside.ids.items c.self.inside.edges.items c.args.id.now ∙ ap (λ v. removing c.args.id.now v.sets) c.self.view_is
+    c.forget.ensures.list ∙ ap (removing c.args.id.now) c.clear.ensures.list ∙ removed_anyway c.args.id.now c.self.inside.sets.list ∙ ap (λ v. removing c.args.id.now v.sets) c.self.view_is

@@ -1,0 +1,364 @@
+-- What is set, as the ranges of a surface change.
+use Rattle.std.proofs.Common.{◌≡◌, ℕ, zero, suc, ◌+◌, ◌-◌, ◌<◌, ◌≤◌, ◌==◌, Bool, true, false, not, ◌||◌, Some, None, List, [], ◌∷◌, ◌++◌, length, take, map, filter, slice_get, get_or, nat_lt, refl, ap, sym, ◌∙◌, arith, cond}
+use Rattle.std.specs.List.{list_any}
+use Rattle.std.proofs.lemmas.Bool.Decides.{nat_tests}
+use Rattle.std.proofs.lemmas.List.{take_more, take_all}
+use Rattle.vz_ids.specs.declared.SurfaceId.{SurfaceId}
+use Rattle.vz_ids.specs.declared.SurfaceRange.{SurfaceRange}
+use Rattle.vz_ids.specs.Ids.{same_surface}
+use Rattle.vz_rules.specs.Reach.{names}
+use Rattle.vz_frame.specs.Frame.{has_repeat}
+use Rattle.vz_refs.specs.Referring.{Ranged, is_set, ranges_of, set_one, setting, removing, is_named_by, is_named_in}
+use Rattle.vz_refs.specs.Indexing.{changing, opening, one_more, but_last}
+use Rattle.vz_marking.proofs.Marking.{left_or, right_or}
+use Rattle.vz_refs.proofs.Same.{from_same, self_same, flip, apart, together}
+
+-- Surfaces that are set, and their ranges
+
+pub changed_set : (f : List SurfaceRange → List SurfaceRange) (id x : SurfaceId) (sets : List Ranged) → is_set (changing f id sets) x ≡ is_set sets x
+unfolding changing
+changed_set f id x [] = refl
+changed_set f id x (s ∷ sets) =
+    elim (same_surface s.id id) as (λ (t : Bool). (same_surface (cond t (record { id = s.id; ranges = f s.ranges }) s).id x || is_set (changing f id sets) x) ≡ (same_surface s.id x || is_set sets x)) [
+      | true ↦ ap (λ t. same_surface s.id x || t) (changed_set f id x sets)
+      | false ↦ ap (λ t. same_surface s.id x || t) (changed_set f id x sets)
+    ]
+
+pub changed_other : (f : List SurfaceRange → List SurfaceRange) (id x : SurfaceId) (sets : List Ranged) → same_surface id x ≡ false → ranges_of (changing f id sets) x ≡ ranges_of sets x
+unfolding changing ranges_of
+changed_other f id x [] e = refl
+changed_other f id x (s ∷ sets) e =
+    elim (same_surface s.id id) as (λ (t : Bool). same_surface s.id id ≡ t
+    → cond (same_surface (cond t (record { id = s.id; ranges = f s.ranges }) s).id x) (cond t (record { id = s.id; ranges = f s.ranges }) s).ranges (ranges_of (changing f id sets) x) ≡ cond (same_surface s.id x) s.ranges (ranges_of sets x)) [
+      | true ↦ λ g. ap (λ t. cond t (f s.ranges) (ranges_of (changing f id sets) x)) (apart s.id id x g e) ∙ changed_other f id x sets e ∙ sym (ap (λ t. cond t s.ranges (ranges_of sets x)) (apart s.id id x g e))
+      | false ↦ λ g. ap (cond (same_surface s.id x) s.ranges) (changed_other f id x sets e)
+    ] refl
+
+pub changed_own : (f : List SurfaceRange → List SurfaceRange) (id : SurfaceId) (sets : List Ranged) → is_set sets id ≡ true → ranges_of (changing f id sets) id ≡ f (ranges_of sets id)
+unfolding changing ranges_of
+changed_own f id [] e = absurd (cc)
+changed_own f id (s ∷ sets) e =
+    elim (same_surface s.id id) as (λ (t : Bool). same_surface s.id id ≡ t → (t || is_set sets id) ≡ true
+    → cond (same_surface (cond t (record { id = s.id; ranges = f s.ranges }) s).id id) (cond t (record { id = s.id; ranges = f s.ranges }) s).ranges (ranges_of (changing f id sets) id) ≡ f (cond t s.ranges (ranges_of sets id))) [
+      | true ↦ λ g h. ap (λ t. cond t (f s.ranges) (ranges_of (changing f id sets) id)) g
+      | false ↦ λ g h. ap (λ t. cond t s.ranges (ranges_of (changing f id sets) id)) g ∙ changed_own f id sets h
+    ] refl e
+
+pub changed_ids : (f : List SurfaceRange → List SurfaceRange) (id : SurfaceId) (sets : List Ranged) → map (λ s. s.id) (changing f id sets) ≡ map (λ s. s.id) sets
+unfolding changing
+changed_ids f id [] = refl
+changed_ids f id (s ∷ sets) =
+    elim (same_surface s.id id) as (λ (t : Bool). (cond t (record { id = s.id; ranges = f s.ranges }) s).id ∷ map (λ s. s.id) (changing f id sets) ≡ s.id ∷ map (λ s. s.id) sets) [
+      | true ↦ ap (λ l. s.id ∷ l) (changed_ids f id sets)
+      | false ↦ ap (λ l. s.id ∷ l) (changed_ids f id sets)
+    ]
+
+pub unset_ranges : (sets : List Ranged) (id : SurfaceId) → is_set sets id ≡ false → ranges_of sets id ≡ []
+unfolding ranges_of
+unset_ranges [] id e = refl
+unset_ranges (s ∷ sets) id e =
+    elim (same_surface s.id id) as (λ (t : Bool). (t || is_set sets id) ≡ false → cond t s.ranges (ranges_of sets id) ≡ []) [ true ↦ λ h. absurd (cc) | false ↦ λ h. unset_ranges sets id h ] e
+
+-- a surface with ranges is set
+pub set_with_some : (sets : List Ranged) (id : SurfaceId) → 0 < length (ranges_of sets id) → is_set sets id ≡ true
+set_with_some sets id some =
+    elim (is_set sets id) as (λ (t : Bool). is_set sets id ≡ t → t ≡ true) [ true ↦ λ e. refl | false ↦ λ e. absurd (omega (arith, some, ap length (unset_ranges sets id e))) ] refl
+
+pub set_ids : (sets : List Ranged) (x : SurfaceId) → is_set sets x ≡ list_any (same_surface x) (map (λ s. s.id) sets)
+set_ids [] x = refl
+set_ids (s ∷ sets) x = rw (flip s.id x, set_ids sets x) refl
+
+-- One surface more
+
+pub behind : (sets : List Ranged) (id other : SurfaceId) (ranges : List SurfaceRange) → is_set sets id ≡ false → ranges_of (sets ++ record { id = id; ranges = ranges } ∷ []) other ≡ cond (same_surface id other) ranges (ranges_of sets other)
+unfolding ranges_of
+behind [] id other ranges e = refl
+behind (s ∷ sets) id other ranges e =
+    elim (same_surface s.id other) as (λ (t : Bool). same_surface s.id other ≡ t → cond t s.ranges (ranges_of (sets ++ record { id = id; ranges = ranges } ∷ []) other) ≡ cond (same_surface id other) ranges (cond t s.ranges (ranges_of sets other))) [
+      | true ↦ λ f. sym (ap (λ t. cond t ranges s.ranges) (elsewhere (same_surface id other) refl f))
+      | false ↦ λ f. behind sets id other ranges (later (same_surface s.id id) (is_set sets id) e)
+    ] refl
+  where
+    later : (a b : Bool) → (a || b) ≡ false → b ≡ false
+    later true b h = absurd (cc)
+    later false b h = h
+
+    first : (a b : Bool) → (a || b) ≡ false → a ≡ false
+    first true b h = absurd (cc)
+    first false b h = refl
+
+    elsewhere : (t : Bool) → same_surface id other ≡ t → same_surface s.id other ≡ true → same_surface id other ≡ false
+    elsewhere true f g =
+        let no_way : false ≡ true = sym (first (same_surface s.id id) (is_set sets id) e) ∙ together s.id other id g (flip other id ∙ f) in absurd (cc)
+    elsewhere false f g = f
+
+pub set_behind : (sets : List Ranged) (id other : SurfaceId) (ranges : List SurfaceRange) → is_set (sets ++ record { id = id; ranges = ranges } ∷ []) other ≡ (same_surface id other || is_set sets other)
+set_behind [] id other ranges = refl
+set_behind (s ∷ sets) id other ranges = ap (λ t. same_surface s.id other || t) (set_behind sets id other ranges) ∙ turn (same_surface s.id other) (same_surface id other) (is_set sets other)
+  where
+    turn : (a b c : Bool) → (a || (b || c)) ≡ (b || (a || c))
+    turn true true c = refl
+    turn true false c = refl
+    turn false b c = refl
+
+pub ids_behind : (sets : List Ranged) (id : SurfaceId) (ranges : List SurfaceRange) → map (λ s. s.id) (sets ++ record { id = id; ranges = ranges } ∷ []) ≡ map (λ s. s.id) sets ++ id ∷ []
+ids_behind [] id ranges = refl
+ids_behind (s ∷ sets) id ranges = ap (λ l. s.id ∷ l) (ids_behind sets id ranges)
+
+-- One surface fewer
+
+pub removed_once : (sets : List Ranged) (id : SurfaceId) → has_repeat same_surface (map (λ s. s.id) sets) ≡ false → has_repeat same_surface (map (λ s. s.id) (removing id sets)) ≡ false
+unfolding removing
+removed_once [] id once = refl
+removed_once (s ∷ sets) id once =
+    let parts = neither (list_any (same_surface s.id) (map (λ s. s.id) sets)) (has_repeat same_surface (map (λ s. s.id) sets)) once in
+    elim (same_surface s.id id) as (λ (t : Bool). has_repeat same_surface (map (λ (s : Ranged). s.id) (cond (not t) (s ∷ removing id sets) (removing id sets))) ≡ false) [
+      | true ↦ removed_once sets id parts.1
+      | false ↦ no_or _ _ (still_not sets parts.0) (removed_once sets id parts.1)
+    ]
+  where
+    neither : (a b : Bool) → (a || b) ≡ false → (a ≡ false) × (b ≡ false)
+    neither true b h = absurd (cc)
+    neither false b h = (refl, h)
+
+    no_or : (a b : Bool) → a ≡ false → b ≡ false → (a || b) ≡ false
+    no_or a b p q = rw (p, q)
+
+    still_not : (sets : List Ranged) → list_any (same_surface s.id) (map (λ s. s.id) sets) ≡ false → list_any (same_surface s.id) (map (λ s. s.id) (filter (λ s. not (same_surface s.id id)) sets)) ≡ false
+    still_not [] h = refl
+    still_not (u ∷ sets) h =
+        let parts = neither (same_surface s.id u.id) (list_any (same_surface s.id) (map (λ s. s.id) sets)) h in
+        elim (same_surface u.id id) as (λ (t : Bool). list_any (same_surface s.id) (map (λ (s : Ranged). s.id) (cond (not t) (u ∷ filter (λ s. not (same_surface s.id id)) sets) (filter (λ s. not (same_surface s.id id)) sets))) ≡ false) [
+          | true ↦ still_not sets parts.1
+          | false ↦ no_or _ _ parts.0 (still_not sets parts.1)
+        ]
+
+-- Places in lists
+
+pub get_last : {A : Type 0} (xs : List A) (x : A) (n : ℕ) → n ≡ length xs → slice_get (xs ++ x ∷ []) n ≡ Some x
+get_last [] x n e = ap (slice_get (x ∷ [])) e
+get_last (y ∷ xs) x zero e = absurd (omega (arith, e))
+get_last (y ∷ xs) x (suc n) e = get_last xs x n (omega (arith, e))
+
+pub get_before : {A : Type 0} (xs : List A) (x : A) (k : ℕ) → (length xs == k) ≡ false → slice_get (xs ++ x ∷ []) k ≡ slice_get xs k
+get_before [] x zero e = absurd (cc)
+get_before [] x (suc k) e = refl
+get_before (y ∷ xs) x zero e = refl
+get_before (y ∷ xs) x (suc k) e = get_before xs x k (grind (arith, nat_tests, e))
+
+pub get_over : {A : Type 0} (xs : List A) (k : ℕ) → length xs ≤ k → slice_get xs k ≡ None
+get_over [] k h = refl
+get_over (x ∷ xs) zero h = absurd (omega (arith, h))
+get_over (x ∷ xs) (suc k) h = get_over xs k (omega (arith, h))
+
+pub get_within : {A : Type 0} (xs : List A) (k n : ℕ) → k < n → slice_get (take n xs) k ≡ slice_get xs k
+get_within xs k zero h = absurd (omega (arith, h))
+get_within [] k (suc n) h = refl
+get_within (x ∷ xs) zero (suc n) h = refl
+get_within (x ∷ xs) (suc k) (suc n) h = get_within xs k n (omega (arith, h))
+
+pub some_within : {A : Type 0} (xs : List A) (k : ℕ) → k < length xs → (x : A) × (slice_get xs k ≡ Some x)
+some_within [] k h = absurd (omega (arith, h))
+some_within (x ∷ xs) zero h = (x, refl)
+some_within (x ∷ xs) (suc k) h = some_within xs k (omega (arith, h))
+
+pub take_long : {A : Type 0} (xs : List A) (n : ℕ) → n ≤ length xs → length (take n xs) ≡ n
+take_long xs zero h = refl
+take_long [] (suc n) h = absurd (omega (arith, h))
+take_long (x ∷ xs) (suc n) h = let rest = take_long xs n (omega (arith, h)) in omega (arith, rest)
+
+pub get_but_last : {A : Type 0} (xs : List A) (n k : ℕ) → n + 1 ≡ length xs → (n == k) ≡ false → slice_get (take (length xs - 1) xs) k ≡ slice_get xs k
+get_but_last xs n k e f =
+    elim (nat_lt k n) as (λ (t : Bool). nat_lt k n ≡ t → slice_get (take (length xs - 1) xs) k ≡ slice_get xs k) [
+      | true ↦ λ h. get_within xs k (length xs - 1) (let low : k < n = grind (arith, nat_tests, h) in omega (arith, low, e))
+      | false ↦ λ h.
+          let high : n < k = grind (arith, nat_tests, h, f) in
+          let cut = take_long xs (length xs - 1) (omega arith) in
+          get_over (take (length xs - 1) xs) k (omega (arith, cut, high, e)) ∙ sym (get_over xs k (omega (arith, high, e)))
+    ] refl
+
+pub found_place : {A : Type 0} (p : A → Bool) (xs : List A) → list_any p xs ≡ true → (k : ℕ) × (x : A) × (slice_get xs k ≡ Some x) × (p x ≡ true)
+found_place p [] h = absurd (cc)
+found_place p (x ∷ xs) h =
+    elim (p x) as (λ (t : Bool). p x ≡ t → (t || list_any p xs) ≡ true → (k : ℕ) × (y : _) × (slice_get (x ∷ xs) k ≡ Some y) × (p y ≡ true)) [
+      | true ↦ λ e g. (0, x, refl, e)
+      | false ↦ λ e g. let rest = found_place p xs g in (suc rest.0, rest.1, rest.2, rest.3)
+    ] refl h
+
+pub found_there : {A : Type 0} (p : A → Bool) (xs : List A) (k : ℕ) (x : A) → slice_get xs k ≡ Some x → p x ≡ true → list_any p xs ≡ true
+found_there p [] k x e h = absurd (cc)
+found_there p (y ∷ xs) zero x e h = let is : y ≡ x = cc in left_or (p y) (list_any p xs) (ap p is ∙ h)
+found_there p (y ∷ xs) (suc k) x e h = right_or (p y) (list_any p xs) (found_there p xs k x e h)
+
+-- Which range names a surface
+
+pub named_with : (sets : List Ranged) (o id : SurfaceId) → is_named_by (ranges_of sets o) id ≡ true → is_named_in sets id ≡ true
+unfolding is_named_by is_named_in ranges_of
+named_with [] o id h = absurd (cc)
+named_with (s ∷ sets) o id h =
+    elim (same_surface s.id o) as (λ (t : Bool). list_any (names id) (cond t s.ranges (ranges_of sets o)) ≡ true → (list_any (names id) s.ranges || list_any (λ s. list_any (names id) s.ranges) sets) ≡ true) [
+      | true ↦ λ g. left_or _ _ g
+      | false ↦ λ g. right_or (list_any (names id) s.ranges) _ (named_with sets o id g)
+    ] h
+
+-- a range that names a surface, and where it is set
+pub record Naming (sets : List Ranged) (id : SurfaceId) : Type 0 where
+  pub of : SurfaceId
+  pub nth : ℕ
+  pub range : SurfaceRange
+  pub there : slice_get (ranges_of sets of) nth ≡ Some range
+  pub named : names id range ≡ true
+
+pub naming : (sets : List Ranged) (id : SurfaceId) → has_repeat same_surface (map (λ s. s.id) sets) ≡ false → is_named_in sets id ≡ true → Naming sets id
+unfolding is_named_by is_named_in ranges_of
+naming [] id once h = absurd (cc)
+naming (s ∷ sets) id once h =
+    elim (list_any (names id) s.ranges) as (λ (t : Bool). list_any (names id) s.ranges ≡ t → (t || list_any (λ s. list_any (names id) s.ranges) sets) ≡ true → Naming (s ∷ sets) id) [
+      | true ↦ λ e g.
+          let found = found_place (names id) s.ranges e in
+          record { of = s.id; nth = found.0; range = found.1; there = ap (λ t. slice_get (cond t s.ranges (ranges_of sets s.id)) found.0) (self_same s.id) ∙ found.2; named = found.3 }
+      | false ↦ λ e g.
+          let parts = neither (list_any (same_surface s.id) (map (λ s. s.id) sets)) (has_repeat same_surface (map (λ s. s.id) sets)) once in
+          let rest = naming sets id parts.1 g in
+          record { of = rest.of; nth = rest.nth; range = rest.range; there = ap (λ t. slice_get (cond t s.ranges (ranges_of sets rest.of)) rest.nth) (another sets rest.of rest.nth rest.range parts.0 rest.there) ∙ rest.there; named = rest.named }
+    ] refl h
+  where
+    neither : (a b : Bool) → (a || b) ≡ false → (a ≡ false) × (b ≡ false)
+    neither true b h = absurd (cc)
+    neither false b h = (refl, h)
+
+    another : (sets : List Ranged) (o : SurfaceId) (k : ℕ) (r : SurfaceRange) → list_any (same_surface s.id) (map (λ s. s.id) sets) ≡ false → slice_get (ranges_of sets o) k ≡ Some r → same_surface s.id o ≡ false
+    another sets o k r none e =
+        elim (same_surface s.id o) as (λ (t : Bool). same_surface s.id o ≡ t → t ≡ false) [
+          | true ↦ λ g.
+              let empty = unset_ranges sets o (ap (is_set sets) (sym (from_same s.id o g)) ∙ set_ids sets s.id ∙ none) in
+              let no_way : None ≡ Some r = sym (ap (λ l. slice_get l k) empty) ∙ e in absurd (cc)
+          | false ↦ λ g. refl
+        ] refl
+
+-- Several changes
+
+pub changing_unset : (f : List SurfaceRange → List SurfaceRange) (id : SurfaceId) (sets : List Ranged) → is_set sets id ≡ false → changing f id sets ≡ sets
+unfolding changing
+changing_unset f id [] e = refl
+changing_unset f id (s ∷ sets) e =
+    elim (same_surface s.id id) as (λ (t : Bool). (t || is_set sets id) ≡ false → cond t (record { id = s.id; ranges = f s.ranges }) s ∷ changing f id sets ≡ s ∷ sets) [
+      | true ↦ λ h. absurd (cc)
+      | false ↦ λ h. ap (λ l. s ∷ l) (changing_unset f id sets h)
+    ] e
+
+pub changing_twice : (f g : List SurfaceRange → List SurfaceRange) (id : SurfaceId) (sets : List Ranged) → changing f id (changing g id sets) ≡ changing (λ xs. f (g xs)) id sets
+unfolding changing
+changing_twice f g id [] = refl
+changing_twice f g id (s ∷ sets) =
+    elim (same_surface s.id id) as (λ (t : Bool). same_surface s.id id ≡ t
+    → cond (same_surface (cond t (record { id = s.id; ranges = g s.ranges }) s).id id) (record { id = (cond t (record { id = s.id; ranges = g s.ranges }) s).id; ranges = f (cond t (record { id = s.id; ranges = g s.ranges }) s).ranges }) (cond t (record { id = s.id; ranges = g s.ranges }) s) ∷ changing f id (changing g id sets)
+    ≡ cond t (record { id = s.id; ranges = f (g s.ranges) }) s ∷ changing (λ xs. f (g xs)) id sets) [
+      | true ↦ λ e. (λ i. cond (e i) (record { id = s.id; ranges = f (g s.ranges) }) (record { id = s.id; ranges = g s.ranges }) ∷ changing_twice f g id sets i)
+      | false ↦ λ e. (λ i. cond (e i) (record { id = s.id; ranges = f s.ranges }) s ∷ changing_twice f g id sets i)
+    ] refl
+
+pub changing_alike : (f g : List SurfaceRange → List SurfaceRange) (id : SurfaceId) (sets : List Ranged) → ((xs : List SurfaceRange) → f xs ≡ g xs) → changing f id sets ≡ changing g id sets
+changing_alike f g id sets h = λ i. changing (λ xs. h xs i) id sets
+
+pub changing_same : (f : List SurfaceRange → List SurfaceRange) (id : SurfaceId) (sets : List Ranged) → ((xs : List SurfaceRange) → f xs ≡ xs) → changing f id sets ≡ sets
+unfolding changing
+changing_same f id [] h = refl
+changing_same f id (s ∷ sets) h =
+    elim (same_surface s.id id) as (λ (t : Bool). cond t (record { id = s.id; ranges = f s.ranges }) s ∷ changing f id sets ≡ s ∷ sets) [
+      | true ↦ (λ i. record { id = s.id; ranges = h s.ranges i } ∷ changing_same f id sets h i)
+      | false ↦ ap (λ l. s ∷ l) (changing_same f id sets h)
+    ]
+
+pub cleared : (f : List SurfaceRange → List SurfaceRange) (id : SurfaceId) (sets : List Ranged) → has_repeat same_surface (map (λ s. s.id) sets) ≡ false → f (ranges_of sets id) ≡ [] → changing f id sets ≡ map (set_one id []) sets
+unfolding changing ranges_of
+cleared f id [] once e = refl
+cleared f id (s ∷ sets) once e =
+    let parts = neither (list_any (same_surface s.id) (map (λ s. s.id) sets)) (has_repeat same_surface (map (λ s. s.id) sets)) once in
+    elim (same_surface s.id id) as (λ (t : Bool). same_surface s.id id ≡ t → f (cond t s.ranges (ranges_of sets id)) ≡ []
+    → cond t (record { id = s.id; ranges = f s.ranges }) s ∷ changing f id sets ≡ cond t (record { id = s.id; ranges = [] }) s ∷ map (set_one id []) sets) [
+      | true ↦ λ g h.
+          let none : is_set sets id ≡ false = ap (is_set sets) (sym (from_same s.id id g)) ∙ set_ids sets s.id ∙ parts.0 in
+          (λ i. record { id = s.id; ranges = h i } ∷ (changing_unset f id sets none ∙ sym (changing_unset (λ _. []) id sets none)) i)
+      | false ↦ λ g h. ap (λ l. s ∷ l) (cleared f id sets parts.1 h)
+    ] refl e
+  where
+    neither : (a b : Bool) → (a || b) ≡ false → (a ≡ false) × (b ≡ false)
+    neither true b h = absurd (cc)
+    neither false b h = (refl, h)
+
+take_both : {A : Type 0} (n m : ℕ) (xs : List A) → m ≤ n → take m (take n xs) ≡ take m xs
+take_both n zero xs h = refl
+take_both zero (suc m) xs h = absurd (omega (arith, h))
+take_both (suc n) (suc m) [] h = refl
+take_both (suc n) (suc m) (x ∷ xs) h = ap (λ l. x ∷ l) (take_both n m xs (omega (arith, h)))
+
+abbrev pub but_lasts : ℕ → List SurfaceRange → List SurfaceRange
+but_lasts k xs = take (length xs - k) xs
+
+pub next_shorter : (k : ℕ) (xs : List SurfaceRange) → but_last (but_lasts k xs) ≡ but_lasts (k + 1) xs
+next_shorter k xs =
+    let cut = take_long xs (length xs - k) (omega arith) in
+    let fewer : length (take (length xs - k) xs) - 1 ≡ length xs - (k + 1) = omega (arith, cut) in
+    ap (λ n. take n (take (length xs - k) xs)) fewer ∙ take_both (length xs - k) (length xs - (k + 1)) xs (omega arith)
+
+pub all_taken : {A : Type 0} (xs : List A) → take (length xs - 0) xs ≡ xs
+all_taken xs = take_all (length xs - 0) xs (omega arith)
+
+pub none_taken : {A : Type 0} (xs : List A) (k : ℕ) → length xs ≤ k → take (length xs - k) xs ≡ []
+none_taken xs k h = let nothing : length xs - k ≡ 0 = omega (arith, h) in ap (λ n. take n xs) nothing
+
+longer_behind : (f : List SurfaceRange → List SurfaceRange) (id : SurfaceId) (sets : List Ranged) (s : Ranged) → changing f id (sets ++ s ∷ []) ≡ changing f id sets ++ changing f id (s ∷ [])
+unfolding changing
+longer_behind f id [] s = refl
+longer_behind f id (x ∷ sets) s = ap (λ l. cond (same_surface x.id id) (record { id = x.id; ranges = f x.ranges }) x ∷ l) (longer_behind f id sets s)
+
+-- a surface is set, has no ranges and gets these: they are set for it
+pub set_anew : (id : SurfaceId) (ranges : List SurfaceRange) (sets : List Ranged) → changing (λ old. old ++ ranges) id (map (set_one id []) (opening id sets)) ≡ setting id ranges sets
+unfolding opening setting changing
+set_anew id ranges sets = changing_twice (λ old. old ++ ranges) (λ _. []) id (cond (is_set sets id) sets (sets ++ record { id = id; ranges = [] } ∷ [])) ∙ by_set (is_set sets id) refl
+  where
+    by_set : (t : Bool) → is_set sets id ≡ t → changing (λ _. ranges) id (cond t sets (sets ++ record { id = id; ranges = [] } ∷ [])) ≡ cond t (map (set_one id ranges) sets) (sets ++ record { id = id; ranges = ranges } ∷ [])
+    by_set true e = refl
+    by_set false e =
+        longer_behind (λ _. ranges) id sets (record { id = id; ranges = [] })
+        ∙ (λ i. changing_unset (λ _. ranges) id sets e i ++ cond (self_same id i) (record { id = id; ranges = ranges }) (record { id = id; ranges = [] }) ∷ [])
+
+pub opened_set : (id : SurfaceId) (sets : List Ranged) → is_set (map (set_one id []) (opening id sets)) id ≡ true
+unfolding opening changing
+opened_set id sets = changed_set (λ _. []) id id (cond (is_set sets id) sets (sets ++ record { id = id; ranges = [] } ∷ [])) ∙ by_set (is_set sets id) refl
+  where
+    by_set : (t : Bool) → is_set sets id ≡ t → is_set (cond t sets (sets ++ record { id = id; ranges = [] } ∷ [])) id ≡ true
+    by_set true e = e
+    by_set false e = set_behind sets id id [] ∙ ap (λ t. t || is_set sets id) (self_same id)
+
+-- a surface has no ranges, and is not set any more
+pub no_ranges : (id : SurfaceId) (sets : List Ranged) → ranges_of (map (set_one id []) sets) id ≡ []
+unfolding changing
+no_ranges id sets =
+    elim (is_set sets id) as (λ (t : Bool). is_set sets id ≡ t → ranges_of (map (set_one id []) sets) id ≡ []) [
+      | true ↦ λ e. changed_own (λ _. []) id sets e
+      | false ↦ λ e. unset_ranges (map (set_one id []) sets) id (changed_set (λ _. []) id id sets ∙ e)
+    ] refl
+
+pub removed_anyway : (id : SurfaceId) (sets : List Ranged) → removing id (map (set_one id []) sets) ≡ removing id sets
+unfolding removing
+removed_anyway id [] = refl
+removed_anyway id (s ∷ sets) =
+    elim (same_surface s.id id) as (λ (t : Bool). same_surface s.id id ≡ t
+    → cond (not (same_surface (cond t (record { id = s.id; ranges = [] }) s).id id)) (cond t (record { id = s.id; ranges = [] }) s ∷ removing id (map (set_one id []) sets)) (removing id (map (set_one id []) sets)) ≡ cond (not t) (s ∷ removing id sets) (removing id sets)) [
+      | true ↦ λ e. (λ i. cond (not (e i)) (record { id = s.id; ranges = [] } ∷ removing id (map (set_one id []) sets)) (removing id (map (set_one id []) sets))) ∙ removed_anyway id sets
+      | false ↦ λ e. (λ i. cond (not (e i)) (s ∷ removing id (map (set_one id []) sets)) (removing id (map (set_one id []) sets))) ∙ ap (λ l. s ∷ l) (removed_anyway id sets)
+    ] refl
+
+append_more : {A : Type 0} (xs ys : List A) (y : A) → (xs ++ ys) ++ y ∷ [] ≡ xs ++ (ys ++ y ∷ [])
+append_more [] ys y = refl
+append_more (x ∷ xs) ys y = ap (λ l. x ∷ l) (append_more xs ys y)
+
+-- one range more is appended
+pub next_longer : (ranges : List SurfaceRange) (k : ℕ) (d : SurfaceRange) (xs : List SurfaceRange) → k < length ranges → one_more (get_or ranges k d) (xs ++ take k ranges) ≡ xs ++ take (k + 1) ranges
+next_longer ranges k d xs inside = append_more xs (take k ranges) (get_or ranges k d) ∙ ap (λ l. xs ++ l) (sym (take_more ranges k d inside))
+
+pub nothing_longer : {A : Type 0} (xs : List A) → xs ++ [] ≡ xs
+nothing_longer [] = refl
+nothing_longer (x ∷ xs) = ap (λ l. x ∷ l) (nothing_longer xs)

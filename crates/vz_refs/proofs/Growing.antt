@@ -1,0 +1,161 @@
+-- The indexes, where a surface has one range more.
+use Rattle.std.proofs.Common.{◌≡◌, ℕ, ◌+◌, ◌<◌, ◌≤◌, ◌==◌, Bool, true, false, Option, Some, None, is_some, List, [], ◌∷◌, ◌++◌, length, slice_get, refl, ap, sym, subst, ◌∙◌, arith, cond}
+use Rattle.std.specs.Option.{option_map}
+use Rattle.std.proofs.lemmas.Bool.Decides.{nat_tests}
+use Rattle.vz_ids.specs.declared.SurfaceId.{SurfaceId}
+use Rattle.vz_ids.specs.declared.SurfaceRange.{SurfaceRange}
+use Rattle.vz_ids.specs.Ids.{same_surface}
+use Rattle.vz_frame.specs.Frame.{has_repeat}
+use Rattle.vz_refs.specs.declared.sets.Nth.{Nth}
+use Rattle.vz_refs.specs.declared.sets.Group.{Group}
+use Rattle.vz_refs.specs.declared.sets.Place.{Place}
+use Rattle.vz_refs.specs.declared.sets.Edge.{Edge}
+use Rattle.vz_refs.specs.Referring.{Ranged, is_set, ranges_of}
+use Rattle.vz_refs.specs.Indexing.{changing, one_more, same_nth, same_key, same_place, key_of, place_of, or_zero, IsIndexed}
+use Rattle.vz_refs.proofs.Same.{from_same, from_nth, self_nth, from_key, self_key, from_place, self_place, second_not}
+use Rattle.vz_refs.proofs.Changing.{changed_set, changed_other, changed_own, changed_ids, get_last, get_before, get_over}
+
+one_longer : {A : Type 0} (xs : List A) (x : A) → length (xs ++ x ∷ []) ≡ length xs + 1
+one_longer [] x = refl
+one_longer (y ∷ xs) x = let rest = one_longer xs x in omega (arith, rest)
+
+module _ (sets : List Ranged) (count : SurfaceId → Option ℕ) (edge : Nth → Option Edge) (ends : Place → Option Nth) (size : Group → Option ℕ) (good : IsIndexed sets count edge ends size) where
+  -- A range more
+
+  module _ (id : SurfaceId) (range : SurfaceRange) (n z : ℕ) (there : is_set sets id ≡ true) (many : n ≡ length (ranges_of sets id)) (big : z ≡ or_zero (size (key_of range.end)))
+      (count' : SurfaceId → Option ℕ) (counts : (q : SurfaceId) → count' q ≡ cond (same_surface id q) (option_map (λ _. n + 1) (count q)) (count q))
+      (edge' : Nth → Option Edge) (edges : (q : Nth) → edge' q ≡ cond (same_nth (record { of = id; nth = n }) q) (Some (record { range = range; at = z })) (edge q))
+      (ends' : Place → Option Nth) (ended : (p : Place) → ends' p ≡ cond (same_place (record { group = key_of range.end; at = z }) p) (Some (record { of = id; nth = n })) (ends p))
+      (size' : Group → Option ℕ) (sizes : (h : Group) → size' h ≡ cond (same_key (key_of range.end) h) (Some (z + 1)) (size h)) where
+    abbrev new_sets : List Ranged
+    new_sets = changing (one_more range) id sets
+
+    abbrev here : Nth
+    here = record { of = id; nth = n }
+
+    abbrev put : Edge
+    put = record { range = range; at = z }
+
+    own_ranges : ranges_of new_sets id ≡ ranges_of sets id ++ range ∷ []
+    own_ranges = changed_own (one_more range) id sets there
+
+    more_counted : (q : SurfaceId) → count' q ≡ cond (is_set new_sets q) (Some (length (ranges_of new_sets q))) None
+    more_counted q =
+        counts q
+        ∙ elim (same_surface id q) as (λ (t : Bool). same_surface id q ≡ t → cond t (option_map (λ _. n + 1) (count q)) (count q) ≡ cond (is_set sets q) (Some (length (ranges_of new_sets q))) None) [
+          | true ↦ λ e. subst (λ (q : SurfaceId). option_map (λ _. n + 1) (count q) ≡ cond (is_set sets q) (Some (length (ranges_of new_sets q))) None) (from_same id q e) own
+          | false ↦ λ e. good.counted q ∙ ap (λ l. cond (is_set sets q) (Some (length l)) None) (sym (changed_other (one_more range) id q sets e))
+        ] refl
+        ∙ ap (λ t. cond t (Some (length (ranges_of new_sets q))) None) (sym (changed_set (one_more range) id q sets))
+      where
+        own : option_map (λ _. n + 1) (count id) ≡ cond (is_set sets id) (Some (length (ranges_of new_sets id))) None
+        own =
+            let long : n + 1 ≡ length (ranges_of new_sets id) = omega (arith, many, one_longer (ranges_of sets id) range, ap length own_ranges) in
+            ap (option_map (λ _. n + 1)) (good.counted id ∙ ap (λ t. cond t (Some (length (ranges_of sets id))) None) there) ∙ ap (λ k. Some k) long ∙ sym (ap (λ t. cond t (Some (length (ranges_of new_sets id))) None) there)
+
+    more_ranged : (q : Nth) → option_map (λ e. e.range) (edge' q) ≡ slice_get (ranges_of new_sets q.of) q.nth
+    more_ranged q =
+        ap (option_map (λ e. e.range)) (edges q)
+        ∙ elim (same_nth here q) as (λ (t : Bool). same_nth here q ≡ t → option_map (λ (e : Edge). e.range) (cond t (Some put) (edge q)) ≡ slice_get (ranges_of new_sets q.of) q.nth) [
+          | true ↦ λ e. subst (λ (q : Nth). Some range ≡ slice_get (ranges_of new_sets q.of) q.nth) (from_nth here q e) (sym (ap (λ l. slice_get l n) own_ranges ∙ get_last (ranges_of sets id) range n many))
+          | false ↦ λ e. good.ranged q ∙ elim (same_surface id q.of) as (λ (t : Bool). same_surface id q.of ≡ t → slice_get (ranges_of sets q.of) q.nth ≡ slice_get (ranges_of new_sets q.of) q.nth) [
+            | true ↦ λ f.
+                let is = from_same id q.of f in
+                let apart : (length (ranges_of sets id) == q.nth) ≡ false = ap (λ k. k == q.nth) (sym many) ∙ second_not (same_surface id q.of) (n == q.nth) e f in
+                subst (λ (o : SurfaceId). slice_get (ranges_of sets o) q.nth ≡ slice_get (ranges_of new_sets o) q.nth) is (sym (ap (λ l. slice_get l q.nth) own_ranges ∙ get_before (ranges_of sets id) range q.nth apart))
+            | false ↦ λ f. ap (λ l. slice_get l q.nth) (sym (changed_other (one_more range) id q.of sets f))
+          ] refl
+        ] refl
+
+    own_size : size' (key_of range.end) ≡ Some (z + 1)
+    own_size = sizes (key_of range.end) ∙ ap (λ t. cond t (Some (z + 1)) (size (key_of range.end))) (self_key (key_of range.end))
+
+    no_less : (h : Group) → or_zero (size h) ≤ or_zero (size' h)
+    no_less h =
+        elim (same_key (key_of range.end) h) as (λ (t : Bool). same_key (key_of range.end) h ≡ t → or_zero (size h) ≤ or_zero (size' h)) [
+          | true ↦ λ e. subst (λ (h : Group). or_zero (size h) ≤ or_zero (size' h)) (from_key _ h e) (omega (arith, big, ap or_zero own_size))
+          | false ↦ λ e. let same = sizes h ∙ ap (λ t. cond t (Some (z + 1)) (size h)) e in omega (arith, ap or_zero same)
+        ] refl
+
+    more_placed : (q : Nth) (e : Edge) → edge' q ≡ Some e → (ends' (place_of e) ≡ Some q) × (e.at < or_zero (size' (key_of e.range.end)))
+    more_placed q e h =
+        elim (same_nth here q) as (λ (t : Bool). same_nth here q ≡ t → cond t (Some put) (edge q) ≡ Some e → (ends' (place_of e) ≡ Some q) × (e.at < or_zero (size' (key_of e.range.end)))) [
+          | true ↦ λ f g.
+              let is : put ≡ e = cc in
+              subst (λ (e : Edge). (ends' (place_of e) ≡ Some q) × (e.at < or_zero (size' (key_of e.range.end)))) is
+              (subst (λ (q : Nth). ends' (place_of put) ≡ Some q) (from_nth here q f) (ended (place_of put) ∙ ap (λ t. cond t (Some here) (ends (place_of put))) (self_place (place_of put))), omega (arith, ap or_zero own_size))
+          | false ↦ λ f g.
+              let old = good.placed q e g in (
+                elim (same_place (place_of put) (place_of e)) as (λ (t : Bool). same_place (place_of put) (place_of e) ≡ t → ends' (place_of e) ≡ Some q) [
+                  | true ↦ λ k.
+                      let is = from_place (place_of put) (place_of e) k in
+                      let at : z ≡ e.at = ap (λ p. p.at) is in
+                      let group : key_of range.end ≡ key_of e.range.end = ap (λ p. p.group) is in
+                      absurd (omega (arith, old.1, big, at, ap (λ h. or_zero (size h)) group))
+                  | false ↦ λ k. ended (place_of e) ∙ ap (λ t. cond t (Some here) (ends (place_of e))) k ∙ old.0
+                ] refl,
+                omega (arith, old.1, no_less (key_of e.range.end)),
+              )
+        ] refl (sym (edges q) ∙ h)
+
+    more_held : (p : Place) (q : Nth) → ends' p ≡ Some q → (e : Edge) × (edge' q ≡ Some e) × (place_of e ≡ p)
+    more_held p q h =
+        elim (same_place (place_of put) p) as (λ (t : Bool). same_place (place_of put) p ≡ t → cond t (Some here) (ends p) ≡ Some q → (e : Edge) × (edge' q ≡ Some e) × (place_of e ≡ p)) [
+          | true ↦ λ f g.
+              let is : here ≡ q = cc in
+              (put, subst (λ (q : Nth). edge' q ≡ Some put) is (edges here ∙ ap (λ t. cond t (Some put) (edge here)) (self_nth here)), from_place (place_of put) p f)
+          | false ↦ λ f g.
+              let old = good.held p q g in (
+                old.0,
+                elim (same_nth here q) as (λ (t : Bool). same_nth here q ≡ t → edge' q ≡ Some old.0) [
+                  | true ↦ λ k.
+                      let none : option_map (λ (e : Edge). e.range) (edge here) ≡ None = good.ranged here ∙ get_over (ranges_of sets id) n (omega (arith, many)) in
+                      let some : option_map (λ (e : Edge). e.range) (edge here) ≡ Some old.0.range = ap (λ (q : Nth). option_map (λ (e : Edge). e.range) (edge q)) (from_nth here q k) ∙ ap (option_map (λ (e : Edge). e.range)) old.1 in
+                      let no_way : None ≡ Some old.0.range = sym none ∙ some in absurd (cc)
+                  | false ↦ λ k. edges q ∙ ap (λ t. cond t (Some put) (edge q)) k ∙ old.1
+                ] refl,
+                old.2,
+              )
+        ] refl (sym (ended p) ∙ h)
+
+    more_filled : (p : Place) → p.at < or_zero (size' p.group) → is_some (ends' p) ≡ true
+    more_filled p low =
+        elim (same_place (place_of put) p) as (λ (t : Bool). same_place (place_of put) p ≡ t → is_some (ends' p) ≡ true) [
+          | true ↦ λ f. ap is_some (ended p ∙ ap (λ t. cond t (Some here) (ends p)) f)
+          | false ↦ λ f.
+              ap is_some (ended p ∙ ap (λ t. cond t (Some here) (ends p)) f)
+              ∙ good.filled p (elim (same_key (key_of range.end) p.group) as (λ (t : Bool). same_key (key_of range.end) p.group ≡ t → p.at < or_zero (size p.group)) [
+                | true ↦ λ k.
+                    let is = from_key (key_of range.end) p.group k in
+                    let apart = second_not (same_key (key_of range.end) p.group) (z == p.at) f k in
+                    let other : p.at < or_zero (size p.group) = below p.at z (or_zero (size p.group)) apart (omega (arith, low, ap (λ h. or_zero (size' h)) (sym is), ap or_zero own_size)) (omega (arith, big, ap (λ h. or_zero (size h)) is)) in
+                    other
+                | false ↦ λ k. let same = sizes p.group ∙ ap (λ t. cond t (Some (z + 1)) (size p.group)) k in omega (arith, low, ap or_zero same)
+              ] refl)
+        ] refl
+      where
+        below : (a z m : ℕ) → (z == a) ≡ false → a < z + 1 → z ≡ m → a < m
+        below a z m e f g = grind (arith, nat_tests)
+
+    pub appended : IsIndexed new_sets count' edge' ends' size'
+    appended = record {
+      counted = more_counted;
+      ranged = more_ranged;
+      placed = more_placed;
+      held = more_held;
+      filled = more_filled;
+      once = ap (has_repeat same_surface) (changed_ids (one_more range) id sets) ∙ good.once;
+    }
+
+  -- Where the group of the end has a name of its own
+
+  pub appended_in : (id : SurfaceId) (range : SurfaceRange) (n z : ℕ) (g : Group) → is_set sets id ≡ true → n ≡ length (ranges_of sets id) → g ≡ key_of range.end → z ≡ or_zero (size g)
+      → (count' : SurfaceId → Option ℕ) → ((q : SurfaceId) → count' q ≡ cond (same_surface id q) (option_map (λ _. n + 1) (count q)) (count q))
+      → (edge' : Nth → Option Edge) → ((q : Nth) → edge' q ≡ cond (same_nth (record { of = id; nth = n }) q) (Some (record { range = range; at = z })) (edge q))
+      → (ends' : Place → Option Nth) → ((p : Place) → ends' p ≡ cond (same_place (record { group = g; at = z }) p) (Some (record { of = id; nth = n })) (ends p))
+      → (size' : Group → Option ℕ) → ((h : Group) → size' h ≡ cond (same_key g h) (Some (z + 1)) (size h))
+      → IsIndexed (changing (one_more range) id sets) count' edge' ends' size'
+  appended_in id range n z g there many is big count' counts edge' edges ends' ended size' sizes =
+      appended id range n z there many (big ∙ ap (λ h. or_zero (size h)) is) count' counts edge' edges
+      ends' (λ p. ended p ∙ ap (λ (g : Group). cond (same_place (record { group = g; at = z }) p) (Some (record { of = id; nth = n })) (ends p)) is)
+      size' (λ h. sizes h ∙ ap (λ (g : Group). cond (same_key g h) (Some (z + 1)) (size h)) is)

@@ -1,0 +1,255 @@
+-- The indexes, as what is set changes.
+use Rattle.std.proofs.Common.{◌≡◌, ℕ, zero, suc, ◌+◌, ◌<◌, ◌≤◌, ◌==◌, Bool, true, false, not, ◌&&◌, ◌||◌, Option, Some, None, is_some, List, [], ◌∷◌, ◌++◌, length, map, slice_get, refl, ap, sym, subst, ◌∙◌, arith, cond}
+use Rattle.std.specs.List.{list_any, IsDistinct, AllByRecursion}
+use Rattle.std.specs.Map.{lookup, keys_of}
+use Rattle.std.specs.Option.{option_map, option_map_or}
+use Rattle.std.proofs.lemmas.Map.Made.{is_some-lookup}
+use Rattle.std.proofs.lemmas.Map.Entries.{length-keys_of}
+use Rattle.std.proofs.lemmas.Bool.Decides.{nat_tests}
+use Rattle.vz_ids.specs.declared.SurfaceId.{SurfaceId}
+use Rattle.vz_ids.specs.declared.SurfaceRange.{SurfaceRange}
+use Rattle.vz_ids.specs.Ids.{same_surface}
+use Rattle.vz_rules.specs.Reach.{names}
+use Rattle.vz_frame.specs.Frame.{has_repeat}
+use Rattle.vz_refs.specs.declared.sets.Nth.{Nth}
+use Rattle.vz_refs.specs.declared.sets.Group.{Group}
+use Rattle.vz_refs.specs.declared.sets.Place.{Place}
+use Rattle.vz_refs.specs.declared.sets.Edge.{Edge}
+use Rattle.vz_refs.specs.Referring.{Ranged, is_set, ranges_of, removing, is_named_by, is_named_in}
+use Rattle.vz_refs.specs.Indexing.{opening, same_nth, key_of, place_of, or_zero, IsIndexed}
+use Rattle.vz_marking.proofs.Marking.{fits, stays_once}
+use Rattle.vz_refs.proofs.Keeping.{removed_ranges, removed_has}
+use Rattle.vz_refs.proofs.Same.{from_same, self_same, from_nth, from_eqb, named_group}
+use Rattle.vz_refs.proofs.Changing.{unset_ranges, some_within, behind, set_behind, ids_behind, set_ids, removed_once, found_there, named_with, Naming, naming}
+
+-- the range that stands at a place of a group names a surface
+abbrev pub named_at : (Nth → Option Edge) → (Place → Option Nth) → SurfaceId → Place → Bool
+named_at edge ends id p = option_map_or (λ n. option_map_or (λ e. names id e.range) (edge n) false) (ends p) false
+
+module _ (sets : List Ranged) (count : SurfaceId → Option ℕ) (edge : Nth → Option Edge) (ends : Place → Option Nth) (size : Group → Option ℕ) (good : IsIndexed sets count edge ends size) where
+  -- How many a surface has
+
+  pub count_some : (id : SurfaceId) (n : ℕ) → cond (is_set sets id) (Some (length (ranges_of sets id))) None ≡ Some n → n ≡ length (ranges_of sets id)
+  count_some id n h = by_test (is_set sets id) h
+    where
+      by_test : (t : Bool) → cond t (Some (length (ranges_of sets id))) None ≡ Some n → n ≡ length (ranges_of sets id)
+      by_test true e = cc
+      by_test false e = absurd (cc)
+
+  pub count_none : (id : SurfaceId) → cond (is_set sets id) (Some (length (ranges_of sets id))) None ≡ None → 0 ≡ length (ranges_of sets id)
+  count_none id h = by_test (is_set sets id) refl h
+    where
+      by_test : (t : Bool) → is_set sets id ≡ t → cond t (Some (length (ranges_of sets id))) None ≡ None → 0 ≡ length (ranges_of sets id)
+      by_test true f e = absurd (cc)
+      by_test false f e = sym (ap length (unset_ranges sets id f))
+
+  -- A surface more, and a surface fewer
+
+  pub opened : (id : SurfaceId) → is_set sets id ≡ false → (count' : SurfaceId → Option ℕ) → ((q : SurfaceId) → count' q ≡ cond (same_surface id q) (Some 0) (count q)) → IsIndexed (opening id sets) count' edge ends size
+  unfolding opening
+  opened id none count' counts = subst (λ (l : List Ranged). IsIndexed l count' edge ends size) (sym (ap (λ t. cond t sets (sets ++ record { id = id; ranges = [] } ∷ [])) none)) (record {
+    counted = more_counted;
+    ranged = λ q. good.ranged q ∙ ap (λ l. slice_get l q.nth) (sym (same_ranges q.of));
+    placed = good.placed;
+    held = good.held;
+    filled = good.filled;
+    once = ap (has_repeat same_surface) (ids_behind sets id []) ∙ still_once;
+  })
+    where
+      same_ranges : (x : SurfaceId) → ranges_of (sets ++ record { id = id; ranges = [] } ∷ []) x ≡ ranges_of sets x
+      same_ranges x =
+          behind sets id x [] none ∙ elim (same_surface id x) as (λ (t : Bool). same_surface id x ≡ t → cond t [] (ranges_of sets x) ≡ ranges_of sets x) [
+            | true ↦ λ e. sym (ap (ranges_of sets) (sym (from_same id x e)) ∙ unset_ranges sets id none)
+            | false ↦ λ e. refl
+          ] refl
+
+      more_counted : (q : SurfaceId) → count' q ≡ cond (is_set (sets ++ record { id = id; ranges = [] } ∷ []) q) (Some (length (ranges_of (sets ++ record { id = id; ranges = [] } ∷ []) q))) None
+      more_counted q =
+          counts q
+          ∙ elim (same_surface id q) as (λ (t : Bool). same_surface id q ≡ t → cond t (Some 0) (count q) ≡ cond (t || is_set sets q) (Some (length (ranges_of sets q))) None) [
+            | true ↦ λ e. ap (λ n. Some n) (sym (ap length (ap (ranges_of sets) (sym (from_same id q e)) ∙ unset_ranges sets id none)))
+            | false ↦ λ e. good.counted q
+          ] refl
+          ∙ sym (λ i. cond (set_behind sets id q [] i) (Some (length (same_ranges q i))) None)
+
+      still_once : has_repeat same_surface (map (λ s. s.id) sets ++ id ∷ []) ≡ false
+      still_once =
+          sym (ap (λ t. has_repeat same_surface (cond t (map (λ (s : Ranged). s.id) sets) (map (λ s. s.id) sets ++ id ∷ []))) (sym (set_ids sets id) ∙ none))
+          ∙ stays_once same_surface from_same self_same (id ∷ []) (map (λ s. s.id) sets) good.once
+
+  pub forgotten : (id : SurfaceId) → ranges_of sets id ≡ [] → (count' : SurfaceId → Option ℕ) → ((q : SurfaceId) → count' q ≡ cond (same_surface id q) None (count q)) → IsIndexed (removing id sets) count' edge ends size
+  forgotten id empty count' counts = record {
+    counted = fewer_counted;
+    ranged = λ q. good.ranged q ∙ ap (λ l. slice_get l q.nth) (sym (same_ranges q.of));
+    placed = good.placed;
+    held = good.held;
+    filled = good.filled;
+    once = removed_once sets id good.once;
+  }
+    where
+      same_ranges : (x : SurfaceId) → ranges_of (removing id sets) x ≡ ranges_of sets x
+      same_ranges x =
+          removed_ranges sets id x ∙ elim (same_surface id x) as (λ (t : Bool). same_surface id x ≡ t → cond t [] (ranges_of sets x) ≡ ranges_of sets x) [
+            | true ↦ λ e. sym (ap (ranges_of sets) (sym (from_same id x e)) ∙ empty)
+            | false ↦ λ e. refl
+          ] refl
+
+      fewer_counted : (q : SurfaceId) → count' q ≡ cond (is_set (removing id sets) q) (Some (length (ranges_of (removing id sets) q))) None
+      fewer_counted q =
+          counts q
+          ∙ elim (same_surface id q) as (λ (t : Bool). cond t None (count q) ≡ cond (not t && is_set sets q) (Some (length (ranges_of sets q))) None) [ true ↦ refl | false ↦ good.counted q ]
+          ∙ sym (λ i. cond (removed_has sets id q i) (Some (length (same_ranges q i))) None)
+
+  -- each range of a surface is in the index
+  pub edge_there : (id : SurfaceId) (k : ℕ) → k < length (ranges_of sets id) → is_some (edge (record { of = id; nth = k })) ≡ true
+  edge_there id k low =
+      let some = some_within (ranges_of sets id) k low in
+      by_edge (edge (record { of = id; nth = k })) (good.ranged (record { of = id; nth = k }) ∙ some.1)
+    where
+      by_edge : (o : Option Edge) {x : SurfaceRange} → option_map (λ (e : Edge). e.range) o ≡ Some x → is_some o ≡ true
+      by_edge None e = absurd (cc)
+      by_edge (Some e) f = refl
+
+  -- a surface is set where the index knows it
+  pub counts_set : (id : SurfaceId) → is_some (count id) ≡ is_set sets id
+  counts_set id = ap is_some (good.counted id) ∙ by_set (is_set sets id)
+    where
+      by_set : (t : Bool) → is_some (cond t (Some (length (ranges_of sets id))) None) ≡ t
+      by_set true = refl
+      by_set false = refl
+
+  -- What names a surface
+
+  abbrev names_at : SurfaceId → Place → Bool
+  names_at id p = named_at edge ends id p
+
+  pub names_found : (id : SurfaceId) (p : Place) → names_at id p ≡ true → is_named_in sets id ≡ true
+  unfolding is_named_by
+  names_found id p h = by_end (ends p) refl h
+    where
+      by_edge : (n : Nth) (o : Option Edge) → edge n ≡ o → option_map_or (λ (e : Edge). names id e.range) o false ≡ true → is_named_in sets id ≡ true
+      by_edge n None f h = absurd (cc)
+      by_edge n (Some e) f h =
+          named_with sets n.of id (found_there (names id) (ranges_of sets n.of) n.nth e.range (sym (good.ranged n) ∙ ap (option_map (λ (e : Edge). e.range)) f) h)
+
+      by_end : (o : Option Nth) → ends p ≡ o → option_map_or (λ (n : Nth). option_map_or (λ (e : Edge). names id e.range) (edge n) false) o false ≡ true → is_named_in sets id ≡ true
+      by_end None f h = absurd (cc)
+      by_end (Some n) f h = by_edge n (edge n) refl h
+
+  pub names_nowhere : (id : SurfaceId) → ((k : ℕ) → k < or_zero (size (key_of id)) → names_at id (record { group = key_of id; at = k }) ≡ false) → is_named_in sets id ≡ false
+  names_nowhere id none =
+      elim (is_named_in sets id) as (λ (t : Bool). is_named_in sets id ≡ t → t ≡ false) [ true ↦ λ h. contrary (naming sets id good.once h) | false ↦ λ h. refl ] refl
+    where
+      with_edge : (w : Naming sets id) (o : Option Edge) → edge (record { of = w.of; nth = w.nth }) ≡ o → option_map (λ (e : Edge). e.range) o ≡ Some w.range → true ≡ false
+      with_edge w None f h = absurd (cc)
+      with_edge w (Some e) f h =
+          let is : e.range ≡ w.range = cc in
+          let placed = good.placed (record { of = w.of; nth = w.nth }) e f in
+          let named : names id e.range ≡ true = ap (names id) is ∙ w.named in
+          let group = named_group id e.range named in
+          let low : e.at < or_zero (size (key_of id)) = subst (λ (h : Group). e.at < or_zero (size h)) group placed.1 in
+          let here : place_of e ≡ record { group = key_of id; at = e.at } = λ i. record { group = group i; at = e.at } in
+          sym (ap (names_at id) (sym here) ∙ ap (λ o. option_map_or (λ (n : Nth). option_map_or (λ (e : Edge). names id e.range) (edge n) false) o false) placed.0 ∙ ap (λ o. option_map_or (λ (e : Edge). names id e.range) o false) f ∙ named) ∙ none e.at low
+
+      contrary : Naming sets id → true ≡ false
+      contrary w = with_edge w (edge (record { of = w.of; nth = w.nth })) refl (good.ranged (record { of = w.of; nth = w.nth }) ∙ w.there)
+
+-- nothing is set, and the indexes are empty
+pub none_set : (count : SurfaceId → Option ℕ) (edge : Nth → Option Edge) (ends : Place → Option Nth) (size : Group → Option ℕ)
+    → ((q : SurfaceId) → count q ≡ None) → ((q : Nth) → edge q ≡ None) → ((p : Place) → ends p ≡ None) → ((h : Group) → size h ≡ None) → IsIndexed [] count edge ends size
+unfolding ranges_of
+none_set count edge ends size a b c d = record {
+  counted = a;
+  ranged = λ q. ap (option_map (λ (e : Edge). e.range)) (b q);
+  placed = λ q e h. let no_way : None ≡ Some e = sym (b q) ∙ h in absurd (cc);
+  held = λ p q h. let no_way : None ≡ Some q = sym (c p) ∙ h in absurd (cc);
+  filled = λ p low. absurd (omega (arith, low, ap or_zero (d p.group)));
+  once = refl;
+}
+
+-- the same indexes
+pub kept : (sets : List Ranged) (count count' : SurfaceId → Option ℕ) (edge edge' : Nth → Option Edge) (ends ends' : Place → Option Nth) (size size' : Group → Option ℕ)
+    → IsIndexed sets count edge ends size → count ≡ count' → edge ≡ edge' → ends ≡ ends' → size ≡ size' → IsIndexed sets count' edge' ends' size'
+kept sets count count' edge edge' ends ends' size size' good a b c d =
+    subst (λ (f : SurfaceId → Option ℕ). IsIndexed sets f edge' ends' size') a (subst (λ (f : Nth → Option Edge). IsIndexed sets count f ends' size') b
+    (subst (λ (f : Place → Option Nth). IsIndexed sets count edge f size') c (subst (λ (f : Group → Option ℕ). IsIndexed sets count edge ends f) d good)))
+
+-- No more stand in a map than it has entries
+
+module _ {K : Type 0} (same : K → K → Bool) (from : (a b : K) → same a b ≡ true → a ≡ b) (self : (a : K) → same a a ≡ true) (key : ℕ → K) (number : (j k : ℕ) → key j ≡ key k → j ≡ k) where
+  abbrev below : ℕ → List K
+  below zero = []
+  below (suc n) = key n ∷ below n
+
+  below_long : (n : ℕ) → length (below n) ≡ n
+  below_long zero = refl
+  below_long (suc n) = let rest = below_long n in omega (arith, rest)
+
+  not_below : (n k : ℕ) → n ≤ k → list_any (same (key k)) (below n) ≡ false
+  not_below zero k h = refl
+  not_below (suc n) k h =
+      elim (same (key k) (key n)) as (λ (t : Bool). same (key k) (key n) ≡ t → (t || list_any (same (key k)) (below n)) ≡ false) [
+        | true ↦ λ e. absurd (let is = number k n (from (key k) (key n) e) in omega (arith, is, h))
+        | false ↦ λ e. not_below n k (omega (arith, h))
+      ] refl
+
+  below_once : (n : ℕ) → has_repeat same (below n) ≡ false
+  below_once zero = refl
+  below_once (suc n) = let none = not_below n n (omega arith) in let rest = below_once n in rw (none, rest)
+
+  in_below : {X : Type 0} (es : List (K × X)) (n : ℕ) → ((k : ℕ) → k < n → is_some (lookup (same (key k)) es) ≡ true) → (x : K) → list_any (same x) (below n) ≡ true → list_any (same x) (keys_of es) ≡ true
+  in_below es zero all x h = absurd (cc)
+  in_below es (suc n) all x h =
+      elim (same x (key n)) as (λ (t : Bool). same x (key n) ≡ t → (t || list_any (same x) (below n)) ≡ true → list_any (same x) (keys_of es) ≡ true) [
+        | true ↦ λ e g. subst (λ (x : K). list_any (same x) (keys_of es) ≡ true) (sym (from x (key n) e)) (sym (is_some-lookup (same (key n)) es) ∙ all n (omega arith))
+        | false ↦ λ e g. in_below es n (λ k low. all k (omega (arith, low))) x g
+      ] refl h
+
+  pub no_more : {X : Type 0} (es : List (K × X)) (n : ℕ) → ((k : ℕ) → k < n → is_some (lookup (same (key k)) es) ≡ true) → n ≤ length es
+  no_more es n all =
+      let few = fits same from self (below n) (keys_of es) (below_once n) (in_below es n all) in
+      omega (arith, few, below_long n, length-keys_of es)
+
+-- the place of a range that is there changes
+pub moved_edge : (edge : Nth → Option Edge) (slot q : Nth) (e : Edge) (at : ℕ) → edge slot ≡ Some e
+    → cond (same_nth slot q) (Some (record { range = e.range; at = at })) (edge q) ≡ cond (same_nth slot q) (option_map (λ (e : Edge). record { range = e.range; at = at }) (edge q)) (edge q)
+moved_edge edge slot q e at was =
+    elim (same_nth slot q) as (λ (t : Bool). same_nth slot q ≡ t → cond t (Some (record { range = e.range; at = at })) (edge q) ≡ cond t (option_map (λ (e : Edge). record { range = e.range; at = at }) (edge q)) (edge q)) [
+      | true ↦ λ s. sym (ap (option_map (λ (e : Edge). record { range = e.range; at = at })) (ap edge (sym (from_nth slot q s)) ∙ was))
+      | false ↦ λ s. refl
+    ] refl
+
+-- a map that knows which surfaces are set has as many entries
+distinct_once : (ids : List SurfaceId) → IsDistinct same_surface ids → has_repeat same_surface ids ≡ false
+unfolding IsDistinct
+distinct_once [] d = refl
+distinct_once (x ∷ ids) d = no_or _ _ (nowhere ids d.0) (distinct_once ids d.1)
+  where
+    no_or : (a b : Bool) → a ≡ false → b ≡ false → (a || b) ≡ false
+    no_or a b p q = rw (p, q)
+
+    nowhere : (ids : List SurfaceId) → AllByRecursion (λ y. same_surface x y ≡ false) ids → list_any (same_surface x) ids ≡ false
+    nowhere [] all = refl
+    nowhere (y ∷ ids) all = no_or _ _ all.0 (nowhere ids all.1)
+
+pub same_length : (sets : List Ranged) (es : List (SurfaceId × ℕ)) → has_repeat same_surface (map (λ s. s.id) sets) ≡ false → IsDistinct same_surface (keys_of es)
+    → ((q : SurfaceId) → is_some (lookup (same_surface q) es) ≡ is_set sets q) → length es ≡ length sets
+same_length sets es once distinct same =
+    let both : (q : SurfaceId) → list_any (same_surface q) (keys_of es) ≡ list_any (same_surface q) (map (λ s. s.id) sets) = λ q. sym (is_some-lookup (same_surface q) es) ∙ same q ∙ set_ids sets q in
+    let few = fits same_surface from_same self_same (map (λ s. s.id) sets) (keys_of es) once (λ q h. both q ∙ h) in
+    let many = fits same_surface from_same self_same (keys_of es) (map (λ s. s.id) sets) (distinct_once (keys_of es) distinct) (λ q h. sym (both q) ∙ h) in
+    omega (arith, few, many, length-keys_of es, ids_length sets)
+  where
+    ids_length : (sets : List Ranged) → length (map (λ (s : Ranged). s.id) sets) ≡ length sets
+    ids_length [] = refl
+    ids_length (s ∷ sets) = let rest = ids_length sets in omega (arith, rest)
+
+pub one_more_below : (p : ℕ → Bool) (n : ℕ) → ((k : ℕ) → k < n → p k ≡ false) → p n ≡ false → (k : ℕ) → k < n + 1 → p k ≡ false
+one_more_below p n before here k low =
+    elim (k == n) as (λ (t : Bool). (k == n) ≡ t → p k ≡ false) [
+      | true ↦ λ e. ap p (from_eqb k n e) ∙ here
+      | false ↦ λ e. before k (less k n low e)
+    ] refl
+  where
+    less : (k n : ℕ) → k < n + 1 → (k == n) ≡ false → k < n
+    less k n h e = grind (arith, nat_tests)

@@ -1,0 +1,6 @@
+use Rattle.std.proofs.Common.{◌∙◌}
+use Rattle.vz_refs.proofs.Noting.{stands}
+use Rattle.vz_refs.proofs.marking.is_out.Goals as goal
+
+pub returns-in-Some : goal.returns-in-Some
+returns-in-Some c = c.stands_at.ensures ∙ stands c.args.sets.now.keys c.args.places.now c.args.out.now c.args.id.now c.in-Some.place c.requires c.in-Some.ensures

@@ -1,0 +1,95 @@
+-- What is set, range by range, and the indexes that know it.
+use Rattle.std.specs.Prelude.{◌≡◌, ℕ, ◌-◌, ◌<◌, Bool, false, IsTrue, ◌==◌, ◌&&◌, Option, Some, None, List, [], ◌∷◌, ◌++◌, length, take, map, if◌then◌else◌, position, slice_get, slice_set, is_some}
+use Rattle.std.specs.List.{list_any}
+use Rattle.std.specs.Option.{option_map, option_map_or, option_and_then}
+use Rattle.vz_ids.specs.declared.SurfaceId.{SurfaceId}
+use Rattle.vz_ids.specs.declared.SurfaceRange.{SurfaceRange}
+use Rattle.vz_ids.specs.Ids.{same_surface, same_sink}
+use Rattle.vz_frame.specs.Frame.{has_repeat}
+use Rattle.vz_refs.specs.Referring.{Ranged, is_set, ranges_of, removing}
+use Rattle.vz_refs.specs.declared.listing.Changes.{Changes}
+use Rattle.vz_refs.specs.declared.listing.Changes.TheVariants.{Nothing, Opened', Longer', Shorter', Removed'}
+use Rattle.vz_refs.specs.declared.sets.Nth.{Nth}
+use Rattle.vz_refs.specs.declared.sets.Group.{Group}
+use Rattle.vz_refs.specs.declared.sets.Place.{Place}
+use Rattle.vz_refs.specs.declared.sets.Edge.{Edge}
+
+-- the ranges of a surface change
+abbrev pub change_one : (List SurfaceRange → List SurfaceRange) → SurfaceId → Ranged → Ranged
+change_one f id s = if same_surface s.id id then record { id = s.id; ranges = f s.ranges } else s
+
+-- the ranges of a surface change, where it is set
+unfoldable pub changing : (List SurfaceRange → List SurfaceRange) → SurfaceId → List Ranged → List Ranged
+changing f id sets = map (change_one f id) sets
+
+-- one range more at the end
+abbrev pub one_more : SurfaceRange → List SurfaceRange → List SurfaceRange
+one_more range ranges = ranges ++ range ∷ []
+
+-- the last range is gone
+abbrev pub but_last : List SurfaceRange → List SurfaceRange
+but_last ranges = take (length ranges - 1) ranges
+
+-- a surface is set from now on, without ranges unless it has some
+unfoldable pub opening : SurfaceId → List Ranged → List Ranged
+opening id sets = if is_set sets id then sets else sets ++ record { id = id; ranges = [] } ∷ []
+
+-- what is set after these changes
+unfoldable pub listed : Changes → List Ranged
+listed Nothing = []
+listed (Opened' id mark below) = opening id (listed below)
+listed (Longer' id range mark below) = changing (one_more range) id (listed below)
+listed (Shorter' id mark below) = changing but_last id (listed below)
+listed (Removed' id mark below) = removing id (listed below)
+
+-- the same place among the ranges of the same surface
+abbrev pub same_nth : Nth → Nth → Bool
+same_nth a b = same_surface a.of b.of && (a.nth == b.nth)
+
+-- the same sink with the same token
+abbrev pub same_key : Group → Group → Bool
+same_key a b = same_sink a.sink b.sink && (a.token.0 == b.token.0)
+
+-- the same place in the same group
+abbrev pub same_place : Place → Place → Bool
+same_place a b = same_key a.group b.group && (a.at == b.at)
+
+-- the group of a surface
+abbrev pub key_of : SurfaceId → Group
+key_of id = record { sink = id.sink; token = id.local.token }
+
+-- the place of a range in the group of its end
+abbrev pub place_of : Edge → Place
+place_of e = record { group = key_of e.range.end; at = e.at }
+
+-- a number, and 0 where there is none
+abbrev pub or_zero : Option ℕ → ℕ
+or_zero o = option_map_or (λ n. n) o 0
+
+-- what is set, as contracts see it: by the order in which it was set, by the order of the index, and the room that was made before
+pub record Known : Type 0 where
+  pub list : List Ranged
+  pub keys : List SurfaceId
+  pub spare : ℕ
+
+-- the indexes know what is set: how many ranges a surface has, each of them, and in each group those whose ends are in it
+pub record IsIndexed (sets : List Ranged) (count : SurfaceId → Option ℕ) (edge : Nth → Option Edge) (ends : Place → Option Nth) (size : Group → Option ℕ) : Type 0 where
+  pub counted : (id : SurfaceId) → count id ≡ (if is_set sets id then Some (length (ranges_of sets id)) else None)
+  pub ranged : (n : Nth) → option_map (λ e. e.range) (edge n) ≡ slice_get (ranges_of sets n.of) n.nth
+  pub placed : (n : Nth) (e : Edge) → edge n ≡ Some e → (ends (place_of e) ≡ Some n) × (e.at < or_zero (size (key_of e.range.end)))
+  pub held : (p : Place) (n : Nth) → ends p ≡ Some n → (e : Edge) × (edge n ≡ Some e) × (place_of e ≡ p)
+  pub filled : (p : Place) → p.at < or_zero (size p.group) → IsTrue (is_some (ends p))
+  pub once : has_repeat same_surface (map (λ s. s.id) sets) ≡ false
+
+-- the place that is noted for a surface
+abbrev pub noted : List SurfaceId → List ℕ → SurfaceId → Option ℕ
+noted keys places id = option_and_then (λ i. slice_get places i) (position (same_surface id) keys)
+
+-- the places, with one noted for a surface
+abbrev pub noting : List SurfaceId → SurfaceId → ℕ → List ℕ → List ℕ
+noting keys id place places = option_map_or (λ i. slice_set places i place) (position (same_surface id) keys) places
+
+-- a surface that is out and has a place stands there
+abbrev pub AreNoted : List SurfaceId → List ℕ → List SurfaceId → Type 0
+AreNoted keys places out =
+    (id : SurfaceId) (place : ℕ) → noted keys places id ≡ Some place → IsTrue (list_any (same_surface id) out) → slice_get out place ≡ Some id

@@ -1,0 +1,252 @@
+//! Which ranges are set for which surfaces, with an index of their ends by group.
+ghost use Rattle.std.specs.Prelude.{◌≡◌, ◌≤◌, ◌<◌, ◌+◌, [], ◌++◌, length, map, position, IsTrue, IsOk, OnOk, Some, slice_get};
+ghost use Rattle.vz_ids.specs.Ids.{same_surface};
+ghost use Rattle.vz_refs.specs.Referring.{is_set, ranges_of, set_one, removing, is_named_in};
+ghost use Rattle.vz_refs.specs.Indexing.{opening, changing, one_more, but_last, key_of};
+
+use crate::indexes::{move_edge, size_of, write};
+use crate::listing::Listing;
+use crate::naming::names_at;
+use indexmap::IndexMap;
+use std::alloc::Global;
+use std::marker::Model;
+use vz_base::Memory;
+use vz_ids::{EmbedToken, FrameSinkId, SurfaceId, SurfaceRange};
+
+/// A place among the ranges of a surface.
+#[derive(Clone, Copy, PartialEq, Eq, Hash)]
+pub(crate) struct Nth {
+    pub(crate) of: SurfaceId,
+    pub(crate) nth: usize,
+}
+
+/// What the surfaces of a group have in common.
+#[derive(Clone, Copy, PartialEq, Eq, Hash)]
+pub(crate) struct Group {
+    pub(crate) sink: FrameSinkId,
+    pub(crate) token: EmbedToken,
+}
+
+/// A place in a group.
+#[derive(Clone, Copy, PartialEq, Eq, Hash)]
+pub(crate) struct Place {
+    pub(crate) group: Group,
+    pub(crate) at: usize,
+}
+
+/// A range that is set, and where it stands in the group of its end.
+#[derive(Clone, Copy)]
+pub(crate) struct Edge {
+    pub(crate) range: SurfaceRange,
+    pub(crate) at: usize,
+}
+
+/// The group of a surface.
+pub(crate) fn group_of(id: &SurfaceId) -> Group
+    ensures { result ≡ key_of id.now }
+{
+    Group {
+        sink: id.sink,
+        token: id.local.token,
+    }
+}
+
+/// The ranges that are set for surfaces. Contracts see them in the order in which they were
+/// set and, beside them, the room that was made before. In each group those whose ends are in
+/// it stand one after the other, so that what names a surface is not looked for among all.
+#[derive(Drop)]
+pub(crate) struct Sets {
+    counts: IndexMap<SurfaceId, usize>,
+    edges: IndexMap<Nth, Edge>,
+    ends: IndexMap<Place, Nth>,
+    sizes: IndexMap<Group, usize>,
+    listing: Listing,
+}
+
+impl Model for Sets {
+    ghost use Rattle.std.specs.Prelude.{min};
+    ghost use Rattle.indexmap.specs.IndexMap.{get, keys, spare as spare_of};
+    ghost use Rattle.vz_ids.specs.Ids.{same_surface};
+    ghost use Rattle.vz_refs.specs.Indexing.{Known, IsIndexed, same_nth, same_place, same_key};
+
+    ghost Value = { Known };
+
+    ghost view = { λ a. record {
+      list = a.listing;
+      keys = keys a.counts;
+      spare = min (spare_of a.counts) (min (spare_of a.edges) (min (spare_of a.ends) (spare_of a.sizes)));
+    } };
+
+    ghost invariant = { λ a. IsIndexed a.listing (get same_surface a.counts) (get same_nth a.edges)
+        (get same_place a.ends) (get same_key a.sizes) };
+}
+
+impl Sets {
+    /// Nothing is set.
+    pub(crate) fn new(alloc: Global) -> Sets
+        ensures { result.list ≡ [] }
+    {
+        Sets {
+            counts: IndexMap::new(alloc),
+            edges: IndexMap::new(alloc),
+            ends: IndexMap::new(alloc),
+            sizes: IndexMap::new(alloc),
+            listing: Listing::new(),
+        }
+    }
+
+    /// Makes room for at least so many more surfaces and ranges together.
+    pub(crate) fn reserve(&mut self, n: usize) -> Result<(), Memory>
+        ensures list { self.new.list ≡ self.old.list }
+        ensures ok { OnOk result (n ≤ self.new.spare) }
+        ensures succeeds { n ≤ self.old.spare → IsOk result }
+        ensures spare { self.old.spare ≤ self.new.spare }
+    {
+        self.counts.reserve(n)?;
+        self.edges.reserve(n)?;
+        self.ends.reserve(n)?;
+        self.sizes.reserve(n)?;
+        Ok(())
+    }
+
+    /// Whether a surface is set.
+    pub(crate) fn has(&self, id: &SurfaceId) -> bool
+        ensures { result ≡ is_set self.now.list id.now }
+    {
+        self.counts.contains_key(id)
+    }
+
+    /// How many ranges a surface has.
+    pub(crate) fn count(&self, id: &SurfaceId) -> usize
+        ensures { result ≡ length (ranges_of self.now.list id.now) }
+    {
+        match self.counts.get(id) {
+            Some(count) => *count,
+            None => 0,
+        }
+    }
+
+    /// A range of a surface. Condition: it has so many.
+    pub(crate) fn nth(&self, of: SurfaceId, nth: usize) -> SurfaceRange
+        requires { nth < length (ranges_of self.now.list of) }
+        ensures { slice_get (ranges_of self.now.list of) nth ≡ Some result }
+    {
+        self.edges.get(&Nth { of, nth }).unwrap().range
+    }
+
+    /// A surface is set from now on.
+    pub(crate) fn open(&mut self, id: SurfaceId)
+        requires { 0 < self.old.spare }
+        ensures list { self.new.list ≡ opening id self.old.list }
+        ensures spare { self.old.spare ≤ self.new.spare + 1 }
+    {
+        if !self.counts.contains_key(&id) {
+            self.counts.insert(id, 0).unwrap();
+            self.listing.open(id);
+        }
+    }
+
+    /// A surface that is set has one range more.
+    pub(crate) fn append(&mut self, id: SurfaceId, range: SurfaceRange)
+        requires set { IsTrue (is_set self.old.list id) }
+        requires room { 0 < self.old.spare }
+        ensures list { self.new.list ≡ changing (one_more range) id self.old.list }
+        ensures spare { self.old.spare ≤ self.new.spare + 1 }
+    {
+        prove!(self.edges.len() < 1 << 63);
+        prove!(self.ends.len() < 1 << 63);
+        let slot = Nth {
+            of: id,
+            nth: self.count(&id),
+        };
+        let group = group_of(&range.end);
+        let at = size_of(&self.sizes, group);
+        self.edges.insert(slot, Edge { range, at }).unwrap();
+        self.ends.insert(Place { group, at }, slot).unwrap();
+        self.sizes.insert(group, at + 1).unwrap();
+        write(&mut self.counts, id, slot.nth + 1);
+        self.listing.lengthen(id, range);
+    }
+
+    /// The last range of a surface is not set any more. Condition: it has one.
+    pub(crate) fn pop(&mut self, id: SurfaceId)
+        requires { 0 < length (ranges_of self.old.list id) }
+        ensures list { self.new.list ≡ changing but_last id self.old.list }
+        ensures spare { self.old.spare ≤ self.new.spare }
+    {
+        let slot = Nth {
+            of: id,
+            nth: self.count(&id) - 1,
+        };
+        let edge = self.edges.swap_remove(&slot).unwrap();
+        let group = group_of(&edge.range.end);
+        let last = size_of(&self.sizes, group) - 1;
+        let moved = self.ends.swap_remove(&Place { group, at: last }).unwrap();
+        let at = edge.at;
+        write(&mut self.ends, Place { group, at }, moved);
+        move_edge(&mut self.edges, moved, at);
+        write(&mut self.sizes, group, last);
+        write(&mut self.counts, id, slot.nth);
+        self.listing.shorten(id);
+    }
+
+    /// A surface is not set any more. Condition: it has no ranges.
+    pub(crate) fn forget(&mut self, id: SurfaceId)
+        requires { ranges_of self.old.list id ≡ [] }
+        ensures list { self.new.list ≡ removing id self.old.list }
+        ensures spare { self.old.spare ≤ self.new.spare }
+    {
+        self.counts.swap_remove(&id);
+        self.listing.remove(id);
+    }
+
+    /// A surface has no ranges from now on.
+    pub(crate) fn clear(&mut self, id: SurfaceId)
+        ensures list { self.new.list ≡ map (set_one id []) self.old.list }
+        ensures spare { self.old.spare ≤ self.new.spare }
+    {
+        prove!(self.edges.len() < 1 << 63);
+        for taken in 0..self.count(&id) {
+            self.pop(id);
+        }
+    }
+
+    /// A surface that is set has more ranges.
+    pub(crate) fn extend(&mut self, id: SurfaceId, ranges: &[SurfaceRange])
+        requires set { IsTrue (is_set self.old.list id) }
+        requires room { length ranges.now ≤ self.old.spare }
+        ensures list { self.new.list ≡ changing (λ old. old ++ ranges.now) id self.old.list }
+        ensures spare { self.old.spare ≤ self.new.spare + length ranges.now }
+    {
+        for range in ranges {
+            self.append(id, *range);
+        }
+    }
+
+    /// Whether a range that is set names a surface.
+    pub(crate) fn is_named(&self, id: &SurfaceId) -> bool
+        ensures { result ≡ is_named_in self.now.list id.now }
+    {
+        let group = group_of(id);
+        for at in 0..size_of(&self.sizes, group) {
+            if names_at(&self.edges, &self.ends, Place { group, at }, id) {
+                return true;
+            }
+        }
+        false
+    }
+
+    /// The place of a surface in the index.
+    pub(crate) fn place(&self, id: &SurfaceId) -> Option<usize>
+        ensures { result ≡ position (same_surface id.now) self.now.keys }
+    {
+        self.counts.get_index_of(id)
+    }
+
+    /// How many surfaces are set.
+    pub(crate) fn len(&self) -> usize
+        ensures { result ≡ length self.now.list }
+    {
+        self.counts.len()
+    }
+}
