@@ -1,2 +1,10 @@
-pub mod Freeing
+pub mod Seating
+pub mod Keeping
+pub mod Telling
+pub mod Adding
+pub mod Orders
+pub mod Released
+pub mod Done
+pub mod Views
+pub mod Tracked
 pub mod Rounds

@@ -5,7 +5,6 @@ use Rattle.vz_ids.specs.declared.FrameSinkId.{FrameSinkId}
 use Rattle.vz_ids.specs.declared.SurfaceId.{SurfaceId}
 use Rattle.vz_ids.specs.declared.Sub.{Sub}
 use Rattle.vz_ids.specs.Ids.{same_sub, same_sink, at_least}
-use Rattle.vz_deps.specs.declared.tracker.Lack.{Lack}
 
 -- a submission, and the dependencies that it lacks
 pub record Blocked : Type 0 where
@@ -49,18 +48,6 @@ meets_any ids d = list_any (λ id. meets id d) ids
 abbrev pub is_of_sink : FrameSinkId → SurfaceId → Bool
 is_of_sink sink d = same_sink d.sink sink
 
--- a dependency that a submission lacks
-abbrev pub lack_of : Sub → SurfaceId → Lack
-lack_of s d = record { sub = s; on = d }
-
--- what a submission lacks, of all that is lacked
-abbrev pub lacked : List Lack → Sub → List SurfaceId
-lacked lacks s = map (λ l. l.on) (filter (λ l. same_sub l.sub s) lacks)
-
--- a submission lacks something
-unfoldable pub lacks_some : List Lack → Sub → Bool
-lacks_some lacks s = list_any (λ l. same_sub l.sub s) lacks
-
--- submissions with what they lack
-unfoldable pub gathered : List Sub → List Lack → List Blocked
-gathered subs lacks = map (λ s. record { sub = s; unmet = lacked lacks s }) subs
+-- submissions by their numbers, with what each lacks
+unfoldable pub listed : (ℕ → List SurfaceId) → List (ℕ × Sub) → List Blocked
+listed unmet subs = map (λ e. record { sub = e.1; unmet = unmet e.0 }) subs

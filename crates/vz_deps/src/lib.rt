@@ -1,8 +1,11 @@
 //! The dependencies of submissions that wait: which surfaces each of them still lacks.
 #![tactic(auto)]
 
+mod bunches;
+mod lacks;
 pub mod laws;
-mod meeting;
+mod placing;
+mod releasing;
 mod tracker;
 
 pub use tracker::Tracker;

@@ -1,42 +1,52 @@
 //! The submissions that are blocked by dependencies.
-ghost use Rattle.std.specs.Prelude.{◌≡◌, ◌≤◌, ◌<◌, ◌+◌, [], ◌∷◌, ◌++◌, length, map, false, IsFalse, IsOk, OnOk, OnErr, vec_len, vec_capacity};
-ghost use Rattle.vz_ids.specs.Ids.{same_surface};
-ghost use Rattle.vz_frame.specs.Frame.{has_repeat};
-ghost use Rattle.vz_deps.specs.Tracking.{is_blocked, without, freed, still, meets, meets_any, is_of_sink, lack_of};
+ghost use Rattle.std.specs.Prelude.{◌≡◌, ◌≤◌, ◌<◌, ◌+◌, ◌-◌, [], ◌∷◌, ◌++◌, ℕ, not, nat_eq, length, filter, false, Some, IsFalse, IsOk, OnOk, OnErr};
+ghost use Rattle.std.specs.Map.{lookup};
+ghost use Rattle.indexmap.specs.IndexMap.{spare as spare_of};
+ghost use Rattle.vz_ids.specs.Ids.{same_sub};
+ghost use Rattle.vz_ids.specs.declared.Sub.{Sub as SubOf};
+ghost use Rattle.vz_deps.specs.Tracking.{is_blocked, without, freed, still, meets, meets_any, is_of_sink};
+ghost use Rattle.vz_deps.specs.Lacking.{IsKept, HasCounts, Meets, IsRid, unmet_in, room_of};
+ghost use Rattle.vz_deps.specs.Ordered.{in_order};
+ghost use Rattle.vz_deps.specs.Numbering.{IsNumbered, room_for};
 
-use crate::meeting::{free, is_of_sink, is_same, meets, meets_any};
+use crate::lacks::{Lacks, Told};
+use crate::releasing::release;
+use indexmap::IndexMap;
 use std::alloc::Global;
 use std::marker::Model;
 use vz_base::Memory;
 use vz_frame::Room;
 use vz_ids::{FrameSinkId, Sub, SurfaceId};
 
-/// A dependency that a submission lacks.
-#[derive(Clone, Copy)]
-pub(crate) struct Lack {
-    pub(crate) sub: Sub,
-    pub(crate) on: SurfaceId,
-}
-
 /// The submissions that are blocked, each by the dependencies that it lacks. Contracts see
 /// them in the order in which they were blocked and, beside them, the room that was made
-/// before.
+/// before. Each has a number, which rises with each that is blocked, and the lacks stand in
+/// bunches, one for each group of surfaces: what becomes active looks at one bunch alone.
 #[derive(Drop)]
 pub struct Tracker {
-    subs: Vec<Sub>,
-    lacks: Vec<Lack>,
+    subs: IndexMap<u64, Sub>,
+    numbers: IndexMap<Sub, u64>,
+    lacks: Lacks,
+    next: u64,
 }
 
 impl Model for Tracker {
-    ghost use Rattle.std.specs.Prelude.{◌-◌, min, vec_len, vec_capacity};
-    ghost use Rattle.vz_deps.specs.Tracking.{Tracked, gathered};
+    ghost use Rattle.std.specs.Prelude.{◌-◌, min};
+    ghost use Rattle.indexmap.specs.IndexMap.{spare as spare_of};
+    ghost use Rattle.vz_deps.specs.Tracking.{Tracked, listed};
+    ghost use Rattle.vz_deps.specs.Lacking.{unmet_in, room_of};
+    ghost use Rattle.vz_deps.specs.Ordered.{in_order};
+    ghost use Rattle.vz_deps.specs.Numbering.{IsTracked, LAST_NUMBER};
 
     ghost Value = { Tracked };
 
     ghost view = { λ a. record {
-      list = gathered a.subs.items a.lacks.items;
-      spare = min (vec_capacity a.subs - vec_len a.subs) (vec_capacity a.lacks - vec_len a.lacks);
+      list = listed (unmet_in a.lacks) (in_order a.subs.entries);
+      spare = min (spare_of a.subs) (min (spare_of a.numbers)
+          (min (room_of a.lacks) (LAST_NUMBER - a.next)));
     } };
+
+    ghost invariant = { λ a. IsTracked a.subs.entries a.numbers.entries a.lacks a.next };
 }
 
 impl Tracker {
@@ -45,8 +55,10 @@ impl Tracker {
         ensures { result.list ≡ [] }
     {
         Tracker {
-            subs: Vec::new(alloc),
-            lacks: Vec::new(alloc),
+            subs: IndexMap::new(alloc),
+            numbers: IndexMap::new(alloc),
+            lacks: Lacks::new(alloc),
+            next: 0,
         }
     }
 
@@ -58,9 +70,9 @@ impl Tracker {
         ensures succeeds { n ≤ self.old.spare → IsOk result }
         ensures spare { self.old.spare ≤ self.new.spare }
     {
-        self.subs.try_reserve(n)?;
-        self.lacks.try_reserve(n)?;
-        Ok(())
+        let (subs, numbers) = (&mut self.subs, &mut self.numbers);
+        let done = make_room(subs, numbers, &mut self.lacks, self.next, n);
+        done
     }
 
     /// How many are blocked.
@@ -73,11 +85,10 @@ impl Tracker {
     /// Blocks a submission by the dependencies that it lacks. For want of memory, and only
     /// then, it answers Memory and nothing changes. Where there is room for one and one more
     /// for each dependency it answers Ok; it uses no more of it. Conditions: the submission is
-    /// not blocked, it lacks something, and no dependency stands twice.
+    /// not blocked, and it lacks something.
     pub fn block(&mut self, s: Sub, unmet: &[SurfaceId]) -> Result<(), Memory>
         requires new { IsFalse (is_blocked self.old.list s) }
         requires some { 0 < length unmet.now }
-        requires once { has_repeat same_surface unmet.now ≡ false }
         ensures list { OnOk result (self.new.list
             ≡ self.old.list ++ record { sub = s; unmet = unmet.now } ∷ []) }
         ensures err { OnErr result (self.new.list ≡ self.old.list) }
@@ -85,19 +96,20 @@ impl Tracker {
         ensures spare { self.old.spare ≤ self.new.spare + (length unmet.now + 1) }
     {
         self.ready(unmet.len() + 1)?;
-        self.lacks.retain(|lack| !is_same(&lack.sub, &s));
-        put_lacks(&mut self.lacks, s, unmet);
-        self.subs.push_reserved(s);
+        self.subs.insert(self.next, s).unwrap();
+        self.numbers.insert(s, self.next).unwrap();
+        self.lacks.block(self.next, unmet);
+        self.next += 1;
         Ok(())
     }
 
     /// A submission is blocked no longer. Nothing changes where it is not blocked.
     pub fn forget(&mut self, s: Sub)
         ensures list { self.new.list ≡ without s self.old.list }
+        ensures gone { IsFalse (is_blocked self.new.list s) }
         ensures spare { self.old.spare ≤ self.new.spare }
     {
-        self.subs.retain(|other| !is_same(other, &s));
-        self.lacks.retain(|lack| !is_same(&lack.sub, &s));
+        forget_sub(&mut self.subs, &mut self.numbers, &mut self.lacks, &s);
     }
 
     /// A submission on a surface became active: meets the dependencies on its group, at it or
@@ -111,8 +123,8 @@ impl Tracker {
         ensures spare { self.old.spare ≤ self.new.spare }
         ensures room { out.old.spare ≤ out.new.spare + length (freed (meets id.now) self.old.list) }
     {
-        self.lacks.retain(|lack| !meets(id, &lack.on));
-        free(&mut self.subs, &self.lacks, out);
+        self.lacks.tell(&Told::Active(*id));
+        release(&mut self.subs, &mut self.numbers, &mut self.lacks, out);
     }
 
     /// Submissions on these surfaces became active in one round: as `activated` for all of
@@ -126,8 +138,8 @@ impl Tracker {
         ensures room { out.old.spare
             ≤ out.new.spare + length (freed (meets_any ids.now) self.old.list) }
     {
-        self.lacks.retain(|lack| !meets_any(ids, &lack.on));
-        free(&mut self.subs, &self.lacks, out);
+        tell_all(&mut self.lacks, ids);
+        release(&mut self.subs, &mut self.numbers, &mut self.lacks, out);
     }
 
     /// A sink was closed: meets the dependencies on its surfaces, and appends exactly the
@@ -142,19 +154,78 @@ impl Tracker {
         ensures room { out.old.spare
             ≤ out.new.spare + length (freed (is_of_sink sink) self.old.list) }
     {
-        self.lacks.retain(|lack| !is_of_sink(&sink, &lack.on));
-        free(&mut self.subs, &self.lacks, out);
+        self.lacks.tell(&Told::Closed(sink));
+        release(&mut self.subs, &mut self.numbers, &mut self.lacks, out);
     }
 }
 
-/// Puts each dependency that a submission lacks behind the others.
-fn put_lacks(lacks: &mut Vec<Lack>, sub: Sub, unmet: &[SurfaceId])
-    requires { vec_len lacks.old + length unmet.now ≤ vec_capacity lacks.old }
-    ensures items { lacks.new.items ≡ lacks.old.items ++ map (lack_of sub) unmet.now }
-    ensures len { vec_len lacks.new ≡ vec_len lacks.old + length unmet.now }
-    ensures capacity { vec_capacity lacks.new ≡ vec_capacity lacks.old }
+/// Makes room for at least so many more.
+fn make_room(
+    subs: &mut IndexMap<u64, Sub>,
+    numbers: &mut IndexMap<Sub, u64>,
+    lacks: &mut Lacks,
+    next: u64,
+    n: usize,
+) -> Result<(), Memory>
+    requires kept { IsKept lacks.old }
+    ensures kept { IsKept lacks.new }
+    ensures subs { subs.new.entries ≡ subs.old.entries }
+    ensures numbers { numbers.new.entries ≡ numbers.old.entries }
+    ensures on { lacks.new.on.entries ≡ lacks.old.on.entries }
+    ensures counts { lacks.new.counts.entries ≡ lacks.old.counts.entries }
+    ensures freed { lacks.new.freed.items ≡ lacks.old.freed.items }
+    ensures ok { OnOk result (n ≤ room_for subs.new numbers.new lacks.new next) }
+    ensures succeeds { n ≤ room_for subs.old numbers.old lacks.old next → IsOk result }
+    ensures room { room_for subs.old numbers.old lacks.old next
+        ≤ room_for subs.new numbers.new lacks.new next }
 {
-    for on in unmet {
-        lacks.push_reserved(Lack { sub, on: *on });
+    if n as u64 > u64::MAX - next {
+        return Err(Memory);
+    }
+    subs.reserve(n)?;
+    numbers.reserve(n)?;
+    lacks.reserve(n)?;
+    Ok(())
+}
+
+/// A submission is blocked no longer, if it was.
+fn forget_sub(
+    subs: &mut IndexMap<u64, Sub>,
+    numbers: &mut IndexMap<Sub, u64>,
+    lacks: &mut Lacks,
+    s: &Sub,
+)
+    requires kept { IsKept lacks.old }
+    requires none { lacks.old.freed.items ≡ [] }
+    requires counts { HasCounts lacks.old subs.old.entries }
+    requires numbered { IsNumbered subs.old.entries numbers.old.entries }
+    ensures kept { IsKept lacks.new }
+    ensures none { lacks.new.freed.items ≡ [] }
+    ensures counts { HasCounts lacks.new subs.new.entries }
+    ensures numbered { IsNumbered subs.new.entries numbers.new.entries }
+    ensures subs { in_order subs.new.entries
+        ≡ filter (λ e. not (same_sub e.1 s.now)) (in_order subs.old.entries) }
+    ensures fewer { (o : ℕ) (t : SubOf) → lookup (nat_eq o) subs.new.entries ≡ Some t
+        → lookup (nat_eq o) subs.old.entries ≡ Some t }
+    ensures unmet { (o : ℕ) (t : SubOf) → lookup (nat_eq o) subs.new.entries ≡ Some t
+        → unmet_in lacks.new o ≡ unmet_in lacks.old o }
+    ensures rooms { spare_of subs.old ≤ spare_of subs.new }
+    ensures places { spare_of numbers.old ≤ spare_of numbers.new }
+    ensures lacks { room_of lacks.old ≤ room_of lacks.new }
+{
+    if let Some(number) = numbers.swap_remove(s) {
+        subs.swap_remove(&number);
+        lacks.forget(number);
+    }
+}
+
+/// Submissions on these surfaces became active.
+fn tell_all(lacks: &mut Lacks, ids: &[SurfaceId])
+    requires kept { IsKept lacks.old }
+    ensures meets { Meets (meets_any ids.now) lacks.old lacks.new }
+    ensures rid { IsRid (meets_any ids.now) lacks.new }
+{
+    for id in ids {
+        lacks.tell(&Told::Active(*id));
     }
 }

@@ -1,7 +1,9 @@
-use Rattle.std.proofs.Common.{ap}
-use Rattle.vz_deps.specs.Tracking.{gathered}
+use Rattle.vz_deps.specs.Lacking.{unmet_in}
+use Rattle.vz_deps.proofs.Tracked.{none_tracked, none_listed}
 use Rattle.vz_deps.proofs.tracker.Tracker.new.Goals as goal
 
+pub invariant_of-result : goal.invariant_of-result
+invariant_of-result c = none_tracked _ _ _ c.new.ensures.empty c.new-2.ensures.empty c.new-3.ensures.kept c.new-3.ensures.counts c.new-3.ensures.freed
+
 pub returns : goal.returns
-unfolding gathered
-returns c = ap (λ subs. gathered subs c.new-2.result.items) c.new.ensures.items
+returns c = none_listed (unmet_in c.new-3.result) _ c.new.ensures.empty

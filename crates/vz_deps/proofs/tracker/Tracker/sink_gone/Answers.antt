@@ -1,34 +1,36 @@
-use Rattle.std.proofs.Common.{◌≡◌, ◌++◌, length, not, filter, rules, ap, ◌∙◌, arith}
-use Rattle.std.proofs.lemmas.Fn.{filter_same}
-use Rattle.vz_deps.specs.Tracking.{gathered, freed, still, is_of_sink, lacks_some}
-use Rattle.vz_deps.proofs.Freeing.{left, free_of, frees, stay, gathered_length}
+use Rattle.std.proofs.Common.{◌++◌, length, ap, ◌∙◌, arith}
+use Rattle.vz_deps.specs.Tracking.{freed, still, listed, is_of_sink}
+use Rattle.vz_deps.specs.Lacking.{unmet_in}
+use Rattle.vz_deps.specs.Ordered.{in_order}
+use Rattle.vz_deps.proofs.Keeping.{joined_length}
+use Rattle.vz_deps.proofs.Views.{listed_length, told_unmet, freed_is, still_is}
 use Rattle.vz_deps.proofs.tracker.Tracker.sink_gone.Goals as goal
 
--- no more are blocked than there is room for
-pub free-requires : goal.free-requires
-free-requires c =
-    let long = gathered_length c.self.inside.subs.items c.self.inside.lacks.items in
+pub release-requires-clause-room : goal.release-requires-clause-room
+release-requires-clause-room c =
+    let long = listed_length (unmet_in c.self.inside.lacks) (in_order c.self.inside.subs.entries) in
     let same = ap (λ v. length v.list) c.self.view_is in
     omega (arith, c.requires, long, same)
 
--- those that lack nothing any more
 pub returns-clause-out : goal.returns-clause-out
 returns-clause-out c =
-    let lacks : c.deref.result.now ≡ left (is_of_sink c.args.sink) c.self.inside.lacks.items = c.deref.ensures.value ∙ filter_same _ (λ l. not (is_of_sink c.args.sink l.on)) _ (λ x b f' k. search rules) _ _ c.retain.ensures.filtered in
-    c.free.ensures.out
-    ∙ ap (λ l. c.args.out.now.list ++ l) (ap (λ k. free_of k c.self.inside.subs.items) lacks ∙ frees (is_of_sink c.args.sink) c.self.inside.subs.items c.self.inside.lacks.items ∙ ap (λ v. freed (is_of_sink c.args.sink) v.list) c.self.view_is)
+    let met = is_of_sink c.args.sink in
+    let was = unmet_in c.self.inside.lacks in
+    let out = freed_is met was (unmet_in c.tell.new.self) (told_unmet met _ _ c.tell.ensures.meets c.tell.ensures.rid) (in_order c.self.inside.subs.entries) ∙ ap (λ v. freed met v.list) c.self.view_is in
+    c.release.ensures.out ∙ ap (λ l. c.args.out.now.list ++ l) out
+
+pub returns-clause-list : goal.returns-clause-list
+returns-clause-list c =
+    let met = is_of_sink c.args.sink in
+    let was = unmet_in c.self.inside.lacks in
+    (λ i. listed (λ o. c.release.ensures.unmet o i) (c.release.ensures.subs i))
+    ∙ still_is met was (unmet_in c.tell.new.self) (told_unmet met _ _ c.tell.ensures.meets c.tell.ensures.rid) (in_order c.self.inside.subs.entries) ∙ ap (λ v. still met v.list) c.self.view_is
 
 pub returns-clause-room : goal.returns-clause-room
 returns-clause-room c =
-    let lacks : c.deref.result.now ≡ left (is_of_sink c.args.sink) c.self.inside.lacks.items = c.deref.ensures.value ∙ filter_same _ (λ l. not (is_of_sink c.args.sink l.on)) _ (λ x b f' k. search rules) _ _ c.retain.ensures.filtered in
-    let same = ap length (ap (λ k. free_of k c.self.inside.subs.items) lacks ∙ frees (is_of_sink c.args.sink) c.self.inside.subs.items c.self.inside.lacks.items ∙ ap (λ v. freed (is_of_sink c.args.sink) v.list) c.self.view_is) in
-    omega (arith, c.free.ensures.room, same)
-
--- the others, with what they lack
-pub returns-clause-list : goal.returns-clause-list
-returns-clause-list c =
-    let kept : c.retain.new.self.items ≡ left (is_of_sink c.args.sink) c.self.inside.lacks.items = filter_same _ (λ l. not (is_of_sink c.args.sink l.on)) _ (λ x b f' k. search rules) _ _ c.retain.ensures.filtered in
-    let lacks : c.deref.result.now ≡ left (is_of_sink c.args.sink) c.self.inside.lacks.items = c.deref.ensures.value ∙ kept in
-    let subs : c.free.new.subs.items ≡ filter (lacks_some (left (is_of_sink c.args.sink) c.self.inside.lacks.items)) c.self.inside.subs.items =
-    c.free.ensures.subs ∙ ap (λ k. filter (lacks_some k) c.self.inside.subs.items) lacks in
-    (λ i. gathered (subs i) (kept i)) ∙ stay (is_of_sink c.args.sink) c.self.inside.subs.items c.self.inside.lacks.items ∙ ap (λ v. still (is_of_sink c.args.sink) v.list) c.self.view_is
+    let met = is_of_sink c.args.sink in
+    let was = unmet_in c.self.inside.lacks in
+    let out = freed_is met was (unmet_in c.tell.new.self) (told_unmet met _ _ c.tell.ensures.meets c.tell.ensures.rid) (in_order c.self.inside.subs.entries) ∙ ap (λ v. freed met v.list) c.self.view_is in
+    let long = ap length c.release.ensures.out ∙ joined_length c.args.out.now.list _ in
+    let same = ap length out in
+    omega (arith, long, same, c.release.ensures.spare)
