@@ -1,0 +1,10 @@
+//! The painter: operations into the pixels of a buffer, row by row.
+#![tactic(auto)]
+
+
+
+
+
+mod span;
+
+
