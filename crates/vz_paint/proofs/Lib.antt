@@ -1,2 +1,3 @@
 pub mod Spanned
 pub mod Blitted
+pub mod Stacked

@@ -143,23 +143,24 @@ fn right_of(start: Point, by: usize) -> Point
     }
 }
 
-/// The texel of a block that stands at a point of an area, which begins with the texel `first`.
-fn texel_at(block: &PixelBlock, p: Point, area: &Rect, first: Point) -> Texel
+/// The texel of a block that stands at a point of an area, which begins with that of the column
+/// `tx` and the row `ty`.
+fn texel_at(block: &PixelBlock, p: Point, area: &Rect, tx: &i32, ty: &i32) -> Texel
     requires left { area.now.x ≤ℤ p.x }
     requires top { area.now.y ≤ℤ p.y }
-    requires columns { ((p.x -ℤ area.now.x) +ℤ first.x) <ℤ pos block.now.w }
-    requires rows { ((p.y -ℤ area.now.y) +ℤ first.y) <ℤ pos block.now.h }
-    requires column { pos 0 ≤ℤ first.x }
-    requires row { pos 0 ≤ℤ first.y }
-    ensures column { pos result.column ≡ (p.x -ℤ area.now.x) +ℤ first.x }
-    ensures row { pos result.row ≡ (p.y -ℤ area.now.y) +ℤ first.y }
+    requires columns { ((p.x -ℤ area.now.x) +ℤ tx.now) <ℤ pos block.now.w }
+    requires rows { ((p.y -ℤ area.now.y) +ℤ ty.now) <ℤ pos block.now.h }
+    requires column { pos 0 ≤ℤ tx.now }
+    requires row { pos 0 ≤ℤ ty.now }
+    ensures column { pos result.column ≡ (p.x -ℤ area.now.x) +ℤ tx.now }
+    ensures row { pos result.row ≡ (p.y -ℤ area.now.y) +ℤ ty.now }
     ensures inside { result.row < block.now.h }
     ensures small { block.now.h ≤ GREATEST_BLOCK_SIDE }
 {
     // No side of a block exceeds the limit, so that the numbers stay small.
     let _sides = (block.w(), block.h());
-    let column = (p.x - area.x() + first.x) as usize;
-    let row = (p.y - area.y() + first.y) as usize;
+    let column = (p.x - area.x() + *tx) as usize;
+    let row = (p.y - area.y() + *ty) as usize;
     Texel { column, row }
 }
 
@@ -176,24 +177,26 @@ fn texels(block: &PixelBlock, at: Texel, count: usize) -> &[Pixel]
 }
 
 /// Lays texels, by an opacity, where an area has a point of a row. The texel at the first point of
-/// the area is that of the column and the row of `first`.
+/// the area is that of the column `tx` and the row `ty`.
 pub(crate) fn blit(
     row: &mut [Pixel],
     start: Point,
     area: &Rect,
     block: &PixelBlock,
-    first: Point,
+    tx: &i32,
+    ty: &i32,
     opacity: u8,
     mode: Blend,
 )
     requires start { IsStart start }
     requires short { length row.old ≤ GREATEST_DISPLAY_SIDE }
-    requires inside { is_inside (Blit area.now block.now first.x first.y opacity mode) ≡ true }
+    requires inside { is_inside (Blit area.now block.now tx.now ty.now opacity mode) ≡ true }
     ensures long { length row.new ≡ length row.old }
     ensures each { (i : ℕ) → i < length row.old → get_or row.new i transparent
         ≡ (if has area.now (right_of start i)
         then laid mode (texel_of (Some block.now)
-            (plus (minus (right_of start i) (corner area.now)) first)) opacity
+            (plus (minus (right_of start i) (corner area.now))
+                (record { x = tx.now; y = ty.now }))) opacity
             (get_or row.old i transparent)
         else get_or row.old i transparent) }
 {
@@ -202,7 +205,7 @@ pub(crate) fn blit(
         return;
     }
     let p = right_of(start, here.from);
-    let at = texel_at(block, p, area, first);
+    let at = texel_at(block, p, area, tx, ty);
     let source = texels(block, at, here.to - here.from);
     mix(&mut row[here.from..here.to], source, opacity, mode);
 }
