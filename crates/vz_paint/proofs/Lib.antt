@@ -1,3 +1,4 @@
 pub mod Spanned
 pub mod Blitted
 pub mod Stacked
+pub mod Drawing

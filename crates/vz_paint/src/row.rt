@@ -1,5 +1,5 @@
 //! Operations in one row.
-ghost use Rattle.std.specs.Prelude.{◌≡◌, ◌≤◌, ◌<◌, ◌∷◌, ℕ, List, length, map, get_or, true};
+ghost use Rattle.std.specs.Prelude.{◌≡◌, ◌≤◌, ◌<◌, ◌∷◌, ℕ, List, length, map, get_or, replicate, true};
 ghost use Rattle.vz_base.specs.declared.limits.TheConstants.{GREATEST_DISPLAY_SIDE};
 ghost use Rattle.vz_pixels.specs.Colour.{transparent, black};
 ghost use Rattle.vz_flat.specs.declared.op.Op.{Op as Step};
@@ -70,5 +70,38 @@ fn draw(
             end(top, &mut groups[depth - 1], start);
             depth - 1
         }
+    }
+}
+
+/// Makes a row opaque black.
+fn blacken(top: &mut Vec<Pixel>)
+    ensures { top.new.items ≡ replicate (length top.old.items) black }
+{
+    top.fill(Pixel::black());
+}
+
+/// Draws operations in a row, on opaque black. Conditions: they are whole, and there is a row for
+/// each group that they open at once.
+pub(crate) fn draw_row(
+    ops: &[&Op],
+    start: Point,
+    top: &mut Vec<Pixel>,
+    groups: &mut [OpenGroup],
+)
+    requires start { IsStart start }
+    requires short { length top.old.items ≤ GREATEST_DISPLAY_SIDE }
+    requires rows { AreRows (length top.old.items) groups.old }
+    requires whole { is_whole (map (λ r. r.now) ops.now) ≡ true }
+    requires room { deepest 0 (map (λ r. r.now) ops.now) ≤ length groups.old }
+    ensures long { length top.new.items ≡ length top.old.items }
+    ensures count { length groups.new ≡ length groups.old }
+    ensures rows { AreRows (length top.old.items) groups.new }
+    ensures painted { (i : ℕ) → i < length top.old.items → get_or top.new.items i transparent
+        ≡ value (map (λ r. r.now) ops.now) (right_of start i) black }
+{
+    blacken(top);
+    let mut depth = 0;
+    for op in ops {
+        depth = draw(op, start, top, groups, depth);
     }
 }
