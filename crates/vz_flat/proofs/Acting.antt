@@ -1,0 +1,36 @@
+-- Lists of operations that do to a colour what a function does, whatever comes after them.
+use Rattle.std.proofs.Common.{◌≡◌, ℕ, List, [], ◌∷◌, ◌++◌, refl, ap, sym, ◌∙◌, cond, append_assoc, append-nil}
+use Rattle.vz_geom.specs.declared.Point.{Point}
+use Rattle.vz_geom.specs.Rectangle.{Rectangle, has}
+use Rattle.vz_pixels.specs.Colour.{Colour, transparent}
+use Rattle.vz_frame.specs.declared.blend.Blend.{Blend}
+use Rattle.vz_frame.specs.Blending.{laid}
+use Rattle.vz_flat.specs.declared.op.Op.{Op}
+use Rattle.vz_flat.specs.declared.op.Op.TheVariants.{Fill, Push, Pop}
+use Rattle.vz_flat.specs.Ops.{run, value}
+use Rattle.vz_flat.specs.Flat.{ActsAs}
+
+pub acts_none : (p : Point) → ActsAs p [] (λ d. d)
+acts_none p = record { acts = λ rest groups d. refl }
+
+pub acts_both : (p : Point) (xs ys : List Op) (f g : Colour → Colour) → ActsAs p xs f → ActsAs p ys g → ActsAs p (xs ++ ys) (λ d. g (f d))
+acts_both p xs ys f g a b =
+    record { acts = λ rest groups d. rw (append_assoc xs ys rest) (a.acts (ys ++ rest) groups d ∙ b.acts rest groups (f d)) }
+
+pub acts_fill : (p : Point) (area : Rectangle) (c : Colour) (o : ℕ) (m : Blend) → ActsAs p (Fill area c o m ∷ []) (λ d. cond (has area p) (laid m c o d) d)
+unfolding run
+acts_fill p area c o m = record { acts = λ rest groups d. refl }
+
+-- a group acts as its content on transparent, laid where its area has the point
+pub acts_group : (p : Point) (area : Rectangle) (o : ℕ) (m : Blend) (xs : List Op) (f : Colour → Colour) → ActsAs p xs f
+    → ActsAs p (Push area o m ∷ (xs ++ Pop ∷ [])) (λ d. cond (has area p) (laid m (f transparent) o d) d)
+unfolding run
+acts_group p area o m xs f a =
+    record { acts = λ rest groups d. rw (append_assoc xs (Pop ∷ []) rest) (a.acts (Pop ∷ rest) (record { below = d; opacity = o; mode = m; has_point = has area p } ∷ groups) transparent) }
+
+pub value_of_acts : (p : Point) (ops : List Op) (f : Colour → Colour) → ActsAs p ops f → (d : Colour) → value ops p d ≡ f d
+unfolding value run
+value_of_acts p ops f a d = ap (λ xs. run p xs [] d) (sym (append-nil ops)) ∙ a.acts [] [] d
+
+pub acts_same : (p : Point) (xs : List Op) (f g : Colour → Colour) → ((d : Colour) → f d ≡ g d) → ActsAs p xs f → ActsAs p xs g
+acts_same p xs f g e a = record { acts = λ rest groups d. a.acts rest groups d ∙ ap (run p rest groups) (e d) }

@@ -1,0 +1,3 @@
+pub mod Nested
+pub mod Acting
+pub mod Flattened

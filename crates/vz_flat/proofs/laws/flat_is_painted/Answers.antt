@@ -1,0 +1,5 @@
+use Rattle.vz_flat.proofs.Flattened.{flat_is_painted}
+use Rattle.vz_flat.proofs.laws.flat_is_painted.Goals as goal
+
+pub returns : goal.returns
+returns c = flat_is_painted

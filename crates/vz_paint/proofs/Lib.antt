@@ -1,0 +1,6 @@
+pub mod Spanned
+pub mod Blitted
+pub mod Stacked
+pub mod Drawing
+pub mod Chosen
+pub mod Painted

@@ -1,0 +1,7 @@
+use Rattle.std.proofs.Common.{map, length, Bor}
+use Rattle.vz_paint.proofs.Drawing.{IsDrawn}
+use Rattle.vz_paint.proofs.row.draw_row.Given as goal
+
+-- the operations so far are drawn
+abbrev pub invariant-loop-op : goal.invariant-loop-op
+invariant-loop-op l = IsDrawn l.start (length l.fn.top.items) (map (λ r. r.now) l.ops) (length l.fn.groups) l.op-index l.top.items l.groups l.depth

@@ -1,0 +1,2 @@
+use Rattle.vz_paint.proofs.span.texels.Goals as goal
+

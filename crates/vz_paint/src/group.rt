@@ -1,0 +1,65 @@
+//! The groups that are open in a row.
+ghost use Rattle.std.specs.Prelude.{◌≡◌, ◌<◌, ℕ, length, replicate, get_or, if◌then◌else◌};
+ghost use Rattle.vz_geom.specs.Rectangle.{has};
+ghost use Rattle.vz_pixels.specs.Colour.{transparent};
+ghost use Rattle.vz_frame.specs.Blending.{laid};
+ghost use Rattle.vz_paint.specs.Row.{right_of, IsStart};
+
+use crate::span::lay;
+use vz_frame::Blend;
+use vz_geom::{Point, Rect};
+use vz_pixels::Pixel;
+
+/// A group that is open in a row: the row below it, and how the group's row is laid on that.
+#[derive(Drop)]
+pub(crate) struct OpenGroup {
+    pub(crate) below: Vec<Pixel>,
+    pub(crate) area: Rect,
+    pub(crate) opacity: u8,
+    pub(crate) mode: Blend,
+}
+
+/// Opens a group: the row so far lies below it, and its own row is transparent.
+pub(crate) fn begin(
+    top: &mut Vec<Pixel>,
+    group: &mut OpenGroup,
+    area: &Rect,
+    opacity: u8,
+    mode: Blend,
+)
+    requires same { length group.old.below.items ≡ length top.old.items }
+    ensures below { group.new.below.items ≡ top.old.items }
+    ensures area { group.new.area ≡ area.now }
+    ensures opacity { group.new.opacity ≡ opacity }
+    ensures mode { group.new.mode ≡ mode }
+    ensures top { top.new.items ≡ replicate (length top.old.items) transparent }
+{
+    std::mem::swap(top, &mut group.below);
+    top.fill(Pixel::transparent());
+    group.area = *area;
+    group.opacity = opacity;
+    group.mode = mode;
+}
+
+/// Ends a group: its row is laid on the one below it, where its area has the point.
+pub(crate) fn end(top: &mut Vec<Pixel>, group: &mut OpenGroup, start: Point)
+    requires start { IsStart start }
+    requires same { length group.old.below.items ≡ length top.old.items }
+    ensures long { length top.new.items ≡ length top.old.items }
+    ensures kept { length group.new.below.items ≡ length top.old.items }
+    ensures each { (i : ℕ) → i < length top.old.items → get_or top.new.items i transparent
+        ≡ (if has group.old.area (right_of start i)
+        then laid group.old.mode (get_or top.old.items i transparent) group.old.opacity
+            (get_or group.old.below.items i transparent)
+        else get_or group.old.below.items i transparent) }
+{
+    std::mem::swap(top, &mut group.below);
+    lay(
+        top.as_mut_slice(),
+        start,
+        &group.area,
+        &group.below,
+        group.opacity,
+        group.mode,
+    );
+}

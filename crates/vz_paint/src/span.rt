@@ -1,0 +1,211 @@
+//! Which part of a row an area has, and colours that are laid there.
+ghost use Rattle.std.specs.Prelude.{true, ◌-ℤ◌, ◌+◌, ◌*◌, take, drop, ◌≡◌, ◌≤◌, ◌<◌, ◌<ℤ◌, ◌≤ℤ◌, ◌+ℤ◌, pos, int_le, nat_le, nat_lt, ◌&&◌, ℕ, length, map, get_or, if◌then◌else◌, IsTrue, Some};
+ghost use Rattle.vz_base.specs.declared.limits.TheConstants.{GREATEST_DISPLAY_SIDE, GREATEST_BLOCK_SIDE};
+ghost use Rattle.vz_geom.specs.Rectangle.{has, plus, minus, corner};
+ghost use Rattle.vz_pixels.specs.Colour.{transparent};
+ghost use Rattle.vz_frame.specs.Blending.{blend, laid};
+ghost use Rattle.vz_rules.specs.Paint.{texel_of};
+ghost use Rattle.vz_flat.specs.Ops.{is_inside, is_filled};
+ghost use Rattle.vz_flat.specs.declared.op.Op.TheVariants.{Blit};
+ghost use Rattle.vz_paint.specs.Row.{right_of, IsStart};
+ghost use lib.Lanes.{zip2};
+
+use vz_frame::Blend;
+use vz_geom::{Point, Rect};
+use vz_kernel::{dst_in_fill, dst_in_row, fill_row, over_fill, over_row, src_row};
+use vz_pixels::{Pixel, PixelBlock};
+
+/// The places of a row that an area has: from one on, up to before another.
+#[derive(Clone, Copy)]
+pub(crate) struct Span {
+    from: usize,
+    to: usize,
+}
+
+/// How many of the columns of a row, so many from the first on, stand left of a column.
+fn columns_before(start: Point, x: &i32, count: usize) -> usize
+    requires start { IsStart start }
+    ensures most { result ≤ count }
+    ensures left { 0 < result → (start.x +ℤ pos result) ≤ℤ x.now }
+    ensures right { result < count → x.now ≤ℤ (start.x +ℤ pos result) }
+{
+    if *x <= start.x {
+        return 0;
+    }
+    let before = (*x - start.x) as usize;
+    if before < count { before } else { count }
+}
+
+/// The places of a row, so long from its first point on, that an area has.
+fn span_of(area: &Rect, start: Point, count: usize) -> Span
+    requires start { IsStart start }
+    ensures ordered { result.from ≤ result.to }
+    ensures most { result.to ≤ count }
+    ensures exact { (i : ℕ) → i < count
+        → has area.now (right_of start i) ≡ (nat_le result.from i && nat_lt i result.to) }
+{
+    if area.is_empty() {
+        return Span { from: 0, to: 0 };
+    }
+    if start.y < area.y() || area.bottom() <= start.y {
+        return Span { from: 0, to: 0 };
+    }
+    let from = columns_before(start, &area.x(), count);
+    let to = columns_before(start, &area.right(), count);
+    Span { from, to }
+}
+
+/// Lays one colour on each of a row.
+fn tint(row: &mut [Pixel], color: Pixel, mode: Blend)
+    ensures { row.new ≡ map (blend mode color) row.old }
+{
+    match mode {
+        Blend::Over => over_fill(row, color),
+        Blend::Src => fill_row(row, color),
+        Blend::DstIn => dst_in_fill(row, color),
+    }
+}
+
+/// Lays each colour, by an opacity, on the one at its place.
+fn mix(row: &mut [Pixel], source: &[Pixel], opacity: u8, mode: Blend)
+    requires { length row.old ≡ length source.now }
+    ensures { row.new ≡ zip2 (λ s d. laid mode s opacity d) source.now row.old }
+{
+    match mode {
+        Blend::Over => over_row(row, source, opacity),
+        Blend::Src => src_row(row, source, opacity),
+        Blend::DstIn => dst_in_row(row, source, opacity),
+    }
+}
+
+/// Lays one colour, by an opacity, where an area has a point of a row.
+pub(crate) fn fill(
+    row: &mut [Pixel],
+    start: Point,
+    area: &Rect,
+    color: Pixel,
+    opacity: u8,
+    mode: Blend,
+)
+    requires start { IsStart start }
+    ensures long { length row.new ≡ length row.old }
+    ensures each { (i : ℕ) → i < length row.old → get_or row.new i transparent
+        ≡ (if has area.now (right_of start i)
+        then laid mode color opacity (get_or row.old i transparent)
+        else get_or row.old i transparent) }
+{
+    let here = span_of(area, start, row.len());
+    tint(&mut row[here.from..here.to], color.scale(opacity), mode);
+}
+
+/// Lays each colour of another row, by an opacity, where an area has the point.
+pub(crate) fn lay(
+    row: &mut [Pixel],
+    start: Point,
+    area: &Rect,
+    source: &[Pixel],
+    opacity: u8,
+    mode: Blend,
+)
+    requires start { IsStart start }
+    requires same { length row.old ≡ length source.now }
+    ensures long { length row.new ≡ length row.old }
+    ensures each { (i : ℕ) → i < length row.old → get_or row.new i transparent
+        ≡ (if has area.now (right_of start i)
+        then laid mode (get_or source.now i transparent) opacity (get_or row.old i transparent)
+        else get_or row.old i transparent) }
+{
+    let here = span_of(area, start, row.len());
+    mix(
+        &mut row[here.from..here.to],
+        &source[here.from..here.to],
+        opacity,
+        mode,
+    );
+}
+
+/// A texel of a block.
+#[derive(Clone, Copy)]
+struct Texel {
+    column: usize,
+    row: usize,
+}
+
+/// The point that stands so far right of the first one of a row.
+fn right_of(start: Point, by: usize) -> Point
+    requires start { IsStart start }
+    requires near { by ≤ GREATEST_DISPLAY_SIDE }
+    ensures { result ≡ right_of start by }
+{
+    Point {
+        x: start.x + by as i32,
+        y: start.y,
+    }
+}
+
+/// The texel of a block that stands at a point of an area, which begins with that of the column
+/// `tx` and the row `ty`.
+fn texel_at(block: &PixelBlock, p: Point, area: &Rect, tx: &i32, ty: &i32) -> Texel
+    requires left { area.now.x ≤ℤ p.x }
+    requires top { area.now.y ≤ℤ p.y }
+    requires columns { ((p.x -ℤ area.now.x) +ℤ tx.now) <ℤ pos block.now.w }
+    requires rows { ((p.y -ℤ area.now.y) +ℤ ty.now) <ℤ pos block.now.h }
+    requires column { pos 0 ≤ℤ tx.now }
+    requires row { pos 0 ≤ℤ ty.now }
+    ensures column { pos result.column ≡ (p.x -ℤ area.now.x) +ℤ tx.now }
+    ensures row { pos result.row ≡ (p.y -ℤ area.now.y) +ℤ ty.now }
+    ensures inside { result.row < block.now.h }
+    ensures small { block.now.h ≤ GREATEST_BLOCK_SIDE }
+{
+    // No side of a block exceeds the limit, so that the numbers stay small.
+    let _sides = (block.w(), block.h());
+    let column = (p.x - area.x() + *tx) as usize;
+    let row = (p.y - area.y() + *ty) as usize;
+    Texel { column, row }
+}
+
+/// So many texels of a row of a block, from one on.
+fn texels(block: &PixelBlock, at: Texel, count: usize) -> &[Pixel]
+    requires filled { is_filled block.now ≡ true }
+    requires across { (at.column + count) ≤ block.now.w }
+    requires down { at.row < block.now.h }
+    requires small { block.now.h ≤ GREATEST_BLOCK_SIDE }
+    ensures value { result.now ≡ take count (drop (at.row * block.now.w + at.column) block.now.pixels) }
+{
+    let from = at.row * block.w() as usize + at.column;
+    &block.pixels()[from..from + count]
+}
+
+/// Lays texels, by an opacity, where an area has a point of a row. The texel at the first point of
+/// the area is that of the column `tx` and the row `ty`.
+pub(crate) fn blit(
+    row: &mut [Pixel],
+    start: Point,
+    area: &Rect,
+    block: &PixelBlock,
+    tx: &i32,
+    ty: &i32,
+    opacity: u8,
+    mode: Blend,
+)
+    requires start { IsStart start }
+    requires short { length row.old ≤ GREATEST_DISPLAY_SIDE }
+    requires inside { is_inside (Blit area.now block.now tx.now ty.now opacity mode) ≡ true }
+    ensures long { length row.new ≡ length row.old }
+    ensures each { (i : ℕ) → i < length row.old → get_or row.new i transparent
+        ≡ (if has area.now (right_of start i)
+        then laid mode (texel_of (Some block.now)
+            (plus (minus (right_of start i) (corner area.now))
+                (record { x = tx.now; y = ty.now }))) opacity
+            (get_or row.old i transparent)
+        else get_or row.old i transparent) }
+{
+    let here = span_of(area, start, row.len());
+    if here.to <= here.from {
+        return;
+    }
+    let p = right_of(start, here.from);
+    let at = texel_at(block, p, area, tx, ty);
+    let source = texels(block, at, here.to - here.from);
+    mix(&mut row[here.from..here.to], source, opacity, mode);
+}
