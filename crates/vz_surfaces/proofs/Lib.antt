@@ -1,0 +1,4 @@
+mod Following
+mod Staying
+mod Telling
+mod Kept_of_world

@@ -1,0 +1,10 @@
+//! The surfaces and the submissions of the machine's state.
+//!
+//! A store stands for all surfaces that were ever created and all submissions that were ever
+//! accepted. Memory keeps one waiting and one active frame a surface.
+#![tactic(auto)]
+
+mod held;
+pub mod laws;
+
+pub use held::{Gone, Held, Taken};
