@@ -82,7 +82,7 @@ follows_accepted w c local frame =
 
 -- Becoming active
 
-self_sub : (s : Sub) → same_sub s s ≡ true
+pub self_sub : (s : Sub) → same_sub s s ≡ true
 self_sub s = and_from (s.client == s.client) (s.ordinal == s.ordinal) (eq-eqb s.client s.client refl) (eq-eqb s.ordinal s.ordinal refl)
 
 number_by : (o : Option Created) → (elim (option_map bare_surface o) as (λ o. ℕ) [ Some c ↦ c.number | None ↦ 0 ]) ≡ (elim o as (λ o. ℕ) [ Some c ↦ c.number | None ↦ 0 ])

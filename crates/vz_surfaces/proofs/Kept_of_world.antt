@@ -1,9 +1,9 @@
 -- What always holds of the machine's state always holds of a store.
-use Rattle.std.proofs.Common.{◌≡◌, ℕ, ◌+◌, Bool, true, ◌==◌, List, map, take, refl, ap, sym, ◌∙◌, subst, Contains, count_by}
+use Rattle.std.proofs.Common.{◌≡◌, ℕ, ◌+◌, ◌≤◌, Bool, true, ◌==◌, List, map, take, refl, ap, sym, ◌∙◌, subst, Contains, count_by}
 use Rattle.vz_ids.specs.declared.SurfaceId.{SurfaceId}
 use Rattle.vz_ids.specs.Ids.{is_raised}
 use Rattle.vz_rules.specs.World.{World, Client, Created, Submission}
-use Rattle.vz_rules.specs.Kept.{KeepsAlways, KeepsSurfaces, KeepsNumbers, KeepsStates, IsOfClient, IsCreated, is_surface_of}
+use Rattle.vz_rules.specs.Kept.{KeepsAlways, KeepsSurfaces, KeepsNumbers, KeepsStates, IsOfClient, IsCreated, is_surface_of, is_by}
 use Rattle.vz_rules.proofs.Members.{contains_map, map_contains, at_map}
 use Rattle.vz_rules.proofs.Counts.{count_same, take_map}
 use Rattle.vz_rules.proofs.Kept_names.{numbers_keep}
@@ -51,5 +51,7 @@ keeps_of_world w h =
       sinks = h.clients;
       surfaces = surfaces_bare w.clients w.surfaces h.surfaces;
       numbers = numbers_keep bare_sub (map bare_surface w.surfaces) w.subs (λ s. refl) (numbers_bare w.surfaces w.subs h.numbers);
+      few_created = λ c. subst (λ n. n ≤ count_by (is_by c) (map bare_sub w.subs)) (sym (count_same bare_surface (is_surface_of c) (is_surface_of c) w.surfaces (λ x. refl)))
+          (subst (λ n. count_by (is_surface_of c) w.surfaces ≤ n) (sym (count_same bare_sub (is_by c) (is_by c) w.subs (λ x. refl))) (h.few_created c));
       states = states_keep bare_sub w.surfaces (map bare_surface w.surfaces) w.subs opens_none (λ s c o stands. stands_bare w.surfaces s.submitted.id ∙ stands) h.states;
     }

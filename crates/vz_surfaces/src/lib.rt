@@ -6,5 +6,12 @@
 
 mod held;
 pub mod laws;
+mod owners;
+mod size;
+mod store;
+mod table;
+mod told;
+mod waits;
 
 pub use held::{Gone, Held, Taken};
+pub use store::Store;
