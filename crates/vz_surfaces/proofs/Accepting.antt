@@ -1,8 +1,8 @@
 -- What is kept of surfaces where a submission is accepted.
-use Rattle.std.proofs.Common.{◌≡◌, ℕ, ◌+◌, Bool, true, false, not, ◌&&◌, ◌||◌, ◌==◌, inl, inr, Option, Some, None, List, [], ◌∷◌, ◌++◌, map, find, refl, ap, sym, ◌∙◌, arith, cond, subst, Contains, count_by}
+use Rattle.std.proofs.Common.{◌≡◌, ℕ, ◌+◌, Bool, true, false, not, ◌&&◌, ◌||◌, inl, inr, Option, Some, None, List, [], ◌∷◌, ◌++◌, map, refl, ap, sym, ◌∙◌, arith, cond, Contains, count_by}
 use Rattle.std.specs.Prelude.{nat_le, nat_lt}
 use Rattle.std.specs.Option.{option_map}
-use Rattle.std.proofs.lemmas.Bool.{and_parts, or_cases, both_ways, ltb-true, eqb-true}
+use Rattle.std.proofs.lemmas.Bool.{and_parts, or_cases, both_ways, ltb-true}
 use Rattle.vz_ids.specs.declared.FrameSinkId.{FrameSinkId}
 use Rattle.vz_ids.specs.declared.LocalSurfaceId.{LocalSurfaceId}
 use Rattle.vz_ids.specs.declared.SurfaceId.{SurfaceId}
@@ -19,10 +19,9 @@ use Rattle.vz_rules.proofs.Members.{when_same, contains_at}
 use Rattle.vz_rules.proofs.Counts.{count_push, count_none}
 use Rattle.vz_rules.proofs.Kept_accepted.{none_waits}
 use Rattle.vz_rules.proofs.Kept_last.{raised_from_all}
-use Rattle.vz_surfaces.specs.Stored.{Stored, surface_of, new_surface, creating, accepted_as, waiting_with, storing}
+use Rattle.vz_surfaces.specs.Stored.{Stored, surface_of, new_surface, accepted_as, waiting_with, storing}
 use Rattle.vz_surfaces.specs.Reading.{standing, existing_count, held_of}
 use Rattle.vz_surfaces.specs.Keeping.{KeepsStored}
-use Rattle.vz_surfaces.specs.declared.held.Held.{Held}
 use Rattle.vz_surfaces.specs.declared.table.Surface.{Surface}
 use Rattle.vz_surfaces.specs.Memory.{held_in, kept_of, surface_at, holding, empty_surface, IsSinkOf}
 use Rattle.vz_surfaces.proofs.Finding.{find_fixed, find_none, find_end, find_not_end}

@@ -1,12 +1,12 @@
 -- What is counted of clients stays where surfaces and submissions keep what is counted.
-use Rattle.std.proofs.Common.{◌≡◌, ℕ, ◌+◌, Bool, true, false, not, ◌&&◌, ◌==◌, Option, Some, None, List, [], ◌∷◌, map, filter, find, refl, ap, sym, ◌∙◌, arith, cond, subst, Contains, count_by, slice_get, suc, zero}
+use Rattle.std.proofs.Common.{◌≡◌, ℕ, ◌+◌, Bool, true, false, ◌&&◌, ◌==◌, Option, Some, None, List, [], ◌∷◌, map, find, refl, ap, sym, ◌∙◌, arith, cond, Contains, count_by, slice_get, suc}
 use Rattle.std.specs.Option.{option_map}
 use Rattle.vz_geom.specs.declared.Size.{Size}
 use Rattle.vz_ids.specs.declared.LocalSurfaceId.{LocalSurfaceId}
 use Rattle.vz_rules.specs.World.{Created, FrameData, Submission}
 use Rattle.vz_rules.specs.Kept.{last_in, is_surface_of, is_by}
 use Rattle.vz_rules.proofs.Counts.{count_cons}
-use Rattle.vz_rules.proofs.Members.{at_contains, contains_at}
+use Rattle.vz_rules.proofs.Members.{contains_at}
 use Rattle.vz_rules.proofs.Kept_last.{last_map}
 use Rattle.vz_surfaces.specs.Stored.{Stored}
 use Rattle.vz_surfaces.specs.Reading.{last_of}

@@ -1,26 +1,24 @@
 -- What is kept where a surface is destroyed, and where surfaces are marked.
-use Rattle.std.proofs.Common.{◌≡◌, ℕ, ◌+◌, Bool, true, false, not, ◌&&◌, ◌||◌, ◌==◌, Option, Some, None, List, [], ◌∷◌, map, find, refl, ap, sym, ◌∙◌, cond, subst, Contains, count_by}
+use Rattle.std.proofs.Common.{◌≡◌, ℕ, ◌+◌, Bool, true, false, not, ◌&&◌, ◌||◌, ◌==◌, Option, Some, None, List, [], ◌∷◌, map, find, refl, ap, sym, ◌∙◌, cond, subst, Contains}
 use Rattle.std.specs.Option.{option_map}
-use Rattle.std.proofs.lemmas.Bool.{and_parts, and_from, both_ways}
+use Rattle.std.proofs.lemmas.Bool.{and_parts, both_ways}
 use Rattle.vz_ids.specs.declared.SurfaceId.{SurfaceId}
 use Rattle.vz_ids.specs.declared.Sub.{Sub}
-use Rattle.vz_ids.specs.Ids.{same_surface, same_sub}
+use Rattle.vz_ids.specs.Ids.{same_surface}
 use Rattle.vz_rules.specs.declared.entry.State.TheVariants.{Dropped}
-use Rattle.vz_rules.specs.World.{Created, FrameData, Submission, is_waiting, is_active, is_on, sub_of}
+use Rattle.vz_rules.specs.World.{Created, Submission, is_waiting, is_active, is_on, sub_of}
 use Rattle.vz_rules.specs.Messages.{mark_of}
 use Rattle.vz_rules.proofs.Reached.{from_same, self_same}
 use Rattle.vz_rules.proofs.Members.{when_same, contains_map, find_at}
 use Rattle.vz_rules.proofs.Kept_last.{surfaces_differ}
-use Rattle.vz_rules.proofs.Rising.{find_map}
 use Rattle.vz_surfaces.specs.Stored.{Stored, marking, ended_at, dropped_at, destroying}
-use Rattle.vz_surfaces.specs.Reading.{stands, standing, existing_count, held_of}
+use Rattle.vz_surfaces.specs.Reading.{standing, existing_count, held_of}
 use Rattle.vz_surfaces.specs.Keeping.{KeepsStored}
-use Rattle.vz_surfaces.specs.declared.table.Surface.{Surface}
 use Rattle.vz_surfaces.specs.declared.waits.Waits.{Waits}
 use Rattle.vz_surfaces.specs.declared.owners.Owners.{Owners}
-use Rattle.vz_surfaces.specs.Memory.{is_name, waits_on, held_in, kept_of, surface_at, FindsWaiting, KeepsOwners, waiting_on, acting_on}
+use Rattle.vz_surfaces.specs.Memory.{is_name, waits_on, kept_of, surface_at, FindsWaiting, KeepsOwners, waiting_on}
 use Rattle.vz_surfaces.proofs.Finding.{find_fixed, find_none}
-use Rattle.vz_surfaces.proofs.Others.{never, no_and, off, ChangesOn, count_on, other_found, kept_alike, mapped_alike, KeepsKept, surfaces_kept, count_standing}
+use Rattle.vz_surfaces.proofs.Others.{never, no_and, ChangesOn, count_on, other_found, kept_alike, mapped_alike, KeepsKept, surfaces_kept, count_standing}
 use Rattle.vz_surfaces.proofs.Changing.{KeepsCounted, owners_stay, one_goes}
 use Rattle.vz_surfaces.proofs.Naming.{name_of, one_named}
 

@@ -1,5 +1,5 @@
 -- What is found in lists whose elements changed, and in lists with one element more.
-use Rattle.std.proofs.Common.{◌≡◌, ℕ, ◌+◌, Bool, true, false, ◌&&◌, ◌⊎◌, inl, inr, Option, Some, None, List, [], ◌∷◌, ◌++◌, map, find, refl, ap, sym, ◌∙◌, cond, Contains, count_by}
+use Rattle.std.proofs.Common.{◌≡◌, ◌+◌, Bool, true, false, ◌⊎◌, inl, inr, Option, Some, None, List, [], ◌∷◌, ◌++◌, map, find, refl, ap, sym, ◌∙◌, cond, Contains, count_by}
 use Rattle.std.specs.Option.{option_map}
 use Rattle.vz_rules.specs.Scene.{or_else}
 use Rattle.vz_rules.proofs.Members.{contains_here, contains_there, contains_none, contains_cases}

@@ -1,8 +1,8 @@
 -- What memory keeps is that of the store, where a submission is accepted.
-use Rattle.std.proofs.Common.{◌≡◌, ℕ, ◌+◌, ◌≤◌, ◌<◌, Bool, true, false, not, ◌&&◌, ◌==◌, Option, Some, None, List, [], ◌∷◌, ◌++◌, map, find, length, refl, ap, sym, ◌∙◌, arith, cond, subst, Contains, count_by, is_some}
+use Rattle.std.proofs.Common.{◌≡◌, ℕ, ◌+◌, ◌≤◌, ◌<◌, Bool, true, false, not, ◌&&◌, ◌==◌, Option, Some, None, List, [], ◌∷◌, map, find, length, refl, ap, sym, ◌∙◌, arith, cond, subst, count_by, is_some}
 use Rattle.std.specs.Option.{option_map}
 use Rattle.std.specs.Map.{lookup}
-use Rattle.std.proofs.lemmas.Bool.{both_ways, eq-eqb}
+use Rattle.std.proofs.lemmas.Bool.{eq-eqb}
 use Rattle.vz_geom.specs.declared.Size.{Size}
 use Rattle.vz_ids.specs.declared.FrameSinkId.{FrameSinkId}
 use Rattle.vz_ids.specs.declared.LocalSurfaceId.{LocalSurfaceId}
@@ -27,7 +27,7 @@ use Rattle.vz_surfaces.specs.declared.owners.Owners.{Owners}
 use Rattle.vz_surfaces.specs.Stored.{Stored, surface_of, storing}
 use Rattle.vz_surfaces.specs.Reading.{stands, standing, held_of, existing_count, last_of}
 use Rattle.vz_surfaces.specs.Keeping.{KeepsStored}
-use Rattle.vz_surfaces.specs.Memory.{is_key, look, is_name, waits_on, owner_at, HasNumber, IsSinkOf, Keeps, KeepsOwners, kept_of, surface_at, held_in, holding, empty_surface, counting, is_named_last, waiting_on}
+use Rattle.vz_surfaces.specs.Memory.{is_key, look, is_name, waits_on, owner_at, HasNumber, IsSinkOf, Keeps, KeepsOwners, kept_of, surface_at, holding, empty_surface, counting, is_named_last, waiting_on}
 use Rattle.vz_surfaces.proofs.Keyed.{keys}
 use Rattle.vz_surfaces.proofs.Finding.{find_none}
 use Rattle.vz_surfaces.proofs.Others.{no_and}

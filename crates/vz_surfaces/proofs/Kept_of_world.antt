@@ -1,9 +1,8 @@
 -- What always holds of the machine's state always holds of a store.
-use Rattle.std.proofs.Common.{◌≡◌, ℕ, ◌+◌, ◌≤◌, Bool, true, ◌==◌, List, map, take, refl, ap, sym, ◌∙◌, subst, Contains, count_by}
-use Rattle.vz_ids.specs.declared.SurfaceId.{SurfaceId}
+use Rattle.std.proofs.Common.{◌≡◌, ◌+◌, ◌≤◌, true, List, map, take, refl, ap, sym, ◌∙◌, subst, count_by}
 use Rattle.vz_ids.specs.Ids.{is_raised}
 use Rattle.vz_rules.specs.World.{World, Client, Created, Submission}
-use Rattle.vz_rules.specs.Kept.{KeepsAlways, KeepsSurfaces, KeepsNumbers, KeepsStates, IsOfClient, IsCreated, is_surface_of, is_by}
+use Rattle.vz_rules.specs.Kept.{KeepsAlways, KeepsSurfaces, KeepsNumbers, IsOfClient, is_surface_of, is_by}
 use Rattle.vz_rules.proofs.Members.{contains_map, map_contains, at_map}
 use Rattle.vz_rules.proofs.Counts.{count_same, take_map}
 use Rattle.vz_rules.proofs.Kept_names.{numbers_keep}

@@ -1,18 +1,18 @@
 -- The waiting submissions that are found, and what is counted of clients, where a submission is accepted.
-use Rattle.std.proofs.Common.{◌≡◌, ℕ, ◌+◌, ◌≤◌, ◌<◌, Bool, true, false, not, ◌&&◌, ◌==◌, inl, inr, Option, Some, None, List, [], ◌∷◌, ◌++◌, map, find, take, refl, ap, sym, ◌∙◌, arith, cond, subst, Contains, count_by, slice_get}
+use Rattle.std.proofs.Common.{◌≡◌, ℕ, ◌+◌, ◌≤◌, Bool, true, false, ◌&&◌, ◌==◌, inl, inr, Option, Some, None, List, [], ◌∷◌, ◌++◌, map, find, refl, ap, sym, ◌∙◌, arith, cond, subst, Contains, count_by}
 use Rattle.std.specs.Option.{option_map}
-use Rattle.std.proofs.lemmas.Bool.{and_parts, and_from, both_ways, eq-eqb, eqb-true}
+use Rattle.std.proofs.lemmas.Bool.{and_parts, both_ways, eq-eqb, eqb-true}
 use Rattle.vz_geom.specs.declared.Size.{Size}
 use Rattle.vz_ids.specs.declared.FrameSinkId.{FrameSinkId}
 use Rattle.vz_ids.specs.declared.LocalSurfaceId.{LocalSurfaceId}
 use Rattle.vz_ids.specs.declared.SurfaceId.{SurfaceId}
 use Rattle.vz_ids.specs.declared.Sub.{Sub}
-use Rattle.vz_ids.specs.Ids.{same_surface, same_sub, same_local}
+use Rattle.vz_ids.specs.Ids.{same_sub}
 use Rattle.vz_pixels.specs.Block.{Block}
 use Rattle.vz_frame.specs.declared.frame.CompositorFrame.{CompositorFrame}
 use Rattle.vz_frame.specs.Frame.{frame_size}
 use Rattle.vz_rules.specs.declared.entry.State.TheVariants.{Dropped}
-use Rattle.vz_rules.specs.World.{Created, FrameData, Submission, is_waiting, is_active, is_on, sub_of}
+use Rattle.vz_rules.specs.World.{Created, FrameData, Submission, is_waiting, is_on, sub_of}
 use Rattle.vz_rules.specs.Messages.{is_last, replace_on}
 use Rattle.vz_rules.specs.Kept.{last_in, is_surface_of, is_by}
 use Rattle.vz_rules.proofs.Members.{contains_map, contains_push, contains_at, at_same, find_at}
@@ -28,7 +28,7 @@ use Rattle.vz_surfaces.specs.declared.owners.Owners.{Owners}
 use Rattle.vz_surfaces.specs.Memory.{is_name, waits_on, waiting_on, FindsWaiting, owner_at, HasNumber, KeepsOwners, counting, is_named_last}
 use Rattle.vz_surfaces.proofs.Keyed.{names}
 use Rattle.vz_surfaces.proofs.Finding.{count_kept}
-use Rattle.vz_surfaces.proofs.Others.{never, no_and}
+use Rattle.vz_surfaces.proofs.Others.{never}
 use Rattle.vz_surfaces.proofs.Following.{self_sub}
 use Rattle.vz_surfaces.proofs.Accepting.{replaces_on}
 

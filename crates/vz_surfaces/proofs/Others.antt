@@ -1,7 +1,7 @@
 -- A change of the submissions on one surface leaves what is kept of the others.
-use Rattle.std.proofs.Common.{◌≡◌, ℕ, ◌+◌, Bool, true, false, not, ◌&&◌, Option, Some, None, List, [], ◌∷◌, ◌++◌, map, find, refl, ap, sym, ◌∙◌, cond, Contains, count_by}
+use Rattle.std.proofs.Common.{◌≡◌, Bool, true, false, not, ◌&&◌, Option, Some, None, List, map, find, refl, ap, sym, ◌∙◌, Contains, count_by}
 use Rattle.std.specs.Option.{option_map}
-use Rattle.std.proofs.lemmas.Bool.{and_parts, both_ways}
+use Rattle.std.proofs.lemmas.Bool.{and_parts}
 use Rattle.vz_ids.specs.declared.SurfaceId.{SurfaceId}
 use Rattle.vz_ids.specs.Ids.{same_surface}
 use Rattle.vz_rules.specs.declared.entry.State.{State}
@@ -9,10 +9,8 @@ use Rattle.vz_rules.specs.declared.entry.State.TheVariants.{Waiting, Active, Pas
 use Rattle.vz_rules.specs.World.{Created, Submission, is_waiting, is_active, is_on}
 use Rattle.vz_rules.proofs.Reached.{from_same}
 use Rattle.vz_rules.proofs.Rising.{find_map}
-use Rattle.vz_surfaces.specs.Stored.{Stored}
 use Rattle.vz_surfaces.specs.Reading.{standing}
-use Rattle.vz_surfaces.specs.declared.table.Surface.{Surface}
-use Rattle.vz_surfaces.specs.Memory.{held_in, kept_of, surface_at}
+use Rattle.vz_surfaces.specs.Memory.{held_in, kept_of}
 use Rattle.vz_surfaces.proofs.Finding.{find_fixed, count_kept}
 
 -- where it cannot be true it is false

@@ -1,5 +1,5 @@
 -- What is kept where a submission becomes active.
-use Rattle.std.proofs.Common.{◌≡◌, ℕ, ◌+◌, ◌≤◌, Bool, true, false, not, ◌&&◌, ◌||◌, ◌==◌, Option, Some, None, List, [], ◌∷◌, map, find, refl, ap, sym, ◌∙◌, arith, cond, subst, Contains, count_by, is_some}
+use Rattle.std.proofs.Common.{◌≡◌, Bool, true, false, ◌&&◌, ◌==◌, Option, Some, None, List, [], ◌∷◌, map, find, refl, ap, sym, ◌∙◌, cond, subst, Contains, is_some}
 use Rattle.std.specs.Option.{option_map}
 use Rattle.std.specs.List.{list_any}
 use Rattle.std.proofs.lemmas.Bool.{and_parts, and_from, both_ways, eqb-true}
@@ -16,13 +16,11 @@ use Rattle.vz_rules.proofs.Counts.{one_place}
 use Rattle.vz_surfaces.specs.Stored.{Stored, named_in, raising, activating}
 use Rattle.vz_surfaces.specs.Reading.{standing, existing_count, held_of}
 use Rattle.vz_surfaces.specs.Keeping.{KeepsStored}
-use Rattle.vz_surfaces.specs.declared.held.Held.{Held}
-use Rattle.vz_surfaces.specs.declared.table.Surface.{Surface}
 use Rattle.vz_surfaces.specs.declared.waits.Waits.{Waits}
 use Rattle.vz_surfaces.specs.declared.owners.Owners.{Owners}
 use Rattle.vz_surfaces.specs.Memory.{is_name, waits_on, held_in, kept_of, surface_at, raised, FindsWaiting, KeepsOwners, is_waiting_in, past_by, acting_on}
 use Rattle.vz_surfaces.proofs.Finding.{find_none, find_alike}
-use Rattle.vz_surfaces.proofs.Others.{never, no_and, and_swap, off, waits_inactive, ChangesOn, count_on, other_found, kept_alike, mapped_alike, KeepsKept, surfaces_kept, count_standing}
+use Rattle.vz_surfaces.proofs.Others.{never, no_and, and_swap, ChangesOn, count_on, other_found, kept_alike, mapped_alike, KeepsKept, surfaces_kept, count_standing}
 use Rattle.vz_surfaces.proofs.Changing.{KeepsCounted, owners_stay}
 use Rattle.vz_surfaces.proofs.Following.{self_sub}
 use Rattle.vz_surfaces.proofs.Naming.{name_of, one_named}

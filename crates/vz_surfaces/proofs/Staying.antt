@@ -1,5 +1,5 @@
 -- What leaves a store as it is.
-use Rattle.std.proofs.Common.{◌≡◌, ℕ, Bool, true, false, ◌&&◌, not, Option, Some, None, List, [], ◌∷◌, map, refl, ap, sym, ◌∙◌, cond, is_some}
+use Rattle.std.proofs.Common.{◌≡◌, ℕ, Bool, true, false, ◌&&◌, not, Option, Some, None, List, [], ◌∷◌, map, refl, ap, ◌∙◌, cond, is_some}
 use Rattle.vz_geom.specs.Rectangle.{is_empty_rect}
 use Rattle.vz_ids.specs.declared.FrameSinkId.{FrameSinkId}
 use Rattle.vz_ids.specs.declared.LocalSurfaceId.{LocalSurfaceId}
@@ -7,7 +7,7 @@ use Rattle.vz_ids.specs.declared.Sub.{Sub}
 use Rattle.vz_pixels.specs.Block.{Block}
 use Rattle.vz_rules.specs.declared.entry.Refusal.{Refusal}
 use Rattle.vz_rules.specs.Plan.{Plan}
-use Rattle.vz_rules.specs.World.{World, Client, Created, Submission, Scene}
+use Rattle.vz_rules.specs.World.{World, Client, Created, Scene}
 use Rattle.vz_rules.specs.Scene.{scene_of}
 use Rattle.vz_rules.specs.Reach.{naming, name_one, is_named_now}
 use Rattle.vz_rules.specs.Returns.{give_back, feed, mark_fed}

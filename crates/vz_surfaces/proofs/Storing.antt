@@ -1,14 +1,14 @@
 -- What memory keeps is that of the store, at first and over its other changes, and what is read of it.
-use Rattle.std.proofs.Common.{◌≡◌, ℕ, ◌+◌, Bool, true, false, not, ◌&&◌, Option, Some, None, List, [], ◌∷◌, ◌++◌, map, filter, find, length, refl, ap, sym, ◌∙◌, arith, cond, subst, Contains, count_by, is_some, Bor}
+use Rattle.std.proofs.Common.{◌≡◌, ℕ, ◌+◌, Bool, true, false, ◌&&◌, Option, Some, None, List, [], ◌∷◌, ◌++◌, map, filter, find, length, refl, ap, sym, ◌∙◌, arith, cond, subst, is_some, Bor}
 use Rattle.std.specs.Option.{option_map, option_copied}
 use Rattle.std.proofs.lemmas.Bool.{both_ways, or_left}
 use Rattle.vz_ids.specs.declared.SurfaceId.{SurfaceId}
 use Rattle.vz_ids.specs.declared.Sub.{Sub}
-use Rattle.vz_ids.specs.Ids.{same_surface, same_sub}
+use Rattle.vz_ids.specs.Ids.{same_surface}
 use Rattle.vz_rules.specs.declared.entry.Lost.{Lost}
 use Rattle.vz_rules.specs.World.{Created, FrameData, Submission, is_waiting, is_active, is_on, sub_of, active_frames, frame_on}
-use Rattle.vz_rules.specs.Kept.{last_in, stands_in, is_surface_of, is_by}
-use Rattle.vz_rules.proofs.Reached.{from_same, self_same}
+use Rattle.vz_rules.specs.Kept.{stands_in}
+use Rattle.vz_rules.proofs.Reached.{from_same}
 use Rattle.vz_rules.proofs.Members.{contains_none}
 use Rattle.vz_surfaces.specs.declared.told.Told.{Told}
 use Rattle.vz_surfaces.specs.declared.told.Told.TheVariants as told
@@ -17,11 +17,11 @@ use Rattle.vz_surfaces.specs.declared.table.Surface.{Surface}
 use Rattle.vz_surfaces.specs.declared.table.Table.{Table}
 use Rattle.vz_surfaces.specs.declared.waits.Waits.{Waits}
 use Rattle.vz_surfaces.specs.declared.owners.Owners.{Owners}
-use Rattle.vz_surfaces.specs.Stored.{Stored, nothing_stored, raising, activating, marking, destroying}
+use Rattle.vz_surfaces.specs.Stored.{Stored, nothing_stored, raising, activating, destroying}
 use Rattle.vz_surfaces.specs.Told.{changed, changed_by, stored}
 use Rattle.vz_surfaces.specs.Reading.{stands, standing, held_of, existing_count, last_of, seen_frames, active_on}
 use Rattle.vz_surfaces.specs.Keeping.{KeepsStored}
-use Rattle.vz_surfaces.specs.Memory.{is_key, look, is_name, waits_on, owner_at, no_owner, Keeps, kept_of, surface_at, held_in, raised, waiting_on, acting_on, is_waiting_in, past_by}
+use Rattle.vz_surfaces.specs.Memory.{is_key, look, is_name, waits_on, owner_at, no_owner, Keeps, kept_of, surface_at, raised, waiting_on, acting_on, is_waiting_in, past_by}
 use Rattle.vz_surfaces.proofs.Raising.{waiting_one, Waits_in, activates, past_is, raised_here, raised_apart, raised_count, raised_owners, raised_waits}
 use Rattle.vz_surfaces.proofs.Destroying.{marked_at, marked_count, marked_owners, marked_waits, gone_here, gone_apart, gone_owners, gone_count, gone_waits}
 use Rattle.vz_surfaces.proofs.Holding.{key_of, standing_of, kept_waiting}

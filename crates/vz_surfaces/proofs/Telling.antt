@@ -1,5 +1,5 @@
 -- What is read of a store is read of the machine's state.
-use Rattle.std.proofs.Common.{◌≡◌, ℕ, Bool, true, false, ◌&&◌, ◌||◌, ◌==◌, not, Option, Some, None, List, [], ◌∷◌, map, filter, find, refl, ap, sym, ◌∙◌, cond, Contains, count_by, is_some, subst}
+use Rattle.std.proofs.Common.{◌≡◌, ℕ, Bool, true, false, ◌&&◌, ◌||◌, ◌==◌, not, Option, Some, None, List, [], ◌∷◌, map, filter, refl, ap, sym, ◌∙◌, cond, Contains, count_by, is_some, subst}
 use Rattle.std.specs.Option.{option_map}
 use Rattle.std.specs.List.{list_any}
 use Rattle.std.proofs.lemmas.Bool.{or_right}
@@ -15,7 +15,7 @@ use Rattle.vz_rules.specs.Kept.{KeepsAlways, last_in, stands_in}
 use Rattle.vz_rules.proofs.Members.{contains_here, contains_there, contains_map, filter_at, any_map}
 use Rattle.vz_rules.proofs.Counts.{count_same}
 use Rattle.vz_rules.proofs.Rising.{find_map}
-use Rattle.vz_surfaces.specs.Stored.{Stored, bare_surface, bare_sub, stored_of}
+use Rattle.vz_surfaces.specs.Stored.{bare_surface, bare_sub, stored_of}
 use Rattle.vz_surfaces.specs.Reading.{stands, standing, existing_count, has_mark, marked_of, last_of, seen_frames, active_on, shown_in, was_reached}
 use Rattle.vz_surfaces.proofs.Following.{last_bare}
 

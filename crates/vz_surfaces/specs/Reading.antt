@@ -1,5 +1,5 @@
 -- What is read of a store.
-use Rattle.std.specs.Prelude.{ℕ, zero, suc, ◌+◌, Bool, not, ◌&&◌, ◌==◌, Option, Some, None, is_some, List, [], ◌++◌, map, filter, find, count_by}
+use Rattle.std.specs.Prelude.{ℕ, zero, suc, ◌+◌, Bool, not, ◌&&◌, ◌==◌, Option, Some, None, List, [], ◌++◌, map, filter, find, count_by}
 use Rattle.std.specs.Option.{option_map}
 use Rattle.std.specs.List.{list_any}
 use Rattle.vz_geom.specs.declared.Size.{Size}

@@ -1,6 +1,5 @@
 -- What a store stands for, and how each call changes it.
-use Rattle.std.specs.Prelude.{ℕ, ◌+◌, Bool, true, false, ◌&&◌, ◌||◌, Option, Some, None, List, [], ◌∷◌, ◌++◌, map, find, count_by, if◌then◌else◌}
-use Rattle.vz_geom.specs.declared.Size.{Size}
+use Rattle.std.specs.Prelude.{ℕ, ◌+◌, true, false, ◌&&◌, ◌||◌, Option, Some, None, List, [], ◌∷◌, ◌++◌, map, find, count_by, if◌then◌else◌}
 use Rattle.vz_ids.specs.declared.FrameSinkId.{FrameSinkId}
 use Rattle.vz_ids.specs.declared.LocalSurfaceId.{LocalSurfaceId}
 use Rattle.vz_ids.specs.declared.SurfaceId.{SurfaceId}

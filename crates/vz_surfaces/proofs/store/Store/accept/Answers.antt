@@ -1,4 +1,4 @@
-use Rattle.std.proofs.Common.{◌≡◌, ◌+◌, ap, sym, ◌∙◌, subst}
+use Rattle.std.proofs.Common.{◌+◌, ap, sym, ◌∙◌, subst}
 use Rattle.vz_surfaces.specs.Memory.{Keeps, look, is_named_last}
 use Rattle.vz_surfaces.proofs.Holding.{IsHeldAt, open_new, few_before, held_before, accepted_keeps}
 use Rattle.vz_surfaces.proofs.Storing.{stored_more}

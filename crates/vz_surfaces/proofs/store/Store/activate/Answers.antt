@@ -1,4 +1,3 @@
-use Rattle.std.proofs.Common.{sym}
 use Rattle.vz_surfaces.proofs.Storing.{stored_more, found_waiting, activated_keeps, past_reads}
 use Rattle.vz_surfaces.proofs.store.Store.activate.Goals as goal
 

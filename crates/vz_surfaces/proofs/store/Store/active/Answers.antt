@@ -1,4 +1,4 @@
-use Rattle.std.proofs.Common.{subst, sym, ◌∙◌}
+use Rattle.std.proofs.Common.{subst, ◌∙◌}
 use Rattle.vz_surfaces.specs.Memory.{Keeps}
 use Rattle.vz_surfaces.proofs.Storing.{active_none, active_some}
 use Rattle.vz_surfaces.proofs.store.Store.active.Goals as goal

@@ -1,4 +1,3 @@
-use Rattle.std.proofs.Common.{◌∙◌}
 use Rattle.vz_surfaces.proofs.Storing.{stored_more, found_standing, kept_at, IsKeptAt, lost_reads, waiting_reads, active_reads, destroyed_keeps}
 use Rattle.vz_surfaces.proofs.store.Store.destroy.Goals as goal
 

@@ -1,4 +1,4 @@
-use Rattle.std.proofs.Common.{ap, sym, ◌∙◌, is_some, subst}
+use Rattle.std.proofs.Common.{ap, ◌∙◌, is_some, subst}
 use Rattle.vz_surfaces.specs.Memory.{Keeps}
 use Rattle.vz_surfaces.proofs.Storing.{exists_is, some_read}
 use Rattle.vz_surfaces.proofs.store.Store.exists.Goals as goal

@@ -1,5 +1,3 @@
-use Rattle.std.proofs.Common.{subst, sym}
-use Rattle.vz_surfaces.specs.Memory.{Keeps}
 use Rattle.vz_surfaces.proofs.Storing.{stored_more, marked_keeps}
 use Rattle.vz_surfaces.proofs.store.Store.mark_all.Goals as goal
 
