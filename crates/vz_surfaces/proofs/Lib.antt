@@ -1,0 +1,15 @@
+mod Following
+mod Staying
+mod Telling
+mod Kept_of_world
+mod Finding
+mod Keyed
+mod Others
+mod Accepting
+mod Naming
+mod Changing
+mod Raising
+mod Destroying
+mod Ends
+mod Holding
+mod Storing

@@ -1,0 +1,109 @@
+-- What is read of a store is read of the machine's state.
+use Rattle.std.proofs.Common.{◌≡◌, ℕ, Bool, true, false, ◌&&◌, ◌||◌, ◌==◌, not, Option, Some, None, List, [], ◌∷◌, map, filter, refl, ap, sym, ◌∙◌, cond, Contains, count_by, is_some, subst}
+use Rattle.std.specs.Option.{option_map}
+use Rattle.std.specs.List.{list_any}
+use Rattle.std.proofs.lemmas.Bool.{or_right}
+use Rattle.vz_geom.specs.declared.Size.{Size}
+use Rattle.vz_ids.specs.declared.LocalSurfaceId.{LocalSurfaceId}
+use Rattle.vz_ids.specs.declared.SurfaceId.{SurfaceId}
+use Rattle.vz_ids.specs.declared.SurfaceRange.{SurfaceRange}
+use Rattle.vz_ids.specs.Ids.{same_sink, same_surface, at_least}
+use Rattle.vz_rules.specs.World.{World, Client, Created, FrameData, Submission, is_waiting, is_active, active_frames, frame_on, existing, exists, last_created}
+use Rattle.vz_rules.specs.Scene.{shown, shown_frame, id_of_frame}
+use Rattle.vz_rules.specs.Settle.{is_met}
+use Rattle.vz_rules.specs.Kept.{KeepsAlways, last_in, stands_in}
+use Rattle.vz_rules.proofs.Members.{contains_here, contains_there, contains_map, filter_at, any_map}
+use Rattle.vz_rules.proofs.Counts.{count_same}
+use Rattle.vz_rules.proofs.Rising.{find_map}
+use Rattle.vz_surfaces.specs.Stored.{bare_surface, bare_sub, stored_of}
+use Rattle.vz_surfaces.specs.Reading.{stands, standing, existing_count, has_mark, marked_of, last_of, seen_frames, active_on, shown_in, was_reached}
+use Rattle.vz_surfaces.proofs.Following.{last_bare}
+
+pub standing_bare : (ss : List Created) (id : SurfaceId) → standing id (map bare_surface ss) ≡ option_map bare_surface (standing id ss)
+standing_bare ss id = find_map (λ (s : Created). same_surface s.id id && not s.destroyed) bare_surface ss (λ x. refl)
+
+some_mapped : {A B : Type 0} (f : A → B) (o : Option A) → is_some (option_map f o) ≡ is_some o
+some_mapped f None = refl
+some_mapped f (Some a) = refl
+
+pub stands_bare : (ss : List Created) (id : SurfaceId) → stands_in (map bare_surface ss) id ≡ stands_in ss id
+stands_bare ss id = ap is_some (standing_bare ss id) ∙ some_mapped bare_surface (standing id ss)
+
+pub tells_exists : (w : World) (id : SurfaceId) → stands (stored_of w) id ≡ exists w id
+unfolding stands stored_of
+tells_exists w id = stands_bare w.surfaces id
+
+mark_bare : (o : Option Created) → (elim (option_map bare_surface o) as (λ o. Bool) [ Some c ↦ c.marked | None ↦ false ]) ≡ (elim o as (λ o. Bool) [ Some c ↦ c.marked | None ↦ false ])
+mark_bare None = refl
+mark_bare (Some c) = refl
+
+pub tells_marks : (w : World) (id : SurfaceId) → has_mark (stored_of w) id ≡ (elim (existing w id) as (λ o. Bool) [ Some c ↦ c.marked | None ↦ false ])
+unfolding has_mark stored_of
+tells_marks w id = ap (λ (o : Option Created). elim o as (λ o. Bool) [ Some c ↦ c.marked | None ↦ false ]) (standing_bare w.surfaces id) ∙ mark_bare (standing id w.surfaces)
+
+pub tells_count : (w : World) → existing_count (stored_of w) ≡ count_by (λ (s : Created). not s.destroyed) w.surfaces
+unfolding existing_count stored_of
+tells_count w = count_same bare_surface (λ (s : Created). not s.destroyed) (λ (s : Created). not s.destroyed) w.surfaces (λ x. refl)
+
+-- what is read of those that pass, where it is not changed
+pub read_same : {A B : Type 0} (f : A → A) (r : A → B) (p : A → Bool) (xs : List A) → ((x : A) → r (f x) ≡ r x) → ((x : A) → p (f x) ≡ p x) → map r (filter p (map f xs)) ≡ map r (filter p xs)
+read_same f r p [] e g = refl
+read_same f r p (x ∷ xs) e g =
+    ap (λ (t : Bool). map r (cond t (f x ∷ filter p (map f xs)) (filter p (map f xs)))) (g x) ∙ by (p x) (read_same f r p xs e g)
+  where
+    by : (t : Bool) → map r (filter p (map f xs)) ≡ map r (filter p xs) → map r (cond t (f x ∷ filter p (map f xs)) (filter p (map f xs))) ≡ map r (cond t (x ∷ filter p xs) (filter p xs))
+    by true rest = ap (λ y. y ∷ map r (filter p (map f xs))) (e x) ∙ ap (λ l. r x ∷ l) rest
+    by false rest = rest
+
+pub tells_marked : (w : World) (c : ℕ) → marked_of c (stored_of w) ≡ map (λ s. s.id) (filter (λ (s : Created). (s.client == c) && s.marked && not s.destroyed) w.surfaces)
+unfolding marked_of stored_of
+tells_marked w c = read_same bare_surface (λ s. s.id) (λ (s : Created). (s.client == c) && s.marked && not s.destroyed) w.surfaces (λ x. refl) (λ x. refl)
+
+abbrev Named : Type 0
+Named = LocalSurfaceId × Size
+
+last_read : (o : Option Created) → option_map {U = Named} (λ (s : Created). (s.id.local, s.size)) (option_map bare_surface o) ≡ option_map {U = Named} (λ (s : Created). (s.id.local, s.size)) o
+last_read None = refl
+last_read (Some s) = refl
+
+pub tells_last : (w : World) (c : ℕ) → last_of c (stored_of w) ≡ option_map {U = Named} (λ (s : Created). (s.id.local, s.size)) (last_created w c)
+unfolding last_of stored_of
+tells_last w c = ap (option_map {U = Named} (λ (s : Created). (s.id.local, s.size))) (last_bare w.surfaces c) ∙ last_read (last_in w.surfaces c)
+
+pub tells_met : (w : World) (d : SurfaceId) → is_met w d ≡ (was_reached (stored_of w) d || list_any (λ (c : Client). c.closed && same_sink c.sink d.sink) w.clients)
+unfolding is_met was_reached stored_of
+tells_met w d =
+    let p = λ (s : Submission). s.was_active && at_least s.submitted.id d in
+    ap (λ (t : Bool). t || list_any (λ (c : Client). c.closed && same_sink c.sink d.sink) w.clients) (sym (any_map bare_sub p p w.subs (λ x. refl)))
+
+-- Active frames
+
+active_bare : (subs : List Submission) → active_frames (map bare_sub subs) ≡ active_frames subs
+active_bare subs = read_same bare_sub (λ s. s.submitted) is_active subs (λ x. refl) (λ x. refl)
+
+pub filter_all : {A : Type 0} (p : A → Bool) (xs : List A) → ((x : A) → Contains xs x → p x ≡ true) → filter p xs ≡ xs
+filter_all p [] h = refl
+filter_all p (x ∷ xs) h =
+    ap (λ (t : Bool). cond t (x ∷ filter p xs) (filter p xs)) (h x (contains_here x xs)) ∙ ap (λ l. x ∷ l) (filter_all p xs (λ y c. h y (contains_there x y xs c)))
+
+pub seen_all : (w : World) → KeepsAlways w → seen_frames (stored_of w) ≡ active_frames w.subs
+unfolding stored_of
+seen_all w h =
+    ap (filter (λ i. stands_in (map bare_surface w.surfaces) i.id)) (active_bare w.subs)
+    ∙ filter_all (λ i. stands_in (map bare_surface w.surfaces) i.id) (active_frames w.subs) (λ i c.
+    let s = contains_map (λ (s : Submission). s.submitted) (filter is_active w.subs) i c in
+    let a = filter_at is_active w.subs s.0 s.1 in
+    subst (λ (j : FrameData). stands_in (map bare_surface w.surfaces) j.id ≡ true) s.2
+    (stands_bare w.surfaces s.0.submitted.id ∙ h.states.stand s.0 a.0 (or_right (is_waiting s.0) (is_active s.0) a.1)))
+
+pub tells_active : (w : World) (id : SurfaceId) → KeepsAlways w → active_on (stored_of w) id ≡ frame_on id (active_frames w.subs)
+unfolding active_on
+tells_active w id h = ap (frame_on id) (seen_all w h)
+
+id_read : (o : Option FrameData) → id_of_frame o ≡ (elim o as (λ o. Option SurfaceId) [ Some i ↦ Some i.id | None ↦ None ])
+id_read None = refl
+id_read (Some i) = refl
+
+pub tells_shown : (w : World) (range : SurfaceRange) → KeepsAlways w → shown_in (stored_of w) range ≡ shown w range
+unfolding shown_in shown
+tells_shown w range h = ap (λ l. id_of_frame (shown_frame l range)) (seen_all w h) ∙ id_read (shown_frame (active_frames w.subs) range)

@@ -1,0 +1,62 @@
+use Rattle.std.proofs.Common.{◌+◌, ap, sym, ◌∙◌, subst}
+use Rattle.vz_surfaces.specs.Memory.{Keeps, look, is_named_last}
+use Rattle.vz_surfaces.proofs.Holding.{IsHeldAt, open_new, few_before, held_before, accepted_keeps}
+use Rattle.vz_surfaces.proofs.Storing.{stored_more}
+use Rattle.vz_surfaces.proofs.store.Store.accept.Goals as goal
+
+pub open-requires-clause-new : goal.open-requires-clause-new
+open-requires-clause-new c =
+    let inside = c.self.inside in
+    let kept = subst (Keeps inside.table inside.waits inside.owners) c.self.view_is c.self.invariant in
+    open_new c.args.self.now c.args.c c.args.sink c.args.local c.requires.keeps c.requires.number c.requires.sink c.requires.goes_on inside.table c.reserve.new.table inside.waits inside.owners c.is_last-last.result kept c.reserve.ensures.table
+    (c.is_last-last.ensures ∙ ap (λ o. is_named_last o.last c.args.local) c.get-owner.ensures)
+
+pub open-requires-clause-few : goal.open-requires-clause-few
+open-requires-clause-few c =
+    let inside = c.self.inside in
+    let kept = subst (Keeps inside.table inside.waits inside.owners) c.self.view_is c.self.invariant in
+    few_before c.args.self.now c.args.c c.args.sink c.args.local c.requires.keeps c.requires.number c.requires.sink c.requires.goes_on inside.owners c.get-owner.result _ kept.owners c.get-owner.ensures c.requires.few
+
+pub counting-requires-clause-created : goal.counting-requires-clause-created
+counting-requires-clause-created c =
+    let inside = c.self.inside in
+    let kept = subst (Keeps inside.table inside.waits inside.owners) c.self.view_is c.self.invariant in
+    few_before c.args.self.now c.args.c c.args.sink c.args.local c.requires.keeps c.requires.number c.requires.sink c.requires.goes_on inside.owners c.get-owner.result _ kept.owners c.get-owner.ensures c.requires.few
+
+held : (c : goal.After-id-1) → IsHeldAt c.args.self.now (record { sink = c.args.sink; local = c.args.local }) (look c.open.new.self (record { sink = c.args.sink; local = c.args.local })) 4294967295
+held c =
+    let inside = c.self.inside in
+    let kept = subst (Keeps inside.table inside.waits inside.owners) c.self.view_is c.self.invariant in
+    held_before c.args.self.now c.args.c c.args.sink c.args.local c.requires.keeps c.requires.number c.requires.sink c.requires.goes_on inside.table c.reserve.new.table c.open.new.self inside.waits inside.owners c.is_last-last.result c.get-owner.result.created 4294967295
+    kept c.reserve.ensures.table (c.is_last-last.ensures ∙ ap (λ o. is_named_last o.last c.args.local) c.get-owner.ensures) c.requires.exists c.requires.few c.open.ensures.surfaces
+
+held_after : (c : goal.After-set) → IsHeldAt c.args.self.now (record { sink = c.args.sink; local = c.args.local }) (look c.open.new.self (record { sink = c.args.sink; local = c.args.local })) 4294967295
+held_after c =
+    let inside = c.self.inside in
+    let kept = subst (Keeps inside.table inside.waits inside.owners) c.self.view_is c.self.invariant in
+    held_before c.args.self.now c.args.c c.args.sink c.args.local c.requires.keeps c.requires.number c.requires.sink c.requires.goes_on inside.table c.reserve.new.table c.open.new.self inside.waits inside.owners c.is_last-last.result c.get-owner.result.created 4294967295
+    kept c.reserve.ensures.table (c.is_last-last.ensures ∙ ap (λ o. is_named_last o.last c.args.local) c.get-owner.ensures) c.requires.exists c.requires.few c.open.ensures.surfaces
+
+pub hold-index-requires : goal.hold-index-requires
+hold-index-requires c = let h = held c in record { there = (h.surface, h.is, h.few) }
+
+pub returns-clause-ok : goal.returns-clause-ok
+returns-clause-ok c =
+    stored_more c.self.inside.told c.note-acceptance.new.told _ c.args.self.now c.note-acceptance.ensures.told c.self.view_is
+
+pub returns-clause-index : goal.returns-clause-index
+returns-clause-index c =
+    let h = held_after c in c.hold-index.ensures.index h.surface h.is ∙ ap (λ n. n + 1) h.accepted
+
+pub returns-clause-replaced : goal.returns-clause-replaced
+returns-clause-replaced c = let h = held_after c in c.hold-index.ensures.replaced h.surface h.is ∙ h.waiting
+
+pub invariant_of-self-2 : goal.invariant_of-self-2
+invariant_of-self-2 c =
+    let inside = c.self.inside in
+    let kept = subst (Keeps inside.table inside.waits inside.owners) c.self.view_is c.self.invariant in
+    subst (Keeps c.hold-index.new.self c.put.new.self c.set.new.self) (sym (returns-clause-ok c))
+    (accepted_keeps c.args.self.now c.args.c c.args.sink c.args.local c.requires.keeps c.requires.number c.requires.sink c.requires.goes_on c.args.frame c.args.blocks inside.table c.reserve.new.table c.open.new.self
+    c.hold-index.new.self inside.waits c.reserve.new.waits c.remove.new.self c.put.new.self inside.owners c.set.new.self c.get-owner.result c.counting.result c.is_last-last.result c.frame_size-size.result c.note-acceptance.result
+    c.hold-index.result.1 kept c.reserve.ensures.table c.reserve.ensures.waits c.frame_size-size.ensures c.get-owner.ensures c.is_last-last.ensures c.note-acceptance.ensures.back
+    c.open.ensures.surfaces c.open.ensures.len c.hold-index.ensures.surfaces c.hold-index.ensures.len (returns-clause-replaced c) c.remove.ensures.none c.remove.ensures.others c.put.ensures c.counting.ensures c.set.ensures)

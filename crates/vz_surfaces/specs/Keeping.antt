@@ -1,0 +1,15 @@
+-- What always holds of the surfaces and submissions that a store stands for.
+use Rattle.std.specs.Prelude.{List}
+use Rattle.vz_rules.specs.World.{Client}
+use Rattle.vz_rules.specs.Kept.{KeepsClients, KeepsSurfaces, KeepsNumbers, KeepsStates, FewAreCreated}
+use Rattle.vz_surfaces.specs.Stored.{Stored}
+
+-- there are clients with one sink each, whose surfaces these are, numbered and each going on from the earlier ones of its
+-- client; submissions are numbered, no fewer than the client's surfaces, and a surface has at most one waiting and one active, and exists where it has one
+pub record KeepsStored (st : Stored) : Type 0 where
+  pub clients : List Client
+  pub sinks : KeepsClients clients
+  pub surfaces : KeepsSurfaces clients st.surfaces
+  pub numbers : KeepsNumbers st.surfaces st.subs
+  pub few_created : FewAreCreated st.surfaces st.subs
+  pub states : KeepsStates st.surfaces st.subs

@@ -1,0 +1,5 @@
+pub mod Stored
+pub mod Reading
+pub mod Keeping
+pub mod Memory
+pub mod Told

@@ -1,0 +1,144 @@
+-- What memory keeps of a store, and what it stands for.
+use Rattle.std.specs.Prelude.{◌≡◌, ℕ, ◌+◌, ◌-◌, ◌≤◌, ◌&&◌, Bool, IsTrue, Option, Some, None, List, length, find, count_by, get_or, if◌then◌else◌}
+use Rattle.std.specs.Option.{option_map}
+use Rattle.std.specs.List.{Contains, list_any}
+use Rattle.std.specs.Map.{lookup}
+use Rattle.vz_geom.specs.declared.Size.{Size}
+use Rattle.vz_ids.specs.declared.FrameSinkId.{FrameSinkId}
+use Rattle.vz_ids.specs.declared.LocalSurfaceId.{LocalSurfaceId}
+use Rattle.vz_ids.specs.declared.SurfaceId.{SurfaceId}
+use Rattle.vz_ids.specs.Ids.{same_local, same_sub}
+use Rattle.vz_ids.specs.declared.Sub.{Sub}
+use Rattle.vz_ids.specs.contracts.SurfaceIdPartialEq.TheImpl.{eq-value as surface_eq}
+use Rattle.vz_ids.specs.contracts.SubPartialEq.TheImpl.{eq-value as sub_eq}
+use Rattle.vz_pixels.specs.Block.{Block}
+use Rattle.vz_frame.specs.declared.frame.CompositorFrame.{CompositorFrame}
+use Rattle.vz_rules.specs.World.{Created, Submission, is_waiting, is_active, is_on, sub_of}
+use Rattle.vz_rules.specs.Kept.{is_by, is_surface_of}
+use Rattle.vz_surfaces.specs.declared.held.Held.{Held}
+use Rattle.vz_surfaces.specs.declared.table.Surface.{Surface}
+use Rattle.vz_surfaces.specs.declared.table.Table.{Table}
+use Rattle.vz_surfaces.specs.declared.waits.Waits.{Waits}
+use Rattle.vz_surfaces.specs.declared.owners.Owner.{Owner}
+use Rattle.vz_surfaces.specs.declared.owners.Owners.{Owners}
+use Rattle.vz_surfaces.specs.Stored.{Stored, named_in}
+use Rattle.vz_surfaces.specs.Reading.{standing, existing_count, held_of, last_of}
+
+-- the test of keys that tables make: sink and local id are equal
+abbrev pub is_key : SurfaceId → SurfaceId → Bool
+is_key = surface_eq.it
+
+-- the surface of an id, if the table has it
+abbrev pub look : Table → SurfaceId → Option Surface
+look t id = lookup (is_key id) t.surfaces.entries
+
+-- a surface after one more submission waits on it
+abbrev pub holding : Sub → CompositorFrame → List Block → Surface → Surface
+holding sub frame blocks s =
+    record s {
+      accepted = s.accepted + 1;
+      waiting = Some (record { sub = sub; index = s.accepted + 1; frame = frame; blocks = blocks });
+    }
+
+-- a surface after its waiting submission has become active
+abbrev pub raised : Surface → Surface
+raised s = record s { waiting = None; active = s.waiting }
+
+-- the first submission on a surface that passes a test, as it is kept
+abbrev pub held_in : (Submission → Bool) → SurfaceId → List Submission → Option Held
+held_in test id subs = option_map (λ (s : Submission). held_of s.submitted) (find (λ s. test s && is_on id s) subs)
+
+-- what is kept of a surface that was created
+abbrev pub kept_of : SurfaceId → List Submission → Created → Surface
+kept_of id subs c =
+    record {
+      client = c.client;
+      number = c.number;
+      accepted = count_by (is_on id) subs;
+      waiting = held_in is_waiting id subs;
+      active = held_in is_active id subs;
+    }
+
+-- what is kept of a surface, if it exists
+unfoldable pub surface_at : Stored → SurfaceId → Option Surface
+surface_at st id = option_map (kept_of id st.subs) (standing id st.surfaces)
+
+-- a table has exactly the surfaces that exist
+pub record KeepsTable (t : Table) (st : Stored) : Type 0 where
+  pub surfaces : (id : SurfaceId) → look t id ≡ surface_at st id
+  pub count : length t.surfaces.entries ≡ existing_count st
+
+-- the test of names that the index makes: client and ordinal are equal
+abbrev pub is_name : Sub → Sub → Bool
+is_name = sub_eq.it
+
+-- the surface on which a submission waits, if the index has it
+abbrev pub waits_on : Waits → Sub → Option SurfaceId
+waits_on w sub = lookup (is_name sub) w.surfaces.entries
+
+-- each submission that waits is found
+pub record FindsWaiting (w : Waits) (st : Stored) : Type 0 where
+  pub found : (s : Submission) → Contains st.subs s → IsTrue (is_waiting s) → waits_on w (sub_of s) ≡ Some s.submitted.id
+
+-- nothing was accepted of a client
+abbrev pub no_owner : Owner
+no_owner = record { accepted = 0; created = 0; last = None }
+
+-- what is counted of the client of a number
+abbrev pub owner_at : Owners → ℕ → Owner
+owner_at o c = get_or o.owners (c - 1) no_owner
+
+-- a client has one of the numbers that plans have
+abbrev pub HasNumber : ℕ → Type 0
+HasNumber c = (1 ≤ c) × (c ≤ 16)
+
+-- clients are counted
+pub record KeepsOwners (o : Owners) (st : Stored) : Type 0 where
+  pub accepted : (c : ℕ) → HasNumber c → (owner_at o c).accepted ≡ count_by (is_by c) st.subs
+  pub created : (c : ℕ) → HasNumber c → (owner_at o c).created ≡ count_by (is_surface_of c) st.surfaces
+  pub last : (c : ℕ) → HasNumber c → (owner_at o c).last ≡ last_of c st
+
+-- a new surface, before its first submission waits on it
+abbrev pub empty_surface : ℕ → ℕ → Surface
+empty_surface c number = record { client = c; number = number; accepted = 0; waiting = None; active = None }
+
+-- the local id is that of the last created surface
+abbrev pub is_named_last : Option (LocalSurfaceId × Size) → LocalSurfaceId → Bool
+is_named_last None local = Bool.false
+is_named_last (Some p) local = same_local p.0 local
+
+-- what is counted of a client after one more submission, on the last surface or on a new one
+abbrev pub counting : Bool → LocalSurfaceId → Size → Owner → Owner
+counting last local size o =
+    record {
+      accepted = o.accepted + 1;
+      created = (if last then o.created else o.created + 1);
+      last = (if last then o.last else Some (local, size));
+    }
+
+-- the client and the ordinal of the submission that waits on a surface, if one does
+unfoldable pub waiting_on : Stored → SurfaceId → Option Sub
+waiting_on st id = option_map (λ (s : Submission). sub_of s) (find (λ s. is_waiting s && is_on id s) st.subs)
+
+-- the sink is that of each surface that the client created, and of no other client's
+pub record IsSinkOf (c : ℕ) (sink : FrameSinkId) (st : Stored) : Type 0 where
+  pub own : (s : Created) → Contains st.surfaces s → s.client ≡ c → s.id.sink ≡ sink
+  pub alone : (s : Created) → Contains st.surfaces s → s.id.sink ≡ sink → s.client ≡ c
+
+-- the client and the ordinal of the active submission of a surface, if it has one
+unfoldable pub acting_on : Stored → SurfaceId → Option Sub
+acting_on st id = option_map (λ (s : Submission). sub_of s) (find (λ s. is_active s && is_on id s) st.subs)
+
+-- a submission of this name waits
+unfoldable pub is_waiting_in : Stored → Sub → Bool
+is_waiting_in st sub = list_any (λ s. is_waiting s && same_sub (sub_of s) sub) st.subs
+
+-- the one that becomes past where the submission of this name becomes active
+unfoldable pub past_by : Stored → Sub → Option Sub
+past_by st sub = elim (named_in sub st.subs) [ Some s ↦ acting_on st s.submitted.id | None ↦ None ]
+
+-- what memory keeps is that of a store
+pub record Keeps (t : Table) (w : Waits) (o : Owners) (st : Stored) : Type 0 where
+  pub table : KeepsTable t st
+  pub waits : FindsWaiting w st
+  pub owners : KeepsOwners o st

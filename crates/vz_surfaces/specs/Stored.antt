@@ -1,0 +1,113 @@
+-- What a store stands for, and how each call changes it.
+use Rattle.std.specs.Prelude.{ℕ, ◌+◌, true, false, ◌&&◌, ◌||◌, Option, Some, None, List, [], ◌∷◌, ◌++◌, map, find, count_by, if◌then◌else◌}
+use Rattle.vz_ids.specs.declared.FrameSinkId.{FrameSinkId}
+use Rattle.vz_ids.specs.declared.LocalSurfaceId.{LocalSurfaceId}
+use Rattle.vz_ids.specs.declared.SurfaceId.{SurfaceId}
+use Rattle.vz_ids.specs.declared.Sub.{Sub}
+use Rattle.vz_ids.specs.Ids.{same_surface, same_sub}
+use Rattle.vz_pixels.specs.Block.{Block}
+use Rattle.vz_frame.specs.declared.frame.CompositorFrame.{CompositorFrame}
+use Rattle.vz_frame.specs.Frame.{frame_size}
+use Rattle.vz_rules.specs.declared.entry.State.TheVariants.{Waiting, Dropped}
+use Rattle.vz_rules.specs.World.{World, FrameData, Created, Submission, is_waiting, is_active, is_on, sub_of}
+use Rattle.vz_rules.specs.Settle.{marked_by}
+use Rattle.vz_rules.specs.Messages.{is_last, replace_on, mark_of}
+use Rattle.vz_rules.specs.Singly.{as_one_rises}
+use Rattle.vz_rules.specs.Kept.{is_by, is_surface_of, last_in}
+
+-- all surfaces that were created, and all submissions that were accepted. What a store is not told of them is neutral
+pub record Stored : Type 0 where
+  pub surfaces : List Created
+  pub subs : List Submission
+
+-- a surface without the tick of its creation, and as if it was not named
+abbrev pub bare_surface : Created → Created
+bare_surface c = record c { born = 0; named = false }
+
+-- a submission without its deadline's tick, and as if it had no feedback
+abbrev pub bare_sub : Submission → Submission
+bare_sub s = record s { due = 0; fed = false }
+
+-- what a store stands for in a world
+unfoldable pub stored_of : World → Stored
+stored_of w = record { surfaces = map bare_surface w.surfaces; subs = map bare_sub w.subs }
+
+-- nothing was created
+unfoldable pub nothing_stored : Stored
+nothing_stored = record { surfaces = []; subs = [] }
+
+-- the surface of a local id of a sink
+abbrev pub surface_of : FrameSinkId → LocalSurfaceId → SurfaceId
+surface_of sink local = record { sink = sink; local = local }
+
+-- a new surface of a client, of the size of its first frame
+abbrev pub new_surface : ℕ → SurfaceId → CompositorFrame → List Created → Created
+new_surface c id frame surfaces =
+    record {
+      client = c;
+      number = count_by (is_surface_of c) surfaces + 1;
+      id = id;
+      size = frame_size frame;
+      born = 0;
+      named = false;
+      marked = false;
+      destroyed = false;
+    }
+
+-- the surfaces, with a new one where the local id is not the client's last one
+abbrev pub creating : ℕ → FrameSinkId → LocalSurfaceId → CompositorFrame → List Created → List Created
+creating c sink local frame surfaces =
+    if is_last (last_in surfaces c) local then surfaces
+    else surfaces ++ new_surface c (surface_of sink local) frame surfaces ∷ []
+
+-- what a submission is accepted with
+abbrev pub accepted_as : ℕ → SurfaceId → CompositorFrame → List Block → List Submission → FrameData
+accepted_as c id frame blocks subs =
+    record {
+      id = id;
+      sub = record { client = c; ordinal = count_by (is_by c) subs + 1 };
+      index = count_by (is_on id) subs + 1;
+      frame = frame;
+      blocks = blocks;
+    }
+
+-- a submission that waits
+abbrev pub waiting_with : FrameData → Submission
+waiting_with i = record { submitted = i; due = 0; state = Waiting; was_active = false; fed = false }
+
+-- a submission is accepted and waits, and the waiting one of its surface is dropped
+unfoldable pub storing : ℕ → FrameSinkId → LocalSurfaceId → CompositorFrame → List Block → Stored → Stored
+storing c sink local frame blocks st =
+    let id = surface_of sink local in
+    record {
+      surfaces = creating c sink local frame st.surfaces;
+      subs = map (replace_on id) st.subs ++ waiting_with (accepted_as c id frame blocks st.subs) ∷ [];
+    }
+
+-- the submission of this name
+abbrev pub named_in : Sub → List Submission → Option Submission
+named_in sub subs = find (λ s. same_sub (sub_of s) sub) subs
+
+-- a submission becomes active, and the earlier surfaces of its client are marked
+unfoldable pub raising : Submission → Stored → Stored
+raising s st = record { surfaces = map (marked_by st.surfaces (s ∷ [])) st.surfaces; subs = map (as_one_rises s) st.subs }
+
+-- the submission of this name becomes active
+unfoldable pub activating : Sub → Stored → Stored
+activating sub st = elim (named_in sub st.subs) [ Some s ↦ raising s st | None ↦ st ]
+
+-- the surfaces of a client are marked
+unfoldable pub marking : ℕ → Stored → Stored
+marking c st = record st { surfaces = map (mark_of c) st.surfaces }
+
+-- a surface as the one of this id is destroyed
+abbrev pub ended_at : SurfaceId → Created → Created
+ended_at id c = if same_surface c.id id then record c { destroyed = true } else c
+
+-- a submission as the surface of this id is destroyed
+abbrev pub dropped_at : SurfaceId → Submission → Submission
+dropped_at id s = if (is_waiting s || is_active s) && is_on id s then record s { state = Dropped } else s
+
+-- the surface of this id is destroyed, and its waiting and its active submission end
+unfoldable pub destroying : SurfaceId → Stored → Stored
+destroying id st = record { surfaces = map (ended_at id) st.surfaces; subs = map (dropped_at id) st.subs }

@@ -1,0 +1,89 @@
+//! Laws of stores, each the contract of a function that does nothing: what a store stands for
+//! changes as the machine's state does, and what is read of it is read of that state.
+ghost use Rattle.std.specs.Prelude.{◌≡◌, ℕ, not, ◌&&◌, ◌||◌, ◌==◌, Some, None, false, List, map, filter, count_by};
+ghost use Rattle.std.specs.Option.{option_map};
+ghost use Rattle.std.specs.List.{Contains, list_any};
+ghost use Rattle.vz_ids.specs.declared.FrameSinkId.{FrameSinkId};
+ghost use Rattle.vz_ids.specs.declared.LocalSurfaceId.{LocalSurfaceId};
+ghost use Rattle.vz_ids.specs.declared.SurfaceId.{SurfaceId};
+ghost use Rattle.vz_ids.specs.declared.SurfaceRange.{SurfaceRange};
+ghost use Rattle.vz_ids.specs.declared.Sub.{Sub};
+ghost use Rattle.vz_ids.specs.Ids.{same_sink};
+ghost use Rattle.vz_pixels.specs.Block.{Block};
+ghost use Rattle.vz_frame.specs.declared.frame.CompositorFrame.{CompositorFrame};
+ghost use Rattle.vz_frame.specs.declared.message.Message.TheVariants.{Close};
+ghost use Rattle.vz_rules.specs.Plan.{Plan};
+ghost use Rattle.vz_rules.specs.World.{World, Client, Created, Submission, opening, exists, existing, active_frames, frame_on, last_created, sub_of};
+ghost use Rattle.vz_rules.specs.Scene.{shown};
+ghost use Rattle.vz_rules.specs.Settle.{is_met};
+ghost use Rattle.vz_rules.specs.Reach.{naming};
+ghost use Rattle.vz_rules.specs.Returns.{give_back, feed};
+ghost use Rattle.vz_rules.specs.Messages.{accepted, blocks_of, taking, message_answer, upload_answer, hierarchy_answer, root_answer, await_answer};
+ghost use Rattle.vz_rules.specs.Singly.{rising, going};
+ghost use Rattle.vz_rules.specs.Step.{begin_answer, draw_answer, done_answer};
+ghost use Rattle.vz_rules.specs.Kept.{KeepsAlways};
+ghost use Rattle.vz_surfaces.specs.Stored.{stored_of, nothing_stored, storing, activating, marking, destroying};
+ghost use Rattle.vz_surfaces.specs.Reading.{stands, has_mark, existing_count, marked_of, last_of, active_on, shown_in, was_reached};
+ghost use Rattle.vz_surfaces.specs.Keeping.{KeepsStored};
+
+/// A store changes as the machine's state does: where a submission is accepted, where one becomes
+/// active, where a client is closed and where a surface is destroyed.
+pub fn stores_follow()
+    ensures opening { (p : Plan) → stored_of (opening p) ≡ nothing_stored }
+    ensures accepted { (w : World) (c : Client) (local : LocalSurfaceId) (frame : CompositorFrame)
+        → stored_of (accepted w c local frame).world
+        ≡ storing c.number c.sink local frame (blocks_of c.resources frame) (stored_of w) }
+    ensures activated { (w : World) (s : Submission) → KeepsAlways w → Contains w.subs s
+        → stored_of (rising s w) ≡ activating (sub_of s) (stored_of w) }
+    ensures closed { (w : World) (c : Client)
+        → stored_of (message_answer w c Close).world ≡ marking c.number (stored_of w) }
+    ensures destroyed { (w : World) (c : Created)
+        → stored_of (going c w) ≡ destroying c.id (stored_of w) }
+{}
+
+/// No other change of the machine's state is one of a store.
+pub fn stores_stay()
+    ensures naming { (w : World) → stored_of (naming w) ≡ stored_of w }
+    ensures returns { (w : World) → stored_of (give_back w) ≡ stored_of w }
+    ensures feedback { (presented : List Sub) (w : World)
+        → stored_of (feed presented w) ≡ stored_of w }
+    ensures clients { (f : Client → Client) (c : Client) (w : World)
+        → stored_of (taking f c w) ≡ stored_of w }
+    ensures upload { (w : World) (c : Client) (id : ℕ) (block : Block)
+        → stored_of (upload_answer w c id block).world ≡ stored_of w }
+    ensures hierarchy { (w : World) (c : Client) (parent child : FrameSinkId)
+        → stored_of (hierarchy_answer w c parent child).world ≡ stored_of w }
+    ensures root { (w : World) (c : Client) (local : LocalSurfaceId)
+        → stored_of (root_answer w c local).world ≡ stored_of w }
+    ensures begun { (w : World) (c : Client) → stored_of (await_answer w c).world ≡ stored_of w }
+    ensures begin { (p : Plan) (w : World) → stored_of (begin_answer p w).world ≡ stored_of w }
+    ensures draw { (p : Plan) (w : World) → stored_of (draw_answer p w).world ≡ stored_of w }
+    ensures done { (w : World) → stored_of (done_answer w).world ≡ stored_of w }
+{}
+
+/// What is read of a store is read of the machine's state: the surfaces that exist and their marks,
+/// the last one of a client, what was ever active, and, where what always holds is kept, the
+/// active frames and what ranges show.
+pub fn stores_tell()
+    ensures exists { (w : World) (id : SurfaceId) → stands (stored_of w) id ≡ exists w id }
+    ensures marks { (w : World) (id : SurfaceId) → has_mark (stored_of w) id
+        ≡ (elim (existing w id) [ Some c ↦ c.marked | None ↦ false ]) }
+    ensures count { (w : World) → existing_count (stored_of w)
+        ≡ count_by (λ (s : Created). not s.destroyed) w.surfaces }
+    ensures marked { (w : World) (c : ℕ) → marked_of c (stored_of w)
+        ≡ map (λ s. s.id) (filter (λ (s : Created). (s.client == c) && s.marked && not s.destroyed)
+        w.surfaces) }
+    ensures last { (w : World) (c : ℕ) → last_of c (stored_of w)
+        ≡ option_map (λ (s : Created). (s.id.local, s.size)) (last_created w c) }
+    ensures met { (w : World) (d : SurfaceId) → is_met w d ≡ (was_reached (stored_of w) d
+        || list_any (λ (c : Client). c.closed && same_sink c.sink d.sink) w.clients) }
+    ensures active { (w : World) (id : SurfaceId) → KeepsAlways w
+        → active_on (stored_of w) id ≡ frame_on id (active_frames w.subs) }
+    ensures shown { (w : World) (range : SurfaceRange) → KeepsAlways w
+        → shown_in (stored_of w) range ≡ shown w range }
+{}
+
+/// What always holds of the machine's state always holds of a store.
+pub fn stores_keep()
+    ensures { (w : World) → KeepsAlways w → KeepsStored (stored_of w) }
+{}

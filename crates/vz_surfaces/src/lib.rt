@@ -1,0 +1,17 @@
+//! The surfaces and the submissions of the machine's state.
+//!
+//! A store stands for all surfaces that were ever created and all submissions that were ever
+//! accepted. Memory keeps one waiting and one active frame a surface.
+#![tactic(auto)]
+
+mod held;
+pub mod laws;
+mod owners;
+mod size;
+mod store;
+mod table;
+mod told;
+mod waits;
+
+pub use held::{Gone, Held, Taken};
+pub use store::Store;

@@ -1,0 +1,86 @@
+//! What is counted of each client.
+ghost use Rattle.std.specs.Prelude.{◌≡◌, ◌≤◌, ◌<◌, ◌+◌, ℕ, Some, None, cond, ◌==◌};
+ghost use Rattle.vz_surfaces.specs.Memory.{owner_at, no_owner, counting, is_named_last};
+
+use vz_geom::Size;
+use vz_ids::LocalSurfaceId;
+
+/// How many submissions of a client were accepted, how many surfaces it created, and the local id
+/// and the size of the last one.
+#[derive(Clone, Copy)]
+pub(crate) struct Owner {
+    pub(crate) accepted: u32,
+    pub(crate) created: u32,
+    pub(crate) last: Option<(LocalSurfaceId, Size)>,
+}
+
+impl Owner {
+    /// Whether a local id is that of the last surface.
+    pub(crate) fn is_last(&self, local: &LocalSurfaceId) -> bool
+        ensures { result ≡ is_named_last self.now.last local.now }
+    {
+        match self.last {
+            None => false,
+            Some((last, _)) => last == *local,
+        }
+    }
+
+    /// One submission more, on the last surface or on a new one. Condition: there are fewer than
+    /// can be numbered.
+    pub(crate) fn counting(self, last: bool, local: LocalSurfaceId, size: Size) -> Owner
+        requires accepted { self.accepted < u32.MAX }
+        requires created { self.created < u32.MAX }
+        ensures { result ≡ counting last local size self }
+    {
+        let accepted = self.accepted + 1;
+        if last {
+            return Owner { accepted, ..self };
+        }
+        Owner {
+            accepted,
+            created: self.created + 1,
+            last: Some((local, size)),
+        }
+    }
+}
+
+/// The clients of the numbers 1 to 16.
+#[derive(Drop)]
+pub(crate) struct Owners {
+    owners: [Owner; 16],
+}
+
+impl Owners {
+    /// Nothing was accepted.
+    pub(crate) fn new() -> Owners
+        ensures { (q : ℕ) → owner_at result q ≡ no_owner }
+    {
+        let owner = Owner {
+            accepted: 0,
+            created: 0,
+            last: None,
+        };
+        Owners {
+            owners: [owner; 16],
+        }
+    }
+
+    /// What is counted of a client. Condition: its number is 1 to 16.
+    pub(crate) fn get(&self, c: u32) -> Owner
+        requires least { 1 ≤ c }
+        requires most { c ≤ 16 }
+        ensures { result ≡ owner_at self.now c }
+    {
+        self.owners[(c - 1) as usize]
+    }
+
+    /// Something else is counted of a client. Condition: its number is 1 to 16.
+    pub(crate) fn set(&mut self, c: u32, owner: Owner)
+        requires least { 1 ≤ c }
+        requires most { c ≤ 16 }
+        ensures { (q : ℕ) → 1 ≤ q → owner_at self.new q
+            ≡ cond (q == c) owner (owner_at self.old q) }
+    {
+        self.owners[(c - 1) as usize] = owner;
+    }
+}

@@ -1,0 +1,233 @@
+//! All surfaces that were ever created, and all submissions that were ever accepted.
+ghost use Rattle.std.specs.Prelude.{◌≡◌, ◌≤◌, ◌<◌, ◌+◌, Some, None, count_by, false, IsTrue, IfOk, OnOk, OnErr, IfErr};
+ghost use Rattle.std.specs.Option.{option_copied, option_map};
+ghost use Rattle.indexmap.specs.IndexMap.{spare as spare_of};
+ghost use Rattle.vz_rules.specs.World.{Created as Surface, is_on};
+ghost use Rattle.vz_rules.specs.Messages.{violates, is_last};
+ghost use Rattle.vz_rules.specs.Kept.{is_by, last_in};
+ghost use Rattle.vz_surfaces.specs.Stored.{nothing_stored, surface_of, storing, activating, marking, destroying};
+ghost use Rattle.vz_surfaces.specs.Reading.{stands, standing, existing_count, last_of, active_on, held_of};
+ghost use Rattle.vz_surfaces.specs.Keeping.{KeepsStored};
+ghost use Rattle.vz_surfaces.specs.Memory.{HasNumber, IsSinkOf, waiting_on, acting_on, is_waiting_in, past_by};
+
+use crate::held::{Gone, Held, Taken};
+use crate::owners::Owners;
+use crate::size::frame_size;
+use crate::table::{Table, sub_of};
+use crate::told::{Acceptance, Told, note};
+use crate::waits::Waits;
+use std::alloc::Global;
+use std::marker::Model;
+use vz_base::Memory;
+use vz_frame::{CompositorFrame, List};
+use vz_geom::Size;
+use vz_ghost::GhostList;
+use vz_ids::{FrameSinkId, LocalSurfaceId, Sub, SurfaceId};
+use vz_pixels::PixelBlock;
+use vz_rules::Lost;
+
+/// The surfaces and submissions of the machine's state. Contracts see all that were ever created
+/// and accepted; memory keeps one waiting and one active frame a surface that exists.
+#[derive(Drop)]
+pub struct Store {
+    table: Table,
+    waits: Waits,
+    owners: Owners,
+    told: GhostList<Told>,
+}
+
+impl Model for Store {
+    ghost use Rattle.vz_surfaces.specs.Stored.{Stored};
+    ghost use Rattle.vz_surfaces.specs.Told.{stored};
+    ghost use Rattle.vz_surfaces.specs.Memory.{Keeps};
+
+    ghost Value = { Stored };
+
+    ghost view = { λ s. stored s.told };
+
+    ghost invariant = { λ s. Keeps s.table s.waits s.owners (stored s.told) };
+}
+
+impl Store {
+    /// No surface was created. It takes no memory.
+    pub fn new(alloc: Global) -> Store
+        ensures { result ≡ nothing_stored }
+    {
+        Store {
+            table: Table::new(alloc),
+            waits: Waits::new(alloc),
+            owners: Owners::new(),
+            told: GhostList::new(),
+        }
+    }
+
+    /// The local id and the size of the last surface that a client created. Condition: its number
+    /// is 1 to 16.
+    pub fn last(&self, c: u32) -> Option<(LocalSurfaceId, Size)>
+        requires { HasNumber c }
+        ensures { result ≡ last_of c self.now }
+    {
+        self.owners.get(c).last
+    }
+
+    /// Whether the surface of an id exists.
+    pub fn exists(&self, id: &SurfaceId) -> bool
+        ensures { result ≡ stands self.now id.now }
+    {
+        self.table.get(id).is_some()
+    }
+
+    /// How many surfaces exist.
+    pub fn surfaces(&self) -> usize
+        ensures { result ≡ existing_count self.now }
+    {
+        self.table.len()
+    }
+
+    /// The active submission of a surface that exists, None exactly where there is none.
+    pub fn active(&self, id: &SurfaceId) -> Option<&Held>
+        ensures { option_copied result ≡ option_map held_of (active_on self.now id.now) }
+    {
+        match self.table.get(id) {
+            None => None,
+            Some(surface) => surface.active.as_ref(),
+        }
+    }
+
+    /// A submission of a client is accepted on a surface of its sink, which is created where the
+    /// local id is not the client's last one. It waits, and the one that waited there is dropped.
+    /// The answer is its client and ordinal, its number on the surface, and the one that is
+    /// dropped. For want of memory, and only then, the frame comes back, and nothing changes.
+    ///
+    /// Conditions: the number of the client is 1 to 16; what always holds is kept; the sink is
+    /// that of all earlier calls for the client and of none for another; the local id is not
+    /// refused; where it is the client's last one, that surface exists; and fewer than
+    /// 4,294,967,295 submissions of the client were accepted.
+    pub fn accept(
+        &mut self,
+        c: u32,
+        sink: FrameSinkId,
+        local: LocalSurfaceId,
+        frame: CompositorFrame,
+        blocks: List<PixelBlock>,
+    ) -> Result<Taken, CompositorFrame>
+        requires number { HasNumber c }
+        requires keeps { KeepsStored self.old }
+        requires sink { IsSinkOf c sink self.old }
+        requires goes_on { violates (last_in self.old.surfaces c) local ≡ false }
+        requires exists { IsTrue (is_last (last_in self.old.surfaces c) local)
+            → IsTrue (stands self.old (surface_of sink local)) }
+        requires few { count_by (is_by c) self.old.subs < u32.MAX }
+        ensures ok { OnOk result (self.new ≡ storing c sink local frame blocks self.old) }
+        ensures sub { IfOk result (λ t. t.sub
+            ≡ record { client = c; ordinal = count_by (is_by c) self.old.subs + 1 }) }
+        ensures index { IfOk result (λ t. t.index
+            ≡ count_by (is_on (surface_of sink local)) self.old.subs + 1) }
+        ensures replaced { IfOk result (λ t. t.replaced
+            ≡ waiting_on self.old (surface_of sink local)) }
+        ensures err { OnErr result (self.new ≡ self.old) }
+        ensures back { IfErr result (λ f. f ≡ frame) }
+    {
+        let id = SurfaceId { sink, local };
+        if reserve(&mut self.table, &mut self.waits).is_err() {
+            return Err(frame);
+        }
+        let size = frame_size(&frame);
+        let owner = self.owners.get(c);
+        let last = owner.is_last(&local);
+        let acceptance = note(
+            &mut self.told,
+            Acceptance {
+                client: c,
+                sink,
+                local,
+                frame,
+                blocks,
+            },
+        );
+        self.table.open(id, c, owner.created, last);
+        let sub = Sub {
+            client: c,
+            ordinal: owner.accepted + 1,
+        };
+        let (index, replaced) = self
+            .table
+            .hold(&id, sub, acceptance.frame, acceptance.blocks);
+        self.waits.remove(replaced);
+        self.waits.put(sub, id);
+        self.owners.set(c, owner.counting(last, local, size));
+        Ok(Taken {
+            sub,
+            index,
+            replaced,
+        })
+    }
+
+    /// A submission that waits becomes active, and the earlier surfaces of its client are marked.
+    /// The answer is the active one of its surface, which is past now. It takes no memory.
+    ///
+    /// Conditions: it waits, and what always holds is kept.
+    pub fn activate(&mut self, s: Sub) -> Option<Sub>
+        requires keeps { KeepsStored self.old }
+        requires waits { IsTrue (is_waiting_in self.old s) }
+        ensures activated { self.new ≡ activating s self.old }
+        ensures past { result ≡ past_by self.old s }
+    {
+        let change = Told::Activated(s);
+        self.told.show(&change);
+        let Some(id) = self.waits.get(&s) else {
+            unreachable!()
+        };
+        self.waits.remove(Some(s));
+        self.table.raise(&id)
+    }
+
+    /// All surfaces of a client are marked. It takes no memory. Condition: its number is 1 to 16.
+    pub fn mark_all(&mut self, c: u32)
+        requires { HasNumber c }
+        ensures { self.new ≡ marking c self.old }
+    {
+        let change = Told::MarkedAll(c);
+        self.told.show(&change);
+    }
+
+    /// A surface that exists is destroyed: its waiting and its active submission end, and are
+    /// answered. It takes no memory. Conditions: it exists, and what always holds is kept.
+    pub fn destroy(&mut self, id: &SurfaceId) -> Gone
+        requires keeps { KeepsStored self.old }
+        requires exists { IsTrue (stands self.old id.now) }
+        ensures destroyed { self.new ≡ destroying id.now self.old }
+        ensures lost { (c : Surface) → standing id.now self.old.surfaces ≡ Some c
+            → result.lost ≡ record { client = c.client; surface = c.number } }
+        ensures waiting { result.waiting ≡ waiting_on self.old id.now }
+        ensures active { result.active ≡ acting_on self.old id.now }
+    {
+        let change = Told::Destroyed(*id);
+        self.told.show(&change);
+        let Some(surface) = self.table.remove(id) else {
+            unreachable!()
+        };
+        let waiting = sub_of(&surface.waiting);
+        self.waits.remove(waiting);
+        Gone {
+            lost: Lost {
+                client: surface.client,
+                surface: surface.number,
+            },
+            waiting,
+            active: sub_of(&surface.active),
+        }
+    }
+}
+
+/// Makes room for one surface and one waiting submission more.
+fn reserve(table: &mut Table, waits: &mut Waits) -> Result<(), Memory>
+    ensures table { table.new.surfaces.entries ≡ table.old.surfaces.entries }
+    ensures waits { waits.new.surfaces.entries ≡ waits.old.surfaces.entries }
+    ensures surfaces { OnOk result (0 < spare_of table.new.surfaces) }
+    ensures names { OnOk result (0 < spare_of waits.new.surfaces) }
+{
+    table.reserve()?;
+    waits.reserve()?;
+    Ok(())
+}

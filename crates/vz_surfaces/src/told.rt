@@ -1,0 +1,40 @@
+//! What proofs alone remember of a store: all changes that it was told of.
+ghost use Rattle.std.specs.Prelude.{◌≡◌, ◌++◌, ◌∷◌, []};
+ghost use Rattle.vz_surfaces.specs.declared.told.Told.TheVariants.{Accepted};
+
+use vz_frame::{CompositorFrame, List};
+use vz_ghost::GhostList;
+use vz_ids::{FrameSinkId, LocalSurfaceId, Sub, SurfaceId};
+use vz_pixels::PixelBlock;
+
+/// A submission that is accepted.
+#[derive(Drop)]
+pub(crate) struct Acceptance {
+    pub(crate) client: u32,
+    pub(crate) sink: FrameSinkId,
+    pub(crate) local: LocalSurfaceId,
+    pub(crate) frame: CompositorFrame,
+    pub(crate) blocks: List<PixelBlock>,
+}
+
+/// A change of a store.
+#[derive(Drop)]
+pub(crate) enum Told {
+    Accepted(Acceptance),
+    Activated(Sub),
+    MarkedAll(u32),
+    Destroyed(SurfaceId),
+}
+
+/// Notes a submission that is accepted, and gives it back.
+pub(crate) fn note(told: &mut GhostList<Told>, acceptance: Acceptance) -> Acceptance
+    ensures told { told.new ≡ told.old ++ Accepted acceptance ∷ [] }
+    ensures back { result ≡ acceptance }
+{
+    let change = Told::Accepted(acceptance);
+    told.show(&change);
+    match change {
+        Told::Accepted(acceptance) => acceptance,
+        _ => unreachable!(),
+    }
+}

@@ -1,0 +1,64 @@
+//! On which surface each submission waits.
+ghost use Rattle.std.specs.Prelude.{◌≡◌, ◌≤◌, ◌<◌, Some, None, cond, OnOk};
+ghost use Rattle.indexmap.specs.IndexMap.{spare as spare_of};
+ghost use Rattle.vz_ids.specs.declared.Sub.{Sub as Name};
+ghost use Rattle.vz_surfaces.specs.Memory.{is_name, waits_on};
+
+use indexmap::IndexMap;
+use std::alloc::Global;
+use vz_base::Memory;
+use vz_ids::{Sub, SurfaceId};
+
+/// The surfaces of the submissions that wait.
+#[derive(Drop)]
+pub(crate) struct Waits {
+    surfaces: IndexMap<Sub, SurfaceId>,
+}
+
+impl Waits {
+    /// None waits. It takes no memory.
+    pub(crate) fn new(alloc: Global) -> Waits
+        ensures { (q : Name) → waits_on result q ≡ None }
+    {
+        Waits {
+            surfaces: IndexMap::new(alloc),
+        }
+    }
+
+    /// Makes room for one more.
+    pub(crate) fn reserve(&mut self) -> Result<(), Memory>
+        ensures entries { self.new.surfaces.entries ≡ self.old.surfaces.entries }
+        ensures room { OnOk result (0 < spare_of self.new.surfaces) }
+    {
+        self.surfaces.reserve(1)?;
+        Ok(())
+    }
+
+    /// The surface on which a submission waits.
+    pub(crate) fn get(&self, sub: &Sub) -> Option<SurfaceId>
+        ensures { result ≡ waits_on self.now sub.now }
+    {
+        self.surfaces.get(sub).copied()
+    }
+
+    /// A submission waits. Condition: there is room for one.
+    pub(crate) fn put(&mut self, sub: Sub, id: SurfaceId)
+        requires { 0 < spare_of self.old.surfaces }
+        ensures { (q : Name) → waits_on self.new q
+            ≡ cond (is_name sub q) (Some id) (waits_on self.old q) }
+    {
+        self.surfaces.insert(sub, id).unwrap();
+    }
+
+    /// A submission, if there is one, waits no longer.
+    pub(crate) fn remove(&mut self, sub: Option<Sub>)
+        ensures none { sub ≡ None → self.new ≡ self.old }
+        ensures others { (s : Name) → sub ≡ Some s → (q : Name)
+            → waits_on self.new q ≡ cond (is_name s q) None (waits_on self.old q) }
+        ensures room { spare_of self.old.surfaces ≤ spare_of self.new.surfaces }
+    {
+        if let Some(sub) = sub {
+            self.surfaces.swap_remove(&sub);
+        }
+    }
+}
