@@ -8,18 +8,15 @@
 mod deadlines;
 mod draws;
 mod due;
-mod edges;
 mod holder;
 mod lent;
-mod references;
 
 use anyhow::{Result, bail};
 
 fn main(rt: HostRuntime) -> Result<()> {
     let holder = holder::play(&rt)?;
     let deadlines = deadlines::play(&rt)?;
-    let references = references::play(&rt)?;
-    if holder && deadlines && references {
+    if holder && deadlines {
         return Ok(());
     }
     bail!("a part answers otherwise than it must")
