@@ -43,16 +43,16 @@ pub fits_block : (area : Rectangle) (block : Block) (first start : Point) (o : �
 unfolding is_inside
 fits_block area block first start o m count from to some most exact inside =
     let one : has area (right_of start from) ≡ true =
-      exact from (omega (arith, some, most)) ∙ both (nat_le from from) (nat_lt from to) (le-leb from from (omega arith)) (lt-ltb from to some)
+    exact from (omega (arith, some, most)) ∙ both (nat_le from from) (nat_lt from to) (le-leb from from (omega arith)) (lt-ltb from to some)
     in
     let last : has area (right_of start (to - 1)) ≡ true =
-      exact (to - 1) (omega (arith, some, most)) ∙ both (nat_le from (to - 1)) (nat_lt (to - 1) to) (le-leb from (to - 1) (omega (arith, some))) (lt-ltb (to - 1) to (omega (arith, some)))
+    exact (to - 1) (omega (arith, some, most)) ∙ both (nat_le from (to - 1)) (nat_lt (to - 1) to) (le-leb from (to - 1) (omega (arith, some))) (lt-ltb (to - 1) to (omega (arith, some)))
     in
     let i = to_in area (right_of start from) one in
     let j = to_in area (right_of start (to - 1)) last in
     let far = j.right in
     let all : (is_span_inside first.x area.w block.w && (is_span_inside first.y area.h block.h && is_filled block)) ≡ true =
-      ap (λ t. t || (is_span_inside first.x area.w block.w && (is_span_inside first.y area.h block.h && is_filled block))) (sym (in_is_full area (right_of start from) one)) ∙ inside
+    ap (λ t. t || (is_span_inside first.x area.w block.w && (is_span_inside first.y area.h block.h && is_filled block))) (sym (in_is_full area (right_of start from) one)) ∙ inside
     in
     let parts = and_parts (is_span_inside first.x area.w block.w) (is_span_inside first.y area.h block.h && is_filled block) all in
     let rest = and_parts (is_span_inside first.y area.h block.h) (is_filled block) parts.1 in

@@ -35,7 +35,7 @@ module _ (part : Rectangle) (p : Point) (in_part : has part p ≡ true) where
   record IsSame (ops : List Op) : Type 0 where
     plain : (n : ℕ) (groups : List Group) (d : Colour) → n ≡ length groups → is_nested n ops ≡ true → run p (seen part zero ops) groups d ≡ run p ops groups d
     hidden : (n : ℕ) (inner : List Group) (g : Group) (groups : List Group) (d : Colour) → g.has_point ≡ false → n ≡ length inner + suc (length groups) → is_nested n ops ≡ true
-      → run p (seen part (suc (length inner)) ops) groups g.below ≡ run p ops (inner ++ g ∷ groups) d
+        → run p (seen part (suc (length inner)) ops) groups g.below ≡ run p ops (inner ++ g ∷ groups) d
 
   fill_kept : (t : Bool) (area : Rectangle) (c : Colour) (o : ℕ) (m : _) (ops : List Op) → meets area part ≡ t → IsSame ops → (n : ℕ) (groups : List Group) (d : Colour) → n ≡ length groups → is_nested n ops ≡ true
       → run p (if t then Fill area c o m ∷ seen part zero ops else seen part zero ops) groups d ≡ run p (Fill area c o m ∷ ops) groups d
@@ -69,7 +69,7 @@ module _ (part : Rectangle) (p : Point) (in_part : has part p ≡ true) where
       record {
         plain = λ n groups d long nested. refl;
         hidden = λ n inner g groups d none long nested.
-          let zero_is = eqb-true n 0 nested in absurd (omega (arith, zero_is, long));
+            let zero_is = eqb-true n 0 nested in absurd (omega (arith, zero_is, long));
       }
   same (Fill area c o m ∷ ops) =
       let rest = same ops in
@@ -88,8 +88,8 @@ module _ (part : Rectangle) (p : Point) (in_part : has part p ≡ true) where
       record {
         plain = λ n groups d long nested. push_kept (meets area part) area o m ops refl rest n groups d long (and_parts (nat_lt n MOST_OPEN) (is_nested (n + 1) ops) nested).1;
         hidden = λ n inner g groups d none long nested.
-          rest.hidden (n + 1) (record { below = d; opacity = o; mode = m; has_point = has area p } ∷ inner) g groups transparent none (omega (arith, long))
-          (and_parts (nat_lt n MOST_OPEN) (is_nested (n + 1) ops) nested).1;
+            rest.hidden (n + 1) (record { below = d; opacity = o; mode = m; has_point = has area p } ∷ inner) g groups transparent none (omega (arith, long))
+            (and_parts (nat_lt n MOST_OPEN) (is_nested (n + 1) ops) nested).1;
       }
   same (Pop ∷ ops) =
       let rest = same ops in

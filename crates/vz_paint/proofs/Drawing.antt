@@ -98,8 +98,8 @@ module _ (start : Point) (w : ℕ) (all : List Op) (most k : ℕ) (top : List Co
         inside = (and_parts (is_inside op) (list_all is_inside (drop (k + 1) all)) e).1;
         room = subst (λ n. deepest n (drop (k + 1) all) ≤ most) (sym after) (still_room depth most op (drop (k + 1) all) (subst (λ l. deepest depth l ≤ most) parts is.room));
         same = λ i less.
-          sym (drawn i (drop (k + 1) all) (subst (λ n. i < n) (sym is.long) less))
-          ∙ (ap (λ l. run (right_of start i) l (stack_at start i depth groups) (get_or top i transparent)) (sym parts) ∙ is.same i less);
+            sym (drawn i (drop (k + 1) all) (subst (λ n. i < n) (sym is.long) less))
+            ∙ (ap (λ l. run (right_of start i) l (stack_at start i depth groups) (get_or top i transparent)) (sym parts) ∙ is.same i less);
       }
 
 pub ends : (start : Point) (w : ℕ) (all : List Op) (most k : ℕ) (top : List Colour) (groups : List OpenGroup) (depth : ℕ) → IsDrawn start w all most k top groups depth → length all ≤ k

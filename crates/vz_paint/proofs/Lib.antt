@@ -4,3 +4,4 @@ pub mod Stacked
 pub mod Drawing
 pub mod Chosen
 pub mod Painted
+pub mod Banded

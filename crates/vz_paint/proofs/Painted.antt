@@ -15,7 +15,7 @@ use Rattle.vz_machine.specs.Pictured.{IsInside, row_of}
 use Rattle.vz_machine.proofs.Points.{point, points_at, length_points, map_at}
 use Rattle.vz_machine.proofs.Spans.{place_fits}
 use Rattle.vz_machine.proofs.Rows.{row_put}
-use Rattle.vz_paint.specs.Row.{right_of}
+use Rattle.vz_paint.specs.Row.{right_of, place_in}
 
 -- a colour for each point of a display
 pub all_points : (size : Size) (colour : Point → Colour) → length (map colour (points_of size)) ≡ pixel_count size
@@ -38,7 +38,7 @@ colour_at size area below i colour sides inside low less =
     let down : y < nat_abs size.h = omega (arith, ints, top, bottom, high, low) in
     let same : (y * nat_abs size.w + x) + i ≡ y * nat_abs size.w + (x + i) = grind arith in
     let fits : y * nat_abs size.w + (x + i) < length (points_of size) =
-      place_low size (x + i) y across down
+    place_low size (x + i) y across down
     in
     let at_x : pos (x + i) ≡ area.x +ℤ pos i = omega (arith, ints, left) in
     let at_y : pos y ≡ area.y +ℤ pos below = omega (arith, ints, top) in
@@ -58,7 +58,7 @@ colour_at size area below i colour sides inside low less =
 pub row_is : (size : Size) (area : Rectangle) (below : ℕ) (start : Point) (colour value : Point → Colour) (row : List Colour) → IsDisplaySize size → IsInside (sized size) area → below < nat_abs area.h
     → start.x ≡ area.x → start.y ≡ area.y +ℤ pos below → length row ≡ nat_abs area.w
     → ((i : ℕ) → i < nat_abs area.w → get_or row i transparent ≡ value (right_of start i))
-    → ((x : ℤ) → value (record { x = x; y = area.y +ℤ pos below }) ≡ colour (record { x = x; y = area.y +ℤ pos below }))
+    → ((i : ℕ) → i < nat_abs area.w → value (place_in area i below) ≡ colour (place_in area i below))
     → row ≡ take (nat_abs area.w) (drop (pixel_place size area.x (area.y +ℤ pos below)) (map colour (points_of size)))
 row_is size area below start colour value row sides inside low at_x at_y long each same =
     let news = map colour (points_of size) in
@@ -75,14 +75,14 @@ row_is size area below start colour value row sides inside low at_x at_y long ea
         each i less
         ∙ (ap (λ z. value (record { x = z +ℤ pos i; y = start.y })) at_x
         ∙ (ap (λ z. value (record { x = area.x +ℤ pos i; y = z })) at_y
-        ∙ (same (area.x +ℤ pos i)
+        ∙ (same i less
         ∙ (sym (colour_at size area below i colour sides inside low less)
         ∙ (sym (get_or-drop place news i transparent) ∙ sym (get_or-take (nat_abs area.w) (drop place news) i transparent less))))))
 
 pub row_painted : (size : Size) (area : Rectangle) (below : ℕ) (start : Point) (colour value : Point → Colour) (row olds after : List Colour) → IsDisplaySize size → IsInside (sized size) area → below < nat_abs area.h
     → length olds ≡ pixel_count size → start.x ≡ area.x → start.y ≡ area.y +ℤ pos below → length row ≡ nat_abs area.w
     → ((i : ℕ) → i < nat_abs area.w → get_or row i transparent ≡ value (right_of start i))
-    → ((x : ℤ) → value (record { x = x; y = area.y +ℤ pos below }) ≡ colour (record { x = x; y = area.y +ℤ pos below }))
+    → ((i : ℕ) → i < nat_abs area.w → value (place_in area i below) ≡ colour (place_in area i below))
     → after ≡ span_put olds (pixel_place size (given start.x) (given start.y)) row
     → after ≡ patched (row_of area below) (points_of size) (map colour (points_of size)) olds
 row_painted size area below start colour value row olds after sides inside low all at_x at_y long each same put =

@@ -238,9 +238,9 @@ filled area start mode c scaled_c o from to old mid up fits exact by is i low =
     let all : length mid ≡ to - from = ap length is ∙ (length-map part (blend mode scaled_c) ∙ long) in
     replaced transparent old mid from to (has area (right_of start i)) (blend mode (scale c o) (get_or old i transparent)) i up fits all (exact i low)
     (λ least most.
-      ap (λ l. get_or l (i - from) transparent) is
-      ∙ (get_or-map (blend mode scaled_c) part (i - from) transparent transparent (omega (arith, long, least, most))
-      ∙ (ap (blend mode scaled_c) (part_of transparent old from (to - from) i least (omega (arith, least, most))) ∙ ap (λ s. blend mode s (get_or old i transparent)) by)))
+    ap (λ l. get_or l (i - from) transparent) is
+    ∙ (get_or-map (blend mode scaled_c) part (i - from) transparent transparent (omega (arith, long, least, most))
+    ∙ (ap (blend mode scaled_c) (part_of transparent old from (to - from) i least (omega (arith, least, most))) ∙ ap (λ s. blend mode s (get_or old i transparent)) by)))
 
 -- a source that has its colours from a place on
 pub mixed : (area : Rectangle) (start : Point) (mode : Blend) (o : ℕ) (from to : ℕ) (old source mid : List Colour) (f : ℕ → Colour) → from ≤ to → to ≤ length old
@@ -253,7 +253,7 @@ mixed area start mode o from to old source mid f up fits exact count same is i l
     let all : length mid ≡ to - from = ap length is ∙ (length-zip2 (λ s d. laid mode s o d) source part (count ∙ sym long) ∙ count) in
     replaced transparent old mid from to (has area (right_of start i)) (laid mode (f i) o (get_or old i transparent)) i up fits all (exact i low)
     (λ least most.
-      ap (λ l. get_or l (i - from) transparent) is
-      ∙ (get_or-zip2 (λ s d. laid mode s o d) source part (i - from) transparent transparent transparent (omega (arith, count, least, most)) (omega (arith, long, least, most))
-      ∙ (ap (λ s. laid mode s o (get_or part (i - from) transparent)) (same i least most)
-      ∙ ap (laid mode (f i) o) (part_of transparent old from (to - from) i least (omega (arith, least, most))))))
+    ap (λ l. get_or l (i - from) transparent) is
+    ∙ (get_or-zip2 (λ s d. laid mode s o d) source part (i - from) transparent transparent transparent (omega (arith, count, least, most)) (omega (arith, long, least, most))
+    ∙ (ap (λ s. laid mode s o (get_or part (i - from) transparent)) (same i least most)
+    ∙ ap (laid mode (f i) o) (part_of transparent old from (to - from) i least (omega (arith, least, most))))))

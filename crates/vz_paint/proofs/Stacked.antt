@@ -58,7 +58,7 @@ unfolding run
 push_runs start i n op area o m rest groups g top now is low in_it below at opacity mode clear =
     let p = right_of start i in
     let same : ◌≡◌ {A = Group} (group_at start i g) (record { below = get_or top i transparent; opacity = o; mode = m; has_point = has area p }) =
-      λ k. record { below = get_or (below k) i transparent; opacity = opacity k; mode = mode k; has_point = has (at k) p }
+    λ k. record { below = get_or (below k) i transparent; opacity = opacity k; mode = mode k; has_point = has (at k) p }
     in
     let none : get_or now i transparent ≡ transparent = ap (λ l. get_or l i transparent) clear ∙ get_or-replicate (length top) i transparent transparent in_it in
     ap (λ x. run p (x ∷ rest) (stack_at start i n groups) (get_or top i transparent)) is
@@ -68,8 +68,8 @@ push_runs start i n op area o m rest groups g top now is low in_it below at opac
 pub pop_runs : (start : Point) (i n : ℕ) (op : Op) (rest : List Op) (groups : List OpenGroup) (d after : OpenGroup) (top now : List Colour) → op ≡ Pop → 0 < n → n ≤ length groups
     → get_or now i transparent
     ≡ (if has (get_or groups (n - 1) d).area (right_of start i)
-      then laid (get_or groups (n - 1) d).mode (get_or top i transparent) (get_or groups (n - 1) d).opacity (get_or (get_or groups (n - 1) d).below.items i transparent)
-      else get_or (get_or groups (n - 1) d).below.items i transparent)
+    then laid (get_or groups (n - 1) d).mode (get_or top i transparent) (get_or groups (n - 1) d).opacity (get_or (get_or groups (n - 1) d).below.items i transparent)
+    else get_or (get_or groups (n - 1) d).below.items i transparent)
     → run (right_of start i) (op ∷ rest) (stack_at start i n groups) (get_or top i transparent) ≡ run (right_of start i) rest (stack_at start i (n - 1) (slice_set groups (n - 1) after)) (get_or now i transparent)
 unfolding run
 pop_runs start i n op rest groups d after top now is some most e =

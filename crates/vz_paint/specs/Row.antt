@@ -1,10 +1,8 @@
 -- A row of colours from a point on, and the rows of the groups that are open.
-use Rattle.std.specs.Prelude.{◌≡◌, ℕ, zero, suc, ℤ, pos, ◌+ℤ◌, ◌≤ℤ◌, Option, Some, None, List, [], ◌∷◌, length, get_or, slice_get}
-use Rattle.std.specs.List.{All}
+use Rattle.std.specs.Prelude.{ℕ, pos, ◌+ℤ◌, ◌≤ℤ◌}
 use Rattle.vz_base.specs.declared.limits.TheConstants.{GREATEST_DISPLAY_SIDE}
 use Rattle.vz_geom.specs.declared.Point.{Point}
-use Rattle.vz_geom.specs.Rectangle.{has}
-use Rattle.vz_pixels.specs.Colour.{Colour, transparent}
+use Rattle.vz_geom.specs.Rectangle.{Rectangle}
 
 -- the point that is so far right of another
 abbrev pub right_of : Point → ℕ → Point
@@ -14,3 +12,7 @@ right_of p i = record { x = p.x +ℤ pos i; y = p.y }
 pub record IsStart (p : Point) : Type 0 where
   pub left : pos 0 ≤ℤ p.x
   pub right : p.x ≤ℤ pos GREATEST_DISPLAY_SIDE
+
+-- the point of an area that is so far right of its first one and so far below it
+abbrev pub place_in : Rectangle → ℕ → ℕ → Point
+place_in area i k = record { x = area.x +ℤ pos i; y = area.y +ℤ pos k }

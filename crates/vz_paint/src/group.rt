@@ -1,11 +1,13 @@
 //! The groups that are open in a row.
-ghost use Rattle.std.specs.Prelude.{◌≡◌, ◌<◌, ℕ, length, replicate, get_or, if◌then◌else◌};
+ghost use Rattle.std.specs.Prelude.{◌≡◌, ◌<◌, ℕ, length, replicate, get_or, if◌then◌else◌, IfOk};
 ghost use Rattle.vz_geom.specs.Rectangle.{has};
 ghost use Rattle.vz_pixels.specs.Colour.{transparent};
 ghost use Rattle.vz_frame.specs.Blending.{laid};
 ghost use Rattle.vz_paint.specs.Row.{right_of, IsStart};
 
 use crate::span::lay;
+use std::alloc::Global;
+use vz_base::Memory;
 use vz_frame::Blend;
 use vz_geom::{Point, Rect};
 use vz_pixels::Pixel;
@@ -17,6 +19,21 @@ pub(crate) struct OpenGroup {
     pub(crate) area: Rect,
     pub(crate) opacity: u8,
     pub(crate) mode: Blend,
+}
+
+impl OpenGroup {
+    /// A row for a group, so wide.
+    pub(crate) fn new(alloc: Global, width: usize) -> Result<OpenGroup, Memory>
+        ensures { IfOk result (λ g. length g.below.items ≡ width) }
+    {
+        let below = vec![in alloc; Pixel::transparent(); width]?;
+        Ok(OpenGroup {
+            below,
+            area: Rect::new(0, 0, 0, 0),
+            opacity: 0,
+            mode: Blend::Over,
+        })
+    }
 }
 
 /// Opens a group: the row so far lies below it, and its own row is transparent.
@@ -50,7 +67,7 @@ pub(crate) fn end(top: &mut Vec<Pixel>, group: &mut OpenGroup, start: Point)
     ensures each { (i : ℕ) → i < length top.old.items → get_or top.new.items i transparent
         ≡ (if has group.old.area (right_of start i)
         then laid group.old.mode (get_or top.old.items i transparent) group.old.opacity
-            (get_or group.old.below.items i transparent)
+        (get_or group.old.below.items i transparent)
         else get_or group.old.below.items i transparent) }
 {
     std::mem::swap(top, &mut group.below);

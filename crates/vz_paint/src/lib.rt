@@ -3,7 +3,8 @@
 
 mod choice;
 mod group;
-mod paint;
+mod painting;
 mod row;
 mod span;
 
+pub use painting::paint;

@@ -33,9 +33,9 @@ fn draw(
     ensures rows { AreRows (length top.old.items) groups.new }
     ensures drawn { (i : ℕ) (rest : List Step) → i < length top.old.items
         → run (right_of start i) (op.now ∷ rest) (stack_at start i depth groups.old)
-            (get_or top.old.items i transparent)
+        (get_or top.old.items i transparent)
         ≡ run (right_of start i) rest (stack_at start i result groups.new)
-            (get_or top.new.items i transparent) }
+        (get_or top.new.items i transparent) }
 {
     match op {
         Op::Fill {
@@ -55,7 +55,16 @@ fn draw(
             opacity,
             blend,
         } => {
-            blit(top.as_mut_slice(), start, area, block, tx, ty, *opacity, *blend);
+            blit(
+                top.as_mut_slice(),
+                start,
+                area,
+                block,
+                tx,
+                ty,
+                *opacity,
+                *blend,
+            );
             depth
         }
         Op::Push {
@@ -82,12 +91,7 @@ fn blacken(top: &mut Vec<Pixel>)
 
 /// Draws operations in a row, on opaque black. Conditions: they are whole, and there is a row for
 /// each group that they open at once.
-pub(crate) fn draw_row(
-    ops: &[&Op],
-    start: Point,
-    top: &mut Vec<Pixel>,
-    groups: &mut [OpenGroup],
-)
+pub(crate) fn draw_row(ops: &[&Op], start: Point, top: &mut Vec<Pixel>, groups: &mut [OpenGroup])
     requires start { IsStart start }
     requires short { length top.old.items ≤ GREATEST_DISPLAY_SIDE }
     requires rows { AreRows (length top.old.items) groups.old }

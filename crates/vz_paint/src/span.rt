@@ -195,9 +195,9 @@ pub(crate) fn blit(
     ensures each { (i : ℕ) → i < length row.old → get_or row.new i transparent
         ≡ (if has area.now (right_of start i)
         then laid mode (texel_of (Some block.now)
-            (plus (minus (right_of start i) (corner area.now))
-                (record { x = tx.now; y = ty.now }))) opacity
-            (get_or row.old i transparent)
+        (plus (minus (right_of start i) (corner area.now))
+        (record { x = tx.now; y = ty.now }))) opacity
+        (get_or row.old i transparent)
         else get_or row.old i transparent) }
 {
     let here = span_of(area, start, row.len());

@@ -79,6 +79,6 @@ returns-clause-each c =
     e.ordered e.most e.exact
     (ap length c.texels-source.ensures.value ∙ length_part transparent a.block.now.pixels _ (here.to - here.from) there)
     (λ i least less.
-      ap (λ l. get_or l (i - here.from) transparent) c.texels-source.ensures.value
-      ∙ texel_same a.area.now a.block.now (record { x = a.tx.now; y = a.ty.now }) a.start c.right_of-p.result here.from here.to c.texel_at-at.result.column c.texel_at-at.result.row fits c.right_of-p.ensures c.texel_at-at.ensures.column c.texel_at-at.ensures.row i least less)
+    ap (λ l. get_or l (i - here.from) transparent) c.texels-source.ensures.value
+    ∙ texel_same a.area.now a.block.now (record { x = a.tx.now; y = a.ty.now }) a.start c.right_of-p.result here.from here.to c.texel_at-at.result.column c.texel_at-at.result.row fits c.right_of-p.ensures c.texel_at-at.ensures.column c.texel_at-at.ensures.row i least less)
     c.mix.ensures

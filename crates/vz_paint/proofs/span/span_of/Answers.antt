@@ -20,14 +20,14 @@ returns-clause-exact c =
     let t = c.columns_before-to.ensures in
     let proper = c.is_empty.ensures.proper in
     let top : c.args.area.now.y ≤ℤ c.args.start.y =
-      let is = c.y.ensures in
-      let low = c.if-start-y.false in
-      omega (arith, ints, is, low)
+    let is = c.y.ensures in
+    let low = c.if-start-y.false in
+    omega (arith, ints, is, low)
     in
     let bottom : c.args.start.y <ℤ (c.args.area.now.y +ℤ c.args.area.now.h) =
-      let is = c.bottom.ensures.value in
-      let low = c.if-bottom-start.false in
-      omega (arith, ints, is, low)
+    let is = c.bottom.ensures.value in
+    let low = c.if-bottom-start.false in
+    omega (arith, ints, is, low)
     in
     exact c.args.area.now c.args.start c.args.count c.columns_before-from.result c.columns_before-to.result top bottom
     (subst (λ x. IsBefore x c.args.start.x c.args.count c.columns_before-from.result) (left_given c.args.area.now c.x.result proper c.x.ensures) (record { most = f.most; left = f.left; right = f.right }))

@@ -1,2 +1,1 @@
 use Rattle.vz_paint.proofs.span.texels.Goals as goal
-

@@ -4,7 +4,7 @@ use Rattle.vz_pixels.specs.Colour.{black, transparent}
 use Rattle.vz_flat.specs.Ops.{value}
 use Rattle.vz_buffers.specs.Canvas.{span_put}
 use Rattle.vz_paint.proofs.Painted.{row_painted}
-use Rattle.vz_paint.proofs.paint.paint_row.Goals as goal
+use Rattle.vz_paint.proofs.painting.paint_row.Goals as goal
 
 pub returns-clause-painted : goal.returns-clause-painted
 returns-clause-painted g c = λ colour same.
