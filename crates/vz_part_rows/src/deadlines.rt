@@ -1,10 +1,10 @@
 //! Histories of `Deadlines`.
-use crate::draws::Draws;
 use crate::due::Twin;
 use anyhow::Result;
 use std::alloc::Global;
 use vz_base::Memory;
 use vz_deadlines::Deadlines;
+use vz_draws::Draws;
 use vz_frame::Room;
 use vz_ids::Sub;
 

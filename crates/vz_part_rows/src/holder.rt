@@ -1,9 +1,9 @@
 //! Histories of `Holder`.
-use crate::draws::Draws;
 use crate::lent::Twin;
 use anyhow::Result;
 use std::alloc::Global;
 use vz_base::Memory;
+use vz_draws::Draws;
 use vz_frame::Room;
 use vz_returns::Holder;
 use vz_rules::Returned;

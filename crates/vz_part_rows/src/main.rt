@@ -6,7 +6,6 @@
 #![tactic(auto)]
 
 mod deadlines;
-mod draws;
 mod due;
 mod holder;
 mod lent;

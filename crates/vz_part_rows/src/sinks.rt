@@ -1,9 +1,9 @@
 //! Histories of `Sinks`.
-use crate::draws::Draws;
 use crate::related::Twin;
 use anyhow::Result;
 use std::alloc::Global;
 use vz_base::Memory;
+use vz_draws::Draws;
 use vz_ids::FrameSinkId;
 use vz_sinks::{SinkError, Sinks};
 
