@@ -13,3 +13,7 @@ mod Destroying
 mod Ends
 mod Holding
 mod Storing
+mod Ages
+mod Grouping
+mod Pointing
+mod Shown

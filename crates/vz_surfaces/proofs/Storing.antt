@@ -1,7 +1,8 @@
 -- What memory keeps is that of the store, at first and over its other changes, and what is read of it.
-use Rattle.std.proofs.Common.{◌≡◌, ℕ, ◌+◌, Bool, true, false, ◌&&◌, Option, Some, None, List, [], ◌∷◌, ◌++◌, map, filter, find, length, refl, ap, sym, ◌∙◌, arith, cond, subst, is_some, Bor}
-use Rattle.std.specs.Option.{option_map, option_copied}
+use Rattle.std.proofs.Common.{◌≡◌, ℕ, ◌+◌, Bool, true, false, not, ◌&&◌, Option, Some, None, List, [], ◌∷◌, ◌++◌, map, filter, find, length, refl, ap, sym, ◌∙◌, arith, cond, subst, Contains, is_some, Bor}
+use Rattle.std.specs.Option.{option_map, option_copied, option_map_or, option_and_then}
 use Rattle.std.proofs.lemmas.Bool.{both_ways, or_left}
+use Rattle.vz_ids.specs.declared.LocalSurfaceId.{LocalSurfaceId}
 use Rattle.vz_ids.specs.declared.SurfaceId.{SurfaceId}
 use Rattle.vz_ids.specs.declared.Sub.{Sub}
 use Rattle.vz_ids.specs.Ids.{same_surface}
@@ -19,9 +20,15 @@ use Rattle.vz_surfaces.specs.declared.waits.Waits.{Waits}
 use Rattle.vz_surfaces.specs.declared.owners.Owners.{Owners}
 use Rattle.vz_surfaces.specs.Stored.{Stored, nothing_stored, raising, activating, destroying}
 use Rattle.vz_surfaces.specs.Told.{changed, changed_by, stored}
-use Rattle.vz_surfaces.specs.Reading.{stands, standing, held_of, existing_count, last_of, seen_frames, active_on}
+use Rattle.vz_surfaces.specs.Reading.{stands, standing, held_of, existing_count, last_of, seen_frames, active_on, was_reached}
 use Rattle.vz_surfaces.specs.Keeping.{KeepsStored}
 use Rattle.vz_surfaces.specs.Memory.{is_key, look, is_name, waits_on, owner_at, no_owner, Keeps, kept_of, surface_at, raised, waiting_on, acting_on, is_waiting_in, past_by}
+use Rattle.std.specs.Map.{lookup}
+use Rattle.vz_surfaces.specs.declared.groups.Group.{Group}
+use Rattle.vz_surfaces.specs.declared.groups.Groups.{Groups}
+use Rattle.vz_surfaces.specs.Chains.{Stands, KeepsGroups, IsRising, is_group, group_at, chain_at, newest_at, reaches, newer_local}
+use Rattle.vz_surfaces.proofs.Grouping.{groups_alike, marked_groups, raised_groups, gone_groups}
+use Rattle.vz_surfaces.proofs.Shown.{chain_has}
 use Rattle.vz_surfaces.proofs.Raising.{waiting_one, Waits_in, activates, past_is, raised_here, raised_apart, raised_count, raised_owners, raised_waits}
 use Rattle.vz_surfaces.proofs.Destroying.{marked_at, marked_count, marked_owners, marked_waits, gone_here, gone_apart, gone_owners, gone_count, gone_waits}
 use Rattle.vz_surfaces.proofs.Holding.{key_of, standing_of, kept_waiting}
@@ -254,3 +261,92 @@ destroyed_keeps t0 t1 w0 w1 o ts now st id s r keeps inv view e found is none so
     by looks q true f =
         ap (λ (b : Bool). cond b None (look t0 q)) (key_of id q ∙ f) ∙ (sym (gone_here id st) ∙ ap (surface_at (destroying id st)) (from_same id q f))
     by looks q false f = ap (λ (b : Bool). cond b None (look t0 q)) (key_of id q ∙ f) ∙ (looks q ∙ sym (gone_apart id q st f))
+
+-- With the groups
+
+pub stands_none : (t : Table) (w : Waits) (o : Owners) (g : Groups) (ts : List Told) → ((q : SurfaceId) → look t q ≡ None) → length t.surfaces.entries ≡ 0 → ((q : ℕ) → owner_at o q ≡ no_owner)
+    → ((q : SurfaceId) → group_at g q ≡ None) → ts ≡ [] → Stands t w o g (stored ts)
+unfolding nothing_stored was_reached IsRising
+stands_none t w o g ts none len owners groups e =
+    record {
+      kept = keeps_none t w o ts none len owners e;
+      groups = subst (KeepsGroups g) (sym (stored_none ts e)) (record {
+        chain = λ q. ap (λ (x : Option Group). option_map_or (λ (y : Group). y.chain.items) x []) (groups q);
+        rising = λ q. subst IsRising (sym (ap (λ (x : Option Group). option_map_or (λ (y : Group). y.chain.items) x []) (groups q))) tt;
+        reached = λ d. ap (λ (x : Option Group). reaches (option_and_then (λ (y : Group). y.newest) x) d) (groups d);
+        made = λ d l f. no_one (sym (ap (λ (x : Option Group). option_and_then (λ (y : Group). y.newest) x) (groups d)) ∙ f);
+      });
+    }
+  where
+    no_one : {A : Type 0} {l : LocalSurfaceId} → ◌≡◌ {A = Option LocalSurfaceId} None (Some l) → A
+    no_one f = absurd (cc)
+
+pub stands_still : (t0 t1 : Table) (w0 w1 : Waits) (o : Owners) (g0 g1 : Groups) (st : Stored) → Stands t0 w0 o g0 st → t1.surfaces.entries ≡ t0.surfaces.entries → w1.surfaces.entries ≡ w0.surfaces.entries
+    → ((q : SurfaceId) → chain_at g1 q ≡ chain_at g0 q) → ((q : SurfaceId) → newest_at g1 q ≡ newest_at g0 q) → Stands t1 w1 o g1 st
+stands_still t0 t1 w0 w1 o g0 g1 st h table waits chain newest =
+    record {
+      kept = record {
+        table = record { surfaces = λ q. ap (lookup (is_key q)) table ∙ h.kept.table.surfaces q; count = ap length table ∙ h.kept.table.count };
+        waits = record { found = λ s p e. ap (lookup (is_name (sub_of s))) waits ∙ h.kept.waits.found s p e };
+        owners = h.kept.owners;
+      };
+      groups = groups_alike g0 g1 st chain newest h.groups;
+    }
+
+pub marked_stands : (g : Groups) (t : Table) (w : Waits) (o : Owners) (ts now : List Told) (st : Stored) (c : ℕ) → Stands t w o g (stored ts) → stored ts ≡ st → now ≡ ts ++ told.MarkedAll c ∷ [] → Stands t w o g (stored now)
+marked_stands g t w o ts now st c inv view e =
+    record {
+      kept = marked_keeps t w o ts now st c inv.kept view e;
+      groups = subst (KeepsGroups g) (sym (stored_more ts now (told.MarkedAll c) st e view)) (marked_groups c st g (subst (KeepsGroups g) view inv.groups));
+    }
+
+-- the surface on which a submission waits is in its group
+pub has_group : (g : Groups) (t : Table) (w : Waits) (o : Owners) (ts : List Told) (st : Stored) (sub : Sub) (id : SurfaceId) → KeepsStored st → Stands t w o g (stored ts) → stored ts ≡ st
+    → is_waiting_in st sub ≡ true → Some id ≡ waits_on w sub → is_some (group_at g id) ≡ true
+has_group g t w o ts st sub id keeps inv view waits found =
+    let h = subst (Keeps t w o) view inv.kept in
+    let hg = subst (KeepsGroups g) view inv.groups in
+    let x = waiting_one st sub waits in
+    let in_it = x.1 in
+    let at : id ≡ x.0.submitted.id = some_id (found ∙ (ap (waits_on w) (sym x.2) ∙ h.waits.found x.0 in_it.there in_it.waits)) in
+    let here = keeps.states.stand x.0 in_it.there (or_left (is_waiting x.0) (is_active x.0) in_it.waits) in
+    by (group_at g id) refl (chain_has t g st h.table hg id (ap (stands_in st.surfaces) at ∙ here))
+  where
+    some_id : {a b : SurfaceId} → Some a ≡ Some b → a ≡ b
+    some_id f = cc
+
+    by : (x : Option Group) → group_at g id ≡ x → Contains (chain_at g id) id → is_some x ≡ true
+    by None e c = absurd (contains_none id (subst (λ (y : Option Group). Contains (option_map_or (λ (z : Group). z.chain.items) y []) id) e c))
+    by (Some x) e c = refl
+
+pub activated_stands : (g0 g1 : Groups) (t0 t1 : Table) (w0 w1 : Waits) (o : Owners) (ts now : List Told) (st : Stored) (sub : Sub) (id : SurfaceId) → KeepsStored st → Stands t0 w0 o g0 (stored ts) → stored ts ≡ st
+    → is_waiting_in st sub ≡ true → now ≡ ts ++ told.Activated sub ∷ [] → Some id ≡ waits_on w0 sub
+    → ((s : Sub) → Some sub ≡ Some s → (q : Sub) → waits_on w1 q ≡ cond (is_name s q) None (waits_on w0 q))
+    → ((q : SurfaceId) → look t1 q ≡ cond (is_key id q) (option_map raised (look t0 q)) (look t0 q)) → length t1.surfaces.entries ≡ length t0.surfaces.entries
+    → ((q : SurfaceId) → chain_at g1 q ≡ chain_at g0 q) → ((q : SurfaceId) → newest_at g1 q ≡ cond (is_group id q) (newer_local id.local (newest_at g0 q)) (newest_at g0 q)) → Stands t1 w1 o g1 (stored now)
+activated_stands g0 g1 t0 t1 w0 w1 o ts now st sub id keeps inv view waits e found gone rose same chain newest =
+    let h = subst (Keeps t0 w0 o) view inv.kept in
+    let x = waiting_one st sub waits in
+    let in_it = x.1 in
+    let at : id ≡ x.0.submitted.id = some_id (found ∙ (ap (waits_on w0) (sym x.2) ∙ h.waits.found x.0 in_it.there in_it.waits)) in
+    record {
+      kept = activated_keeps t0 t1 w0 w1 o ts now st sub id keeps inv.kept view waits e found gone rose same;
+      groups = subst (KeepsGroups g1) (sym (stored_more ts now (told.Activated sub) st e view ∙ (ap (λ s. activating s st) (sym x.2) ∙ activates st x.0 keeps in_it.there)))
+          (raised_groups st x.0 keeps in_it g0 g1 (subst (KeepsGroups g0) view inv.groups) chain
+          (λ q. newest q ∙ ap (λ (i : SurfaceId). cond (is_group i q) (newer_local i.local (newest_at g0 q)) (newest_at g0 q)) at));
+    }
+  where
+    some_id : {a b : SurfaceId} → Some a ≡ Some b → a ≡ b
+    some_id f = cc
+
+pub destroyed_stands : (g0 g1 : Groups) (t0 t1 : Table) (w0 w1 : Waits) (o : Owners) (ts now : List Told) (st : Stored) (id : SurfaceId) (s : Surface) (r : Option Sub) → KeepsStored st → Stands t0 w0 o g0 (stored ts) → stored ts ≡ st
+    → now ≡ ts ++ told.Destroyed id ∷ [] → Some s ≡ look t0 id → r ≡ option_map (λ (h : Held). h.sub) s.waiting → (r ≡ None → w1 ≡ w0)
+    → ((x : Sub) → r ≡ Some x → (q : Sub) → waits_on w1 q ≡ cond (is_name x q) None (waits_on w0 q))
+    → ((q : SurfaceId) → look t1 q ≡ cond (is_key id q) None (look t0 q)) → ((x : Surface) → look t0 id ≡ Some x → length t1.surfaces.entries + 1 ≡ length t0.surfaces.entries)
+    → ((q : SurfaceId) → chain_at g1 q ≡ cond (is_group id q) (filter (λ (x : SurfaceId). not (same_surface x id)) (chain_at g0 q)) (chain_at g0 q)) → ((q : SurfaceId) → newest_at g1 q ≡ newest_at g0 q)
+    → Stands t1 w1 o g1 (stored now)
+destroyed_stands g0 g1 t0 t1 w0 w1 o ts now st id s r keeps inv view e found is none some goes fewer chain newest =
+    record {
+      kept = destroyed_keeps t0 t1 w0 w1 o ts now st id s r keeps inv.kept view e found is none some goes fewer;
+      groups = subst (KeepsGroups g1) (sym (stored_more ts now (told.Destroyed id) st e view)) (gone_groups id st g0 g1 (subst (KeepsGroups g0) view inv.groups) chain newest);
+    }

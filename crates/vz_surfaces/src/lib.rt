@@ -4,9 +4,11 @@
 //! accepted. Memory keeps one waiting and one active frame a surface.
 #![tactic(auto)]
 
+mod groups;
 mod held;
 pub mod laws;
 mod owners;
+mod showing;
 mod size;
 mod store;
 mod table;
