@@ -17,3 +17,4 @@ mod Ages
 mod Grouping
 mod Pointing
 mod Shown
+mod Marking

@@ -16,7 +16,7 @@ use Rattle.vz_surfaces.specs.Stored.{Stored}
 use Rattle.vz_surfaces.specs.Reading.{was_reached}
 use Rattle.vz_surfaces.specs.declared.waits.Waits.{Waits}
 use Rattle.vz_surfaces.specs.declared.owners.Owners.{Owners}
-use Rattle.vz_surfaces.specs.Memory.{look, Keeps}
+use Rattle.vz_surfaces.specs.Memory.{look, Keeps, KeepsMarks}
 
 -- the group of a surface
 abbrev pub key_of : SurfaceId → GroupKey
@@ -96,3 +96,4 @@ newest_from t g (Some start) end = if same_group start end then None else that_p
 pub record Stands (t : Table) (w : Waits) (o : Owners) (g : Groups) (st : Stored) : Type 0 where
   pub kept : Keeps t w o st
   pub groups : KeepsGroups g st
+  pub marks : KeepsMarks o st

@@ -7,6 +7,7 @@
 mod groups;
 mod held;
 pub mod laws;
+mod marks;
 mod owners;
 mod showing;
 mod size;

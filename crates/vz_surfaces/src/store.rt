@@ -7,13 +7,14 @@ ghost use Rattle.vz_rules.specs.World.{Created as Surface, is_on};
 ghost use Rattle.vz_rules.specs.Messages.{violates, is_last};
 ghost use Rattle.vz_rules.specs.Kept.{is_by, last_in};
 ghost use Rattle.vz_surfaces.specs.Stored.{nothing_stored, surface_of, storing, activating, marking, destroying};
-ghost use Rattle.vz_surfaces.specs.Reading.{stands, standing, existing_count, last_of, active_on, held_of, was_reached};
+ghost use Rattle.vz_surfaces.specs.Reading.{stands, standing, existing_count, last_of, active_on, held_of, has_mark, was_reached};
 ghost use Rattle.vz_surfaces.specs.Keeping.{KeepsStored};
 ghost use Rattle.vz_surfaces.specs.Chains.{is_group, chain_at, newest_at};
 ghost use Rattle.vz_surfaces.specs.Memory.{HasNumber, IsSinkOf, waiting_on, acting_on, is_waiting_in, past_by};
 
 use crate::groups::Groups;
 use crate::held::{Gone, Held, Taken};
+use crate::marks::{mark_all, mark_before};
 use crate::owners::Owners;
 use crate::showing::shown_by;
 use crate::size::frame_size;
@@ -100,6 +101,16 @@ impl Store {
         match self.table.get(id) {
             None => None,
             Some(surface) => surface.active.as_ref(),
+        }
+    }
+
+    /// Whether the surface of an id exists and is marked.
+    pub fn is_marked(&self, id: &SurfaceId) -> bool
+        ensures { result ≡ has_mark self.now id.now }
+    {
+        match self.table.get(id) {
+            None => false,
+            Some(surface) => surface.number <= self.owners.get(surface.client).marked_to,
         }
     }
 
@@ -204,6 +215,7 @@ impl Store {
         };
         self.waits.remove(Some(s));
         self.groups.note_active(&id);
+        mark_before(&mut self.owners, &self.table, s.client, &id);
         self.table.raise(&id)
     }
 
@@ -214,6 +226,7 @@ impl Store {
     {
         let change = Told::MarkedAll(c);
         self.told.show(&change);
+        mark_all(&mut self.owners, c);
     }
 
     /// A surface that exists is destroyed: its waiting and its active submission end, and are

@@ -1,7 +1,7 @@
 use Rattle.std.proofs.Common.{◌+◌, ap, sym, ◌∙◌, subst}
 use Rattle.vz_surfaces.specs.Chains.{Stands, KeepsGroups}
-use Rattle.vz_surfaces.specs.Memory.{Keeps, look, is_named_last}
-use Rattle.vz_surfaces.proofs.Holding.{IsHeldAt, open_new, few_before, held_before, accepted_keeps, accepted_groups}
+use Rattle.vz_surfaces.specs.Memory.{Keeps, KeepsMarks, look, is_named_last}
+use Rattle.vz_surfaces.proofs.Holding.{IsHeldAt, open_new, few_before, held_before, accepted_keeps, accepted_groups, accepted_marks}
 use Rattle.vz_surfaces.proofs.Storing.{stored_more, stands_still}
 use Rattle.vz_surfaces.proofs.store.Store.accept.Goals as goal
 
@@ -64,6 +64,8 @@ invariant_of-self-2 c =
           c.open.ensures.surfaces c.open.ensures.len c.hold-index.ensures.surfaces c.hold-index.ensures.len (returns-clause-replaced c) c.remove.ensures.none c.remove.ensures.others c.put.ensures c.counting.ensures c.set.ensures;
       groups = accepted_groups c.args.self.now c.args.c c.args.sink c.args.local c.requires.keeps c.requires.number c.requires.sink c.requires.goes_on c.args.frame c.args.blocks inside.owners c.get-owner.result inside.groups c.grow.new.groups
           c.is_last-last.result kept.owners (subst (KeepsGroups inside.groups) c.self.view_is c.self.invariant.groups) c.get-owner.ensures c.is_last-last.ensures c.in-Ok.ensures.chain c.in-Ok.ensures.newest;
+      marks = accepted_marks c.args.self.now c.args.c c.args.sink c.args.local c.requires.keeps c.requires.number c.requires.sink c.requires.goes_on c.args.frame c.args.blocks inside.owners c.set.new.self c.is_last-last.result
+          c.frame_size-size.result c.get-owner.result c.counting.result kept.owners (subst (KeepsMarks inside.owners) c.self.view_is c.self.invariant.marks) c.get-owner.ensures c.is_last-last.ensures c.counting.ensures c.set.ensures;
     })
 
 pub invariant_of-self : goal.invariant_of-self
