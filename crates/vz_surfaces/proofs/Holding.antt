@@ -1,5 +1,5 @@
 -- What memory keeps is that of the store, where a submission is accepted.
-use Rattle.std.proofs.Common.{◌≡◌, ℕ, ◌+◌, ◌≤◌, ◌<◌, Bool, true, false, not, ◌&&◌, ◌==◌, Option, Some, None, List, [], ◌∷◌, map, find, length, refl, ap, sym, ◌∙◌, arith, cond, subst, count_by, is_some}
+use Rattle.std.proofs.Common.{◌≡◌, ℕ, ◌+◌, ◌≤◌, ◌<◌, Bool, true, false, not, ◌&&◌, ◌==◌, Option, Some, None, List, [], ◌∷◌, ◌++◌, map, find, length, refl, ap, sym, ◌∙◌, arith, cond, subst, count_by, is_some}
 use Rattle.std.specs.Option.{option_map}
 use Rattle.std.specs.Map.{lookup}
 use Rattle.std.proofs.lemmas.Bool.{eq-eqb}
@@ -27,7 +27,11 @@ use Rattle.vz_surfaces.specs.declared.owners.Owners.{Owners}
 use Rattle.vz_surfaces.specs.Stored.{Stored, surface_of, storing}
 use Rattle.vz_surfaces.specs.Reading.{stands, standing, held_of, existing_count, last_of}
 use Rattle.vz_surfaces.specs.Keeping.{KeepsStored}
-use Rattle.vz_surfaces.specs.Memory.{is_key, look, is_name, waits_on, owner_at, HasNumber, IsSinkOf, Keeps, KeepsOwners, kept_of, surface_at, holding, empty_surface, counting, is_named_last, waiting_on}
+use Rattle.vz_surfaces.specs.Memory.{is_key, look, is_name, waits_on, owner_at, HasNumber, IsSinkOf, Keeps, KeepsOwners, KeepsMarks, kept_of, surface_at, holding, empty_surface, counting, is_named_last, waiting_on}
+use Rattle.vz_surfaces.specs.declared.groups.Groups.{Groups}
+use Rattle.vz_surfaces.specs.Chains.{is_group, chain_at, newest_at, KeepsGroups}
+use Rattle.vz_surfaces.proofs.Grouping.{stored_groups}
+use Rattle.vz_surfaces.proofs.Marking.{stored_marks}
 use Rattle.vz_surfaces.proofs.Keyed.{keys}
 use Rattle.vz_surfaces.proofs.Finding.{find_none}
 use Rattle.vz_surfaces.proofs.Others.{no_and}
@@ -183,3 +187,14 @@ module _ (st : Stored) (c : ℕ) (sink : FrameSinkId) (local : LocalSurfaceId) (
         by q false e z f that created before =
             ap (λ (b : Bool). cond b (option_map (holding (record { client = c; ordinal = count_by (is_by c) st.subs + 1 }) frame blocks) (look t2 q)) (look t2 q)) (key_of this q ∙ e)
             ∙ (opened_apart t1 t2 last owner.created q e (opened q) ∙ (before q ∙ sym (stored_apart st c sink local frame blocks q e)))
+
+    pub accepted_groups : (o : Owners) (owner : Owner) (old new : Groups) (last : Bool) → KeepsOwners o st → KeepsGroups old st → owner ≡ owner_at o c → last ≡ is_named_last owner.last local
+        → ((q : SurfaceId) → chain_at new q ≡ cond (not last && is_group this q) (chain_at old q ++ this ∷ []) (chain_at old q)) → ((q : SurfaceId) → newest_at new q ≡ newest_at old q)
+        → KeepsGroups new (storing c sink local frame blocks st)
+    accepted_groups o owner old new last ho hg own at chain newest =
+        stored_groups st c sink local frame blocks old new last keeps of goes (last_is o last ho (at ∙ ap (λ (x : Owner). is_named_last x.last local) own)) hg chain newest
+
+    pub accepted_marks : (o0 o1 : Owners) (last : Bool) (size : Size) (owner owned : Owner) → KeepsOwners o0 st → KeepsMarks o0 st → owner ≡ owner_at o0 c → last ≡ is_named_last owner.last local
+        → owned ≡ counting last local size owner → ((q : ℕ) → 1 ≤ q → owner_at o1 q ≡ cond (q == c) owned (owner_at o0 q)) → KeepsMarks o1 (storing c sink local frame blocks st)
+    accepted_marks o0 o1 last size owner owned ho hm own at is set =
+        stored_marks st c sink local frame blocks o0 o1 last size owned number ho hm (last_is o0 last ho (at ∙ ap (λ (x : Owner). is_named_last x.last local) own)) (is ∙ ap (counting last local size) own) set

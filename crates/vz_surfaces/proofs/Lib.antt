@@ -13,3 +13,8 @@ mod Destroying
 mod Ends
 mod Holding
 mod Storing
+mod Ages
+mod Grouping
+mod Pointing
+mod Shown
+mod Marking

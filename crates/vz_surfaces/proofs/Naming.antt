@@ -124,7 +124,7 @@ add_none : (n : ℕ) → n ≡ n + 0
 add_none n = omega arith
 
 -- what is read of each client, where one is written
-owners_by : {B : Type 0} (r : Owner → B) (v : ℕ → B) (old new : Owners) (c : ℕ) (owner : Owner) → ((q : ℕ) → 1 ≤ q → owner_at new q ≡ cond (q == c) owner (owner_at old q))
+pub owners_by : {B : Type 0} (r : Owner → B) (v : ℕ → B) (old new : Owners) (c : ℕ) (owner : Owner) → ((q : ℕ) → 1 ≤ q → owner_at new q ≡ cond (q == c) owner (owner_at old q))
     → r owner ≡ v c → ((q : ℕ) → HasNumber q → (q == c) ≡ false → r (owner_at old q) ≡ v q) → (q : ℕ) → HasNumber q → r (owner_at new q) ≡ v q
 owners_by r v old new c owner set here others q h =
     ap r (set q h.0) ∙ (elim (q == c) as (λ (t : Bool). (q == c) ≡ t → r (cond t owner (owner_at old q)) ≡ v q) [

@@ -113,7 +113,7 @@ module _ (st : Stored) (x : Submission) (keeps : KeepsStored st) (in_it : Waits_
   abbrev up : Submission → Submission
   up = as_one_rises x
 
-  one_is : (t : Submission) → Contains st.subs t → same_sub (sub_of t) (sub_of x) ≡ true → t ≡ x
+  pub one_is : (t : Submission) → Contains st.subs t → same_sub (sub_of t) (sub_of x) ≡ true → t ≡ x
   one_is t p e = one_named st t x keeps p in_it.there e
 
   pub rises_on : ChangesOn id_up up st.subs

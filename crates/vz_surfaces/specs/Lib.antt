@@ -3,3 +3,4 @@ pub mod Reading
 pub mod Keeping
 pub mod Memory
 pub mod Told
+pub mod Chains

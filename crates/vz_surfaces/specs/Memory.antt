@@ -1,5 +1,5 @@
 -- What memory keeps of a store, and what it stands for.
-use Rattle.std.specs.Prelude.{◌≡◌, ℕ, ◌+◌, ◌-◌, ◌≤◌, ◌&&◌, Bool, IsTrue, Option, Some, None, List, length, find, count_by, get_or, if◌then◌else◌}
+use Rattle.std.specs.Prelude.{◌≡◌, ℕ, ◌+◌, ◌-◌, ◌≤◌, ◌&&◌, Bool, IsTrue, Option, Some, None, List, length, find, count_by, get_or, nat_le, if◌then◌else◌}
 use Rattle.std.specs.Option.{option_map}
 use Rattle.std.specs.List.{Contains, list_any}
 use Rattle.std.specs.Map.{lookup}
@@ -82,7 +82,7 @@ pub record FindsWaiting (w : Waits) (st : Stored) : Type 0 where
 
 -- nothing was accepted of a client
 abbrev pub no_owner : Owner
-no_owner = record { accepted = 0; created = 0; last = None }
+no_owner = record { accepted = 0; created = 0; last = None; marked_to = 0 }
 
 -- what is counted of the client of a number
 abbrev pub owner_at : Owners → ℕ → Owner
@@ -114,7 +114,12 @@ counting last local size o =
       accepted = o.accepted + 1;
       created = (if last then o.created else o.created + 1);
       last = (if last then o.last else Some (local, size));
+      marked_to = o.marked_to;
     }
+
+-- a client's surfaces are marked up to a number
+abbrev pub marked_up : ℕ → Owner → Owner
+marked_up number o = if nat_le number o.marked_to then o else record o { marked_to = number }
 
 -- the client and the ordinal of the submission that waits on a surface, if one does
 unfoldable pub waiting_on : Stored → SurfaceId → Option Sub
@@ -136,6 +141,13 @@ is_waiting_in st sub = list_any (λ s. is_waiting s && same_sub (sub_of s) sub) 
 -- the one that becomes past where the submission of this name becomes active
 unfoldable pub past_by : Stored → Sub → Option Sub
 past_by st sub = elim (named_in sub st.subs) [ Some s ↦ acting_on st s.submitted.id | None ↦ None ]
+
+-- the marked surfaces of a client are those up to a number
+pub record KeepsMarks (o : Owners) (st : Stored) : Type 0 where
+  pub clients : (s : Created) → Contains st.surfaces s → HasNumber s.client
+  pub numbers : (s : Created) → Contains st.surfaces s → (1 ≤ s.number) × (s.number ≤ (owner_at o s.client).created)
+  pub marks : (s : Created) → Contains st.surfaces s → s.marked ≡ nat_le s.number (owner_at o s.client).marked_to
+  pub created : (c : ℕ) → HasNumber c → (owner_at o c).marked_to ≤ (owner_at o c).created
 
 -- what memory keeps is that of a store
 pub record Keeps (t : Table) (w : Waits) (o : Owners) (st : Stored) : Type 0 where

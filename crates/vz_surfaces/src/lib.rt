@@ -4,9 +4,12 @@
 //! accepted. Memory keeps one waiting and one active frame a surface.
 #![tactic(auto)]
 
+mod groups;
 mod held;
 pub mod laws;
+mod marks;
 mod owners;
+mod showing;
 mod size;
 mod store;
 mod table;

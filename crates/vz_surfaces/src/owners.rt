@@ -1,17 +1,18 @@
 //! What is counted of each client.
 ghost use Rattle.std.specs.Prelude.{◌≡◌, ◌≤◌, ◌<◌, ◌+◌, ℕ, Some, None, cond, ◌==◌};
-ghost use Rattle.vz_surfaces.specs.Memory.{owner_at, no_owner, counting, is_named_last};
+ghost use Rattle.vz_surfaces.specs.Memory.{owner_at, no_owner, counting, is_named_last, marked_up};
 
 use vz_geom::Size;
 use vz_ids::LocalSurfaceId;
 
-/// How many submissions of a client were accepted, how many surfaces it created, and the local id
-/// and the size of the last one.
+/// How many submissions of a client were accepted, how many surfaces it created, the local id and
+/// the size of the last one, and up to which number its surfaces are marked.
 #[derive(Clone, Copy)]
 pub(crate) struct Owner {
     pub(crate) accepted: u32,
     pub(crate) created: u32,
     pub(crate) last: Option<(LocalSurfaceId, Size)>,
+    pub(crate) marked_to: u32,
 }
 
 impl Owner {
@@ -40,6 +41,20 @@ impl Owner {
             accepted,
             created: self.created + 1,
             last: Some((local, size)),
+            marked_to: self.marked_to,
+        }
+    }
+
+    /// Surfaces are marked up to this number.
+    pub(crate) fn marked_up(self, number: u32) -> Owner
+        ensures { result ≡ marked_up number self }
+    {
+        if number <= self.marked_to {
+            return self;
+        }
+        Owner {
+            marked_to: number,
+            ..self
         }
     }
 }
@@ -59,6 +74,7 @@ impl Owners {
             accepted: 0,
             created: 0,
             last: None,
+            marked_to: 0,
         };
         Owners {
             owners: [owner; 16],

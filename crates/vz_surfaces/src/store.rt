@@ -1,17 +1,22 @@
 //! All surfaces that were ever created, and all submissions that were ever accepted.
-ghost use Rattle.std.specs.Prelude.{◌≡◌, ◌≤◌, ◌<◌, ◌+◌, Some, None, count_by, false, IsTrue, IfOk, OnOk, OnErr, IfErr};
+ghost use Rattle.std.specs.Prelude.{◌≡◌, ◌≤◌, ◌<◌, ◌+◌, ◌++◌, ◌∷◌, ◌&&◌, [], not, cond, Some, None, count_by, false, IsTrue, IfOk, OnOk, OnErr, IfErr};
 ghost use Rattle.std.specs.Option.{option_copied, option_map};
 ghost use Rattle.indexmap.specs.IndexMap.{spare as spare_of};
+ghost use Rattle.vz_ids.specs.declared.SurfaceId.{SurfaceId as Id};
 ghost use Rattle.vz_rules.specs.World.{Created as Surface, is_on};
 ghost use Rattle.vz_rules.specs.Messages.{violates, is_last};
 ghost use Rattle.vz_rules.specs.Kept.{is_by, last_in};
 ghost use Rattle.vz_surfaces.specs.Stored.{nothing_stored, surface_of, storing, activating, marking, destroying};
-ghost use Rattle.vz_surfaces.specs.Reading.{stands, standing, existing_count, last_of, active_on, held_of};
+ghost use Rattle.vz_surfaces.specs.Reading.{stands, standing, existing_count, last_of, active_on, held_of, has_mark, was_reached};
 ghost use Rattle.vz_surfaces.specs.Keeping.{KeepsStored};
+ghost use Rattle.vz_surfaces.specs.Chains.{is_group, chain_at, newest_at};
 ghost use Rattle.vz_surfaces.specs.Memory.{HasNumber, IsSinkOf, waiting_on, acting_on, is_waiting_in, past_by};
 
+use crate::groups::Groups;
 use crate::held::{Gone, Held, Taken};
+use crate::marks::{mark_all, mark_before};
 use crate::owners::Owners;
+use crate::showing::shown_by;
 use crate::size::frame_size;
 use crate::table::{Table, sub_of};
 use crate::told::{Acceptance, Told, note};
@@ -22,30 +27,33 @@ use vz_base::Memory;
 use vz_frame::{CompositorFrame, List};
 use vz_geom::Size;
 use vz_ghost::GhostList;
-use vz_ids::{FrameSinkId, LocalSurfaceId, Sub, SurfaceId};
+use vz_ids::{FrameSinkId, LocalSurfaceId, Sub, SurfaceId, SurfaceRange};
 use vz_pixels::PixelBlock;
+use vz_refs::Shows;
 use vz_rules::Lost;
 
 /// The surfaces and submissions of the machine's state. Contracts see all that were ever created
 /// and accepted; memory keeps one waiting and one active frame a surface that exists.
 #[derive(Drop)]
 pub struct Store {
+    alloc: Global,
     table: Table,
     waits: Waits,
     owners: Owners,
+    groups: Groups,
     told: GhostList<Told>,
 }
 
 impl Model for Store {
     ghost use Rattle.vz_surfaces.specs.Stored.{Stored};
     ghost use Rattle.vz_surfaces.specs.Told.{stored};
-    ghost use Rattle.vz_surfaces.specs.Memory.{Keeps};
+    ghost use Rattle.vz_surfaces.specs.Chains.{Stands};
 
     ghost Value = { Stored };
 
     ghost view = { λ s. stored s.told };
 
-    ghost invariant = { λ s. Keeps s.table s.waits s.owners (stored s.told) };
+    ghost invariant = { λ s. Stands s.table s.waits s.owners s.groups (stored s.told) };
 }
 
 impl Store {
@@ -54,9 +62,11 @@ impl Store {
         ensures { result ≡ nothing_stored }
     {
         Store {
+            alloc,
             table: Table::new(alloc),
             waits: Waits::new(alloc),
             owners: Owners::new(),
+            groups: Groups::new(alloc),
             told: GhostList::new(),
         }
     }
@@ -94,6 +104,24 @@ impl Store {
         }
     }
 
+    /// Whether the surface of an id exists and is marked.
+    pub fn is_marked(&self, id: &SurfaceId) -> bool
+        ensures { result ≡ has_mark self.now id.now }
+    {
+        match self.table.get(id) {
+            None => false,
+            Some(surface) => surface.number <= self.owners.get(surface.client).marked_to,
+        }
+    }
+
+    /// Whether some submission on a surface of a group, at this one or newer, was ever active.
+    /// Surfaces that were destroyed count too.
+    pub fn ever_active(&self, d: &SurfaceId) -> bool
+        ensures { result ≡ was_reached self.now d.now }
+    {
+        self.groups.was_active(d)
+    }
+
     /// A submission of a client is accepted on a surface of its sink, which is created where the
     /// local id is not the client's last one. It waits, and the one that waited there is dropped.
     /// The answer is its client and ordinal, its number on the surface, and the one that is
@@ -129,12 +157,19 @@ impl Store {
         ensures back { IfErr result (λ f. f ≡ frame) }
     {
         let id = SurfaceId { sink, local };
-        if reserve(&mut self.table, &mut self.waits).is_err() {
-            return Err(frame);
-        }
-        let size = frame_size(&frame);
         let owner = self.owners.get(c);
         let last = owner.is_last(&local);
+        let Ok(()) = grow(
+            self.alloc,
+            &mut self.table,
+            &mut self.waits,
+            &mut self.groups,
+            id,
+            last,
+        ) else {
+            return Err(frame);
+        };
+        let size = frame_size(&frame);
         let acceptance = note(
             &mut self.told,
             Acceptance {
@@ -179,6 +214,8 @@ impl Store {
             unreachable!()
         };
         self.waits.remove(Some(s));
+        self.groups.note_active(&id);
+        mark_before(&mut self.owners, &self.table, s.client, &id);
         self.table.raise(&id)
     }
 
@@ -189,6 +226,7 @@ impl Store {
     {
         let change = Told::MarkedAll(c);
         self.told.show(&change);
+        mark_all(&mut self.owners, c);
     }
 
     /// A surface that exists is destroyed: its waiting and its active submission end, and are
@@ -209,6 +247,7 @@ impl Store {
         };
         let waiting = sub_of(&surface.waiting);
         self.waits.remove(waiting);
+        self.groups.remove(id);
         Gone {
             lost: Lost {
                 client: surface.client,
@@ -220,14 +259,42 @@ impl Store {
     }
 }
 
-/// Makes room for one surface and one waiting submission more.
-fn reserve(table: &mut Table, waits: &mut Waits) -> Result<(), Memory>
+/// Makes room for one surface and one waiting submission more, and puts the surface into its
+/// group, unless it is the last one of its client. Where it answers Memory, groups stay.
+fn grow(
+    alloc: Global,
+    table: &mut Table,
+    waits: &mut Waits,
+    groups: &mut Groups,
+    id: SurfaceId,
+    last: bool,
+) -> Result<(), Memory>
     ensures table { table.new.surfaces.entries ≡ table.old.surfaces.entries }
     ensures waits { waits.new.surfaces.entries ≡ waits.old.surfaces.entries }
     ensures surfaces { OnOk result (0 < spare_of table.new.surfaces) }
     ensures names { OnOk result (0 < spare_of waits.new.surfaces) }
+    ensures chain { (q : Id) → OnOk result (chain_at groups.new q
+        ≡ cond (not last && is_group id q) (chain_at groups.old q ++ id ∷ [])
+        (chain_at groups.old q)) }
+    ensures err { (q : Id) → OnErr result (chain_at groups.new q ≡ chain_at groups.old q) }
+    ensures newest { (q : Id) → newest_at groups.new q ≡ newest_at groups.old q }
 {
     table.reserve()?;
     waits.reserve()?;
+    if last {
+        return Ok(());
+    }
+    groups.add(alloc, id)?;
     Ok(())
+}
+
+impl Shows for Store {
+    ghost use Rattle.vz_surfaces.specs.Reading.{shown_in};
+
+    ghost shows = { λ s r. shown_in s r };
+
+    /// The surface that a range shows, among those that exist and have an active submission.
+    fn shown(&self, r: &SurfaceRange) -> Option<SurfaceId> {
+        shown_by(&self.groups, &self.table, r)
+    }
 }

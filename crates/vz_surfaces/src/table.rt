@@ -5,6 +5,7 @@ ghost use Rattle.indexmap.specs.IndexMap.{spare as spare_of};
 ghost use Rattle.vz_ids.specs.declared.SurfaceId.{SurfaceId as Id};
 ghost use Rattle.vz_surfaces.specs.declared.table.Surface.{Surface as Kept};
 ghost use Rattle.vz_surfaces.specs.Memory.{is_key, look, holding, raised, empty_surface};
+ghost use Rattle.vz_surfaces.specs.Chains.{is_acting};
 
 use crate::held::Held;
 use indexmap::IndexMap;
@@ -68,6 +69,16 @@ impl Table {
         ensures { option_copied result ≡ look self.now id.now }
     {
         self.surfaces.get(id)
+    }
+
+    /// Whether the surface of an id is there and has an active submission.
+    pub(crate) fn has_active(&self, id: &SurfaceId) -> bool
+        ensures { result ≡ is_acting self.now id.now }
+    {
+        match self.get(id) {
+            None => false,
+            Some(surface) => surface.active.is_some(),
+        }
     }
 
     /// A surface more. Conditions: it is not there, and there is room for one.

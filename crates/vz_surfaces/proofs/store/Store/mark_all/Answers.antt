@@ -1,10 +1,10 @@
-use Rattle.vz_surfaces.proofs.Storing.{stored_more, marked_keeps}
+use Rattle.vz_surfaces.proofs.Storing.{stored_more, marked_stands}
 use Rattle.vz_surfaces.proofs.store.Store.mark_all.Goals as goal
 
 pub invariant_of-self : goal.invariant_of-self
 invariant_of-self c =
     let inside = c.self.inside in
-    marked_keeps inside.table inside.waits inside.owners inside.told c.show.new.self c.args.self.now c.args.c c.self.invariant c.self.view_is c.show.ensures
+    marked_stands inside.groups inside.table inside.waits inside.owners c.mark_all.new.owners inside.told c.show.new.self c.args.self.now c.args.c c.requires c.self.invariant c.self.view_is c.show.ensures c.mark_all.ensures
 
 pub returns : goal.returns
 returns c = stored_more c.self.inside.told c.show.new.self _ c.args.self.now c.show.ensures c.self.view_is

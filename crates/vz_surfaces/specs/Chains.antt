@@ -1,0 +1,99 @@
+-- The surfaces that exist, by groups.
+use Rattle.std.specs.Prelude.{◌≡◌, true, false, Bool, not, ◌&&◌, ◌||◌, Option, Some, None, is_some, List, [], ◌∷◌, map, filter, find, reverse, if◌then◌else◌}
+use Rattle.std.specs.Option.{option_and_then, option_map_or}
+use Rattle.std.specs.List.{Contains}
+use Rattle.std.specs.Map.{lookup}
+use Rattle.vz_ids.specs.declared.LocalSurfaceId.{LocalSurfaceId}
+use Rattle.vz_ids.specs.declared.SurfaceId.{SurfaceId}
+use Rattle.vz_ids.specs.Ids.{same_sink, same_group, newer, at_least}
+use Rattle.vz_rules.specs.World.{Created, Submission}
+use Rattle.vz_surfaces.specs.contracts.groups.GroupKeyPartialEq.TheImpl.{eq-value as group_eq}
+use Rattle.vz_surfaces.specs.declared.groups.GroupKey.{GroupKey}
+use Rattle.vz_surfaces.specs.declared.groups.Group.{Group}
+use Rattle.vz_surfaces.specs.declared.groups.Groups.{Groups}
+use Rattle.vz_surfaces.specs.declared.table.Table.{Table}
+use Rattle.vz_surfaces.specs.Stored.{Stored}
+use Rattle.vz_surfaces.specs.Reading.{was_reached}
+use Rattle.vz_surfaces.specs.declared.waits.Waits.{Waits}
+use Rattle.vz_surfaces.specs.declared.owners.Owners.{Owners}
+use Rattle.vz_surfaces.specs.Memory.{look, Keeps, KeepsMarks}
+
+-- the group of a surface
+abbrev pub key_of : SurfaceId → GroupKey
+key_of id = record { sink = id.sink; token = id.local.token }
+
+-- two surfaces are of one group, as maps test it
+abbrev pub is_group : SurfaceId → SurfaceId → Bool
+is_group a b = group_eq.it (key_of a) (key_of b)
+
+-- the group of a surface, if there is one
+abbrev pub group_at : Groups → SurfaceId → Option Group
+group_at g id = lookup (group_eq.it (key_of id)) g.groups.entries
+
+-- the surfaces of a surface's group
+abbrev pub chain_at : Groups → SurfaceId → List SurfaceId
+chain_at g id = option_map_or (λ (x : Group). x.chain.items) (group_at g id) []
+
+-- the newest surface of a surface's group that was ever active
+abbrev pub newest_at : Groups → SurfaceId → Option LocalSurfaceId
+newest_at g id = option_and_then (λ (x : Group). x.newest) (group_at g id)
+
+-- the newest one is a surface or a newer one of its group
+abbrev pub reaches : Option LocalSurfaceId → SurfaceId → Bool
+reaches None d = false
+reaches (Some local) d = at_least (record { sink = d.sink; local = local }) d
+
+-- the newer of two
+unfoldable pub newer_local : LocalSurfaceId → Option LocalSurfaceId → Option LocalSurfaceId
+newer_local local None = Some local
+newer_local local (Some other) = if newer local other then Some local else Some other
+
+-- a surface of the table has an active frame
+abbrev pub is_acting : Table → SurfaceId → Bool
+is_acting t id = option_map_or (λ s. is_some s.active) (look t id) false
+
+-- a surface is a newer one of another's group
+abbrev pub is_newer_id : SurfaceId → SurfaceId → Bool
+is_newer_id a b = same_sink a.sink b.sink && newer a.local b.local
+
+-- each surface is newer than those before it
+unfoldable pub IsRising : List SurfaceId → Type 0
+IsRising [] = Unit {0}
+IsRising (x ∷ xs) = ((y : SurfaceId) → Contains xs y → is_newer_id y x ≡ true) × IsRising xs
+
+-- groups have the surfaces that exist, in the order of creation, and what was ever active
+pub record KeepsGroups (g : Groups) (st : Stored) : Type 0 where
+  pub chain : (id : SurfaceId) → chain_at g id ≡ map (λ (c : Created). c.id) (filter (λ (c : Created). same_group c.id id && not c.destroyed) st.surfaces)
+  pub rising : (id : SurfaceId) → IsRising (chain_at g id)
+  pub reached : (d : SurfaceId) → reaches (newest_at g d) d ≡ was_reached st d
+  pub made : (d : SurfaceId) (local : LocalSurfaceId) → newest_at g d ≡ Some local
+      → (s : Submission) × Contains st.subs s × (s.submitted.id ≡ record { sink = d.sink; local = local }) × (local.token.0 ≡ d.local.token.0)
+
+-- what was found, if it passes
+abbrev pub that_passes : (SurfaceId → Bool) → Option SurfaceId → Option SurfaceId
+that_passes test None = None
+that_passes test (Some id) = if test id then Some id else None
+
+-- where the start of a range is in the end's group, only what is the start or newer counts
+abbrev pub starts_from : Option SurfaceId → SurfaceId → SurfaceId → Bool
+starts_from None end id = true
+starts_from (Some start) end id = not (same_group start end) || at_least id start
+
+-- the last of some surfaces that has an active frame
+unfoldable pub last_acting : Table → List SurfaceId → Option SurfaceId
+last_acting t ids = find (is_acting t) (reverse ids)
+
+-- the newest surface of a group with an active frame, at a surface or older
+abbrev pub newest_to : Table → Groups → SurfaceId → Option SurfaceId
+newest_to t g end = last_acting t (filter (at_least end) (chain_at g end))
+
+-- the newest surface with an active frame of the group of a start, which is another than the end's
+abbrev pub newest_from : Table → Groups → Option SurfaceId → SurfaceId → Option SurfaceId
+newest_from t g None end = None
+newest_from t g (Some start) end = if same_group start end then None else that_passes (λ id. at_least id start) (last_acting t (chain_at g start))
+
+-- what memory keeps is that of a store
+pub record Stands (t : Table) (w : Waits) (o : Owners) (g : Groups) (st : Stored) : Type 0 where
+  pub kept : Keeps t w o st
+  pub groups : KeepsGroups g st
+  pub marks : KeepsMarks o st

@@ -1,0 +1,210 @@
+//! The surfaces that exist by groups, so that the newest up to one is found soon.
+ghost use Rattle.std.specs.Prelude.{◌≡◌, ◌++◌, ◌∷◌, [], None, Some, cond, not, filter, is_some, IsTrue, OnOk, OnErr};
+ghost use Rattle.vz_ids.specs.declared.SurfaceId.{SurfaceId as Id};
+ghost use Rattle.vz_ids.specs.Ids.{same_surface, at_least};
+ghost use Rattle.vz_surfaces.specs.Chains.{is_group, key_of, group_at, chain_at, newest_at, reaches, newer_local, IsRising, last_acting, newest_to};
+
+use crate::table::Table;
+use indexmap::IndexMap;
+use std::alloc::Global;
+use vz_base::Memory;
+use vz_ids::{EmbedToken, FrameSinkId, LocalSurfaceId, SurfaceId};
+
+/// A group: a sink with a token.
+#[derive(Clone, Copy, PartialEq, Eq, Hash)]
+pub(crate) struct GroupKey {
+    sink: FrameSinkId,
+    token: EmbedToken,
+}
+
+/// The group of a surface.
+fn key_of(id: &SurfaceId) -> GroupKey
+    ensures { result ≡ key_of id.now }
+{
+    GroupKey {
+        sink: id.sink,
+        token: id.local.token,
+    }
+}
+
+/// The surfaces of a group that exist, each newer than those before it, and the newest surface
+/// that was ever active, whether it exists or not.
+#[derive(Drop)]
+pub(crate) struct Group {
+    chain: Vec<SurfaceId>,
+    newest: Option<LocalSurfaceId>,
+}
+
+/// The surfaces that exist, by groups.
+#[derive(Drop)]
+pub(crate) struct Groups {
+    groups: IndexMap<GroupKey, Group>,
+}
+
+/// Whether a surface is another or a newer one of its group.
+pub(crate) fn is_at_least(id: &SurfaceId, than: &SurfaceId) -> bool
+    ensures { result ≡ at_least id.now than.now }
+{
+    *id == *than || (id.sink == than.sink && id.local.newer(&than.local))
+}
+
+/// Puts a surface at the end.
+fn append(chain: &mut Vec<SurfaceId>, id: SurfaceId) -> Result<(), Memory>
+    ensures ok { OnOk result (chain.new.items ≡ chain.old.items ++ id ∷ []) }
+    ensures err { OnErr result (chain.new.items ≡ chain.old.items) }
+{
+    chain.push(id)?;
+    Ok(())
+}
+
+impl Groups {
+    /// No group. It takes no memory.
+    pub(crate) fn new(alloc: Global) -> Groups
+        ensures { (q : Id) → group_at result q ≡ None }
+    {
+        Groups {
+            groups: IndexMap::new(alloc),
+        }
+    }
+
+    /// A surface more, the newest of its group.
+    pub(crate) fn add(&mut self, alloc: Global, id: SurfaceId) -> Result<(), Memory>
+        ensures chain { (q : Id) → OnOk result (chain_at self.new q
+            ≡ cond (is_group id q) (chain_at self.old q ++ id ∷ []) (chain_at self.old q)) }
+        ensures err { (q : Id) → OnErr result (chain_at self.new q ≡ chain_at self.old q) }
+        ensures newest { (q : Id) → newest_at self.new q ≡ newest_at self.old q }
+    {
+        let key = key_of(&id);
+        match self.groups.get_mut(&key) {
+            Some(group) => append(&mut group.chain, id),
+            None => {
+                let mut chain = Vec::new(alloc);
+                append(&mut chain, id)?;
+                self.groups.insert(
+                    key,
+                    Group {
+                        chain,
+                        newest: None,
+                    },
+                )?;
+                Ok(())
+            }
+        }
+    }
+
+    /// A surface was active. Condition: its group is there.
+    pub(crate) fn note_active(&mut self, id: &SurfaceId)
+        requires { IsTrue (is_some (group_at self.old id.now)) }
+        ensures chain { (q : Id) → chain_at self.new q ≡ chain_at self.old q }
+        ensures newest { (q : Id) → newest_at self.new q ≡ cond (is_group id.now q)
+            (newer_local id.now.local (newest_at self.old q)) (newest_at self.old q) }
+    {
+        if let Some(group) = self.groups.get_mut(&key_of(id)) {
+            group.newest = newer_of(group.newest, id.local);
+        }
+    }
+
+    /// A surface goes.
+    pub(crate) fn remove(&mut self, id: &SurfaceId)
+        ensures chain { (q : Id) → chain_at self.new q ≡ cond (is_group id.now q)
+            (filter (λ (x : Id). not (same_surface x id.now)) (chain_at self.old q))
+            (chain_at self.old q) }
+        ensures newest { (q : Id) → newest_at self.new q ≡ newest_at self.old q }
+    {
+        if let Some(group) = self.groups.get_mut(&key_of(id)) {
+            forget(&mut group.chain, id);
+        }
+    }
+
+    /// Whether a surface of a group, at this one or newer, was ever active.
+    pub(crate) fn was_active(&self, d: &SurfaceId) -> bool
+        ensures { result ≡ reaches (newest_at self.now d.now) d.now }
+    {
+        match self.groups.get(&key_of(d)) {
+            None => false,
+            Some(group) => match group.newest {
+                None => false,
+                Some(local) => is_at_least(
+                    &SurfaceId {
+                        sink: d.sink,
+                        local,
+                    },
+                    d,
+                ),
+            },
+        }
+    }
+
+    /// The newest surface of a group with an active frame, at this one or older.
+    #[tactic(auto, unfolding(crate::specs::Chains::last_acting))]
+    pub(crate) fn newest_up_to(&self, end: &SurfaceId, table: &Table) -> Option<SurfaceId>
+        requires { IsRising (chain_at self.now end.now) }
+        ensures { result ≡ newest_to table.now self.now end.now }
+    {
+        match self.groups.get(&key_of(end)) {
+            None => None,
+            Some(group) => last_active(up_to(&group.chain, end), table),
+        }
+    }
+
+    /// The newest surface with an active frame of the group of a surface.
+    #[tactic(auto, unfolding(crate::specs::Chains::last_acting))]
+    pub(crate) fn newest(&self, start: &SurfaceId, table: &Table) -> Option<SurfaceId>
+        ensures { result ≡ last_acting table.now (chain_at self.now start.now) }
+    {
+        match self.groups.get(&key_of(start)) {
+            None => None,
+            Some(group) => last_active(&group.chain, table),
+        }
+    }
+}
+
+/// The newer one of two of a group.
+#[tactic(auto, unfolding(crate::specs::Chains::newer_local))]
+fn newer_of(newest: Option<LocalSurfaceId>, local: LocalSurfaceId) -> Option<LocalSurfaceId>
+    ensures { result ≡ newer_local local newest }
+{
+    match newest {
+        Some(other) if !local.newer(&other) => Some(other),
+        _ => Some(local),
+    }
+}
+
+/// Whether two surfaces are not one.
+fn differs(a: &SurfaceId, b: &SurfaceId) -> bool
+    ensures { result ≡ not (same_surface a.now b.now) }
+{
+    *a != *b
+}
+
+/// A surface goes from the list.
+fn forget(chain: &mut Vec<SurfaceId>, id: &SurfaceId)
+    ensures { chain.new.items ≡ filter (λ (x : Id). not (same_surface x id.now)) chain.old.items }
+{
+    chain.retain(|other| differs(other, id));
+}
+
+/// The surfaces of a chain that are this one or older.
+fn up_to<'a>(chain: &'a [SurfaceId], end: &SurfaceId) -> &'a [SurfaceId]
+    requires { IsRising chain.now }
+    ensures { result.now ≡ filter (at_least end.now) chain.now }
+{
+    let count = chain.partition_point(|id| is_at_least(end, id));
+    &chain[..count]
+}
+
+/// The last of some surfaces that has an active frame.
+#[tactic(auto, unfolding(crate::specs::Chains::last_acting))]
+fn last_active(ids: &[SurfaceId], table: &Table) -> Option<SurfaceId>
+    ensures { result ≡ last_acting table.now ids.now }
+{
+    let mut left = ids.len();
+    while left > 0 {
+        left -= 1;
+        let id = ids[left];
+        if table.has_active(&id) {
+            return Some(id);
+        }
+    }
+    None
+}
