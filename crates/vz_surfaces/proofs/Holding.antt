@@ -1,5 +1,5 @@
 -- What memory keeps is that of the store, where a submission is accepted.
-use Rattle.std.proofs.Common.{◌≡◌, ℕ, ◌+◌, ◌≤◌, ◌<◌, Bool, true, false, not, ◌&&◌, ◌==◌, Option, Some, None, List, [], ◌∷◌, ◌++◌, map, find, length, refl, ap, sym, ◌∙◌, arith, cond, subst, count_by, is_some}
+use Rattle.std.proofs.Common.{◌≡◌, ℕ, ◌+◌, ◌≤◌, ◌<◌, Bool, true, false, not, ◌&&◌, ◌==◌, nat_eq, Option, Some, None, List, [], ◌∷◌, ◌++◌, map, find, length, refl, ap, sym, ◌∙◌, arith, cond, subst, count_by, is_some}
 use Rattle.std.specs.Option.{option_map}
 use Rattle.std.specs.Map.{lookup}
 use Rattle.std.proofs.lemmas.Bool.{eq-eqb}
@@ -32,6 +32,9 @@ use Rattle.vz_surfaces.specs.declared.groups.Groups.{Groups}
 use Rattle.vz_surfaces.specs.Chains.{is_group, chain_at, newest_at, KeepsGroups}
 use Rattle.vz_surfaces.proofs.Grouping.{stored_groups}
 use Rattle.vz_surfaces.proofs.Marking.{stored_marks}
+use Rattle.vz_surfaces.specs.declared.standing.Standing.{Standing}
+use Rattle.vz_surfaces.specs.Numbers.{list_at, KeepsLists}
+use Rattle.vz_surfaces.proofs.Listing.{lists_alike, stored_lists}
 use Rattle.vz_surfaces.proofs.Keyed.{keys}
 use Rattle.vz_surfaces.proofs.Finding.{find_none}
 use Rattle.vz_surfaces.proofs.Others.{no_and}
@@ -198,3 +201,8 @@ module _ (st : Stored) (c : ℕ) (sink : FrameSinkId) (local : LocalSurfaceId) (
         → owned ≡ counting last local size owner → ((q : ℕ) → 1 ≤ q → owner_at o1 q ≡ cond (q == c) owned (owner_at o0 q)) → KeepsMarks o1 (storing c sink local frame blocks st)
     accepted_marks o0 o1 last size owner owned ho hm own at is set =
         stored_marks st c sink local frame blocks o0 o1 last size owned number ho hm (last_is o0 last ho (at ∙ ap (λ (x : Owner). is_named_last x.last local) own)) (is ∙ ap (counting last local size) own) set
+
+    pub accepted_lists : (o : Owners) (owner : Owner) (l0 l1 l2 : Standing) (last : Bool) → KeepsOwners o st → KeepsMarks o st → KeepsLists l0 st → owner ≡ owner_at o c → last ≡ is_named_last owner.last local
+        → ((q : ℕ) → list_at l1 q ≡ list_at l0 q) → ((q : ℕ) → list_at l2 q ≡ cond (not last && nat_eq c q) (list_at l1 q ++ record { number = owner.created + 1; id = this } ∷ []) (list_at l1 q)) → KeepsLists l2 (storing c sink local frame blocks st)
+    accepted_lists o owner l0 l1 l2 last ho hm hl own at same added =
+        stored_lists st c sink local frame blocks l1 l2 o last owner.created number ho hm (lists_alike l0 l1 st same hl) (last_is o last ho (at ∙ ap (λ (x : Owner). is_named_last x.last local) own)) (ap (λ x. x.created) own) added

@@ -18,3 +18,5 @@ mod Grouping
 mod Pointing
 mod Shown
 mod Marking
+mod Numbering
+mod Listing

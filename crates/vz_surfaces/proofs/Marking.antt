@@ -174,7 +174,7 @@ mark_max k n m h = by (nat_lt k n) refl (nat_le (n - 1) m) refl
     by false e false f = grind (arith, nat_tests)
 
 -- the surface of an id is one
-one_surface : (st : Stored) (s t : Created) → KeepsStored st → Contains st.surfaces s → Contains st.surfaces t → s.id ≡ t.id → s ≡ t
+pub one_surface : (st : Stored) (s t : Created) → KeepsStored st → Contains st.surfaces s → Contains st.surfaces t → s.id ≡ t.id → s ≡ t
 one_surface st s t keeps p q e =
     let n = contains_at st.surfaces s p in
     let m = contains_at st.surfaces t q in

@@ -1,5 +1,5 @@
 -- What memory keeps is that of the store, at first and over its other changes, and what is read of it.
-use Rattle.std.proofs.Common.{◌≡◌, ℕ, ◌+◌, ◌-◌, ◌≤◌, ◌==◌, nat_le, Bool, true, false, not, ◌&&◌, Option, Some, None, List, [], ◌∷◌, ◌++◌, map, filter, find, length, refl, ap, sym, ◌∙◌, arith, cond, subst, Contains, is_some, Bor}
+use Rattle.std.proofs.Common.{◌≡◌, ℕ, ◌+◌, ◌-◌, ◌≤◌, ◌==◌, nat_le, nat_eq, Bool, true, false, not, ◌&&◌, Option, Some, None, List, [], ◌∷◌, ◌++◌, map, filter, find, length, refl, ap, sym, ◌∙◌, arith, cond, subst, Contains, is_some, Bor}
 use Rattle.std.specs.Option.{option_map, option_copied, option_map_or, option_and_then}
 use Rattle.std.proofs.lemmas.Bool.{both_ways, or_left, and_parts}
 use Rattle.vz_ids.specs.declared.LocalSurfaceId.{LocalSurfaceId}
@@ -28,7 +28,12 @@ use Rattle.vz_surfaces.specs.declared.groups.Group.{Group}
 use Rattle.vz_surfaces.specs.declared.groups.Groups.{Groups}
 use Rattle.vz_surfaces.specs.Chains.{Stands, KeepsGroups, IsRising, is_group, group_at, chain_at, newest_at, reaches, newer_local}
 use Rattle.vz_surfaces.proofs.Grouping.{groups_alike, marked_groups, raised_groups, gone_groups}
-use Rattle.vz_surfaces.proofs.Marking.{owners_marked, marking_marks, raised_marks, gone_marks, own_client}
+use Rattle.vz_surfaces.proofs.Marking.{owners_marked, marking_marks, raised_marks, gone_marks, own_client, one_surface}
+use Rattle.vz_surfaces.specs.declared.standing.Numbered.{Numbered}
+use Rattle.vz_surfaces.specs.declared.standing.Row.{Row}
+use Rattle.vz_surfaces.specs.declared.standing.Standing.{Standing}
+use Rattle.vz_surfaces.specs.Numbers.{list_in, list_at, Rises, KeepsLists}
+use Rattle.vz_surfaces.proofs.Listing.{raised_lists, gone_lists}
 use Rattle.vz_surfaces.proofs.Shown.{chain_has}
 use Rattle.vz_surfaces.proofs.Raising.{waiting_one, Waits_in, activates, past_is, raised_here, raised_apart, raised_count, raised_owners, raised_waits}
 use Rattle.vz_surfaces.proofs.Destroying.{marked_at, marked_count, marked_owners, marked_waits, gone_here, gone_apart, gone_owners, gone_count, gone_waits}
@@ -442,3 +447,26 @@ mark_some t w o ts st g id s inv view e =
     let there = find_at (λ (c : Created). same_surface c.id id && not c.destroyed) st.surfaces k.surface k.is in
     ap (λ (x : Surface). nat_le x.number (owner_at o x.client).marked_to) k.kept
     ∙ (sym (h.marks k.surface there.0) ∙ sym (ap (λ (x : Option Created). elim x as (λ x. Bool) [ Some c ↦ c.marked | None ↦ false ]) k.is))
+
+-- With the lists
+
+pub lists_none : (s : Standing) (ts : List Told) → ((q : ℕ) → list_in s q ≡ None) → ts ≡ [] → KeepsLists s (stored ts)
+unfolding nothing_stored Rises
+lists_none s ts none e =
+    subst (KeepsLists s) (sym (stored_none ts e)) (record {
+      lists = λ q. ap (λ (x : Option Row). option_map_or (λ (r : Row). r.all.items) x []) (none q);
+      rise = λ q. subst Rises (sym (ap (λ (x : Option Row). option_map_or (λ (r : Row). r.all.items) x []) (none q))) tt;
+    })
+
+pub activated_lists : (s : Standing) (st : Stored) (sub : Sub) → KeepsStored st → is_waiting_in st sub ≡ true → KeepsLists s st → KeepsLists s (activating sub st)
+activated_lists s st sub keeps waits h =
+    let x = waiting_one st sub waits in
+    subst (KeepsLists s) (sym (ap (λ y. activating y st) (sym x.2) ∙ activates st x.0 keeps x.1.there)) (raised_lists s st x.0 h)
+
+pub destroyed_lists : (l0 l1 : Standing) (st : Stored) (id : SurfaceId) (s : Surface) → KeepsStored st → IsKeptAt st id s → KeepsLists l0 st
+    → ((q : ℕ) → list_at l1 q ≡ cond (nat_eq s.client q) (filter (λ (x : Numbered). not (same_surface x.id id)) (list_at l0 q)) (list_at l0 q)) → KeepsLists l1 (destroying id st)
+destroyed_lists l0 l1 st id s keeps k h goes =
+    let there = find_at (λ (c : Created). same_surface c.id id && not c.destroyed) st.surfaces k.surface k.is in
+    let at = from_same k.surface.id id (and_parts (same_surface k.surface.id id) (not k.surface.destroyed) there.1).0 in
+    gone_lists id s.client st l0 l1 h
+    (λ c p e. ap (λ (x : Created). x.client) (one_surface st c k.surface keeps p there.0 (from_same c.id id e ∙ sym at)) ∙ ap (λ (x : Surface). x.client) (sym k.kept)) goes

@@ -4,3 +4,4 @@ pub mod Keeping
 pub mod Memory
 pub mod Told
 pub mod Chains
+pub mod Numbers

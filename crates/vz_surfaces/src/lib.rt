@@ -11,6 +11,7 @@ mod marks;
 mod owners;
 mod showing;
 mod size;
+mod standing;
 mod store;
 mod table;
 mod told;

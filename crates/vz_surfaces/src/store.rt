@@ -1,5 +1,5 @@
 //! All surfaces that were ever created, and all submissions that were ever accepted.
-ghost use Rattle.std.specs.Prelude.{◌≡◌, ◌≤◌, ◌<◌, ◌+◌, ◌++◌, ◌∷◌, ◌&&◌, [], not, cond, Some, None, count_by, false, IsTrue, IfOk, OnOk, OnErr, IfErr};
+ghost use Rattle.std.specs.Prelude.{◌≡◌, ◌≤◌, ◌<◌, ◌+◌, ◌++◌, ◌∷◌, ◌&&◌, [], ℕ, not, cond, length, Some, None, count_by, false, IsTrue, IfOk, OnOk, OnErr, IfErr};
 ghost use Rattle.std.specs.Option.{option_copied, option_map};
 ghost use Rattle.indexmap.specs.IndexMap.{spare as spare_of};
 ghost use Rattle.vz_ids.specs.declared.SurfaceId.{SurfaceId as Id};
@@ -7,9 +7,10 @@ ghost use Rattle.vz_rules.specs.World.{Created as Surface, is_on};
 ghost use Rattle.vz_rules.specs.Messages.{violates, is_last};
 ghost use Rattle.vz_rules.specs.Kept.{is_by, last_in};
 ghost use Rattle.vz_surfaces.specs.Stored.{nothing_stored, surface_of, storing, activating, marking, destroying};
-ghost use Rattle.vz_surfaces.specs.Reading.{stands, standing, existing_count, last_of, active_on, held_of, has_mark, was_reached};
+ghost use Rattle.vz_surfaces.specs.Reading.{stands, standing, existing_count, last_of, active_on, held_of, has_mark, marked_to, was_reached};
 ghost use Rattle.vz_surfaces.specs.Keeping.{KeepsStored};
 ghost use Rattle.vz_surfaces.specs.Chains.{is_group, chain_at, newest_at};
+ghost use Rattle.vz_surfaces.specs.Numbers.{list_at, has_room};
 ghost use Rattle.vz_surfaces.specs.Memory.{HasNumber, IsSinkOf, waiting_on, acting_on, is_waiting_in, past_by};
 
 use crate::groups::Groups;
@@ -18,13 +19,14 @@ use crate::marks::{mark_all, mark_before};
 use crate::owners::Owners;
 use crate::showing::shown_by;
 use crate::size::frame_size;
+use crate::standing::Standing;
 use crate::table::{Table, sub_of};
 use crate::told::{Acceptance, Told, note};
 use crate::waits::Waits;
 use std::alloc::Global;
 use std::marker::Model;
 use vz_base::Memory;
-use vz_frame::{CompositorFrame, List};
+use vz_frame::{CompositorFrame, List, Room};
 use vz_geom::Size;
 use vz_ghost::GhostList;
 use vz_ids::{FrameSinkId, LocalSurfaceId, Sub, SurfaceId, SurfaceRange};
@@ -41,6 +43,7 @@ pub struct Store {
     waits: Waits,
     owners: Owners,
     groups: Groups,
+    standing: Standing,
     told: GhostList<Told>,
 }
 
@@ -48,12 +51,14 @@ impl Model for Store {
     ghost use Rattle.vz_surfaces.specs.Stored.{Stored};
     ghost use Rattle.vz_surfaces.specs.Told.{stored};
     ghost use Rattle.vz_surfaces.specs.Chains.{Stands};
+    ghost use Rattle.vz_surfaces.specs.Numbers.{KeepsLists};
 
     ghost Value = { Stored };
 
     ghost view = { λ s. stored s.told };
 
-    ghost invariant = { λ s. Stands s.table s.waits s.owners s.groups (stored s.told) };
+    ghost invariant = { λ s. Stands s.table s.waits s.owners s.groups (stored s.told)
+        × KeepsLists s.standing (stored s.told) };
 }
 
 impl Store {
@@ -67,6 +72,7 @@ impl Store {
             waits: Waits::new(alloc),
             owners: Owners::new(),
             groups: Groups::new(alloc),
+            standing: Standing::new(alloc),
             told: GhostList::new(),
         }
     }
@@ -111,6 +117,19 @@ impl Store {
         match self.table.get(id) {
             None => false,
             Some(surface) => surface.number <= self.owners.get(surface.client).marked_to,
+        }
+    }
+
+    /// Appends the marked surfaces that exist, by client and in the order of creation. Condition:
+    /// `out` has room for as many surfaces as exist.
+    pub fn marked(&self, out: &mut Room<SurfaceId>)
+        requires { existing_count self.now ≤ out.old.spare }
+        ensures list { out.new.list ≡ out.old.list ++ marked_to 16 self.now }
+        ensures room { out.old.spare ≡ out.new.spare + length (marked_to 16 self.now) }
+    {
+        for k in 0..16 {
+            let to = self.owners.get(k + 1).marked_to;
+            self.standing.put_to(k + 1, to, out);
         }
     }
 
@@ -164,7 +183,9 @@ impl Store {
             &mut self.table,
             &mut self.waits,
             &mut self.groups,
+            &mut self.standing,
             id,
+            c,
             last,
         ) else {
             return Err(frame);
@@ -181,6 +202,7 @@ impl Store {
             },
         );
         self.table.open(id, c, owner.created, last);
+        self.standing.open(c, owner.created, id, last);
         let sub = Sub {
             client: c,
             ordinal: owner.accepted + 1,
@@ -248,6 +270,7 @@ impl Store {
         let waiting = sub_of(&surface.waiting);
         self.waits.remove(waiting);
         self.groups.remove(id);
+        self.standing.remove(surface.client, id);
         Gone {
             lost: Lost {
                 client: surface.client,
@@ -266,7 +289,9 @@ fn grow(
     table: &mut Table,
     waits: &mut Waits,
     groups: &mut Groups,
+    standing: &mut Standing,
     id: SurfaceId,
+    c: u32,
     last: bool,
 ) -> Result<(), Memory>
     ensures table { table.new.surfaces.entries ≡ table.old.surfaces.entries }
@@ -278,12 +303,15 @@ fn grow(
         (chain_at groups.old q)) }
     ensures err { (q : Id) → OnErr result (chain_at groups.new q ≡ chain_at groups.old q) }
     ensures newest { (q : Id) → newest_at groups.new q ≡ newest_at groups.old q }
+    ensures lists { (q : ℕ) → list_at standing.new q ≡ list_at standing.old q }
+    ensures room { OnOk result (last ≡ false → IsTrue (has_room standing.new c)) }
 {
     table.reserve()?;
     waits.reserve()?;
     if last {
         return Ok(());
     }
+    standing.reserve(alloc, c)?;
     groups.add(alloc, id)?;
     Ok(())
 }

@@ -1,36 +1,40 @@
-use Rattle.vz_surfaces.proofs.Storing.{stored_more, found_waiting, activated_stands, has_group, mark_number, mark_there, past_reads}
+use Rattle.std.proofs.Common.{subst, sym}
+use Rattle.vz_surfaces.specs.Numbers.{KeepsLists}
+use Rattle.vz_surfaces.proofs.Storing.{stored_more, found_waiting, activated_stands, activated_lists, has_group, mark_number, mark_there, past_reads}
 use Rattle.vz_surfaces.proofs.store.Store.activate.Goals as goal
 
 pub unreachable-requires : goal.unreachable-requires
 unreachable-requires c =
     let inside = c.self.inside in
-    found_waiting inside.table inside.waits inside.owners inside.told c.args.self.now c.args.s c.self.invariant.kept c.self.view_is c.requires.waits c.in_default.ensures
+    found_waiting inside.table inside.waits inside.owners inside.told c.args.self.now c.args.s c.self.invariant.0.kept c.self.view_is c.requires.waits c.in_default.ensures
 
 pub note_active-requires : goal.note_active-requires
 note_active-requires c =
     let inside = c.self.inside in
-    has_group inside.groups inside.table inside.waits inside.owners inside.told c.args.self.now c.args.s c.in-Some.id c.requires.keeps c.self.invariant c.self.view_is c.requires.waits c.in-Some.ensures
+    has_group inside.groups inside.table inside.waits inside.owners inside.told c.args.self.now c.args.s c.in-Some.id c.requires.keeps c.self.invariant.0 c.self.view_is c.requires.waits c.in-Some.ensures
 
 pub mark_before-requires-clause-number : goal.mark_before-requires-clause-number
 mark_before-requires-clause-number c =
     let inside = c.self.inside in
-    mark_number inside.groups inside.table inside.waits inside.owners inside.told c.args.self.now c.args.s c.in-Some.id c.requires.keeps c.self.invariant c.self.view_is c.requires.waits c.in-Some.ensures
+    mark_number inside.groups inside.table inside.waits inside.owners inside.told c.args.self.now c.args.s c.in-Some.id c.requires.keeps c.self.invariant.0 c.self.view_is c.requires.waits c.in-Some.ensures
 
 pub mark_before-requires-clause-there : goal.mark_before-requires-clause-there
 mark_before-requires-clause-there c =
     let inside = c.self.inside in
-    mark_there inside.groups inside.table inside.waits inside.owners inside.told c.args.self.now c.args.s c.in-Some.id c.requires.keeps c.self.invariant c.self.view_is c.requires.waits c.in-Some.ensures
-
-pub invariant_of-self : goal.invariant_of-self
-invariant_of-self c =
-    let inside = c.self.inside in
-    activated_stands inside.groups c.note_active.new.self inside.table c.raise.new.self inside.waits c.remove.new.self inside.owners c.mark_before.new.owners inside.told c.show.new.self c.args.self.now c.args.s c.in-Some.id c.requires.keeps c.self.invariant c.self.view_is c.requires.waits
-    c.show.ensures c.in-Some.ensures c.remove.ensures.others c.raise.ensures.surfaces c.raise.ensures.len c.note_active.ensures.chain c.note_active.ensures.newest c.mark_before.ensures
+    mark_there inside.groups inside.table inside.waits inside.owners inside.told c.args.self.now c.args.s c.in-Some.id c.requires.keeps c.self.invariant.0 c.self.view_is c.requires.waits c.in-Some.ensures
 
 pub returns-clause-activated : goal.returns-clause-activated
 returns-clause-activated c = stored_more c.self.inside.told c.show.new.self _ c.args.self.now c.show.ensures c.self.view_is
 
+pub invariant_of-self : goal.invariant_of-self
+invariant_of-self c =
+    let inside = c.self.inside in (
+      activated_stands inside.groups c.note_active.new.self inside.table c.raise.new.self inside.waits c.remove.new.self inside.owners c.mark_before.new.owners inside.told c.show.new.self c.args.self.now c.args.s c.in-Some.id c.requires.keeps c.self.invariant.0 c.self.view_is c.requires.waits
+          c.show.ensures c.in-Some.ensures c.remove.ensures.others c.raise.ensures.surfaces c.raise.ensures.len c.note_active.ensures.chain c.note_active.ensures.newest c.mark_before.ensures,
+      subst (KeepsLists inside.standing) (sym (returns-clause-activated c)) (activated_lists inside.standing c.args.self.now c.args.s c.requires.keeps c.requires.waits (subst (KeepsLists inside.standing) c.self.view_is c.self.invariant.1)),
+    )
+
 pub returns-clause-past : goal.returns-clause-past
 returns-clause-past c =
     let inside = c.self.inside in
-    past_reads inside.table inside.waits inside.owners inside.told c.args.self.now c.args.s c.in-Some.id c.raise.result c.requires.keeps c.self.invariant.kept c.self.view_is c.requires.waits c.in-Some.ensures c.raise.ensures.past
+    past_reads inside.table inside.waits inside.owners inside.told c.args.self.now c.args.s c.in-Some.id c.raise.result c.requires.keeps c.self.invariant.0.kept c.self.view_is c.requires.waits c.in-Some.ensures c.raise.ensures.past

@@ -6,10 +6,10 @@ use Rattle.vz_surfaces.proofs.store.Store.active.Goals as goal
 pub returns-in-None : goal.returns-in-None
 returns-in-None c =
     let inside = c.self.inside in
-    active_none inside.table inside.waits inside.owners c.args.self.now c.args.id.now (subst (Keeps inside.table inside.waits inside.owners) c.self.view_is c.self.invariant.kept) c.in-None.ensures
+    active_none inside.table inside.waits inside.owners c.args.self.now c.args.id.now (subst (Keeps inside.table inside.waits inside.owners) c.self.view_is c.self.invariant.0.kept) c.in-None.ensures
 
 pub returns-in-Some : goal.returns-in-Some
 returns-in-Some c =
     let inside = c.self.inside in
     c.as_ref.ensures.value
-    ∙ active_some inside.table inside.waits inside.owners c.args.self.now c.args.id.now c.in-Some.surface.now (subst (Keeps inside.table inside.waits inside.owners) c.self.view_is c.self.invariant.kept) c.in-Some.ensures
+    ∙ active_some inside.table inside.waits inside.owners c.args.self.now c.args.id.now c.in-Some.surface.now (subst (Keeps inside.table inside.waits inside.owners) c.self.view_is c.self.invariant.0.kept) c.in-Some.ensures

@@ -7,6 +7,6 @@ use Rattle.vz_surfaces.proofs.store.StoreShows.shown.Goals as goal
 pub returns : goal.returns
 returns c =
     let inside = c.self.inside in
-    let kept = subst (Keeps inside.table inside.waits inside.owners) c.self.view_is c.self.invariant.kept in
-    let groups = subst (KeepsGroups inside.groups) c.self.view_is c.self.invariant.groups in
+    let kept = subst (Keeps inside.table inside.waits inside.owners) c.self.view_is c.self.invariant.0.kept in
+    let groups = subst (KeepsGroups inside.groups) c.self.view_is c.self.invariant.0.groups in
     c.shown_by.ensures ∙ shows inside.table inside.groups c.args.self.now kept.table groups c.args.r.now

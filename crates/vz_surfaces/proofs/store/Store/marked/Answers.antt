@@ -1,0 +1,39 @@
+use Rattle.std.proofs.Common.{◌≡◌, ◌≤◌, ◌+◌, ◌++◌, ℕ, length, sym, ap, ◌∙◌, subst, arith}
+use Rattle.vz_surfaces.specs.Stored.{Stored}
+use Rattle.vz_surfaces.specs.Told.{stored}
+use Rattle.vz_surfaces.specs.Reading.{existing_count, marked_to}
+use Rattle.vz_surfaces.specs.declared.owners.Owner.{Owner}
+use Rattle.vz_surfaces.proofs.Listing.{put_fits, put_more, put_left, put_none}
+use Rattle.vz_surfaces.proofs.store.Store.marked.Goals as goal
+
+pub put_to-requires-clause-rise : goal.put_to-requires-clause-rise
+put_to-requires-clause-rise c = c.self.invariant.1.rise (c.loop-k.k + 1)
+
+pub put_to-requires-clause-room : goal.put_to-requires-clause-room
+put_to-requires-clause-room c =
+    let inside = c.self.inside in
+    put_fits inside.standing inside.owners (stored inside.told) c.self.invariant.1 c.self.invariant.0.marks c.loop-k.k c.get-to.result.marked_to (ap (λ (o : Owner). o.marked_to) c.get-to.ensures)
+    c.args.out.now.spare c.loop-k.out.spare (subst (λ (st : Stored). existing_count st ≤ c.args.out.now.spare) (sym c.self.view_is) c.requires) c.loop-k.invariant.1
+
+pub loop-k-preserved : goal.loop-k-preserved
+loop-k-preserved c =
+    let inside = c.self.inside in
+    let at = ap (λ (o : Owner). o.marked_to) c.get-to.ensures in (
+      put_more inside.standing inside.owners (stored inside.told) c.self.invariant.1 c.self.invariant.0.marks c.loop-k.k c.get-to.result.marked_to at c.args.out.now.list c.loop-k.out.list c.put_to.new.out.list
+          c.loop-k.invariant.0 c.put_to.ensures.list,
+      put_left inside.standing inside.owners (stored inside.told) c.self.invariant.1 c.self.invariant.0.marks c.loop-k.k c.get-to.result.marked_to at c.args.out.now.spare c.loop-k.out.spare c.put_to.new.out.spare
+          c.loop-k.invariant.1 c.put_to.ensures.spare,
+    )
+
+pub returns-clause-list : goal.returns-clause-list
+returns-clause-list c =
+    let last : c.loop-k.k ≡ 16 = omega (arith, c.loop-k.auto.k-end, c.loop-k-test.false) in
+    c.loop-k.invariant.0 ∙ (ap (λ (n : ℕ). c.args.out.now.list ++ marked_to n (stored c.self.inside.told)) last ∙ ap (λ (st : Stored). c.args.out.now.list ++ marked_to 16 st) c.self.view_is)
+
+pub returns-clause-room : goal.returns-clause-room
+returns-clause-room c =
+    let last : c.loop-k.k ≡ 16 = omega (arith, c.loop-k.auto.k-end, c.loop-k-test.false) in
+    c.loop-k.invariant.1 ∙ (ap (λ (n : ℕ). c.loop-k.out.spare + length (marked_to n (stored c.self.inside.told))) last ∙ ap (λ (st : Stored). c.loop-k.out.spare + length (marked_to 16 st)) c.self.view_is)
+
+pub loop-k-init : goal.loop-k-init
+loop-k-init c = put_none c.args.out.now.list c.args.out.now.spare (stored c.self.inside.told)
