@@ -1,0 +1,9 @@
+mod Lists
+mod Standing
+mod Unchanged
+mod Removing
+mod Meeting
+mod Closing
+mod Ticking
+mod Arriving
+mod Without
