@@ -1,8 +1,8 @@
 -- Those that wait where a submission is accepted.
-use Rattle.std.proofs.Common.{◌≡◌, ℕ, zero, suc, ◌+◌, ◌≤◌, ◌<◌, Bool, true, false, not, ◌&&◌, ◌||◌, ◌==◌, Option, Some, None, List, [], ◌∷◌, ◌++◌, length, map, filter, refl, ap, sym, ◌∙◌, arith, cond, Contains, count_by, append-nil}
+use Rattle.std.proofs.Common.{◌≡◌, ℕ, suc, ◌+◌, ◌≤◌, ◌<◌, Bool, true, false, not, ◌&&◌, ◌||◌, ◌==◌, List, [], ◌∷◌, ◌++◌, length, map, filter, refl, ap, sym, ◌∙◌, arith, cond, Contains, count_by, append-nil}
 use Rattle.std.specs.Prelude.{nat_le, option_to_list}
 use Rattle.std.specs.List.{list_any, list_all}
-use Rattle.std.proofs.lemmas.Bool.{and_parts, and_from, eqb-true, eq-eqb}
+use Rattle.std.proofs.lemmas.Bool.{and_parts, eqb-true, eq-eqb}
 use Rattle.std.proofs.lemmas.Bool.Decides.{nat_tests}
 use Rattle.std.proofs.lemmas.List.{map-append}
 use Rattle.std.proofs.lemmas.List.Elements.{filter-append}
@@ -15,7 +15,7 @@ use Rattle.vz_frame.specs.declared.frame.CompositorFrame.{CompositorFrame}
 use Rattle.vz_rules.specs.declared.entry.State.TheVariants.{Dropped}
 use Rattle.vz_rules.specs.World.{World, Client, Submission, is_waiting, is_on, sub_of}
 use Rattle.vz_rules.specs.Settle.{is_met, ready}
-use Rattle.vz_rules.specs.Messages.{new_submission, accepted, id_of, replace_on, took, submitting, lend}
+use Rattle.vz_rules.specs.Messages.{new_submission, accepted, id_of, took, submitting, lend}
 use Rattle.vz_rules.specs.Kept.{KeepsAlways, is_by}
 use Rattle.vz_rules.proofs.Members.{any_none, any_map, contains_at, contains_map, filter_at, filter_none, when_same}
 use Rattle.vz_rules.proofs.Counts.{count_at}
@@ -24,7 +24,7 @@ use Rattle.vz_deps.specs.Blocking.{dependencies_of, blocked_of}
 use Rattle.vz_deadlines.specs.declared.due.Due.{Due}
 use Rattle.vz_deadlines.specs.Timing.{waits, due_of}
 use Rattle.vz_waiting.specs.declared.arrival.Arrival.{Arrival}
-use Rattle.vz_waiting.specs.Awaiting.{Waits, AreWaiting, Tells, is_among, waiting_on, lacked_by}
+use Rattle.vz_waiting.specs.Awaiting.{Waits, AreWaiting, Tells, is_among}
 use Rattle.vz_waiting.specs.Leaving.{blocked_without, due_without}
 use Rattle.vz_waiting.proofs.Standing.{Stand, comes, stays, stand_of, waiting_from, stand_alike, ready_comes}
 use Rattle.vz_waiting.proofs.Unchanged.{ClosesNone, met_by, met_is, met_alike, taken_closes}
@@ -107,21 +107,21 @@ module _ (w : World) (c : Client) (local : LocalSurfaceId) (frame : CompositorFr
   unfolding new_submission
   waits_new = refl
 
-  module _ (a : Arrival) (tick : ℕ) (lacked : List SurfaceId) (told : Tells w c local frame a) (now : tick ≡ w.tick) (are : lacked ≡ lacked_by w c local frame) where
+  module _ (a : Arrival) (tick : ℕ) (lacked : List SurfaceId) (told : Tells w c local frame a tick lacked) where
     lacks : lacked ≡ filter (λ d. not (is_met w d)) (dependencies_of new)
-    unfolding lacked_by
-    lacks = are
+    unfolding new_submission
+    lacks = told.lacked
 
     -- what is told says whether it becomes active at once
     new_comes : comes (is_met w) w.tick new ≡ at_once lacked a.due tick
     new_comes =
         ap (λ (t : Bool). t && (list_all (is_met w) (dependencies_of new) || nat_le new.due w.tick)) waits_new
-        ∙ (λ i. (all_counted (is_met w) (dependencies_of new) ∙ ap (λ (l : List SurfaceId). length l == 0) (sym lacks)) i || nat_le (sym told.due i) (sym now i))
+        ∙ (λ i. (all_counted (is_met w) (dependencies_of new) ∙ ap (λ (l : List SurfaceId). length l == 0) (sym lacks)) i || nat_le (sym told.due i) (sym told.tick i))
 
     new_stays : stays (is_met w) w.tick new ≡ not (at_once lacked a.due tick)
     new_stays =
         ap (λ (t : Bool). t && not (list_all (is_met w) (dependencies_of new) || nat_le new.due w.tick)) waits_new
-        ∙ (λ i. not ((all_counted (is_met w) (dependencies_of new) ∙ ap (λ (l : List SurfaceId). length l == 0) (sym lacks)) i || nat_le (sym told.due i) (sym now i)))
+        ∙ (λ i. not ((all_counted (is_met w) (dependencies_of new) ∙ ap (λ (l : List SurfaceId). length l == 0) (sym lacks)) i || nat_le (sym told.due i) (sym told.tick i)))
 
     appended : {B : Type 0} (g : Submission → B) (t : Bool) (xs : List Submission) (y : B) → g new ≡ y → stays (is_met w) w.tick new ≡ not t
         → map g (filter (stays (is_met w) w.tick) xs) ++ cond t [] (y ∷ []) ≡ map g (filter (stays (is_met w) w.tick) (xs ++ new ∷ []))
@@ -147,16 +147,16 @@ module _ (w : World) (c : Client) (local : LocalSurfaceId) (frame : CompositorFr
         let v = (accepted w c local frame).world in
         let those = map (dropping drops) w.subs in
         let whole : Stand (is_met w) w.tick (those ++ new ∷ []) later.blocked later.due =
-              record {
-                blocked =
-                    e
-                    ∙ ((λ i. (ap (λ o. blocked_without (option_to_list o) old.blocked) told.replaced ∙ stand.blocked) i ++ cond t [] (record { sub = a.sub; unmet = lacked } ∷ []))
-                    ∙ appended (blocked_of (is_met w)) t those (record { sub = a.sub; unmet = lacked }) (λ i. record { sub = sym told.sub i; unmet = sym lacks i }) new_stays);
-                due =
-                    f
-                    ∙ ((λ i. (ap (λ o. due_without (option_to_list o) old.due) told.replaced ∙ stand.due) i ++ cond t [] (record { sub = a.sub; tick = a.due } ∷ []))
-                    ∙ appended due_of t those (record { sub = a.sub; tick = a.due }) (λ i. record { sub = sym told.sub i; tick = sym told.due i }) new_stays);
-              } in
+        record {
+          blocked =
+              e
+              ∙ ((λ i. (ap (λ o. blocked_without (option_to_list o) old.blocked) told.replaced ∙ stand.blocked) i ++ cond t [] (record { sub = a.sub; unmet = lacked } ∷ []))
+              ∙ appended (blocked_of (is_met w)) t those (record { sub = a.sub; unmet = lacked }) (λ i. record { sub = sym told.sub i; unmet = sym lacks i }) new_stays);
+          due =
+              f
+              ∙ ((λ i. (ap (λ o. due_without (option_to_list o) old.due) told.replaced ∙ stand.due) i ++ cond t [] (record { sub = a.sub; tick = a.due } ∷ []))
+              ∙ appended due_of t those (record { sub = a.sub; tick = a.due }) (λ i. record { sub = sym told.sub i; tick = sym told.due i }) new_stays);
+        } in
         waiting_from v later (stand_alike (is_met w) (is_met v) w.tick v.tick (those ++ new ∷ []) v.subs later.blocked later.due met_then tick_then subs_then whole)
 
     dropped_comes : (t : Bool) (s : Submission) → comes (is_met w) w.tick s ≡ false → comes (is_met w) w.tick (cond t (record s { state = Dropped }) s) ≡ false

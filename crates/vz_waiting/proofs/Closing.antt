@@ -1,5 +1,5 @@
 -- Those that wait where a client is closed, and over a round.
-use Rattle.std.proofs.Common.{◌≡◌, ℕ, Bool, true, false, not, ◌&&◌, ◌||◌, ◌==◌, List, [], ◌∷◌, ◌++◌, map, filter, refl, ap, sym, ◌∙◌, cond, subst, Contains}
+use Rattle.std.proofs.Common.{◌≡◌, Bool, true, false, not, ◌&&◌, ◌||◌, ◌==◌, List, [], map, filter, refl, ap, sym, ◌∙◌, cond, subst, Contains}
 use Rattle.std.specs.Prelude.{nat_le}
 use Rattle.std.specs.List.{list_any, list_all}
 use Rattle.std.proofs.lemmas.Bool.{and_parts, and_from, eqb-true, eq-eqb}
@@ -18,7 +18,7 @@ use Rattle.vz_rules.proofs.Members.{any_at, any_from, any_map, none_filtered, sa
 use Rattle.vz_rules.proofs.Kept_submits.{one_of_number}
 use Rattle.vz_rules.proofs.Reached.{from_same_sink, self_same_sink}
 use Rattle.vz_deps.specs.Tracking.{freed, still, meets, meets_any, is_of_sink}
-use Rattle.vz_deps.specs.Blocking.{dependencies_of, blocked_of, blocked_by}
+use Rattle.vz_deps.specs.Blocking.{dependencies_of, blocked_of}
 use Rattle.vz_deps.proofs.Rounds.{close_meets, round_meets}
 use Rattle.vz_deadlines.specs.Timing.{due_of}
 use Rattle.vz_waiting.specs.Awaiting.{Waits, AreWaiting}
@@ -131,9 +131,9 @@ module _ (w : World) (more : SurfaceId → Bool) where
         | true ↦ λ e. came (is_waiting s) (list_all (is_met w) (dependencies_of s)) (list_all then (dependencies_of s)) (nat_le s.due w.tick) (all_then (is_met w) more w.tick w.subs (dependencies_of s)) e
         | false ↦ λ e. elim (is_active s && list_any (is_on s.submitted.id) (filter (comes (is_met w) w.tick) w.subs))
             as (λ (u : Bool). (is_active s && list_any (is_on s.submitted.id) (filter (comes (is_met w) w.tick) w.subs)) ≡ u → stays then w.tick (cond u (record s { state = Past }) s) ≡ stays then w.tick s) [
-          | true ↦ λ f. sym (ap (λ (a : Bool). a && not (list_all then (dependencies_of s) || nat_le s.due w.tick)) (past_waits_not s _ f))
-          | false ↦ λ f. refl
-        ] refl
+              | true ↦ λ f. sym (ap (λ (a : Bool). a && not (list_all then (dependencies_of s) || nat_le s.due w.tick)) (past_waits_not s _ f))
+              | false ↦ λ f. refl
+            ] refl
       ] refl
 
   risen_comes : (s : Submission) → comes then w.tick (risen s) ≡ rises (is_met w) more w.tick w.subs s
@@ -143,9 +143,9 @@ module _ (w : World) (more : SurfaceId → Bool) where
         | true ↦ refl
         | false ↦ elim (is_active s && list_any (is_on s.submitted.id) (filter (comes (is_met w) w.tick) w.subs))
             as (λ (u : Bool). (is_active s && list_any (is_on s.submitted.id) (filter (comes (is_met w) w.tick) w.subs)) ≡ u → comes then w.tick (cond u (record s { state = Past }) s) ≡ comes then w.tick s) [
-          | true ↦ λ f. sym (ap (λ (a : Bool). a && (list_all then (dependencies_of s) || nat_le s.due w.tick)) (past_waits_not s _ f))
-          | false ↦ λ f. refl
-        ] refl
+              | true ↦ λ f. sym (ap (λ (a : Bool). a && (list_all then (dependencies_of s) || nat_le s.due w.tick)) (past_waits_not s _ f))
+              | false ↦ λ f. refl
+            ] refl
       ]
 
   same_risen : {B : Type 0} (g : Submission → B) → ((s : Submission) (t : State) (b : Bool) → g (record s { state = t; was_active = b }) ≡ g s) → (s : Submission) → g (risen s) ≡ g s

@@ -1,16 +1,12 @@
 -- Lists that are filtered and mapped.
-use Rattle.std.proofs.Common.{◌≡◌, ℕ, ◌+◌, Bool, true, false, not, ◌&&◌, ◌||◌, ◌==◌, Option, Some, None, List, [], ◌∷◌, ◌++◌, length, map, filter, find, refl, ap, sym, ◌∙◌, arith, cond, subst, Contains, count_by, is_some}
-use Rattle.std.specs.Prelude.{option_to_list}
-use Rattle.std.specs.Option.{option_map}
-use Rattle.std.specs.List.{list_any, list_all}
+use Rattle.std.proofs.Common.{◌≡◌, ◌+◌, Bool, true, false, not, ◌&&◌, ◌==◌, List, [], ◌∷◌, length, map, filter, refl, ap, ◌∙◌, arith, cond, Contains}
+use Rattle.std.specs.List.{list_all}
 use Rattle.std.proofs.lemmas.Bool.{eq-eqb}
-use Rattle.vz_ids.specs.declared.SurfaceId.{SurfaceId}
 use Rattle.vz_ids.specs.declared.Sub.{Sub}
 use Rattle.vz_ids.specs.Ids.{same_sub}
-use Rattle.vz_rules.specs.World.{World, Submission, is_waiting, is_on, sub_of, has_sub}
+use Rattle.vz_rules.specs.World.{World, Submission, sub_of, has_sub}
 use Rattle.vz_rules.specs.Kept.{KeepsAlways}
-use Rattle.vz_rules.proofs.Members.{contains_here, contains_there, contains_map, map_contains, contains_at, at_same, filter_at, filter_has, any_at, any_from, find_at, found, none_at, same_tests}
-use Rattle.vz_rules.proofs.Counts.{one_place}
+use Rattle.vz_rules.proofs.Members.{contains_here, contains_there, contains_map, map_contains, contains_at, at_same, filter_at, filter_has, any_at, any_from, same_tests}
 use Rattle.vz_rules.proofs.Kept_facts.{subs_apart}
 
 -- tests that say the same of each
@@ -105,4 +101,3 @@ named_is q subs s names c =
     let at = filter_at q subs t.0 t.1 in
     ap q (names s t.0 c at.0 (ap (same_sub (sub_of s)) t.2 ∙ m.2)) ∙ at.1)
     (λ e. any_from (same_sub (sub_of s)) (map sub_of (filter q subs)) (sub_of s) (map_contains sub_of (filter q subs) s (filter_has q subs s c e)) (own_sub (sub_of s)))
-

@@ -1,5 +1,5 @@
 -- Those that wait where more dependencies are met.
-use Rattle.std.proofs.Common.{◌≡◌, ℕ, Bool, true, false, not, ◌&&◌, ◌||◌, List, [], ◌∷◌, map, filter, refl, ap, sym, ◌∙◌, cond, Contains}
+use Rattle.std.proofs.Common.{◌≡◌, ℕ, Bool, true, false, not, ◌&&◌, ◌||◌, List, [], ◌∷◌, map, filter, refl, ap, ◌∙◌}
 use Rattle.std.specs.Prelude.{nat_le}
 use Rattle.std.specs.List.{list_all}
 use Rattle.vz_ids.specs.declared.SurfaceId.{SurfaceId}
@@ -9,7 +9,7 @@ use Rattle.vz_deps.specs.Blocking.{dependencies_of, lacks_in, blocked_of, blocke
 use Rattle.vz_deps.proofs.Rounds.{frees_more, still_more}
 use Rattle.vz_deadlines.specs.Timing.{due_of}
 use Rattle.vz_waiting.specs.Leaving.{due_without}
-use Rattle.vz_waiting.proofs.Lists.{Apart, named_is, filter_alike, filter_twice}
+use Rattle.vz_waiting.proofs.Lists.{Apart, named_is, filter_twice}
 use Rattle.vz_waiting.proofs.Standing.{comes, stays}
 use Rattle.vz_waiting.proofs.Removing.{due_less}
 

@@ -1,8 +1,7 @@
 -- Those that wait without some of them, and where a submission on a surface is dropped.
-use Rattle.std.proofs.Common.{◌≡◌, ℕ, Bool, true, false, not, ◌&&◌, ◌||◌, ◌==◌, Option, Some, None, List, [], ◌∷◌, map, filter, find, refl, ap, sym, ◌∙◌, cond, Contains, is_some}
+use Rattle.std.proofs.Common.{◌≡◌, ℕ, Bool, true, false, not, ◌&&◌, ◌||◌, Option, Some, None, List, map, filter, find, refl, ap, sym, ◌∙◌, cond, Contains, is_some}
 use Rattle.std.specs.Prelude.{option_to_list}
 use Rattle.std.specs.Option.{option_map}
-use Rattle.std.specs.List.{list_any}
 use Rattle.std.proofs.lemmas.Bool.{and_parts, and_from}
 use Rattle.vz_ids.specs.declared.SurfaceId.{SurfaceId}
 use Rattle.vz_ids.specs.declared.Sub.{Sub}
@@ -10,7 +9,6 @@ use Rattle.vz_ids.specs.Ids.{same_sub}
 use Rattle.vz_rules.specs.declared.entry.State.TheVariants.{Dropped}
 use Rattle.vz_rules.specs.World.{World, Submission, Created, is_waiting, is_active, is_on, sub_of, has_sub}
 use Rattle.vz_rules.specs.Settle.{is_met}
-use Rattle.vz_rules.specs.Reach.{drop_on}
 use Rattle.vz_rules.specs.Singly.{going}
 use Rattle.vz_rules.specs.Kept.{KeepsAlways}
 use Rattle.vz_rules.proofs.Members.{contains_at, at_same, find_at, found, none_at, same_tests, when_same}
@@ -21,7 +19,7 @@ use Rattle.vz_deadlines.specs.declared.due.Due.{Due}
 use Rattle.vz_deadlines.specs.Timing.{due_of}
 use Rattle.vz_waiting.specs.Awaiting.{Waits, AreWaiting, waiting_on}
 use Rattle.vz_waiting.specs.Leaving.{blocked_without, due_without}
-use Rattle.vz_waiting.proofs.Lists.{Apart, apart, own_sub, filter_alike, filter_twice, filter_mapped, filter_changed}
+use Rattle.vz_waiting.proofs.Lists.{apart, own_sub, filter_alike, filter_twice, filter_mapped, filter_changed}
 use Rattle.vz_waiting.proofs.Standing.{Stand, stays, stand_of, waiting_from, stand_alike}
 use Rattle.vz_waiting.proofs.Unchanged.{LeavesActive, met_by, met_is, met_alike, map_same}
 
@@ -59,7 +57,7 @@ gone_is w id s h c waits =
           let m = contains_at w.subs r at.0 in
           let parts = and_parts (is_waiting r) (is_on id r) at.1 in
           let place = one_place (λ (t : Submission). is_on id t && is_waiting t) w.subs n.0 m.0 s r (h.states.one_waits id) n.1 m.1
-                (and_from (is_on id s) (is_waiting s) on waits) (and_from (is_on id r) (is_waiting r) parts.1 parts.0) in
+          (and_from (is_on id s) (is_waiting s) on waits) (and_from (is_on id r) (is_waiting r) parts.1 parts.0) in
           ap (λ (t : Submission). same_sub (sub_of s) (sub_of t)) (sym (at_same w.subs n.0 m.0 s r n.1 m.1 place)) ∙ own_sub (sub_of s))
     ] refl
   where
@@ -134,7 +132,7 @@ waits_gone w c old new sub h r told e f =
     let v = going c w in
     let stand = stand_dropped w c.id t h (λ s waits. ends_there (is_waiting s) (is_active s) (is_on c.id s) waits) (is_met w) w.tick old.blocked old.due (stand_of w old r) in
     let stand' : Stand (is_met w) w.tick (map (dropping t) w.subs) new.blocked new.due =
-          record { blocked = e ∙ (ap (λ o. blocked_without (option_to_list o) old.blocked) told ∙ stand.blocked); due = f ∙ (ap (λ o. due_without (option_to_list o) old.due) told ∙ stand.due) } in
+    record { blocked = e ∙ (ap (λ o. blocked_without (option_to_list o) old.blocked) told ∙ stand.blocked); due = f ∙ (ap (λ o. due_without (option_to_list o) old.due) told ∙ stand.due) } in
     let met : is_met v ≡ is_met w =
-          met_is v ∙ (ap (met_by (map (dropping t) w.subs)) (sym (map_same w.clients)) ∙ (met_alike (dropping t) (λ x. x) w.subs w.clients (drops_leave t) (record { closed = λ x. refl; sink = λ x. refl }) ∙ sym (met_is w))) in
+    met_is v ∙ (ap (met_by (map (dropping t) w.subs)) (sym (map_same w.clients)) ∙ (met_alike (dropping t) (λ x. x) w.subs w.clients (drops_leave t) (record { closed = λ x. refl; sink = λ x. refl }) ∙ sym (met_is w))) in
     waiting_from v new (stand_alike (is_met w) (is_met v) w.tick v.tick (map (dropping t) w.subs) v.subs new.blocked new.due met refl refl stand')

@@ -1,10 +1,10 @@
 -- Which submissions wait on, by what is met and by the tick.
-use Rattle.std.proofs.Common.{◌≡◌, ℕ, Bool, true, false, not, ◌&&◌, ◌||◌, List, [], ◌∷◌, length, map, filter, refl, ap, sym, ◌∙◌, Contains}
+use Rattle.std.proofs.Common.{◌≡◌, ℕ, Bool, true, false, not, ◌&&◌, ◌||◌, List, length, map, filter, refl, ap, sym, ◌∙◌}
 use Rattle.std.specs.Prelude.{nat_le}
 use Rattle.std.specs.List.{list_all}
 use Rattle.std.proofs.lemmas.List.{length-map}
 use Rattle.vz_ids.specs.declared.SurfaceId.{SurfaceId}
-use Rattle.vz_rules.specs.World.{World, Submission, is_waiting, sub_of}
+use Rattle.vz_rules.specs.World.{World, Submission, is_waiting}
 use Rattle.vz_rules.specs.Settle.{is_met, has_come, is_ready, ready}
 use Rattle.vz_deps.specs.Tracking.{Blocked}
 use Rattle.vz_deps.specs.Blocking.{dependencies_of, lacks_in, blocked_of, blocked_by}

@@ -1,5 +1,5 @@
 -- Those that wait at a new tick, and how many they are.
-use Rattle.std.proofs.Common.{◌≡◌, ℕ, suc, ◌+◌, ◌≤◌, Bool, true, false, not, ◌&&◌, ◌||◌, List, [], ◌∷◌, ◌++◌, length, map, filter, refl, ap, sym, ◌∙◌, arith, cond, Contains}
+use Rattle.std.proofs.Common.{◌≡◌, ℕ, suc, ◌+◌, Bool, true, false, not, ◌&&◌, ◌||◌, List, [], ◌∷◌, length, map, filter, refl, ap, sym, ◌∙◌, arith, cond}
 use Rattle.std.specs.Prelude.{nat_le, nat_lt}
 use Rattle.std.specs.List.{list_any, list_all}
 use Rattle.std.proofs.lemmas.Bool.Decides.{nat_tests}
@@ -12,16 +12,16 @@ use Rattle.vz_rules.specs.Settle.{is_met, ready}
 use Rattle.vz_rules.specs.Step.{next_tick, deliver, begin_answer, is_attached}
 use Rattle.vz_rules.specs.Course.{some_waits}
 use Rattle.vz_rules.specs.Kept.{KeepsAlways}
-use Rattle.vz_rules.proofs.Members.{when_same, any_map}
+use Rattle.vz_rules.proofs.Members.{when_same}
 use Rattle.vz_deps.specs.Tracking.{Blocked, freed, still, lacking}
-use Rattle.vz_deps.specs.Blocking.{dependencies_of, blocked_of}
+use Rattle.vz_deps.specs.Blocking.{dependencies_of}
 use Rattle.vz_deadlines.specs.declared.due.Due.{Due}
 use Rattle.vz_deadlines.specs.Timing.{due_at, left_at, due_of}
 use Rattle.vz_waiting.specs.Awaiting.{Waits, AreWaiting}
 use Rattle.vz_waiting.specs.Leaving.{blocked_without}
 use Rattle.vz_waiting.proofs.Lists.{apart, named_is, filter_alike, filter_twice, filter_mapped, both_lengths}
 use Rattle.vz_waiting.proofs.Standing.{Stand, comes, stays, stand_of, waiting_from, stand_alike, ready_comes}
-use Rattle.vz_waiting.proofs.Unchanged.{ClosesNone, met_by, met_is, met_of_clients}
+use Rattle.vz_waiting.proofs.Unchanged.{ClosesNone, met_is, met_of_clients}
 use Rattle.vz_waiting.proofs.Removing.{blocked_less}
 use Rattle.vz_waiting.proofs.Closing.{none_comes}
 

@@ -1,5 +1,5 @@
 -- Changes of the machine's state that leave what is met, and who waits.
-use Rattle.std.proofs.Common.{◌≡◌, ℕ, Bool, true, false, ◌&&◌, ◌||◌, ◌==◌, not, Option, Some, None, List, [], ◌∷◌, map, filter, refl, ap, sym, ◌∙◌, cond, is_some}
+use Rattle.std.proofs.Common.{◌≡◌, ℕ, Bool, true, false, ◌&&◌, ◌||◌, ◌==◌, Option, Some, None, List, [], ◌∷◌, map, refl, ap, sym, ◌∙◌, cond, is_some}
 use Rattle.std.specs.List.{list_any}
 use Rattle.vz_geom.specs.Rectangle.{is_empty_rect}
 use Rattle.vz_ids.specs.declared.FrameSinkId.{FrameSinkId}
@@ -17,7 +17,7 @@ use Rattle.vz_rules.specs.Reach.{naming}
 use Rattle.vz_rules.specs.Returns.{give_back, feed, mark_fed, queue_returns}
 use Rattle.vz_rules.specs.Walk.{walk_of, too_much}
 use Rattle.vz_rules.specs.Damage.{drawn_damage}
-use Rattle.vz_rules.specs.Messages.{Answer, took, taking, unless_refused, in_use, put_resource, upload_answer, hierarchy_answer, hierarchy_refusal, root_answer, await_answer}
+use Rattle.vz_rules.specs.Messages.{Answer, took, taking, refused, answer_tick, reclaim, unless_refused, in_use, put_resource, upload_answer, hierarchy_answer, hierarchy_refusal, root_answer, await_answer}
 use Rattle.vz_rules.specs.Step.{draw_answer, done_answer, scene_answer, accepted_frames}
 use Rattle.vz_rules.proofs.Members.{any_map, when_same}
 use Rattle.vz_deps.specs.Blocking.{blocked_of}
@@ -95,6 +95,18 @@ refused_or : (w : World) (c : Client) (o : Option Refusal) (x : Answer) (a : Wai
 refused_or w c None x a r e = e
 refused_or w c (Some t) x a r e = plainly w c a r
 
+pub stay_refused : (w : World) (c : Client) (t : Refusal) (a : Waits) → AreWaiting w a → AreWaiting (refused w c t).world a
+stay_refused w c t a r = plainly w c a r
+
+pub stay_noted : (w : World) (c : Client) (n : ℕ) (a : Waits) → AreWaiting w a → AreWaiting (taking (answer_tick w.tick n) c w) a
+stay_noted w c n a r =
+    stay_taken w (answer_tick w.tick n) c a
+    (λ x. when_same (λ (y : Client). y.closed) (λ (y : Client). record y { answered = w.tick }) (n == w.tick) x refl)
+    (λ x. when_same (λ (y : Client). y.sink) (λ (y : Client). record y { answered = w.tick }) (n == w.tick) x refl) r
+
+pub stay_reclaimed : (w : World) (c : Client) (a : Waits) → AreWaiting w a → AreWaiting (taking reclaim c w) a
+stay_reclaimed w c a r = stay_taken w reclaim c a (λ x. refl) (λ x. refl) r
+
 pub stay_uploaded : (w : World) (c : Client) (id : ℕ) (block : Block) (a : Waits) → AreWaiting w a → AreWaiting (upload_answer w c id block).world a
 unfolding upload_answer
 stay_uploaded w c id block a r =
@@ -132,13 +144,13 @@ pub of_subs : (w v : World) (f : Submission → Submission) (a : Waits) → v.su
     → ((s : Submission) → due_of (f s) ≡ due_of s) → AreWaiting w a → AreWaiting v a
 of_subs w v f a e t g h waits lacks due r =
     let met : is_met v ≡ is_met w =
-          met_is v ∙ ((λ i. met_by (e i) ((g ∙ sym (map_same w.clients)) i)) ∙ (met_alike f (λ x. x) w.subs w.clients h (record { closed = λ x. refl; sink = λ x. refl }) ∙ sym (met_is w))) in
+    met_is v ∙ ((λ i. met_by (e i) ((g ∙ sym (map_same w.clients)) i)) ∙ (met_alike f (λ x. x) w.subs w.clients h (record { closed = λ x. refl; sink = λ x. refl }) ∙ sym (met_is w))) in
     let stand = stand_of w a r in
     let same : Stand (is_met w) w.tick (map f w.subs) a.blocked a.due =
-          record {
-            blocked = stand.blocked ∙ sym (filter_changed f (blocked_of (is_met w)) (stays (is_met w) w.tick) (stays (is_met w) w.tick) w.subs (λ s c. waits (is_met w) s) (λ s c. lacks (is_met w) s));
-            due = stand.due ∙ sym (filter_changed f due_of (stays (is_met w) w.tick) (stays (is_met w) w.tick) w.subs (λ s c. waits (is_met w) s) (λ s c. due s));
-          } in
+    record {
+      blocked = stand.blocked ∙ sym (filter_changed f (blocked_of (is_met w)) (stays (is_met w) w.tick) (stays (is_met w) w.tick) w.subs (λ s c. waits (is_met w) s) (λ s c. lacks (is_met w) s));
+      due = stand.due ∙ sym (filter_changed f due_of (stays (is_met w) w.tick) (stays (is_met w) w.tick) w.subs (λ s c. waits (is_met w) s) (λ s c. due s));
+    } in
     waiting_from v a (stand_alike (is_met w) (is_met v) w.tick v.tick (map f w.subs) v.subs a.blocked a.due met t e same)
 
 pub stay_fed : (presented : List Sub) (w : World) (a : Waits) → AreWaiting w a → AreWaiting (feed presented w) a

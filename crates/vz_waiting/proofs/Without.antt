@@ -1,5 +1,5 @@
 -- Lists without some submissions, as these are gone through.
-use Rattle.std.proofs.Common.{◌≡◌, ℕ, ◌+◌, ◌-◌, ◌≤◌, ◌<◌, Bool, true, false, not, ◌&&◌, ◌||◌, Option, Some, None, List, [], ◌∷◌, ◌++◌, length, take, drop, get_or, filter, refl, ap, sym, ◌∙◌, cond, subst, Result, Ok, OnOk}
+use Rattle.std.proofs.Common.{◌≡◌, ℕ, ◌+◌, ◌-◌, ◌≤◌, ◌<◌, Bool, true, false, not, ◌&&◌, ◌||◌, Option, Some, List, [], ◌∷◌, ◌++◌, length, take, drop, get_or, filter, refl, ap, sym, ◌∙◌, cond, subst, arith, Result, Ok, OnOk}
 use Rattle.std.specs.Prelude.{option_to_list}
 use Rattle.std.specs.List.{list_any}
 use Rattle.std.proofs.lemmas.List.{take_all, take_rest}
@@ -11,7 +11,7 @@ use Rattle.vz_deps.specs.Tracking.{Blocked, is_blocked, without}
 use Rattle.vz_deadlines.specs.declared.due.Due.{Due}
 use Rattle.vz_deadlines.specs.Timing.{waits, without as without_due}
 use Rattle.vz_waiting.specs.Leaving.{blocked_without, due_without}
-use Rattle.vz_waiting.proofs.Lists.{filter_all, filter_twice}
+use Rattle.vz_waiting.proofs.Lists.{filter_all, filter_twice, both_lengths}
 
 both_not : (a b c : Bool) → c ≡ (a || b) → (not a && not b) ≡ not c
 both_not true b c e = ap not (sym e)
@@ -87,6 +87,24 @@ not_blocked gone s old new e h = ap (λ l. list_any (λ (b : Blocked). same_sub 
 pub not_due : (gone : List Sub) (s : Sub) (old new : List Due) → new ≡ due_without gone old → waits old s ≡ false → waits new s ≡ false
 unfolding waits due_without
 not_due gone s old new e h = ap (λ l. list_any (λ (d : Due). same_sub d.sub s) l) e ∙ none_filtered (λ (d : Due). not (has_sub gone d.sub)) (λ (d : Due). same_sub d.sub s) old h
+
+-- they are no more than before
+pub blocked_fewer : (gone : List Sub) (old new : List Blocked) → new ≡ blocked_without gone old → length new ≤ length old
+unfolding blocked_without
+blocked_fewer gone old new e =
+    let parts = both_lengths (λ (b : Blocked). has_sub gone b.sub) old in
+    let long = ap length e in
+    omega (arith, parts, long)
+
+pub blocked_one_more : (gone : List Sub) (b : Blocked) (old new more : List Blocked) → new ≡ blocked_without gone old → more ≡ new ++ b ∷ [] → length more ≤ length old + 1
+blocked_one_more gone b old new more e f =
+    let few = blocked_fewer gone old new e in
+    let long = ap length f ∙ pushed new in
+    omega (arith, few, long)
+  where
+    pushed : (xs : List Blocked) → length (xs ++ b ∷ []) ≡ length xs + 1
+    pushed [] = refl
+    pushed (x ∷ xs) = let rest = pushed xs in omega (arith, rest)
 
 -- what was appended
 pub appended : (old new before slice more : List Sub) → before ≡ old → slice ≡ new → new ≡ old ++ more → take (length slice - length before) (drop (length before) slice) ≡ more

@@ -2,7 +2,7 @@
 use vz_ids::Sub;
 
 /// What is told of a submission that is accepted.
-#[derive(Clone, Copy)]
+#[derive(Clone, Copy, Debug, PartialEq, Eq)]
 pub struct Arrival {
     /// Its client and ordinal.
     pub sub: Sub,

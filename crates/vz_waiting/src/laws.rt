@@ -5,11 +5,12 @@ ghost use Rattle.vz_ids.specs.declared.LocalSurfaceId.{LocalSurfaceId};
 ghost use Rattle.vz_ids.specs.declared.Sub.{Sub};
 ghost use Rattle.vz_pixels.specs.Block.{Block};
 ghost use Rattle.vz_frame.specs.declared.frame.CompositorFrame.{CompositorFrame};
+ghost use Rattle.vz_rules.specs.declared.entry.Refusal.{Refusal};
 ghost use Rattle.vz_rules.specs.Plan.{Plan};
 ghost use Rattle.vz_rules.specs.World.{World, Client, sub_of};
 ghost use Rattle.vz_rules.specs.Reach.{naming};
 ghost use Rattle.vz_rules.specs.Returns.{give_back, feed};
-ghost use Rattle.vz_rules.specs.Messages.{new_submission, taking, upload_answer, hierarchy_answer, root_answer, await_answer};
+ghost use Rattle.vz_rules.specs.Messages.{new_submission, taking, refused, answer_tick, reclaim, upload_answer, hierarchy_answer, root_answer, await_answer};
 ghost use Rattle.vz_rules.specs.Step.{draw_answer, done_answer};
 ghost use Rattle.vz_rules.specs.Kept.{KeepsAlways};
 ghost use Rattle.vz_waiting.specs.Awaiting.{Waits, AreWaiting, is_among};
@@ -21,8 +22,14 @@ pub fn waiting_ones_stay()
     ensures taken { (w : World) (f : Client → Client) (c : Client) (a : Waits)
         → ((x : Client) → (f x).closed ≡ x.closed) → ((x : Client) → (f x).sink ≡ x.sink)
         → AreWaiting w a → AreWaiting (taking f c w) a }
+    ensures refused { (w : World) (c : Client) (r : Refusal) (a : Waits)
+        → AreWaiting w a → AreWaiting (refused w c r).world a }
     ensures upload { (w : World) (c : Client) (id : ℕ) (block : Block) (a : Waits)
         → AreWaiting w a → AreWaiting (upload_answer w c id block).world a }
+    ensures noted { (w : World) (c : Client) (n : ℕ) (a : Waits)
+        → AreWaiting w a → AreWaiting (taking (answer_tick w.tick n) c w) a }
+    ensures reclaimed { (w : World) (c : Client) (a : Waits)
+        → AreWaiting w a → AreWaiting (taking reclaim c w) a }
     ensures hierarchy { (w : World) (c : Client) (parent child : FrameSinkId) (a : Waits)
         → AreWaiting w a → AreWaiting (hierarchy_answer w c parent child).world a }
     ensures root { (w : World) (c : Client) (local : LocalSurfaceId) (a : Waits)
@@ -36,7 +43,8 @@ pub fn waiting_ones_stay()
     ensures draw { (p : Plan) (w : World) (a : Waits)
         → AreWaiting w a → AreWaiting (draw_answer p w).world a }
     ensures done { (w : World) (a : Waits) → AreWaiting w a → AreWaiting (done_answer w).world a }
-    ensures over { (w : World) (a : Waits) → AreWaiting w a → AreWaiting (record w { over = true }) a }
+    ensures over { (w : World) (a : Waits)
+        → AreWaiting w a → AreWaiting (record w { over = true }) a }
 {}
 
 /// Each of those that wait lacks something, so that room for as many as wait is enough for every

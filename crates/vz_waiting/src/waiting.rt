@@ -12,7 +12,7 @@ ghost use Rattle.vz_rules.specs.Singly.{going};
 ghost use Rattle.vz_rules.specs.Step.{next_tick, begin_answer};
 ghost use Rattle.vz_rules.specs.Course.{some_waits};
 ghost use Rattle.vz_rules.specs.Kept.{KeepsAlways};
-ghost use Rattle.vz_waiting.specs.Awaiting.{AreWaiting, Tells, is_among, waiting_on, lacked_by};
+ghost use Rattle.vz_waiting.specs.Awaiting.{AreWaiting, Tells, is_among, waiting_on};
 
 use crate::arrival::Arrival;
 use crate::leaving::{clear_all, drop_one, forget_all};
@@ -94,13 +94,12 @@ impl Waiting {
         requires new { IsFalse (is_among self.old a.sub) }
         requires room { length lacked.now < self.old.spare }
         ensures waits { (w : World) (c : Client) (local : LocalSurfaceId) (frame : CompositorFrame)
-            → KeepsAlways w → AreWaiting w self.old → Tells w c local frame a
-            → tick ≡ w.tick → lacked.now ≡ lacked_by w c local frame
+            → KeepsAlways w → AreWaiting w self.old → Tells w c local frame a tick lacked.now
             → AreWaiting (accepted w c local frame).world self.new }
         ensures active { (w : World) (c : Client) (local : LocalSurfaceId) (frame : CompositorFrame)
-            → KeepsAlways w → ready w ≡ [] → Tells w c local frame a
-            → tick ≡ w.tick → lacked.now ≡ lacked_by w c local frame
+            → KeepsAlways w → ready w ≡ [] → Tells w c local frame a tick lacked.now
             → map sub_of (ready (accepted w c local frame).world) ≡ cond result (a.sub ∷ []) [] }
+        ensures few { length self.new.blocked + cond result 1 0 ≤ length self.old.blocked + 1 }
     {
         drop_one(&mut self.tracker, &mut self.deadlines, a.replaced);
         if lacked.is_empty() || a.due <= tick {

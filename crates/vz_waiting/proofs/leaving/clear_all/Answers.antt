@@ -1,5 +1,5 @@
 use Rattle.std.proofs.Common.{arith}
-use Rattle.vz_waiting.proofs.Without.{due_none, due_next, due_end}
+use Rattle.vz_waiting.proofs.Without.{due_none, due_next}
 use Rattle.vz_waiting.proofs.leaving.clear_all.Goals as goal
 
 pub loop-s-init : goal.loop-s-init

@@ -1,5 +1,5 @@
 use Rattle.std.proofs.Common.{arith}
-use Rattle.vz_waiting.proofs.Without.{blocked_none, blocked_next, blocked_end}
+use Rattle.vz_waiting.proofs.Without.{blocked_none, blocked_next}
 use Rattle.vz_waiting.proofs.leaving.forget_all.Goals as goal
 
 pub loop-s-init : goal.loop-s-init

@@ -1,4 +1,3 @@
-use Rattle.std.proofs.Common.{refl}
 use Rattle.vz_rules.specs.World.{opening}
 use Rattle.vz_deps.specs.Blocking.{blocked_by}
 use Rattle.vz_waiting.proofs.waiting.Waiting.new.Goals as goal
