@@ -96,7 +96,7 @@ ready_closed w c sink old h at none r is =
 
 -- A round
 
-active_waits_not : (s : Submission) → is_active s ≡ true → is_waiting s ≡ false
+pub active_waits_not : (s : Submission) → is_active s ≡ true → is_waiting s ≡ false
 active_waits_not s e = by_state s.state e
   where
     by_state : (x : State) → ◌≡◌ {A = Bool} (elim x [ Active ↦ true | _ ↦ false ]) true → ◌≡◌ {A = Bool} (elim x [ Waiting ↦ true | _ ↦ false ]) false

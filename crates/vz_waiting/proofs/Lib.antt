@@ -7,3 +7,4 @@ mod Closing
 mod Ticking
 mod Arriving
 mod Without
+mod One_by_one

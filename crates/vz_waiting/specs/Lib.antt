@@ -1,2 +1,3 @@
 pub mod Awaiting
 pub mod Leaving
+pub mod Single

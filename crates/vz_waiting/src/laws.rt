@@ -1,19 +1,24 @@
 //! Laws of the submissions that wait, each the contract of a function that does nothing.
-ghost use Rattle.std.specs.Prelude.{◌≡◌, ℕ, true, length, List, IsFalse};
+ghost use Rattle.std.specs.Prelude.{◌≡◌, ℕ, true, length, List, IsTrue, IsFalse};
+ghost use Rattle.std.specs.List.{Contains};
 ghost use Rattle.vz_ids.specs.declared.FrameSinkId.{FrameSinkId};
 ghost use Rattle.vz_ids.specs.declared.LocalSurfaceId.{LocalSurfaceId};
+ghost use Rattle.vz_ids.specs.declared.SurfaceId.{SurfaceId};
 ghost use Rattle.vz_ids.specs.declared.Sub.{Sub};
+ghost use Rattle.vz_ids.specs.Ids.{same_sub};
 ghost use Rattle.vz_pixels.specs.Block.{Block};
 ghost use Rattle.vz_frame.specs.declared.frame.CompositorFrame.{CompositorFrame};
 ghost use Rattle.vz_rules.specs.declared.entry.Refusal.{Refusal};
 ghost use Rattle.vz_rules.specs.Plan.{Plan};
-ghost use Rattle.vz_rules.specs.World.{World, Client, sub_of};
-ghost use Rattle.vz_rules.specs.Reach.{naming};
+ghost use Rattle.vz_rules.specs.World.{World, Client, Created, Submission, is_waiting, sub_of};
+ghost use Rattle.vz_rules.specs.Reach.{naming, lost_in};
 ghost use Rattle.vz_rules.specs.Returns.{give_back, feed};
 ghost use Rattle.vz_rules.specs.Messages.{new_submission, taking, refused, answer_tick, reclaim, upload_answer, hierarchy_answer, root_answer, await_answer};
+ghost use Rattle.vz_rules.specs.Singly.{rising, going};
 ghost use Rattle.vz_rules.specs.Step.{draw_answer, done_answer};
 ghost use Rattle.vz_rules.specs.Kept.{KeepsAlways};
 ghost use Rattle.vz_waiting.specs.Awaiting.{Waits, AreWaiting, is_among};
+ghost use Rattle.vz_waiting.specs.Single.{IsMarked};
 
 /// No other change of the machine's state changes which submissions wait: a message that closes
 /// no client, as it changes neither a client's sink nor whether it is closed, names, returns,
@@ -58,4 +63,20 @@ pub fn arrivals_are_new()
     ensures { (w : World) (c : Client) (local : LocalSurfaceId) (frame : CompositorFrame)
         (a : Waits) → KeepsAlways w → AreWaiting w a
         → IsFalse (is_among a (sub_of (new_submission w c local frame))) }
+{}
+
+/// Between the parts of a round and of a collection, which go one by one, what always holds is kept,
+/// so that calls may follow one another: as a submission that waits becomes active, where the others
+/// wait on, and as a marked surface is destroyed, where the others stay marked.
+pub fn single_changes_keep()
+    ensures rising { (w : World) (s : Submission) → KeepsAlways w → Contains w.subs s
+        → IsTrue (is_waiting s) → KeepsAlways (rising s w) }
+    ensures waits { (w : World) (s t : Submission) → Contains w.subs t → IsTrue (is_waiting t)
+        → IsFalse (same_sub (sub_of t) (sub_of s)) → Contains (rising s w).subs t }
+    ensures going { (w : World) (c : Created) → KeepsAlways w → IsMarked w c.id
+        → KeepsAlways (going c w) }
+    ensures marked { (w : World) (id : SurfaceId) (c : Created) → IsMarked w id
+        → IsMarked (going c w) id }
+    ensures lost { (w : World) (c : Created) → KeepsAlways w → Contains (lost_in w) c
+        → IsMarked w c.id }
 {}
