@@ -65,9 +65,9 @@ pub fn arrivals_are_new()
         → IsFalse (is_among a (sub_of (new_submission w c local frame))) }
 {}
 
-/// Between the parts of a round and of a collection, which go one by one, what always holds is kept,
-/// so that calls may follow one another: as a submission that waits becomes active, where the others
-/// wait on, and as a marked surface is destroyed, where the others stay marked.
+/// Between the parts of a round and of a collection, which go one by one, what always holds is
+/// kept, so that calls may follow one another: as a submission that waits becomes active, where
+/// the others wait on, and as a marked surface is destroyed, where the others stay marked.
 pub fn single_changes_keep()
     ensures rising { (w : World) (s : Submission) → KeepsAlways w → Contains w.subs s
         → IsTrue (is_waiting s) → KeepsAlways (rising s w) }
