@@ -1,1 +1,4 @@
 mod Listed
+mod Sending
+mod Messaging
+mod Standing

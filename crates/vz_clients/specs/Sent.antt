@@ -1,5 +1,5 @@
 -- What is kept of clients: what they have still to send, and what they stored.
-use Rattle.std.specs.Prelude.{ℕ, ◌+◌, ◌-◌, Bool, true, false, ◌&&◌, ◌==◌, nat_eq, Option, List, [], ◌∷◌, drop, get_or}
+use Rattle.std.specs.Prelude.{ℕ, ◌+◌, ◌-◌, Bool, true, false, ◌&&◌, ◌==◌, nat_eq, Option, List, [], ◌∷◌, drop, get_or, if◌then◌else◌}
 use Rattle.std.specs.Option.{option_map_or}
 use Rattle.std.specs.List.{filter_map}
 use Rattle.std.specs.Map.{lookup}
@@ -53,6 +53,10 @@ closing s = record s { closed = true }
 -- the client has answered a tick
 abbrev pub answering : ℕ → Sender → Sender
 answering tick s = record s { answered = tick }
+
+-- the client has answered a tick where the number is that of it
+abbrev pub answered_by : ℕ → ℕ → Sender → Sender
+answered_by tick n s = if n == tick then answering tick s else s
 
 -- the block that an id names
 abbrev pub block_in : List (ℕ × Block) → ℕ → Option Block

@@ -6,6 +6,7 @@
 mod blocks;
 mod client;
 mod clients;
+pub mod laws;
 mod messages;
 
 pub use clients::Clients;
