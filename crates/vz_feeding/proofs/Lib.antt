@@ -1,0 +1,5 @@
+mod Owes
+mod Noted
+mod Sorting
+mod Standing
+mod Events
