@@ -3,6 +3,7 @@ use Rattle.std.proofs.Common.{◌≡◌, ℕ, ◌+◌, ◌≤◌, Bool, true, fa
 use Rattle.std.specs.Option.{option_map}
 use Rattle.std.specs.List.{list_any}
 use Rattle.std.proofs.lemmas.Bool.Decides.{nat_tests}
+use Rattle.std.proofs.lemmas.Bool.{and_right}
 use Rattle.vz_ids.specs.declared.SurfaceId.{SurfaceId}
 use Rattle.vz_ids.specs.declared.LocalSurfaceId.{LocalSurfaceId}
 use Rattle.vz_ids.specs.declared.Sub.{Sub}
@@ -12,18 +13,20 @@ use Rattle.vz_rules.specs.declared.entry.Fed.{Fed}
 use Rattle.vz_rules.specs.declared.entry.State.{State}
 use Rattle.vz_rules.specs.declared.entry.State.TheVariants.{Waiting, Active, Past, Dropped}
 use Rattle.vz_rules.specs.Plan.{Plan}
-use Rattle.vz_rules.specs.World.{World, Client, Created, Submission, opening, is_waiting, is_active, is_on, is_in_flight, sub_of}
+use Rattle.vz_rules.specs.World.{World, Client, Created, Submission, opening, is_waiting, is_active, is_ended, is_on, is_in_flight, sub_of}
 use Rattle.vz_rules.specs.Returns.{feedback_of}
 use Rattle.vz_rules.specs.Messages.{accepted, new_submission, id_of, replace_on}
 use Rattle.vz_rules.specs.Reach.{drop_on}
 use Rattle.vz_rules.specs.Singly.{as_one_rises, rising, going}
-use Rattle.vz_rules.specs.Kept.{KeepsAlways}
-use Rattle.vz_rules.proofs.Members.{at_contains, contains_at, find_at, found, any_from, at_same, same_tests}
-use Rattle.vz_rules.proofs.Counts.{one_place}
+use Rattle.vz_rules.specs.Kept.{KeepsAlways, is_by}
+use Rattle.vz_rules.proofs.Members.{at_contains, contains_at, contains_none, at_map, find_at, found, any_from, at_same, same_tests}
+use Rattle.vz_rules.proofs.Counts.{one_place, count_at}
+use Rattle.vz_rules.proofs.Facts.{false_at}
 use Rattle.vz_rules.proofs.Kept_facts.{subs_apart}
 use Rattle.vz_returns.proofs.Kept.{from_same_sub}
 use Rattle.vz_feeding.specs.declared.ended.Ended.{Ended}
-use Rattle.vz_feeding.specs.Owing.{Owed, Owes, AreOwed, place_of, ended_of, waiting_on, active_on}
+use Rattle.vz_feeding.specs.declared.due.Due.{Due}
+use Rattle.vz_feeding.specs.Owing.{Owed, Owes, AreOwed, place_of, awaits, ended_of, waiting_on, active_on}
 use Rattle.vz_feeding.specs.Noting.{IsNoted, IsAdded, dropped_by, is_name, fed_as, noted}
 use Rattle.vz_feeding.proofs.Owes.{either, some_same, none_some, yes_no, same_self, owes_mapped, owes_same, owes_added}
 use Rattle.vz_feeding.proofs.Noted.{owes_noted}
@@ -80,3 +83,211 @@ module _ (w : World) (keeps : KeepsAlways w) where
           not_true : (b : Bool) → not b ≡ true → b ≡ false
           not_true true h = absurd (cc)
           not_true false h = refl
+
+  alone_on : (id : SurfaceId) (state : Submission → Bool) → count_by (λ s. is_on id s && state s) w.subs ≤ 1 → IsAlone (λ s. state s && is_on id s)
+  alone_on id state few s t c d e f =
+      let a = contains_at w.subs s c in
+      let b = contains_at w.subs t d in
+      let p = both_true (state s) (is_on id s) e in
+      let q = both_true (state t) (is_on id t) f in
+      at_same w.subs a.0 b.0 s t a.1 b.1 (one_place (λ s. is_on id s && state s) w.subs a.0 b.0 s t few a.1 b.1 (λ i. p.1 i && p.0 i) (λ i. q.1 i && q.0 i))
+
+  pub told_waiting : (id : SurfaceId) (u : Submission) → Contains w.subs u
+      → is_name (dropped_by (waiting_on w id)) (sub_of u) ≡ ((is_waiting u && is_on id u) && not (is_in_flight w.in_flight (sub_of u)))
+  told_waiting id = is_told (λ s. is_waiting s && is_on id s) (alone_on id (λ s. is_waiting s) (keeps.states.one_waits id))
+
+  pub told_active : (id : SurfaceId) (u : Submission) → Contains w.subs u
+      → is_name (dropped_by (active_on w id)) (sub_of u) ≡ ((is_active u && is_on id u) && not (is_in_flight w.in_flight (sub_of u)))
+  told_active id = is_told (λ s. is_active s && is_on id s) (alone_on id (λ s. is_active s) (keeps.states.one_is_active id))
+
+  -- no submission has the name of the next one of a client
+  pub new_name : (c : ℕ) (n : ℕ) (u : Submission) → slice_get w.subs n ≡ Some u → same_sub (record { client = c; ordinal = count_by (is_by c) w.subs + 1 }) (sub_of u) ≡ false
+  new_name c n u at =
+      false_at (same_sub (record { client = c; ordinal = count_by (is_by c) w.subs + 1 }) (sub_of u)) (λ e.
+      let parts = both_true (c == u.submitted.sub.client) ((count_by (is_by c) w.subs + 1) == u.submitted.sub.ordinal) e in
+      let client : c ≡ u.submitted.sub.client = grind (arith, nat_tests, parts.0) in
+      let ordinal : count_by (is_by c) w.subs + 1 ≡ u.submitted.sub.ordinal = grind (arith, nat_tests, parts.1) in
+      let same = ap (λ k. count_by (is_by k) w.subs) client in
+      let own = keeps.numbers.ordered n u at in
+      let within = count_at (is_by u.submitted.sub.client) w.subs n u at (grind (arith, nat_tests)) in
+      omega (arith, ordinal, same, own, within))
+
+-- What one gets
+
+-- the feedback that follows from whether a submission has some, ended and is in flight
+abbrev given : Bool → Bool → Bool → Fed → Option Fed
+given fed ended flies x = cond fed None (cond (ended && not flies) (Some x) None)
+
+cond_same : {A : Type 0} (t : Bool) (x : A) → cond t x x ≡ x
+cond_same true x = refl
+cond_same false x = refl
+
+-- one that ends
+ended_flat : (fed stands flies t m : Bool) (x : Fed) → (t ≡ true → stands ≡ true) → m ≡ (t && not flies)
+    → cond t (given fed true flies x) (given fed (not stands) flies x) ≡ cond ((not fed && is_none (given fed (not stands) flies x)) && m) (Some x) (given fed (not stands) flies x)
+ended_flat true stands flies t m x h e = cond_same t None
+ended_flat false stands flies false m x h e = let k : m ≡ false = e in ap (λ b. cond b (Some x) (given false (not stands) flies x)) (sym (and_right (true && is_none (given false (not stands) flies x)) m k))
+ended_flat false false flies true m x h e = let no_way = h refl in absurd (cc)
+ended_flat false true true true m x h e = ap (λ b. cond b (Some x) None) (sym e)
+ended_flat false true false true m x h e = ap (λ b. cond b (Some x) None) (sym e)
+
+at_cond : {A B : Type 0} (g : A → B) (t : Bool) (x y : A) → g (cond t x y) ≡ cond t (g x) (g y)
+at_cond g true x y = refl
+at_cond g false x y = refl
+
+ends_one : (w : World) (u : Submission) (state : State) (t m : Bool) → is_ended (record u { state = state }) ≡ true → (t ≡ true → (is_waiting u || is_active u) ≡ true)
+    → m ≡ (t && not (is_in_flight w.in_flight (sub_of u)))
+    → feedback_of w [] (cond t (record u { state = state }) u) ≡ cond (awaits (feedback_of w []) u && m) (Some (fed_as false (sub_of u))) (feedback_of w [] u)
+ends_one w u state t m ends stands e =
+    let flies = is_in_flight w.in_flight (sub_of u) in
+    let x = fed_as false (sub_of u) in
+    at_cond (feedback_of w []) t (record u { state = state }) u ∙ ap (λ b. cond t (given u.fed b flies x) (feedback_of w [] u)) ends ∙ ended_flat u.fed (is_waiting u || is_active u) flies t m x stands e
+
+-- one that becomes active
+open_none : (fed a b flies : Bool) (x : Fed) → a ≡ true → given fed (not (a || b)) flies x ≡ None
+open_none fed true b flies x e = cond_same fed None
+open_none fed false b flies x e = absurd (cc)
+
+noted_none : (fed m : Bool) (g : Option Fed) (x : Fed) → g ≡ None → m ≡ false → None ≡ cond ((not fed && is_none g) && m) (Some x) g
+noted_none fed m g x e f = sym (ap (λ b. cond b (Some x) g) (and_right (not fed && is_none g) m f) ∙ e)
+
+-- two that end
+ended_twice : (fed wa ac on flies m n : Bool) (x : Fed) → m ≡ ((wa && on) && not flies) → n ≡ ((ac && on) && not flies)
+    → cond ((wa || ac) && (on || false)) (given fed true flies x) (given fed (not (wa || ac)) flies x)
+    ≡ cond ((not fed && is_none (cond ((not fed && is_none (given fed (not (wa || ac)) flies x)) && m) (Some x) (given fed (not (wa || ac)) flies x))) && n) (Some x) (cond ((not fed && is_none (given fed (not (wa || ac)) flies x)) && m) (Some x) (given fed (not (wa || ac)) flies x))
+ended_twice fed wa ac on flies m n x e f =
+    all fed wa ac on flies
+    ∙ (λ i. cond ((not fed && is_none (cond ((not fed && is_none (given fed (not (wa || ac)) flies x)) && sym e i) (Some x) (given fed (not (wa || ac)) flies x))) && sym f i) (Some x) (cond ((not fed && is_none (given fed (not (wa || ac)) flies x)) && sym e i) (Some x) (given fed (not (wa || ac)) flies x)))
+  where
+    all : (fed wa ac on flies : Bool)
+        → cond ((wa || ac) && (on || false)) (given fed true flies x) (given fed (not (wa || ac)) flies x)
+        ≡ cond ((not fed && is_none (cond ((not fed && is_none (given fed (not (wa || ac)) flies x)) && ((wa && on) && not flies)) (Some x) (given fed (not (wa || ac)) flies x))) && ((ac && on) && not flies)) (Some x) (cond ((not fed && is_none (given fed (not (wa || ac)) flies x)) && ((wa && on) && not flies)) (Some x) (given fed (not (wa || ac)) flies x))
+    all true wa ac on flies = cond_same ((wa || ac) && (on || false)) None
+    all false true true true true = refl
+    all false true true true false = refl
+    all false true true false true = refl
+    all false true true false false = refl
+    all false true false true true = refl
+    all false true false true false = refl
+    all false true false false true = refl
+    all false true false false false = refl
+    all false false true true true = refl
+    all false false true true false = refl
+    all false false true false true = refl
+    all false false true false false = refl
+    all false false false true true = refl
+    all false false false true false = refl
+    all false false false false true = refl
+    all false false false false false = refl
+
+-- Events
+
+kept_sub : (t : Bool) (state : State) (u : Submission) → sub_of (cond t (record u { state = state }) u) ≡ sub_of u
+kept_sub true state u = refl
+kept_sub false state u = refl
+
+kept_fed : (t : Bool) (state : State) (u : Submission) → (cond t (record u { state = state }) u).fed ≡ u.fed
+kept_fed true state u = refl
+kept_fed false state u = refl
+
+and_first : (a b : Bool) → (a && b) ≡ true → (c : Bool) → (a || c) ≡ true
+and_first true b h c = refl
+and_first false b h c = absurd (cc)
+
+and_second : (a b : Bool) → (a && b) ≡ true → (c : Bool) → (c || a) ≡ true
+and_second true b h true = refl
+and_second true b h false = refl
+and_second false b h c = absurd (cc)
+
+pub owed_accepted : (w : World) (c : Client) (local : LocalSurfaceId) (frame : CompositorFrame) (old mid new : Owed) (sub : Sub) (replaced : Option Ended) → KeepsAlways w → AreOwed w old
+    → sub ≡ sub_of (new_submission w c local frame) → replaced ≡ waiting_on w (id_of c local) → IsNoted (dropped_by replaced) false old mid → IsAdded sub mid new
+    → AreOwed (accepted w c local frame).world new
+unfolding accepted new_submission
+owed_accepted w c local frame old mid new sub replaced keeps o name told noted' added =
+    let id = id_of c local in
+    let s = new_submission w c local frame in
+    let is = subst (λ r. IsNoted (dropped_by r) false old mid) told noted' in
+    let one = owes_noted false (feedback_of w []) w.subs old o (dropped_by (waiting_on w id)) mid is in
+    let changed = owes_mapped (replace_on id) (noted (is_name (dropped_by (waiting_on w id))) false (feedback_of w [])) (feedback_of w []) w.subs mid
+    (λ u. kept_sub (is_waiting u && is_on id u) Dropped u) (λ u. kept_fed (is_waiting u && is_on id u) Dropped u)
+    (λ u m. ends_one w u Dropped (is_waiting u && is_on id u) _ refl (λ h. and_first (is_waiting u) (is_on id u) h (is_active u)) (told_waiting w keeps id u m)) one in
+    let other : (n : ℕ) (u : Submission) → slice_get (map (replace_on id) w.subs) n ≡ Some u → same_sub (sub_of s) (sub_of u) ≡ false = λ n u at.
+    let m = at_map (replace_on id) w.subs n u at in
+    ap (λ (x : Submission). same_sub (sub_of s) (sub_of x)) (sym m.2) ∙ ap (same_sub (sub_of s)) (kept_sub (is_waiting m.0 && is_on id m.0) Dropped m.0) ∙ new_name w keeps c.number n m.0 m.1 in
+    owes_added (feedback_of w []) (map (replace_on id) w.subs) s mid new refl refl other (subst (λ x. IsAdded x mid new) name added) changed
+
+pub owed_activated : (w : World) (s : Submission) (old new : Owed) (past : Option Ended) → KeepsAlways w → AreOwed w old → Contains w.subs s → is_waiting s ≡ true
+    → past ≡ active_on w s.submitted.id → IsNoted (dropped_by past) false old new → AreOwed (rising s w) new
+unfolding rising
+owed_activated w s old new past keeps o in' waits told noted' =
+    let id = s.submitted.id in
+    let is = subst (λ r. IsNoted (dropped_by r) false old new) told noted' in
+    owes_mapped (as_one_rises s) (noted (is_name (dropped_by (active_on w id))) false (feedback_of w [])) (feedback_of w []) w.subs new names feds same
+    (owes_noted false (feedback_of w []) w.subs old o (dropped_by (active_on w id)) new is)
+  where
+    past_by : Submission → Submission
+    past_by u = cond (is_active u && is_on s.submitted.id u) (record u { state = Past }) u
+
+    names_by : (t : Bool) (u v : Submission) → sub_of v ≡ sub_of u → sub_of (cond t (record u { state = Active; was_active = true }) v) ≡ sub_of u
+    names_by true u v h = refl
+    names_by false u v h = h
+
+    names : (u : Submission) → sub_of (as_one_rises s u) ≡ sub_of u
+    names u = names_by (same_sub (sub_of u) (sub_of s)) u (past_by u) (kept_sub (is_active u && is_on s.submitted.id u) Past u)
+
+    feds_by : (t : Bool) (u v : Submission) → v.fed ≡ u.fed → (cond t (record u { state = Active; was_active = true }) v).fed ≡ u.fed
+    feds_by true u v h = refl
+    feds_by false u v h = h
+
+    feds : (u : Submission) → (as_one_rises s u).fed ≡ u.fed
+    feds u = feds_by (same_sub (sub_of u) (sub_of s)) u (past_by u) (kept_fed (is_active u && is_on s.submitted.id u) Past u)
+
+    idle : (u : Submission) → is_waiting u ≡ true → (is_active u && is_on s.submitted.id u) ≡ false
+    idle u h = ap (λ b. b && is_on s.submitted.id u) (not_active u.state h)
+      where
+        not_active : (state : State) → elim state as (λ _. Bool) [ Waiting ↦ true | _ ↦ false ] ≡ true → elim state as (λ _. Bool) [ Active ↦ true | _ ↦ false ] ≡ false
+        not_active Waiting h = refl
+        not_active Active h = absurd (cc)
+        not_active Past h = refl
+        not_active Dropped h = refl
+
+    same_by : (u : Submission) (t : Bool) → Contains w.subs u → same_sub (sub_of u) (sub_of s) ≡ t
+        → feedback_of w [] (cond t (record u { state = Active; was_active = true }) (past_by u)) ≡ noted (is_name (dropped_by (active_on w s.submitted.id))) false (feedback_of w []) u
+    same_by u true c e =
+        let this : u ≡ s = one_name w keeps u s c in' e in
+        let waiting : is_waiting u ≡ true = ap (λ (x : Submission). is_waiting x) this ∙ waits in
+        let flies = is_in_flight w.in_flight (sub_of u) in
+        let untold = told_active w keeps s.submitted.id u c ∙ ap (λ b. b && not flies) (idle u waiting) in
+        cond_same u.fed None
+        ∙ noted_none u.fed (is_name (dropped_by (active_on w s.submitted.id)) (sub_of u)) (feedback_of w [] u) (fed_as false (sub_of u)) (open_none u.fed (is_waiting u) (is_active u) flies (fed_as false (sub_of u)) waiting) untold
+    same_by u false c e =
+        ends_one w u Past (is_active u && is_on s.submitted.id u) _ refl (λ h. and_second (is_active u) (is_on s.submitted.id u) h (is_waiting u)) (told_active w keeps s.submitted.id u c)
+
+    same : (u : Submission) → Contains w.subs u → feedback_of w [] (as_one_rises s u) ≡ noted (is_name (dropped_by (active_on w s.submitted.id))) false (feedback_of w []) u
+    same u c = same_by u (same_sub (sub_of u) (sub_of s)) c refl
+
+pub owed_destroyed : (w : World) (c : Created) (old mid new : Owed) (waiting active : Option Ended) → KeepsAlways w → AreOwed w old → waiting ≡ waiting_on w c.id → active ≡ active_on w c.id
+    → IsNoted (dropped_by waiting) false old mid → IsNoted (dropped_by active) false mid new → AreOwed (going c w) new
+unfolding going
+owed_destroyed w c old mid new waiting active keeps o first second noted_one noted_two =
+    let one = subst (λ r. IsNoted (dropped_by r) false old mid) first noted_one in
+    let two = subst (λ r. IsNoted (dropped_by r) false mid new) second noted_two in
+    let gets = noted (is_name (dropped_by (waiting_on w c.id))) false (feedback_of w []) in
+    owes_mapped (drop_on (c ∷ [])) (noted (is_name (dropped_by (active_on w c.id))) false gets) (feedback_of w []) w.subs new
+    (λ u. kept_sub ((is_waiting u || is_active u) && (is_on c.id u || false)) Dropped u) (λ u. kept_fed ((is_waiting u || is_active u) && (is_on c.id u || false)) Dropped u)
+    (λ u m.
+    let x = fed_as false (sub_of u) in
+    at_cond (feedback_of w []) ((is_waiting u || is_active u) && (is_on c.id u || false)) (record u { state = Dropped }) u
+    ∙ ended_twice u.fed (is_waiting u) (is_active u) (is_on c.id u) (is_in_flight w.in_flight (sub_of u)) _ _ x (told_waiting w keeps c.id u m) (told_active w keeps c.id u m))
+    (owes_noted false gets w.subs mid (owes_noted false (feedback_of w []) w.subs old o (dropped_by (waiting_on w c.id)) mid one) (dropped_by (active_on w c.id)) new two)
+
+pub first_owed : (p : Plan) (f : Owed) → ((t : Sub) → place_of f t ≡ None) → f.due ≡ [] → f.accepted ≡ 0 → AreOwed (opening p) f
+unfolding opening
+first_owed p f places due accepted =
+    record {
+      accepted = accepted;
+      places = λ n s at waits. absurd (contains_none s (at_contains [] n s at));
+      only = λ t n found. let no_way : true ≡ false = none_some n (place_of f t) (places t) found in absurd (cc);
+      due = λ d c. absurd (contains_none d (subst (λ l. Contains l d) due c));
+      once = λ n. ap (λ l. count_by (λ (d : Due). d.place == n) l) due;
+    }

@@ -3,3 +3,5 @@ mod Noted
 mod Sorting
 mod Standing
 mod Events
+mod Given
+mod Staying

@@ -23,7 +23,7 @@ insert_length (x ∷ list) (suc n) s = let rest = insert_length list n s in omeg
 unlike : (a b : Sub) → before a b ≡ true → same_sub b a ≡ false
 unlike a b h = grind (arith, nat_tests)
 
-none_behind : (x : Sub) (list : List Sub) → list_all (before x) list ≡ true → is_open list x ≡ false
+pub none_behind : (x : Sub) (list : List Sub) → list_all (before x) list ≡ true → is_open list x ≡ false
 none_behind x [] h = refl
 none_behind x (y ∷ list) h = let parts = both (before x y) (list_all (before x) list) h in (λ i. unlike x y parts.0 i || none_behind x list parts.1 i)
 

@@ -50,6 +50,10 @@ pub record IsAdded (sub : Sub) (old new : Owed) : Type 0 where
 abbrev pub noted : (Sub → Bool) → Bool → (Submission → Option Fed) → Submission → Option Fed
 noted named presented gets s = if awaits gets s && named (sub_of s) then Some (fed_as presented (sub_of s)) else gets s
 
+-- nothing is due any more
+abbrev pub without_due : Owed → Owed
+without_due f = record f { due = [] }
+
 -- how many await feedback or have it due
 abbrev pub owed_count : Owed → ℕ
 owed_count f = length f.unfed + length f.due

@@ -1,5 +1,5 @@
 //! Feedback that is given at the end of the step.
-ghost use Rattle.std.specs.Prelude.{◌≡◌, ◌≤◌, ◌+◌, ◌++◌, length, map};
+ghost use Rattle.std.specs.Prelude.{◌≡◌, ◌≤◌, ◌+◌, ◌++◌, length, map, vec_len, vec_capacity};
 ghost use Rattle.std.specs.List.Sorted.{IsNonDecreasingBy, IsPermutation};
 
 use vz_frame::Room;
@@ -13,10 +13,11 @@ pub(crate) struct Due {
 }
 
 /// Puts feedback into the order of acceptance.
-pub(crate) fn sort(list: &mut [Due])
-    ensures same { IsPermutation list.old list.new }
-    ensures len { length list.new ≡ length list.old }
-    ensures order { IsNonDecreasingBy (λ d. d.place) list.new }
+pub(crate) fn sort(list: &mut Vec<Due>)
+    ensures same { IsPermutation list.old.items list.new.items }
+    ensures len { vec_len list.new ≡ vec_len list.old }
+    ensures order { IsNonDecreasingBy (λ d. d.place) list.new.items }
+    ensures room { vec_capacity list.new ≡ vec_capacity list.old }
 {
     list.sort_unstable_by_key(|due| due.place);
 }

@@ -1,5 +1,5 @@
 //! The submissions that await feedback, and the feedback that is due.
-ghost use Rattle.std.specs.Prelude.{◌≡◌, ◌≤◌, ◌<◌, ◌+◌, [], ◌++◌, length, true, Option, None, Some, OnOk};
+ghost use Rattle.std.specs.Prelude.{◌≡◌, ◌≤◌, ◌<◌, ◌+◌, [], ◌++◌, length, true, Option, List, None, Some, OnOk};
 ghost use Rattle.vz_ids.specs.declared.LocalSurfaceId.{LocalSurfaceId};
 ghost use Rattle.vz_frame.specs.declared.frame.CompositorFrame.{CompositorFrame};
 ghost use Rattle.vz_rules.specs.Plan.{Plan};
@@ -11,9 +11,9 @@ ghost use Rattle.vz_rules.specs.Ends.{landed, presenting};
 ghost use Rattle.vz_rules.specs.Log.{rest_in};
 ghost use Rattle.vz_rules.specs.Kept.{Keeps, KeepsAlways};
 ghost use Rattle.vz_rules.specs.declared.entry.Fed.{Fed as Feedback};
-ghost use Rattle.std.specs.List.{Contains};
+ghost use Rattle.std.specs.List.{Contains, filter_map};
 ghost use Rattle.vz_feeding.specs.Owing.{Owes, AreOwed, place_of, waiting_on, active_on};
-ghost use Rattle.vz_feeding.specs.Noting.{IsNoted, IsAdded, noted, owed_count};
+ghost use Rattle.vz_feeding.specs.Noting.{IsNoted, IsAdded, noted, owed_count, without_due};
 
 use crate::due::{Due, put_all, sort};
 use crate::ended::{Ended, dropped_by};
@@ -142,14 +142,12 @@ impl Feeding {
         ensures owed { (w : World) → AreOwed w self.old.owed
             → AreOwed (feed [] w) self.new.owed }
         ensures none { self.new.owed.due ≡ [] }
-        ensures unfed { self.new.owed.unfed ≡ self.old.owed.unfed }
+        ensures unfed { length self.new.owed.unfed ≡ length self.old.owed.unfed }
         ensures spare { self.old.spare ≤ self.new.spare }
         ensures room { out.old.spare + length out.old.list
             ≡ out.new.spare + length out.new.list }
     {
-        sort(&mut self.due);
-        put_all(&self.due, out);
-        self.due.clear();
+        self.give(out);
     }
 
     /// The drawn frame is done: the submissions in it are presented, where they await feedback.
@@ -168,7 +166,7 @@ impl Feeding {
             ≡ out.new.spare + length out.new.list }
     {
         self.note_all(drawn);
-        self.feed(out);
+        self.give(out);
     }
 
     /// How many submissions await feedback.
@@ -221,6 +219,23 @@ impl Feeding {
         for sub in drawn {
             self.note(Some(*sub), true);
         }
+    }
+
+    /// Appends what is due, in the order of acceptance, and nothing is due any more. Condition:
+    /// `out` has room for it.
+    fn give(&mut self, out: &mut Room<Fed>)
+        requires { length self.old.owed.due ≤ out.old.spare }
+        ensures fed { (gets : Submission → Option Feedback) (subs : List Submission)
+            → Owes gets subs self.old.owed
+            → out.new.list ≡ out.old.list ++ filter_map gets subs }
+        ensures rest { self.new.owed ≡ without_due self.old.owed }
+        ensures spare { self.old.spare ≤ self.new.spare }
+        ensures room { out.old.spare + length out.old.list
+            ≡ out.new.spare + length out.new.list }
+    {
+        sort(&mut self.due);
+        put_all(&self.due, out);
+        self.due.clear();
     }
 
     /// One more submission awaits feedback. Conditions: there is room for one, it does not await
