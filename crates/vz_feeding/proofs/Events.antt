@@ -1,7 +1,6 @@
 -- Which feedback submissions get, as one is accepted, as one becomes active, and as a surface is destroyed.
-use Rattle.std.proofs.Common.{◌≡◌, ℕ, ◌+◌, ◌≤◌, Bool, true, false, not, ◌&&◌, ◌||◌, ◌==◌, ◌⊎◌, inl, inr, Option, Some, None, is_some, is_none, List, [], ◌∷◌, ◌++◌, map, find, slice_get, Contains, count_by, refl, ap, sym, subst, ◌∙◌, arith, cond}
+use Rattle.std.proofs.Common.{◌≡◌, ℕ, ◌+◌, ◌≤◌, Bool, true, false, not, ◌&&◌, ◌||◌, ◌==◌, Option, Some, None, is_some, is_none, [], ◌∷◌, map, find, slice_get, Contains, count_by, refl, ap, sym, subst, ◌∙◌, arith, cond}
 use Rattle.std.specs.Option.{option_map}
-use Rattle.std.specs.List.{list_any}
 use Rattle.std.proofs.lemmas.Bool.Decides.{nat_tests}
 use Rattle.std.proofs.lemmas.Bool.{and_right}
 use Rattle.vz_ids.specs.declared.SurfaceId.{SurfaceId}
@@ -23,12 +22,11 @@ use Rattle.vz_rules.proofs.Members.{at_contains, contains_at, contains_none, at_
 use Rattle.vz_rules.proofs.Counts.{one_place, count_at}
 use Rattle.vz_rules.proofs.Facts.{false_at}
 use Rattle.vz_rules.proofs.Kept_facts.{subs_apart}
-use Rattle.vz_returns.proofs.Kept.{from_same_sub}
 use Rattle.vz_feeding.specs.declared.ended.Ended.{Ended}
 use Rattle.vz_feeding.specs.declared.due.Due.{Due}
-use Rattle.vz_feeding.specs.Owing.{Owed, Owes, AreOwed, place_of, awaits, ended_of, waiting_on, active_on}
+use Rattle.vz_feeding.specs.Owing.{Owed, AreOwed, place_of, awaits, ended_of, waiting_on, active_on}
 use Rattle.vz_feeding.specs.Noting.{IsNoted, IsAdded, dropped_by, is_name, fed_as, noted}
-use Rattle.vz_feeding.proofs.Owes.{either, some_same, none_some, yes_no, same_self, owes_mapped, owes_same, owes_added}
+use Rattle.vz_feeding.proofs.Owes.{none_some, yes_no, same_self, owes_mapped, owes_added}
 use Rattle.vz_feeding.proofs.Noted.{owes_noted}
 
 both_true : (a m : Bool) → (a && m) ≡ true → (a ≡ true) × (m ≡ true)

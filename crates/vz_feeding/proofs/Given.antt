@@ -1,12 +1,11 @@
 -- Feedback that is given, and the submissions of a frame that is done.
-use Rattle.std.proofs.Common.{◌≡◌, ℕ, ◌+◌, Bool, true, false, not, ◌&&◌, ◌||◌, ◌==◌, Option, Some, None, is_some, is_none, List, [], ◌∷◌, ◌++◌, length, ◌<◌, ◌≤◌, take, get_or, Contains, filter_map, take_all, refl, ap, sym, subst, ◌∙◌, arith, cond}
-use Rattle.std.specs.List.{list_any}
+use Rattle.std.proofs.Common.{◌≡◌, ℕ, ◌+◌, Bool, true, false, not, ◌&&◌, ◌||◌, Option, Some, None, is_none, List, [], ◌∷◌, ◌++◌, length, ◌<◌, ◌≤◌, take, get_or, filter_map, take_all, refl, ap, sym, subst, ◌∙◌, arith, cond}
 use Rattle.std.proofs.lemmas.List.{take_more}
 use Rattle.std.proofs.lemmas.Bool.Decides.{nat_tests}
 use Rattle.vz_ids.specs.declared.Sub.{Sub}
 use Rattle.vz_ids.specs.Ids.{same_sub}
 use Rattle.vz_rules.specs.declared.entry.Fed.{Fed}
-use Rattle.vz_rules.specs.World.{World, Submission, is_waiting, is_active, is_ended, is_in_flight, has_sub, sub_of}
+use Rattle.vz_rules.specs.World.{World, Submission, is_ended, is_in_flight, has_sub, sub_of}
 use Rattle.vz_rules.specs.Returns.{feedback_of, mark_fed, feed, fed_in, give_back}
 use Rattle.vz_rules.specs.Ends.{landed, presenting}
 use Rattle.vz_feeding.specs.Owing.{Owed, Owes, AreOwed, place_of, awaits}

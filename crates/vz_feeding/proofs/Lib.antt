@@ -5,3 +5,4 @@ mod Standing
 mod Events
 mod Given
 mod Staying
+mod Resting

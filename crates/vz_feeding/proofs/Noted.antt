@@ -1,18 +1,18 @@
 -- Feedback that became due.
-use Rattle.std.proofs.Common.{◌≡◌, ℕ, ◌+◌, Bool, true, false, not, ◌&&◌, ◌||◌, ◌==◌, ◌⊎◌, inl, inr, Option, Some, None, is_some, is_none, List, [], ◌∷◌, ◌++◌, slice_get, Contains, count_by, refl, ap, sym, subst, ◌∙◌, arith, cond, append-nil}
+use Rattle.std.proofs.Common.{◌≡◌, ℕ, ◌+◌, Bool, true, false, not, ◌&&◌, ◌==◌, inl, inr, Option, Some, None, is_some, is_none, List, [], ◌∷◌, ◌++◌, slice_get, Contains, count_by, refl, ap, sym, subst, ◌∙◌, arith, cond, append-nil}
 use Rattle.std.specs.Option.{option_and_then}
 use Rattle.std.proofs.lemmas.Bool.Decides.{nat_tests}
 use Rattle.vz_ids.specs.declared.Sub.{Sub}
 use Rattle.vz_ids.specs.Ids.{same_sub}
 use Rattle.vz_rules.specs.declared.entry.Fed.{Fed}
 use Rattle.vz_rules.specs.World.{Submission, sub_of}
-use Rattle.vz_rules.proofs.Members.{at_contains, contains_at, contains_push, at_same}
+use Rattle.vz_rules.proofs.Members.{contains_at, contains_push}
 use Rattle.vz_rules.proofs.Counts.{count_push}
 use Rattle.vz_returns.proofs.Kept.{from_same_sub}
 use Rattle.vz_feeding.specs.declared.due.Due.{Due}
 use Rattle.vz_feeding.specs.Owing.{Owed, Owes, place_of, awaits, gets_at}
 use Rattle.vz_feeding.specs.Noting.{IsNoted, is_name, fed_as, due_at, dues_of, noted}
-use Rattle.vz_feeding.proofs.Owes.{either, some_same, none_some, yes_no, owes_same, owes_alike, same_self}
+use Rattle.vz_feeding.proofs.Owes.{some_same, none_some, yes_no, owes_same, owes_alike, same_self}
 
 -- One submission
 

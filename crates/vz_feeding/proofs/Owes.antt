@@ -1,13 +1,12 @@
 -- What is owed is still what is kept, where submissions change and where one more is accepted.
-use Rattle.std.proofs.Common.{◌≡◌, ℕ, zero, suc, ◌+◌, ◌<◌, Bool, true, false, not, ◌&&◌, ◌==◌, ◌⊎◌, inl, inr, Option, Some, None, is_some, is_none, List, [], ◌∷◌, ◌++◌, length, map, slice_get, Contains, count_by, refl, ap, sym, subst, ◌∙◌, arith, cond}
-use Rattle.std.specs.Option.{option_and_then}
+use Rattle.std.proofs.Common.{◌≡◌, ℕ, zero, suc, ◌+◌, Bool, true, false, not, ◌&&◌, ◌==◌, ◌⊎◌, inl, inr, Option, Some, None, is_some, is_none, List, [], ◌∷◌, ◌++◌, length, map, slice_get, Contains, count_by, refl, ap, sym, subst, ◌∙◌, arith, cond}
 use Rattle.std.proofs.lemmas.Bool.Decides.{nat_tests}
 use Rattle.vz_ids.specs.declared.Sub.{Sub}
 use Rattle.vz_ids.specs.Ids.{same_sub}
 use Rattle.vz_rules.specs.declared.entry.Fed.{Fed}
 use Rattle.vz_rules.specs.World.{Submission, sub_of}
 use Rattle.vz_returns.proofs.Kept.{from_same_sub}
-use Rattle.vz_rules.proofs.Members.{at_contains, contains_here, contains_there, contains_none, at_map, at_push, at_same}
+use Rattle.vz_rules.proofs.Members.{at_contains, contains_here, contains_there, contains_none, at_map, at_push}
 use Rattle.vz_rules.proofs.Facts.{length_map, map_at}
 use Rattle.vz_feeding.specs.declared.due.Due.{Due}
 use Rattle.vz_feeding.specs.Owing.{Owed, Owes, place_of, awaits, gets_at}

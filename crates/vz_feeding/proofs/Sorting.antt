@@ -1,8 +1,7 @@
 -- What is due, by places, is the feedback given now in the order of acceptance.
-use Rattle.std.proofs.Common.{◌≡◌, ℕ, zero, suc, ◌+◌, ◌-◌, ◌≤◌, ◌<◌, Bool, true, false, ◌==◌, ◌⊎◌, inl, inr, Option, Some, None, is_some, List, [], ◌∷◌, ◌++◌, length, map, slice_get, get_or, Contains, count_by, filter_map, IsPermutation, refl, ap, sym, subst, ◌∙◌, arith, cond}
+use Rattle.std.proofs.Common.{◌≡◌, ℕ, suc, ◌+◌, ◌-◌, ◌≤◌, ◌<◌, Bool, true, false, ◌==◌, inl, inr, Option, Some, None, is_some, List, [], ◌∷◌, map, Contains, count_by, filter_map, IsPermutation, refl, ap, sym, subst, ◌∙◌, arith, cond}
 use Rattle.std.specs.List.{cons_option}
 use Rattle.std.specs.List.Sorted.{IsNonDecreasingBy}
-use Rattle.std.specs.Option.{option_and_then}
 use Rattle.std.proofs.lemmas.Bool.Decides.{nat_tests}
 use Rattle.std.proofs.lemmas.List.Sorted.{Contains-permutation, IsPermutation-sym, sum_by-IsPermutation}
 use Rattle.vz_rules.specs.declared.entry.Fed.{Fed}
@@ -11,7 +10,7 @@ use Rattle.vz_rules.proofs.Members.{contains_here, contains_there, contains_case
 use Rattle.vz_rules.proofs.Counts.{count_cons, count_none}
 use Rattle.vz_feeding.specs.declared.due.Due.{Due}
 use Rattle.vz_feeding.specs.Owing.{Owed, Owes, gets_at}
-use Rattle.vz_feeding.proofs.Owes.{either, some_same}
+use Rattle.vz_feeding.proofs.Owes.{some_same}
 
 -- one that stands in a list counts
 counted : (list : List Due) (d : Due) → Contains list d → 1 ≤ count_by (λ (x : Due). x.place == d.place) list

@@ -1,5 +1,5 @@
 -- Those that await feedback are those that have places, where one is added and where one is noted.
-use Rattle.std.proofs.Common.{◌≡◌, ℕ, zero, suc, ◌+◌, ◌-◌, ◌≤◌, ◌<◌, Bool, true, false, not, ◌&&◌, ◌||◌, ◌⊎◌, inl, inr, Option, Some, None, is_some, List, [], ◌∷◌, length, insert, min, Result, Ok, Err, OnOk, IfOk, refl, ap, sym, subst, ◌∙◌, arith, cond}
+use Rattle.std.proofs.Common.{◌≡◌, ℕ, zero, suc, ◌+◌, ◌-◌, ◌<◌, Bool, true, false, not, ◌&&◌, ◌||◌, Option, Some, None, is_some, List, [], ◌∷◌, length, insert, min, Result, Ok, Err, OnOk, IfOk, refl, ap, sym, subst, ◌∙◌, arith, cond}
 use Rattle.std.specs.List.{list_all}
 use Rattle.std.specs.Map.{lookup}
 use Rattle.std.proofs.lemmas.Bool.Decides.{nat_tests}
@@ -10,7 +10,6 @@ use Rattle.vz_returns.proofs.Kept.{both, from_same_sub, opened_has, fed_has, ope
 use Rattle.vz_returns.proofs.Halved.{none_left}
 use Rattle.std.proofs.Math.Nat.{min-le_right}
 use Rattle.vz_feeding.specs.Noting.{AreKept, room_for}
-use Rattle.vz_feeding.proofs.Owes.{either, yes_no}
 
 -- How many
 

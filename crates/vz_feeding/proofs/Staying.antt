@@ -1,5 +1,5 @@
 -- What leaves that which is owed as it is.
-use Rattle.std.proofs.Common.{◌≡◌, ℕ, ◌+◌, ◌*◌, ◌≤◌, ◌<◌, Bool, true, false, not, ◌&&◌, ◌||◌, ⊎_elim, inl, inr, Option, Some, None, is_some, is_none, List, [], ◌∷◌, slice_get, Contains, count_by, refl, ap, sym, subst, ◌∙◌, arith, cond}
+use Rattle.std.proofs.Common.{◌≡◌, ℕ, ◌+◌, ◌<◌, Bool, true, false, not, ◌&&◌, ◌||◌, ⊎_elim, Option, Some, None, is_some, List, [], ◌∷◌, slice_get, Contains, count_by, refl, ap, sym, subst, ◌∙◌, arith, cond}
 use Rattle.std.specs.Option.{option_and_then}
 use Rattle.vz_geom.specs.Rectangle.{is_empty_rect}
 use Rattle.vz_ids.specs.declared.FrameSinkId.{FrameSinkId}
@@ -18,7 +18,7 @@ use Rattle.vz_rules.specs.Scene.{scene_of}
 use Rattle.vz_rules.specs.Reach.{naming}
 use Rattle.vz_rules.specs.Returns.{give_back, feedback_of}
 use Rattle.vz_rules.specs.Walk.{walk_of, walked_subs, too_much}
-use Rattle.vz_rules.specs.Damage.{drawn_damage, aggregation_of}
+use Rattle.vz_rules.specs.Damage.{drawn_damage}
 use Rattle.vz_rules.specs.Messages.{Answer, unless_refused, taking, in_use, new_submission, message_answer, upload_answer, hierarchy_answer, hierarchy_refusal, root_answer, await_answer}
 use Rattle.vz_rules.specs.Step.{begin_answer, draw_answer, scene_answer, accepted_frames, answer_to}
 use Rattle.vz_rules.specs.Kept.{Keeps, KeepsAlways, KeepsPlan, KeepsMessages, is_by}
@@ -26,7 +26,7 @@ use Rattle.vz_rules.proofs.Members.{at_contains, contains_here}
 use Rattle.vz_rules.proofs.Kept_facts.{unfed_open}
 use Rattle.vz_rules.proofs.Kept_few.{lists_short}
 use Rattle.vz_feeding.specs.declared.due.Due.{Due}
-use Rattle.vz_feeding.specs.Owing.{Owed, Owes, AreOwed, place_of, gets_at}
+use Rattle.vz_feeding.specs.Owing.{Owed, AreOwed, place_of, gets_at}
 use Rattle.vz_feeding.proofs.Owes.{none_some, yes_no, same_self, owes_same}
 use Rattle.vz_feeding.proofs.Events.{new_name}
 

@@ -1,5 +1,5 @@
 -- Which feedback is owed in the machine's state, and how it is kept.
-use Rattle.std.specs.Prelude.{◌≡◌, ℕ, Bool, true, false, not, ◌&&◌, ◌==◌, Option, Some, None, is_some, is_none, List, [], slice_get, length, find, count_by, if◌then◌else◌}
+use Rattle.std.specs.Prelude.{◌≡◌, ℕ, Bool, true, not, ◌&&◌, ◌==◌, Option, Some, is_some, is_none, List, [], slice_get, length, find, count_by, if◌then◌else◌}
 use Rattle.std.specs.Option.{option_map, option_and_then}
 use Rattle.std.specs.List.{Contains}
 use Rattle.std.specs.Map.{lookup}

@@ -1,4 +1,4 @@
-use Rattle.std.proofs.Common.{◌≡◌, ◌+◌, ◌++◌, length, map, take}
+use Rattle.std.proofs.Common.{◌≡◌, ◌+◌, ◌++◌, map, take}
 use Rattle.vz_feeding.proofs.due.put_all.Given as goal
 
 -- the feedback so far was put

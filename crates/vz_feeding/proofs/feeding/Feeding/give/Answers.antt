@@ -1,7 +1,6 @@
-use Rattle.std.proofs.Common.{[], ◌++◌, IsPermutation, ap, refl, sym, subst, ◌∙◌}
+use Rattle.std.proofs.Common.{◌++◌, IsPermutation, ap, sym, subst, ◌∙◌}
 use Rattle.std.specs.List.Sorted.{IsNonDecreasingBy}
 use Rattle.vz_feeding.specs.declared.due.Due.{Due}
-use Rattle.vz_feeding.specs.Noting.{without_due}
 use Rattle.vz_feeding.proofs.Sorting.{fed_in_order}
 use Rattle.vz_feeding.proofs.feeding.Feeding.give.Goals as goal
 

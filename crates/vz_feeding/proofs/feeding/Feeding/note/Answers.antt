@@ -1,4 +1,4 @@
-use Rattle.std.proofs.Common.{◌≡◌, ℕ, ◌+◌, ◌-◌, ◌<◌, length, vec_len, vec_capacity, ap, sym, arith, ◌∙◌}
+use Rattle.std.proofs.Common.{◌≡◌, ◌+◌, ◌-◌, length, vec_len, vec_capacity, ap, sym, arith}
 use Rattle.vz_feeding.specs.Noting.{owed_count}
 use Rattle.vz_feeding.proofs.Standing.{kept_noted, count_noted}
 use Rattle.vz_feeding.proofs.feeding.Feeding.note.Goals as goal

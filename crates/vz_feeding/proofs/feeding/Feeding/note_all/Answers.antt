@@ -1,5 +1,5 @@
-use Rattle.std.proofs.Common.{◌≡◌, ◌≤◌, ◌+◌, arith}
-use Rattle.vz_feeding.proofs.Given.{noted_none, noted_next, noted_all}
+use Rattle.std.proofs.Common.{arith}
+use Rattle.vz_feeding.proofs.Given.{noted_next, noted_all}
 use Rattle.vz_feeding.proofs.feeding.Feeding.note_all.Goals as goal
 
 pub loop-sub-preserved : goal.loop-sub-preserved

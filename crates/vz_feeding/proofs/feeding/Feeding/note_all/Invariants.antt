@@ -1,4 +1,4 @@
-use Rattle.std.proofs.Common.{◌≡◌, ◌≤◌, ◌+◌, true, Option, List, length, take}
+use Rattle.std.proofs.Common.{◌≤◌, ◌+◌, true, Option, List, length, take}
 use Rattle.vz_rules.specs.declared.entry.Fed.{Fed}
 use Rattle.vz_rules.specs.World.{Submission, has_sub}
 use Rattle.vz_feeding.specs.Owing.{Owes}
