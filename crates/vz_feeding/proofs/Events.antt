@@ -1,18 +1,16 @@
 -- Which feedback submissions get, as one is accepted, as one becomes active, and as a surface is destroyed.
-use Rattle.std.proofs.Common.{◌≡◌, ℕ, ◌+◌, ◌≤◌, Bool, true, false, not, ◌&&◌, ◌||◌, ◌==◌, Option, Some, None, is_some, is_none, [], ◌∷◌, map, find, slice_get, Contains, count_by, refl, ap, sym, subst, ◌∙◌, arith, cond}
+use Rattle.std.proofs.Common.{◌≡◌, ℕ, ◌+◌, ◌≤◌, Bool, true, false, not, ◌&&◌, ◌||◌, ◌==◌, Option, Some, None, is_some, [], ◌∷◌, map, find, slice_get, Contains, count_by, refl, ap, sym, subst, ◌∙◌, arith, cond}
 use Rattle.std.specs.Option.{option_map}
 use Rattle.std.proofs.lemmas.Bool.Decides.{nat_tests}
-use Rattle.std.proofs.lemmas.Bool.{and_right}
 use Rattle.vz_ids.specs.declared.SurfaceId.{SurfaceId}
 use Rattle.vz_ids.specs.declared.LocalSurfaceId.{LocalSurfaceId}
 use Rattle.vz_ids.specs.declared.Sub.{Sub}
 use Rattle.vz_ids.specs.Ids.{same_sub}
 use Rattle.vz_frame.specs.declared.frame.CompositorFrame.{CompositorFrame}
-use Rattle.vz_rules.specs.declared.entry.Fed.{Fed}
 use Rattle.vz_rules.specs.declared.entry.State.{State}
 use Rattle.vz_rules.specs.declared.entry.State.TheVariants.{Waiting, Active, Past, Dropped}
 use Rattle.vz_rules.specs.Plan.{Plan}
-use Rattle.vz_rules.specs.World.{World, Client, Created, Submission, opening, is_waiting, is_active, is_ended, is_on, is_in_flight, sub_of}
+use Rattle.vz_rules.specs.World.{World, Client, Created, Submission, opening, is_waiting, is_active, is_on, is_in_flight, sub_of}
 use Rattle.vz_rules.specs.Returns.{feedback_of}
 use Rattle.vz_rules.specs.Messages.{accepted, new_submission, id_of, replace_on}
 use Rattle.vz_rules.specs.Reach.{drop_on}
@@ -24,10 +22,11 @@ use Rattle.vz_rules.proofs.Facts.{false_at}
 use Rattle.vz_rules.proofs.Kept_facts.{subs_apart}
 use Rattle.vz_feeding.specs.declared.ended.Ended.{Ended}
 use Rattle.vz_feeding.specs.declared.due.Due.{Due}
-use Rattle.vz_feeding.specs.Owing.{Owed, AreOwed, place_of, awaits, ended_of, waiting_on, active_on}
+use Rattle.vz_feeding.specs.Owing.{Owed, AreOwed, place_of, ended_of, waiting_on, active_on}
 use Rattle.vz_feeding.specs.Noting.{IsNoted, IsAdded, dropped_by, is_name, fed_as, noted}
 use Rattle.vz_feeding.proofs.Owes.{none_some, yes_no, same_self, owes_mapped, owes_added}
 use Rattle.vz_feeding.proofs.Noted.{owes_noted}
+use Rattle.vz_feeding.proofs.Single.{at_cond, ends_one, open_none, none_also, ended_twice}
 
 both_true : (a m : Bool) → (a && m) ≡ true → (a ≡ true) × (m ≡ true)
 both_true true m h = (refl, h)
@@ -46,11 +45,13 @@ module _ (w : World) (keeps : KeepsAlways w) where
   abbrev IsAlone : (Submission → Bool) → Type 0
   IsAlone test = (s t : Submission) → Contains w.subs s → Contains w.subs t → test s ≡ true → test t ≡ true → s ≡ t
 
-  told_by : (t u : Submission) (f : Bool) → is_name (dropped_by (Some (record { sub = sub_of t; in_flight = f }))) (sub_of u) ≡ true → (f ≡ false) × (same_sub (sub_of t) (sub_of u) ≡ true)
+  told_by : (t u : Submission) (f : Bool) → is_name (dropped_by (Some (record { sub = sub_of t; in_flight = f }))) (sub_of u) ≡ true
+      → (f ≡ false) × (same_sub (sub_of t) (sub_of u) ≡ true)
   told_by t u true h = absurd (cc)
   told_by t u false h = (refl, h)
 
-  tells : (t u : Submission) (f : Bool) → f ≡ false → same_sub (sub_of t) (sub_of u) ≡ true → is_name (dropped_by (Some (record { sub = sub_of t; in_flight = f }))) (sub_of u) ≡ true
+  tells : (t u : Submission) (f : Bool) → f ≡ false → same_sub (sub_of t) (sub_of u) ≡ true
+      → is_name (dropped_by (Some (record { sub = sub_of t; in_flight = f }))) (sub_of u) ≡ true
   tells t u true h k = absurd (cc)
   tells t u false h k = k
 
@@ -59,7 +60,8 @@ module _ (w : World) (keeps : KeepsAlways w) where
       → is_name (dropped_by (option_map (ended_of w) (find test w.subs))) (sub_of u) ≡ (test u && not (is_in_flight w.in_flight (sub_of u)))
   is_told test alone u c = by (find test w.subs) refl
     where
-      by : (v : Option Submission) → find test w.subs ≡ v → is_name (dropped_by (option_map (ended_of w) v)) (sub_of u) ≡ (test u && not (is_in_flight w.in_flight (sub_of u)))
+      by : (v : Option Submission) → find test w.subs ≡ v
+          → is_name (dropped_by (option_map (ended_of w) v)) (sub_of u) ≡ (test u && not (is_in_flight w.in_flight (sub_of u)))
       by None e = no_one (test u) (not (is_in_flight w.in_flight (sub_of u))) (λ h. yes_no (is_some (find test w.subs)) (found test w.subs ∙ any_from test w.subs u c h) (ap is_some e))
         where
           no_one : (a b : Bool) → (a ≡ true → true ≡ false) → false ≡ (a && b)
@@ -82,7 +84,8 @@ module _ (w : World) (keeps : KeepsAlways w) where
           not_true true h = absurd (cc)
           not_true false h = refl
 
-  alone_on : (id : SurfaceId) (state : Submission → Bool) → count_by (λ s. is_on id s && state s) w.subs ≤ 1 → IsAlone (λ s. state s && is_on id s)
+  alone_on : (id : SurfaceId) (state : Submission → Bool) → count_by (λ s. is_on id s && state s) w.subs ≤ 1
+      → IsAlone (λ s. state s && is_on id s)
   alone_on id state few s t c d e f =
       let a = contains_at w.subs s c in
       let b = contains_at w.subs t d in
@@ -99,7 +102,8 @@ module _ (w : World) (keeps : KeepsAlways w) where
   told_active id = is_told (λ s. is_active s && is_on id s) (alone_on id (λ s. is_active s) (keeps.states.one_is_active id))
 
   -- no submission has the name of the next one of a client
-  pub new_name : (c : ℕ) (n : ℕ) (u : Submission) → slice_get w.subs n ≡ Some u → same_sub (record { client = c; ordinal = count_by (is_by c) w.subs + 1 }) (sub_of u) ≡ false
+  pub new_name : (c : ℕ) (n : ℕ) (u : Submission) → slice_get w.subs n ≡ Some u
+      → same_sub (record { client = c; ordinal = count_by (is_by c) w.subs + 1 }) (sub_of u) ≡ false
   new_name c n u at =
       false_at (same_sub (record { client = c; ordinal = count_by (is_by c) w.subs + 1 }) (sub_of u)) (λ e.
       let parts = both_true (c == u.submitted.sub.client) ((count_by (is_by c) w.subs + 1) == u.submitted.sub.ordinal) e in
@@ -109,74 +113,6 @@ module _ (w : World) (keeps : KeepsAlways w) where
       let own = keeps.numbers.ordered n u at in
       let within = count_at (is_by u.submitted.sub.client) w.subs n u at (grind (arith, nat_tests)) in
       omega (arith, ordinal, same, own, within))
-
--- What one gets
-
--- the feedback that follows from whether a submission has some, ended and is in flight
-abbrev given : Bool → Bool → Bool → Fed → Option Fed
-given fed ended flies x = cond fed None (cond (ended && not flies) (Some x) None)
-
-cond_same : {A : Type 0} (t : Bool) (x : A) → cond t x x ≡ x
-cond_same true x = refl
-cond_same false x = refl
-
--- one that ends
-ended_flat : (fed stands flies t m : Bool) (x : Fed) → (t ≡ true → stands ≡ true) → m ≡ (t && not flies)
-    → cond t (given fed true flies x) (given fed (not stands) flies x) ≡ cond ((not fed && is_none (given fed (not stands) flies x)) && m) (Some x) (given fed (not stands) flies x)
-ended_flat true stands flies t m x h e = cond_same t None
-ended_flat false stands flies false m x h e = let k : m ≡ false = e in ap (λ b. cond b (Some x) (given false (not stands) flies x)) (sym (and_right (true && is_none (given false (not stands) flies x)) m k))
-ended_flat false false flies true m x h e = let no_way = h refl in absurd (cc)
-ended_flat false true true true m x h e = ap (λ b. cond b (Some x) None) (sym e)
-ended_flat false true false true m x h e = ap (λ b. cond b (Some x) None) (sym e)
-
-at_cond : {A B : Type 0} (g : A → B) (t : Bool) (x y : A) → g (cond t x y) ≡ cond t (g x) (g y)
-at_cond g true x y = refl
-at_cond g false x y = refl
-
-ends_one : (w : World) (u : Submission) (state : State) (t m : Bool) → is_ended (record u { state = state }) ≡ true → (t ≡ true → (is_waiting u || is_active u) ≡ true)
-    → m ≡ (t && not (is_in_flight w.in_flight (sub_of u)))
-    → feedback_of w [] (cond t (record u { state = state }) u) ≡ cond (awaits (feedback_of w []) u && m) (Some (fed_as false (sub_of u))) (feedback_of w [] u)
-ends_one w u state t m ends stands e =
-    let flies = is_in_flight w.in_flight (sub_of u) in
-    let x = fed_as false (sub_of u) in
-    at_cond (feedback_of w []) t (record u { state = state }) u ∙ ap (λ b. cond t (given u.fed b flies x) (feedback_of w [] u)) ends ∙ ended_flat u.fed (is_waiting u || is_active u) flies t m x stands e
-
--- one that becomes active
-open_none : (fed a b flies : Bool) (x : Fed) → a ≡ true → given fed (not (a || b)) flies x ≡ None
-open_none fed true b flies x e = cond_same fed None
-open_none fed false b flies x e = absurd (cc)
-
-noted_none : (fed m : Bool) (g : Option Fed) (x : Fed) → g ≡ None → m ≡ false → None ≡ cond ((not fed && is_none g) && m) (Some x) g
-noted_none fed m g x e f = sym (ap (λ b. cond b (Some x) g) (and_right (not fed && is_none g) m f) ∙ e)
-
--- two that end
-ended_twice : (fed wa ac on flies m n : Bool) (x : Fed) → m ≡ ((wa && on) && not flies) → n ≡ ((ac && on) && not flies)
-    → cond ((wa || ac) && (on || false)) (given fed true flies x) (given fed (not (wa || ac)) flies x)
-    ≡ cond ((not fed && is_none (cond ((not fed && is_none (given fed (not (wa || ac)) flies x)) && m) (Some x) (given fed (not (wa || ac)) flies x))) && n) (Some x) (cond ((not fed && is_none (given fed (not (wa || ac)) flies x)) && m) (Some x) (given fed (not (wa || ac)) flies x))
-ended_twice fed wa ac on flies m n x e f =
-    all fed wa ac on flies
-    ∙ (λ i. cond ((not fed && is_none (cond ((not fed && is_none (given fed (not (wa || ac)) flies x)) && sym e i) (Some x) (given fed (not (wa || ac)) flies x))) && sym f i) (Some x) (cond ((not fed && is_none (given fed (not (wa || ac)) flies x)) && sym e i) (Some x) (given fed (not (wa || ac)) flies x)))
-  where
-    all : (fed wa ac on flies : Bool)
-        → cond ((wa || ac) && (on || false)) (given fed true flies x) (given fed (not (wa || ac)) flies x)
-        ≡ cond ((not fed && is_none (cond ((not fed && is_none (given fed (not (wa || ac)) flies x)) && ((wa && on) && not flies)) (Some x) (given fed (not (wa || ac)) flies x))) && ((ac && on) && not flies)) (Some x) (cond ((not fed && is_none (given fed (not (wa || ac)) flies x)) && ((wa && on) && not flies)) (Some x) (given fed (not (wa || ac)) flies x))
-    all true wa ac on flies = cond_same ((wa || ac) && (on || false)) None
-    all false true true true true = refl
-    all false true true true false = refl
-    all false true true false true = refl
-    all false true true false false = refl
-    all false true false true true = refl
-    all false true false true false = refl
-    all false true false false true = refl
-    all false true false false false = refl
-    all false false true true true = refl
-    all false false true true false = refl
-    all false false true false true = refl
-    all false false true false false = refl
-    all false false false true true = refl
-    all false false false true false = refl
-    all false false false false true = refl
-    all false false false false false = refl
 
 -- Events
 
@@ -197,8 +133,10 @@ and_second true b h true = refl
 and_second true b h false = refl
 and_second false b h c = absurd (cc)
 
-pub owed_accepted : (w : World) (c : Client) (local : LocalSurfaceId) (frame : CompositorFrame) (old mid new : Owed) (sub : Sub) (replaced : Option Ended) → KeepsAlways w → AreOwed w old
-    → sub ≡ sub_of (new_submission w c local frame) → replaced ≡ waiting_on w (id_of c local) → IsNoted (dropped_by replaced) false old mid → IsAdded sub mid new
+pub owed_accepted : (w : World) (c : Client) (local : LocalSurfaceId) (frame : CompositorFrame) (old mid new : Owed) (sub : Sub) (replaced : Option Ended)
+    → KeepsAlways w → AreOwed w old
+    → sub ≡ sub_of (new_submission w c local frame) → replaced ≡ waiting_on w (id_of c local)
+    → IsNoted (dropped_by replaced) false old mid → IsAdded sub mid new
     → AreOwed (accepted w c local frame).world new
 unfolding accepted new_submission
 owed_accepted w c local frame old mid new sub replaced keeps o name told noted' added =
@@ -214,7 +152,8 @@ owed_accepted w c local frame old mid new sub replaced keeps o name told noted' 
     ap (λ (x : Submission). same_sub (sub_of s) (sub_of x)) (sym m.2) ∙ ap (same_sub (sub_of s)) (kept_sub (is_waiting m.0 && is_on id m.0) Dropped m.0) ∙ new_name w keeps c.number n m.0 m.1 in
     owes_added (feedback_of w []) (map (replace_on id) w.subs) s mid new refl refl other (subst (λ x. IsAdded x mid new) name added) changed
 
-pub owed_activated : (w : World) (s : Submission) (old new : Owed) (past : Option Ended) → KeepsAlways w → AreOwed w old → Contains w.subs s → is_waiting s ≡ true
+pub owed_activated : (w : World) (s : Submission) (old new : Owed) (past : Option Ended) → KeepsAlways w → AreOwed w old
+    → Contains w.subs s → is_waiting s ≡ true
     → past ≡ active_on w s.submitted.id → IsNoted (dropped_by past) false old new → AreOwed (rising s w) new
 unfolding rising
 owed_activated w s old new past keeps o in' waits told noted' =
@@ -226,7 +165,8 @@ owed_activated w s old new past keeps o in' waits told noted' =
     past_by : Submission → Submission
     past_by u = cond (is_active u && is_on s.submitted.id u) (record u { state = Past }) u
 
-    names_by : (t : Bool) (u v : Submission) → sub_of v ≡ sub_of u → sub_of (cond t (record u { state = Active; was_active = true }) v) ≡ sub_of u
+    names_by : (t : Bool) (u v : Submission) → sub_of v ≡ sub_of u
+        → sub_of (cond t (record u { state = Active; was_active = true }) v) ≡ sub_of u
     names_by true u v h = refl
     names_by false u v h = h
 
@@ -243,7 +183,8 @@ owed_activated w s old new past keeps o in' waits told noted' =
     idle : (u : Submission) → is_waiting u ≡ true → (is_active u && is_on s.submitted.id u) ≡ false
     idle u h = ap (λ b. b && is_on s.submitted.id u) (not_active u.state h)
       where
-        not_active : (state : State) → elim state as (λ _. Bool) [ Waiting ↦ true | _ ↦ false ] ≡ true → elim state as (λ _. Bool) [ Active ↦ true | _ ↦ false ] ≡ false
+        not_active : (state : State) → elim state as (λ _. Bool) [ Waiting ↦ true | _ ↦ false ] ≡ true
+            → elim state as (λ _. Bool) [ Active ↦ true | _ ↦ false ] ≡ false
         not_active Waiting h = refl
         not_active Active h = absurd (cc)
         not_active Past h = refl
@@ -256,15 +197,17 @@ owed_activated w s old new past keeps o in' waits told noted' =
         let waiting : is_waiting u ≡ true = ap (λ (x : Submission). is_waiting x) this ∙ waits in
         let flies = is_in_flight w.in_flight (sub_of u) in
         let untold = told_active w keeps s.submitted.id u c ∙ ap (λ b. b && not flies) (idle u waiting) in
-        cond_same u.fed None
-        ∙ noted_none u.fed (is_name (dropped_by (active_on w s.submitted.id)) (sub_of u)) (feedback_of w [] u) (fed_as false (sub_of u)) (open_none u.fed (is_waiting u) (is_active u) flies (fed_as false (sub_of u)) waiting) untold
+        none_also u.fed (is_name (dropped_by (active_on w s.submitted.id)) (sub_of u)) (feedback_of w [] u) (fed_as false (sub_of u))
+        (open_none u.fed (is_waiting u) (is_active u) flies (fed_as false (sub_of u)) waiting) untold
     same_by u false c e =
         ends_one w u Past (is_active u && is_on s.submitted.id u) _ refl (λ h. and_second (is_active u) (is_on s.submitted.id u) h (is_waiting u)) (told_active w keeps s.submitted.id u c)
 
-    same : (u : Submission) → Contains w.subs u → feedback_of w [] (as_one_rises s u) ≡ noted (is_name (dropped_by (active_on w s.submitted.id))) false (feedback_of w []) u
+    same : (u : Submission) → Contains w.subs u
+        → feedback_of w [] (as_one_rises s u) ≡ noted (is_name (dropped_by (active_on w s.submitted.id))) false (feedback_of w []) u
     same u c = same_by u (same_sub (sub_of u) (sub_of s)) c refl
 
-pub owed_destroyed : (w : World) (c : Created) (old mid new : Owed) (waiting active : Option Ended) → KeepsAlways w → AreOwed w old → waiting ≡ waiting_on w c.id → active ≡ active_on w c.id
+pub owed_destroyed : (w : World) (c : Created) (old mid new : Owed) (waiting active : Option Ended) → KeepsAlways w → AreOwed w old
+    → waiting ≡ waiting_on w c.id → active ≡ active_on w c.id
     → IsNoted (dropped_by waiting) false old mid → IsNoted (dropped_by active) false mid new → AreOwed (going c w) new
 unfolding going
 owed_destroyed w c old mid new waiting active keeps o first second noted_one noted_two =

@@ -12,14 +12,17 @@ use Rattle.vz_feeding.specs.Owing.{Owed, Owes, AreOwed, place_of, awaits}
 use Rattle.vz_feeding.specs.Noting.{IsNoted, is_name, fed_as, noted, without_due}
 use Rattle.vz_feeding.proofs.Owes.{owes_same, owes_given}
 use Rattle.vz_feeding.proofs.Noted.{owes_noted}
+use Rattle.vz_feeding.proofs.Single.{given, also, landed_flat, twice_flat}
 
 -- what is given is the feedback of the state
-pub fed_is : (presented : List Sub) (w : World) (before list : List Fed) → list ≡ before ++ filter_map (feedback_of w presented) w.subs → list ≡ before ++ fed_in presented w
+pub fed_is : (presented : List Sub) (w : World) (before list : List Fed) → list ≡ before ++ filter_map (feedback_of w presented) w.subs
+    → list ≡ before ++ fed_in presented w
 unfolding fed_in
 fed_is presented w before list e = e
 
 -- one that gets feedback gets none behind it
-none_behind : (fed has ends : Bool) (x y : Fed) → cond (fed || not (is_none (cond fed None (cond has (Some x) (cond ends (Some y) None))))) None (cond ends (Some y) None) ≡ None
+none_behind : (fed has ends : Bool) (x y : Fed)
+    → cond (fed || not (is_none (cond fed None (cond has (Some x) (cond ends (Some y) None))))) None (cond ends (Some y) None) ≡ None
 none_behind true has ends x y = refl
 none_behind false true ends x y = refl
 none_behind false false true x y = refl
@@ -30,7 +33,8 @@ still_awaits true g v e = refl
 still_awaits false None v e = ap (λ (o : Option Fed). true && is_none o) e
 still_awaits false (Some x) v e = refl
 
-pub owed_fed : (presented : List Sub) (w : World) (old new : Owed) → Owes (feedback_of w presented) w.subs old → new ≡ without_due old → AreOwed (feed presented w) new
+pub owed_fed : (presented : List Sub) (w : World) (old new : Owed) → Owes (feedback_of w presented) w.subs old → new ≡ without_due old
+    → AreOwed (feed presented w) new
 unfolding feed
 owed_fed presented w old new o is =
     owes_given (mark_fed w presented) (feedback_of w presented) (feedback_of w []) w.subs old new (λ s. refl)
@@ -41,24 +45,18 @@ owed_fed presented w old new o is =
 
 -- The frame that is done
 
-landed_flat : (fed ends has : Bool) (x y : Fed) → cond fed None (cond has (Some x) (cond (ends && true) (Some y) None))
-    ≡ cond ((not fed && is_none (cond fed None (cond (ends && not has) (Some y) None))) && has) (Some x) (cond fed None (cond (ends && not has) (Some y) None))
-landed_flat true ends has x y = refl
-landed_flat false true true x y = refl
-landed_flat false true false x y = refl
-landed_flat false false true x y = refl
-landed_flat false false false x y = refl
-
-pub owed_landed : (drawn : List Sub) (w : World) (f : Owed) → w.in_flight ≡ Some drawn → Owes (noted (has_sub drawn) true (feedback_of w [])) w.subs f → Owes (feedback_of (landed w) drawn) w.subs f
+pub owed_landed : (drawn : List Sub) (w : World) (f : Owed) → w.in_flight ≡ Some drawn
+    → Owes (noted (has_sub drawn) true (feedback_of w [])) w.subs f → Owes (feedback_of (landed w) drawn) w.subs f
 owed_landed drawn w f flies o =
     owes_same (noted (has_sub drawn) true (feedback_of w [])) (feedback_of (landed w) drawn) w.subs f
     (λ s c.
     landed_flat s.fed (is_ended s) (has_sub drawn (sub_of s)) (fed_as true (sub_of s)) (fed_as false (sub_of s))
     ∙ (λ i.
-    let g = cond s.fed None (cond (is_ended s && not (is_in_flight (sym flies i) (sub_of s))) (Some (fed_as false (sub_of s))) None) in
-    cond ((not s.fed && is_none g) && has_sub drawn (sub_of s)) (Some (fed_as true (sub_of s))) g)) o
+    let before = given s.fed (is_ended s) (is_in_flight (sym flies i) (sub_of s)) (fed_as false (sub_of s)) in
+    also s.fed before (has_sub drawn (sub_of s)) (fed_as true (sub_of s)))) o
 
-pub owed_presented : (drawn : List Sub) (w : World) (old new : Owed) → w.in_flight ≡ Some drawn → Owes (noted (has_sub drawn) true (feedback_of w [])) w.subs old → new ≡ without_due old
+pub owed_presented : (drawn : List Sub) (w : World) (old new : Owed) → w.in_flight ≡ Some drawn
+    → Owes (noted (has_sub drawn) true (feedback_of w [])) w.subs old → new ≡ without_due old
     → AreOwed (presenting drawn (landed w)).world new
 unfolding give_back feed
 owed_presented drawn w old new flies o is = owed_fed drawn (landed w) old new (owed_landed drawn w old flies o) is
@@ -80,14 +78,8 @@ has_push (y ∷ xs) x t = ap (λ b. same_sub t y || b) (has_push xs x t) ∙ or_
     or_assoc true b d = refl
     or_assoc false b d = refl
 
-twice_flat : (fed a b : Bool) (g : Option Fed) (x : Fed) → cond ((not fed && is_none g) && (a || b)) (Some x) g
-    ≡ cond ((not fed && is_none (cond ((not fed && is_none g) && a) (Some x) g)) && b) (Some x) (cond ((not fed && is_none g) && a) (Some x) g)
-twice_flat true a b g x = refl
-twice_flat false true b None x = refl
-twice_flat false false b None x = refl
-twice_flat false a b (Some y) x = refl
-
-pub noted_more : (xs : List Sub) (x : Sub) (gets : Submission → Option Fed) (subs : List Submission) (f : Owed) → Owes (noted (is_name (Some x)) true (noted (has_sub xs) true gets)) subs f
+pub noted_more : (xs : List Sub) (x : Sub) (gets : Submission → Option Fed) (subs : List Submission) (f : Owed)
+    → Owes (noted (is_name (Some x)) true (noted (has_sub xs) true gets)) subs f
     → Owes (noted (has_sub (xs ++ x ∷ [])) true gets) subs f
 noted_more xs x gets subs f o =
     owes_same (noted (is_name (Some x)) true (noted (has_sub xs) true gets)) (noted (has_sub (xs ++ x ∷ [])) true gets) subs f
@@ -95,15 +87,18 @@ noted_more xs x gets subs f o =
     ap (λ b. cond (awaits gets s && b) (Some (fed_as true (sub_of s))) (gets s)) (has_push xs x (sub_of s))
     ∙ twice_flat s.fed (has_sub xs (sub_of s)) (same_sub x (sub_of s)) (gets s) (fed_as true (sub_of s))) o
 
-pub noted_none : (gets : Submission → Option Fed) (subs : List Submission) (f : Owed) → Owes gets subs f → Owes (noted (has_sub []) true gets) subs f
+pub noted_none : (gets : Submission → Option Fed) (subs : List Submission) (f : Owed) → Owes gets subs f
+    → Owes (noted (has_sub []) true gets) subs f
 noted_none gets subs f o = owes_same gets (noted (has_sub []) true gets) subs f (λ s c. by (awaits gets s) (gets s) (fed_as true (sub_of s))) o
   where
     by : (a : Bool) (g : Option Fed) (x : Fed) → cond (a && false) (Some x) g ≡ g
     by true g x = refl
     by false g x = refl
 
-pub noted_next : (drawn : List Sub) (i : ℕ) (d : Sub) (gets : Submission → Option Fed) (subs : List Submission) (mid new : Owed) → i < length drawn
-    → Owes (noted (has_sub (take i drawn)) true gets) subs mid → IsNoted (Some (get_or drawn i d)) true mid new → Owes (noted (has_sub (take (i + 1) drawn)) true gets) subs new
+pub noted_next : (drawn : List Sub) (i : ℕ) (d : Sub) (gets : Submission → Option Fed) (subs : List Submission) (mid new : Owed)
+    → i < length drawn
+    → Owes (noted (has_sub (take i drawn)) true gets) subs mid → IsNoted (Some (get_or drawn i d)) true mid new
+    → Owes (noted (has_sub (take (i + 1) drawn)) true gets) subs new
 noted_next drawn i d gets subs mid new h o is =
     subst (λ l. Owes (noted (has_sub l) true gets) subs new) (sym (take_more drawn i d h))
     (noted_more (take i drawn) (get_or drawn i d) gets subs new (owes_noted true (noted (has_sub (take i drawn)) true gets) subs mid o (Some (get_or drawn i d)) new is))

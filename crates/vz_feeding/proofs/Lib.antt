@@ -6,3 +6,4 @@ mod Events
 mod Given
 mod Staying
 mod Resting
+mod Single

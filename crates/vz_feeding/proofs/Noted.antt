@@ -12,23 +12,26 @@ use Rattle.vz_returns.proofs.Kept.{from_same_sub}
 use Rattle.vz_feeding.specs.declared.due.Due.{Due}
 use Rattle.vz_feeding.specs.Owing.{Owed, Owes, place_of, awaits, gets_at}
 use Rattle.vz_feeding.specs.Noting.{IsNoted, is_name, fed_as, due_at, dues_of, noted}
+use Rattle.vz_feeding.proofs.Single.{also}
 use Rattle.vz_feeding.proofs.Owes.{some_same, none_some, yes_no, owes_same, owes_alike, same_self}
 
 -- One submission
 
-left_waits : (fed : Bool) (g : Option Fed) (m : Bool) (x : Fed) → (not fed && is_none (cond ((not fed && is_none g) && m) (Some x) g)) ≡ true → ((not fed && is_none g) ≡ true) × (m ≡ false)
+left_waits : (fed : Bool) (g : Option Fed) (m : Bool) (x : Fed)
+    → (not fed && is_none (also fed g m x)) ≡ true → ((not fed && is_none g) ≡ true) × (m ≡ false)
 left_waits true g m x h = absurd (cc)
 left_waits false None true x h = absurd (cc)
 left_waits false None false x h = (refl, refl)
 left_waits false (Some y) m x h = absurd (cc)
 
-still_waits : (fed : Bool) (g : Option Fed) (m : Bool) (x : Fed) → (not fed && is_none g) ≡ true → m ≡ false → (not fed && is_none (cond ((not fed && is_none g) && m) (Some x) g)) ≡ true
+still_waits : (fed : Bool) (g : Option Fed) (m : Bool) (x : Fed) → (not fed && is_none g) ≡ true → m ≡ false
+    → (not fed && is_none (also fed g m x)) ≡ true
 still_waits true g m x h k = absurd (cc)
 still_waits false None true x h k = absurd (cc)
 still_waits false None false x h k = refl
 still_waits false (Some y) m x h k = absurd (cc)
 
-still_gets : (fed : Bool) (g : Option Fed) (m : Bool) (x y : Fed) → g ≡ Some y → cond ((not fed && is_none g) && m) (Some x) g ≡ Some y
+still_gets : (fed : Bool) (g : Option Fed) (m : Bool) (x y : Fed) → g ≡ Some y → also fed g m x ≡ Some y
 still_gets true g m x y h = h
 still_gets false None m x y h = absurd (cc)
 still_gets false (Some z) m x y h = h
@@ -50,13 +53,6 @@ both_true : (a m : Bool) → (a && m) ≡ true → (a ≡ true) × (m ≡ true)
 both_true true m h = (refl, h)
 both_true false m h = absurd (cc)
 
-and_false : (a : Bool) → (a && false) ≡ false
-and_false true = refl
-and_false false = refl
-
-one_or_none : (g : Option Fed) (x : Fed) → g ≡ Some x → ◌≡◌ {A = ℕ} (cond (is_some g) 1 0) 1
-one_or_none g x h = ap {B = ℕ} (λ (o : Option Fed). cond (is_some o) 1 0) h
-
 -- All of them
 
 module _ (p : Bool) (gets : Submission → Option Fed) (subs : List Submission) (old : Owed) (o : Owes gets subs old) where
@@ -68,7 +64,8 @@ module _ (p : Bool) (gets : Submission → Option Fed) (subs : List Submission) 
       ] h
 
   -- none of that name awaits feedback
-  pub none_noted : (e : Option Sub) (new : Owed) → ((t : Sub) (n : ℕ) → is_name e t ≡ true → place_of old t ≡ Some n → true ≡ false) → dues_of p e old ≡ [] → IsNoted e p old new
+  pub none_noted : (e : Option Sub) (new : Owed) → ((t : Sub) (n : ℕ) → is_name e t ≡ true → place_of old t ≡ Some n → true ≡ false)
+      → dues_of p e old ≡ [] → IsNoted e p old new
       → Owes (noted (is_name e) p gets) subs new
   none_noted e new none nothing is =
       owes_same gets (noted (is_name e) p gets) subs new (λ s c. same s c)
@@ -95,7 +92,8 @@ module _ (p : Bool) (gets : Submission → Option Fed) (subs : List Submission) 
       places t = is.places t ∙ places_by t (is_name e t) (place_of old t) refl refl
 
   -- the one of that name, at this place
-  pub one_noted : (x : Sub) (n : ℕ) (new : Owed) → place_of old x ≡ Some n → dues_of p (Some x) old ≡ record { place = n; fed = fed_as p x } ∷ [] → IsNoted (Some x) p old new
+  pub one_noted : (x : Sub) (n : ℕ) (new : Owed) → place_of old x ≡ Some n
+      → dues_of p (Some x) old ≡ record { place = n; fed = fed_as p x } ∷ [] → IsNoted (Some x) p old new
       → Owes (noted (is_name (Some x)) p gets) subs new
   one_noted x n new found due is =
       let d : Due = record { place = n; fed = fed_as p x } in
@@ -131,7 +129,8 @@ module _ (p : Bool) (gets : Submission → Option Fed) (subs : List Submission) 
           let q = o.only t k h in
           (q.0, q.1, q.2, still_waits q.0.fed (gets q.0) (same_sub x (sub_of q.0)) (fed_as p (sub_of q.0)) q.3 (ap (same_sub x) q.2 ∙ e))
 
-      not_here : (k : ℕ) (v : Option Submission) (b : Bool) → slice_get subs k ≡ v → (n == k) ≡ b → ((s : Submission) → v ≡ Some s → sub_of s ≡ x → awaits gets s ≡ true → true ≡ false) → b ≡ false
+      not_here : (k : ℕ) (v : Option Submission) (b : Bool) → slice_get subs k ≡ v → (n == k) ≡ b
+          → ((s : Submission) → v ≡ Some s → sub_of s ≡ x → awaits gets s ≡ true → true ≡ false) → b ≡ false
       not_here k v false at e other = refl
       not_here k v true at e other =
           let same : n ≡ k = grind (arith, nat_tests, e) in

@@ -28,14 +28,17 @@ yes_no t p q = sym p ∙ q
 
 -- where submissions change
 
-pub gets_mapped : (h : Submission → Submission) (gets gets' : Submission → Option Fed) (subs : List Submission) → ((s : Submission) → Contains subs s → gets' (h s) ≡ gets s) → (n : ℕ)
+pub gets_mapped : (h : Submission → Submission) (gets gets' : Submission → Option Fed) (subs : List Submission)
+    → ((s : Submission) → Contains subs s → gets' (h s) ≡ gets s) → (n : ℕ)
     → gets_at gets' (map h subs) n ≡ gets_at gets subs n
 gets_mapped h gets gets' [] e n = refl
 gets_mapped h gets gets' (s ∷ subs) e zero = e s (contains_here s subs)
 gets_mapped h gets gets' (s ∷ subs) e (suc n) = gets_mapped h gets gets' subs (λ t c. e t (contains_there s t subs c)) n
 
-pub owes_mapped : (h : Submission → Submission) (gets gets' : Submission → Option Fed) (subs : List Submission) (f : Owed) → ((s : Submission) → sub_of (h s) ≡ sub_of s)
-    → ((s : Submission) → (h s).fed ≡ s.fed) → ((s : Submission) → Contains subs s → gets' (h s) ≡ gets s) → Owes gets subs f → Owes gets' (map h subs) f
+pub owes_mapped : (h : Submission → Submission) (gets gets' : Submission → Option Fed) (subs : List Submission) (f : Owed)
+    → ((s : Submission) → sub_of (h s) ≡ sub_of s)
+    → ((s : Submission) → (h s).fed ≡ s.fed) → ((s : Submission) → Contains subs s → gets' (h s) ≡ gets s) → Owes gets subs f
+    → Owes gets' (map h subs) f
 owes_mapped h gets gets' subs f names feds same o =
     let still : (s : Submission) → Contains subs s → awaits gets' (h s) ≡ awaits gets s = λ s c i. not (feds s i) && is_none (same s c i) in
     record {
@@ -54,12 +57,14 @@ owes_mapped h gets gets' subs f names feds same o =
 
 -- where they get the same
 
-pub gets_same : (gets gets' : Submission → Option Fed) (subs : List Submission) → ((s : Submission) → Contains subs s → gets' s ≡ gets s) → (n : ℕ) → gets_at gets' subs n ≡ gets_at gets subs n
+pub gets_same : (gets gets' : Submission → Option Fed) (subs : List Submission) → ((s : Submission) → Contains subs s → gets' s ≡ gets s)
+    → (n : ℕ) → gets_at gets' subs n ≡ gets_at gets subs n
 gets_same gets gets' [] e n = refl
 gets_same gets gets' (s ∷ subs) e zero = e s (contains_here s subs)
 gets_same gets gets' (s ∷ subs) e (suc n) = gets_same gets gets' subs (λ t c. e t (contains_there s t subs c)) n
 
-pub owes_same : (gets gets' : Submission → Option Fed) (subs : List Submission) (f : Owed) → ((s : Submission) → Contains subs s → gets' s ≡ gets s) → Owes gets subs f → Owes gets' subs f
+pub owes_same : (gets gets' : Submission → Option Fed) (subs : List Submission) (f : Owed)
+    → ((s : Submission) → Contains subs s → gets' s ≡ gets s) → Owes gets subs f → Owes gets' subs f
 owes_same gets gets' subs f same o =
     let still : (s : Submission) → Contains subs s → awaits gets' s ≡ awaits gets s = λ s c i. not s.fed && is_none (same s c i) in
     record {
@@ -74,7 +79,8 @@ owes_same gets gets' subs f same o =
 
 -- where the same is kept
 
-pub owes_alike : (gets : Submission → Option Fed) (subs : List Submission) (old new : Owed) → ((t : Sub) → place_of new t ≡ place_of old t) → new.due ≡ old.due → new.accepted ≡ old.accepted
+pub owes_alike : (gets : Submission → Option Fed) (subs : List Submission) (old new : Owed)
+    → ((t : Sub) → place_of new t ≡ place_of old t) → new.due ≡ old.due → new.accepted ≡ old.accepted
     → Owes gets subs old → Owes gets subs new
 owes_alike gets subs old new places due accepted o =
     record {
@@ -87,9 +93,11 @@ owes_alike gets subs old new places due accepted o =
 
 -- where what is due was given
 
-pub owes_given : (h : Submission → Submission) (gets gets' : Submission → Option Fed) (subs : List Submission) (old new : Owed) → ((s : Submission) → sub_of (h s) ≡ sub_of s)
+pub owes_given : (h : Submission → Submission) (gets gets' : Submission → Option Fed) (subs : List Submission) (old new : Owed)
+    → ((s : Submission) → sub_of (h s) ≡ sub_of s)
     → ((s : Submission) → awaits gets' (h s) ≡ awaits gets s) → ((s : Submission) → gets' (h s) ≡ None)
-    → ((t : Sub) → place_of new t ≡ place_of old t) → new.due ≡ [] → new.accepted ≡ old.accepted → Owes gets subs old → Owes gets' (map h subs) new
+    → ((t : Sub) → place_of new t ≡ place_of old t) → new.due ≡ [] → new.accepted ≡ old.accepted → Owes gets subs old
+    → Owes gets' (map h subs) new
 owes_given h gets gets' subs old new names still none places due accepted o =
     let nothing : (n : ℕ) → gets_at gets' (map h subs) n ≡ None = gets_none subs in
     record {
@@ -111,13 +119,15 @@ owes_given h gets gets' subs old new names still none places due accepted o =
 
 -- where one more is accepted
 
-pub gets_more : (gets : Submission → Option Fed) (subs : List Submission) (s : Submission) → gets s ≡ None → (n : ℕ) → gets_at gets (subs ++ s ∷ []) n ≡ gets_at gets subs n
+pub gets_more : (gets : Submission → Option Fed) (subs : List Submission) (s : Submission) → gets s ≡ None → (n : ℕ)
+    → gets_at gets (subs ++ s ∷ []) n ≡ gets_at gets subs n
 gets_more gets [] s e zero = e
 gets_more gets [] s e (suc n) = refl
 gets_more gets (x ∷ subs) s e zero = refl
 gets_more gets (x ∷ subs) s e (suc n) = gets_more gets subs s e n
 
-first_at : (subs : List Submission) (s : Submission) (n : ℕ) (u : Submission) → slice_get subs n ≡ Some u → slice_get (subs ++ s ∷ []) n ≡ Some u
+first_at : (subs : List Submission) (s : Submission) (n : ℕ) (u : Submission) → slice_get subs n ≡ Some u
+    → slice_get (subs ++ s ∷ []) n ≡ Some u
 first_at [] s n u h = let no_way : true ≡ false = none_some u None refl h in absurd (cc)
 first_at (x ∷ subs) s zero u h = h
 first_at (x ∷ subs) s (suc n) u h = first_at subs s n u h
@@ -130,7 +140,8 @@ pub same_self : (t : Sub) → same_sub t t ≡ true
 same_self t = grind (arith, nat_tests)
 
 pub owes_added : (gets : Submission → Option Fed) (subs : List Submission) (s : Submission) (old new : Owed) → gets s ≡ None → s.fed ≡ false
-    → ((n : ℕ) (u : Submission) → slice_get subs n ≡ Some u → same_sub (sub_of s) (sub_of u) ≡ false) → IsAdded (sub_of s) old new → Owes gets subs old → Owes gets (subs ++ s ∷ []) new
+    → ((n : ℕ) (u : Submission) → slice_get subs n ≡ Some u → same_sub (sub_of s) (sub_of u) ≡ false) → IsAdded (sub_of s) old new
+    → Owes gets subs old → Owes gets (subs ++ s ∷ []) new
 owes_added gets subs s old new none unfed other added o = record {
   accepted = added.accepted ∙ ap (λ n. n + 1) o.accepted ∙ sym (longer subs);
   places = λ n u at waits. elim (at_push subs s n u at) [

@@ -26,7 +26,8 @@ not_open x y ys h less = none_behind x (y ∷ ys) (two_true _ _ less (all_over x
 open_here : (x : Sub) (xs : List Sub) → is_open (x ∷ xs) x ≡ true
 open_here x xs = ap (λ t. t || is_open xs x) (same_self x)
 
-first_same : (x y : Sub) (xs ys : List Sub) → list_all (before x) xs ≡ true → list_all (before y) ys ≡ true → ((t : Sub) → is_open (x ∷ xs) t ≡ is_open (y ∷ ys) t) → x ≡ y
+first_same : (x y : Sub) (xs ys : List Sub) → list_all (before x) xs ≡ true → list_all (before y) ys ≡ true
+    → ((t : Sub) → is_open (x ∷ xs) t ≡ is_open (y ∷ ys) t) → x ≡ y
 first_same x y xs ys h k same = by (before x y) (before y x) refl refl
   where
     by : (a b : Bool) → before x y ≡ a → before y x ≡ b → x ≡ y
@@ -37,7 +38,8 @@ first_same x y xs ys h k same = by (before x y) (before y x) refl refl
       | inr d ↦ let no_way = yes_no (before y x) (or_after x y e d) f in absurd (cc)
     ]
 
-rest_same : (x : Sub) (xs ys : List Sub) → list_all (before x) xs ≡ true → list_all (before x) ys ≡ true → ((t : Sub) → is_open (x ∷ xs) t ≡ is_open (x ∷ ys) t) → (t : Sub) → is_open xs t ≡ is_open ys t
+rest_same : (x : Sub) (xs ys : List Sub) → list_all (before x) xs ≡ true → list_all (before x) ys ≡ true
+    → ((t : Sub) → is_open (x ∷ xs) t ≡ is_open (x ∷ ys) t) → (t : Sub) → is_open xs t ≡ is_open ys t
 rest_same x xs ys h k same t = by (same_sub x t) refl (same t)
   where
     by : (b : Bool) → same_sub x t ≡ b → (b || is_open xs t) ≡ (b || is_open ys t) → is_open xs t ≡ is_open ys t
@@ -60,7 +62,8 @@ one_list (x ∷ xs) (y ∷ ys) h k same =
 -- Those of the state, by client and ordinal
 
 -- what is in order stays so behind what comes before it
-joined : (xs ys : List Sub) → in_order xs ≡ true → in_order ys ≡ true → ((x y : Sub) → Contains xs x → Contains ys y → before x y ≡ true) → in_order (xs ++ ys) ≡ true
+joined : (xs ys : List Sub) → in_order xs ≡ true → in_order ys ≡ true → ((x y : Sub) → Contains xs x → Contains ys y → before x y ≡ true)
+    → in_order (xs ++ ys) ≡ true
 unfolding in_order
 joined [] ys h k less = k
 joined (x ∷ xs) ys h k less =
@@ -122,7 +125,8 @@ AreNumbered clients = (n m : ℕ) (c d : Client) → slice_get clients n ≡ Som
 listed : List Submission → Client → List Sub
 listed subs c = map sub_of (filter (unfed_by c.number) subs)
 
-all_listed : (subs : List Submission) (clients : List Client) → AreOrdered subs → AreNumbered clients → in_order (flat_map (listed subs) clients) ≡ true
+all_listed : (subs : List Submission) (clients : List Client) → AreOrdered subs → AreNumbered clients
+    → in_order (flat_map (listed subs) clients) ≡ true
 unfolding in_order listed
 all_listed subs [] ordered numbered = refl
 all_listed subs (c ∷ clients) ordered numbered =
@@ -147,11 +151,12 @@ any_filter : (q p : Submission → Bool) (xs : List Submission) → list_any p (
 any_filter q p [] = refl
 any_filter q p (x ∷ xs) =
     elim (q x) as (λ (b : Bool). list_any p (cond b (x ∷ filter q xs) (filter q xs)) ≡ ((b && p x) || list_any (λ x. q x && p x) xs)) [
-  | true ↦ ap (λ b. p x || b) (any_filter q p xs)
-  | false ↦ any_filter q p xs
-]
+      | true ↦ ap (λ b. p x || b) (any_filter q p xs)
+      | false ↦ any_filter q p xs
+    ]
 
-has_listed : (subs : List Submission) (c : Client) (t : Sub) → is_open (listed subs c) t ≡ list_any (λ s. unfed_by c.number s && same_sub (sub_of s) t) subs
+has_listed : (subs : List Submission) (c : Client) (t : Sub)
+    → is_open (listed subs c) t ≡ list_any (λ s. unfed_by c.number s && same_sub (sub_of s) t) subs
 unfolding listed
 has_listed subs c t =
     any_map sub_of (λ x. same_sub x t) (λ s. same_sub (sub_of s) t) (filter (unfed_by c.number) subs) (λ s. refl) ∙ any_filter (unfed_by c.number) (λ s. same_sub (sub_of s) t) subs
@@ -202,7 +207,8 @@ has_place w f t h o =
 by_number : (w : World) → KeepsAlways w → AreNumbered w.clients
 by_number w keeps n m c d at there l = let a = keeps.clients.numbered n c at in let b = keeps.clients.numbered m d there in omega (arith, a, b, l)
 
-pub rest_is : (w : World) (f : Owed) (list : List Sub) → Keeps w → AreOwed w f → in_order list ≡ true → ((t : Sub) → is_open list t ≡ is_some (place_of f t)) → list ≡ (rest_in w).unfed
+pub rest_is : (w : World) (f : Owed) (list : List Sub) → Keeps w → AreOwed w f → in_order list ≡ true
+    → ((t : Sub) → is_open list t ≡ is_some (place_of f t)) → list ≡ (rest_in w).unfed
 unfolding rest_in listed unfed_by
 rest_is w f list h o sorted same =
     one_list list (flat_map (unfed_of w) w.clients) sorted (all_listed w.subs w.clients h.always.numbers.ordered (by_number w h.always))

@@ -25,10 +25,12 @@ counted (x ∷ list) d c =
       | inr r ↦ let rest = counted list d r in omega (arith, split, rest)
     ]
 
-first_least : (d : Due) (list : List Due) (x : Due) → IsNonDecreasingBy (λ (y : Due). y.place) (d ∷ list) → Contains list x → d.place ≤ x.place
+first_least : (d : Due) (list : List Due) (x : Due) → IsNonDecreasingBy (λ (y : Due). y.place) (d ∷ list) → Contains list x
+    → d.place ≤ x.place
 first_least d list x rises c = let less = rises 0 (suc c.0) x (omega arith) (omega (arith, c.1)) in subst (λ (y : Due). d.place ≤ y.place) c.2 less
 
-rest_rises : (d : Due) (list : List Due) → IsNonDecreasingBy (λ (y : Due). y.place) (d ∷ list) → IsNonDecreasingBy (λ (y : Due). y.place) list
+rest_rises : (d : Due) (list : List Due) → IsNonDecreasingBy (λ (y : Due). y.place) (d ∷ list)
+    → IsNonDecreasingBy (λ (y : Due). y.place) list
 rest_rises d list rises i j e l h = rises (suc i) (suc j) e (omega (arith, l)) (omega (arith, h))
 
 -- a list of what the submissions from a place on get, each once
@@ -46,7 +48,8 @@ none_given gets from d list g =
     absurd (cc)
 
 -- the first submission gets none
-step_none : (gets : Submission → Option Fed) (from : ℕ) (s : Submission) (subs : List Submission) (list : List Due) → gets s ≡ None → AreGiven gets from (s ∷ subs) list → AreGiven gets (from + 1) subs list
+step_none : (gets : Submission → Option Fed) (from : ℕ) (s : Submission) (subs : List Submission) (list : List Due) → gets s ≡ None
+    → AreGiven gets from (s ∷ subs) list → AreGiven gets (from + 1) subs list
 step_none gets from s subs list none g = record {
   rises = g.rises;
   above = λ d c. above d c (from == d.place) refl;
@@ -65,7 +68,8 @@ step_none gets from s subs list none g = record {
     above d c false e = let least = g.above d c in grind (arith, nat_tests, e, least)
 
 -- the first submission gets some, which stands first
-step_some : (gets : Submission → Option Fed) (from : ℕ) (s : Submission) (subs : List Submission) (d : Due) (list : List Due) → d.place ≡ from → AreGiven gets from (s ∷ subs) (d ∷ list) → AreGiven gets (from + 1) subs list
+step_some : (gets : Submission → Option Fed) (from : ℕ) (s : Submission) (subs : List Submission) (d : Due) (list : List Due)
+    → d.place ≡ from → AreGiven gets from (s ∷ subs) (d ∷ list) → AreGiven gets (from + 1) subs list
 step_some gets from s subs d list at g = record {
   rises = rest_rises d list g.rises;
   above = λ x c. above x c (from == x.place) refl;
@@ -103,10 +107,12 @@ step_some gets from s subs d list at g = record {
         (λ i. count_by (λ (y : Due). y.place == shift k i) list) ∙ (let e : count_by (λ (y : Due). y.place == from + suc k) list ≡ count_by (λ (y : Due). y.place == from + suc k) (d ∷ list) = omega (arith, split, none) in e) ∙ all
 
 -- the first submission gets some: it is the first one that is due
-first_given : (gets : Submission → Option Fed) (from : ℕ) (s : Submission) (subs : List Submission) (d : Due) (list : List Due) (x : Fed) → gets s ≡ Some x → AreGiven gets from (s ∷ subs) (d ∷ list) → d.place ≡ from
+first_given : (gets : Submission → Option Fed) (from : ℕ) (s : Submission) (subs : List Submission) (d : Due) (list : List Due) (x : Fed)
+    → gets s ≡ Some x → AreGiven gets from (s ∷ subs) (d ∷ list) → d.place ≡ from
 first_given gets from s subs d list x some g = by (d.place == from) refl
   where
-    none_there : (xs : List Due) → ((y : Due) → Contains xs y → (y.place == from + 0) ≡ false) → count_by (λ (y : Due). y.place == from + 0) xs ≡ 0
+    none_there : (xs : List Due) → ((y : Due) → Contains xs y → (y.place == from + 0) ≡ false)
+        → count_by (λ (y : Due). y.place == from + 0) xs ≡ 0
     none_there xs h = count_none (λ (y : Due). y.place == from + 0) xs h
 
     by : (b : Bool) → (d.place == from) ≡ b → d.place ≡ from
@@ -122,18 +128,22 @@ first_given gets from s subs d list x some g = by (d.place == from) refl
         let all = g.once 0 in
         absurd (omega (arith, none, one, all))
 
-nothing_given : (gets : Submission → Option Fed) (from : ℕ) (s : Submission) (subs : List Submission) (x : Fed) → gets s ≡ Some x → AreGiven gets from (s ∷ subs) [] → true ≡ false
+nothing_given : (gets : Submission → Option Fed) (from : ℕ) (s : Submission) (subs : List Submission) (x : Fed) → gets s ≡ Some x
+    → AreGiven gets from (s ∷ subs) [] → true ≡ false
 nothing_given gets from s subs x some g =
     let one : ◌≡◌ {A = ℕ} (cond (is_some (gets s)) 1 0) 1 = ap {B = ℕ} (λ (o : Option Fed). cond (is_some o) 1 0) some in
     let all = g.once 0 in
     absurd (omega (arith, one, all))
 
-in_order_given : (gets : Submission → Option Fed) (from : ℕ) (subs : List Submission) (list : List Due) → AreGiven gets from subs list → map (λ (d : Due). d.fed) list ≡ filter_map gets subs
+in_order_given : (gets : Submission → Option Fed) (from : ℕ) (subs : List Submission) (list : List Due) → AreGiven gets from subs list
+    → map (λ (d : Due). d.fed) list ≡ filter_map gets subs
 in_order_given gets from [] [] g = refl
 in_order_given gets from [] (d ∷ list) g = let no_way : true ≡ false = none_given gets from d list g in absurd (cc)
 in_order_given gets from (s ∷ subs) list g = by (λ l. in_order_given gets (from + 1) subs l) (gets s) refl list g
   where
-    by : ((list : List Due) → AreGiven gets (from + 1) subs list → map (λ (d : Due). d.fed) list ≡ filter_map gets subs) → (v : Option Fed) → gets s ≡ v → (list : List Due) → AreGiven gets from (s ∷ subs) list → map (λ (d : Due). d.fed) list ≡ filter_map gets (s ∷ subs)
+    by : ((list : List Due) → AreGiven gets (from + 1) subs list → map (λ (d : Due). d.fed) list ≡ filter_map gets subs)
+        → (v : Option Fed) → gets s ≡ v → (list : List Due) → AreGiven gets from (s ∷ subs) list
+        → map (λ (d : Due). d.fed) list ≡ filter_map gets (s ∷ subs)
     by others None e list g = others list (step_none gets from s subs list e g) ∙ ap (λ v. cons_option v (filter_map gets subs)) (sym e)
     by others (Some x) e [] g = let no_way : true ≡ false = nothing_given gets from s subs x e g in absurd (cc)
     by others (Some x) e (d ∷ list) g =
@@ -142,7 +152,8 @@ in_order_given gets from (s ∷ subs) list g = by (λ l. in_order_given gets (fr
         let rest = others list (step_some gets from s subs d list at g) in
         (λ i. some_same d.fed x (sym own) i ∷ rest i) ∙ ap (λ v. cons_option v (filter_map gets subs)) (sym e)
 
-pub fed_in_order : (gets : Submission → Option Fed) (subs : List Submission) (f : Owed) (list : List Due) → Owes gets subs f → IsPermutation f.due list → IsNonDecreasingBy (λ (d : Due). d.place) list
+pub fed_in_order : (gets : Submission → Option Fed) (subs : List Submission) (f : Owed) (list : List Due) → Owes gets subs f
+    → IsPermutation f.due list → IsNonDecreasingBy (λ (d : Due). d.place) list
     → map (λ (d : Due). d.fed) list ≡ filter_map gets subs
 fed_in_order gets subs f list o same rises =
     in_order_given gets 0 subs list (record {

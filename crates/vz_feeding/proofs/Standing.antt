@@ -33,7 +33,8 @@ fed_length (x ∷ list) s sorted there =
     let order = both (list_all (before x) list) (in_order list) sorted in
     by (λ t. fed_length list s order.1 t) (same_sub x s) refl there (order.0)
   where
-    by : ((is_open list s ≡ true) → length (fed s list) + 1 ≡ length list) → (b : Bool) → same_sub x s ≡ b → (b || is_open list s) ≡ true → list_all (before x) list ≡ true
+    by : ((is_open list s ≡ true) → length (fed s list) + 1 ≡ length list) → (b : Bool) → same_sub x s ≡ b → (b || is_open list s) ≡ true
+        → list_all (before x) list ≡ true
         → length (cond (not b) (x ∷ fed s list) (fed s list)) + 1 ≡ length (x ∷ list)
     by rest true e h all =
         let none : is_open list s ≡ false = ap (is_open list) (sym (from_same_sub x s e)) ∙ none_behind x list all in
@@ -47,8 +48,10 @@ told_none : (a b : Bool) (o : Option ℕ) (v : Option ℕ) → v ≡ cond a None
 told_none true b o v e h = ap is_some (sym e)
 told_none false b o v e h = h ∙ ap is_some (sym e)
 
-pub kept_noted : (unfed fewer : List Sub) (places left : List (Sub × ℕ)) (s : Sub) (n free rest : ℕ) → AreKept unfed places free → fewer ≡ fed s unfed → Some n ≡ lookup (same_sub s) places
-    → ((t : Sub) → lookup (same_sub t) left ≡ cond (same_sub s t) None (lookup (same_sub t) places)) → length left + 1 ≡ length places → rest + 1 ≡ free → AreKept fewer left rest
+pub kept_noted : (unfed fewer : List Sub) (places left : List (Sub × ℕ)) (s : Sub) (n free rest : ℕ) → AreKept unfed places free
+    → fewer ≡ fed s unfed → Some n ≡ lookup (same_sub s) places
+    → ((t : Sub) → lookup (same_sub t) left ≡ cond (same_sub s t) None (lookup (same_sub t) places)) → length left + 1 ≡ length places
+    → rest + 1 ≡ free → AreKept fewer left rest
 kept_noted unfed fewer places left s n free rest k list found others len less =
     let there : is_open unfed s ≡ true = k.same s ∙ ap is_some (sym found) in
     let long = ap length list in
@@ -63,7 +66,8 @@ kept_noted unfed fewer places left s n free rest k list found others len less =
     }
 
 -- how many await feedback or have it due
-pub count_noted : (unfed fewer : List Sub) (places : List (Sub × ℕ)) (s : Sub) (n free : ℕ) → AreKept unfed places free → fewer ≡ fed s unfed → Some n ≡ lookup (same_sub s) places → length fewer + 1 ≡ length unfed
+pub count_noted : (unfed fewer : List Sub) (places : List (Sub × ℕ)) (s : Sub) (n free : ℕ) → AreKept unfed places free
+    → fewer ≡ fed s unfed → Some n ≡ lookup (same_sub s) places → length fewer + 1 ≡ length unfed
 count_noted unfed fewer places s n free k list found =
     let there : is_open unfed s ≡ true = k.same s ∙ ap is_some (sym found) in
     ap (λ l. length l + 1) list ∙ fed_length unfed s k.sorted there
@@ -74,8 +78,10 @@ told_some : (a b : Bool) (m : ℕ) (o : Option ℕ) (v : Option ℕ) → v ≡ c
 told_some true b m o v e h = ap is_some (sym e)
 told_some false b m o v e h = h ∙ ap is_some (sym e)
 
-pub kept_added : (unfed more : List Sub) (places longer : List (Sub × ℕ)) (s : Sub) (m free : ℕ) → AreKept unfed places free → more ≡ opened s unfed → lookup (same_sub s) places ≡ None
-    → ((t : Sub) → lookup (same_sub t) longer ≡ cond (same_sub s t) (Some m) (lookup (same_sub t) places)) → length longer ≡ length places + 1 → length places < free → AreKept more longer free
+pub kept_added : (unfed more : List Sub) (places longer : List (Sub × ℕ)) (s : Sub) (m free : ℕ) → AreKept unfed places free
+    → more ≡ opened s unfed → lookup (same_sub s) places ≡ None
+    → ((t : Sub) → lookup (same_sub t) longer ≡ cond (same_sub s t) (Some m) (lookup (same_sub t) places))
+    → length longer ≡ length places + 1 → length places < free → AreKept more longer free
 kept_added unfed more places longer s m free k list new others len less =
     let none : is_open unfed s ≡ false = k.same s ∙ ap is_some new in
     let long = ap length list ∙ insert_length unfed (place_in unfed s) s in

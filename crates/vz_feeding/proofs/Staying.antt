@@ -46,15 +46,18 @@ answered : (t : Bool) (a b : Answer) (f : Owed) → AreOwed a.world f → AreOwe
 answered true a b f o q = o
 answered false a b f o q = q
 
-refused_or : (w : World) (c : Client) (r : Option Refusal) (a : Answer) (f : Owed) → AreOwed w f → AreOwed a.world f → AreOwed (unless_refused w c r a).world f
+refused_or : (w : World) (c : Client) (r : Option Refusal) (a : Answer) (f : Owed) → AreOwed w f → AreOwed a.world f
+    → AreOwed (unless_refused w c r a).world f
 refused_or w c None a f o q = q
 refused_or w c (Some r) a f o q = o
 
-pub stays_uploaded : (w : World) (c : Client) (id : ℕ) (block : Block) (f : Owed) → AreOwed w f → AreOwed (upload_answer w c id block).world f
+pub stays_uploaded : (w : World) (c : Client) (id : ℕ) (block : Block) (f : Owed) → AreOwed w f
+    → AreOwed (upload_answer w c id block).world f
 unfolding upload_answer
 stays_uploaded w c id block f o = answered (in_use c.resources id) _ _ f o o
 
-pub stays_related : (w : World) (c : Client) (parent child : FrameSinkId) (f : Owed) → AreOwed w f → AreOwed (hierarchy_answer w c parent child).world f
+pub stays_related : (w : World) (c : Client) (parent child : FrameSinkId) (f : Owed) → AreOwed w f
+    → AreOwed (hierarchy_answer w c parent child).world f
 unfolding hierarchy_answer
 stays_related w c parent child f o = refused_or w c (hierarchy_refusal w c parent child) _ f o o
 
@@ -62,7 +65,8 @@ pub stays_rooted : (w : World) (c : Client) (local : LocalSurfaceId) (f : Owed) 
 unfolding root_answer
 stays_rooted w c local f o = answered (Rattle.std.specs.Prelude.eqb c.number 1) _ _ f o o
 
-begun_by : (r : Option ℕ) (g : ℕ → Answer) (b : Answer) (f : Owed) → ((n : ℕ) → AreOwed (g n).world f) → AreOwed b.world f → AreOwed (elim r as (λ _. Answer) [ Some n ↦ g n | None ↦ b ]).world f
+begun_by : (r : Option ℕ) (g : ℕ → Answer) (b : Answer) (f : Owed) → ((n : ℕ) → AreOwed (g n).world f) → AreOwed b.world f
+    → AreOwed (elim r as (λ _. Answer) [ Some n ↦ g n | None ↦ b ]).world f
 begun_by None g b f o q = q
 begun_by (Some n) g b f o q = o n
 
@@ -84,11 +88,13 @@ stays_over p w f o = o
 
 -- Between steps
 
-stood : (fed a b flies : Bool) (x : Fed) → (fed ≡ false → (a || b) ≡ true) → ◌≡◌ {A = Option Fed} (cond fed None (cond (not (a || b) && not flies) (Some x) None)) None
+stood : (fed a b flies : Bool) (x : Fed) → (fed ≡ false → (a || b) ≡ true)
+    → ◌≡◌ {A = Option Fed} (cond fed None (cond (not (a || b) && not flies) (Some x) None)) None
 stood true a b flies x h = refl
 stood false a b flies x h = ap (λ t. cond (not t && not flies) (Some x) None) (h refl)
 
-held_back : (fed ends flies : Bool) (x : Fed) → (fed ≡ false → ends ≡ true → flies ≡ true) → ◌≡◌ {A = Option Fed} (cond fed None (cond (ends && not flies) (Some x) None)) None
+held_back : (fed ends flies : Bool) (x : Fed) → (fed ≡ false → ends ≡ true → flies ≡ true)
+    → ◌≡◌ {A = Option Fed} (cond fed None (cond (ends && not flies) (Some x) None)) None
 held_back true ends flies x h = refl
 held_back false false flies x h = refl
 held_back false true flies x h = ap (λ t. cond (true && not t) (Some x) None) (h refl refl)
@@ -104,27 +110,32 @@ none_gets w s h c =
     ⊎_elim (λ stands. let no_way : true ≡ false = not_ended (is_waiting s || is_active s) stands ends in absurd (cc)) (λ flies. flies) (unfed_open w s h c e))
 
 -- nor where a frame is drawn now
-none_gets_drawn : (w : World) (drawn : List Sub) (s : Submission) → Keeps w → w.in_flight ≡ None → Contains w.subs s → feedback_of (record w { in_flight = Some drawn }) [] s ≡ None
+none_gets_drawn : (w : World) (drawn : List Sub) (s : Submission) → Keeps w → w.in_flight ≡ None → Contains w.subs s
+    → feedback_of (record w { in_flight = Some drawn }) [] s ≡ None
 none_gets_drawn w drawn s h none c =
     stood s.fed (is_waiting s) (is_active s) (is_in_flight (Some drawn) (sub_of s)) _ (λ e.
     ⊎_elim (λ stands. stands) (λ flies. let no_way : true ≡ false = sym flies ∙ ap (λ o. is_in_flight o (sub_of s)) none in absurd (cc)) (unfed_open w s h c e))
 
-drawn_owed : (w : World) (drawn : List Sub) (f : Owed) → Keeps w → w.in_flight ≡ None → AreOwed w f → AreOwed (record w { in_flight = Some drawn }) f
+drawn_owed : (w : World) (drawn : List Sub) (f : Owed) → Keeps w → w.in_flight ≡ None → AreOwed w f
+    → AreOwed (record w { in_flight = Some drawn }) f
 drawn_owed w drawn f h none o =
     owes_same (feedback_of w []) (feedback_of (record w { in_flight = Some drawn }) []) w.subs f (λ s c. none_gets_drawn w drawn s h none c ∙ sym (none_gets w s h c)) o
 
-scene_owed : (p : Plan) (w : World) (scene : Scene) (f : Owed) → Keeps w → w.in_flight ≡ None → AreOwed w f → AreOwed (scene_answer p w scene).world f
+scene_owed : (p : Plan) (w : World) (scene : Scene) (f : Owed) → Keeps w → w.in_flight ≡ None → AreOwed w f
+    → AreOwed (scene_answer p w scene).world f
 unfolding scene_answer
 scene_owed p w scene f h none o =
     let walked = walk_of p.size scene in
     let damage = drawn_damage p.size w.last (accepted_frames w) scene.root walked in
     answered (too_much walked) _ _ f o (answered (is_some w.last && is_empty_rect damage) _ _ f o (drawn_owed w (walked_subs scene walked) f h none o))
 
-seen_or : (r : Option Scene) (g : Scene → Answer) (b : Answer) (f : Owed) → ((s : Scene) → AreOwed (g s).world f) → AreOwed b.world f → AreOwed (elim r as (λ _. Answer) [ Some s ↦ g s | None ↦ b ]).world f
+seen_or : (r : Option Scene) (g : Scene → Answer) (b : Answer) (f : Owed) → ((s : Scene) → AreOwed (g s).world f) → AreOwed b.world f
+    → AreOwed (elim r as (λ _. Answer) [ Some s ↦ g s | None ↦ b ]).world f
 seen_or None g b f o q = q
 seen_or (Some s) g b f o q = o s
 
-busy_or : (w : World) (v : Option (List Sub)) (a b : Answer) (f : Owed) → w.in_flight ≡ v → AreOwed a.world f → (w.in_flight ≡ None → AreOwed b.world f) → AreOwed (cond (is_some v) a b).world f
+busy_or : (w : World) (v : Option (List Sub)) (a b : Answer) (f : Owed) → w.in_flight ≡ v → AreOwed a.world f
+    → (w.in_flight ≡ None → AreOwed b.world f) → AreOwed (cond (is_some v) a b).world f
 busy_or w None a b f e o q = q e
 busy_or w (Some drawn) a b f e o q = o
 
@@ -134,7 +145,8 @@ stays_drawn p w f h o = busy_or w w.in_flight _ _ f refl o (λ none. seen_or (sc
 
 -- What is known
 
-pub new_unplaced : (w : World) (c : Client) (local : LocalSurfaceId) (frame : CompositorFrame) (f : Owed) → KeepsAlways w → AreOwed w f → place_of f (sub_of (new_submission w c local frame)) ≡ None
+pub new_unplaced : (w : World) (c : Client) (local : LocalSurfaceId) (frame : CompositorFrame) (f : Owed) → KeepsAlways w → AreOwed w f
+    → place_of f (sub_of (new_submission w c local frame)) ≡ None
 unfolding new_submission
 new_unplaced w c local frame f keeps o = by (place_of f sub) refl
   where
@@ -148,7 +160,8 @@ new_unplaced w c local frame f keeps o = by (place_of f sub) refl
         let no_way : true ≡ false = yes_no (same_sub sub (sub_of m.0)) (ap (same_sub sub) m.2 ∙ same_self sub) (new_name w keeps c.number n m.0 m.1) in
         absurd (cc)
 
-pub few_accepted : (p : Plan) (w : World) (f : Owed) → IsPlan p → KeepsAlways w → KeepsPlan p w → KeepsMessages w → AreOwed w f → f.accepted < 18446744073709551615
+pub few_accepted : (p : Plan) (w : World) (f : Owed) → IsPlan p → KeepsAlways w → KeepsPlan p w → KeepsMessages w → AreOwed w f
+    → f.accepted < 18446744073709551615
 few_accepted p w f plan keeps of_plan messages o = let short = (lists_short p w plan keeps of_plan messages).subs in omega (arith, o.accepted, short)
 
 pub nothing_due : (w : World) (f : Owed) → Keeps w → AreOwed w f → f.due ≡ []

@@ -8,5 +8,5 @@ pub returns : goal.returns
 returns c =
     record {
       owed = λ p. first_owed p (record { unfed = c.new.result.list; places = c.new-2.result.entries; due = c.new-3.result.items; accepted = 0 })
-      (λ t. ap (lookup (same_sub t)) c.new-2.ensures.empty) c.new-3.ensures.items refl;
+          (λ t. ap (lookup (same_sub t)) c.new-2.ensures.empty) c.new-3.ensures.items refl;
     }
