@@ -62,7 +62,8 @@ module _ (w : World) (keeps : KeepsAlways w) where
     where
       by : (v : Option Submission) → find test w.subs ≡ v
           → is_name (dropped_by (option_map (ended_of w) v)) (sub_of u) ≡ (test u && not (is_in_flight w.in_flight (sub_of u)))
-      by None e = no_one (test u) (not (is_in_flight w.in_flight (sub_of u))) (λ h. yes_no (is_some (find test w.subs)) (found test w.subs ∙ any_from test w.subs u c h) (ap is_some e))
+      by None e =
+          no_one (test u) (not (is_in_flight w.in_flight (sub_of u))) (λ h. yes_no (is_some (find test w.subs)) (found test w.subs ∙ any_from test w.subs u c h) (ap is_some e))
         where
           no_one : (a b : Bool) → (a ≡ true → true ≡ false) → false ≡ (a && b)
           no_one true b h = let no_way = h refl in absurd (cc)
@@ -134,31 +135,35 @@ and_second true b h false = refl
 and_second false b h c = absurd (cc)
 
 pub owed_accepted : (w : World) (c : Client) (local : LocalSurfaceId) (frame : CompositorFrame) (old mid new : Owed) (sub : Sub) (replaced : Option Ended)
-    → KeepsAlways w → AreOwed w old
+    (dropped : Option Sub) → KeepsAlways w → AreOwed w old
     → sub ≡ sub_of (new_submission w c local frame) → replaced ≡ waiting_on w (id_of c local)
-    → IsNoted (dropped_by replaced) false old mid → IsAdded sub mid new
+    → dropped ≡ dropped_by replaced → IsNoted dropped false old mid → IsAdded sub mid new
     → AreOwed (accepted w c local frame).world new
 unfolding accepted new_submission
-owed_accepted w c local frame old mid new sub replaced keeps o name told noted' added =
+owed_accepted w c local frame old mid new sub replaced dropped keeps o name told drops noted' added =
     let id = id_of c local in
     let s = new_submission w c local frame in
-    let is = subst (λ r. IsNoted (dropped_by r) false old mid) told noted' in
+    let is = subst (λ r. IsNoted r false old mid) (drops ∙ ap dropped_by told) noted' in
     let one = owes_noted false (feedback_of w []) w.subs old o (dropped_by (waiting_on w id)) mid is in
     let changed = owes_mapped (replace_on id) (noted (is_name (dropped_by (waiting_on w id))) false (feedback_of w [])) (feedback_of w []) w.subs mid
     (λ u. kept_sub (is_waiting u && is_on id u) Dropped u) (λ u. kept_fed (is_waiting u && is_on id u) Dropped u)
-    (λ u m. ends_one w u Dropped (is_waiting u && is_on id u) _ refl (λ h. and_first (is_waiting u) (is_on id u) h (is_active u)) (told_waiting w keeps id u m)) one in
+    (λ u m.
+    ends_one w u Dropped (is_waiting u && is_on id u) _ refl (λ h. and_first (is_waiting u) (is_on id u) h (is_active u))
+    (told_waiting w keeps id u m)) one in
     let other : (n : ℕ) (u : Submission) → slice_get (map (replace_on id) w.subs) n ≡ Some u → same_sub (sub_of s) (sub_of u) ≡ false = λ n u at.
     let m = at_map (replace_on id) w.subs n u at in
-    ap (λ (x : Submission). same_sub (sub_of s) (sub_of x)) (sym m.2) ∙ ap (same_sub (sub_of s)) (kept_sub (is_waiting m.0 && is_on id m.0) Dropped m.0) ∙ new_name w keeps c.number n m.0 m.1 in
+    ap (λ (x : Submission). same_sub (sub_of s) (sub_of x)) (sym m.2)
+    ∙ ap (same_sub (sub_of s)) (kept_sub (is_waiting m.0 && is_on id m.0) Dropped m.0) ∙ new_name w keeps c.number n m.0 m.1 in
     owes_added (feedback_of w []) (map (replace_on id) w.subs) s mid new refl refl other (subst (λ x. IsAdded x mid new) name added) changed
 
-pub owed_activated : (w : World) (s : Submission) (old new : Owed) (past : Option Ended) → KeepsAlways w → AreOwed w old
+pub owed_activated : (w : World) (s : Submission) (old new : Owed) (past : Option Ended) (dropped : Option Sub) → KeepsAlways w
+    → AreOwed w old
     → Contains w.subs s → is_waiting s ≡ true
-    → past ≡ active_on w s.submitted.id → IsNoted (dropped_by past) false old new → AreOwed (rising s w) new
+    → past ≡ active_on w s.submitted.id → dropped ≡ dropped_by past → IsNoted dropped false old new → AreOwed (rising s w) new
 unfolding rising
-owed_activated w s old new past keeps o in' waits told noted' =
+owed_activated w s old new past dropped keeps o in' waits told drops noted' =
     let id = s.submitted.id in
-    let is = subst (λ r. IsNoted (dropped_by r) false old new) told noted' in
+    let is = subst (λ r. IsNoted r false old new) (drops ∙ ap dropped_by told) noted' in
     owes_mapped (as_one_rises s) (noted (is_name (dropped_by (active_on w id))) false (feedback_of w [])) (feedback_of w []) w.subs new names feds same
     (owes_noted false (feedback_of w []) w.subs old o (dropped_by (active_on w id)) new is)
   where
@@ -191,7 +196,8 @@ owed_activated w s old new past keeps o in' waits told noted' =
         not_active Dropped h = refl
 
     same_by : (u : Submission) (t : Bool) → Contains w.subs u → same_sub (sub_of u) (sub_of s) ≡ t
-        → feedback_of w [] (cond t (record u { state = Active; was_active = true }) (past_by u)) ≡ noted (is_name (dropped_by (active_on w s.submitted.id))) false (feedback_of w []) u
+        → feedback_of w [] (cond t (record u { state = Active; was_active = true }) (past_by u))
+        ≡ noted (is_name (dropped_by (active_on w s.submitted.id))) false (feedback_of w []) u
     same_by u true c e =
         let this : u ≡ s = one_name w keeps u s c in' e in
         let waiting : is_waiting u ≡ true = ap (λ (x : Submission). is_waiting x) this ∙ waits in
@@ -200,27 +206,33 @@ owed_activated w s old new past keeps o in' waits told noted' =
         none_also u.fed (is_name (dropped_by (active_on w s.submitted.id)) (sub_of u)) (feedback_of w [] u) (fed_as false (sub_of u))
         (open_none u.fed (is_waiting u) (is_active u) flies (fed_as false (sub_of u)) waiting) untold
     same_by u false c e =
-        ends_one w u Past (is_active u && is_on s.submitted.id u) _ refl (λ h. and_second (is_active u) (is_on s.submitted.id u) h (is_waiting u)) (told_active w keeps s.submitted.id u c)
+        ends_one w u Past (is_active u && is_on s.submitted.id u) _ refl
+        (λ h. and_second (is_active u) (is_on s.submitted.id u) h (is_waiting u)) (told_active w keeps s.submitted.id u c)
 
     same : (u : Submission) → Contains w.subs u
         → feedback_of w [] (as_one_rises s u) ≡ noted (is_name (dropped_by (active_on w s.submitted.id))) false (feedback_of w []) u
     same u c = same_by u (same_sub (sub_of u) (sub_of s)) c refl
 
-pub owed_destroyed : (w : World) (c : Created) (old mid new : Owed) (waiting active : Option Ended) → KeepsAlways w → AreOwed w old
+pub owed_destroyed : (w : World) (c : Created) (old mid new : Owed) (waiting active : Option Ended) (dropped past : Option Sub)
+    → KeepsAlways w → AreOwed w old
     → waiting ≡ waiting_on w c.id → active ≡ active_on w c.id
-    → IsNoted (dropped_by waiting) false old mid → IsNoted (dropped_by active) false mid new → AreOwed (going c w) new
+    → dropped ≡ dropped_by waiting → IsNoted dropped false old mid → past ≡ dropped_by active → IsNoted past false mid new
+    → AreOwed (going c w) new
 unfolding going
-owed_destroyed w c old mid new waiting active keeps o first second noted_one noted_two =
-    let one = subst (λ r. IsNoted (dropped_by r) false old mid) first noted_one in
-    let two = subst (λ r. IsNoted (dropped_by r) false mid new) second noted_two in
+owed_destroyed w c old mid new waiting active dropped past keeps o first second drops noted_one ends noted_two =
+    let one = subst (λ r. IsNoted r false old mid) (drops ∙ ap dropped_by first) noted_one in
+    let two = subst (λ r. IsNoted r false mid new) (ends ∙ ap dropped_by second) noted_two in
     let gets = noted (is_name (dropped_by (waiting_on w c.id))) false (feedback_of w []) in
     owes_mapped (drop_on (c ∷ [])) (noted (is_name (dropped_by (active_on w c.id))) false gets) (feedback_of w []) w.subs new
-    (λ u. kept_sub ((is_waiting u || is_active u) && (is_on c.id u || false)) Dropped u) (λ u. kept_fed ((is_waiting u || is_active u) && (is_on c.id u || false)) Dropped u)
+    (λ u. kept_sub ((is_waiting u || is_active u) && (is_on c.id u || false)) Dropped u)
+    (λ u. kept_fed ((is_waiting u || is_active u) && (is_on c.id u || false)) Dropped u)
     (λ u m.
     let x = fed_as false (sub_of u) in
     at_cond (feedback_of w []) ((is_waiting u || is_active u) && (is_on c.id u || false)) (record u { state = Dropped }) u
-    ∙ ended_twice u.fed (is_waiting u) (is_active u) (is_on c.id u) (is_in_flight w.in_flight (sub_of u)) _ _ x (told_waiting w keeps c.id u m) (told_active w keeps c.id u m))
-    (owes_noted false gets w.subs mid (owes_noted false (feedback_of w []) w.subs old o (dropped_by (waiting_on w c.id)) mid one) (dropped_by (active_on w c.id)) new two)
+    ∙ ended_twice u.fed (is_waiting u) (is_active u) (is_on c.id u) (is_in_flight w.in_flight (sub_of u)) _ _ x
+    (told_waiting w keeps c.id u m) (told_active w keeps c.id u m))
+    (owes_noted false gets w.subs mid (owes_noted false (feedback_of w []) w.subs old o (dropped_by (waiting_on w c.id)) mid one)
+    (dropped_by (active_on w c.id)) new two)
 
 pub first_owed : (p : Plan) (f : Owed) → ((t : Sub) → place_of f t ≡ None) → f.due ≡ [] → f.accepted ≡ 0 → AreOwed (opening p) f
 unfolding opening

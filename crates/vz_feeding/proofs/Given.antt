@@ -41,7 +41,8 @@ owed_fed presented w old new o is =
     (λ s. still_awaits s.fed (feedback_of w presented s) (feedback_of w [] (mark_fed w presented s)) (none s)) none (λ t. ap (λ f. place_of f t) is) (ap (λ f. f.due) is) (ap (λ f. f.accepted) is) o
   where
     none : (s : Submission) → feedback_of w [] (mark_fed w presented s) ≡ None
-    none s = none_behind s.fed (has_sub presented (sub_of s)) (is_ended s && not (is_in_flight w.in_flight (sub_of s))) (fed_as true (sub_of s)) (fed_as false (sub_of s))
+    none s =
+        none_behind s.fed (has_sub presented (sub_of s)) (is_ended s && not (is_in_flight w.in_flight (sub_of s))) (fed_as true (sub_of s)) (fed_as false (sub_of s))
 
 -- The frame that is done
 
@@ -89,7 +90,8 @@ noted_more xs x gets subs f o =
 
 pub noted_none : (gets : Submission → Option Fed) (subs : List Submission) (f : Owed) → Owes gets subs f
     → Owes (noted (has_sub []) true gets) subs f
-noted_none gets subs f o = owes_same gets (noted (has_sub []) true gets) subs f (λ s c. by (awaits gets s) (gets s) (fed_as true (sub_of s))) o
+noted_none gets subs f o =
+    owes_same gets (noted (has_sub []) true gets) subs f (λ s c. by (awaits gets s) (gets s) (fed_as true (sub_of s))) o
   where
     by : (a : Bool) (g : Option Fed) (x : Fed) → cond (a && false) (Some x) g ≡ g
     by true g x = refl

@@ -120,7 +120,8 @@ module _ (p : Bool) (gets : Submission → Option Fed) (subs : List Submission) 
       gets_it : gets_at (noted (same_sub x) p gets) subs n ≡ Some (fed_as p x)
       gets_it =
           ap (option_and_then (noted (same_sub x) p gets)) m.1
-          ∙ gets_now (awaits gets m.0) (same_sub x (sub_of m.0)) (gets m.0) (fed_as p (sub_of m.0)) m.3 named ∙ ap (λ t. Some (fed_as p t)) m.2
+          ∙ gets_now (awaits gets m.0) (same_sub x (sub_of m.0)) (gets m.0) (fed_as p (sub_of m.0)) m.3 named
+          ∙ ap (λ t. Some (fed_as p t)) m.2
 
       only : (t : Sub) (k : ℕ) (b : Bool) → same_sub x t ≡ b → cond b None (place_of old t) ≡ Some k
           → (s : Submission) × (slice_get subs k ≡ Some s) × (sub_of s ≡ t) × (awaits (noted (same_sub x) p gets) s ≡ true)
@@ -162,5 +163,6 @@ module _ (p : Bool) (gets : Submission → Option Fed) (subs : List Submission) 
   owes_noted (Some x) new is = by (place_of old x) refl
     where
       by : (v : Option ℕ) → place_of old x ≡ v → Owes (noted (is_name (Some x)) p gets) subs new
-      by None e = none_noted (Some x) new (λ t n h k. none_some n (place_of old x) e (ap (place_of old) (from_same_sub x t h) ∙ k)) (ap (due_at p x) e) is
+      by None e =
+          none_noted (Some x) new (λ t n h k. none_some n (place_of old x) e (ap (place_of old) (from_same_sub x t h) ∙ k)) (ap (due_at p x) e) is
       by (Some n) e = one_noted x n new e (ap (due_at p x) e) is

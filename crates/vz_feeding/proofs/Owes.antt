@@ -147,7 +147,8 @@ owes_added gets subs s old new none unfed other added o = record {
   places = λ n u at waits. elim (at_push subs s n u at) [
     | inl before ↦ added.places (sub_of u) ∙ ap (λ t. cond t (Some old.accepted) (place_of old (sub_of u))) (other n u before.0) ∙ o.places n u before.0 waits
     | inr last ↦
-        added.places (sub_of u) ∙ ap (λ t. cond t (Some old.accepted) (place_of old (sub_of u))) (ap (λ (x : Submission). same_sub (sub_of s) (sub_of x)) (sym last.1) ∙ same_self (sub_of s))
+        added.places (sub_of u)
+        ∙ ap (λ t. cond t (Some old.accepted) (place_of old (sub_of u))) (ap (λ (x : Submission). same_sub (sub_of s) (sub_of x)) (sym last.1) ∙ same_self (sub_of s))
         ∙ ap Some (o.accepted ∙ sym last.0)
   ];
   only = λ t n found. elim (either (same_sub (sub_of s) t)) [

@@ -43,7 +43,9 @@ rest_same : (x : Sub) (xs ys : List Sub) → list_all (before x) xs ≡ true →
 rest_same x xs ys h k same t = by (same_sub x t) refl (same t)
   where
     by : (b : Bool) → same_sub x t ≡ b → (b || is_open xs t) ≡ (b || is_open ys t) → is_open xs t ≡ is_open ys t
-    by true e f = let at = from_same_sub x t e in ap (is_open xs) (sym at) ∙ none_behind x xs h ∙ sym (none_behind x ys k) ∙ ap (is_open ys) at
+    by true e f =
+        let at = from_same_sub x t e in
+        ap (is_open xs) (sym at) ∙ none_behind x xs h ∙ sym (none_behind x ys k) ∙ ap (is_open ys) at
     by false e f = f
 
 one_list : (xs ys : List Sub) → in_order xs ≡ true → in_order ys ≡ true → ((t : Sub) → is_open xs t ≡ is_open ys t) → xs ≡ ys
@@ -159,7 +161,8 @@ has_listed : (subs : List Submission) (c : Client) (t : Sub)
     → is_open (listed subs c) t ≡ list_any (λ s. unfed_by c.number s && same_sub (sub_of s) t) subs
 unfolding listed
 has_listed subs c t =
-    any_map sub_of (λ x. same_sub x t) (λ s. same_sub (sub_of s) t) (filter (unfed_by c.number) subs) (λ s. refl) ∙ any_filter (unfed_by c.number) (λ s. same_sub (sub_of s) t) subs
+    any_map sub_of (λ x. same_sub x t) (λ s. same_sub (sub_of s) t) (filter (unfed_by c.number) subs) (λ s. refl)
+    ∙ any_filter (unfed_by c.number) (λ s. same_sub (sub_of s) t) subs
 
 abbrev is_unfed : Sub → Submission → Bool
 is_unfed t s = not s.fed && same_sub (sub_of s) t

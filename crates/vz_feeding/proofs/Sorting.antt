@@ -104,7 +104,9 @@ step_some gets from s subs d list at g = record {
         let none : ◌≡◌ {A = ℕ} (cond (d.place == from + suc k) 1 0) 0 = ap {B = ℕ} (λ (t : Bool). cond t 1 0) other in
         let split = count_cons (λ (y : Due). y.place == from + suc k) d list in
         let all = g.once (suc k) in
-        (λ i. count_by (λ (y : Due). y.place == shift k i) list) ∙ (let e : count_by (λ (y : Due). y.place == from + suc k) list ≡ count_by (λ (y : Due). y.place == from + suc k) (d ∷ list) = omega (arith, split, none) in e) ∙ all
+        (λ i. count_by (λ (y : Due). y.place == shift k i) list)
+        ∙ (let e : count_by (λ (y : Due). y.place == from + suc k) list ≡ count_by (λ (y : Due). y.place == from + suc k) (d ∷ list) = omega (arith, split, none) in e)
+        ∙ all
 
 -- the first submission gets some: it is the first one that is due
 first_given : (gets : Submission → Option Fed) (from : ℕ) (s : Submission) (subs : List Submission) (d : Due) (list : List Due) (x : Fed)

@@ -119,7 +119,8 @@ none_gets_drawn w drawn s h none c =
 drawn_owed : (w : World) (drawn : List Sub) (f : Owed) → Keeps w → w.in_flight ≡ None → AreOwed w f
     → AreOwed (record w { in_flight = Some drawn }) f
 drawn_owed w drawn f h none o =
-    owes_same (feedback_of w []) (feedback_of (record w { in_flight = Some drawn }) []) w.subs f (λ s c. none_gets_drawn w drawn s h none c ∙ sym (none_gets w s h c)) o
+    let flying = record w { in_flight = Some drawn } in
+    owes_same (feedback_of w []) (feedback_of flying []) w.subs f (λ s c. none_gets_drawn w drawn s h none c ∙ sym (none_gets w s h c)) o
 
 scene_owed : (p : Plan) (w : World) (scene : Scene) (f : Owed) → Keeps w → w.in_flight ≡ None → AreOwed w f
     → AreOwed (scene_answer p w scene).world f
@@ -141,7 +142,8 @@ busy_or w (Some drawn) a b f e o q = o
 
 pub stays_drawn : (p : Plan) (w : World) (f : Owed) → Keeps w → AreOwed w f → AreOwed (draw_answer p w).world f
 unfolding draw_answer
-stays_drawn p w f h o = busy_or w w.in_flight _ _ f refl o (λ none. seen_or (scene_of w) (scene_answer p w) _ f (λ s. scene_owed p w s f h none o) o)
+stays_drawn p w f h o =
+    busy_or w w.in_flight _ _ f refl o (λ none. seen_or (scene_of w) (scene_answer p w) _ f (λ s. scene_owed p w s f h none o) o)
 
 -- What is known
 

@@ -1,5 +1,5 @@
 //! The submissions that await feedback, and the feedback that is due.
-ghost use Rattle.std.specs.Prelude.{◌≡◌, ◌≤◌, ◌<◌, ◌+◌, [], ◌++◌, length, true, Option, List, None, Some, OnOk};
+ghost use Rattle.std.specs.Prelude.{◌≡◌, ◌≤◌, ◌<◌, ◌+◌, [], ◌++◌, length, true, Option, List, None, Some, IsOk, OnOk};
 ghost use Rattle.vz_ids.specs.declared.LocalSurfaceId.{LocalSurfaceId};
 ghost use Rattle.vz_frame.specs.declared.frame.CompositorFrame.{CompositorFrame};
 ghost use Rattle.vz_rules.specs.Plan.{Plan};
@@ -81,6 +81,7 @@ impl Feeding {
     pub fn ready(&mut self) -> Result<(), Memory>
         ensures owed { self.new.owed ≡ self.old.owed }
         ensures ok { OnOk result (0 < self.new.spare) }
+        ensures succeeds { 0 < self.old.spare → IsOk result }
         ensures spare { self.old.spare ≤ self.new.spare }
     {
         self.unfed.ready(1)?;
@@ -102,6 +103,7 @@ impl Feeding {
             → replaced ≡ waiting_on w (id_of c local)
             → AreOwed (accepted w c local frame).world self.new.owed }
         ensures count { owed_count self.new.owed ≡ owed_count self.old.owed + 1 }
+        ensures due { length self.new.owed.due ≤ length self.old.owed.due + 1 }
         ensures spare { self.old.spare ≤ self.new.spare + 1 }
     {
         self.note(dropped_by(replaced), false);
@@ -115,6 +117,7 @@ impl Feeding {
             → Contains w.subs s → is_waiting s ≡ true → past ≡ active_on w s.submitted.id
             → AreOwed (rising s w) self.new.owed }
         ensures count { owed_count self.new.owed ≡ owed_count self.old.owed }
+        ensures due { length self.new.owed.due ≤ length self.old.owed.due + 1 }
         ensures spare { self.old.spare ≤ self.new.spare }
     {
         self.note(dropped_by(past), false);
@@ -127,6 +130,7 @@ impl Feeding {
             → waiting ≡ waiting_on w c.id → active ≡ active_on w c.id
             → AreOwed (going c w) self.new.owed }
         ensures count { owed_count self.new.owed ≡ owed_count self.old.owed }
+        ensures due { length self.new.owed.due ≤ length self.old.owed.due + 2 }
         ensures spare { self.old.spare ≤ self.new.spare }
     {
         self.note(dropped_by(waiting), false);
@@ -192,7 +196,7 @@ impl Feeding {
     fn note(&mut self, sub: Option<Sub>, presented: bool)
         ensures noted { IsNoted sub presented self.old.owed self.new.owed }
         ensures count { owed_count self.new.owed ≡ owed_count self.old.owed }
-        ensures few { length self.new.owed.due ≤ length self.old.owed.due + 1 }
+        ensures due { length self.new.owed.due ≤ length self.old.owed.due + 1 }
         ensures spare { self.old.spare ≤ self.new.spare }
     {
         let Some(sub) = sub else {
@@ -213,7 +217,7 @@ impl Feeding {
         ensures owed { (gets : Submission → Option Feedback) (subs : List Submission)
             → Owes gets subs self.old.owed
             → Owes (noted (has_sub drawn.now) true gets) subs self.new.owed }
-        ensures few { length self.new.owed.due ≤ length self.old.owed.due + length drawn.now }
+        ensures due { length self.new.owed.due ≤ length self.old.owed.due + length drawn.now }
         ensures spare { self.old.spare ≤ self.new.spare }
     {
         for sub in drawn {

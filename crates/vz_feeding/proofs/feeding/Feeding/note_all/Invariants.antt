@@ -9,4 +9,4 @@ use Rattle.vz_feeding.proofs.feeding.Feeding.note_all.Given as goal
 abbrev pub invariant-loop-sub : goal.invariant-loop-sub
 invariant-loop-sub l =
     (owed : (gets : Submission → Option Fed) (subs : List Submission) → Owes gets subs l.fn.self.owed → Owes (noted (has_sub (take l.sub-index l.drawn)) true gets) subs l.self.owed)
-    × (few : length l.self.owed.due ≤ length l.fn.self.owed.due + l.sub-index) × (l.fn.self.spare ≤ l.self.spare)
+    × (due : length l.self.owed.due ≤ length l.fn.self.owed.due + l.sub-index) × (l.fn.self.spare ≤ l.self.spare)
