@@ -32,6 +32,13 @@ both_true : (a m : Bool) → (a && m) ≡ true → (a ≡ true) × (m ≡ true)
 both_true true m h = (refl, h)
 both_true false m h = absurd (cc)
 
+-- the one that is dropped with the waiting one of a surface, and with its active one
+abbrev drops_waiting : World → SurfaceId → Option Sub
+drops_waiting w id = dropped_by (option_map (ended_of w) (waiting_on w id))
+
+abbrev drops_active : World → SurfaceId → Option Sub
+drops_active w id = dropped_by (option_map (ended_of w) (active_on w id))
+
 -- Which one is told
 
 module _ (w : World) (keeps : KeepsAlways w) where
@@ -57,11 +64,11 @@ module _ (w : World) (keeps : KeepsAlways w) where
 
   -- the one that is told is the one that passes, where it is not in flight
   pub is_told : (test : Submission → Bool) → IsAlone test → (u : Submission) → Contains w.subs u
-      → is_name (dropped_by (option_map (ended_of w) (find test w.subs))) (sub_of u) ≡ (test u && not (is_in_flight w.in_flight (sub_of u)))
+      → is_name (dropped_by (option_map (ended_of w) (option_map (λ (s : Submission). sub_of s) (find test w.subs)))) (sub_of u) ≡ (test u && not (is_in_flight w.in_flight (sub_of u)))
   is_told test alone u c = by (find test w.subs) refl
     where
       by : (v : Option Submission) → find test w.subs ≡ v
-          → is_name (dropped_by (option_map (ended_of w) v)) (sub_of u) ≡ (test u && not (is_in_flight w.in_flight (sub_of u)))
+          → is_name (dropped_by (option_map (ended_of w) (option_map (λ (s : Submission). sub_of s) v))) (sub_of u) ≡ (test u && not (is_in_flight w.in_flight (sub_of u)))
       by None e =
           no_one (test u) (not (is_in_flight w.in_flight (sub_of u))) (λ h. yes_no (is_some (find test w.subs)) (found test w.subs ∙ any_from test w.subs u c h) (ap is_some e))
         where
@@ -70,7 +77,7 @@ module _ (w : World) (keeps : KeepsAlways w) where
           no_one false b h = refl
       by (Some t) e =
           let m = find_at test w.subs t e in
-          same_tests (is_name (dropped_by (Some (ended_of w t))) (sub_of u)) (test u && not (is_in_flight w.in_flight (sub_of u)))
+          same_tests (is_name (dropped_by (Some (ended_of w (sub_of t)))) (sub_of u)) (test u && not (is_in_flight w.in_flight (sub_of u)))
           (λ h.
           let p = told_by t u (is_in_flight w.in_flight (sub_of t)) h in
           let same = one_name t u m.0 c p.1 in
@@ -95,11 +102,11 @@ module _ (w : World) (keeps : KeepsAlways w) where
       at_same w.subs a.0 b.0 s t a.1 b.1 (one_place (λ s. is_on id s && state s) w.subs a.0 b.0 s t few a.1 b.1 (λ i. p.1 i && p.0 i) (λ i. q.1 i && q.0 i))
 
   pub told_waiting : (id : SurfaceId) (u : Submission) → Contains w.subs u
-      → is_name (dropped_by (waiting_on w id)) (sub_of u) ≡ ((is_waiting u && is_on id u) && not (is_in_flight w.in_flight (sub_of u)))
+      → is_name (drops_waiting w id) (sub_of u) ≡ ((is_waiting u && is_on id u) && not (is_in_flight w.in_flight (sub_of u)))
   told_waiting id = is_told (λ s. is_waiting s && is_on id s) (alone_on id (λ s. is_waiting s) (keeps.states.one_waits id))
 
   pub told_active : (id : SurfaceId) (u : Submission) → Contains w.subs u
-      → is_name (dropped_by (active_on w id)) (sub_of u) ≡ ((is_active u && is_on id u) && not (is_in_flight w.in_flight (sub_of u)))
+      → is_name (drops_active w id) (sub_of u) ≡ ((is_active u && is_on id u) && not (is_in_flight w.in_flight (sub_of u)))
   told_active id = is_told (λ s. is_active s && is_on id s) (alone_on id (λ s. is_active s) (keeps.states.one_is_active id))
 
   -- no submission has the name of the next one of a client
@@ -136,7 +143,7 @@ and_second false b h c = absurd (cc)
 
 pub owed_accepted : (w : World) (c : Client) (local : LocalSurfaceId) (frame : CompositorFrame) (old mid new : Owed) (sub : Sub) (replaced : Option Ended)
     (dropped : Option Sub) → KeepsAlways w → AreOwed w old
-    → sub ≡ sub_of (new_submission w c local frame) → replaced ≡ waiting_on w (id_of c local)
+    → sub ≡ sub_of (new_submission w c local frame) → replaced ≡ option_map (ended_of w) (waiting_on w (id_of c local))
     → dropped ≡ dropped_by replaced → IsNoted dropped false old mid → IsAdded sub mid new
     → AreOwed (accepted w c local frame).world new
 unfolding accepted new_submission
@@ -144,8 +151,8 @@ owed_accepted w c local frame old mid new sub replaced dropped keeps o name told
     let id = id_of c local in
     let s = new_submission w c local frame in
     let is = subst (λ r. IsNoted r false old mid) (drops ∙ ap dropped_by told) noted' in
-    let one = owes_noted false (feedback_of w []) w.subs old o (dropped_by (waiting_on w id)) mid is in
-    let changed = owes_mapped (replace_on id) (noted (is_name (dropped_by (waiting_on w id))) false (feedback_of w [])) (feedback_of w []) w.subs mid
+    let one = owes_noted false (feedback_of w []) w.subs old o (drops_waiting w id) mid is in
+    let changed = owes_mapped (replace_on id) (noted (is_name (drops_waiting w id)) false (feedback_of w [])) (feedback_of w []) w.subs mid
     (λ u. kept_sub (is_waiting u && is_on id u) Dropped u) (λ u. kept_fed (is_waiting u && is_on id u) Dropped u)
     (λ u m.
     ends_one w u Dropped (is_waiting u && is_on id u) _ refl (λ h. and_first (is_waiting u) (is_on id u) h (is_active u))
@@ -159,13 +166,13 @@ owed_accepted w c local frame old mid new sub replaced dropped keeps o name told
 pub owed_activated : (w : World) (s : Submission) (old new : Owed) (past : Option Ended) (dropped : Option Sub) → KeepsAlways w
     → AreOwed w old
     → Contains w.subs s → is_waiting s ≡ true
-    → past ≡ active_on w s.submitted.id → dropped ≡ dropped_by past → IsNoted dropped false old new → AreOwed (rising s w) new
+    → past ≡ option_map (ended_of w) (active_on w s.submitted.id) → dropped ≡ dropped_by past → IsNoted dropped false old new → AreOwed (rising s w) new
 unfolding rising
 owed_activated w s old new past dropped keeps o in' waits told drops noted' =
     let id = s.submitted.id in
     let is = subst (λ r. IsNoted r false old new) (drops ∙ ap dropped_by told) noted' in
-    owes_mapped (as_one_rises s) (noted (is_name (dropped_by (active_on w id))) false (feedback_of w [])) (feedback_of w []) w.subs new names feds same
-    (owes_noted false (feedback_of w []) w.subs old o (dropped_by (active_on w id)) new is)
+    owes_mapped (as_one_rises s) (noted (is_name (drops_active w id)) false (feedback_of w [])) (feedback_of w []) w.subs new names feds same
+    (owes_noted false (feedback_of w []) w.subs old o (drops_active w id) new is)
   where
     past_by : Submission → Submission
     past_by u = cond (is_active u && is_on s.submitted.id u) (record u { state = Past }) u
@@ -197,33 +204,33 @@ owed_activated w s old new past dropped keeps o in' waits told drops noted' =
 
     same_by : (u : Submission) (t : Bool) → Contains w.subs u → same_sub (sub_of u) (sub_of s) ≡ t
         → feedback_of w [] (cond t (record u { state = Active; was_active = true }) (past_by u))
-        ≡ noted (is_name (dropped_by (active_on w s.submitted.id))) false (feedback_of w []) u
+        ≡ noted (is_name (drops_active w s.submitted.id)) false (feedback_of w []) u
     same_by u true c e =
         let this : u ≡ s = one_name w keeps u s c in' e in
         let waiting : is_waiting u ≡ true = ap (λ (x : Submission). is_waiting x) this ∙ waits in
         let flies = is_in_flight w.in_flight (sub_of u) in
         let untold = told_active w keeps s.submitted.id u c ∙ ap (λ b. b && not flies) (idle u waiting) in
-        none_also u.fed (is_name (dropped_by (active_on w s.submitted.id)) (sub_of u)) (feedback_of w [] u) (fed_as false (sub_of u))
+        none_also u.fed (is_name (drops_active w s.submitted.id) (sub_of u)) (feedback_of w [] u) (fed_as false (sub_of u))
         (open_none u.fed (is_waiting u) (is_active u) flies (fed_as false (sub_of u)) waiting) untold
     same_by u false c e =
         ends_one w u Past (is_active u && is_on s.submitted.id u) _ refl
         (λ h. and_second (is_active u) (is_on s.submitted.id u) h (is_waiting u)) (told_active w keeps s.submitted.id u c)
 
     same : (u : Submission) → Contains w.subs u
-        → feedback_of w [] (as_one_rises s u) ≡ noted (is_name (dropped_by (active_on w s.submitted.id))) false (feedback_of w []) u
+        → feedback_of w [] (as_one_rises s u) ≡ noted (is_name (drops_active w s.submitted.id)) false (feedback_of w []) u
     same u c = same_by u (same_sub (sub_of u) (sub_of s)) c refl
 
 pub owed_destroyed : (w : World) (c : Created) (old mid new : Owed) (waiting active : Option Ended) (dropped past : Option Sub)
     → KeepsAlways w → AreOwed w old
-    → waiting ≡ waiting_on w c.id → active ≡ active_on w c.id
+    → waiting ≡ option_map (ended_of w) (waiting_on w c.id) → active ≡ option_map (ended_of w) (active_on w c.id)
     → dropped ≡ dropped_by waiting → IsNoted dropped false old mid → past ≡ dropped_by active → IsNoted past false mid new
     → AreOwed (going c w) new
 unfolding going
 owed_destroyed w c old mid new waiting active dropped past keeps o first second drops noted_one ends noted_two =
     let one = subst (λ r. IsNoted r false old mid) (drops ∙ ap dropped_by first) noted_one in
     let two = subst (λ r. IsNoted r false mid new) (ends ∙ ap dropped_by second) noted_two in
-    let gets = noted (is_name (dropped_by (waiting_on w c.id))) false (feedback_of w []) in
-    owes_mapped (drop_on (c ∷ [])) (noted (is_name (dropped_by (active_on w c.id))) false gets) (feedback_of w []) w.subs new
+    let gets = noted (is_name (drops_waiting w c.id)) false (feedback_of w []) in
+    owes_mapped (drop_on (c ∷ [])) (noted (is_name (drops_active w c.id)) false gets) (feedback_of w []) w.subs new
     (λ u. kept_sub ((is_waiting u || is_active u) && (is_on c.id u || false)) Dropped u)
     (λ u. kept_fed ((is_waiting u || is_active u) && (is_on c.id u || false)) Dropped u)
     (λ u m.
@@ -231,8 +238,8 @@ owed_destroyed w c old mid new waiting active dropped past keeps o first second 
     at_cond (feedback_of w []) ((is_waiting u || is_active u) && (is_on c.id u || false)) (record u { state = Dropped }) u
     ∙ ended_twice u.fed (is_waiting u) (is_active u) (is_on c.id u) (is_in_flight w.in_flight (sub_of u)) _ _ x
     (told_waiting w keeps c.id u m) (told_active w keeps c.id u m))
-    (owes_noted false gets w.subs mid (owes_noted false (feedback_of w []) w.subs old o (dropped_by (waiting_on w c.id)) mid one)
-    (dropped_by (active_on w c.id)) new two)
+    (owes_noted false gets w.subs mid (owes_noted false (feedback_of w []) w.subs old o (drops_waiting w c.id) mid one)
+    (drops_active w c.id) new two)
 
 pub first_owed : (p : Plan) (f : Owed) → ((t : Sub) → place_of f t ≡ None) → f.due ≡ [] → f.accepted ≡ 0 → AreOwed (opening p) f
 unfolding opening

@@ -50,14 +50,14 @@ pub record Owes (gets : Submission → Option Fed) (subs : List Submission) (f :
 abbrev pub AreOwed : World → Owed → Type 0
 AreOwed w f = Owes (feedback_of w []) w.subs f
 
--- a submission with whether it is in flight
-abbrev pub ended_of : World → Submission → Ended
-ended_of w s = record { sub = sub_of s; in_flight = is_in_flight w.in_flight (sub_of s) }
+-- a submission that ends, with whether it is in flight
+abbrev pub ended_of : World → Sub → Ended
+ended_of w t = record { sub = t; in_flight = is_in_flight w.in_flight t }
 
 -- the submission that waits on a surface, if one does
-abbrev pub waiting_on : World → SurfaceId → Option Ended
-waiting_on w id = option_map (ended_of w) (find (λ s. is_waiting s && is_on id s) w.subs)
+abbrev pub waiting_on : World → SurfaceId → Option Sub
+waiting_on w id = option_map (λ (s : Submission). sub_of s) (find (λ s. is_waiting s && is_on id s) w.subs)
 
 -- the active submission of a surface, if it has one
-abbrev pub active_on : World → SurfaceId → Option Ended
-active_on w id = option_map (ended_of w) (find (λ s. is_active s && is_on id s) w.subs)
+abbrev pub active_on : World → SurfaceId → Option Sub
+active_on w id = option_map (λ (s : Submission). sub_of s) (find (λ s. is_active s && is_on id s) w.subs)

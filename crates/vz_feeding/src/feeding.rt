@@ -12,7 +12,8 @@ ghost use Rattle.vz_rules.specs.Log.{rest_in};
 ghost use Rattle.vz_rules.specs.Kept.{Keeps, KeepsAlways};
 ghost use Rattle.vz_rules.specs.declared.entry.Fed.{Fed as Feedback};
 ghost use Rattle.std.specs.List.{Contains, filter_map};
-ghost use Rattle.vz_feeding.specs.Owing.{Owes, AreOwed, place_of, waiting_on, active_on};
+ghost use Rattle.std.specs.Option.{option_map};
+ghost use Rattle.vz_feeding.specs.Owing.{Owes, AreOwed, place_of, ended_of, waiting_on, active_on};
 ghost use Rattle.vz_feeding.specs.Noting.{IsNoted, IsAdded, noted, owed_count, without_due};
 
 use crate::due::{Due, put_all, sort};
@@ -100,7 +101,7 @@ impl Feeding {
         ensures owed { (w : World) (c : Client) (local : LocalSurfaceId) (frame : CompositorFrame)
             → KeepsAlways w → AreOwed w self.old.owed
             → sub ≡ sub_of (new_submission w c local frame)
-            → replaced ≡ waiting_on w (id_of c local)
+            → replaced ≡ option_map (ended_of w) (waiting_on w (id_of c local))
             → AreOwed (accepted w c local frame).world self.new.owed }
         ensures count { owed_count self.new.owed ≡ owed_count self.old.owed + 1 }
         ensures due { length self.new.owed.due ≤ length self.old.owed.due + 1 }
@@ -114,7 +115,8 @@ impl Feeding {
     /// past.
     pub fn activate(&mut self, past: Option<Ended>)
         ensures owed { (w : World) (s : Submission) → KeepsAlways w → AreOwed w self.old.owed
-            → Contains w.subs s → is_waiting s ≡ true → past ≡ active_on w s.submitted.id
+            → Contains w.subs s → is_waiting s ≡ true
+            → past ≡ option_map (ended_of w) (active_on w s.submitted.id)
             → AreOwed (rising s w) self.new.owed }
         ensures count { owed_count self.new.owed ≡ owed_count self.old.owed }
         ensures due { length self.new.owed.due ≤ length self.old.owed.due + 1 }
@@ -127,7 +129,8 @@ impl Feeding {
     /// there are such.
     pub fn destroy(&mut self, waiting: Option<Ended>, active: Option<Ended>)
         ensures owed { (w : World) (c : Created) → KeepsAlways w → AreOwed w self.old.owed
-            → waiting ≡ waiting_on w c.id → active ≡ active_on w c.id
+            → waiting ≡ option_map (ended_of w) (waiting_on w c.id)
+            → active ≡ option_map (ended_of w) (active_on w c.id)
             → AreOwed (going c w) self.new.owed }
         ensures count { owed_count self.new.owed ≡ owed_count self.old.owed }
         ensures due { length self.new.owed.due ≤ length self.old.owed.due + 2 }
