@@ -64,13 +64,16 @@ module _ (w : World) (keeps : KeepsAlways w) where
 
   -- the one that is told is the one that passes, where it is not in flight
   pub is_told : (test : Submission → Bool) → IsAlone test → (u : Submission) → Contains w.subs u
-      → is_name (dropped_by (option_map (ended_of w) (option_map (λ (s : Submission). sub_of s) (find test w.subs)))) (sub_of u) ≡ (test u && not (is_in_flight w.in_flight (sub_of u)))
+      → is_name (dropped_by (option_map (ended_of w) (option_map (λ (s : Submission). sub_of s) (find test w.subs)))) (sub_of u)
+      ≡ (test u && not (is_in_flight w.in_flight (sub_of u)))
   is_told test alone u c = by (find test w.subs) refl
     where
       by : (v : Option Submission) → find test w.subs ≡ v
-          → is_name (dropped_by (option_map (ended_of w) (option_map (λ (s : Submission). sub_of s) v))) (sub_of u) ≡ (test u && not (is_in_flight w.in_flight (sub_of u)))
+          → is_name (dropped_by (option_map (ended_of w) (option_map (λ (s : Submission). sub_of s) v))) (sub_of u)
+          ≡ (test u && not (is_in_flight w.in_flight (sub_of u)))
       by None e =
-          no_one (test u) (not (is_in_flight w.in_flight (sub_of u))) (λ h. yes_no (is_some (find test w.subs)) (found test w.subs ∙ any_from test w.subs u c h) (ap is_some e))
+          no_one (test u) (not (is_in_flight w.in_flight (sub_of u)))
+          (λ h. yes_no (is_some (find test w.subs)) (found test w.subs ∙ any_from test w.subs u c h) (ap is_some e))
         where
           no_one : (a b : Bool) → (a ≡ true → true ≡ false) → false ≡ (a && b)
           no_one true b h = let no_way = h refl in absurd (cc)
@@ -85,7 +88,8 @@ module _ (w : World) (keeps : KeepsAlways w) where
           (λ h.
           let p = both_true (test u) (not (is_in_flight w.in_flight (sub_of u))) h in
           let same = alone t u m.0 c m.1 p.0 in
-          tells t u (is_in_flight w.in_flight (sub_of t)) (ap (λ (x : Submission). is_in_flight w.in_flight (sub_of x)) same ∙ not_true (is_in_flight w.in_flight (sub_of u)) p.1)
+          tells t u (is_in_flight w.in_flight (sub_of t))
+          (ap (λ (x : Submission). is_in_flight w.in_flight (sub_of x)) same ∙ not_true (is_in_flight w.in_flight (sub_of u)) p.1)
           (ap (λ (x : Submission). same_sub (sub_of x) (sub_of u)) same ∙ same_self (sub_of u)))
         where
           not_true : (b : Bool) → not b ≡ true → b ≡ false
@@ -99,7 +103,8 @@ module _ (w : World) (keeps : KeepsAlways w) where
       let b = contains_at w.subs t d in
       let p = both_true (state s) (is_on id s) e in
       let q = both_true (state t) (is_on id t) f in
-      at_same w.subs a.0 b.0 s t a.1 b.1 (one_place (λ s. is_on id s && state s) w.subs a.0 b.0 s t few a.1 b.1 (λ i. p.1 i && p.0 i) (λ i. q.1 i && q.0 i))
+      at_same w.subs a.0 b.0 s t a.1 b.1
+      (one_place (λ s. is_on id s && state s) w.subs a.0 b.0 s t few a.1 b.1 (λ i. p.1 i && p.0 i) (λ i. q.1 i && q.0 i))
 
   pub told_waiting : (id : SurfaceId) (u : Submission) → Contains w.subs u
       → is_name (drops_waiting w id) (sub_of u) ≡ ((is_waiting u && is_on id u) && not (is_in_flight w.in_flight (sub_of u)))
@@ -141,7 +146,8 @@ and_second true b h true = refl
 and_second true b h false = refl
 and_second false b h c = absurd (cc)
 
-pub owed_accepted : (w : World) (c : Client) (local : LocalSurfaceId) (frame : CompositorFrame) (old mid new : Owed) (sub : Sub) (replaced : Option Ended)
+pub owed_accepted : (w : World) (c : Client) (local : LocalSurfaceId) (frame : CompositorFrame) (old mid new : Owed) (sub : Sub)
+    (replaced : Option Ended)
     (dropped : Option Sub) → KeepsAlways w → AreOwed w old
     → sub ≡ sub_of (new_submission w c local frame) → replaced ≡ option_map (ended_of w) (waiting_on w (id_of c local))
     → dropped ≡ dropped_by replaced → IsNoted dropped false old mid → IsAdded sub mid new
@@ -166,7 +172,8 @@ owed_accepted w c local frame old mid new sub replaced dropped keeps o name told
 pub owed_activated : (w : World) (s : Submission) (old new : Owed) (past : Option Ended) (dropped : Option Sub) → KeepsAlways w
     → AreOwed w old
     → Contains w.subs s → is_waiting s ≡ true
-    → past ≡ option_map (ended_of w) (active_on w s.submitted.id) → dropped ≡ dropped_by past → IsNoted dropped false old new → AreOwed (rising s w) new
+    → past ≡ option_map (ended_of w) (active_on w s.submitted.id) → dropped ≡ dropped_by past → IsNoted dropped false old new
+    → AreOwed (rising s w) new
 unfolding rising
 owed_activated w s old new past dropped keeps o in' waits told drops noted' =
     let id = s.submitted.id in

@@ -38,11 +38,13 @@ pub owed_fed : (presented : List Sub) (w : World) (old new : Owed) → Owes (fee
 unfolding feed
 owed_fed presented w old new o is =
     owes_given (mark_fed w presented) (feedback_of w presented) (feedback_of w []) w.subs old new (λ s. refl)
-    (λ s. still_awaits s.fed (feedback_of w presented s) (feedback_of w [] (mark_fed w presented s)) (none s)) none (λ t. ap (λ f. place_of f t) is) (ap (λ f. f.due) is) (ap (λ f. f.accepted) is) o
+    (λ s. still_awaits s.fed (feedback_of w presented s) (feedback_of w [] (mark_fed w presented s)) (none s)) none
+    (λ t. ap (λ f. place_of f t) is) (ap (λ f. f.due) is) (ap (λ f. f.accepted) is) o
   where
     none : (s : Submission) → feedback_of w [] (mark_fed w presented s) ≡ None
     none s =
-        none_behind s.fed (has_sub presented (sub_of s)) (is_ended s && not (is_in_flight w.in_flight (sub_of s))) (fed_as true (sub_of s)) (fed_as false (sub_of s))
+        none_behind s.fed (has_sub presented (sub_of s)) (is_ended s && not (is_in_flight w.in_flight (sub_of s)))
+        (fed_as true (sub_of s)) (fed_as false (sub_of s))
 
 -- The frame that is done
 
@@ -103,7 +105,8 @@ pub noted_next : (drawn : List Sub) (i : ℕ) (d : Sub) (gets : Submission → O
     → Owes (noted (has_sub (take (i + 1) drawn)) true gets) subs new
 noted_next drawn i d gets subs mid new h o is =
     subst (λ l. Owes (noted (has_sub l) true gets) subs new) (sym (take_more drawn i d h))
-    (noted_more (take i drawn) (get_or drawn i d) gets subs new (owes_noted true (noted (has_sub (take i drawn)) true gets) subs mid o (Some (get_or drawn i d)) new is))
+    (noted_more (take i drawn) (get_or drawn i d) gets subs new
+    (owes_noted true (noted (has_sub (take i drawn)) true gets) subs mid o (Some (get_or drawn i d)) new is))
 
 pub noted_all : (drawn : List Sub) (i : ℕ) (gets : Submission → Option Fed) (subs : List Submission) (f : Owed) → length drawn ≤ i
     → Owes (noted (has_sub (take i drawn)) true gets) subs f → Owes (noted (has_sub drawn) true gets) subs f

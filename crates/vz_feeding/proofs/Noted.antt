@@ -81,7 +81,8 @@ module _ (p : Bool) (gets : Submission → Option Fed) (subs : List Submission) 
       same : (s : Submission) → Contains subs s → noted (is_name e) p gets s ≡ gets s
       same s c =
           let at = contains_at subs s c in
-          gets_as_before (awaits gets s) (is_name e (sub_of s)) (gets s) (fed_as p (sub_of s)) (same_by s at.0 (awaits gets s && is_name e (sub_of s)) at.1 refl)
+          gets_as_before (awaits gets s) (is_name e (sub_of s)) (gets s) (fed_as p (sub_of s))
+          (same_by s at.0 (awaits gets s && is_name e (sub_of s)) at.1 refl)
 
       places_by : (t : Sub) (b : Bool) (v : Option ℕ) → is_name e t ≡ b → place_of old t ≡ v → cond b None v ≡ v
       places_by t false v h k = refl
@@ -108,7 +109,8 @@ module _ (p : Bool) (gets : Submission → Option Fed) (subs : List Submission) 
           | inl before ↦ still_at (same_sub x) y.place y.fed (o.due y before)
           | inr this ↦ subst (λ (z : Due). gets_at (noted (same_sub x) p gets) subs z.place ≡ Some z.fed) this gets_it
         ];
-        once = λ k. ap (λ l. count_by (λ (d : Due). d.place == k) l) list ∙ count_push (λ (d : Due). d.place == k) old.due d ∙ (λ i. o.once k i + cond (n == k) 1 0) ∙ once k (slice_get subs k) refl;
+        once = λ k. ap (λ l. count_by (λ (d : Due). d.place == k) l) list ∙ count_push (λ (d : Due). d.place == k) old.due d
+            ∙ (λ i. o.once k i + cond (n == k) 1 0) ∙ once k (slice_get subs k) refl;
       }
     where
       m : (s : Submission) × (slice_get subs n ≡ Some s) × (sub_of s ≡ x) × (awaits gets s ≡ true)
@@ -148,11 +150,13 @@ module _ (p : Bool) (gets : Submission → Option Fed) (subs : List Submission) 
       once_by k s false at e =
           let other : (n == k) ≡ false = not_here k (Some s) (n == k) at refl (λ u is' name waits.
           let same : s ≡ u = some_same s u is' in
-          yes_no (awaits gets s && same_sub x (sub_of s)) (ap (λ (z : Submission). awaits gets z && same_sub x (sub_of z)) same ∙ (λ i. waits i && (ap (same_sub x) name ∙ same_self x) i)) e) in
+          yes_no (awaits gets s && same_sub x (sub_of s))
+          (ap (λ (z : Submission). awaits gets z && same_sub x (sub_of z)) same ∙ (λ i. waits i && (ap (same_sub x) name ∙ same_self x) i)) e) in
           (λ i. cond (is_some (gets s)) 1 0 + cond (other i) 1 0) ∙ omega arith
 
       once : (k : ℕ) (v : Option Submission) → slice_get subs k ≡ v
-          → ◌≡◌ {A = ℕ} (cond (is_some (option_and_then gets v)) 1 0 + cond (n == k) 1 0) (cond (is_some (option_and_then (noted (same_sub x) p gets) v)) 1 0)
+          → ◌≡◌ {A = ℕ} (cond (is_some (option_and_then gets v)) 1 0 + cond (n == k) 1 0)
+          (cond (is_some (option_and_then (noted (same_sub x) p gets) v)) 1 0)
       once k None at =
           let other : (n == k) ≡ false = not_here k None (n == k) at refl (λ u is' name waits. none_some u None refl is') in
           ap {B = ℕ} (λ (t : Bool). 0 + cond t 1 0) other
@@ -164,5 +168,6 @@ module _ (p : Bool) (gets : Submission → Option Fed) (subs : List Submission) 
     where
       by : (v : Option ℕ) → place_of old x ≡ v → Owes (noted (is_name (Some x)) p gets) subs new
       by None e =
-          none_noted (Some x) new (λ t n h k. none_some n (place_of old x) e (ap (place_of old) (from_same_sub x t h) ∙ k)) (ap (due_at p x) e) is
+          none_noted (Some x) new (λ t n h k. none_some n (place_of old x) e (ap (place_of old) (from_same_sub x t h) ∙ k))
+          (ap (due_at p x) e) is
       by (Some n) e = one_noted x n new e (ap (due_at p x) e) is

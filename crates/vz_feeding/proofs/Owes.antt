@@ -46,7 +46,8 @@ owes_mapped h gets gets' subs f names feds same o =
       places = λ n t at waits.
           let m = at_map h subs n t at in
           let c = at_contains subs n m.0 m.1 in
-          ap (place_of f) (ap (λ (x : Submission). sub_of x) (sym m.2) ∙ names m.0) ∙ o.places n m.0 m.1 (sym (still m.0 c) ∙ ap (awaits gets') m.2 ∙ waits);
+          ap (place_of f) (ap (λ (x : Submission). sub_of x) (sym m.2) ∙ names m.0)
+          ∙ o.places n m.0 m.1 (sym (still m.0 c) ∙ ap (awaits gets') m.2 ∙ waits);
       only = λ t n found.
           let m = o.only t n found in
           let c = at_contains subs n m.0 m.1 in
@@ -104,7 +105,8 @@ owes_given h gets gets' subs old new names still none places due accepted o =
       accepted = accepted ∙ o.accepted ∙ sym (length_map h subs);
       places = λ n t at waits.
           let m = at_map h subs n t at in
-          places (sub_of t) ∙ ap (place_of old) (ap (λ (x : Submission). sub_of x) (sym m.2) ∙ names m.0) ∙ o.places n m.0 m.1 (sym (still m.0) ∙ ap (awaits gets') m.2 ∙ waits);
+          places (sub_of t) ∙ ap (place_of old) (ap (λ (x : Submission). sub_of x) (sym m.2) ∙ names m.0)
+          ∙ o.places n m.0 m.1 (sym (still m.0) ∙ ap (awaits gets') m.2 ∙ waits);
       only = λ t n found.
           let m = o.only t n (sym (places t) ∙ found) in
           (h m.0, map_at h subs n m.0 m.1, names m.0 ∙ m.2, still m.0 ∙ m.3);
@@ -145,22 +147,26 @@ pub owes_added : (gets : Submission → Option Fed) (subs : List Submission) (s 
 owes_added gets subs s old new none unfed other added o = record {
   accepted = added.accepted ∙ ap (λ n. n + 1) o.accepted ∙ sym (longer subs);
   places = λ n u at waits. elim (at_push subs s n u at) [
-    | inl before ↦ added.places (sub_of u) ∙ ap (λ t. cond t (Some old.accepted) (place_of old (sub_of u))) (other n u before.0) ∙ o.places n u before.0 waits
+    | inl before ↦ added.places (sub_of u) ∙ ap (λ t. cond t (Some old.accepted) (place_of old (sub_of u))) (other n u before.0)
+        ∙ o.places n u before.0 waits
     | inr last ↦
         added.places (sub_of u)
-        ∙ ap (λ t. cond t (Some old.accepted) (place_of old (sub_of u))) (ap (λ (x : Submission). same_sub (sub_of s) (sub_of x)) (sym last.1) ∙ same_self (sub_of s))
+        ∙ ap (λ t. cond t (Some old.accepted) (place_of old (sub_of u)))
+        (ap (λ (x : Submission). same_sub (sub_of s) (sub_of x)) (sym last.1) ∙ same_self (sub_of s))
         ∙ ap Some (o.accepted ∙ sym last.0)
   ];
   only = λ t n found. elim (either (same_sub (sub_of s) t)) [
     | inl yes' ↦
-        let at : old.accepted ≡ n = some_same _ _ (ap (λ b. cond b (Some old.accepted) (place_of old t)) (sym yes') ∙ sym (added.places t) ∙ found) in
+        let at : old.accepted ≡ n = some_same _ _
+        (ap (λ b. cond b (Some old.accepted) (place_of old t)) (sym yes') ∙ sym (added.places t) ∙ found) in
         (s, ap (slice_get (subs ++ s ∷ [])) (sym at ∙ o.accepted) ∙ last_at subs s, from_same_sub (sub_of s) t yes', fresh)
     | inr no' ↦
         let m = o.only t n (ap (λ b. cond b (Some old.accepted) (place_of old t)) (sym no') ∙ sym (added.places t) ∙ found) in
         (m.0, first_at subs s n m.0 m.1, m.2, m.3)
   ];
   due = λ d c. gets_more gets subs s none d.place ∙ o.due d (subst (λ l. Contains l d) added.due c);
-  once = λ n. ap (λ l. count_by (λ (d : Due). d.place == n) l) added.due ∙ o.once n ∙ ap {B = ℕ} (λ (g : Option Fed). cond (is_some g) 1 0) (sym (gets_more gets subs s none n));
+  once = λ n. ap (λ l. count_by (λ (d : Due). d.place == n) l) added.due ∙ o.once n
+      ∙ ap {B = ℕ} (λ (g : Option Fed). cond (is_some g) 1 0) (sym (gets_more gets subs s none n));
 }
   where
     longer : (xs : List Submission) → length (xs ++ s ∷ []) ≡ length xs + 1

@@ -76,7 +76,8 @@ joined (x ∷ xs) ys h k less =
 -- some of these, which rise by places
 abbrev AreRisen : (Submission → Bool) → List Submission → Type 0
 AreRisen q subs =
-    (n m : ℕ) (s t : Submission) → slice_get subs n ≡ Some s → slice_get subs m ≡ Some t → n < m → q s ≡ true → q t ≡ true → before (sub_of s) (sub_of t) ≡ true
+    (n m : ℕ) (s t : Submission) → slice_get subs n ≡ Some s → slice_get subs m ≡ Some t → n < m → q s ≡ true → q t ≡ true
+    → before (sub_of s) (sub_of t) ≡ true
 
 picked : (q : Submission → Bool) (subs : List Submission) → AreRisen q subs → in_order (map sub_of (filter q subs)) ≡ true
 unfolding in_order
@@ -104,7 +105,8 @@ risen c subs ordered n m s t at there l p q =
     let one = ordered n s at in
     let two = ordered m t there in
     let same = ap (λ k. count_by (is_by k) (take n subs)) client in
-    let more = count_before (is_by t.submitted.sub.client) subs n m s at (ap (λ k. s.submitted.sub.client == k) (sym client) ∙ own s.submitted.sub.client) l in
+    let more = count_before (is_by t.submitted.sub.client) subs n m s at
+    (ap (λ k. s.submitted.sub.client == k) (sym client) ∙ own s.submitted.sub.client) l in
     let less : s.submitted.sub.ordinal < t.submitted.sub.ordinal = omega (arith, one, two, same, more) in
     grind (arith, nat_tests, client, less)
   where
@@ -183,9 +185,11 @@ has_rest w t keeps =
     let p = both (not s.0.fed) (same_sub (sub_of s.0) t) s.2 in
     let created = keeps.numbers.created s.0 s.1 in
     let owner = keeps.surfaces.of_clients created.0 created.1 in
-    let number : (s.0.submitted.sub.client == owner.0.number) ≡ true = equal s.0.submitted.sub.client owner.0.number (sym (owner.2 ∙ created.3)) in
+    let number : (s.0.submitted.sub.client == owner.0.number) ≡ true = equal s.0.submitted.sub.client owner.0.number
+    (sym (owner.2 ∙ created.3)) in
     any_from (λ c. is_open (listed w.subs c) t) w.clients owner.0 owner.1
-    (has_listed w.subs owner.0 t ∙ any_from (λ s. unfed_by owner.0.number s && same_sub (sub_of s) t) w.subs s.0 s.1 (two_true _ _ (two_true _ _ number p.0) p.1)))
+    (has_listed w.subs owner.0 t ∙ any_from (λ s. unfed_by owner.0.number s && same_sub (sub_of s) t) w.subs s.0 s.1
+    (two_true _ _ (two_true _ _ number p.0) p.1)))
   where
     equal : (a b : ℕ) → a ≡ b → (a == b) ≡ true
     equal a b e = grind (arith, nat_tests, e)
@@ -208,7 +212,10 @@ has_place w f t h o =
         any_from (is_unfed t) w.subs m.0 (at_contains w.subs n m.0 m.1) (two_true _ _ p.0 (ap (λ x. same_sub x t) m.2 ∙ same_self t))
 
 by_number : (w : World) → KeepsAlways w → AreNumbered w.clients
-by_number w keeps n m c d at there l = let a = keeps.clients.numbered n c at in let b = keeps.clients.numbered m d there in omega (arith, a, b, l)
+by_number w keeps n m c d at there l =
+    let a = keeps.clients.numbered n c at in
+    let b = keeps.clients.numbered m d there in
+    omega (arith, a, b, l)
 
 pub rest_is : (w : World) (f : Owed) (list : List Sub) → Keeps w → AreOwed w f → in_order list ≡ true
     → ((t : Sub) → is_open list t ≡ is_some (place_of f t)) → list ≡ (rest_in w).unfed

@@ -27,7 +27,9 @@ counted (x ∷ list) d c =
 
 first_least : (d : Due) (list : List Due) (x : Due) → IsNonDecreasingBy (λ (y : Due). y.place) (d ∷ list) → Contains list x
     → d.place ≤ x.place
-first_least d list x rises c = let less = rises 0 (suc c.0) x (omega arith) (omega (arith, c.1)) in subst (λ (y : Due). d.place ≤ y.place) c.2 less
+first_least d list x rises c =
+    let less = rises 0 (suc c.0) x (omega arith) (omega (arith, c.1)) in
+    subst (λ (y : Due). d.place ≤ y.place) c.2 less
 
 rest_rises : (d : Due) (list : List Due) → IsNonDecreasingBy (λ (y : Due). y.place) (d ∷ list)
     → IsNonDecreasingBy (λ (y : Due). y.place) list
@@ -94,7 +96,8 @@ step_some gets from s subs d list at g = record {
         let all = g.once 0 in
         let split = count_cons (λ (y : Due). y.place == from + 0) d list in
         let one : ◌≡◌ {A = ℕ} (cond (d.place == from + 0) 1 0) 1 = ap {B = ℕ} (λ (t : Bool). cond t 1 0) own_place in
-        let more : 1 ≤ count_by (λ (y : Due). y.place == from + 0) list = subst (λ n. 1 ≤ count_by (λ (y : Due). y.place == n) list) same (counted list x c) in
+        let more : 1 ≤ count_by (λ (y : Due). y.place == from + 0) list = subst (λ n. 1 ≤ count_by (λ (y : Due). y.place == n) list) same
+        (counted list x c) in
         let most = few (gets_at gets (s ∷ subs) 0) in
         absurd (omega (arith, all, split, one, more, most))
 
@@ -104,9 +107,9 @@ step_some gets from s subs d list at g = record {
         let none : ◌≡◌ {A = ℕ} (cond (d.place == from + suc k) 1 0) 0 = ap {B = ℕ} (λ (t : Bool). cond t 1 0) other in
         let split = count_cons (λ (y : Due). y.place == from + suc k) d list in
         let all = g.once (suc k) in
-        (λ i. count_by (λ (y : Due). y.place == shift k i) list)
-        ∙ (let e : count_by (λ (y : Due). y.place == from + suc k) list ≡ count_by (λ (y : Due). y.place == from + suc k) (d ∷ list) = omega (arith, split, none) in e)
-        ∙ all
+        let there = λ (l : List Due). count_by (λ (y : Due). y.place == from + suc k) l in
+        let same : there list ≡ there (d ∷ list) = omega (arith, split, none) in
+        (λ i. count_by (λ (y : Due). y.place == shift k i) list) ∙ same ∙ all
 
 -- the first submission gets some: it is the first one that is due
 first_given : (gets : Submission → Option Fed) (from : ℕ) (s : Submission) (subs : List Submission) (d : Due) (list : List Due) (x : Fed)
@@ -161,8 +164,10 @@ fed_in_order gets subs f list o same rises =
     in_order_given gets 0 subs list (record {
       rises = rises;
       above = λ d c. omega arith;
-      once = λ k. (λ i. count_by (λ (d : Due). d.place == from_zero k i) list) ∙ sum_by-IsPermutation (λ (d : Due). cond (d.place == k) 1 0) f.due list same ∙ o.once k;
-      own = λ d k c e. ap (gets_at gets subs) (sym (e ∙ from_zero k)) ∙ o.due d (Contains-permutation list f.due d (IsPermutation-sym f.due list same) c);
+      once = λ k. (λ i. count_by (λ (d : Due). d.place == from_zero k i) list) ∙ sum_by-IsPermutation
+          (λ (d : Due). cond (d.place == k) 1 0) f.due list same ∙ o.once k;
+      own = λ d k c e. ap (gets_at gets subs) (sym (e ∙ from_zero k)) ∙ o.due d
+          (Contains-permutation list f.due d (IsPermutation-sym f.due list same) c);
     })
   where
     from_zero : (k : ℕ) → 0 + k ≡ k

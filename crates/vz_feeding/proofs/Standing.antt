@@ -24,7 +24,9 @@ unlike a b h = grind (arith, nat_tests)
 
 pub none_behind : (x : Sub) (list : List Sub) → list_all (before x) list ≡ true → is_open list x ≡ false
 none_behind x [] h = refl
-none_behind x (y ∷ list) h = let parts = both (before x y) (list_all (before x) list) h in (λ i. unlike x y parts.0 i || none_behind x list parts.1 i)
+none_behind x (y ∷ list) h =
+    let parts = both (before x y) (list_all (before x) list) h in
+    (λ i. unlike x y parts.0 i || none_behind x list parts.1 i)
 
 pub fed_length : (list : List Sub) (s : Sub) → in_order list ≡ true → is_open list s ≡ true → length (fed s list) + 1 ≡ length list
 unfolding in_order
@@ -60,7 +62,8 @@ kept_noted unfed fewer places left s n free rest k list found others len less =
     let room = k.room in
     record {
       sorted = ap in_order list ∙ fed_in_order unfed s k.sorted;
-      same = λ t. ap (λ l. is_open l t) list ∙ fed_has unfed s t ∙ told_none (same_sub s t) (is_open unfed t) (lookup (same_sub t) places) (lookup (same_sub t) left) (others t) (k.same t);
+      same = λ t. ap (λ l. is_open l t) list ∙ fed_has unfed s t ∙
+          told_none (same_sub s t) (is_open unfed t) (lookup (same_sub t) places) (lookup (same_sub t) left) (others t) (k.same t);
       count = omega (arith, long, one, len, count);
       room = omega (arith, len, room, less);
     }
@@ -88,7 +91,8 @@ kept_added unfed more places longer s m free k list new others len less =
     let count = k.count in
     record {
       sorted = ap in_order list ∙ opened_in_order unfed s k.sorted none;
-      same = λ t. ap (λ l. is_open l t) list ∙ opened_has unfed s t ∙ told_some (same_sub s t) (is_open unfed t) m (lookup (same_sub t) places) (lookup (same_sub t) longer) (others t) (k.same t);
+      same = λ t. ap (λ l. is_open l t) list ∙ opened_has unfed s t ∙
+          told_some (same_sub s t) (is_open unfed t) m (lookup (same_sub t) places) (lookup (same_sub t) longer) (others t) (k.same t);
       count = omega (arith, long, len, count);
       room = omega (arith, len, less);
     }

@@ -107,14 +107,16 @@ not_ended false h k = absurd (cc)
 pub none_gets : (w : World) (s : Submission) → Keeps w → Contains w.subs s → feedback_of w [] s ≡ None
 none_gets w s h c =
     held_back s.fed (is_ended s) (is_in_flight w.in_flight (sub_of s)) _ (λ e ends.
-    ⊎_elim (λ stands. let no_way : true ≡ false = not_ended (is_waiting s || is_active s) stands ends in absurd (cc)) (λ flies. flies) (unfed_open w s h c e))
+    ⊎_elim (λ stands. let no_way : true ≡ false = not_ended (is_waiting s || is_active s) stands ends in absurd (cc)) (λ flies. flies)
+    (unfed_open w s h c e))
 
 -- nor where a frame is drawn now
 none_gets_drawn : (w : World) (drawn : List Sub) (s : Submission) → Keeps w → w.in_flight ≡ None → Contains w.subs s
     → feedback_of (record w { in_flight = Some drawn }) [] s ≡ None
 none_gets_drawn w drawn s h none c =
     stood s.fed (is_waiting s) (is_active s) (is_in_flight (Some drawn) (sub_of s)) _ (λ e.
-    ⊎_elim (λ stands. stands) (λ flies. let no_way : true ≡ false = sym flies ∙ ap (λ o. is_in_flight o (sub_of s)) none in absurd (cc)) (unfed_open w s h c e))
+    ⊎_elim (λ stands. stands) (λ flies. let no_way : true ≡ false = sym flies ∙ ap (λ o. is_in_flight o (sub_of s)) none in absurd (cc))
+    (unfed_open w s h c e))
 
 drawn_owed : (w : World) (drawn : List Sub) (f : Owed) → Keeps w → w.in_flight ≡ None → AreOwed w f
     → AreOwed (record w { in_flight = Some drawn }) f
@@ -128,7 +130,8 @@ unfolding scene_answer
 scene_owed p w scene f h none o =
     let walked = walk_of p.size scene in
     let damage = drawn_damage p.size w.last (accepted_frames w) scene.root walked in
-    answered (too_much walked) _ _ f o (answered (is_some w.last && is_empty_rect damage) _ _ f o (drawn_owed w (walked_subs scene walked) f h none o))
+    answered (too_much walked) _ _ f o
+    (answered (is_some w.last && is_empty_rect damage) _ _ f o (drawn_owed w (walked_subs scene walked) f h none o))
 
 seen_or : (r : Option Scene) (g : Scene → Answer) (b : Answer) (f : Owed) → ((s : Scene) → AreOwed (g s).world f) → AreOwed b.world f
     → AreOwed (elim r as (λ _. Answer) [ Some s ↦ g s | None ↦ b ]).world f
@@ -159,12 +162,15 @@ new_unplaced w c local frame f keeps o = by (place_of f sub) refl
     by None e = refl
     by (Some n) e =
         let m = o.only sub n e in
-        let no_way : true ≡ false = yes_no (same_sub sub (sub_of m.0)) (ap (same_sub sub) m.2 ∙ same_self sub) (new_name w keeps c.number n m.0 m.1) in
+        let no_way : true ≡ false = yes_no (same_sub sub (sub_of m.0)) (ap (same_sub sub) m.2 ∙ same_self sub)
+        (new_name w keeps c.number n m.0 m.1) in
         absurd (cc)
 
 pub few_accepted : (p : Plan) (w : World) (f : Owed) → IsPlan p → KeepsAlways w → KeepsPlan p w → KeepsMessages w → AreOwed w f
     → f.accepted < 18446744073709551615
-few_accepted p w f plan keeps of_plan messages o = let short = (lists_short p w plan keeps of_plan messages).subs in omega (arith, o.accepted, short)
+few_accepted p w f plan keeps of_plan messages o =
+    let short = (lists_short p w plan keeps of_plan messages).subs in
+    omega (arith, o.accepted, short)
 
 pub nothing_due : (w : World) (f : Owed) → Keeps w → AreOwed w f → f.due ≡ []
 nothing_due w f h o = by f.due refl
@@ -177,5 +183,6 @@ nothing_due w f h o = by f.due refl
     by [] e = refl
     by (d ∷ list) e =
         let found = o.due d (subst (λ l. Contains l d) (sym e) (contains_here d list)) in
-        let no_way : true ≡ false = none_some d.fed (gets_at (feedback_of w []) w.subs d.place) (gets_none d.place (slice_get w.subs d.place) refl) found in
+        let no_way : true ≡ false = none_some d.fed (gets_at (feedback_of w []) w.subs d.place)
+        (gets_none d.place (slice_get w.subs d.place) refl) found in
         absurd (cc)

@@ -21,7 +21,7 @@ pub record Owed : Type 0 where
   pub accepted : ℕ
 
 -- this, with the room made before for submissions to come
-pub record Feeds : Type 0 where
+pub record OwedAndRoom : Type 0 where
   pub owed : Owed
   pub spare : ℕ
 

@@ -44,10 +44,10 @@ pub struct Feeding {
 impl Model for Feeding {
     ghost use Rattle.std.specs.Prelude.{◌+◌, ◌-◌, length, vec_len, vec_capacity};
     ghost use Rattle.indexmap.specs.IndexMap.{spare as spare_of};
-    ghost use Rattle.vz_feeding.specs.Owing.{Feeds};
+    ghost use Rattle.vz_feeding.specs.Owing.{OwedAndRoom};
     ghost use Rattle.vz_feeding.specs.Noting.{AreKept, room_for};
 
-    ghost Value = { Feeds };
+    ghost Value = { OwedAndRoom };
 
     ghost view = { λ a. record {
       owed = record {

@@ -12,4 +12,5 @@ loop-sub-preserved c =
 
 pub returns-clause-owed : goal.returns-clause-owed
 returns-clause-owed c =
-    λ gets subs o. noted_all c.args.drawn.now c.loop-sub.sub-index gets subs c.loop-sub.self.owed (omega (arith, c.loop-sub-test.false)) (c.loop-sub.invariant.0 gets subs o)
+    λ gets subs o. noted_all c.args.drawn.now c.loop-sub.sub-index gets subs c.loop-sub.self.owed (omega (arith, c.loop-sub-test.false))
+    (c.loop-sub.invariant.0 gets subs o)
