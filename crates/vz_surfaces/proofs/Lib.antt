@@ -17,6 +17,7 @@ mod Ages
 mod Grouping
 mod Pointing
 mod Shown
+mod Seeing
 mod Marking
 mod Numbering
 mod Listing

@@ -1,7 +1,8 @@
 -- What always holds of the surfaces and submissions that a store stands for.
 use Rattle.std.specs.Prelude.{List}
-use Rattle.vz_rules.specs.World.{Client}
-use Rattle.vz_rules.specs.Kept.{KeepsClients, KeepsSurfaces, KeepsNumbers, KeepsStates, FewAreCreated}
+use Rattle.std.specs.List.{Contains}
+use Rattle.vz_rules.specs.World.{Client, Submission}
+use Rattle.vz_rules.specs.Kept.{KeepsClients, KeepsSurfaces, KeepsNumbers, KeepsStates, FewAreCreated, IsWhole}
 use Rattle.vz_surfaces.specs.Stored.{Stored}
 
 -- there are clients with one sink each, whose surfaces these are, numbered and each going on from the earlier ones of its
@@ -13,3 +14,7 @@ pub record KeepsStored (st : Stored) : Type 0 where
   pub numbers : KeepsNumbers st.surfaces st.subs
   pub few_created : FewAreCreated st.surfaces st.subs
   pub states : KeepsStates st.surfaces st.subs
+
+-- accepted frames fit a message file and break no rule, and their listings have their blocks
+abbrev pub KeepsFrames : Stored → Type 0
+KeepsFrames st = (s : Submission) → Contains st.subs s → IsWhole s.submitted

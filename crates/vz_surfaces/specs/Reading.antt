@@ -54,6 +54,10 @@ active_on st id = frame_on id (seen_frames st)
 abbrev pub held_of : FrameData → Held
 held_of i = record { sub = i.sub; index = i.index; frame = i.frame; blocks = i.blocks }
 
+-- what is kept of a frame on a surface, as it is seen
+abbrev pub frame_at : SurfaceId → Held → FrameData
+frame_at id h = record { id = id; sub = h.sub; index = h.index; frame = h.frame; blocks = h.blocks }
+
 -- the surface that a range shows, among those that exist and have an active frame
 unfoldable pub shown_in : Stored → SurfaceRange → Option SurfaceId
 shown_in st range = id_of_frame (shown_frame (seen_frames st) range)

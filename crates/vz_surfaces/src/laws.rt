@@ -21,10 +21,10 @@ ghost use Rattle.vz_rules.specs.Returns.{give_back, feed};
 ghost use Rattle.vz_rules.specs.Messages.{accepted, blocks_of, taking, message_answer, upload_answer, hierarchy_answer, root_answer, await_answer};
 ghost use Rattle.vz_rules.specs.Singly.{rising, going};
 ghost use Rattle.vz_rules.specs.Step.{begin_answer, draw_answer, done_answer};
-ghost use Rattle.vz_rules.specs.Kept.{KeepsAlways};
+ghost use Rattle.vz_rules.specs.Kept.{KeepsAlways, KeepsMessages};
 ghost use Rattle.vz_surfaces.specs.Stored.{stored_of, nothing_stored, storing, activating, marking, destroying};
-ghost use Rattle.vz_surfaces.specs.Reading.{stands, has_mark, existing_count, marked_of, last_of, active_on, shown_in, was_reached};
-ghost use Rattle.vz_surfaces.specs.Keeping.{KeepsStored};
+ghost use Rattle.vz_surfaces.specs.Reading.{stands, has_mark, existing_count, marked_of, last_of, seen_frames, active_on, shown_in, was_reached};
+ghost use Rattle.vz_surfaces.specs.Keeping.{KeepsStored, KeepsFrames};
 
 /// A store changes as the machine's state does: where a submission is accepted, where one becomes
 /// active, where a client is closed and where a surface is destroyed.
@@ -77,6 +77,8 @@ pub fn stores_tell()
         ≡ option_map (λ (s : Created). (s.id.local, s.size)) (last_created w c) }
     ensures met { (w : World) (d : SurfaceId) → is_met w d ≡ (was_reached (stored_of w) d
         || list_any (λ (c : Client). c.closed && same_sink c.sink d.sink) w.clients) }
+    ensures seen { (w : World) → KeepsAlways w
+        → seen_frames (stored_of w) ≡ active_frames w.subs }
     ensures active { (w : World) (id : SurfaceId) → KeepsAlways w
         → active_on (stored_of w) id ≡ frame_on id (active_frames w.subs) }
     ensures shown { (w : World) (range : SurfaceRange) → KeepsAlways w
@@ -85,5 +87,6 @@ pub fn stores_tell()
 
 /// What always holds of the machine's state always holds of a store.
 pub fn stores_keep()
-    ensures { (w : World) → KeepsAlways w → KeepsStored (stored_of w) }
+    ensures always { (w : World) → KeepsAlways w → KeepsStored (stored_of w) }
+    ensures frames { (w : World) → KeepsMessages w → KeepsFrames (stored_of w) }
 {}

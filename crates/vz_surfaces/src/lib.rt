@@ -9,6 +9,7 @@ mod held;
 pub mod laws;
 mod marks;
 mod owners;
+mod seen;
 mod showing;
 mod size;
 mod standing;
@@ -18,4 +19,5 @@ mod told;
 mod waits;
 
 pub use held::{Gone, Held, Taken};
+pub use seen::Seen;
 pub use store::Store;

@@ -5,9 +5,10 @@ ghost use Rattle.indexmap.specs.IndexMap.{spare as spare_of};
 ghost use Rattle.vz_ids.specs.declared.SurfaceId.{SurfaceId as Id};
 ghost use Rattle.vz_rules.specs.World.{Created as Surface, is_on};
 ghost use Rattle.vz_rules.specs.Messages.{violates, is_last};
+ghost use Rattle.vz_rules.specs.Scene.{shown_frame};
 ghost use Rattle.vz_rules.specs.Kept.{is_by, last_in};
 ghost use Rattle.vz_surfaces.specs.Stored.{nothing_stored, surface_of, storing, activating, marking, destroying};
-ghost use Rattle.vz_surfaces.specs.Reading.{stands, standing, existing_count, last_of, active_on, held_of, has_mark, marked_to, was_reached};
+ghost use Rattle.vz_surfaces.specs.Reading.{stands, standing, existing_count, last_of, active_on, seen_frames, held_of, has_mark, marked_to, was_reached};
 ghost use Rattle.vz_surfaces.specs.Keeping.{KeepsStored};
 ghost use Rattle.vz_surfaces.specs.Chains.{is_group, chain_at, newest_at};
 ghost use Rattle.vz_surfaces.specs.Numbers.{list_at, has_room};
@@ -17,6 +18,7 @@ use crate::groups::Groups;
 use crate::held::{Gone, Held, Taken};
 use crate::marks::{mark_all, mark_before};
 use crate::owners::Owners;
+use crate::seen::Seen;
 use crate::showing::shown_by;
 use crate::size::frame_size;
 use crate::standing::Standing;
@@ -107,6 +109,28 @@ impl Store {
         match self.table.get(id) {
             None => None,
             Some(surface) => surface.active.as_ref(),
+        }
+    }
+
+    /// The active submission of a surface that exists, as it is seen.
+    pub fn frame_on(&self, id: &SurfaceId) -> Option<Seen<'_>>
+        ensures { result ≡ active_on self.now id.now }
+    {
+        match self.active(id) {
+            None => None,
+            Some(held) => Some(Seen::new(*id, held)),
+        }
+    }
+
+    /// The active submission of the surface that a range shows. Condition: what always holds is
+    /// kept.
+    pub fn shown_frame(&self, range: &SurfaceRange) -> Option<Seen<'_>>
+        requires { KeepsStored self.now }
+        ensures { result ≡ shown_frame (seen_frames self.now) range.now }
+    {
+        match self.shown(range) {
+            None => None,
+            Some(id) => self.frame_on(&id),
         }
     }
 

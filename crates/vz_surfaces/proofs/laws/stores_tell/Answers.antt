@@ -1,4 +1,4 @@
-use Rattle.vz_surfaces.proofs.Telling.{tells_exists, tells_marks, tells_count, tells_marked, tells_last, tells_met, tells_active, tells_shown}
+use Rattle.vz_surfaces.proofs.Telling.{tells_exists, tells_marks, tells_count, tells_marked, tells_last, tells_met, seen_all, tells_active, tells_shown}
 use Rattle.vz_surfaces.proofs.laws.stores_tell.Goals as goal
 
 pub returns : goal.returns
@@ -10,6 +10,7 @@ returns c =
       marked = tells_marked;
       last = tells_last;
       met = tells_met;
+      seen = seen_all;
       active = tells_active;
       shown = tells_shown;
     }
