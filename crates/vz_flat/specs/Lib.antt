@@ -1,3 +1,6 @@
 pub mod Ops
 pub mod Nesting
+pub mod Parts
+pub mod Tiles
+pub mod Gutters
 pub mod Flat
