@@ -5,3 +5,7 @@ pub mod Guttered
 pub mod Levelled
 pub mod Flattened
 pub mod Drawn
+pub mod Sound
+pub mod Tile_sound
+pub mod Flat_sound
+pub mod Wholes

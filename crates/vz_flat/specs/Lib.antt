@@ -4,3 +4,4 @@ pub mod Parts
 pub mod Tiles
 pub mod Gutters
 pub mod Flat
+pub mod Whole
