@@ -9,3 +9,8 @@ pub mod Sound
 pub mod Tile_sound
 pub mod Flat_sound
 pub mod Wholes
+pub mod Rounded
+pub mod Ends
+pub mod Standing
+pub mod Rooted
+pub mod Stored_scenes

@@ -1,7 +1,7 @@
 -- What a gutter is drawn by: the background in the parts of a window round a surface.
-use Rattle.std.specs.Prelude.{◌+ℤ◌, ◌-ℤ◌, if◌then◌else◌, List, [], ◌∷◌}
+use Rattle.std.specs.Prelude.{◌+ℤ◌, ◌-ℤ◌, ◌≤ℤ◌, if◌then◌else◌, List, [], ◌∷◌}
 use Rattle.std.specs.List.{flat_map}
-use Rattle.vz_geom.specs.Rectangle.{Rectangle, is_empty_rect, with_sides}
+use Rattle.vz_geom.specs.Rectangle.{Rectangle, IsRectangle, is_empty_rect, with_sides}
 use Rattle.vz_ids.specs.declared.SurfaceRange.{SurfaceRange}
 use Rattle.vz_ids.specs.Ids.{same_surface}
 use Rattle.vz_pixels.specs.Colour.{Colour}
@@ -11,6 +11,15 @@ use Rattle.vz_rules.specs.Walk.{Placement}
 use Rattle.vz_flat.specs.declared.op.Op.{Op}
 use Rattle.vz_flat.specs.declared.op.Op.TheVariants.{Fill}
 use Rattle.vz_flat.specs.Parts.{seen_flat, surface_place}
+
+-- a rectangle's edges are within those of another, and those within the limit
+pub record LiesIn (outer inner : Rectangle) : Type 0 where
+  pub left : outer.x ≤ℤ inner.x
+  pub top : outer.y ≤ℤ inner.y
+  pub right : (inner.x +ℤ inner.w) ≤ℤ (outer.x +ℤ outer.w)
+  pub bottom : (inner.y +ℤ inner.h) ≤ℤ (outer.y +ℤ outer.h)
+  pub outer_edges : IsRectangle outer
+  pub inner_edges : IsRectangle inner
 
 -- the parts of a rectangle above and below one that lies in it, and those left and right of it
 abbrev pub above : Rectangle → Rectangle → Rectangle

@@ -5,3 +5,5 @@ pub mod Tiles
 pub mod Gutters
 pub mod Flat
 pub mod Whole
+pub mod Paths
+pub mod Flattening
