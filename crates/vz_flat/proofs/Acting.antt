@@ -7,7 +7,7 @@ use Rattle.vz_pixels.specs.Colour.{Colour, transparent}
 use Rattle.vz_frame.specs.declared.blend.Blend.{Blend}
 use Rattle.vz_frame.specs.Blending.{laid}
 use Rattle.vz_flat.specs.declared.op.Op.{Op}
-use Rattle.vz_flat.specs.declared.op.Op.TheVariants.{Fill, Push, Pop}
+use Rattle.vz_flat.specs.declared.op.Op.TheVariants.{Fill, Pop}
 use Rattle.vz_flat.specs.Ops.{Group, run, value}
 use Rattle.vz_flat.specs.Parts.{seen_flat, grouped_flat}
 

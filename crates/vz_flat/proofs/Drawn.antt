@@ -1,5 +1,5 @@
 -- That a scene's operations do at each point of the display what painting does.
-use Rattle.std.proofs.Common.{◌≡◌, pos, ◌&&◌, Bool, true, false, Option, Some, None, List, [], ◌∷◌, refl, ap, sym, ◌∙◌, cond, arith}
+use Rattle.std.proofs.Common.{◌≡◌, pos, ◌&&◌, Bool, true, false, Option, Some, None, [], refl, ap, sym, ◌∙◌, cond, arith}
 use Rattle.std.proofs.lemmas.Int.{ints}
 use Rattle.vz_geom.specs.declared.Point.{Point}
 use Rattle.vz_geom.specs.declared.Size.{Size}
@@ -13,7 +13,7 @@ use Rattle.vz_rules.proofs.Geometry.{same_point, has_moved_is, has_meet_is}
 use Rattle.vz_flat.specs.Ops.{run, value}
 use Rattle.vz_flat.specs.Parts.{seen_flat, surface_place}
 use Rattle.vz_flat.specs.Flat.{flat, scene_flat}
-use Rattle.vz_flat.proofs.Acting.{ActsAs, value_of_acts, acts_same, acts_seen}
+use Rattle.vz_flat.proofs.Acting.{value_of_acts, acts_same, acts_seen}
 use Rattle.vz_flat.proofs.Levelled.{pix_until, enough_levels}
 use Rattle.vz_flat.proofs.Flattened.{flat_acts}
 

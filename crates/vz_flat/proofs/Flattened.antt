@@ -15,7 +15,7 @@ use Rattle.vz_frame.specs.declared.frame.Material.TheVariants.{Solid, Tile, Surf
 use Rattle.vz_frame.specs.Frame.{passes_down, names_pass, frame_size}
 use Rattle.vz_rules.specs.World.{FrameData}
 use Rattle.vz_rules.specs.Scene.{shown_frame}
-use Rattle.vz_rules.specs.Paint.{covers, local_point, tile_colour, Named, Embedding, Content, on_path, material_painted, quads_painted, pass_painted, group_laid, groups, root_painted, content_at, is_absent, is_straight, content_laid}
+use Rattle.vz_rules.specs.Paint.{covers, local_point, Named, Embedding, Content, on_path, material_painted, quads_painted, pass_painted, group_laid, groups, root_painted, content_at, is_absent, is_straight, content_laid}
 use Rattle.vz_rules.specs.Walk.{Placement, seen_part, place_in}
 use Rattle.vz_rules.proofs.Geometry.{local_stays, output_stays, has_moved_is, has_meet_is, has_seen_is}
 use Rattle.vz_flat.specs.declared.op.Op.{Op}

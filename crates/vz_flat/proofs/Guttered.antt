@@ -1,5 +1,5 @@
 -- That a gutter's operations lay the background round a surface.
-use Rattle.std.proofs.Common.{◌≡◌, ℤ, pos, ◌+ℤ◌, ◌-ℤ◌, ◌≤ℤ◌, ◌<ℤ◌, int_lt, Bool, true, false, not, ◌&&◌, List, [], ◌∷◌, ◌++◌, refl, ap, sym, ◌∙◌, cond, subst, arith}
+use Rattle.std.proofs.Common.{◌≡◌, ℤ, ◌+ℤ◌, ◌-ℤ◌, ◌≤ℤ◌, ◌<ℤ◌, int_lt, Bool, true, false, not, ◌&&◌, List, [], ◌∷◌, refl, ap, ◌∙◌, cond, subst, arith}
 use Rattle.std.specs.List.{flat_map}
 use Rattle.std.proofs.lemmas.Int.{ints}
 use Rattle.vz_geom.specs.declared.Point.{Point}
@@ -117,31 +117,34 @@ module _ (outer inner : Rectangle) (p : Point) (is : IsInside outer inner) (full
   first_part : has (above outer inner) p ≡ true
       → (between outer inner p ≡ true) × (has (beneath outer inner) p ≡ false) × (has (left_of outer inner) p ≡ false) × (has (right_of outer inner) p ≡ false)
   first_part h =
-      let i = in_above h in
-      (both_tests (has outer p) (has inner p)
-      (of_in outer p (record { left = omega (arith, ints); right = omega (arith, ints); top = omega (arith, ints); bottom = omega (arith, ints) }))
-      (not_has inner p (λ k. let j = to_in inner p k in absurd (omega (arith, ints)))),
-      not_has (beneath outer inner) p (λ k. let j = in_beneath k in absurd (omega (arith, ints))),
-      not_has (left_of outer inner) p (λ k. let j = in_left k in absurd (omega (arith, ints))),
-      not_has (right_of outer inner) p (λ k. let j = in_right k in absurd (omega (arith, ints))))
+      let i = in_above h in (
+        both_tests (has outer p) (has inner p)
+            (of_in outer p (record { left = omega (arith, ints); right = omega (arith, ints); top = omega (arith, ints); bottom = omega (arith, ints) }))
+            (not_has inner p (λ k. let j = to_in inner p k in absurd (omega (arith, ints)))),
+        not_has (beneath outer inner) p (λ k. let j = in_beneath k in absurd (omega (arith, ints))),
+        not_has (left_of outer inner) p (λ k. let j = in_left k in absurd (omega (arith, ints))),
+        not_has (right_of outer inner) p (λ k. let j = in_right k in absurd (omega (arith, ints))),
+      )
 
   second_part : has (beneath outer inner) p ≡ true
       → (between outer inner p ≡ true) × (has (left_of outer inner) p ≡ false) × (has (right_of outer inner) p ≡ false)
   second_part h =
-      let i = in_beneath h in
-      (both_tests (has outer p) (has inner p)
-      (of_in outer p (record { left = omega (arith, ints); right = omega (arith, ints); top = omega (arith, ints); bottom = omega (arith, ints) }))
-      (not_has inner p (λ k. let j = to_in inner p k in absurd (omega (arith, ints)))),
-      not_has (left_of outer inner) p (λ k. let j = in_left k in absurd (omega (arith, ints))),
-      not_has (right_of outer inner) p (λ k. let j = in_right k in absurd (omega (arith, ints))))
+      let i = in_beneath h in (
+        both_tests (has outer p) (has inner p)
+            (of_in outer p (record { left = omega (arith, ints); right = omega (arith, ints); top = omega (arith, ints); bottom = omega (arith, ints) }))
+            (not_has inner p (λ k. let j = to_in inner p k in absurd (omega (arith, ints)))),
+        not_has (left_of outer inner) p (λ k. let j = in_left k in absurd (omega (arith, ints))),
+        not_has (right_of outer inner) p (λ k. let j = in_right k in absurd (omega (arith, ints))),
+      )
 
   third_part : has (left_of outer inner) p ≡ true → (between outer inner p ≡ true) × (has (right_of outer inner) p ≡ false)
   third_part h =
-      let i = in_left h in
-      (both_tests (has outer p) (has inner p)
-      (of_in outer p (record { left = omega (arith, ints); right = omega (arith, ints); top = omega (arith, ints); bottom = omega (arith, ints) }))
-      (not_has inner p (λ k. let j = to_in inner p k in absurd (omega (arith, ints)))),
-      not_has (right_of outer inner) p (λ k. let j = in_right k in absurd (omega (arith, ints))))
+      let i = in_left h in (
+        both_tests (has outer p) (has inner p)
+            (of_in outer p (record { left = omega (arith, ints); right = omega (arith, ints); top = omega (arith, ints); bottom = omega (arith, ints) }))
+            (not_has inner p (λ k. let j = to_in inner p k in absurd (omega (arith, ints)))),
+        not_has (right_of outer inner) p (λ k. let j = in_right k in absurd (omega (arith, ints))),
+      )
 
   fourth_part : has (right_of outer inner) p ≡ true → between outer inner p ≡ true
   fourth_part h =

@@ -1,11 +1,11 @@
 -- What is drawn of a store's root.
-use Rattle.std.proofs.Common.{◌≡◌, ℕ, Bool, true, false, Option, Some, None, List, [], ◌∷◌, ◌++◌, refl, ap, sym, ◌∙◌, cond, append-nil}
+use Rattle.std.proofs.Common.{◌≡◌, true, false, Option, Some, None, List, [], ◌++◌, ap, sym, ◌∙◌, cond, append-nil}
 use Rattle.vz_geom.specs.declared.Point.{Point}
 use Rattle.vz_geom.specs.declared.Size.{Size}
 use Rattle.vz_geom.specs.Rectangle.{Rectangle, is_empty_rect, has, sized}
 use Rattle.vz_ids.specs.declared.SurfaceId.{SurfaceId}
 use Rattle.vz_pixels.specs.Colour.{black}
-use Rattle.vz_rules.specs.World.{FrameData, Scene, frame_on}
+use Rattle.vz_rules.specs.World.{FrameData, Scene}
 use Rattle.vz_rules.specs.Kept.{IsWhole}
 use Rattle.vz_rules.specs.Paint.{full}
 use Rattle.vz_rules.specs.Walk.{Placement, walk_of, whole, too_much}

@@ -1,5 +1,5 @@
 -- What the steps of flattening ask of each other, and what they append.
-use Rattle.std.proofs.Common.{◌≡◌, ℕ, zero, suc, ◌+◌, ◌-◌, ◌*◌, ◌<◌, ◌≤◌, ◌==◌, Some, List, [], ◌∷◌, ◌++◌, take, drop, length, get_or, reverse, refl, ap, sym, ◌∙◌, subst, arith, append_assoc, append-nil, Contains}
+use Rattle.std.proofs.Common.{◌≡◌, ℕ, zero, suc, ◌+◌, ◌-◌, ◌<◌, ◌≤◌, Some, List, [], ◌∷◌, ◌++◌, drop, length, get_or, reverse, refl, ap, sym, ◌∙◌, subst, arith, append_assoc, append-nil, Contains}
 use Rattle.std.specs.List.{All}
 use Rattle.std.proofs.lemmas.List.{drop_more, drop_all, reverse-append, length-append}
 use Rattle.std.proofs.lemmas.List.Elements.{All-pop}
@@ -9,7 +9,6 @@ use Rattle.vz_ids.specs.declared.SurfaceId.{SurfaceId}
 use Rattle.vz_ids.specs.declared.SurfaceRange.{SurfaceRange}
 use Rattle.vz_frame.specs.declared.frame.RenderPass.{RenderPass}
 use Rattle.vz_frame.specs.declared.frame.DrawQuad.{DrawQuad}
-use Rattle.vz_frame.specs.Frame.{passes_down}
 use Rattle.vz_rules.specs.World.{FrameData, Submission, is_active}
 use Rattle.vz_rules.specs.Scene.{shown_frame}
 use Rattle.vz_rules.specs.Kept.{IsWhole}
@@ -24,7 +23,7 @@ use Rattle.vz_walk.proofs.Rooms.{room_less, room_minus, place_room, drawn_room}
 use Rattle.vz_flat.specs.declared.op.Op.{Op}
 use Rattle.vz_flat.specs.Parts.{seen_flat}
 use Rattle.vz_flat.specs.Flat.{quads_flat, root_flat, flat}
-use Rattle.vz_flat.specs.Whole.{IsPassWhole, IsFrameWhole}
+use Rattle.vz_flat.specs.Whole.{IsPassWhole}
 use Rattle.vz_flat.specs.Flattening.{Stand, ranges_of, material_here, quads_here}
 
 -- Passes that are whole

@@ -1,5 +1,5 @@
 -- That what can be seen of the machine's state is what a store shows that stands for it.
-use Rattle.std.proofs.Common.{◌≡◌, Option, Some, None, List, refl, ap, ◌∙◌}
+use Rattle.std.proofs.Common.{◌≡◌, Option, Some, None, List, ap, ◌∙◌}
 use Rattle.std.specs.Option.{option_and_then}
 use Rattle.vz_ids.specs.declared.SurfaceId.{SurfaceId}
 use Rattle.vz_rules.specs.World.{World, FrameData, Scene, active_frames, frame_on}

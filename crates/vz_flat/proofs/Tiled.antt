@@ -1,9 +1,9 @@
 -- That a tile's operation lays its texels.
-use Rattle.std.proofs.Common.{◌≡◌, ℕ, ℤ, pos, Option, Some, None, List, [], ◌∷◌, refl, ap, sym, ◌∙◌, cond, subst, arith}
+use Rattle.std.proofs.Common.{◌≡◌, ℕ, pos, Option, Some, None, [], ◌∷◌, refl, ap, cond, subst, arith}
 use Rattle.std.proofs.lemmas.Int.{ints}
 use Rattle.vz_geom.specs.declared.Point.{Point}
 use Rattle.vz_geom.specs.Rectangle.{Rectangle, has, plus, minus, corner}
-use Rattle.vz_pixels.specs.Colour.{Colour, transparent}
+use Rattle.vz_pixels.specs.Colour.{transparent}
 use Rattle.vz_pixels.specs.Block.{Block}
 use Rattle.vz_frame.specs.declared.blend.Blend.{Blend}
 use Rattle.vz_frame.specs.Blending.{laid}

@@ -1,11 +1,10 @@
 -- That the passes and quads of accepted frames are whole.
-use Rattle.std.proofs.Common.{◌≡◌, ℕ, zero, suc, ℤ, pos, ◌+ℤ◌, ◌≤ℤ◌, ◌≤◌, int_lt, Bool, true, false, not, ◌&&◌, ◌||◌, Option, Some, None, List, [], ◌∷◌, ◌++◌, length, reverse, refl, ap, sym, ◌∙◌, cond, subst, arith}
+use Rattle.std.proofs.Common.{◌≡◌, ℕ, suc, ℤ, pos, ◌+ℤ◌, ◌≤ℤ◌, int_lt, Bool, true, false, not, ◌&&◌, ◌||◌, Option, Some, None, List, [], ◌∷◌, ◌++◌, refl, sym, ◌∙◌, cond, subst, arith}
 use Rattle.std.specs.Prelude.{find, slice_get}
 use Rattle.std.specs.List.{All, list_any, list_all, flat_map}
 use Rattle.std.proofs.lemmas.Bool.{and_parts}
 use Rattle.std.proofs.lemmas.Int.{ints}
-use Rattle.std.proofs.lemmas.List.{reverse-append}
-use Rattle.std.proofs.lemmas.List.Elements.{All-nil, All-cons, All-head, All-tail, All-append}
+use Rattle.std.proofs.lemmas.List.Elements.{All-nil, All-cons}
 use Rattle.std.proofs.lemmas.List.Folds.{list_any-append}
 use Rattle.vz_base.specs.declared.limits.TheConstants.{NEWEST_FORMAT}
 use Rattle.vz_geom.specs.Rectangle.{Rectangle, covers_rect}
@@ -15,11 +14,10 @@ use Rattle.vz_frame.specs.declared.frame.CompositorFrame.{CompositorFrame}
 use Rattle.vz_frame.specs.declared.frame.Listing.{Listing}
 use Rattle.vz_frame.specs.declared.frame.RenderPass.{RenderPass}
 use Rattle.vz_frame.specs.declared.frame.DrawQuad.{DrawQuad}
-use Rattle.vz_frame.specs.declared.frame.Material.TheVariants.{Tile}
 use Rattle.vz_frame.specs.declared.rules.Rule.{Rule}
 use Rattle.vz_frame.specs.declared.rules.Rule.TheVariants.{NoPass, BadRoot, PassIds, PassOrder, VisibleOutside, UnlistedResource}
 use Rattle.vz_frame.specs.declared.rules.Rule.TheVariants.{ListedTwice, TileOutside, BadRange, BadDependency, DamageOutside}
-use Rattle.vz_frame.specs.Frame.{passes_down, lists, exceeds, tile_outside, quads_of, breaks, first_broken, rules_in_order}
+use Rattle.vz_frame.specs.Frame.{lists, exceeds, tile_outside, quads_of, breaks, first_broken}
 use Rattle.vz_frame.specs.Fits.{fits_quad, fits_pass}
 use Rattle.vz_rules.specs.World.{FrameData}
 use Rattle.vz_rules.specs.Paint.{block_of}

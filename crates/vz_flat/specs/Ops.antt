@@ -4,7 +4,6 @@ use Rattle.std.specs.List.{list_all}
 use Rattle.vz_geom.specs.declared.Point.{Point}
 use Rattle.vz_geom.specs.Rectangle.{is_empty_rect, has, plus, minus, corner}
 use Rattle.vz_pixels.specs.Colour.{Colour, transparent}
-use Rattle.vz_pixels.specs.Block.{Block}
 use Rattle.vz_frame.specs.declared.blend.Blend.{Blend}
 use Rattle.vz_frame.specs.Blending.{laid}
 use Rattle.vz_rules.specs.Paint.{texel_of}

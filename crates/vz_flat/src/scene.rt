@@ -26,12 +26,7 @@ use vz_walk::Place;
 
 /// Appends what is drawn of the root, in the part of the display in which it has points.
 #[tactic(auto, unfolding(crate::specs::Flat::scene_flat))]
-fn put_root(
-    store: &Store,
-    root: &SurfaceId,
-    size: Size,
-    ops: &mut List<Op>,
-) -> Result<(), Memory>
+fn put_root(store: &Store, root: &SurfaceId, size: Size, ops: &mut List<Op>) -> Result<(), Memory>
     requires size { IsDisplaySize size }
     requires keeps { KeepsStored store.now }
     requires frames { KeepsFrames store.now }
@@ -45,14 +40,7 @@ fn put_root(
             if place.window().is_empty() {
                 return Ok(());
             }
-            surface(
-                store,
-                MOST_ON_PATH as u32,
-                &Path::Start,
-                &seen,
-                &place,
-                ops,
-            )?;
+            surface(store, MOST_ON_PATH as u32, &Path::Start, &seen, &place, ops)?;
             Ok(())
         }
     }
@@ -65,12 +53,7 @@ fn put_root(
 ///
 /// Conditions: the size is a display's, the store keeps what always holds, its frames are whole,
 /// and the walk from the root is not too much.
-pub fn flatten(
-    alloc: Global,
-    store: &Store,
-    root: &SurfaceId,
-    size: Size,
-) -> Result<Ops, Memory>
+pub fn flatten(alloc: Global, store: &Store, root: &SurfaceId, size: Size) -> Result<Ops, Memory>
     requires size { IsDisplaySize size }
     requires keeps { KeepsStored store.now }
     requires frames { KeepsFrames store.now }

@@ -1,4 +1,4 @@
-use Rattle.std.proofs.Common.{rules, ◌-◌, ◌+◌, length, ap, sym, ◌∙◌, subst, arith}
+use Rattle.std.proofs.Common.{rules, length, ap, sym, ◌∙◌, subst, arith}
 use Rattle.std.specs.List.{All}
 use Rattle.vz_surfaces.specs.declared.held.Held.{Held}
 use Rattle.vz_flat.specs.Whole.{IsPassWhole}
@@ -8,9 +8,16 @@ use Rattle.vz_flat.proofs.flattening.+flatten.Goals as goal
 
 pub Flattener::named-group-requires : goal.Flattener::named-group-requires
 Flattener::named-group-requires t c =
-    let parts = split_whole c.args.self.now.seen c.args.passes.now c.in-Some.earlier.now c.in-Some.pass.now c.in-Some.ensures.cases.0 c.requires.whole in
-    (search rules, (parts.0, (parts.1,
-    group_room c.args.self.now.levels c.args.place.now c.inside-inner.result c.args.passes.now c.in-Some.earlier.now c.in-Some.pass.now c.in-Some.ensures.cases.0 parts.1.reach c.inside-inner.ensures c.requires.room)))
+    let parts = split_whole c.args.self.now.seen c.args.passes.now c.in-Some.earlier.now c.in-Some.pass.now c.in-Some.ensures.cases.0 c.requires.whole in (
+      search rules,
+      (
+        parts.0,
+        (
+          parts.1,
+          group_room c.args.self.now.levels c.args.place.now c.inside-inner.result c.args.passes.now c.in-Some.earlier.now c.in-Some.pass.now c.in-Some.ensures.cases.0 parts.1.reach c.inside-inner.ensures c.requires.room,
+        ),
+      ),
+    )
 
 pub Flattener::named-named-requires : goal.Flattener::named-named-requires
 Flattener::named-named-requires t c =
@@ -23,15 +30,20 @@ Flattener::pass-loop-k-init t c = (omega arith, none_yet c.args.self.now c.args.
 pub Flattener::pass-loop-k-preserved : goal.Flattener::pass-loop-k-preserved
 Flattener::pass-loop-k-preserved t c =
     let i = c.loop-k.invariant in
-    let low = i.0 in
-    (omega (arith, low),
-    one_more c.args.self.now c.args.earlier.now c.args.pass.now c.args.place.now c.as_slice-quads.result.now c.loop-k.k c.index-quads-k.result c.args.ops.now c.loop-k.ops c.quad.new.ops
-    c.loop-k-test.true i.0 c.index-quads-k.is i.1 c.in_ok-quad.ensures)
+    let low = i.0 in (
+      omega (arith, low),
+      one_more c.args.self.now c.args.earlier.now c.args.pass.now c.args.place.now c.as_slice-quads.result.now c.loop-k.k c.index-quads-k.result c.args.ops.now c.loop-k.ops c.quad.new.ops
+          c.loop-k-test.true i.0 c.index-quads-k.is i.1 c.in_ok-quad.ensures,
+    )
 
 pub Flattener::quad-material-requires : goal.Flattener::quad-material-requires
-Flattener::quad-material-requires t c =
-    (search rules, (c.requires.earlier,
-    quad_room c.args.self.now.levels (length c.args.earlier.now) c.args.place.now c.place_in-inner.result c.args.pass.now c.args.quad.now c.place_in-inner.ensures c.requires.whole.reach c.requires.room))
+Flattener::quad-material-requires t c = (
+  search rules,
+  (
+    c.requires.earlier,
+    quad_room c.args.self.now.levels (length c.args.earlier.now) c.args.place.now c.place_in-inner.result c.args.pass.now c.args.quad.now c.place_in-inner.ensures c.requires.whole.reach c.requires.room,
+  ),
+)
 
 pub Flattener::range-shown-requires : goal.Flattener::range-shown-requires
 Flattener::range-shown-requires t c =
@@ -43,9 +55,16 @@ surface-pass-requires t c =
     let fine = frame_whole c.args.seen.now c.requires.whole in
     let parts = split_whole c.args.seen.now c.as_slice.result.now c.in-Some.earlier.now c.in-Some.root.now c.in-Some.ensures.cases.0 (subst (All (IsPassWhole c.args.seen.now)) (sym own) fine.passes) in
     let few = ap length own in
-    let most = fine.few in
-    (search rules, (parts.0, (parts.1,
-    surface_room c.args.levels c.args.place.now.shift c.as_slice.result.now c.in-Some.earlier.now c.in-Some.root.now c.in-Some.ensures.cases.0 (omega (arith, few, most)) c.if-levels-eq0.false c.requires.room)))
+    let most = fine.few in (
+      search rules,
+      (
+        parts.0,
+        (
+          parts.1,
+          surface_room c.args.levels c.args.place.now.shift c.as_slice.result.now c.in-Some.earlier.now c.in-Some.root.now c.in-Some.ensures.cases.0 (omega (arith, few, most)) c.if-levels-eq0.false c.requires.room,
+        ),
+      ),
+    )
 
 pub surface-returns-in_ok-pass-in-Some : goal.surface-returns-in_ok-pass-in-Some
 surface-returns-in_ok-pass-in-Some t c =

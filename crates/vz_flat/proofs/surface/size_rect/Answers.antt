@@ -1,4 +1,4 @@
-use Rattle.std.proofs.Common.{sym, ap, ◌∙◌, subst}
+use Rattle.std.proofs.Common.{sym, ap, ◌∙◌}
 use Rattle.std.specs.Option.{option_copied}
 use Rattle.vz_base.specs.declared.limits.TheConstants.{NEWEST_FORMAT}
 use Rattle.vz_frame.specs.Frame.{root_pass}
