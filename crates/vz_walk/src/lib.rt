@@ -4,6 +4,13 @@
 //! the surface that a quad draws, unless that surface is on the path.
 #![tactic(auto)]
 
+mod path;
 mod place;
+mod visitor;
+mod walker;
+mod weigher;
 
 pub use place::{Place, display_rect, moved, nothing};
+pub use visitor::Visitor;
+pub use walker::walk;
+pub use weigher::weight;
