@@ -6,11 +6,13 @@
 
 mod path;
 mod place;
+mod size;
 mod visitor;
 mod walker;
 mod weigher;
 
 pub use place::{Place, display_rect, moved, nothing};
+pub use size::{frame_rect, inside_frame};
 pub use visitor::Visitor;
 pub use walker::walk;
 pub use weigher::weight;
