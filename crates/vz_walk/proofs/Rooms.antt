@@ -1,5 +1,5 @@
 -- Places that have room, and what is left after a move.
-use Rattle.std.proofs.Common.{◌≡◌, ℕ, ℤ, pos, negsuc, ◌+◌, ◌-◌, ◌≤ℤ◌, ◌<◌, ◌≤◌, int_lt, false, arith, w32}
+use Rattle.std.proofs.Common.{◌≡◌, ℕ, ℤ, pos, negsuc, ◌+◌, ◌≤ℤ◌, ◌≤◌, int_lt, false, arith, w32}
 use mir.Val.{to_z, of_z}
 use Rattle.std.proofs.lemmas.Int.{ints, to_z-of_z}
 use Rattle.vz_geom.specs.declared.Point.{Point}

@@ -4,6 +4,15 @@
 //! the surface that a quad draws, unless that surface is on the path.
 #![tactic(auto)]
 
+mod path;
 mod place;
+mod size;
+mod visitor;
+mod walker;
+mod weigher;
 
 pub use place::{Place, display_rect, moved, nothing};
+pub use size::{frame_rect, inside_frame};
+pub use visitor::Visitor;
+pub use walker::walk;
+pub use weigher::weight;
