@@ -22,7 +22,8 @@ pub acts_both : (p : Point) (xs ys : List Op) (f g : Colour → Colour) → Acts
 acts_both p xs ys f g a b =
     record { acts = λ rest groups d. rw (append_assoc xs ys rest) (a.acts (ys ++ rest) groups d ∙ b.acts rest groups (f d)) }
 
-pub acts_fill : (p : Point) (area : Rectangle) (c : Colour) (o : ℕ) (m : Blend) → ActsAs p (Fill area c o m ∷ []) (λ d. cond (has area p) (laid m c o d) d)
+pub acts_fill : (p : Point) (area : Rectangle) (c : Colour) (o : ℕ) (m : Blend)
+    → ActsAs p (Fill area c o m ∷ []) (λ d. cond (has area p) (laid m c o d) d)
 unfolding run
 acts_fill p area c o m = record { acts = λ rest groups d. refl }
 
@@ -46,9 +47,11 @@ empty_has part p true h e = sym e ∙ in_is_full part p h
 empty_has part p false h e = refl
 
 -- what acts in a part of the display acts so where it is left out of a part without a point
-pub acts_seen : (p : Point) (part : Rectangle) (ops : List Op) (f : Colour → Colour) (w : Bool) → has part p ≡ w → ActsAs p ops (λ d. cond w (f d) d) → ActsAs p (seen_flat part ops) (λ d. cond w (f d) d)
+pub acts_seen : (p : Point) (part : Rectangle) (ops : List Op) (f : Colour → Colour) (w : Bool) → has part p ≡ w
+    → ActsAs p ops (λ d. cond w (f d) d) → ActsAs p (seen_flat part ops) (λ d. cond w (f d) d)
 acts_seen p part ops f w h a = by_test (is_empty_rect part) refl
   where
     by_test : (t : Bool) → is_empty_rect part ≡ t → ActsAs p (cond t [] ops) (λ d. cond w (f d) d)
-    by_test true e = acts_same p [] (λ d. d) (λ d. cond w (f d) d) (λ d. sym (ap (λ t. cond t (f d) d) (empty_has part p w h e))) (acts_none p)
+    by_test true e =
+        acts_same p [] (λ d. d) (λ d. cond w (f d) d) (λ d. sym (ap (λ t. cond t (f d) d) (empty_has part p w h e))) (acts_none p)
     by_test false e = a

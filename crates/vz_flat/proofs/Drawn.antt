@@ -24,7 +24,8 @@ in_size : (r : Rectangle) (p : Point) → has (moved r (record { x = pos 0; y = 
 in_size r p = ap (has (moved r (record { x = pos 0; y = pos 0 }))) (sym (at_origin p)) ∙ has_moved_is r (record { x = pos 0; y = pos 0 }) p
 
 -- the root's part of the display
-root_part : (size : Size) (i : FrameData) (p : Point) → has (sized size) p ≡ true → has (surface_place i (whole size)).window p ≡ has (sized (frame_size i.frame)) p
+root_part : (size : Size) (i : FrameData) (p : Point) → has (sized size) p ≡ true
+    → has (surface_place i (whole size)).window p ≡ has (sized (frame_size i.frame)) p
 root_part size i p inside =
     has_meet_is (sized size) (moved (sized (frame_size i.frame)) (record { x = pos 0; y = pos 0 })) p
     ∙ (ap (λ t. t && has (moved (sized (frame_size i.frame)) (record { x = pos 0; y = pos 0 })) p) inside ∙ in_size (sized (frame_size i.frame)) p)
@@ -33,7 +34,8 @@ by_size : (t : Bool) (f g : Colour → Colour) (d : Colour) → f d ≡ g d → 
 by_size true f g d e = sym e
 by_size false f g d e = refl
 
-by_root : (size : Size) (scene : Scene) (p : Point) → too_much (walk_of size scene) ≡ false → has (sized size) p ≡ true → (s : Option FrameData) → frame_on scene.root scene.active ≡ s
+by_root : (size : Size) (scene : Scene) (p : Point) → too_much (walk_of size scene) ≡ false → has (sized size) p ≡ true
+    → (s : Option FrameData) → frame_on scene.root scene.active ≡ s
     → value (elim s [ None ↦ [] | Some i ↦ seen_flat (surface_place i (whole size)).window (flat 64 scene.active [] i (surface_place i (whole size))) ]) p black
     ≡ elim s [ None ↦ black | Some i ↦ elim (has (sized (frame_size i.frame)) p) [ true ↦ pix levels scene.active [] i p black | false ↦ black ] ]
 unfolding value run
@@ -45,7 +47,8 @@ by_root size scene p bounded inside (Some i) e =
     (acts_seen p place.window (flat 64 scene.active [] i place) (pix_until 64 scene.active [] i p) w (root_part size i p inside)
     (acts_same p _ _ _ (λ d. ap (λ t. cond t (pix_until 64 scene.active [] i p d) d) (root_part size i p inside))
     (flat_acts p scene.active 64 [] i p place (at_origin p)))) black
-    ∙ by_size w (pix levels scene.active [] i p) (pix_until 64 scene.active [] i p) black (enough_levels size scene i p black e bounded inside)
+    ∙ by_size w (pix levels scene.active [] i p) (pix_until 64 scene.active [] i p) black
+    (enough_levels size scene i p black e bounded inside)
 
 pub flat_is_painted : (size : Size) (scene : Scene) (p : Point) → too_much (walk_of size scene) ≡ false → has (sized size) p ≡ true
     → value (scene_flat size scene) p black ≡ full scene p

@@ -55,7 +55,8 @@ module _ (i : FrameData) (ranges : FlatRange) (k : ℕ)
   abbrev NamedSound : ℕ → FlatNamed → Type 0
   NamedSound n named = (id : ℕ) (m : Blend) (o : ℕ) (place : Placement) → IsSound n (named id m o place)
 
-  material_sound : (n : ℕ) (named : FlatNamed) → k ≤ n → NamedSound n named → (pass : RenderPass) (quad : DrawQuad) (m : Material) → quad.material ≡ m → (place inner : Placement) → inner ≡ place_in place pass quad
+  material_sound : (n : ℕ) (named : FlatNamed) → k ≤ n → NamedSound n named → (pass : RenderPass) (quad : DrawQuad) (m : Material)
+      → quad.material ≡ m → (place inner : Placement) → inner ≡ place_in place pass quad
       → IsQuadWhole i quad → IsSound n (material_flat i named ranges quad inner)
   unfolding material_flat
   material_sound n named more sound pass quad (Solid c) e place inner same fine = rw e (sound_fill n inner.window c quad.opacity quad.blend)
@@ -67,7 +68,8 @@ module _ (i : FrameData) (ranges : FlatRange) (k : ℕ)
       rw e (sound_less k n _ more (ranges_sound range b quad.blend quad.opacity inner))
   material_sound n named more sound pass quad (Pass id) e place inner same fine = rw e (sound id quad.blend quad.opacity inner)
 
-  quads_sound : (n : ℕ) (named : FlatNamed) → k ≤ n → NamedSound n named → (pass : RenderPass) (place : Placement) (quads : List DrawQuad) → All (IsQuadWhole i) quads
+  quads_sound : (n : ℕ) (named : FlatNamed) → k ≤ n → NamedSound n named → (pass : RenderPass) (place : Placement) (quads : List DrawQuad)
+      → All (IsQuadWhole i) quads
       → IsSound n (quads_flat i named ranges pass place quads)
   unfolding quads_flat
   quads_sound n named more sound pass place [] all = sound_none n
@@ -83,13 +85,15 @@ module _ (i : FrameData) (ranges : FlatRange) (k : ℕ)
   groups_sound (pass ∷ earlier) all id m o place =
       let pass_whole = All-head (IsPassWhole i) pass earlier all in
       let before = groups_sound earlier (All-tail (IsPassWhole i) pass earlier all) in
-      let quads = quads_sound (k + length earlier) (groups_flat i ranges earlier) (omega arith) before pass (inner_place pass place) pass.quads pass_whole.quads in
+      let quads = quads_sound (k + length earlier) (groups_flat i ranges earlier) (omega arith) before pass
+      (inner_place pass place) pass.quads pass_whole.quads in
       sound_choice (k + length (pass ∷ earlier)) (names_pass id pass) _ _
       (sound_less (k + length earlier + 1) (k + length (pass ∷ earlier)) _ (omega arith)
       (sound_seen (k + length earlier + 1) (pass_part pass (inner_place pass place)) _ (sound_group (k + length earlier) (pass_part pass (inner_place pass place)) o m _ quads)))
       (sound_less (k + length earlier) (k + length (pass ∷ earlier)) _ (omega arith) (before id m o place))
 
-  pub root_sound : (passes : List RenderPass) (place : Placement) → All (IsPassWhole i) passes → length passes ≤ 16 → IsSound (k + 15) (root_flat i ranges passes place)
+  pub root_sound : (passes : List RenderPass) (place : Placement) → All (IsPassWhole i) passes → length passes ≤ 16
+      → IsSound (k + 15) (root_flat i ranges passes place)
   unfolding root_flat
   root_sound [] place all few = sound_none (k + 15)
   root_sound (root ∷ earlier) place all few =
@@ -115,19 +119,24 @@ module _ (active : List FrameData) (all : (i : FrameData) → Contains active i 
   abbrev ContentSound : ℕ → FlatContent → Type 0
   ContentSound k content = (path : List SurfaceId) (i : FrameData) (place : Placement) → IsFrameWhole i → IsSound k (content path i place)
 
-  content_sound : (k : ℕ) (content : FlatContent) → ContentSound k content → (path : List SurfaceId) (range : SurfaceRange) (b : Colour) (i : FrameData) (place : Placement) → IsFrameWhole i
+  content_sound : (k : ℕ) (content : FlatContent) → ContentSound k content
+      → (path : List SurfaceId) (range : SurfaceRange) (b : Colour) (i : FrameData) (place : Placement) → IsFrameWhole i
       → IsSound k (content_flat content path range b i place)
   unfolding content_flat
   content_sound k content sound path range b i place fine =
-      sound_both k _ _ (gutter_sound k range b i place) (sound_seen k (surface_place i place).window _ (sound path i (surface_place i place) fine))
+      sound_both k _ _ (gutter_sound k range b i place)
+      (sound_seen k (surface_place i place).window _ (sound path i (surface_place i place) fine))
 
-  shown_sound : (k : ℕ) (content : FlatContent) → ContentSound k content → (path : List SurfaceId) (range : SurfaceRange) (b : Colour) (m : Blend) (o : ℕ) (place : Placement) (i : FrameData) → IsFrameWhole i
+  shown_sound : (k : ℕ) (content : FlatContent) → ContentSound k content
+      → (path : List SurfaceId) (range : SurfaceRange) (b : Colour) (m : Blend) (o : ℕ) (place : Placement) (i : FrameData)
+      → IsFrameWhole i
       → IsSound (k + 1) (shown_flat content path range b m o place i)
   shown_sound k content sound path range b m o place i fine =
       sound_seen (k + 1) (present_place range i place).window _
       (laid_sound k (content_flat content path range b i place) m o (present_place range i place) (content_sound k content sound path range b i place fine))
 
-  by_shown : (n : ℕ) (ends : Bool) (content : FlatContent) → ((i : FrameData) → ends ≡ false → (path : List SurfaceId) (range : SurfaceRange) (b : Colour) (m : Blend) (o : ℕ) (place : Placement) → IsFrameWhole i → IsSound n (shown_flat content path range b m o place i))
+  by_shown : (n : ℕ) (ends : Bool) (content : FlatContent)
+      → ((i : FrameData) → ends ≡ false → (path : List SurfaceId) (range : SurfaceRange) (b : Colour) (m : Blend) (o : ℕ) (place : Placement) → IsFrameWhole i → IsSound n (shown_flat content path range b m o place i))
       → (path : List SurfaceId) (range : SurfaceRange) (b : Colour) (m : Blend) (o : ℕ) (place : Placement)
       → (s : Option FrameData) → ((i : FrameData) → s ≡ Some i → IsFrameWhole i)
       → IsSound n (elim s [ None ↦ Fill place.window b o m ∷ [] | Some i ↦ elim (ends || on_path path i) [ true ↦ [] | false ↦ shown_flat content path range b m o place i ] ])
@@ -140,13 +149,15 @@ module _ (active : List FrameData) (all : (i : FrameData) → Contains active i 
   abbrev range_depth : ℕ → ℕ
   range_depth n = 16 * n
 
-  range_sound : (n : ℕ) → ContentSound (range_depth n - 1) (flat n active) → (path : List SurfaceId) (range : SurfaceRange) (b : Colour) (m : Blend) (o : ℕ) (place : Placement)
+  range_sound : (n : ℕ) → ContentSound (range_depth n - 1) (flat n active)
+      → (path : List SurfaceId) (range : SurfaceRange) (b : Colour) (m : Blend) (o : ℕ) (place : Placement)
       → IsSound (range_depth n) (range_flat (n == 0) (flat n active) active path range b m o place)
   unfolding range_flat
   range_sound n sound path range b m o place =
       by_shown (range_depth n) (n == 0) (flat n active)
       (λ i some path' range' b' m' o' place' fine.
-      sound_less (range_depth n - 1 + 1) (range_depth n) _ (one_of n some) (shown_sound (range_depth n - 1) (flat n active) sound path' range' b' m' o' place' i fine))
+      sound_less (range_depth n - 1 + 1) (range_depth n) _ (one_of n some)
+      (shown_sound (range_depth n - 1) (flat n active) sound path' range' b' m' o' place' i fine))
       path range b m o place (shown_frame active range) (λ i e. all i (shown_in active range i e))
     where
       one_of : (n : ℕ) → (n == 0) ≡ false → 16 * n - 1 + 1 ≤ 16 * n
@@ -164,7 +175,8 @@ module _ (active : List FrameData) (all : (i : FrameData) → Contains active i 
   by_root : (size : Size) (s : Option FrameData) → ((i : FrameData) → s ≡ Some i → IsFrameWhole i)
       → IsSound MOST_OPEN (elim s [ None ↦ [] | Some i ↦ seen_flat (surface_place i (whole size)).window (flat 64 active [] i (surface_place i (whole size))) ])
   by_root size None h = sound_none MOST_OPEN
-  by_root size (Some i) h = sound_seen MOST_OPEN (surface_place i (whole size)).window _ (flat_sound 64 [] i (surface_place i (whole size)) (h i refl))
+  by_root size (Some i) h =
+      sound_seen MOST_OPEN (surface_place i (whole size)).window _ (flat_sound 64 [] i (surface_place i (whole size)) (h i refl))
 
 some_is : {x y : FrameData} → ◌≡◌ {A = Option FrameData} (Some x) (Some y) → x ≡ y
 some_is e = cc
@@ -173,12 +185,15 @@ pub frame_there : (id : SurfaceId) (active : List FrameData) (i : FrameData) →
 frame_there id [] i e = absurd (cc)
 frame_there id (x ∷ active) i e = by_test (frame_there id active i) (same_surface x.id id) e
   where
-    by_test : (frame_on id active ≡ Some i → Contains active i) → (t : Bool) → ◌≡◌ {A = Option FrameData} (cond t (Some x) (frame_on id active)) (Some i) → Contains (x ∷ active) i
+    by_test : (frame_on id active ≡ Some i → Contains active i) → (t : Bool)
+        → ◌≡◌ {A = Option FrameData} (cond t (Some x) (frame_on id active)) (Some i) → Contains (x ∷ active) i
     by_test rest true h = subst (Contains (x ∷ active)) (some_is h) (contains_here x active)
     by_test rest false h = contains_there x i active (rest h)
 
 -- the operations of a scene with whole frames are whole
-pub flat_is_whole : (size : Size) (scene : Scene) → ((i : FrameData) → Contains scene.active i → IsFrameWhole i) → is_whole (scene_flat size scene) ≡ true
+pub flat_is_whole : (size : Size) (scene : Scene) → ((i : FrameData) → Contains scene.active i → IsFrameWhole i)
+    → is_whole (scene_flat size scene) ≡ true
 unfolding scene_flat
 flat_is_whole size scene all =
-    whole_of_sound _ (by_root scene.active all size (frame_on scene.root scene.active) (λ i e. all i (frame_there scene.root scene.active i e)))
+    whole_of_sound _
+    (by_root scene.active all size (frame_on scene.root scene.active) (λ i e. all i (frame_there scene.root scene.active i e)))

@@ -41,7 +41,8 @@ group_case true true s e m o g d = rw e
 group_case true false s e m o g d = rw e
 group_case false c s e m o g d = rw e
 
-choice_acts : (P : Point) (t w : Bool) (xs ys : List Op) (f g : Colour → Colour) → ActsAs P xs (λ d. cond w (f d) d) → ActsAs P ys (λ d. cond w (g d) d)
+choice_acts : (P : Point) (t w : Bool) (xs ys : List Op) (f g : Colour → Colour) → ActsAs P xs (λ d. cond w (f d) d)
+    → ActsAs P ys (λ d. cond w (g d) d)
     → ActsAs P (elim t [ true ↦ xs | false ↦ ys ]) (λ d. cond w (elim t [ true ↦ f d | false ↦ g d ]) d)
 choice_acts P true w xs ys f g a b = a
 choice_acts P false w xs ys f g a b = b
@@ -53,23 +54,30 @@ nothing_acts P false = acts_none P
 module _ (P : Point) (i : FrameData) (ranges : Embedding) (flat_ranges : FlatRange)
     (ranges_act : (range : SurfaceRange) (b : Colour) (m : Blend) (o : ℕ) (l : Point) (place : Placement) → plus l place.shift ≡ P → ActsAs P (flat_ranges range b m o place) (λ d. cond (has place.window P) (ranges range b m o l d) d)) where
   abbrev pub NamedActs : Named → FlatNamed → Type 0
-  NamedActs named flat = (id : ℕ) (m : Blend) (o : ℕ) (l : Point) (place : Placement) → plus l place.shift ≡ P → ActsAs P (flat id m o place) (λ d. cond (has place.window P) (named id m o l d) d)
+  NamedActs named flat =
+      (id : ℕ) (m : Blend) (o : ℕ) (l : Point) (place : Placement) → plus l place.shift ≡ P → ActsAs P (flat id m o place)
+      (λ d. cond (has place.window P) (named id m o l d) d)
 
-  material_acts : (named : Named) (flat : FlatNamed) → NamedActs named flat → (quad : DrawQuad) (m : Material) → quad.material ≡ m → (q : Point) (place : Placement) → plus (local_point quad q) place.shift ≡ P
+  material_acts : (named : Named) (flat : FlatNamed) → NamedActs named flat → (quad : DrawQuad) (m : Material) → quad.material ≡ m
+      → (q : Point) (place : Placement) → plus (local_point quad q) place.shift ≡ P
       → ActsAs P (material_flat i flat flat_ranges quad place) (λ d. cond (has place.window P) (material_painted i named ranges quad q d) d)
   unfolding material_flat material_painted
   material_acts named flat acts quad (Solid c) e q place stays = rw e (acts_fill P place.window c quad.opacity quad.blend)
-  material_acts named flat acts quad (Tile id tx ty) e q place stays = rw e (tile_acts P i id tx ty quad.blend quad.opacity (local_point quad q) place stays)
-  material_acts named flat acts quad (Surface range b) e q place stays = rw e (ranges_act range b quad.blend quad.opacity (local_point quad q) place stays)
+  material_acts named flat acts quad (Tile id tx ty) e q place stays =
+      rw e (tile_acts P i id tx ty quad.blend quad.opacity (local_point quad q) place stays)
+  material_acts named flat acts quad (Surface range b) e q place stays =
+      rw e (ranges_act range b quad.blend quad.opacity (local_point quad q) place stays)
   material_acts named flat acts quad (Pass id) e q place stays = rw e (acts id quad.blend quad.opacity (local_point quad q) place stays)
 
-  quads_act : (named : Named) (flat : FlatNamed) → NamedActs named flat → (pass : RenderPass) (quads : List DrawQuad) (q : Point) (place : Placement) → plus q place.shift ≡ P
+  quads_act : (named : Named) (flat : FlatNamed) → NamedActs named flat
+      → (pass : RenderPass) (quads : List DrawQuad) (q : Point) (place : Placement) → plus q place.shift ≡ P
       → ActsAs P (quads_flat i flat flat_ranges pass place quads) (λ d. cond (has place.window P) (quads_painted i named ranges pass quads q d) d)
   unfolding quads_flat quads_painted
   quads_act named flat acts pass [] q place stays = nothing_acts P (has place.window P)
   quads_act named flat acts pass (quad ∷ behind) q place stays =
       let seen : has (seen_part place pass quad) P ≡ (has place.window P && covers pass quad q) =
-      subst (λ (p : Point). has (seen_part place pass quad) p ≡ (has place.window p && covers pass quad q)) stays (has_seen_is pass quad q place) in
+      subst (λ (p : Point). has (seen_part place pass quad) p ≡ (has place.window p && covers pass quad q)) stays
+      (has_seen_is pass quad q place) in
       acts_same P _ _ _
       (before_case (has place.window P) (covers pass quad q) (has (seen_part place pass quad) P) seen (material_painted i named ranges quad q) (quads_painted i named ranges pass behind q))
       (acts_both P (quads_flat i flat flat_ranges pass place behind) (quad_flat i flat flat_ranges quad (place_in place pass quad)) _ _
@@ -77,11 +85,13 @@ module _ (P : Point) (i : FrameData) (ranges : Embedding) (flat_ranges : FlatRan
       (acts_seen P (seen_part place pass quad) _ (material_painted i named ranges quad q) (has (seen_part place pass quad) P) refl
       (material_acts named flat acts quad quad.material refl q (place_in place pass quad) (local_stays quad q place.shift ∙ stays))))
 
-  group_acts : (named : Named) (flat : FlatNamed) → NamedActs named flat → (pass : RenderPass) (m : Blend) (o : ℕ) (l : Point) (place : Placement) → plus l place.shift ≡ P
+  group_acts : (named : Named) (flat : FlatNamed) → NamedActs named flat
+      → (pass : RenderPass) (m : Blend) (o : ℕ) (l : Point) (place : Placement) → plus l place.shift ≡ P
       → ActsAs P (group_flat i flat flat_ranges pass m o place) (λ d. cond (has place.window P) (group_laid i named ranges pass m o l d) d)
   unfolding group_flat group_laid pass_painted
   group_acts named flat acts pass m o l place stays =
-      let out : has (moved pass.output place.shift) P ≡ has pass.output l = subst (λ (p : Point). has (moved pass.output place.shift) p ≡ has pass.output l) stays (has_moved_is pass.output place.shift l) in
+      let out : has (moved pass.output place.shift) P ≡ has pass.output l = subst
+      (λ (p : Point). has (moved pass.output place.shift) p ≡ has pass.output l) stays (has_moved_is pass.output place.shift l) in
       let area : has (pass_part pass place) P ≡ (has place.window P && has pass.output l) =
       has_meet_is place.window (moved pass.output place.shift) P ∙ ap (λ t. has place.window P && t) out in
       acts_same P _ _ _
@@ -98,7 +108,8 @@ module _ (P : Point) (i : FrameData) (ranges : Embedding) (flat_ranges : FlatRan
       (output_stays l (corner pass.output) place.shift ∙ stays))
       (groups_act earlier id m o l place stays)
 
-  pub root_acts : (passes : List RenderPass) (q : Point) (place : Placement) → plus q place.shift ≡ P → ActsAs P (root_flat i flat_ranges passes place) (λ d. cond (has place.window P) (root_painted i ranges passes q d) d)
+  pub root_acts : (passes : List RenderPass) (q : Point) (place : Placement) → plus q place.shift ≡ P
+      → ActsAs P (root_flat i flat_ranges passes place) (λ d. cond (has place.window P) (root_painted i ranges passes q d) d)
   unfolding root_flat root_painted pass_painted
   root_acts [] q place stays = nothing_acts P (has place.window P)
   root_acts (root ∷ earlier) q place stays =
@@ -114,7 +125,8 @@ body_case true false false b f d = refl
 body_case false s e b f d = refl
 
 -- a group in the window, of a body that acts in the window
-laid_case : (w : Bool) (f : Colour → Colour) (m : Blend) (o : ℕ) (d : Colour) → cond w (laid m (cond w (f transparent) transparent) o d) d ≡ cond w (laid m (f transparent) o d) d
+laid_case : (w : Bool) (f : Colour → Colour) (m : Blend) (o : ℕ) (d : Colour)
+    → cond w (laid m (cond w (f transparent) transparent) o d) d ≡ cond w (laid m (f transparent) o d) d
 laid_case true f m o d = refl
 laid_case false f m o d = refl
 
@@ -128,37 +140,47 @@ present_case P false s false place inner h k = h
 
 module _ (P : Point) (active : List FrameData) where
   abbrev pub ContentActs : Content → FlatContent → Type 0
-  ContentActs content ops = (path : List SurfaceId) (i : FrameData) (l : Point) (place : Placement) → plus l place.shift ≡ P → ActsAs P (ops path i place) (λ d. cond (has place.window P) (content path i l d) d)
+  ContentActs content ops =
+      (path : List SurfaceId) (i : FrameData) (l : Point) (place : Placement) → plus l place.shift ≡ P → ActsAs P (ops path i place)
+      (λ d. cond (has place.window P) (content path i l d) d)
 
   -- inside the window, where the content is not absent
   abbrev pub present : SurfaceRange → FrameData → Point → Placement → Bool
   present range i l place = has place.window P && not (is_absent range i l)
 
-  content_acts : (content : Content) (ops : FlatContent) → ContentActs content ops → (path : List SurfaceId) (range : SurfaceRange) (b : Colour) (i : FrameData) (l : Point) (place : Placement) → plus l place.shift ≡ P
+  content_acts : (content : Content) (ops : FlatContent) → ContentActs content ops
+      → (path : List SurfaceId) (range : SurfaceRange) (b : Colour) (i : FrameData) (l : Point) (place : Placement)
+      → plus l place.shift ≡ P
       → ActsAs P (content_flat ops path range b i place) (λ d. cond (present range i l place) (content_at content path b i l d) d)
   unfolding content_flat content_at is_absent
   content_acts content ops acts path range b i l place stays =
       let size : Rectangle = sized (frame_size i.frame) in
-      let in_size : has (moved size place.shift) P ≡ has size l = subst (λ (p : Point). has (moved size place.shift) p ≡ has size l) stays (has_moved_is size place.shift l) in
+      let in_size : has (moved size place.shift) P ≡ has size l = subst (λ (p : Point). has (moved size place.shift) p ≡ has size l) stays
+      (has_moved_is size place.shift l) in
       let window : has (meet place.window (moved size place.shift)) P ≡ (has place.window P && has size l) =
       has_meet_is place.window (moved size place.shift) P ∙ ap (λ t. has place.window P && t) in_size in
-      let inside : ActsAs P (seen_flat (surface_place i place).window (ops path i (surface_place i place))) (λ d. cond (has place.window P && has size l) (content path i l d) d) =
-      acts_seen P (surface_place i place).window (ops path i (surface_place i place)) (content path i l) (has place.window P && has size l) window
+      let inside : ActsAs P (seen_flat (surface_place i place).window (ops path i (surface_place i place)))
+      (λ d. cond (has place.window P && has size l) (content path i l d) d) =
+      acts_seen P (surface_place i place).window (ops path i (surface_place i place)) (content path i l)
+      (has place.window P && has size l) window
       (acts_same P _ _ _ (λ d. ap (λ t. cond t (content path i l d) d) window) (acts path i l (surface_place i place) stays)) in
       acts_same P _ _ _
       (body_case (has place.window P) (has size l) (same_surface i.id range.end) b (content path i l))
       (acts_both P (gutter_flat range b i place) (seen_flat (surface_place i place).window (ops path i (surface_place i place))) _ _ (gutter_acts P range b i l place stays) inside)
 
   -- the part in which it is not absent has the point where the window has it and the content is not absent
-  present_is : (range : SurfaceRange) (i : FrameData) (l : Point) (place : Placement) → plus l place.shift ≡ P → has (present_place range i place).window P ≡ present range i l place
+  present_is : (range : SurfaceRange) (i : FrameData) (l : Point) (place : Placement) → plus l place.shift ≡ P
+      → has (present_place range i place).window P ≡ present range i l place
   unfolding present_place is_absent
   present_is range i l place stays =
       let size : Rectangle = sized (frame_size i.frame) in
-      let in_size : has (moved size place.shift) P ≡ has size l = subst (λ (p : Point). has (moved size place.shift) p ≡ has size l) stays (has_moved_is size place.shift l) in
+      let in_size : has (moved size place.shift) P ≡ has size l = subst (λ (p : Point). has (moved size place.shift) p ≡ has size l) stays
+      (has_moved_is size place.shift l) in
       present_case P (has place.window P) (has size l) (same_surface i.id range.end) place (surface_place i place) refl
       (has_meet_is place.window (moved size place.shift) P ∙ ap (λ t. has place.window P && t) in_size)
 
-  laid_acts : (body : List Op) (f : Colour → Colour) (m : Blend) (o : ℕ) (place : Placement) (w : Bool) → has place.window P ≡ w → ActsAs P body (λ d. cond w (f d) d)
+  laid_acts : (body : List Op) (f : Colour → Colour) (m : Blend) (o : ℕ) (place : Placement) (w : Bool) → has place.window P ≡ w
+      → ActsAs P body (λ d. cond w (f d) d)
       → ActsAs P (laid_flat body m o place) (λ d. cond w (content_laid f m o d) d)
   unfolding laid_flat content_laid
   laid_acts body f m o place w e a =
@@ -166,14 +188,17 @@ module _ (P : Point) (active : List FrameData) where
       (acts_same P _ _ _ (λ d. ap (λ t. cond t (laid m (cond w (f transparent) transparent) o d) d) e ∙ laid_case w f m o d) (acts_group P place.window o m body _ a))
 
   -- what is laid where the window has the point, but for what is on the path and what is absent
-  skip_case : (w t s : Bool) (f : Colour → Colour) (d : Colour) → cond (w && not s) (elim t [ true ↦ d | false ↦ f d ]) d ≡ cond w (elim (t || s) [ true ↦ d | false ↦ f d ]) d
+  skip_case : (w t s : Bool) (f : Colour → Colour) (d : Colour)
+      → cond (w && not s) (elim t [ true ↦ d | false ↦ f d ]) d ≡ cond w (elim (t || s) [ true ↦ d | false ↦ f d ]) d
   skip_case true true true f d = refl
   skip_case true true false f d = refl
   skip_case true false true f d = refl
   skip_case true false false f d = refl
   skip_case false t s f d = refl
 
-  range_acts : (ends : Bool) (content : Content) (ops : FlatContent) → ContentActs content ops → (path : List SurfaceId) (range : SurfaceRange) (b : Colour) (m : Blend) (o : ℕ) (l : Point) (place : Placement) → plus l place.shift ≡ P
+  range_acts : (ends : Bool) (content : Content) (ops : FlatContent) → ContentActs content ops
+      → (path : List SurfaceId) (range : SurfaceRange) (b : Colour) (m : Blend) (o : ℕ) (l : Point) (place : Placement)
+      → plus l place.shift ≡ P
       → ActsAs P (range_flat ends ops active path range b m o place) (λ d. cond (has place.window P) (embeds_until ends content active path range b m o l d) d)
   unfolding range_flat embeds_until
   range_acts ends content ops acts path range b m o l place stays =
@@ -182,7 +207,8 @@ module _ (P : Point) (active : List FrameData) where
       (λ d. cond (has place.window P) (elim s [ None ↦ laid m b o d | Some i ↦ elim ((ends || on_path path i) || is_absent range i l) [ true ↦ d | false ↦ content_laid (content_at content path b i l) m o d ] ]) d)) [
         | None ↦ acts_fill P place.window b o m
         | Some i ↦
-            acts_same P _ _ _ (skip_case (has place.window P) (ends || on_path path i) (is_absent range i l) (content_laid (content_at content path b i l) m o))
+            acts_same P _ _ _
+            (skip_case (has place.window P) (ends || on_path path i) (is_absent range i l) (content_laid (content_at content path b i l) m o))
             (choice_acts P (ends || on_path path i) (present range i l place) _ _ (λ d. d) (λ d. content_laid (content_at content path b i l) m o d)
             (nothing_acts P (present range i l place))
             (acts_seen P (present_place range i place).window _ (content_laid (content_at content path b i l) m o) (present range i l place) (present_is range i l place stays)
@@ -195,5 +221,6 @@ module _ (P : Point) (active : List FrameData) where
   unfolding flat pix_until
   flat_acts zero path i l place stays = nothing_acts P (has place.window P)
   flat_acts (suc n) path i l place stays =
-      root_acts P i (embeds_until (n == 0) (pix_until n active) active (i.id ∷ path)) (range_flat (n == 0) (flat n active) active (i.id ∷ path))
+      root_acts P i (embeds_until (n == 0) (pix_until n active) active (i.id ∷ path))
+      (range_flat (n == 0) (flat n active) active (i.id ∷ path))
       (range_acts (n == 0) (pix_until n active) (flat n active) (flat_acts n) (i.id ∷ path)) (passes_down i.frame) l place stays

@@ -105,13 +105,15 @@ module _ (outer inner : Rectangle) (p : Point) (is : IsInside outer inner) (full
   in_above : has (above outer inner) p ≡ true → IsIn (record { x = outer.x; y = outer.y; w = outer.w; h = inner.y -ℤ outer.y }) p
   in_above h = of_sides outer.x outer.y outer.w (inner.y -ℤ outer.y) p h
 
-  in_beneath : has (beneath outer inner) p ≡ true → IsIn (record { x = outer.x; y = inner.y +ℤ inner.h; w = outer.w; h = (outer.y +ℤ outer.h) -ℤ (inner.y +ℤ inner.h) }) p
+  in_beneath : has (beneath outer inner) p ≡ true
+      → IsIn (record { x = outer.x; y = inner.y +ℤ inner.h; w = outer.w; h = (outer.y +ℤ outer.h) -ℤ (inner.y +ℤ inner.h) }) p
   in_beneath h = of_sides outer.x (inner.y +ℤ inner.h) outer.w ((outer.y +ℤ outer.h) -ℤ (inner.y +ℤ inner.h)) p h
 
   in_left : has (left_of outer inner) p ≡ true → IsIn (record { x = outer.x; y = inner.y; w = inner.x -ℤ outer.x; h = inner.h }) p
   in_left h = of_sides outer.x inner.y (inner.x -ℤ outer.x) inner.h p h
 
-  in_right : has (right_of outer inner) p ≡ true → IsIn (record { x = inner.x +ℤ inner.w; y = inner.y; w = (outer.x +ℤ outer.w) -ℤ (inner.x +ℤ inner.w); h = inner.h }) p
+  in_right : has (right_of outer inner) p ≡ true
+      → IsIn (record { x = inner.x +ℤ inner.w; y = inner.y; w = (outer.x +ℤ outer.w) -ℤ (inner.x +ℤ inner.w); h = inner.h }) p
   in_right h = of_sides (inner.x +ℤ inner.w) inner.y ((outer.x +ℤ outer.w) -ℤ (inner.x +ℤ inner.w)) inner.h p h
 
   first_part : has (above outer inner) p ≡ true
@@ -156,7 +158,8 @@ module _ (outer inner : Rectangle) (p : Point) (is : IsInside outer inner) (full
   is_not : (t : Bool) → t ≡ false → t ≡ true → ⊥
   is_not t e f = absurd (cc)
 
-  some_part : has (above outer inner) p ≡ false → has (beneath outer inner) p ≡ false → has (left_of outer inner) p ≡ false → has (right_of outer inner) p ≡ false
+  some_part : has (above outer inner) p ≡ false → has (beneath outer inner) p ≡ false → has (left_of outer inner) p ≡ false
+      → has (right_of outer inner) p ≡ false
       → IsIn outer p → has inner p ≡ true
   some_part a b c e i =
       by_less p.y inner.y
@@ -171,7 +174,8 @@ module _ (outer inner : Rectangle) (p : Point) (is : IsInside outer inner) (full
       (λ below_end. absurd (is_not _ b (in_sides outer.x (inner.y +ℤ inner.h) outer.w ((outer.y +ℤ outer.h) -ℤ (inner.y +ℤ inner.h)) p
       (record { left = i.left; right = i.right; top = below_end; bottom = omega (arith, ints) })))))
 
-  no_part : has (above outer inner) p ≡ false → has (beneath outer inner) p ≡ false → has (left_of outer inner) p ≡ false → has (right_of outer inner) p ≡ false
+  no_part : has (above outer inner) p ≡ false → has (beneath outer inner) p ≡ false → has (left_of outer inner) p ≡ false
+      → has (right_of outer inner) p ≡ false
       → between outer inner p ≡ false
   no_part a b c e = by_test (has outer p) refl
     where
@@ -183,7 +187,8 @@ module _ (outer inner : Rectangle) (p : Point) (is : IsInside outer inner) (full
       → Laid (has (right_of outer inner) p) f (Laid (has (left_of outer inner) p) f (Laid (has (beneath outer inner) p) f (Laid (has (above outer inner) p) f d)))
       ≡ Laid (between outer inner p) f d
   parts_case f d =
-      one_case (has (above outer inner) p) (has (beneath outer inner) p) (has (left_of outer inner) p) (has (right_of outer inner) p) (between outer inner p) f d
+      one_case (has (above outer inner) p) (has (beneath outer inner) p) (has (left_of outer inner) p) (has (right_of outer inner) p)
+      (between outer inner p) f d
       first_part second_part third_part fourth_part no_part
 
 four_act : (P : Point) (b : Colour) (a c e g : Rectangle)
@@ -206,7 +211,9 @@ round_acts P b outer inner covers = by_test (is_empty_rect inner) refl
     by_test : (t : Bool) → is_empty_rect inner ≡ t
         → ActsAs P (flat_map (part_flat b) (cond t (outer ∷ []) (above outer inner ∷ beneath outer inner ∷ left_of outer inner ∷ right_of outer inner ∷ []))) (λ d. Laid (between outer inner P) (over b) d)
     by_test true e =
-        acts_same P _ _ _ (λ d. ap (λ t. Laid t (over b) d) (whole_part (has outer P) (has inner P) (not_has inner P (λ k. is_empty_not inner P e k)))) (one_acts P b outer)
+        acts_same P _ _ _
+        (λ d. ap (λ t. Laid t (over b) d) (whole_part (has outer P) (has inner P) (not_has inner P (λ k. is_empty_not inner P e k))))
+        (one_acts P b outer)
     by_test false e =
         let full = of_full inner e in
         acts_same P _ _ _ (parts_case outer inner P (inside_of outer inner full covers) full (over b))
@@ -218,7 +225,8 @@ pub gutter_acts : (P : Point) (range : SurfaceRange) (b : Colour) (i : FrameData
 unfolding gutter_flat
 gutter_acts P range b i l place stays =
     let size : Rectangle = sized (frame_size i.frame) in
-    let in_size : has (moved size place.shift) P ≡ has size l = subst (λ (p : Point). has (moved size place.shift) p ≡ has size l) stays (has_moved_is size place.shift l) in
+    let in_size : has (moved size place.shift) P ≡ has size l = subst (λ (p : Point). has (moved size place.shift) p ≡ has size l) stays
+    (has_moved_is size place.shift l) in
     let in_part : has (surface_place i place).window P ≡ (has place.window P && has size l) =
     has_meet_is place.window (moved size place.shift) P ∙ ap (λ t. has place.window P && t) in_size in
     by_end P b (has place.window P) (has size l) (same_surface i.id range.end) _

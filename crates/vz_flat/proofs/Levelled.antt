@@ -40,17 +40,21 @@ embeds_until ends content active path range b m o l d =
 -- what a surface leaves, with so many surfaces left, where the last one embeds none
 unfoldable pub pix_until : ℕ → List FrameData → Content
 pix_until zero active path i q d = d
-pix_until (suc n) active path i q d = root_painted i (embeds_until (n == 0) (pix_until n active) active (i.id ∷ path)) (passes_down i.frame) q d
+pix_until (suc n) active path i q d =
+    root_painted i (embeds_until (n == 0) (pix_until n active) active (i.id ∷ path)) (passes_down i.frame) q d
 
-until_skips : (ends : Bool) (content : Content) (active : List FrameData) (path : List SurfaceId) → SkipsZero (embeds_until ends content active path)
+until_skips : (ends : Bool) (content : Content) (active : List FrameData) (path : List SurfaceId)
+    → SkipsZero (embeds_until ends content active path)
 unfolding embeds_until content_laid
 until_skips ends content active path range b l d =
     elim (shown_frame active range) as (λ (s : Option FrameData). ◌≡◌ {A = Colour} (elim s [
       | None ↦ laid Over b 0 d
-      | Some i ↦ elim ((ends || on_path path i) || is_absent range i l) [ true ↦ d | false ↦ laid Over (content_at content path b i l transparent) 0 d ]
+      | Some i ↦ elim
+      ((ends || on_path path i) || is_absent range i l) [ true ↦ d | false ↦ laid Over (content_at content path b i l transparent) 0 d ]
     ]) d) [
       | None ↦ laid_zero b d
-      | Some i ↦ elim ((ends || on_path path i) || is_absent range i l) as (λ (t : Bool). ◌≡◌ {A = Colour} (elim t [ true ↦ d | false ↦ laid Over (content_at content path b i l transparent) 0 d ]) d) [
+      | Some i ↦ elim ((ends || on_path path i) || is_absent range i l) as
+      (λ (t : Bool). ◌≡◌ {A = Colour} (elim t [ true ↦ d | false ↦ laid Over (content_at content path b i l transparent) 0 d ]) d) [
         | true ↦ refl
         | false ↦ laid_zero (content_at content path b i l transparent) d
       ]
@@ -86,42 +90,58 @@ choose false x y z e = refl
 module _ (active : List FrameData) (P : Point) where
   -- the n levels of the whole painting and these m are enough behind a path, and do the same
   abbrev pub SameLevels : ℕ → ℕ → Type 0
-  SameLevels n m = (path : List SurfaceId) (i : FrameData) (l : Point) (place : Placement) → length path + 1 ≤ 64 → 65 ≤ n + length path → 64 ≤ m + length path → IsSeen P l place
+  SameLevels n m =
+      (path : List SurfaceId) (i : FrameData) (l : Point)
+      (place : Placement) → length path + 1 ≤ 64 → 65 ≤ n + length path → 64 ≤ m + length path → IsSeen P l place
       → Shallow (walk n active path i place) → (d : Colour) → pix n active path i l d ≡ pix_until m active path i l d
 
-  content_levels : (n m : ℕ) → SameLevels n m → (path : List SurfaceId) (b : Colour) (j : FrameData) (l : Point) (place : Placement) → length path + 1 ≤ 64 → 65 ≤ n + length path → 64 ≤ m + length path → IsSeen P l place
-      → Shallow (walk n active path j place) → (d : Colour) → content_at (pix n active) path b j l d ≡ content_at (pix_until m active) path b j l d
+  content_levels : (n m : ℕ) → SameLevels n m → (path : List SurfaceId) (b : Colour) (j : FrameData) (l : Point) (place : Placement)
+      → length path + 1 ≤ 64 → 65 ≤ n + length path → 64 ≤ m + length path → IsSeen P l place
+      → Shallow (walk n active path j place) → (d : Colour)
+      → content_at (pix n active) path b j l d ≡ content_at (pix_until m active) path b j l d
   unfolding content_at
   content_levels n m same path b j l place short en em seen shallow d =
       choose (has (sized (frame_size j.frame)) l) _ _ (over b d) (same path j l place short en em seen shallow d)
 
-  path_levels : (n m : ℕ) → SameLevels n m → (path : List SurfaceId) (b : Colour) (k : Blend) (o : ℕ) (j : FrameData) (l : Point) (place : Placement) → 65 ≤ n + length path → 64 ≤ m + length path → IsSeen P l place
-      → (u t s : Bool) → (m == 0) ≡ u → Shallow (elim t [ true ↦ [] | false ↦ Enters (length path + 1) j place ∷ walk n active path j place ]) → (d : Colour)
+  path_levels : (n m : ℕ) → SameLevels n m
+      → (path : List SurfaceId) (b : Colour) (k : Blend) (o : ℕ) (j : FrameData) (l : Point) (place : Placement) → 65 ≤ n + length path
+      → 64 ≤ m + length path → IsSeen P l place
+      → (u t s : Bool) → (m == 0) ≡ u
+      → Shallow (elim t [ true ↦ [] | false ↦ Enters (length path + 1) j place ∷ walk n active path j place ]) → (d : Colour)
       → ◌≡◌ {A = Colour} (elim (t || s) [ true ↦ d | false ↦ content_laid (content_at (pix n active) path b j l) k o d ])
       (elim ((u || t) || s) [ true ↦ d | false ↦ content_laid (content_at (pix_until m active) path b j l) k o d ])
   path_levels n m same path b k o j l place en em seen true true s e shallow d = refl
   path_levels n m same path b k o j l place en em seen false true s e shallow d = refl
   path_levels n m same path b k o j l place en em seen false false true e shallow d = refl
   path_levels n m same path b k o j l place en em seen true false s e shallow d =
-      let short : length path + 1 ≤ 64 = not_deep (length path + 1) (or_first (nat_lt 64 (length path + 1)) (list_any is_deep (walk n active path j place)) shallow) in
+      let short : length path + 1 ≤ 64 = not_deep (length path + 1)
+      (or_first (nat_lt 64 (length path + 1)) (list_any is_deep (walk n active path j place)) shallow) in
       let none : m ≡ 0 = eqb-true m 0 e in
       absurd (omega (arith, short, none, em))
   path_levels n m same path b k o j l place en em seen false false false e shallow d =
-      let short : length path + 1 ≤ 64 = not_deep (length path + 1) (or_first (nat_lt 64 (length path + 1)) (list_any is_deep (walk n active path j place)) shallow) in
-      let rest : Shallow (walk n active path j place) = or_second (nat_lt 64 (length path + 1)) (list_any is_deep (walk n active path j place)) shallow in
+      let short : length path + 1 ≤ 64 = not_deep (length path + 1)
+      (or_first (nat_lt 64 (length path + 1)) (list_any is_deep (walk n active path j place)) shallow) in
+      let rest : Shallow (walk n active path j place) = or_second (nat_lt 64 (length path + 1))
+      (list_any is_deep (walk n active path j place)) shallow in
       laid_same (content_at (pix n active) path b j l) (content_at (pix_until m active) path b j l)
       (content_levels n m same path b j l place short en em seen rest) k o d
 
-  shown_levels : (n m : ℕ) → SameLevels n m → (path : List SurfaceId) (range : SurfaceRange) (b : Colour) (k : Blend) (o : ℕ) (l : Point) (place : Placement) → 65 ≤ n + length path → 64 ≤ m + length path → IsSeen P l place
-      → (s : Option FrameData) → Shallow (elim s [ None ↦ [] | Some j ↦ elim (on_path path j) [ true ↦ [] | false ↦ Enters (length path + 1) j place ∷ walk n active path j place ] ]) → (d : Colour)
+  shown_levels : (n m : ℕ) → SameLevels n m
+      → (path : List SurfaceId) (range : SurfaceRange) (b : Colour) (k : Blend) (o : ℕ) (l : Point) (place : Placement)
+      → 65 ≤ n + length path → 64 ≤ m + length path → IsSeen P l place
+      → (s : Option FrameData)
+      → Shallow (elim s [ None ↦ [] | Some j ↦ elim (on_path path j) [ true ↦ [] | false ↦ Enters (length path + 1) j place ∷ walk n active path j place ] ])
+      → (d : Colour)
       → ◌≡◌ {A = Colour} (elim s [ None ↦ laid k b o d | Some j ↦ elim (on_path path j || is_absent range j l) [ true ↦ d | false ↦ content_laid (content_at (pix n active) path b j l) k o d ] ])
       (elim s [ None ↦ laid k b o d | Some j ↦ elim (((m == 0) || on_path path j) || is_absent range j l) [ true ↦ d | false ↦ content_laid (content_at (pix_until m active) path b j l) k o d ] ])
   shown_levels n m same path range b k o l place en em seen None shallow d = refl
   shown_levels n m same path range b k o l place en em seen (Some j) shallow d =
       path_levels n m same path b k o j l place en em seen (m == 0) (on_path path j) (is_absent range j l) refl shallow d
 
-  ranges_levels : (n m : ℕ) → SameLevels n m → (path : List SurfaceId) → 65 ≤ n + length path → 64 ≤ m + length path → (range : SurfaceRange) (b : Colour) (k : Blend) (o : ℕ) (l : Point) (place : Placement) → IsSeen P l place
-      → Shallow (range_walked (walk n active) active path range place) → (d : Colour) → embeds (pix n active) active path range b k o l d ≡ embeds_until (m == 0) (pix_until m active) active path range b k o l d
+  ranges_levels : (n m : ℕ) → SameLevels n m → (path : List SurfaceId) → 65 ≤ n + length path → 64 ≤ m + length path
+      → (range : SurfaceRange) (b : Colour) (k : Blend) (o : ℕ) (l : Point) (place : Placement) → IsSeen P l place
+      → Shallow (range_walked (walk n active) active path range place) → (d : Colour)
+      → embeds (pix n active) active path range b k o l d ≡ embeds_until (m == 0) (pix_until m active) active path range b k o l d
   unfolding embeds embeds_until range_walked
   ranges_levels n m same path en em range b k o l place seen shallow d =
       shown_levels n m same path range b k o l place en em seen (shown_frame active range) shallow d
@@ -144,15 +164,18 @@ walked_by : (size : Size) (scene : Scene) (s : Option FrameData) (i : FrameData)
     || list_any is_deep (elim s [ None ↦ [] | Some j ↦ Enters 1 j (whole size) ∷ walk levels scene.active [] j (whole size) ])) ≡ false
     → Shallow (walk levels scene.active [] i (whole size))
 walked_by size scene s i e h =
-    let deep : list_any is_deep (Enters 1 i (whole size) ∷ walk levels scene.active [] i (whole size)) ≡ false = or_second _ _ (rw e at h) in
+    let deep : list_any is_deep (Enters 1 i (whole size) ∷ walk levels scene.active [] i (whole size)) ≡ false = or_second _ _
+    (rw e at h) in
     or_second (nat_lt 64 1) _ deep
 
-walked_shallow : (size : Size) (scene : Scene) (i : FrameData) → frame_on scene.root scene.active ≡ Some i → too_much (walk_of size scene) ≡ false → Shallow (walk levels scene.active [] i (whole size))
+walked_shallow : (size : Size) (scene : Scene) (i : FrameData) → frame_on scene.root scene.active ≡ Some i
+    → too_much (walk_of size scene) ≡ false → Shallow (walk levels scene.active [] i (whole size))
 unfolding walk_of too_much
 walked_shallow size scene i e h = walked_by size scene (frame_on scene.root scene.active) i e h
 
 -- at a point of the display 64 levels are enough, where a drawing is not too much
-pub enough_levels : (size : Size) (scene : Scene) (i : FrameData) (p : Point) (d : Colour) → frame_on scene.root scene.active ≡ Some i → too_much (walk_of size scene) ≡ false
+pub enough_levels : (size : Size) (scene : Scene) (i : FrameData) (p : Point) (d : Colour) → frame_on scene.root scene.active ≡ Some i
+    → too_much (walk_of size scene) ≡ false
     → has (sized size) p ≡ true → pix levels scene.active [] i p d ≡ pix_until 64 scene.active [] i p d
 unfolding levels
 enough_levels size scene i p d e h inside =

@@ -30,7 +30,8 @@ sound_fill k area c o m = record { nests = λ n rest few. refl; inside = refl }
 alone : (t : Bool) → t ≡ true → (t && true) ≡ true
 alone t e = rw e refl
 
-pub sound_blit : (k : ℕ) (area : Rectangle) (block : _) (tx ty : _) (o : ℕ) (m : Blend) → is_inside (Blit area block tx ty o m) ≡ true → IsSound k (Blit area block tx ty o m ∷ [])
+pub sound_blit : (k : ℕ) (area : Rectangle) (block : _) (tx ty : _) (o : ℕ) (m : Blend) → is_inside (Blit area block tx ty o m) ≡ true
+    → IsSound k (Blit area block tx ty o m ∷ [])
 unfolding is_nested
 sound_blit k area block tx ty o m e = record { nests = λ n rest few. refl; inside = alone (is_inside (Blit area block tx ty o m)) e }
 

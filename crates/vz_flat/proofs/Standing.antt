@@ -28,7 +28,8 @@ use Rattle.vz_flat.specs.Flattening.{Stand, ranges_of, material_here, quads_here
 
 -- Passes that are whole
 
-pub split_whole : (i : FrameData) (passes earlier : List RenderPass) (pass : RenderPass) → passes ≡ earlier ++ pass ∷ [] → All (IsPassWhole i) passes → All (IsPassWhole i) earlier × IsPassWhole i pass
+pub split_whole : (i : FrameData) (passes earlier : List RenderPass) (pass : RenderPass) → passes ≡ earlier ++ pass ∷ []
+    → All (IsPassWhole i) passes → All (IsPassWhole i) earlier × IsPassWhole i pass
 split_whole i passes earlier pass e all = All-pop (IsPassWhole i) passes earlier (Some pass) e all
 
 one_longer : (passes earlier : List RenderPass) (pass : RenderPass) → passes ≡ earlier ++ pass ∷ [] → length passes ≡ length earlier + 1
@@ -36,7 +37,8 @@ one_longer passes earlier pass e = ap length e ∙ length-append earlier (pass �
 
 -- Room
 
-pub group_room : (levels : ℕ) (place inner : Placement) (passes earlier : List RenderPass) (pass : RenderPass) → passes ≡ earlier ++ pass ∷ [] → IsPassInReach pass → inner ≡ record place { shift = minus place.shift (corner pass.output) }
+pub group_room : (levels : ℕ) (place inner : Placement) (passes earlier : List RenderPass) (pass : RenderPass)
+    → passes ≡ earlier ++ pass ∷ [] → IsPassInReach pass → inner ≡ record place { shift = minus place.shift (corner pass.output) }
     → HasRoom (room_for levels (length passes) + coordinates 1) place.shift → HasRoom (room_for levels (length earlier + 1)) inner.shift
 group_room levels place inner passes earlier pass e reach is room =
     let long = one_longer passes earlier pass e in
@@ -47,13 +49,17 @@ pub earlier_room : (levels : ℕ) (p : Point) (passes earlier : List RenderPass)
     → HasRoom (room_for levels (length passes) + coordinates 1) p → HasRoom (room_for levels (length earlier) + coordinates 1) p
 earlier_room levels p passes earlier pass e room =
     let long = one_longer passes earlier pass e in
-    room_less (room_for levels (length passes) + coordinates 1) (room_for levels (length earlier) + coordinates 1) p room (omega (arith, long))
+    room_less (room_for levels (length passes) + coordinates 1) (room_for levels (length earlier) + coordinates 1) p room
+    (omega (arith, long))
 
-pub quad_room : (levels n : ℕ) (place inner : Placement) (pass : RenderPass) (quad : DrawQuad) → inner ≡ place_in place pass quad → IsQuadInReach quad
+pub quad_room : (levels n : ℕ) (place inner : Placement) (pass : RenderPass) (quad : DrawQuad) → inner ≡ place_in place pass quad
+    → IsQuadInReach quad
     → HasRoom (room_for levels (n + 1)) place.shift → HasRoom (room_for levels n + coordinates 1) inner.shift
-quad_room levels n place inner pass quad is reach room = place_room (room_for levels n + coordinates 1) inner (place_in place pass quad) is (drawn_room levels n place quad room reach)
+quad_room levels n place inner pass quad is reach room =
+    place_room (room_for levels n + coordinates 1) inner (place_in place pass quad) is (drawn_room levels n place quad room reach)
 
-pub surface_room : (levels : ℕ) (p : Point) (passes earlier : List RenderPass) (root : RenderPass) → passes ≡ earlier ++ root ∷ [] → length passes ≤ 16 → (levels ≡ 0 → ⊥)
+pub surface_room : (levels : ℕ) (p : Point) (passes earlier : List RenderPass) (root : RenderPass) → passes ≡ earlier ++ root ∷ []
+    → length passes ≤ 16 → (levels ≡ 0 → ⊥)
     → HasRoom (room_for levels 0) p → HasRoom (room_for (levels - 1) (length earlier + 1)) p
 surface_room zero p passes earlier root e few some room = absurd (some refl)
 surface_room (suc n) p passes earlier root e few some room =
@@ -67,22 +73,26 @@ frame_of st i keeps c =
     let m = contains_map (λ (s : Submission). s.submitted) _ i (filter_at _ _ i c).0 in
     subst IsWhole m.2 (keeps m.0 (filter_at is_active st.subs m.0 m.1).0)
 
-pub seen_whole : (st : Stored) (range : SurfaceRange) (i : FrameData) → KeepsFrames st → shown_frame (seen_frames st) range ≡ Some i → IsWhole i
+pub seen_whole : (st : Stored) (range : SurfaceRange) (i : FrameData) → KeepsFrames st → shown_frame (seen_frames st) range ≡ Some i
+    → IsWhole i
 seen_whole st range i keeps e = frame_of st i keeps (shown_in (seen_frames st) range i e)
 
 -- What is appended
 
-pub none_yet : (s : Stand) (earlier : List RenderPass) (pass : RenderPass) (place : Placement) (quads : List DrawQuad) (ops : List Op) → ops ≡ ops ++ quads_here s earlier pass place (drop (length quads) quads)
+pub none_yet : (s : Stand) (earlier : List RenderPass) (pass : RenderPass) (place : Placement) (quads : List DrawQuad) (ops : List Op)
+    → ops ≡ ops ++ quads_here s earlier pass place (drop (length quads) quads)
 unfolding quads_flat
 none_yet s earlier pass place quads ops =
     sym (ap (λ l. ops ++ quads_here s earlier pass place l) (drop_all (length quads) quads (omega arith)) ∙ append-nil ops)
 
 -- a quad in front of those from a place on
-split_at : (quads : List DrawQuad) (j k : ℕ) (quad : DrawQuad) → j + 1 ≡ k → k ≤ length quads → quad ≡ get_or quads j quad → drop j quads ≡ quad ∷ drop k quads
+split_at : (quads : List DrawQuad) (j k : ℕ) (quad : DrawQuad) → j + 1 ≡ k → k ≤ length quads → quad ≡ get_or quads j quad
+    → drop j quads ≡ quad ∷ drop k quads
 split_at quads j k quad next most is =
     drop_more quads j quad (omega (arith, most, next)) ∙ (ap (λ q. q ∷ drop (j + 1) quads) (sym is) ∙ ap (λ n. quad ∷ drop n quads) next)
 
-split_before : (quads : List DrawQuad) (k : ℕ) (quad : DrawQuad) → 0 < k → k ≤ length quads → quad ≡ get_or quads (k - 1) quad → drop (k - 1) quads ≡ quad ∷ drop k quads
+split_before : (quads : List DrawQuad) (k : ℕ) (quad : DrawQuad) → 0 < k → k ≤ length quads → quad ≡ get_or quads (k - 1) quad
+    → drop (k - 1) quads ≡ quad ∷ drop k quads
 split_before quads k quad some most is = split_at quads (k - 1) k quad (omega (arith, some)) most is
 
 quads_more : (s : Stand) (earlier : List RenderPass) (pass : RenderPass) (place : Placement) (quad : DrawQuad) (behind : List DrawQuad)
@@ -99,7 +109,8 @@ one_more s earlier pass place quads k quad first old new some most is so_far e =
     e
     ∙ (ap (λ l. l ++ part) so_far
     ∙ (append_assoc first (quads_here s earlier pass place (drop k quads)) part
-    ∙ ap (λ l. first ++ l) (sym (quads_more s earlier pass place quad (drop k quads)) ∙ ap (quads_here s earlier pass place) (sym (split_before quads k quad some most is)))))
+    ∙ ap (λ l. first ++ l)
+    (sym (quads_more s earlier pass place quad (drop k quads)) ∙ ap (quads_here s earlier pass place) (sym (split_before quads k quad some most is)))))
 
 root_is : (s : Stand) (passes earlier : List RenderPass) (root : RenderPass) (place : Placement) → passes ≡ earlier ++ root ∷ []
     → quads_here s earlier root place root.quads ≡ root_flat s.seen (ranges_of s) (reverse passes) place

@@ -35,7 +35,8 @@ found_none p x xs e = by_test (p x) refl e
     by_test false h k = (h, k)
 
 -- the fifth and the eighth rule of a list
-two_of : (p : Rule → Bool) (a b c d v u t o : Rule) (rest : List Rule) → find p (a ∷ b ∷ c ∷ d ∷ v ∷ u ∷ t ∷ o ∷ rest) ≡ None → (p v ≡ false) × (p o ≡ false)
+two_of : (p : Rule → Bool) (a b c d v u t o : Rule) (rest : List Rule) → find p (a ∷ b ∷ c ∷ d ∷ v ∷ u ∷ t ∷ o ∷ rest) ≡ None
+    → (p v ≡ false) × (p o ≡ false)
 two_of p a b c d v u t o rest e =
     let e1 = (found_none p a (b ∷ c ∷ d ∷ v ∷ u ∷ t ∷ o ∷ rest) e).1 in
     let e2 = (found_none p b (c ∷ d ∷ v ∷ u ∷ t ∷ o ∷ rest) e1).1 in
@@ -49,9 +50,12 @@ two_of p a b c d v u t o rest e =
 abbrev hides_none : DrawQuad → Bool
 hides_none quad = not (covers_rect quad.area quad.visible)
 
-kept_rules : (frame : CompositorFrame) → first_broken frame ≡ None → (list_any hides_none (quads_of frame) ≡ false) × (list_any (tile_outside frame.resources) (quads_of frame) ≡ false)
+kept_rules : (frame : CompositorFrame) → first_broken frame ≡ None
+    → (list_any hides_none (quads_of frame) ≡ false) × (list_any (tile_outside frame.resources) (quads_of frame) ≡ false)
 unfolding first_broken breaks
-kept_rules frame e = two_of (breaks frame) NoPass BadRoot PassIds PassOrder VisibleOutside UnlistedResource ListedTwice TileOutside (BadRange ∷ BadDependency ∷ DamageOutside ∷ []) e
+kept_rules frame e =
+    two_of (breaks frame) NoPass BadRoot PassIds PassOrder VisibleOutside UnlistedResource ListedTwice TileOutside
+    (BadRange ∷ BadDependency ∷ DamageOutside ∷ []) e
 
 or_parts : (a b : Bool) → (a || b) ≡ false → (a ≡ false) × (b ≡ false)
 or_parts true b h = absurd (cc)
@@ -72,7 +76,8 @@ outside id area tx ty l = lists id l && exceeds area tx ty l
 some_is : {x y : Block} → ◌≡◌ {A = Option Block} (Some x) (Some y) → x ≡ y
 some_is e = cc
 
-block_inside : (quad : DrawQuad) (tx ty : ℕ) (l : Listing) (b : Block) → exceeds quad.area tx ty l ≡ false → StandsFor l b → IsInBlock quad tx ty b
+block_inside : (quad : DrawQuad) (tx ty : ℕ) (l : Listing) (b : Block) → exceeds quad.area tx ty l ≡ false → StandsFor l b
+    → IsInBlock quad tx ty b
 block_inside quad tx ty l b e stands =
     let parts = or_parts (int_lt (pos l.w) (pos tx +ℤ quad.area.w)) (int_lt (pos l.h) (pos ty +ℤ quad.area.h)) e in
     record {
@@ -80,7 +85,8 @@ block_inside quad tx ty l b e stands =
       rows = subst (λ n. (pos ty +ℤ quad.area.h) ≤ℤ pos n) (sym stands.h) (not_more _ _ parts.1);
     }
 
-listed_inside : (quad : DrawQuad) (id tx ty : ℕ) (ls : List Listing) (bs : List Block) → ((n : ℕ) (l : Listing) (b : Block) → slice_get ls n ≡ Some l → slice_get bs n ≡ Some b → StandsFor l b)
+listed_inside : (quad : DrawQuad) (id tx ty : ℕ) (ls : List Listing) (bs : List Block)
+    → ((n : ℕ) (l : Listing) (b : Block) → slice_get ls n ≡ Some l → slice_get bs n ≡ Some b → StandsFor l b)
     → list_any (outside id quad.area tx ty) ls ≡ false → (block : Block) → block_of id ls bs ≡ Some block → IsInBlock quad tx ty block
 listed_inside quad id tx ty [] bs stands none block e = absurd (cc)
 listed_inside quad id tx ty (l ∷ ls) [] stands none block e = absurd (cc)
@@ -95,8 +101,10 @@ listed_inside quad id tx ty (l ∷ ls) (b ∷ bs) stands none block e =
 
 -- Quads and passes
 
-module _ (i : FrameData) (stands : (n : ℕ) (l : Listing) (b : Block) → slice_get i.frame.resources n ≡ Some l → slice_get i.blocks n ≡ Some b → StandsFor l b) where
-  quad_whole : (quad : DrawQuad) → fits_quad NEWEST_FORMAT quad ≡ true → hides_none quad ≡ false → tile_outside i.frame.resources quad ≡ false → IsQuadWhole i quad
+module _ (i : FrameData)
+    (stands : (n : ℕ) (l : Listing) (b : Block) → slice_get i.frame.resources n ≡ Some l → slice_get i.blocks n ≡ Some b → StandsFor l b) where
+  quad_whole : (quad : DrawQuad) → fits_quad NEWEST_FORMAT quad ≡ true → hides_none quad ≡ false
+      → tile_outside i.frame.resources quad ≡ false → IsQuadWhole i quad
   quad_whole quad fits visible inside =
       record {
         reach = quad_in_reach NEWEST_FORMAT quad fits;
@@ -104,7 +112,8 @@ module _ (i : FrameData) (stands : (n : ℕ) (l : Listing) (b : Block) → slice
         tile = λ id tx ty block is e. listed_inside quad id tx ty i.frame.resources i.blocks stands (rw is at inside) block e;
       }
 
-  quads_whole : (quads : List DrawQuad) → list_all (fits_quad NEWEST_FORMAT) quads ≡ true → list_any hides_none quads ≡ false → list_any (tile_outside i.frame.resources) quads ≡ false → All (IsQuadWhole i) quads
+  quads_whole : (quads : List DrawQuad) → list_all (fits_quad NEWEST_FORMAT) quads ≡ true → list_any hides_none quads ≡ false
+      → list_any (tile_outside i.frame.resources) quads ≡ false → All (IsQuadWhole i) quads
   quads_whole [] fits visible inside = All-nil (IsQuadWhole i)
   quads_whole (quad ∷ quads) fits visible inside =
       let f = and_parts (fits_quad NEWEST_FORMAT quad) (list_all (fits_quad NEWEST_FORMAT) quads) fits in
@@ -112,13 +121,15 @@ module _ (i : FrameData) (stands : (n : ℕ) (l : Listing) (b : Block) → slice
       let t = or_parts (tile_outside i.frame.resources quad) (list_any (tile_outside i.frame.resources) quads) inside in
       All-cons (IsQuadWhole i) quad quads (quad_whole quad f.0 v.0 t.0) (quads_whole quads f.1 v.1 t.1)
 
-  split_any : (p : DrawQuad → Bool) (xs ys : List DrawQuad) → list_any p (xs ++ ys) ≡ false → (list_any p xs ≡ false) × (list_any p ys ≡ false)
+  split_any : (p : DrawQuad → Bool) (xs ys : List DrawQuad) → list_any p (xs ++ ys) ≡ false
+      → (list_any p xs ≡ false) × (list_any p ys ≡ false)
   split_any p xs ys e = or_parts (list_any p xs) (list_any p ys) (sym (list_any-append p xs ys) ∙ e)
 
   abbrev quads_in : List RenderPass → List DrawQuad
   quads_in passes = flat_map (λ (pass : RenderPass). pass.quads) passes
 
-  passes_whole : (passes : List RenderPass) → list_all (fits_pass NEWEST_FORMAT) passes ≡ true → list_any hides_none (quads_in passes) ≡ false → list_any (tile_outside i.frame.resources) (quads_in passes) ≡ false
+  passes_whole : (passes : List RenderPass) → list_all (fits_pass NEWEST_FORMAT) passes ≡ true
+      → list_any hides_none (quads_in passes) ≡ false → list_any (tile_outside i.frame.resources) (quads_in passes) ≡ false
       → All (IsPassWhole i) passes
   passes_whole [] fits visible inside = All-nil (IsPassWhole i)
   passes_whole (pass ∷ passes) fits visible inside =
