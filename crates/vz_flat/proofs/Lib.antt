@@ -10,7 +10,7 @@ pub mod Tile_sound
 pub mod Flat_sound
 pub mod Wholes
 pub mod Rounded
-pub mod Ends
+pub mod Sizes
 pub mod Standing
 pub mod Rooted
 pub mod Stored_scenes

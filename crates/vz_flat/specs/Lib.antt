@@ -5,5 +5,4 @@ pub mod Tiles
 pub mod Gutters
 pub mod Flat
 pub mod Whole
-pub mod Paths
 pub mod Flattening

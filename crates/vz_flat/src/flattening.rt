@@ -7,7 +7,7 @@ ghost use Rattle.vz_rules.specs.Walk.{place_in};
 ghost use Rattle.vz_surfaces.specs.Reading.{seen_frames};
 ghost use Rattle.vz_surfaces.specs.Keeping.{KeepsStored, KeepsFrames};
 ghost use Rattle.vz_walk.specs.Limits.{HasRoom, IsPassInReach, coordinates, room_for};
-ghost use Rattle.vz_flat.specs.Paths.{ids};
+ghost use Rattle.vz_walk.specs.Walking.{ids};
 ghost use Rattle.vz_flat.specs.Flat.{content_flat, shown_flat, flat};
 ghost use Rattle.vz_flat.specs.Whole.{IsQuadWhole, IsPassWhole};
 ghost use Rattle.vz_flat.specs.Parts.{seen_flat};
@@ -16,7 +16,6 @@ ghost use Rattle.vz_flat.specs.Flattening.{material_here, quads_here, group_here
 
 use crate::Op;
 use crate::gutter::put_gutter;
-use crate::path::Path;
 use crate::put::put;
 use crate::surface::{present_place, surface_place};
 use crate::tile::put_tile;
@@ -26,7 +25,7 @@ use vz_frame::{Blend, DrawQuad, List, Material, RenderPass};
 use vz_ids::{SurfaceId, SurfaceRange};
 use vz_pixels::Pixel;
 use vz_surfaces::{Seen, Store};
-use vz_walk::{Place, moved};
+use vz_walk::{Path, Place, moved};
 
 /// A surface whose frame is flattened, behind the surfaces of a path and with so many surfaces
 /// left. What the store keeps holds all the time.
@@ -43,7 +42,7 @@ impl<'b, 's> Model for Flattener<'b, 's> {
     ghost use Rattle.vz_surfaces.specs.Reading.{seen_frames};
     ghost use Rattle.vz_surfaces.specs.Keeping.{KeepsStored, KeepsFrames};
     ghost use Rattle.vz_flat.specs.Flattening.{Stand};
-    ghost use Rattle.vz_flat.specs.Paths.{ids};
+    ghost use Rattle.vz_walk.specs.Walking.{ids};
 
     ghost Value = { Stand };
 

@@ -12,7 +12,6 @@ ghost use Rattle.vz_flat.specs.Ops.{value};
 ghost use Rattle.vz_flat.specs.Flat.{scene_flat};
 
 use crate::flattening::surface;
-use crate::path::Path;
 use crate::surface::surface_place;
 use crate::{Op, Ops};
 use std::alloc::Global;
@@ -22,7 +21,7 @@ use vz_frame::List;
 use vz_geom::Size;
 use vz_ids::SurfaceId;
 use vz_surfaces::Store;
-use vz_walk::Place;
+use vz_walk::{Path, Place};
 
 /// Appends what is drawn of the root, in the part of the display in which it has points.
 #[tactic(auto, unfolding(crate::specs::Flat::scene_flat))]
