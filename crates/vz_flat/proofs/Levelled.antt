@@ -50,14 +50,14 @@ until_skips ends content active path range b l d =
     elim (shown_frame active range) as (λ (s : Option FrameData). ◌≡◌ {A = Colour} (elim s [
       | None ↦ laid Over b 0 d
       | Some i ↦ elim
-      ((ends || on_path path i) || is_absent range i l) [ true ↦ d | false ↦ laid Over (content_at content path b i l transparent) 0 d ]
+          ((ends || on_path path i) || is_absent range i l) [ true ↦ d | false ↦ laid Over (content_at content path b i l transparent) 0 d ]
     ]) d) [
       | None ↦ laid_zero b d
       | Some i ↦ elim ((ends || on_path path i) || is_absent range i l) as
-      (λ (t : Bool). ◌≡◌ {A = Colour} (elim t [ true ↦ d | false ↦ laid Over (content_at content path b i l transparent) 0 d ]) d) [
-        | true ↦ refl
-        | false ↦ laid_zero (content_at content path b i l transparent) d
-      ]
+          (λ (t : Bool). ◌≡◌ {A = Colour} (elim t [ true ↦ d | false ↦ laid Over (content_at content path b i l transparent) 0 d ]) d) [
+            | true ↦ refl
+            | false ↦ laid_zero (content_at content path b i l transparent) d
+          ]
     ]
 
 -- none of these goes too deep

@@ -11,6 +11,7 @@ pub mod Flat_sound
 pub mod Wholes
 pub mod Rounded
 pub mod Sizes
+pub mod Named
 pub mod Standing
 pub mod Rooted
 pub mod Stored_scenes

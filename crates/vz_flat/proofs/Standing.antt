@@ -37,20 +37,12 @@ one_longer passes earlier pass e = ap length e ∙ length-append earlier (pass �
 
 -- Room
 
-pub group_room : (levels : ℕ) (place inner : Placement) (passes earlier : List RenderPass) (pass : RenderPass)
-    → passes ≡ earlier ++ pass ∷ [] → IsPassInReach pass → inner ≡ record place { shift = minus place.shift (corner pass.output) }
-    → HasRoom (room_for levels (length passes) + coordinates 1) place.shift → HasRoom (room_for levels (length earlier + 1)) inner.shift
-group_room levels place inner passes earlier pass e reach is room =
-    let long = one_longer passes earlier pass e in
-    place_room (room_for levels (length earlier + 1)) inner (record place { shift = minus place.shift (corner pass.output) }) is
-    (room_minus (room_for levels (length passes) + coordinates 1) (room_for levels (length earlier + 1)) place.shift (corner pass.output) room reach.drawn.first (omega (arith, long)))
-
-pub earlier_room : (levels : ℕ) (p : Point) (passes earlier : List RenderPass) (pass : RenderPass) → passes ≡ earlier ++ pass ∷ []
-    → HasRoom (room_for levels (length passes) + coordinates 1) p → HasRoom (room_for levels (length earlier) + coordinates 1) p
-earlier_room levels p passes earlier pass e room =
-    let long = one_longer passes earlier pass e in
-    room_less (room_for levels (length passes) + coordinates 1) (room_for levels (length earlier) + coordinates 1) p room
-    (omega (arith, long))
+pub group_room : (levels : ℕ) (place inner : Placement) (n k : ℕ) (pass : RenderPass) → k < n → IsPassInReach pass
+    → inner ≡ record place { shift = minus place.shift (corner pass.output) }
+    → HasRoom (room_for levels n + coordinates 1) place.shift → HasRoom (room_for levels (k + 1)) inner.shift
+group_room levels place inner n k pass less reach is room =
+    place_room (room_for levels (k + 1)) inner (record place { shift = minus place.shift (corner pass.output) }) is
+    (room_minus (room_for levels n + coordinates 1) (room_for levels (k + 1)) place.shift (corner pass.output) room reach.drawn.first (omega (arith, less)))
 
 pub quad_room : (levels n : ℕ) (place inner : Placement) (pass : RenderPass) (quad : DrawQuad) → inner ≡ place_in place pass quad
     → IsQuadInReach quad

@@ -6,3 +6,4 @@ pub mod Gutters
 pub mod Flat
 pub mod Whole
 pub mod Flattening
+pub mod Passes

@@ -16,6 +16,7 @@ ghost use Rattle.vz_flat.specs.Flattening.{material_here, quads_here, group_here
 
 use crate::Op;
 use crate::gutter::put_gutter;
+use crate::passes::pass_named;
 use crate::put::put;
 use crate::surface::{present_place, surface_place};
 use crate::tile::put_tile;
@@ -212,7 +213,6 @@ impl<'b, 's> Flattener<'b, 's> {
     }
 
     /// Appends what the pass of an id draws as a group, over the earlier ones.
-    #[tactic(auto, unfolding(crate::specs::Flat::groups_flat))]
     #[cycle(flatten)]
     fn named(
         &self,
@@ -229,17 +229,12 @@ impl<'b, 's> Flattener<'b, 's> {
         ensures { OnOk result (ops.new
             ≡ ops.old ++ passes_in self.now passes.now id mode opacity place.now) }
     {
-        match passes.split_last() {
+        match pass_named(passes, id) {
             None => Ok(()),
             Some((pass, earlier)) => {
-                if pass.id == id {
-                    let inner = place.inside(pass);
-                    self.group(earlier, pass, mode, opacity, &inner, ops)?;
-                    Ok(())
-                } else {
-                    self.named(earlier, id, mode, opacity, place, ops)?;
-                    Ok(())
-                }
+                let inner = place.inside(pass);
+                self.group(earlier, pass, mode, opacity, &inner, ops)?;
+                Ok(())
             }
         }
     }

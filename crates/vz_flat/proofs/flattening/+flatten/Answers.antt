@@ -1,29 +1,46 @@
-use Rattle.std.proofs.Common.{rules, length, ap, sym, ◌∙◌, subst, arith}
+use Rattle.std.proofs.Common.{rules, length, ap, sym, ◌∙◌, subst, arith, ◌++◌, append-nil}
 use Rattle.std.specs.List.{All}
 use Rattle.vz_surfaces.specs.declared.held.Held.{Held}
 use Rattle.vz_flat.specs.Whole.{IsPassWhole}
+use Rattle.vz_flat.specs.Flattening.{ranges_of, group_here}
 use Rattle.vz_flat.proofs.Wholes.{frame_whole}
-use Rattle.vz_flat.proofs.Standing.{split_whole, group_room, earlier_room, quad_room, surface_room, seen_whole, none_yet, one_more, surface_is}
+use Rattle.vz_flat.proofs.Named.{named_whole, named_shorter, none_drawn, named_drawn}
+use Rattle.vz_flat.proofs.Standing.{split_whole, group_room, quad_room, surface_room, seen_whole, none_yet, one_more, surface_is}
 use Rattle.vz_flat.proofs.flattening.+flatten.Goals as goal
 
 pub Flattener::named-group-requires : goal.Flattener::named-group-requires
 Flattener::named-group-requires t c =
-    let parts = split_whole c.args.self.now.seen c.args.passes.now c.in-Some.earlier.now c.in-Some.pass.now c.in-Some.ensures.cases.0 c.requires.whole in
-    (
-      search rules,
+    let is = c.in-Some.ensures in
+    let parts = named_whole c.args.self.now.seen c.args.passes.now c.in-Some.earlier.now c.in-Some.pass.now c.args.id is c.requires.whole in
+    let less = named_shorter c.args.passes.now c.in-Some.earlier.now c.in-Some.pass.now c.args.id is in (
+      search (rules, less),
       (
         parts.0,
         (
           parts.1,
-          group_room c.args.self.now.levels c.args.place.now c.inside-inner.result c.args.passes.now c.in-Some.earlier.now c.in-Some.pass.now c.in-Some.ensures.cases.0 parts.1.reach c.inside-inner.ensures c.requires.room,
+          group_room c.args.self.now.levels c.args.place.now c.inside-inner.result (length c.args.passes.now) (length c.in-Some.earlier.now)
+              c.in-Some.pass.now less parts.1.reach c.inside-inner.ensures c.requires.room,
         ),
       ),
     )
 
-pub Flattener::named-named-requires : goal.Flattener::named-named-requires
-Flattener::named-named-requires t c =
-    let parts = split_whole c.args.self.now.seen c.args.passes.now c.in-Some.earlier.now c.in-Some.pass.now c.in-Some.ensures.cases.0 c.requires.whole in
-    (search rules, (parts.0, earlier_room c.args.self.now.levels c.args.place.now.shift c.args.passes.now c.in-Some.earlier.now c.in-Some.pass.now c.in-Some.ensures.cases.0 c.requires.room))
+pub Flattener::named-inside-inner-requires-clause-pass : goal.Flattener::named-inside-inner-requires-clause-pass
+Flattener::named-inside-inner-requires-clause-pass t c =
+    (named_whole c.args.self.now.seen c.args.passes.now c.in-Some.earlier.now c.in-Some.pass.now c.args.id c.in-Some.ensures c.requires.whole).1.reach
+
+pub Flattener::named-returns-in-None : goal.Flattener::named-returns-in-None
+Flattener::named-returns-in-None t c =
+    sym (ap (λ l. c.args.ops.now ++ l)
+    (none_drawn c.args.self.now.seen (ranges_of c.args.self.now) c.args.id c.args.mode c.args.opacity c.args.place.now c.args.passes.now c.in-None.ensures)
+    ∙ append-nil c.args.ops.now)
+
+pub Flattener::named-returns-in_ok-group-in-Some : goal.Flattener::named-returns-in_ok-group-in-Some
+Flattener::named-returns-in_ok-group-in-Some t c =
+    let s = c.args.self.now in
+    c.in_ok-group-in-Some.ensures
+    ∙ ap (λ l. c.args.ops.now ++ l)
+    (ap (group_here s c.in-Some.earlier.now c.in-Some.pass.now c.args.mode c.args.opacity) c.inside-inner.ensures
+    ∙ sym (named_drawn s.seen (ranges_of s) c.args.id c.args.mode c.args.opacity c.args.place.now c.args.passes.now c.in-Some.earlier.now c.in-Some.pass.now c.in-Some.ensures))
 
 pub Flattener::pass-loop-k-init : goal.Flattener::pass-loop-k-init
 Flattener::pass-loop-k-init t c =
@@ -44,7 +61,7 @@ Flattener::quad-material-requires t c = (
   (
     c.requires.earlier,
     quad_room c.args.self.now.levels
-    (length c.args.earlier.now) c.args.place.now c.place_in-inner.result c.args.pass.now c.args.quad.now c.place_in-inner.ensures c.requires.whole.reach c.requires.room,
+        (length c.args.earlier.now) c.args.place.now c.place_in-inner.result c.args.pass.now c.args.quad.now c.place_in-inner.ensures c.requires.whole.reach c.requires.room,
   ),
 )
 
@@ -66,7 +83,7 @@ surface-pass-requires t c =
         (
           parts.1,
           surface_room c.args.levels c.args.place.now.shift c.as_slice.result.now c.in-Some.earlier.now c.in-Some.root.now c.in-Some.ensures.cases.0
-          (omega (arith, few, most)) c.if-levels-eq0.false c.requires.room,
+              (omega (arith, few, most)) c.if-levels-eq0.false c.requires.room,
         ),
       ),
     )
