@@ -1,7 +1,7 @@
 //! A bell that wakes.
-use crate::Bell;
 use std::test::Fail;
 use std::thread;
+use vz_desk::Bell;
 
 #[test]
 fn a_ring_wakes_who_waits(rt: HostRuntime) -> Result<(), Fail> {
