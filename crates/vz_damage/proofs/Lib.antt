@@ -1,3 +1,5 @@
 pub mod Between
 pub mod Joining
 pub mod Looking
+pub mod Claiming
+pub mod Ranging

@@ -1,6 +1,6 @@
 -- The part of a rectangle that is inside a frame's size.
-use Rattle.std.proofs.Common.{◌≡◌, ℤ, pos, ◌+ℤ◌, ◌-ℤ◌, ◌≤ℤ◌, int_lt, Bool, true, false, ◌||◌, Option, Some, None, refl, subst, sym, ap, ◌∙◌, arith, if◌then◌else◌}
-use Rattle.std.specs.Int.{int_min, int_max}
+use Rattle.std.proofs.Common.{◌≡◌, ℤ, pos, ◌+ℤ◌, ◌≤ℤ◌, int_lt, Bool, true, false, ◌||◌, Option, Some, None, refl, arith, if◌then◌else◌}
+use Rattle.std.specs.Int.{int_max}
 use Rattle.std.proofs.lemmas.Int.{ints, clamps}
 use Rattle.vz_geom.specs.declared.Size.{Size}
 use Rattle.vz_geom.specs.Rectangle.{Rectangle, no_rectangle, with_sides, meet, sized, shared}
@@ -8,7 +8,7 @@ use Rattle.vz_frame.specs.declared.frame.CompositorFrame.{CompositorFrame}
 use Rattle.vz_frame.specs.declared.frame.RenderPass.{RenderPass}
 use Rattle.vz_frame.specs.Frame.{root_pass, frame_size}
 use Rattle.vz_walk.specs.Limits.{FitsFile, IsInReach}
-use Rattle.vz_walk.proofs.Fitting.{IsSized, is_sized, root_output_fits}
+use Rattle.vz_walk.proofs.Fitting.{is_sized, root_output_fits}
 
 -- no side is negative or greater than a frame may have
 pub record IsFrameSize (size : Size) : Type 0 where

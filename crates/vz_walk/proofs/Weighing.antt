@@ -110,8 +110,8 @@ pub deep_enough : (depth : ℕ) → nat_le depth 64 ≡ not (nat_lt 64 depth)
 deep_enough depth = grind (arith, nat_tests)
 
 module _ {V : Type 0} (quads : V → ℕ) where
-  abbrev Has : V → List Visit → Type 0
-  Has v visits = IsWeighed (quads v) visits
+  abbrev Has : V → V → List Visit → Type 0
+  Has first v visits = IsWeighed (quads v) visits
 
   abbrev Stops : V → List Visit → Type 0
   Stops v visits = IsHeavy visits
@@ -119,22 +119,22 @@ module _ {V : Type 0} (quads : V → ℕ) where
   -- it counts a quad
   pub counts : (old new : V) → quads old < 65536 → quads new ≡ quads old + 1 → Meets Has Stops true old new (Quad ∷ [])
   counts old new few e = record {
-    all = λ before on h. subst (λ n. IsWeighed n (before ++ Quad ∷ [])) (sym e) (weighed_quad (quads old) before few h);
-    some = λ before off h. absurd (cc);
+    all = λ first before on h. subst (λ n. IsWeighed n (before ++ Quad ∷ [])) (sym e) (weighed_quad (quads old) before few h);
+    some = λ first before off h. absurd (cc);
   }
 
   -- it stops at a quad
   pub stops_at : (old new : V) → 65536 ≤ quads old → Meets Has Stops false old new (Quad ∷ [])
   stops_at old new many = record {
-    all = λ before on h. absurd (cc);
-    some = λ before off h. record { front = before ++ Quad ∷ []; back = []; splits = append-nil (before ++ Quad ∷ []); there = heavy_quad (quads old) before many h };
+    all = λ first before on h. absurd (cc);
+    some = λ first before off h. record { front = before ++ Quad ∷ []; back = []; splits = append-nil (before ++ Quad ∷ []); there = heavy_quad (quads old) before many h };
   }
 
   -- a range counts nothing, nor does a surface
   pub passes : (r : Bool) (v : V) (x : Visit) → is_quad x ≡ false → r ≡ not (is_deep x) → Meets Has Stops r v v (x ∷ [])
   passes r v x other e = record {
-    all = λ before on h. weighed_other (quads v) before x other (not_true (is_deep x) (sym e ∙ on)) h;
-    some = λ before off h. record { front = before ++ x ∷ []; back = []; splits = append-nil (before ++ x ∷ []); there = heavy_deep before x (not_false (is_deep x) (sym e ∙ off)) };
+    all = λ first before on h. weighed_other (quads v) before x other (not_true (is_deep x) (sym e ∙ on)) h;
+    some = λ first before off h. record { front = before ++ x ∷ []; back = []; splits = append-nil (before ++ x ∷ []); there = heavy_deep before x (not_false (is_deep x) (sym e ∙ off)) };
   }
     where
       not_true : (t : Bool) → not t ≡ true → t ≡ false
@@ -147,10 +147,10 @@ module _ {V : Type 0} (quads : V → ℕ) where
 
   -- the weight of all
   pub weighs : (old new : V) (all : List Visit) → quads old ≡ 0 → Meets Has Stops true old new all → IsWeighed (quads new) all
-  weighs old new all e h = h.all [] refl (subst (λ n. IsWeighed n []) (sym e) weighed_none)
+  weighs old new all e h = h.all old [] refl (subst (λ n. IsWeighed n []) (sym e) weighed_none)
 
   -- too much
   pub is_heavy : (old new : V) (all : List Visit) → quads old ≡ 0 → Meets Has Stops false old new all → too_much all ≡ true
   is_heavy old new all e h =
-      let s = h.some [] refl (subst (λ n. IsWeighed n []) (sym e) weighed_none) in
+      let s = h.some old [] refl (subst (λ n. IsWeighed n []) (sym e) weighed_none) in
       heavy_front s.front s.back all s.splits s.there

@@ -11,10 +11,11 @@ use vz_surfaces::Seen;
 
 /// Is told of each visit of a walk, in order, and answers whether the walk goes on.
 pub trait Visitor {
-    /// These visits were met so far, and each answer was to go on.
-    ghost has_met: { Self → List Visit → Type 0 };
+    /// A visitor, which was the first one at the start, has met these visits so far, and each
+    /// answer was to go on.
+    ghost has_met: { Self → Self → List Visit → Type 0 };
 
-    /// These visits were met so far, and the last answer was to stop.
+    /// A visitor has met these visits so far, and the last answer was to stop.
     ghost has_stopped: { Self → List Visit → Type 0 };
 
     /// A quad is met.

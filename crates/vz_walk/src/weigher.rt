@@ -22,7 +22,7 @@ struct Weigher {
 impl Visitor for Weigher {
     ghost use Rattle.vz_walk.specs.Weighing.{IsWeighed, IsHeavy};
 
-    ghost has_met = { λ w visits. IsWeighed w.quads visits };
+    ghost has_met = { λ _ w visits. IsWeighed w.quads visits };
 
     ghost has_stopped = { λ w visits. IsHeavy visits };
 
