@@ -3,3 +3,4 @@ pub mod Joining
 pub mod Looking
 pub mod Claiming
 pub mod Ranging
+pub mod Entering
