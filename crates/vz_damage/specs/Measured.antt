@@ -8,11 +8,9 @@ use Rattle.vz_ids.specs.declared.SurfaceRange.{SurfaceRange}
 use Rattle.vz_ids.specs.Ids.{same_surface}
 use Rattle.vz_frame.specs.Frame.{frame_size}
 use Rattle.vz_rules.specs.Closure.{adding}
-use Rattle.vz_rules.specs.World.{FrameData, Scene, Aggregation}
-use Rattle.vz_rules.specs.Walk.{Placement, Visit, Quad, Shows, Enters, walk_of}
+use Rattle.vz_rules.specs.World.{FrameData, Aggregation}
+use Rattle.vz_rules.specs.Walk.{Placement, Visit, Quad, Shows, Enters}
 use Rattle.vz_rules.specs.Damage.{shown_range, of_same_range, is_switched}
-use Rattle.vz_surfaces.specs.Stored.{Stored}
-use Rattle.vz_surfaces.specs.Reading.{seen_frames}
 use Rattle.vz_damage.specs.Told.{Told, told_on, damage_in}
 
 -- the root and the ranges of an aggregation: its indices stand with what is told of each surface
@@ -47,19 +45,12 @@ abbrev pub has_root : Option Aggregation → SurfaceId → Bool
 has_root None root = false
 has_root (Some a) root = same_surface a.root root
 
--- what can be seen of a store from a root
-abbrev pub scene_in : SurfaceId → Stored → Scene
-scene_in root st = record { root = root; active = seen_frames st }
-
--- and the walk through it
-abbrev pub walked_in : Size → SurfaceId → Stored → List Visit
-walked_in size root st = walk_of size (scene_in root st)
-
 -- what ranges showed, each of them once
 abbrev pub Shown : Type 0
 Shown = List (SurfaceRange × Option SurfaceId)
 
 -- what was met of a walk so far: its claims, and what the ranges showed
-pub record IsMeasured (told : List (SurfaceId × Told)) (last : Shown) (damage : Rectangle) (ranges : Shown) (visits : List Visit) : Type 0 where
+pub record IsMeasured (told : List (SurfaceId × Told)) (last : Shown) (damage : Rectangle) (ranges : Shown)
+    (visits : List Visit) : Type 0 where
   pub claims : (a : Aggregation) → a.ranges ≡ last → damage ≡ bound (flat_map (told_claims_of told a) visits)
   pub ranges_met : ranges ≡ adding of_same_range [] (filter_map shown_range visits)

@@ -1,5 +1,6 @@
 //! The damages of all surfaces.
-ghost use Rattle.std.specs.Prelude.{◌≡◌, ◌<◌, ◌≤◌, ◌+◌, [], length, IsTrue, IsFalse, IsOk, OnOk, IfOk, OnErr, Some, None, is_some};
+ghost use Rattle.std.specs.Prelude.{◌≡◌, ◌<◌, ◌≤◌, ◌+◌, [], length, Some, None, is_some};
+ghost use Rattle.std.specs.Prelude.{IsTrue, IsFalse, IsOk, OnOk, IfOk, OnErr};
 ghost use Rattle.std.specs.Option.{option_map};
 ghost use Rattle.vz_ids.specs.declared.SurfaceId.{SurfaceId as Surface};
 ghost use Rattle.vz_ids.specs.Ids.{same_surface};
@@ -7,8 +8,9 @@ ghost use Rattle.vz_geom.specs.Display.{IsDisplaySize};
 ghost use Rattle.vz_rules.specs.Damage.{aggregation_of};
 ghost use Rattle.vz_surfaces.specs.Keeping.{KeepsStored, KeepsFrames};
 ghost use Rattle.vz_damage.specs.Measured.{told_damage, what_changed, without_indices, has_root};
-ghost use Rattle.vz_damage.specs.Measured.{scene_in, walked_in};
-ghost use Rattle.vz_damage.specs.Told.{told_on, next_index, with_damage, with_active, with_seen, damage_in};
+ghost use Rattle.vz_walk.specs.Scenes.{scene_in, walked_in};
+ghost use Rattle.vz_damage.specs.Told.{told_on, next_index, damage_in};
+ghost use Rattle.vz_damage.specs.Told.{with_damage, with_active, with_seen};
 
 use crate::measurer::{Measurer, damage_of};
 use crate::ranges::Ranges;
@@ -152,7 +154,8 @@ impl Damage {
         damage_of(&self.surfaces, id)
     }
 
-    /// The display is aggregated: the active submission of each surface was seen. It takes no memory.
+    /// The display is aggregated: the active submission of each surface was seen. It takes no
+    /// memory.
     pub fn aggregated(&mut self)
         ensures told { (id : Surface) → told_on self.new.surfaces id
             ≡ option_map with_seen (told_on self.old.surfaces id) }
@@ -191,8 +194,8 @@ impl Damage {
         ensures damage { IfOk result (λ r. r.0
             ≡ told_damage size self.now.last self.now.surfaces root.now
             (walked_in size root.now store.now)) }
-        ensures ranges { IfOk result (λ r. r.1
-            ≡ (aggregation_of (scene_in root.now store.now) (walked_in size root.now store.now)).ranges) }
+        ensures ranges { IfOk result (λ r. r.1 ≡ (aggregation_of (scene_in root.now store.now)
+            (walked_in size root.now store.now)).ranges) }
     {
         let mut measurer = Measurer::new(&self.surfaces, &self.shown, free);
         if !walk(store, root, size, &mut measurer) {

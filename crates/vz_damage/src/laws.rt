@@ -12,7 +12,8 @@ ghost use Rattle.vz_rules.specs.World.{active_frames};
 ghost use Rattle.vz_surfaces.specs.Stored.{stored_of};
 ghost use Rattle.vz_damage.specs.Told.{Told, damage_on, told_on, with_seen};
 ghost use Rattle.vz_damage.specs.Accepted.{told_of, TellsActive, TellsLast, scene_from};
-ghost use Rattle.vz_damage.specs.Measured.{told_damage, without_indices, scene_in, walked_in};
+ghost use Rattle.vz_damage.specs.Measured.{told_damage, without_indices};
+ghost use Rattle.vz_walk.specs.Scenes.{scene_in, walked_in};
 
 use vz_surfaces::laws::stores_tell;
 
@@ -23,9 +24,9 @@ pub fn told_damages_are_drawn()
         → damage_since a (accepted_frames w) i ≡ damage_on (told_of w a i) }
 {}
 
-/// Where each surface with an active frame has what is told of it behind the last aggregation of the
-/// machine's state, what `measure` tells of a store is what a drawing does: the damage, what is
-/// remembered, and what is told from then on.
+/// Where each surface with an active frame has what is told of it behind the last aggregation of
+/// the machine's state, what `measure` tells of a store is what a drawing does: the damage, what
+/// is remembered, and what is told from then on.
 pub fn measured_damages_are_drawn()
     ensures damage { (w : World) (told : List (SurfaceId × Told)) (size : Size) (root : SurfaceId)
         → KeepsAlways w → TellsLast w told

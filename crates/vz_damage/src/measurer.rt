@@ -37,8 +37,8 @@ fn seen_damage(damage: &Rect, frame: &Seen<'_>, place: &Place) -> Rect
     place.window().intersect(&moved(&part, place.shift()))
 }
 
-/// Keeps the smallest rectangle round the claims of a walk so far, and what each range shows that it
-/// met.
+/// Keeps the smallest rectangle round the claims of a walk so far, and what each range shows that
+/// it met.
 #[derive(Drop)]
 pub(crate) struct Measurer<'d> {
     told: &'d IndexMap<SurfaceId, Running>,

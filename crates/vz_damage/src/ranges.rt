@@ -84,7 +84,8 @@ impl Ranges {
 
     /// Whether a range was not met, or showed nothing, or another surface than now.
     pub(crate) fn is_switched(&self, range: &SurfaceRange, now: &Option<Seen<'_>>) -> bool
-        ensures { (a : Aggregation) → a.ranges ≡ self.now → result ≡ is_switched a range.now now.now }
+        ensures { (a : Aggregation) → a.ranges ≡ self.now
+            → result ≡ is_switched a range.now now.now }
     {
         match self.shown.get(range) {
             None => true,

@@ -32,10 +32,12 @@ module _ {V : Type 0} (met : V → V → List Visit → Type 0) (stopped : V →
   }
 
   -- the walk goes on behind some visits, and others follow
-  pub met_then : (r s : Bool) (a b c : V) (xs ys : List Visit) → r ≡ true → Meets met stopped r a b xs → Meets met stopped s b c ys → Meets met stopped s a c (xs ++ ys)
+  pub met_then : (r s : Bool) (a b c : V) (xs ys : List Visit) → r ≡ true → Meets met stopped r a b xs → Meets met stopped s b c ys
+      → Meets met stopped s a c (xs ++ ys)
   met_then r s a b c xs ys on h k = record {
     all = λ first before e p. subst (met first c) (append_assoc before xs ys) (k.all first (before ++ xs) e (h.all first before on p));
-    some = λ first before e p. subst (IsStopped stopped c) (append_assoc before xs ys) (k.some first (before ++ xs) e (h.all first before on p));
+    some = λ first before e p. subst (IsStopped stopped c) (append_assoc before xs ys) (k.some first (before ++ xs) e
+        (h.all first before on p));
   }
 
   -- they were all

@@ -1,5 +1,6 @@
 -- Weights, as one visit more is met.
-use Rattle.std.proofs.Common.{◌≡◌, ℕ, ◌+◌, ◌<◌, ◌≤◌, Bool, true, false, ◌||◌, nat_lt, nat_le, cond, not, List, [], ◌∷◌, ◌++◌, refl, subst, sym, ap, ◌∙◌, arith}
+use Rattle.std.proofs.Common.{◌≡◌, ℕ, ◌+◌, ◌<◌, ◌≤◌, Bool, true, false, ◌||◌, nat_lt, nat_le, cond, not, List, [], ◌∷◌, ◌++◌, refl, subst}
+use Rattle.std.proofs.Common.{sym, ap, ◌∙◌, arith}
 use Rattle.std.specs.List.{list_any}
 use Rattle.std.proofs.lemmas.Bool.Decides.{nat_tests}
 use Rattle.std.proofs.lemmas.List.{append-nil}
@@ -52,7 +53,8 @@ weighed_quad n xs few h =
     let count : n + 1 ≡ weight (xs ++ Quad ∷ []) = ap (λ m. m + 1) h.quads ∙ sym (one_quad xs) in
     record {
       quads = count;
-      few = light (weight (xs ++ Quad ∷ [])) (list_any is_deep (xs ++ Quad ∷ [])) (let same = h.quads in omega (arith, count, few)) (still xs Quad refl (or_parts _ _ h.few).1);
+      few = light (weight (xs ++ Quad ∷ [])) (list_any is_deep (xs ++ Quad ∷ [])) (let same = h.quads in omega (arith, count, few))
+          (still xs Quad refl (or_parts _ _ h.few).1);
     }
 
 -- and at the limit
@@ -73,20 +75,23 @@ no_quad xs x e = weight_append xs (x ∷ []) ∙ (ap (λ n. weight xs + n) (none
     same n = omega arith
 
 -- a visit that is no quad and not deep
-pub weighed_other : (n : ℕ) (xs : List Visit) (x : Visit) → is_quad x ≡ false → is_deep x ≡ false → IsWeighed n xs → IsWeighed n (xs ++ x ∷ [])
+pub weighed_other : (n : ℕ) (xs : List Visit) (x : Visit) → is_quad x ≡ false → is_deep x ≡ false → IsWeighed n xs
+    → IsWeighed n (xs ++ x ∷ [])
 unfolding too_much
 weighed_other n xs x e f h =
     record {
       quads = h.quads ∙ sym (no_quad xs x e);
       few = ap (λ m. nat_lt 65536 m || list_any is_deep (xs ++ x ∷ [])) (no_quad xs x e)
-          ∙ (ap (λ t. nat_lt 65536 (weight xs) || t) (still xs x f (or_parts _ _ h.few).1 ∙ sym (or_parts (nat_lt 65536 (weight xs)) _ h.few).1) ∙ h.few);
+          ∙ (ap (λ t. nat_lt 65536 (weight xs) || t) (still xs x f (or_parts _ _ h.few).1
+          ∙ sym (or_parts (nat_lt 65536 (weight xs)) _ h.few).1) ∙ h.few);
     }
 
 -- one that is deep
 pub heavy_deep : (xs : List Visit) (x : Visit) → is_deep x ≡ true → IsHeavy (xs ++ x ∷ [])
 unfolding too_much
 heavy_deep xs x e =
-    ap (λ t. nat_lt 65536 (weight (xs ++ x ∷ [])) || t) (list_any-append is_deep xs (x ∷ []) ∙ (ap (λ t. list_any is_deep xs || (t || false)) e ∙ or_true (list_any is_deep xs)))
+    ap (λ t. nat_lt 65536 (weight (xs ++ x ∷ [])) || t) (list_any-append is_deep xs (x ∷ [])
+    ∙ (ap (λ t. list_any is_deep xs || (t || false)) e ∙ or_true (list_any is_deep xs)))
     ∙ or_true (nat_lt 65536 (weight (xs ++ x ∷ [])))
 
 or_front : (a b c d : Bool) → (a ≡ true → c ≡ true) → (b ≡ true → d ≡ true) → (a || b) ≡ true → (c || d) ≡ true
@@ -102,7 +107,8 @@ pub heavy_front : (xs ys all : List Visit) → xs ++ ys ≡ all → IsHeavy xs �
 unfolding too_much
 heavy_front xs ys all e h =
     ap (λ l. nat_lt 65536 (weight l) || list_any is_deep l) (sym e)
-    ∙ or_front _ _ _ _ (λ k. ap (nat_lt 65536) (weight_append xs ys) ∙ heavier (weight xs) (weight ys) k) (λ k. list_any-append is_deep xs ys ∙ ap (λ t. t || list_any is_deep ys) k) h
+    ∙ or_front _ _ _ _ (λ k. ap (nat_lt 65536) (weight_append xs ys)
+    ∙ heavier (weight xs) (weight ys) k) (λ k. list_any-append is_deep xs ys ∙ ap (λ t. t || list_any is_deep ys) k) h
 
 -- A weigher
 
@@ -127,14 +133,26 @@ module _ {V : Type 0} (quads : V → ℕ) where
   pub stops_at : (old new : V) → 65536 ≤ quads old → Meets Has Stops false old new (Quad ∷ [])
   stops_at old new many = record {
     all = λ first before on h. absurd (cc);
-    some = λ first before off h. record { front = before ++ Quad ∷ []; back = []; splits = append-nil (before ++ Quad ∷ []); there = heavy_quad (quads old) before many h };
+    some = λ first before off h. record {
+      front = before ++ Quad ∷ [];
+      back = [];
+      splits = append-nil
+          (before ++ Quad ∷ []);
+      there = heavy_quad (quads old) before many h;
+    };
   }
 
   -- a range counts nothing, nor does a surface
   pub passes : (r : Bool) (v : V) (x : Visit) → is_quad x ≡ false → r ≡ not (is_deep x) → Meets Has Stops r v v (x ∷ [])
   passes r v x other e = record {
     all = λ first before on h. weighed_other (quads v) before x other (not_true (is_deep x) (sym e ∙ on)) h;
-    some = λ first before off h. record { front = before ++ x ∷ []; back = []; splits = append-nil (before ++ x ∷ []); there = heavy_deep before x (not_false (is_deep x) (sym e ∙ off)) };
+    some = λ first before off h. record {
+      front = before ++ x ∷ [];
+      back = [];
+      splits = append-nil
+          (before ++ x ∷ []);
+      there = heavy_deep before x (not_false (is_deep x) (sym e ∙ off));
+    };
   }
     where
       not_true : (t : Bool) → not t ≡ true → t ≡ false

@@ -11,6 +11,7 @@ pub record IsStopped {V : Type 0} (has_stopped : V → List Visit → Type 0) (v
 
 -- a visitor, which was the first one at the start, meets these visits beside those that it had met, where the walk goes on, and
 -- where not it stopped among them
-pub record Meets {V : Type 0} (has_met : V → V → List Visit → Type 0) (has_stopped : V → List Visit → Type 0) (goes_on : Bool) (old new : V) (visits : List Visit) : Type 0 where
+pub record Meets {V : Type 0} (has_met : V → V → List Visit → Type 0) (has_stopped : V → List Visit
+    → Type 0) (goes_on : Bool) (old new : V) (visits : List Visit) : Type 0 where
   pub all : (first : V) (before : List Visit) → goes_on ≡ true → has_met first old before → has_met first new (before ++ visits)
   pub some : (first : V) (before : List Visit) → goes_on ≡ false → has_met first old before → IsStopped has_stopped new (before ++ visits)

@@ -10,12 +10,15 @@ use Rattle.vz_damage.proofs.laws.measured_damages_are_drawn.Goals as goal
 
 pub returns-clause-damage : goal.returns-clause-damage
 returns-clause-damage c w told size root keeps tells =
-    ap (λ (l : List FrameData). told_damage size (option_map without_indices w.last) told root (walk_of size (record { root = root; active = l }))) (c.stores_tell.ensures.seen w keeps)
+    ap (λ (l : List FrameData). told_damage size (option_map without_indices w.last) told root (walk_of size
+    (record { root = root; active = l }))) (c.stores_tell.ensures.seen w keeps)
     ∙ measured_is_drawn w told size root keeps tells
 
 pub returns-clause-remembered : goal.returns-clause-remembered
 returns-clause-remembered c w size root keeps =
-    ap (λ (l : List FrameData). aggregation_of (record { root = root; active = l }) (walk_of size (record { root = root; active = l }))) (c.stores_tell.ensures.seen w keeps)
+    ap (λ (l : List FrameData). aggregation_of (record { root = root; active = l }) (walk_of size (record { root = root; active = l })))
+    (c.stores_tell.ensures.seen w keeps)
 
 pub returns-clause-told : goal.returns-clause-told
-returns-clause-told c w a old new size root keeps tells follows = tells_drawn w a old new root (walk_of size (scene_from root w)) keeps tells follows
+returns-clause-told c w a old new size root keeps tells follows = tells_drawn w a old new root (walk_of size
+    (scene_from root w)) keeps tells follows

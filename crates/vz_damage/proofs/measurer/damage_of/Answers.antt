@@ -8,4 +8,5 @@ pub returns-in-Some : goal.returns-in-Some
 returns-in-Some c = c.damage.ensures ∙ ap damage_in (c.in-Some.ensures.value ∙ sym (looked c.args.told.now.entries c.args.id.now))
 
 pub returns-in-None : goal.returns-in-None
-returns-in-None c = c.new.ensures.value ∙ nothing ∙ ap damage_in (c.in-None.ensures.value ∙ sym (looked c.args.told.now.entries c.args.id.now))
+returns-in-None c = c.new.ensures.value ∙ nothing ∙ ap damage_in (c.in-None.ensures.value
+    ∙ sym (looked c.args.told.now.entries c.args.id.now))

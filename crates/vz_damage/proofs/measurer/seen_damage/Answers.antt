@@ -11,6 +11,7 @@ returns-clause-value c =
     let damage = c.args.damage.now in
     c.intersect.ensures.value
     ∙ (ap (λ (w : Rectangle). meet w c.moved.result) c.window.ensures
-    ∙ (ap (meet place.window) (c.moved.ensures ∙ (ap (moved c.inside_frame-part.result) c.shift.ensures ∙ ap (λ (r : Rectangle). moved r place.shift)
+    ∙ (ap (meet place.window) (c.moved.ensures ∙ (ap (moved c.inside_frame-part.result) c.shift.ensures
+    ∙ ap (λ (r : Rectangle). moved r place.shift)
     (c.inside_frame-part.ensures.value ∙ ap (λ (h : Held). meet (sized (frame_size h.frame)) damage) c.held.ensures)))
     ∙ seen_is place.window (sized (frame_size c.args.frame.now.frame)) damage place.shift))

@@ -15,7 +15,10 @@ returns c =
     let place = c.args.place.now in
     let new : Measurer = record { told = old.told; last = old.last; damage = c.bound-self.result; ranges = old.ranges } in
     let is = c.seen_damage-seen.ensures.value
-    ∙ ap (λ (d : Rectangle). seen_damage d i place) (c.damage_of-damage.ensures ∙ ap (λ (x : SurfaceId). damage_in (told_on old.told.now.entries x)) c.id.ensures) in
-    meets_one (λ (m : Measurer). m.told) (λ (m : Measurer). m.last) (λ t. t.now.entries) (λ l. l.now) (λ (m : Measurer). m.damage) (λ (m : Measurer). m.ranges) true old new (Enters c.args.arg2 i place) refl refl
-    (λ e before h. met_surface old.told.now.entries old.last.now old.damage c.bound-self.result c.seen_damage-seen.result old.ranges before c.args.arg2 i place c.seen_damage-seen.ensures.proper is
+    ∙ ap (λ (d : Rectangle). seen_damage d i place) (c.damage_of-damage.ensures
+    ∙ ap (λ (x : SurfaceId). damage_in (told_on old.told.now.entries x)) c.id.ensures) in
+    meets_one (λ (m : Measurer). m.told) (λ (m : Measurer). m.last) (λ t. t.now.entries) (λ l. l.now) (λ (m : Measurer). m.damage) (λ
+    (m : Measurer). m.ranges) true old new (Enters c.args.arg2 i place) refl refl
+    (λ e before h. met_surface old.told.now.entries old.last.now old.damage c.bound-self.result c.seen_damage-seen.result old.ranges
+    before c.args.arg2 i place c.seen_damage-seen.ensures.proper is
     c.bound-self.ensures.value h)

@@ -10,7 +10,8 @@ use Rattle.vz_damage.proofs.ranges.Ranges.note.Goals as goal
 pub returns-then-is_some : goal.returns-then-is_some
 returns-then-is_some c =
     let there = sym (ap is_some c.get.ensures.value) ∙ (copied_some c.get.result ∙ (sym c.is_some.ensures ∙ c.if-is_some.true)) in
-    sym c.self.view_is ∙ (noted_again c.self.inside.shown.entries c.args.range.now (id_of_frame c.args.now.now) there ∙ ap (λ (l : Shown). adding of_same_range l ((c.args.range.now, id_of_frame c.args.now.now) ∷ [])) c.self.view_is)
+    sym c.self.view_is ∙ (noted_again c.self.inside.shown.entries c.args.range.now (id_of_frame c.args.now.now) there
+    ∙ ap (λ (l : Shown). adding of_same_range l ((c.args.range.now, id_of_frame c.args.now.now) ∷ [])) c.self.view_is)
 
 pub returns : goal.returns
 returns c =
