@@ -11,6 +11,7 @@ mod visitor;
 mod walker;
 mod weigher;
 
+pub use path::Path;
 pub use place::{Place, display_rect, moved, nothing};
 pub use size::{frame_rect, inside_frame};
 pub use visitor::Visitor;

@@ -6,9 +6,9 @@ ghost use Rattle.vz_walk.specs.Walking.{ids};
 
 use vz_ids::SurfaceId;
 
-/// A path through surfaces. It stands on the stack of those that walk.
+/// A path through surfaces. It stands on the stack of those that go along it.
 #[derive(Drop)]
-pub(crate) enum Path<'p> {
+pub enum Path<'p> {
     /// No surface.
     Start,
     /// A surface, and those before it.
@@ -22,7 +22,7 @@ pub(crate) enum Path<'p> {
 
 impl<'p> Path<'p> {
     /// Whether a surface is on the path.
-    pub(crate) fn has(&self, id: &SurfaceId) -> bool
+    pub fn has(&self, id: &SurfaceId) -> bool
         ensures { result ≡ list_any (same_surface id.now) (ids self.now) }
     {
         match self {

@@ -1,6 +1,6 @@
 //! Where the walk stands on the display.
 ghost use Rattle.std.specs.Prelude.{◌≡◌};
-ghost use Rattle.vz_geom.specs.Rectangle.{plus, minus, corner, moved, sized, no_rectangle};
+ghost use Rattle.vz_geom.specs.Rectangle.{plus, minus, corner, meet, moved, sized, no_rectangle};
 ghost use Rattle.vz_geom.specs.Rectangle.{IsOffset};
 ghost use Rattle.vz_geom.specs.Display.{IsDisplaySize};
 ghost use Rattle.vz_rules.specs.Walk.{cut, seen_part, place_in, whole};
@@ -154,6 +154,16 @@ impl Place {
         Place {
             shift: self.shift.minus(corner(&pass.output)),
             window: self.window,
+        }
+    }
+
+    /// The place in a part of the display alone.
+    pub fn within(&self, part: &Rect) -> Place
+        ensures { result ≡ record self.now { window = meet self.now.window part.now } }
+    {
+        Place {
+            shift: self.shift,
+            window: self.window.intersect(part),
         }
     }
 }
