@@ -1,3 +1,6 @@
 pub mod Between
 pub mod Joining
 pub mod Looking
+pub mod Claiming
+pub mod Ranging
+pub mod Entering

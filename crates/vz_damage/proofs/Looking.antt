@@ -5,6 +5,8 @@ use Rattle.std.specs.Option.{option_map}
 use Rattle.std.specs.Map.{lookup, values_of}
 use Rattle.indexmap.specs.Layout.{set_value_at}
 use Rattle.vz_ids.specs.declared.SurfaceId.{SurfaceId}
+use Rattle.vz_ids.specs.declared.SurfaceRange.{SurfaceRange}
+use Rattle.vz_rules.specs.World.{Aggregation}
 use Rattle.vz_ids.specs.Ids.{same_surface, same_sink}
 use Rattle.vz_ids.specs.contracts.SurfaceIdPartialEq.TheImpl as surface_eq
 use Rattle.vz_damage.specs.Told.{Told, told_on, with_seen}
@@ -102,3 +104,8 @@ turn_some k xs now t new is found sees =
 -- there is no such place
 pub turn_none : (k : ℕ) (xs now : List (SurfaceId × Told)) → now ≡ seen_to k xs → None ≡ slice_get (values_of now) k → now ≡ seen_to (k + 1) xs
 turn_none k xs now is found = is ∙ see_none k xs (found ∙ ap (λ l. slice_get (values_of l) k) is) ∙ ap (λ n. seen_to n xs) (omega arith)
+
+-- What is remembered
+
+abbrev pub last_in : Option SurfaceId → List (SurfaceRange × Option SurfaceId) → Option Aggregation
+last_in root shown = option_map (λ (r : SurfaceId). record { root = r; indices = []; ranges = shown }) root

@@ -1,8 +1,10 @@
 -- What is told of a surface where each accepted submission is.
-use Rattle.std.specs.Prelude.{map, filter}
+use Rattle.std.specs.Prelude.{◌≡◌, Some, List, map, filter}
+use Rattle.std.specs.List.{Contains}
+use Rattle.vz_ids.specs.declared.SurfaceId.{SurfaceId}
 use Rattle.vz_rules.specs.Damage.{root_damage, index_in}
-use Rattle.vz_rules.specs.World.{World, Submission, Aggregation, FrameData, is_on}
-use Rattle.vz_damage.specs.Told.{Told}
+use Rattle.vz_rules.specs.World.{World, Scene, Submission, Aggregation, FrameData, is_on, active_frames}
+use Rattle.vz_damage.specs.Told.{Told, told_on}
 
 -- what is told of the surface of a frame, which is active, behind an aggregation
 abbrev pub told_of : World → Aggregation → FrameData → Told
@@ -11,3 +13,15 @@ told_of w a i = record {
   active = i.index;
   seen = index_in a i;
 }
+
+-- each surface with an active frame has what is told of it behind an aggregation
+abbrev pub TellsActive : World → Aggregation → List (SurfaceId × Told) → Type 0
+TellsActive w a told = (i : FrameData) → Contains (active_frames w.subs) i → told_on told i.id ≡ Some (told_of w a i)
+
+-- behind the last one, if there was one
+abbrev pub TellsLast : World → List (SurfaceId × Told) → Type 0
+TellsLast w told = (a : Aggregation) → w.last ≡ Some a → TellsActive w a told
+
+-- what can be seen of a world from a root
+abbrev pub scene_from : SurfaceId → World → Scene
+scene_from root w = record { root = root; active = active_frames w.subs }

@@ -1,2 +1,3 @@
 pub mod Told
 pub mod Accepted
+pub mod Measured

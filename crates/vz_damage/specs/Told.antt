@@ -2,6 +2,7 @@
 use Rattle.std.specs.Prelude.{◌≡◌, ℕ, ◌+◌, ◌≤◌, Option, Some, None, List, [], ◌∷◌, ◌++◌, drop, take, length, if◌then◌else◌}
 use Rattle.vz_ids.specs.declared.SurfaceId.{SurfaceId}
 use Rattle.vz_ids.specs.Ids.{same_surface}
+use Rattle.vz_rules.specs.World.{Aggregation}
 use Rattle.vz_geom.specs.Rectangle.{Rectangle, bound, no_rectangle}
 
 -- the damages told on a surface by index, from 1 on, the index of its active submission, and that of the one that was active at the
@@ -28,10 +29,12 @@ pub record AreRunning (shown waiting : Rectangle) (told : ℕ) (t : Told) : Type
   pub first : shown ≡ damage_on t
   pub second : waiting ≡ damage_between t.active told t.damages
 
--- what is told of surfaces, each of them once, with the room made before
+-- what is told of surfaces, each of them once, with the room made before, and the root and the ranges of the last aggregation,
+-- whose indices stand with what is told
 pub record Damaged : Type 0 where
   pub surfaces : List (SurfaceId × Told)
   pub spare : ℕ
+  pub last : Option Aggregation
 
 -- what is told of a surface, if anything is
 unfoldable pub told_on : List (SurfaceId × Told) → SurfaceId → Option Told

@@ -1,42 +1,69 @@
 //! The damages of all surfaces.
-ghost use Rattle.std.specs.Prelude.{◌≡◌, ◌<◌, ◌≤◌, ◌+◌, [], length, IsTrue, IsFalse, IsOk, OnOk, OnErr, Some, None, is_some};
+ghost use Rattle.std.specs.Prelude.{◌≡◌, ◌<◌, ◌≤◌, ◌+◌, [], length, Some, None, is_some};
+ghost use Rattle.std.specs.Prelude.{IsTrue, IsFalse, IsOk, OnOk, IfOk, OnErr};
 ghost use Rattle.std.specs.Option.{option_map};
 ghost use Rattle.vz_ids.specs.declared.SurfaceId.{SurfaceId as Surface};
 ghost use Rattle.vz_ids.specs.Ids.{same_surface};
-ghost use Rattle.vz_damage.specs.Told.{told_on, next_index, with_damage, with_active, with_seen, damage_in};
+ghost use Rattle.vz_geom.specs.Display.{IsDisplaySize};
+ghost use Rattle.vz_rules.specs.Damage.{aggregation_of};
+ghost use Rattle.vz_surfaces.specs.Keeping.{KeepsStored, KeepsFrames};
+ghost use Rattle.vz_damage.specs.Measured.{told_damage, what_changed, without_indices, has_root};
+ghost use Rattle.vz_walk.specs.Scenes.{scene_in, walked_in};
+ghost use Rattle.vz_damage.specs.Told.{told_on, next_index, damage_in};
+ghost use Rattle.vz_damage.specs.Told.{with_damage, with_active, with_seen};
 
+use crate::measurer::{Measurer, damage_of};
+use crate::ranges::Ranges;
 use crate::running::Running;
 use indexmap::IndexMap;
 use std::alloc::Global;
 use std::marker::Model;
+use std::mem;
 use vz_base::Memory;
-use vz_geom::Rect;
+use vz_geom::{Rect, Size};
 use vz_ids::SurfaceId;
+use vz_surfaces::Store;
+use vz_walk::{display_rect, walk};
 
 /// What changed of each surface. Contracts see the damages that were told of it by index, from 1
 /// on, which of its submissions is active, and which one was at the last aggregation; memory has
 /// two rectangles a surface, however many were told.
 #[derive(Drop)]
 pub struct Damage {
+    alloc: Global,
     surfaces: IndexMap<SurfaceId, Running>,
+    root: Option<SurfaceId>,
+    shown: Ranges,
+    free: Ranges,
 }
 
 impl Model for Damage {
     ghost use Rattle.indexmap.specs.IndexMap.{spare as spare_of};
+    ghost use Rattle.std.specs.Prelude.{[]};
+    ghost use Rattle.std.specs.Option.{option_map};
     ghost use Rattle.vz_damage.specs.Told.{Damaged};
 
     ghost Value = { Damaged };
 
-    ghost view = { λ d. record { surfaces = d.surfaces.entries; spare = spare_of d.surfaces } };
+    ghost view = { λ d. record {
+      surfaces = d.surfaces.entries;
+      spare = spare_of d.surfaces;
+      last = option_map (λ root. record { root = root; indices = []; ranges = d.shown }) d.root;
+    } };
 }
 
 impl Damage {
-    /// Nothing is told of any surface. It takes no memory.
+    /// Nothing is told of any surface, and there was no aggregation. It takes no memory.
     pub fn new(alloc: Global) -> Damage
-        ensures { result.surfaces ≡ [] }
+        ensures surfaces { result.surfaces ≡ [] }
+        ensures last { result.last ≡ None }
     {
         Damage {
+            alloc,
             surfaces: IndexMap::new(alloc),
+            root: None,
+            shown: Ranges::new(alloc),
+            free: Ranges::new(alloc),
         }
     }
 
@@ -47,6 +74,7 @@ impl Damage {
         ensures ok { OnOk result (n ≤ self.new.spare) }
         ensures succeeds { n ≤ self.old.spare → IsOk result }
         ensures spare { self.old.spare ≤ self.new.spare }
+        ensures last { self.new.last ≡ self.old.last }
     {
         self.surfaces.reserve(n)?;
         Ok(())
@@ -62,6 +90,7 @@ impl Damage {
         ensures err { OnErr result (self.new.surfaces ≡ self.old.surfaces) }
         ensures succeeds { 0 < self.old.spare → IsOk result }
         ensures spare { self.old.spare ≤ self.new.spare + 1 }
+        ensures last { self.new.last ≡ self.old.last }
     {
         self.surfaces.insert(id, Running::new(damage))?;
         Ok(())
@@ -82,6 +111,7 @@ impl Damage {
         ensures known { IsTrue (is_some (told_on self.old.surfaces id)) → IsOk result }
         ensures succeeds { 0 < self.old.spare → IsOk result }
         ensures spare { self.old.spare ≤ self.new.spare + 1 }
+        ensures last { self.new.last ≡ self.old.last }
     {
         match self.surfaces.get_mut(&id) {
             Some(running) => {
@@ -99,6 +129,7 @@ impl Damage {
         ensures others { (other : Surface) → IsFalse (same_surface id.now other)
             → told_on self.new.surfaces other ≡ told_on self.old.surfaces other }
         ensures spare { self.old.spare ≤ self.new.spare }
+        ensures last { self.new.last ≡ self.old.last }
     {
         if let Some(running) = self.surfaces.get_mut(id) {
             running.activated();
@@ -111,6 +142,7 @@ impl Damage {
         ensures others { (other : Surface) → IsFalse (same_surface id.now other)
             → told_on self.new.surfaces other ≡ told_on self.old.surfaces other }
         ensures spare { self.old.spare ≤ self.new.spare }
+        ensures last { self.new.last ≡ self.old.last }
     {
         self.surfaces.swap_remove(id);
     }
@@ -119,22 +151,118 @@ impl Damage {
     pub fn since(&self, id: &SurfaceId) -> Rect
         ensures { result ≡ damage_in (told_on self.now.surfaces id.now) }
     {
-        match self.surfaces.get(id) {
-            Some(running) => running.damage(),
-            None => Rect::new(0, 0, 0, 0),
-        }
+        damage_of(&self.surfaces, id)
     }
 
-    /// The display is aggregated: the active submission of each surface was seen. It takes no memory.
+    /// The display is aggregated: the active submission of each surface was seen. It takes no
+    /// memory.
     pub fn aggregated(&mut self)
         ensures told { (id : Surface) → told_on self.new.surfaces id
             ≡ option_map with_seen (told_on self.old.surfaces id) }
         ensures spare { self.new.spare ≡ self.old.spare }
+        ensures last { self.new.last ≡ self.old.last }
     {
         for place in 0..self.surfaces.len() {
             if let Some(running) = self.surfaces.get_index_mut(place) {
                 running.aggregated();
             }
         }
+    }
+
+    /// Whether there was an aggregation with this root.
+    fn has_root(&self, root: &SurfaceId) -> bool
+        ensures { result ≡ has_root self.now.last root.now }
+    {
+        match self.root {
+            None => false,
+            Some(last) => last == *root,
+        }
+    }
+
+    /// The damage and the ranges of the walk from a root. Conditions: as for `measure`.
+    fn walked(
+        &self,
+        free: Ranges,
+        store: &Store,
+        root: &SurfaceId,
+        size: Size,
+    ) -> Result<(Rect, Ranges), Memory>
+        requires keeps { KeepsStored store.now }
+        requires frames { KeepsFrames store.now }
+        requires size { IsDisplaySize size }
+        requires free { free ≡ [] }
+        ensures damage { IfOk result (λ r. r.0
+            ≡ told_damage size self.now.last self.now.surfaces root.now
+            (walked_in size root.now store.now)) }
+        ensures ranges { IfOk result (λ r. r.1 ≡ (aggregation_of (scene_in root.now store.now)
+            (walked_in size root.now store.now)).ranges) }
+    {
+        let mut measurer = Measurer::new(&self.surfaces, &self.shown, free);
+        if !walk(store, root, size, &mut measurer) {
+            return Err(Memory);
+        }
+        let (damage, ranges) = measurer.parts();
+        if self.has_root(root) {
+            Ok((damage, ranges))
+        } else {
+            Ok((display_rect(size), ranges))
+        }
+    }
+
+    /// What changed, where this is the damage: nothing where there was an aggregation and it is
+    /// empty.
+    fn changed(&self, damage: Rect) -> Option<Rect>
+        ensures { result ≡ what_changed self.now.last damage }
+    {
+        if self.root.is_some() && damage.is_empty() {
+            None
+        } else {
+            Some(damage)
+        }
+    }
+
+    /// The root and the ranges of the last aggregation are these.
+    fn remember(&mut self, root: SurfaceId, ranges: Ranges)
+        ensures { self.new ≡ record self.old {
+          last = Some (record { root = root; indices = []; ranges = ranges });
+        } }
+    {
+        self.root = Some(root);
+        self.free = mem::replace(&mut self.shown, ranges);
+    }
+
+    /// The display is aggregated: the damage of what is drawn from this root, the smallest
+    /// rectangle round the claims, and None exactly where there was an aggregation and it is empty.
+    /// What is drawn is then the last aggregation. For want of memory, and only then, it answers
+    /// Memory and nothing changes.
+    ///
+    /// Conditions: what always holds of the store is kept, and its frames fit; the size is a
+    /// display's. The walk is as long as the weight, so that a caller asks for that first.
+    pub fn measure(
+        &mut self,
+        store: &Store,
+        root: &SurfaceId,
+        size: Size,
+    ) -> Result<Option<Rect>, Memory>
+        requires keeps { KeepsStored store.now }
+        requires frames { KeepsFrames store.now }
+        requires size { IsDisplaySize size }
+        ensures damage { IfOk result (λ o. o ≡ what_changed self.old.last
+            (told_damage size self.old.last self.old.surfaces root.now
+            (walked_in size root.now store.now))) }
+        ensures last { OnOk result (self.new.last ≡ Some (without_indices
+            (aggregation_of (scene_in root.now store.now) (walked_in size root.now store.now)))) }
+        ensures told { (id : Surface) → OnOk result (told_on self.new.surfaces id
+            ≡ option_map with_seen (told_on self.old.surfaces id)) }
+        ensures spare { self.new.spare ≡ self.old.spare }
+        ensures err { OnErr result (self.new ≡ self.old) }
+    {
+        let mut free = mem::replace(&mut self.free, Ranges::new(self.alloc));
+        free.clear();
+        let (damage, ranges) = self.walked(free, store, root, size)?;
+        let changed = self.changed(damage);
+        self.aggregated();
+        self.remember(*root, ranges);
+        Ok(changed)
     }
 }

@@ -7,6 +7,8 @@
 
 mod damage;
 pub mod laws;
+mod measurer;
+mod ranges;
 mod running;
 
 pub use damage::Damage;

@@ -1,5 +1,6 @@
 -- What fits a message file is in reach.
-use Rattle.std.proofs.Common.{◌≡◌, ℕ, zero, suc, ℤ, pos, ◌-ℤ◌, ◌≤ℤ◌, ◌<◌, ◌≤◌, int_lt, Bool, true, false, ◌&&◌, inl, inr, Option, Some, None, List, [], ◌∷◌, length, get_or, reverse, refl, subst, sym, ap, ◌∙◌, arith, IfSome}
+use Rattle.std.proofs.Common.{◌≡◌, ℕ, zero, suc, ℤ, pos, ◌-ℤ◌, ◌≤ℤ◌, ◌<◌, ◌≤◌, int_lt, Bool, true, false, ◌&&◌, inl, inr, Option, Some}
+use Rattle.std.proofs.Common.{None, List, [], ◌∷◌, length, get_or, reverse, refl, subst, sym, ap, ◌∙◌, arith, IfSome}
 use Rattle.std.specs.List.{list_all}
 use Rattle.std.proofs.lemmas.Bool.{and_parts, or_cases, leb-true}
 use Rattle.std.proofs.lemmas.Int.{ints}
@@ -63,7 +64,8 @@ sides_in_reach r x y w h =
 -- a rectangle that fits
 pub rect_in_reach : (r : Rectangle) → fits_rect r ≡ true → IsInReach r
 rect_in_reach r fits =
-    elim (or_cases (is_zero r.x && is_zero r.y && is_zero r.w && is_zero r.h) (in_reach r.x && in_reach r.y && is_side r.w && is_side r.h) fits) [
+    elim (or_cases (is_zero r.x && is_zero r.y && is_zero r.w && is_zero r.h)
+    (in_reach r.x && in_reach r.y && is_side r.w && is_side r.h) fits) [
       | inl none ↦
           let e = four (is_zero r.x) (is_zero r.y) (is_zero r.w) (is_zero r.h) none in
           zero_in_reach r (zero_is r.x e.0) (zero_is r.y e.1) (zero_is r.w e.2) (zero_is r.h e.3)
@@ -92,7 +94,8 @@ quad_in_reach format q h =
     }
 
 -- what fits of a pass: its output, its damage and its quads
-pub pass_fits : (format : ℕ) (p : RenderPass) → fits_pass format p ≡ true → (fits_rect p.output ≡ true) × (fits_rect p.damage ≡ true) × (list_all (fits_quad format) p.quads ≡ true)
+pub pass_fits : (format : ℕ) (p : RenderPass) → fits_pass format p ≡ true
+    → (fits_rect p.output ≡ true) × (fits_rect p.damage ≡ true) × (list_all (fits_quad format) p.quads ≡ true)
 unfolding fits_pass
 pass_fits format p h =
     let quads = and_parts _ _ h in
@@ -106,7 +109,8 @@ pass_in_reach format p h =
     record { drawn = rect_in_reach p.output parts.0; damaged = rect_in_reach p.damage parts.1 }
 
 -- a frame that fits has at most 16 passes, and they fit
-pub frame_passes : (format : ℕ) (f : CompositorFrame) → fits_frame format f ≡ true → (length f.passes ≤ 16) × (list_all (fits_pass format) f.passes ≡ true)
+pub frame_passes : (format : ℕ) (f : CompositorFrame) → fits_frame format f ≡ true
+    → (length f.passes ≤ 16) × (list_all (fits_pass format) f.passes ≡ true)
 unfolding fits_frame
 frame_passes format f h =
     let passes = and_parts _ _ h in
@@ -130,14 +134,16 @@ all_reversed : {A : Type 0} (p : A → Bool) (xs : List A) → list_all p xs ≡
 all_reversed p [] h = refl
 all_reversed p (x ∷ xs) h =
     let parts = and_parts (p x) (list_all p xs) h in
-    ap (list_all p) (reverse-append (x ∷ []) xs) ∙ (list_all-append p (reverse xs) (x ∷ []) ∙ both (list_all p (reverse xs)) (p x) (all_reversed p xs parts.1) parts.0)
+    ap (list_all p) (reverse-append (x ∷ []) xs) ∙ (list_all-append p (reverse xs) (x ∷ [])
+    ∙ both (list_all p (reverse xs)) (p x) (all_reversed p xs parts.1) parts.0)
   where
     both : (a b : Bool) → a ≡ true → b ≡ true → (a && (b && true)) ≡ true
     both a b e f = rw (e, f)
 
 -- the root pass of a frame that fits
 pub root_fits : (f : CompositorFrame) (p : RenderPass) → (fits : FitsFile f) → root_pass f ≡ Some p → fits_pass fits.0 p ≡ true
-root_fits f p fits e = first_fits (fits_pass fits.0) (reverse f.passes) p (all_reversed (fits_pass fits.0) f.passes (frame_passes fits.0 f fits.1).1) e
+root_fits f p fits e = first_fits (fits_pass fits.0) (reverse f.passes) p (all_reversed (fits_pass fits.0) f.passes
+    (frame_passes fits.0 f fits.1).1) e
 
 -- its output
 pub root_output_fits : (f : CompositorFrame) (p : RenderPass) → FitsFile f → root_pass f ≡ Some p → fits_rect p.output ≡ true
@@ -148,13 +154,15 @@ pub root_damage_in_reach : (f : CompositorFrame) (p : RenderPass) → FitsFile f
 root_damage_in_reach f p fits e = rect_in_reach p.damage (pass_fits fits.0 p (root_fits f p fits e)).1
 
 -- the pass at a place of a frame that fits
-pub pass_at_in_reach : (f : CompositorFrame) (passes : List RenderPass) (k : ℕ) (p : RenderPass) → FitsFile f → passes ≡ f.passes → k < length passes → p ≡ get_or passes k p → IsPassInReach p
+pub pass_at_in_reach : (f : CompositorFrame) (passes : List RenderPass) (k : ℕ) (p : RenderPass) → FitsFile f → passes ≡ f.passes
+    → k < length passes → p ≡ get_or passes k p → IsPassInReach p
 pass_at_in_reach f passes k p fits own within here =
     let all = subst (λ l. list_all (fits_pass fits.0) l ≡ true) (sym own) (frame_passes fits.0 f fits.1).1 in
     subst IsPassInReach (sym here) (pass_in_reach fits.0 (get_or passes k p) (all_at (fits_pass fits.0) passes k p all within))
 
 -- and a quad of it
-pub quad_at_in_reach : (f : CompositorFrame) (passes : List RenderPass) (k n : ℕ) (p : RenderPass) (quads : List DrawQuad) (q : DrawQuad) → FitsFile f → passes ≡ f.passes → k < length passes → p ≡ get_or passes k p
+pub quad_at_in_reach : (f : CompositorFrame) (passes : List RenderPass) (k n : ℕ) (p : RenderPass) (quads : List DrawQuad)
+    (q : DrawQuad) → FitsFile f → passes ≡ f.passes → k < length passes → p ≡ get_or passes k p
     → quads ≡ p.quads → n < length quads → q ≡ get_or quads n q → IsQuadInReach q
 quad_at_in_reach f passes k n p quads q fits own within here in_pass there there_too =
     let all = subst (λ l. list_all (fits_pass fits.0) l ≡ true) (sym own) (frame_passes fits.0 f fits.1).1 in
@@ -166,7 +174,8 @@ quad_at_in_reach f passes k n p quads q fits own within here in_pass there there
 pub few_passes : (f : CompositorFrame) → FitsFile f → length f.passes ≤ 16
 few_passes f fits = (frame_passes fits.0 f fits.1).0
 
-zero_sized : (x y w h : ℤ) → x ≡ pos 0 → y ≡ pos 0 → w ≡ pos 0 → h ≡ pos 0 → with_sides (pos 0) (pos 0) w h ≡ sized (record { w = w; h = h })
+zero_sized : (x y w h : ℤ) → x ≡ pos 0 → y ≡ pos 0 → w ≡ pos 0 → h ≡ pos 0
+    → with_sides (pos 0) (pos 0) w h ≡ sized (record { w = w; h = h })
 unfolding with_sides
 zero_sized x y w h a b c d = rw (c, d)
 
@@ -209,7 +218,8 @@ sized_sides r w h =
 
 pub is_sized : (r : Rectangle) → fits_rect r ≡ true → IsSized r
 is_sized r fits =
-    elim (or_cases (is_zero r.x && is_zero r.y && is_zero r.w && is_zero r.h) (in_reach r.x && in_reach r.y && is_side r.w && is_side r.h) fits) [
+    elim (or_cases (is_zero r.x && is_zero r.y && is_zero r.w && is_zero r.h)
+    (in_reach r.x && in_reach r.y && is_side r.w && is_side r.h) fits) [
       | inl none ↦
           let e = four (is_zero r.x) (is_zero r.y) (is_zero r.w) (is_zero r.h) none in
           sized_zero r (zero_is r.x e.0) (zero_is r.y e.1) (zero_is r.w e.2) (zero_is r.h e.3)

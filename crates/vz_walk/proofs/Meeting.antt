@@ -4,12 +4,12 @@ use Rattle.std.proofs.lemmas.List.{append-nil}
 use Rattle.vz_rules.specs.Walk.{Visit}
 use Rattle.vz_walk.specs.Meeting.{IsStopped, Meets}
 
-module _ {V : Type 0} (met stopped : V → List Visit → Type 0) where
+module _ {V : Type 0} (met : V → V → List Visit → Type 0) (stopped : V → List Visit → Type 0) where
   -- nothing is met
   pub met_none : (v : V) → Meets met stopped true v v []
   met_none v = record {
-    all = λ before e h. subst (met v) (sym (append-nil before)) h;
-    some = λ before e h. absurd (cc);
+    all = λ first before e h. subst (met first v) (sym (append-nil before)) h;
+    some = λ first before e h. absurd (cc);
   }
 
   -- some visits are those visits
@@ -27,15 +27,17 @@ module _ {V : Type 0} (met stopped : V → List Visit → Type 0) where
   -- the walk ends with some visits, and others would follow
   pub met_some : (r : Bool) (a b : V) (xs ys : List Visit) → r ≡ false → Meets met stopped r a b xs → Meets met stopped false a b (xs ++ ys)
   met_some r a b xs ys off h = record {
-    all = λ before e p. absurd (cc);
-    some = λ before e p. more b before xs ys (h.some before off p);
+    all = λ first before e p. absurd (cc);
+    some = λ first before e p. more b before xs ys (h.some first before off p);
   }
 
   -- the walk goes on behind some visits, and others follow
-  pub met_then : (r s : Bool) (a b c : V) (xs ys : List Visit) → r ≡ true → Meets met stopped r a b xs → Meets met stopped s b c ys → Meets met stopped s a c (xs ++ ys)
+  pub met_then : (r s : Bool) (a b c : V) (xs ys : List Visit) → r ≡ true → Meets met stopped r a b xs → Meets met stopped s b c ys
+      → Meets met stopped s a c (xs ++ ys)
   met_then r s a b c xs ys on h k = record {
-    all = λ before e p. subst (met c) (append_assoc before xs ys) (k.all (before ++ xs) e (h.all before on p));
-    some = λ before e p. subst (IsStopped stopped c) (append_assoc before xs ys) (k.some (before ++ xs) e (h.all before on p));
+    all = λ first before e p. subst (met first c) (append_assoc before xs ys) (k.all first (before ++ xs) e (h.all first before on p));
+    some = λ first before e p. subst (IsStopped stopped c) (append_assoc before xs ys) (k.some first (before ++ xs) e
+        (h.all first before on p));
   }
 
   -- they were all

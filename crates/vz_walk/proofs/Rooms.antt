@@ -55,8 +55,11 @@ unfolding with_sides
 display_sized size h = rw (not_less size.w (pos 1) h.wide, not_less size.h (pos 1) h.high)
 
 -- what a quad draws has room for the passes before and all surfaces that are left
-pub drawn_room : (levels pass : ℕ) (place : Placement) (quad : DrawQuad) → HasRoom (room_for levels (pass + 1)) place.shift → IsQuadInReach quad
+pub drawn_room : (levels pass : ℕ) (place : Placement) (quad : DrawQuad) → HasRoom (room_for levels (pass + 1)) place.shift
+    → IsQuadInReach quad
     → HasRoom (room_for levels pass + coordinates 1) (plus (plus place.shift quad.offset) (corner quad.area))
 drawn_room levels pass place quad h is =
-    let moved = room_plus (room_for levels (pass + 1)) (room_for levels pass + coordinates 2) place.shift quad.offset h is.moves (omega arith) in
-    room_plus (room_for levels pass + coordinates 2) (room_for levels pass + coordinates 1) (plus place.shift quad.offset) (corner quad.area) moved is.drawn.first (omega arith)
+    let moved = room_plus (room_for levels (pass + 1)) (room_for levels pass + coordinates 2) place.shift quad.offset h is.moves
+    (omega arith) in
+    room_plus (room_for levels pass + coordinates 2) (room_for levels pass + coordinates 1) (plus place.shift quad.offset)
+    (corner quad.area) moved is.drawn.first (omega arith)

@@ -22,7 +22,8 @@ seen_fits st i keeps c =
     (_, whole.frame)
 
 -- what a range shows
-pub shown_fits : (st : Stored) (range : SurfaceRange) (i : FrameData) → KeepsFrames st → shown_frame (seen_frames st) range ≡ Some i → FitsFile i.frame
+pub shown_fits : (st : Stored) (range : SurfaceRange) (i : FrameData) → KeepsFrames st → shown_frame (seen_frames st) range ≡ Some i
+    → FitsFile i.frame
 shown_fits st range i keeps e = seen_fits st i keeps (shown_in (seen_frames st) range i e)
 
 -- what is on a surface

@@ -1,6 +1,6 @@
 -- The part of a rectangle that is inside a frame's size.
-use Rattle.std.proofs.Common.{◌≡◌, ℤ, pos, ◌+ℤ◌, ◌-ℤ◌, ◌≤ℤ◌, int_lt, Bool, true, false, ◌||◌, Option, Some, None, refl, subst, sym, ap, ◌∙◌, arith, if◌then◌else◌}
-use Rattle.std.specs.Int.{int_min, int_max}
+use Rattle.std.proofs.Common.{◌≡◌, ℤ, pos, ◌+ℤ◌, ◌≤ℤ◌, int_lt, Bool, true, false, ◌||◌, Option, Some, None, refl, arith, if◌then◌else◌}
+use Rattle.std.specs.Int.{int_max}
 use Rattle.std.proofs.lemmas.Int.{ints, clamps}
 use Rattle.vz_geom.specs.declared.Size.{Size}
 use Rattle.vz_geom.specs.Rectangle.{Rectangle, no_rectangle, with_sides, meet, sized, shared}
@@ -8,7 +8,7 @@ use Rattle.vz_frame.specs.declared.frame.CompositorFrame.{CompositorFrame}
 use Rattle.vz_frame.specs.declared.frame.RenderPass.{RenderPass}
 use Rattle.vz_frame.specs.Frame.{root_pass, frame_size}
 use Rattle.vz_walk.specs.Limits.{FitsFile, IsInReach}
-use Rattle.vz_walk.proofs.Fitting.{IsSized, is_sized, root_output_fits}
+use Rattle.vz_walk.proofs.Fitting.{is_sized, root_output_fits}
 
 -- no side is negative or greater than a frame may have
 pub record IsFrameSize (size : Size) : Type 0 where
@@ -17,8 +17,15 @@ pub record IsFrameSize (size : Size) : Type 0 where
   pub high : pos 0 ≤ℤ size.h
   pub not_too_high : size.h ≤ℤ pos 16384
 
-by_root : (f : CompositorFrame) (o : Option RenderPass) → FitsFile f → root_pass f ≡ o → IsFrameSize (elim o [ Some pass ↦ record { w = pass.output.w; h = pass.output.h } | None ↦ record { w = pos 0; h = pos 0 } ])
-by_root f None fits e = record { wide = omega (arith, ints); not_too_wide = omega (arith, ints); high = omega (arith, ints); not_too_high = omega (arith, ints) }
+by_root : (f : CompositorFrame) (o : Option RenderPass) → FitsFile f → root_pass f ≡ o
+    → IsFrameSize (elim o [ Some pass ↦ record { w = pass.output.w; h = pass.output.h } | None ↦ record { w = pos 0; h = pos 0 } ])
+by_root f None fits e = record {
+  wide = omega (arith, ints);
+  not_too_wide = omega (arith, ints);
+  high = omega
+      (arith, ints);
+  not_too_high = omega (arith, ints);
+}
 by_root f (Some p) fits e =
     let s = is_sized p.output (root_output_fits f p fits e) in
     record { wide = s.wide; not_too_wide = s.not_too_wide; high = s.high; not_too_high = s.not_too_high }
@@ -37,11 +44,13 @@ nothing_in_reach =
       bottom = omega (arith, ints);
     }
 
-sides_in_reach : (x y w h : ℤ) → (int_lt w (pos 1) ≡ false → int_lt h (pos 1) ≡ false → IsInReach (record { x = x; y = y; w = w; h = h })) → IsInReach (with_sides x y w h)
+sides_in_reach : (x y w h : ℤ) → (int_lt w (pos 1) ≡ false → int_lt h (pos 1) ≡ false
+    → IsInReach (record { x = x; y = y; w = w; h = h })) → IsInReach (with_sides x y w h)
 unfolding with_sides
 sides_in_reach x y w h is = by (int_lt w (pos 1)) (int_lt h (pos 1)) refl refl
   where
-    by : (s t : Bool) → int_lt w (pos 1) ≡ s → int_lt h (pos 1) ≡ t → IsInReach (if s || t then no_rectangle else record { x = x; y = y; w = w; h = h })
+    by : (s t : Bool) → int_lt w (pos 1) ≡ s → int_lt h (pos 1) ≡ t
+        → IsInReach (if s || t then no_rectangle else record { x = x; y = y; w = w; h = h })
     by true t e f = nothing_in_reach
     by false true e f = nothing_in_reach
     by false false e f = is e f
@@ -61,7 +70,13 @@ meet_in_reach size r is =
     let some = full wide e in
     let more = full high f in
     record {
-      first = record { left = omega (arith, ints, clamps); right = omega (arith, ints, clamps); top = omega (arith, ints, clamps); bottom = omega (arith, ints, clamps) };
+      first = record {
+        left = omega (arith, ints, clamps);
+        right = omega (arith, ints, clamps);
+        top = omega
+            (arith, ints, clamps);
+        bottom = omega (arith, ints, clamps);
+      };
       wide = omega (arith, ints, clamps);
       high = omega (arith, ints, clamps);
       right = omega (arith, ints, clamps);

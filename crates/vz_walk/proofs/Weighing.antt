@@ -1,5 +1,6 @@
 -- Weights, as one visit more is met.
-use Rattle.std.proofs.Common.{◌≡◌, ℕ, ◌+◌, ◌<◌, ◌≤◌, Bool, true, false, ◌||◌, nat_lt, nat_le, cond, not, List, [], ◌∷◌, ◌++◌, refl, subst, sym, ap, ◌∙◌, arith}
+use Rattle.std.proofs.Common.{◌≡◌, ℕ, ◌+◌, ◌<◌, ◌≤◌, Bool, true, false, ◌||◌, nat_lt, nat_le, cond, not, List, [], ◌∷◌, ◌++◌, refl, subst}
+use Rattle.std.proofs.Common.{sym, ap, ◌∙◌, arith}
 use Rattle.std.specs.List.{list_any}
 use Rattle.std.proofs.lemmas.Bool.Decides.{nat_tests}
 use Rattle.std.proofs.lemmas.List.{append-nil}
@@ -52,7 +53,8 @@ weighed_quad n xs few h =
     let count : n + 1 ≡ weight (xs ++ Quad ∷ []) = ap (λ m. m + 1) h.quads ∙ sym (one_quad xs) in
     record {
       quads = count;
-      few = light (weight (xs ++ Quad ∷ [])) (list_any is_deep (xs ++ Quad ∷ [])) (let same = h.quads in omega (arith, count, few)) (still xs Quad refl (or_parts _ _ h.few).1);
+      few = light (weight (xs ++ Quad ∷ [])) (list_any is_deep (xs ++ Quad ∷ [])) (let same = h.quads in omega (arith, count, few))
+          (still xs Quad refl (or_parts _ _ h.few).1);
     }
 
 -- and at the limit
@@ -73,20 +75,23 @@ no_quad xs x e = weight_append xs (x ∷ []) ∙ (ap (λ n. weight xs + n) (none
     same n = omega arith
 
 -- a visit that is no quad and not deep
-pub weighed_other : (n : ℕ) (xs : List Visit) (x : Visit) → is_quad x ≡ false → is_deep x ≡ false → IsWeighed n xs → IsWeighed n (xs ++ x ∷ [])
+pub weighed_other : (n : ℕ) (xs : List Visit) (x : Visit) → is_quad x ≡ false → is_deep x ≡ false → IsWeighed n xs
+    → IsWeighed n (xs ++ x ∷ [])
 unfolding too_much
 weighed_other n xs x e f h =
     record {
       quads = h.quads ∙ sym (no_quad xs x e);
       few = ap (λ m. nat_lt 65536 m || list_any is_deep (xs ++ x ∷ [])) (no_quad xs x e)
-          ∙ (ap (λ t. nat_lt 65536 (weight xs) || t) (still xs x f (or_parts _ _ h.few).1 ∙ sym (or_parts (nat_lt 65536 (weight xs)) _ h.few).1) ∙ h.few);
+          ∙ (ap (λ t. nat_lt 65536 (weight xs) || t) (still xs x f (or_parts _ _ h.few).1
+          ∙ sym (or_parts (nat_lt 65536 (weight xs)) _ h.few).1) ∙ h.few);
     }
 
 -- one that is deep
 pub heavy_deep : (xs : List Visit) (x : Visit) → is_deep x ≡ true → IsHeavy (xs ++ x ∷ [])
 unfolding too_much
 heavy_deep xs x e =
-    ap (λ t. nat_lt 65536 (weight (xs ++ x ∷ [])) || t) (list_any-append is_deep xs (x ∷ []) ∙ (ap (λ t. list_any is_deep xs || (t || false)) e ∙ or_true (list_any is_deep xs)))
+    ap (λ t. nat_lt 65536 (weight (xs ++ x ∷ [])) || t) (list_any-append is_deep xs (x ∷ [])
+    ∙ (ap (λ t. list_any is_deep xs || (t || false)) e ∙ or_true (list_any is_deep xs)))
     ∙ or_true (nat_lt 65536 (weight (xs ++ x ∷ [])))
 
 or_front : (a b c d : Bool) → (a ≡ true → c ≡ true) → (b ≡ true → d ≡ true) → (a || b) ≡ true → (c || d) ≡ true
@@ -102,7 +107,8 @@ pub heavy_front : (xs ys all : List Visit) → xs ++ ys ≡ all → IsHeavy xs �
 unfolding too_much
 heavy_front xs ys all e h =
     ap (λ l. nat_lt 65536 (weight l) || list_any is_deep l) (sym e)
-    ∙ or_front _ _ _ _ (λ k. ap (nat_lt 65536) (weight_append xs ys) ∙ heavier (weight xs) (weight ys) k) (λ k. list_any-append is_deep xs ys ∙ ap (λ t. t || list_any is_deep ys) k) h
+    ∙ or_front _ _ _ _ (λ k. ap (nat_lt 65536) (weight_append xs ys)
+    ∙ heavier (weight xs) (weight ys) k) (λ k. list_any-append is_deep xs ys ∙ ap (λ t. t || list_any is_deep ys) k) h
 
 -- A weigher
 
@@ -110,8 +116,8 @@ pub deep_enough : (depth : ℕ) → nat_le depth 64 ≡ not (nat_lt 64 depth)
 deep_enough depth = grind (arith, nat_tests)
 
 module _ {V : Type 0} (quads : V → ℕ) where
-  abbrev Has : V → List Visit → Type 0
-  Has v visits = IsWeighed (quads v) visits
+  abbrev Has : V → V → List Visit → Type 0
+  Has first v visits = IsWeighed (quads v) visits
 
   abbrev Stops : V → List Visit → Type 0
   Stops v visits = IsHeavy visits
@@ -119,22 +125,34 @@ module _ {V : Type 0} (quads : V → ℕ) where
   -- it counts a quad
   pub counts : (old new : V) → quads old < 65536 → quads new ≡ quads old + 1 → Meets Has Stops true old new (Quad ∷ [])
   counts old new few e = record {
-    all = λ before on h. subst (λ n. IsWeighed n (before ++ Quad ∷ [])) (sym e) (weighed_quad (quads old) before few h);
-    some = λ before off h. absurd (cc);
+    all = λ first before on h. subst (λ n. IsWeighed n (before ++ Quad ∷ [])) (sym e) (weighed_quad (quads old) before few h);
+    some = λ first before off h. absurd (cc);
   }
 
   -- it stops at a quad
   pub stops_at : (old new : V) → 65536 ≤ quads old → Meets Has Stops false old new (Quad ∷ [])
   stops_at old new many = record {
-    all = λ before on h. absurd (cc);
-    some = λ before off h. record { front = before ++ Quad ∷ []; back = []; splits = append-nil (before ++ Quad ∷ []); there = heavy_quad (quads old) before many h };
+    all = λ first before on h. absurd (cc);
+    some = λ first before off h. record {
+      front = before ++ Quad ∷ [];
+      back = [];
+      splits = append-nil
+          (before ++ Quad ∷ []);
+      there = heavy_quad (quads old) before many h;
+    };
   }
 
   -- a range counts nothing, nor does a surface
   pub passes : (r : Bool) (v : V) (x : Visit) → is_quad x ≡ false → r ≡ not (is_deep x) → Meets Has Stops r v v (x ∷ [])
   passes r v x other e = record {
-    all = λ before on h. weighed_other (quads v) before x other (not_true (is_deep x) (sym e ∙ on)) h;
-    some = λ before off h. record { front = before ++ x ∷ []; back = []; splits = append-nil (before ++ x ∷ []); there = heavy_deep before x (not_false (is_deep x) (sym e ∙ off)) };
+    all = λ first before on h. weighed_other (quads v) before x other (not_true (is_deep x) (sym e ∙ on)) h;
+    some = λ first before off h. record {
+      front = before ++ x ∷ [];
+      back = [];
+      splits = append-nil
+          (before ++ x ∷ []);
+      there = heavy_deep before x (not_false (is_deep x) (sym e ∙ off));
+    };
   }
     where
       not_true : (t : Bool) → not t ≡ true → t ≡ false
@@ -147,10 +165,10 @@ module _ {V : Type 0} (quads : V → ℕ) where
 
   -- the weight of all
   pub weighs : (old new : V) (all : List Visit) → quads old ≡ 0 → Meets Has Stops true old new all → IsWeighed (quads new) all
-  weighs old new all e h = h.all [] refl (subst (λ n. IsWeighed n []) (sym e) weighed_none)
+  weighs old new all e h = h.all old [] refl (subst (λ n. IsWeighed n []) (sym e) weighed_none)
 
   -- too much
   pub is_heavy : (old new : V) (all : List Visit) → quads old ≡ 0 → Meets Has Stops false old new all → too_much all ≡ true
   is_heavy old new all e h =
-      let s = h.some [] refl (subst (λ n. IsWeighed n []) (sym e) weighed_none) in
+      let s = h.some old [] refl (subst (λ n. IsWeighed n []) (sym e) weighed_none) in
       heavy_front s.front s.back all s.splits s.there

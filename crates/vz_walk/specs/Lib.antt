@@ -1,4 +1,5 @@
 pub mod Limits
 pub mod Meeting
 pub mod Walking
+pub mod Scenes
 pub mod Weighing

@@ -9,7 +9,9 @@ pub record IsStopped {V : Type 0} (has_stopped : V → List Visit → Type 0) (v
   pub splits : front ++ back ≡ visits
   pub there : has_stopped visitor front
 
--- a visitor meets these visits beside those that it had met, where the walk goes on, and it stopped among them where not
-pub record Meets {V : Type 0} (has_met has_stopped : V → List Visit → Type 0) (goes_on : Bool) (old new : V) (visits : List Visit) : Type 0 where
-  pub all : (before : List Visit) → goes_on ≡ true → has_met old before → has_met new (before ++ visits)
-  pub some : (before : List Visit) → goes_on ≡ false → has_met old before → IsStopped has_stopped new (before ++ visits)
+-- a visitor, which was the first one at the start, meets these visits beside those that it had met, where the walk goes on, and
+-- where not it stopped among them
+pub record Meets {V : Type 0} (has_met : V → V → List Visit → Type 0) (has_stopped : V → List Visit
+    → Type 0) (goes_on : Bool) (old new : V) (visits : List Visit) : Type 0 where
+  pub all : (first : V) (before : List Visit) → goes_on ≡ true → has_met first old before → has_met first new (before ++ visits)
+  pub some : (first : V) (before : List Visit) → goes_on ≡ false → has_met first old before → IsStopped has_stopped new (before ++ visits)

@@ -58,7 +58,8 @@ pass_of it k place = pass_in (ranges_of it) it.frame.passes k place (slice_get i
 -- what is met in a pass, seen as a group from a place
 abbrev pub group_in : WalkRange → List RenderPass → ℕ → Placement → Option RenderPass → List Visit
 group_in ranges passes k place None = []
-group_in ranges passes k place (Some pass) = pass_in ranges passes k (record place { shift = minus place.shift (corner pass.output) }) (Some pass)
+group_in ranges passes k place (Some pass) = pass_in ranges passes k (record place { shift = minus place.shift (corner pass.output) })
+    (Some pass)
 
 -- what is met in the pass at a place, if one is given, as a group
 abbrev pub group_at : WalkRange → List RenderPass → Placement → Option ℕ → List Visit
@@ -67,4 +68,8 @@ group_at ranges passes place (Some k) = group_in ranges passes k place (slice_ge
 
 -- what is met of a surface that a range shows here, nothing where it is on the path
 abbrev pub shown_at : Stand → FrameData → Placement → List Visit
-shown_at it i place = elim (on_path it.path i) [ true ↦ [] | false ↦ Enters (length it.path + 1) i place ∷ walk it.levels it.active it.path i place ]
+shown_at it i place = elim (on_path it.path i) [
+  | true ↦ []
+  | false ↦ Enters
+      (length it.path + 1) i place ∷ walk it.levels it.active it.path i place
+]

@@ -11,10 +11,11 @@ use vz_surfaces::Seen;
 
 /// Is told of each visit of a walk, in order, and answers whether the walk goes on.
 pub trait Visitor {
-    /// These visits were met so far, and each answer was to go on.
-    ghost has_met: { Self → List Visit → Type 0 };
+    /// A visitor, which was the first one at the start, has met these visits so far, and each
+    /// answer was to go on.
+    ghost has_met: { Self → Self → List Visit → Type 0 };
 
-    /// These visits were met so far, and the last answer was to stop.
+    /// A visitor has met these visits so far, and the last answer was to stop.
     ghost has_stopped: { Self → List Visit → Type 0 };
 
     /// A quad is met.
@@ -27,8 +28,8 @@ pub trait Visitor {
         ensures { Meets has_met has_stopped result self.old self.new
             (Shows range.now shown.now seen.now ∷ []) };
 
-    /// The walk goes into a surface, which is then the so manieth of its path and stands at this place.
-    /// Conditions: its frame fits a message file, and the place is not far out.
+    /// The walk goes into a surface: how many surfaces are then on the path, its frame and its place.
+    /// Conditions: the frame fits a message file, and the place is not far out.
     fn enters(&mut self, depth: u32, frame: &Seen<'_>, place: &Place) -> bool
         requires fits { FitsFile frame.now.frame }
         requires room { HasRoom 0 place.now.shift }

@@ -1,15 +1,15 @@
 //! The walk over a store, quad by quad, along the definitions.
-ghost use Rattle.std.specs.Prelude.{◌≡◌, ◌≤◌, ◌<◌, ◌+◌, length, reverse, take, false, IfSome};
+ghost use Rattle.std.specs.Prelude.{◌≡◌, ◌≤◌, ◌<◌, ◌+◌, length, reverse, take, IfSome};
 ghost use Rattle.vz_geom.specs.Display.{IsDisplaySize};
-ghost use Rattle.vz_rules.specs.Paint.{on_path};
-ghost use Rattle.vz_rules.specs.Walk.{Placement, WalkRange, walk, walk_of, place_in, groups_walked};
-ghost use Rattle.vz_rules.specs.Walk.{range_walked};
+ghost use Rattle.vz_rules.specs.Walk.{Placement, WalkRange, walk, groups_walked};
 ghost use Rattle.vz_surfaces.specs.Reading.{seen_frames};
 ghost use Rattle.vz_surfaces.specs.Keeping.{KeepsStored, KeepsFrames};
 ghost use Rattle.vz_walk.specs.Limits.{FitsFile, HasRoom, IsPassInReach, IsQuadInReach};
 ghost use Rattle.vz_walk.specs.Limits.{coordinates, room_for};
 ghost use Rattle.vz_walk.specs.Meeting.{Meets};
-ghost use Rattle.vz_walk.specs.Walking.{ids, ranges_of, named_of, quad_of, pass_of, group_at, shown_at};
+ghost use Rattle.vz_walk.specs.Scenes.{walked_in};
+ghost use Rattle.vz_walk.specs.Walking.{ids, ranges_of, named_of, quad_of, pass_of, group_at};
+ghost use Rattle.vz_walk.specs.Walking.{shown_at};
 
 use crate::path::Path;
 use crate::place::Place;
@@ -220,7 +220,7 @@ pub fn walk<V: Visitor>(store: &Store, root: &SurfaceId, size: Size, visitor: &m
     requires frames { KeepsFrames store.now }
     requires size { IsDisplaySize size }
     ensures { Meets V.has_met V.has_stopped result visitor.old visitor.new
-        (walk_of size (record { root = root.now; active = seen_frames store.now })) }
+        (walked_in size root.now store.now) }
 {
     match store.frame_on(root) {
         None => true,

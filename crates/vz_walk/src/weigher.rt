@@ -1,9 +1,8 @@
 //! The weight of what is on a root.
-ghost use Rattle.std.specs.Prelude.{◌≡◌, MatchOption, true, false};
 ghost use Rattle.vz_geom.specs.declared.Size.{Size as AnySize};
-ghost use Rattle.vz_rules.specs.Walk.{walk_of, weight, too_much};
-ghost use Rattle.vz_surfaces.specs.Reading.{seen_frames};
 ghost use Rattle.vz_surfaces.specs.Keeping.{KeepsStored, KeepsFrames};
+ghost use Rattle.vz_walk.specs.Scenes.{walked_in};
+ghost use Rattle.vz_walk.specs.Weighing.{IsWeightOf};
 
 use crate::place::Place;
 use crate::visitor::Visitor;
@@ -22,7 +21,7 @@ struct Weigher {
 impl Visitor for Weigher {
     ghost use Rattle.vz_walk.specs.Weighing.{IsWeighed, IsHeavy};
 
-    ghost has_met = { λ w visits. IsWeighed w.quads visits };
+    ghost has_met = { λ _ w visits. IsWeighed w.quads visits };
 
     ghost has_stopped = { λ w visits. IsHeavy visits };
 
@@ -50,10 +49,7 @@ impl Visitor for Weigher {
 pub fn weight(store: &Store, root: &SurfaceId) -> Option<u32>
     requires keeps { KeepsStored store.now }
     requires frames { KeepsFrames store.now }
-    ensures { (size : AnySize) → MatchOption result
-        (too_much (walk_of size (record { root = root.now; active = seen_frames store.now })) ≡ true)
-        (λ n. (n ≡ weight (walk_of size (record { root = root.now; active = seen_frames store.now })))
-        × (too_much (walk_of size (record { root = root.now; active = seen_frames store.now })) ≡ false)) }
+    ensures { (size : AnySize) → IsWeightOf (walked_in size root.now store.now) result }
 {
     let mut weigher = Weigher { quads: 0 };
     if walk(store, root, Size { w: 1, h: 1 }, &mut weigher) {

@@ -10,4 +10,5 @@ returns c =
     let ok = c.requires in
     c.new.ensures.value
     ∙ (ap (λ (w : ℤ). with_sides (pos 0) (pos 0) w (to_z w32 (of_z w32 size.h))) (read size.w (omega (arith, ints)) (omega (arith, ints)))
-    ∙ (ap (λ (h : ℤ). with_sides (pos 0) (pos 0) size.w h) (read size.h (omega (arith, ints)) (omega (arith, ints))) ∙ display_sized size ok))
+    ∙ (ap (λ (h : ℤ). with_sides (pos 0) (pos 0) size.w h) (read size.h (omega (arith, ints)) (omega (arith, ints)))
+    ∙ display_sized size ok))

@@ -9,4 +9,5 @@ returns-clause-value c = c.intersect.ensures.value ∙ ap (λ (x : Rectangle). m
 
 pub returns-clause-reach : goal.returns-clause-reach
 returns-clause-reach c =
-    subst IsInReach (sym (c.intersect.ensures.value ∙ ap (λ (x : Rectangle). meet x c.args.r.now) c.frame_rect.ensures)) (meet_in_reach _ c.args.r.now (frame_sides c.args.frame.now c.requires))
+    subst IsInReach (sym (c.intersect.ensures.value ∙ ap (λ (x : Rectangle). meet x c.args.r.now) c.frame_rect.ensures))
+    (meet_in_reach _ c.args.r.now (frame_sides c.args.frame.now c.requires))

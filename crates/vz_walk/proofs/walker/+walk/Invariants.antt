@@ -29,4 +29,5 @@ decreases-Walker::pass g l = l.self.now.levels * wide + 8 * l.k + 5
 -- the quads so far are met
 abbrev pub invariant-Walker::pass-loop-quad : goal.invariant-Walker::pass-loop-quad
 invariant-Walker::pass-loop-quad g l =
-    Meets g.V.Visitor.has_met g.V.Visitor.has_stopped true l.initial.visitor l.visitor (flat_map (quad_of l.self l.k l.pass l.place) (take l.quad-index l.quad-items))
+    Meets g.V.Visitor.has_met g.V.Visitor.has_stopped true l.initial.visitor l.visitor (flat_map (quad_of l.self l.k l.pass l.place)
+    (take l.quad-index l.quad-items))

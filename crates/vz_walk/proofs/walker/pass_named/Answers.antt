@@ -20,8 +20,10 @@ loop-k-preserved c =
     let other : ((get_or c.args.passes.now (k - 1) d).id == c.args.id) ≡ false = let h = c.if-passes-k.false in grind (arith, nat_tests) in
     record {
       within = omega arith;
-      over = λ ranges place. c.loop-k.invariant.over ranges place ∙ group_over ranges c.args.passes.now k (k - 1) c.args.id d place (omega arith) (omega arith) other;
+      over = λ ranges place. c.loop-k.invariant.over ranges place
+          ∙ group_over ranges c.args.passes.now k (k - 1) c.args.id d place (omega arith) (omega arith) other;
     }
 
 pub returns-clause-found : goal.returns-clause-found
-returns-clause-found c = λ ranges place. c.loop-k.invariant.over ranges place ∙ group_none ranges c.args.passes.now c.loop-k.k c.args.id place (omega arith)
+returns-clause-found c = λ ranges place. c.loop-k.invariant.over ranges place
+    ∙ group_none ranges c.args.passes.now c.loop-k.k c.args.id place (omega arith)

@@ -7,7 +7,8 @@ abbrev pub invariant-loop-k : goal.invariant-loop-k
 invariant-loop-k l =
     record {
       within : l.k ≤ l.before;
-      over : (ranges : WalkRange) (place : Placement) → groups_walked ranges (reverse (take l.before l.passes)) l.id place ≡ groups_walked ranges (reverse (take l.k l.passes)) l.id place;
+      over : (ranges : WalkRange) (place : Placement) → groups_walked ranges (reverse
+          (take l.before l.passes)) l.id place ≡ groups_walked ranges (reverse (take l.k l.passes)) l.id place;
     }
 
 abbrev pub decreases-loop-k : goal.decreases-loop-k

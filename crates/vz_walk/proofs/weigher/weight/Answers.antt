@@ -15,8 +15,13 @@ returns-then-walk c = λ size.
     let scene : Scene = record { root = c.args.root.now; active = seen_frames c.args.store.now } in
     let start : Weigher = record { quads = 0 } in
     let h = weighs (λ (w : Weigher). w.quads) start c.walk.new.visitor (walk_of (record { w = pos 1; h = pos 1 }) scene) refl
-    (subst (λ t. Meets (λ (w : Weigher) visits. IsWeighed w.quads visits) (λ (w : Weigher) visits. IsHeavy visits) t start c.walk.new.visitor (walk_of (record { w = pos 1; h = pos 1 }) scene)) c.if-walk.true c.walk.ensures) in
-    (h.quads ∙ same_weight (record { w = pos 1; h = pos 1 }) size scene, sym (same_much (record { w = pos 1; h = pos 1 }) size scene) ∙ h.few)
+    (subst (λ t. Meets (λ (first w : Weigher) visits. IsWeighed w.quads visits) (λ
+    (w : Weigher) visits. IsHeavy visits) t start c.walk.new.visitor (walk_of
+    (record { w = pos 1; h = pos 1 }) scene)) c.if-walk.true c.walk.ensures) in (
+      h.quads ∙ same_weight (record { w = pos 1; h = pos 1 }) size scene,
+      sym (same_much (record { w = pos 1; h = pos 1 }) size scene)
+          ∙ h.few,
+    )
 
 pub returns-else-walk : goal.returns-else-walk
 returns-else-walk c = λ size.
@@ -24,4 +29,6 @@ returns-else-walk c = λ size.
     let start : Weigher = record { quads = 0 } in
     sym (same_much (record { w = pos 1; h = pos 1 }) size scene)
     ∙ is_heavy (λ (w : Weigher). w.quads) start c.walk.new.visitor (walk_of (record { w = pos 1; h = pos 1 }) scene) refl
-    (subst (λ t. Meets (λ (w : Weigher) visits. IsWeighed w.quads visits) (λ (w : Weigher) visits. IsHeavy visits) t start c.walk.new.visitor (walk_of (record { w = pos 1; h = pos 1 }) scene)) c.if-walk.false c.walk.ensures)
+    (subst (λ t. Meets (λ (first w : Weigher) visits. IsWeighed w.quads visits) (λ
+    (w : Weigher) visits. IsHeavy visits) t start c.walk.new.visitor (walk_of
+    (record { w = pos 1; h = pos 1 }) scene)) c.if-walk.false c.walk.ensures)

@@ -1,13 +1,6 @@
-use Rattle.std.proofs.Common.{ap, sym, ◌∙◌}
+use Rattle.std.proofs.Common.{ap, ◌∙◌}
 use Rattle.vz_damage.specs.Told.{told_on, damage_in}
-use Rattle.vz_damage.proofs.Looking.{looked}
-use Rattle.vz_damage.proofs.Joining.{nothing}
 use Rattle.vz_damage.proofs.damage.Damage.since.Goals as goal
 
-pub returns-in-Some : goal.returns-in-Some
-returns-in-Some c =
-    c.damage.ensures ∙ ap damage_in (c.in-Some.ensures.value ∙ sym (looked c.self.inside.surfaces.entries c.args.id.now)) ∙ ap (λ v. damage_in (told_on v.surfaces c.args.id.now)) c.self.view_is
-
-pub returns-in-None : goal.returns-in-None
-returns-in-None c =
-    c.new.ensures.value ∙ nothing ∙ ap damage_in (c.in-None.ensures.value ∙ sym (looked c.self.inside.surfaces.entries c.args.id.now)) ∙ ap (λ v. damage_in (told_on v.surfaces c.args.id.now)) c.self.view_is
+pub returns : goal.returns
+returns c = c.damage_of.ensures ∙ ap (λ v. damage_in (told_on v.surfaces c.args.id.now)) c.self.view_is

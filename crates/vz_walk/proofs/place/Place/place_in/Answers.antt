@@ -9,4 +9,5 @@ plus-requires-clause-room c =
     let shift = c.self.inside.shift in
     let offset = c.args.quad.now.offset in
     point_room (coordinates 1) c.plus-by.result (plus shift offset) c.plus-by.ensures
-    (room_plus (coordinates 2) (coordinates 1) shift offset (place_room (coordinates 2) _ c.args.self.now c.self.view_is c.requires.room) c.requires.quad.moves (omega arith))
+    (room_plus (coordinates 2) (coordinates 1) shift offset (place_room
+    (coordinates 2) _ c.args.self.now c.self.view_is c.requires.room) c.requires.quad.moves (omega arith))

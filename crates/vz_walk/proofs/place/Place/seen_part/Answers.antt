@@ -9,4 +9,5 @@ moved-visible-requires-clause-room c =
     let shift = c.self.inside.shift in
     let offset = c.args.quad.now.offset in
     point_room 0 c.plus.result (plus shift offset) c.plus.ensures
-    (room_plus (coordinates 1) 0 shift offset (place_room (coordinates 1) _ c.args.self.now c.self.view_is c.requires.room) c.requires.quad.moves (omega arith))
+    (room_plus (coordinates 1) 0 shift offset (place_room (coordinates 1) _ c.args.self.now c.self.view_is c.requires.room)
+    c.requires.quad.moves (omega arith))

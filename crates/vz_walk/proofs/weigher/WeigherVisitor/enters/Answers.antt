@@ -5,4 +5,5 @@ use Rattle.vz_walk.proofs.Weighing.{passes, deep_enough}
 use Rattle.vz_walk.proofs.weigher.WeigherVisitor.enters.Goals as goal
 
 pub returns : goal.returns
-returns c = passes (λ (w : Weigher). w.quads) (nat_le c.args.depth 64) c.args.self.now (Enters c.args.depth c.args.arg3.now c.args.arg4.now) refl (deep_enough c.args.depth)
+returns c = passes (λ (w : Weigher). w.quads) (nat_le c.args.depth 64) c.args.self.now
+    (Enters c.args.depth c.args.arg3.now c.args.arg4.now) refl (deep_enough c.args.depth)

@@ -7,4 +7,5 @@ pub returns-then-self-ge-MOST_WEIGHT : goal.returns-then-self-ge-MOST_WEIGHT
 returns-then-self-ge-MOST_WEIGHT c = stops_at (λ (w : Weigher). w.quads) c.args.self.now c.args.self.now c.if-self-ge-MOST_WEIGHT.true
 
 pub returns : goal.returns
-returns c = counts (λ (w : Weigher). w.quads) c.args.self.now (record { quads = c.args.self.now.quads + 1 }) c.if-self-ge-MOST_WEIGHT.false refl
+returns c = counts (λ (w : Weigher). w.quads) c.args.self.now
+    (record { quads = c.args.self.now.quads + 1 }) c.if-self-ge-MOST_WEIGHT.false refl
