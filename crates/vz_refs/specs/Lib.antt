@@ -1,3 +1,5 @@
 pub mod Referring
 pub mod Indexing
+pub mod Seated
+pub mod Lasting
 pub mod Meaning
