@@ -24,15 +24,6 @@ from_name a b h =
 pub self_name : (a : Name) → same_name a a ≡ true
 self_name a = two_true _ _ (eqb_self a.until) (eqb_self a.number)
 
--- the size of a group that was written
-pub sized : (t : Bool) (n : ℕ) (o : Option ℕ) → or_zero (cond t (Some n) o) ≡ cond t n (or_zero o)
-sized true n o = refl
-sized false n o = refl
-
-pub sized_left : (t : Bool) (o : Option ℕ) → or_zero (cond t o None) ≡ cond t (or_zero o) 0
-sized_left true o = refl
-sized_left false o = refl
-
 -- the test for the same name is an equivalence
 pub name_laws : IsEquivalence same_name
 name_laws = record {

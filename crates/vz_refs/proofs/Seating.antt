@@ -4,7 +4,7 @@ use Rattle.std.specs.Option.{option_map}
 use Rattle.std.proofs.lemmas.Bool.Decides.{nat_tests}
 use Rattle.vz_refs.specs.declared.sets.Group.{Group}
 use Rattle.vz_refs.specs.declared.sets.Place.{Place}
-use Rattle.vz_refs.specs.Indexing.{same_key, same_place}
+use Rattle.vz_refs.specs.Indexing.{or_zero, same_key, same_place}
 use Rattle.vz_refs.specs.Seated.{IsSeated}
 use Rattle.vz_refs.proofs.Same.{from_key, self_key, from_place, self_place, second_not}
 
@@ -29,6 +29,15 @@ below a z m e f g = grind (arith, nat_tests)
 
 unlike : (a z : ℕ) → a < z → (z == a) ≡ false
 unlike a z h = grind (arith, nat_tests)
+
+-- the size of a group that was written
+pub sized : (t : Bool) (n : ℕ) (o : Option ℕ) → or_zero (cond t (Some n) o) ≡ cond t n (or_zero o)
+sized true n o = refl
+sized false n o = refl
+
+pub sized_left : (t : Bool) (o : Option ℕ) → or_zero (cond t o None) ≡ cond t (or_zero o) 0
+sized_left true o = refl
+sized_left false o = refl
 
 -- what stands is the same where what is kept is
 pub seated_same : {K E : Type 0} (place : E → Place) (kept kept' : K → Option E) (at : Place → Option K) (size : Group → ℕ) → IsSeated place kept at size → ((q : K) → kept' q ≡ kept q) → IsSeated place kept' at size
@@ -106,8 +115,8 @@ module _ {K E : Type 0} (same : K → K → Bool) (from : (a b : K) → same a b
               ] refl)
         ] refl
 
-    pub one_more : IsSeated place kept' at' size'
-    one_more = record { placed = more_placed; held = more_held; filled = more_filled }
+    pub seat_more : IsSeated place kept' at' size'
+    seat_more = record { placed = more_placed; held = more_held; filled = more_filled }
 
   -- One fewer
 
@@ -239,8 +248,8 @@ module _ {K E : Type 0} (same : K → K → Bool) (from : (a b : K) → same a b
               ap is_some (ats p) ∙ ap (λ u. is_some (cond (same_place (place gone) p) (option_map (λ _. m) (cond u None (at p))) (cond u None (at p)))) off
               ∙ still (same_place (place gone) p) (at p) ∙ good.filled p h
 
-      pub one_fewer : IsSeated place kept' at' size'
-      one_fewer = record { placed = fewer_placed; held = fewer_held; filled = fewer_filled }
+      pub seat_fewer : IsSeated place kept' at' size'
+      seat_fewer = record { placed = fewer_placed; held = fewer_held; filled = fewer_filled }
 
       -- what stands at a place stood there, or behind it in the group
       pub stood : (p : Place) (q : K) → at' p ≡ Some q → (j : ℕ) × (p.at ≤ j) × (at (record p { at = j }) ≡ Some q)
@@ -284,7 +293,7 @@ module _ {K E : Type 0} (same : K → K → Bool) (from : (a b : K) → same a b
       last_in = ap (λ (g : Group). at (record { group = g; at = z })) (sym is) ∙ last
 
       pub one_fewer_in : IsSeated place kept' at' size'
-      one_fewer_in = one_fewer x gone was z (big ∙ ap size is) m last_in move moved kept' keeps_in at' ats_in size' sizes_in
+      one_fewer_in = seat_fewer x gone was z (big ∙ ap size is) m last_in move moved kept' keeps_in at' ats_in size' sizes_in
 
       pub stood_in : (p : Place) (q : K) → at' p ≡ Some q → (j : ℕ) × (p.at ≤ j) × (at (record p { at = j }) ≡ Some q)
       stood_in = stood x gone was z (big ∙ ap size is) m last_in move moved kept' keeps_in at' ats_in size' sizes_in
@@ -293,5 +302,5 @@ module _ {K E : Type 0} (same : K → K → Bool) (from : (a b : K) → same a b
       → (at' : Place → Option K) → ((p : Place) → at' p ≡ cond (same_place (record { group = g; at = (place put).at }) p) (Some x) (at p))
       → (size' : Group → ℕ) → ((h : Group) → size' h ≡ cond (same_key g h) ((place put).at + 1) (size h)) → IsSeated place kept' at' size'
   one_more_in x put g is new big kept' keeps at' ats size' sizes =
-      one_more x put new (big ∙ ap size is) kept' keeps at' (λ p. ats p ∙ ap (λ (g : Group). cond (same_place (record { group = g; at = (place put).at }) p) (Some x) (at p)) is)
+      seat_more x put new (big ∙ ap size is) kept' keeps at' (λ p. ats p ∙ ap (λ (g : Group). cond (same_place (record { group = g; at = (place put).at }) p) (Some x) (at p)) is)
       size' (λ h. sizes h ∙ ap (λ (g : Group). cond (same_key g h) ((place put).at + 1) (size h)) is)

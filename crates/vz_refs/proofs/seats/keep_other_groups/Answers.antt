@@ -4,7 +4,7 @@ use Rattle.indexmap.proofs.CallerLemmas.{filter-RetainsPairs}
 use Rattle.vz_ids.specs.Ids.{same_sink}
 use Rattle.vz_refs.specs.Indexing.{same_key, or_zero}
 use Rattle.vz_refs.proofs.Same.{from_key}
-use Rattle.vz_refs.proofs.Named.{sized_left}
+use Rattle.vz_refs.proofs.Seating.{sized_left}
 use Rattle.vz_refs.proofs.Groups.{by_key}
 use Rattle.vz_refs.proofs.seats.keep_other_groups.Goals as goal
 

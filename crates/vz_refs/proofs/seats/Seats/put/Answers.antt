@@ -4,8 +4,8 @@ use Rattle.vz_refs.specs.Lasting.{same_name, seat_of, kept_in, name_in, size_in}
 use Rattle.vz_refs.proofs.Same.{from_place, self_place}
 use Rattle.vz_refs.proofs.Keyed.{of_ok}
 use Rattle.vz_refs.proofs.Indexed.{no_more}
-use Rattle.vz_refs.proofs.Named.{from_name, self_name, sized}
-use Rattle.vz_refs.proofs.Seating.{one_more_in}
+use Rattle.vz_refs.proofs.Named.{from_name, self_name}
+use Rattle.vz_refs.proofs.Seating.{sized, one_more_in}
 use Rattle.vz_refs.proofs.seats.Seats.put.Goals as goal
 
 pub overflow_add-at : goal.overflow_add-at
