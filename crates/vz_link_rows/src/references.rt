@@ -219,6 +219,17 @@ impl Both {
         }
         Ok(true)
     }
+
+    /// The place of the first call that is not answered as it must be, counted from 0.
+    fn first_other(&mut self, calls: &[Call]) -> Result<Option<usize>, Memory> {
+        for place in 0..calls.len() {
+            let is_answered = self.is_answered(calls[place])?;
+            if !is_answered {
+                return Ok(Some(place));
+            }
+        }
+        Ok(None)
+    }
 }
 
 /// The ranges that end at the surfaces of these numbers.
@@ -272,17 +283,6 @@ fn are_same(ids: &[SurfaceId], others: &[SurfaceId]) -> bool {
     true
 }
 
-/// The place of the first call that is not answered as it must be, counted from 0.
-fn first_other(alloc: Global, calls: &[Call]) -> Result<Option<usize>, Memory> {
-    let mut both = Both::new(alloc);
-    for (place, call) in calls.iter().enumerate() {
-        if !both.is_answered(*call)? {
-            return Ok(Some(place));
-        }
-    }
-    Ok(None)
-}
-
 /// Up to three ranges.
 fn draw_ranges(alloc: Global, draws: &mut Draws) -> Result<Vec<SurfaceRange>, Memory> {
     let mut ranges = Vec::new(alloc);
@@ -312,24 +312,34 @@ impl Both {
         }
         Ok(true)
     }
+
+    /// The place of the first call of a drawn history at which the part and its twin differ.
+    fn first_apart(&mut self, draws: &mut Draws) -> Result<Option<u32>, Memory> {
+        for place in 0..CALLS {
+            let agree = self.make(place / 4, draws)?;
+            if !agree {
+                return Ok(Some(place));
+            }
+        }
+        Ok(None)
+    }
 }
 
-/// The place of the first call of a drawn history at which the part and its twin differ.
-fn first_apart(alloc: Global, draws: &mut Draws) -> Result<Option<u32>, Memory> {
-    let mut both = Both::new(alloc);
-    for place in 0..CALLS {
-        if !both.make(place / 4, draws)? {
-            return Ok(Some(place));
-        }
-    }
-    Ok(None)
+/// Plays a worked history from the start, as `first_other` does.
+fn play_worked(alloc: Global, calls: &[Call]) -> Result<Option<usize>, Memory> {
+    Both::new(alloc).first_other(calls)
+}
+
+/// Plays a drawn history from the start, as `first_apart` does.
+fn play_drawn(alloc: Global, draws: &mut Draws) -> Result<Option<u32>, Memory> {
+    Both::new(alloc).first_apart(draws)
 }
 
 /// Plays all of them and prints a line for each; whether all are as they must be.
 pub(crate) fn play(rt: &HostRuntime) -> Result<bool> {
     let mut well = true;
     for (name, calls) in WORKED {
-        match first_other(rt.alloc(), calls)? {
+        match play_worked(rt.alloc(), calls)? {
             None => println!(rt; "references {name} same")?,
             Some(place) => {
                 println!(rt; "references {name} differs at {place}")?;
@@ -339,7 +349,7 @@ pub(crate) fn play(rt: &HostRuntime) -> Result<bool> {
     }
     let mut draws = Draws::new(3);
     for history in 0..DRAWN {
-        match first_apart(rt.alloc(), &mut draws)? {
+        match play_drawn(rt.alloc(), &mut draws)? {
             None => println!(rt; "references drawn_{history} same")?,
             Some(place) => {
                 println!(rt; "references drawn_{history} differs at {place}")?;
