@@ -98,7 +98,12 @@ pub(crate) fn start(
 }
 
 /// Appends the temporary surfaces, each unless it is there.
-fn add_kept(sets: &Sets, kept: &IndexMap<Name, Kept>, places: &mut [usize], out: &mut Room<SurfaceId>)
+fn add_kept(
+    sets: &Sets,
+    kept: &IndexMap<Name, Kept>,
+    places: &mut [usize],
+    out: &mut Room<SurfaceId>,
+)
     requires noted { AreNoted sets.now.keys places.old out.old.list }
     requires room { length (adding same_surface out.old.list (map (λ t. t.id) (all_in kept.now.entries)))
         ≤ length out.old.list + out.old.spare }

@@ -14,7 +14,7 @@ ghost use Rattle.vz_refs.specs.Lasting.{same_name, kept_in, surface_in, name_in,
 
 use crate::indexes::{size_of, write};
 use crate::naming::names;
-use crate::sets::{group_of, Group, Place};
+use crate::sets::{Group, Place, group_of};
 use indexmap::IndexMap;
 use std::alloc::Global;
 use vz_base::Memory;
@@ -197,8 +197,9 @@ fn shrink(sizes: &mut IndexMap<Group, usize>, group: &Group) -> usize
 fn seat(kept: &mut IndexMap<Name, Kept>, name: &Name, at: usize)
     ensures kept { (n : NameOf) → lookup (same_name n) kept.new.entries
         ≡ cond (same_name name.now n)
-            (option_map (λ (k : KeptOf). record k { at = at }) (lookup (same_name n) kept.old.entries))
-            (lookup (same_name n) kept.old.entries) }
+        (option_map (λ (k : KeptOf). record k { at = at })
+        (lookup (same_name n) kept.old.entries))
+        (lookup (same_name n) kept.old.entries) }
     ensures spare { spare_of kept.old ≤ spare_of kept.new }
 {
     if let Some(one) = kept.get_mut(name) {
@@ -228,7 +229,8 @@ fn keep_other_places(names: &mut IndexMap<Place, Name>, sink: FrameSinkId)
 {
     names.retain(
         |place: &Place, _name: &mut Name| -> bool
-            ensures { (result ≡ not (same_sink place.now.group.sink sink)) × (_name.new ≡ _name.old) }
+            ensures { (result ≡ not (same_sink place.now.group.sink sink))
+                × (_name.new ≡ _name.old) }
         { place.group.sink != sink },
     );
 }

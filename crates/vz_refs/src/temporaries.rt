@@ -100,7 +100,8 @@ impl Temporaries {
 
     /// All of them, in no order, by their names.
     pub(crate) fn all(&self) -> &IndexMap<Name, Kept>
-        ensures ids { (x : SurfaceOf) → list_any (same_surface x) (map (λ t. t.id) (all_in result.now.entries))
+        ensures ids { (x : SurfaceOf)
+            → list_any (same_surface x) (map (λ t. t.id) (all_in result.now.entries))
             ≡ list_any (same_surface x) (map (λ t. t.id) self.now.list) }
         ensures len { length result.now.entries ≡ length self.now.list }
     {
@@ -120,7 +121,11 @@ impl Temporaries {
             number: next,
         };
         self.seats.put(name, id);
-        self.numbers.insert(until, Numbers { first, next: next + 1 }).unwrap();
+        let numbers = Numbers {
+            first,
+            next: next + 1,
+        };
+        self.numbers.insert(until, numbers).unwrap();
         self.given += 1;
         self.ever.show(&Named { name, id });
     }
@@ -190,8 +195,10 @@ fn end_all(seats: &mut Seats, numbers: &IndexMap<u32, Numbers>, tick: u32)
 fn end_at(seats: &mut Seats, numbers: &IndexMap<u32, Numbers>, at: usize, tick: u32)
     requires stands { Stands seats.old }
     ensures ends { Ends (over_at tick) seats.old seats.new }
-    ensures rid { (n : NameOf) (all : NumbersOf) → slice_get (keys_of numbers.now.entries) at ≡ Some n.until
-        → n.until ≤ tick → numbers_in numbers.now n.until ≡ Some all → all.first ≤ n.number → n.number < all.next
+    ensures rid { (n : NameOf) (all : NumbersOf)
+        → slice_get (keys_of numbers.now.entries) at ≡ Some n.until
+        → n.until ≤ tick → numbers_in numbers.now n.until ≡ Some all
+        → all.first ≤ n.number → n.number < all.next
         → surface_in seats.new n ≡ None }
 {
     if let Some((until, all)) = numbers.get_index(at) {

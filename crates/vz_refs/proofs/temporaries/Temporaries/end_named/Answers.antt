@@ -10,7 +10,7 @@ pub loop-range-preserved : goal.loop-range-preserved
 loop-range-preserved c =
     let l = c.loop-range in (
       c.end_one.ensures.list ∙ ap (filter (λ t. not (names t.id (get_or c.args.ranges.now l.range-index _)))) l.invariant.0
-      ∙ unnamed_more c.args.ranges.now l.range-index _ c.args.self.now.list c.loop-range-test.true,
+          ∙ unnamed_more c.args.ranges.now l.range-index _ c.args.self.now.list c.loop-range-test.true,
       omega (arith, l.invariant.1, c.end_one.ensures.spare),
     )
 
