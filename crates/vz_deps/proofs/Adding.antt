@@ -10,7 +10,7 @@ use Rattle.vz_deps.specs.declared.lacks.Lacks.{Lacks}
 use Rattle.vz_deps.specs.Bunching.{Stands}
 use Rattle.vz_deps.specs.Placing.{IsPlaced, IsListed}
 use Rattle.vz_deps.specs.Lacking.{on_in, count_in, bunches_for, is_done, is_in, unready, lacks_of, whole, IsKept}
-use Rattle.vz_deps.proofs.Seating.{either, pick_yes, pick_no, some_same, none_some, from_number}
+use Rattle.vz_deps.proofs.Same.{either, pick_yes, pick_no, some_same, none_some, from_number}
 use Rattle.vz_deps.proofs.Keeping.{nobody}
 
 pub placed_of : (a : Lacks) → IsKept a → IsPlaced a.on.entries a.groups a.sinks

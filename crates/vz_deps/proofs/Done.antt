@@ -14,7 +14,7 @@ use Rattle.vz_deps.specs.Bunching.{bunch_of, Stands}
 use Rattle.vz_deps.specs.Placing.{bunch_for}
 use Rattle.vz_deps.specs.Lacking.{on_in, count_in, bunches_for, is_done, is_in, lacks_of, all_of, unmet_in, is_nothing, IsKept, HasCounts}
 use Rattle.vz_deps.specs.Ordered.{in_order}
-use Rattle.vz_deps.proofs.Seating.{either, pick_yes, pick_no, some_same, none_some, from_number}
+use Rattle.vz_deps.proofs.Same.{either, pick_yes, pick_no, some_same, none_some, from_number}
 use Rattle.vz_deps.proofs.Keeping.{nobody, lacks_some}
 use Rattle.vz_deps.proofs.Adding.{same_lacks, unready_few}
 use Rattle.vz_deps.proofs.Orders.{one_list, rising_order, rising_filter, at_filter, at_order, keep_at, order_filter}

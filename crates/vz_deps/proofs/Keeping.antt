@@ -15,7 +15,7 @@ use Rattle.vz_deps.specs.declared.lacks.Lacks.{Lacks}
 use Rattle.vz_deps.specs.Bunching.{same_lack, same_seat, sized, bunch_of, Stands, IsSeated}
 use Rattle.vz_deps.specs.Placing.{bunch_for}
 use Rattle.vz_deps.specs.Lacking.{on_in, count_in, bunches_for, is_done, is_in, unready, lacks_of, IsKept, HasSame, HasSameSeats, IsLowered, noted, IsCleared}
-use Rattle.vz_deps.proofs.Seating.{either, pick_yes, pick_no, some_same, none_some, from_lack, own_lack, from_number}
+use Rattle.vz_deps.proofs.Same.{either, pick_yes, pick_no, some_same, none_some, from_lack, own_lack, from_number}
 
 -- Counts
 

@@ -1,3 +1,4 @@
+pub mod Same
 pub mod Seating
 pub mod Keeping
 pub mod Telling

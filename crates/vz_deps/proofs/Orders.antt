@@ -4,7 +4,7 @@ use Rattle.std.specs.List.{list_all, AllByRecursion, IsDistinct}
 use Rattle.std.specs.Map.{lookup, keys_of}
 use Rattle.std.proofs.lemmas.Bool.Decides.{nat_tests}
 use Rattle.vz_deps.specs.Ordered.{put_in, in_order, is_rising}
-use Rattle.vz_deps.proofs.Seating.{both, two, either, pick_yes, pick_no, some_same, from_number, own_number}
+use Rattle.vz_deps.proofs.Same.{both, two, either, pick_yes, pick_no, some_same, from_number, own_number}
 
 -- What is found
 

@@ -10,7 +10,7 @@ use Rattle.vz_ids.specs.Ids.{same_sub}
 use Rattle.vz_deps.specs.Lacking.{is_in}
 use Rattle.vz_deps.specs.Ordered.{in_order, is_rising, never_falls}
 use Rattle.vz_deps.specs.Numbering.{IsNumbered}
-use Rattle.vz_deps.proofs.Seating.{both, two, either, pick_yes, pick_no, some_same, none_some, yes_no, from_number, own_number}
+use Rattle.vz_deps.proofs.Same.{both, two, either, pick_yes, pick_no, some_same, none_some, yes_no, from_number, own_number}
 use Rattle.vz_deps.proofs.Keeping.{joined_length}
 use Rattle.vz_deps.proofs.Orders.{above, none_below, above_less, keep_at, order_filter, rising_order, at_order}
 

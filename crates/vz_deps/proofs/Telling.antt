@@ -17,7 +17,7 @@ use Rattle.vz_deps.specs.declared.lacks.Told.TheVariants.{Active, Closed}
 use Rattle.vz_deps.specs.Bunching.{seat_in, seat_of, size_in}
 use Rattle.vz_deps.specs.Placing.{bunch_for}
 use Rattle.vz_deps.specs.Lacking.{on_in, bunches_for, bunch_told, met_by, is_of, IsKept, IsCleared, Meets, IsRid}
-use Rattle.vz_deps.proofs.Seating.{both, either, some_same, none_some, from_number, from_sink}
+use Rattle.vz_deps.proofs.Same.{both, either, some_same, none_some, from_number, from_sink}
 
 -- Changes one after the other
 

@@ -12,7 +12,7 @@ use Rattle.vz_deps.specs.Tracking.{is_blocked, listed}
 use Rattle.vz_deps.specs.Lacking.{on_in, count_in, all_of, lacks_of, unmet_in, whole, IsKept}
 use Rattle.vz_deps.specs.Ordered.{in_order}
 use Rattle.vz_deps.specs.Numbering.{IsNumbered, IsTracked}
-use Rattle.vz_deps.proofs.Seating.{either, pick_yes, pick_no, some_same, none_some, yes_no, from_number, own_number}
+use Rattle.vz_deps.proofs.Same.{either, pick_yes, pick_no, some_same, none_some, yes_no, from_number, own_number}
 use Rattle.vz_deps.proofs.Adding.{same_lacks, put_lacks}
 use Rattle.vz_deps.proofs.Orders.{at_order, order_filter}
 use Rattle.vz_deps.proofs.Released.{from_sub, own_sub}

@@ -13,7 +13,7 @@ use Rattle.vz_deps.specs.declared.lacks.Lacks.{Lacks}
 use Rattle.vz_deps.specs.Tracking.{Blocked, is_blocked, without, freed, lacking, still, listed}
 use Rattle.vz_deps.specs.Lacking.{on_in, count_in, lacks_of, all_of, unmet_in, is_nothing, IsCleared, Meets, IsRid}
 use Rattle.vz_deps.specs.Ordered.{is_rising}
-use Rattle.vz_deps.proofs.Seating.{both, either, pick_yes, pick_no, none_some, from_number}
+use Rattle.vz_deps.proofs.Same.{both, either, pick_yes, pick_no, none_some, from_number}
 use Rattle.vz_deps.proofs.Orders.{above, none_below, own}
 use Rattle.vz_deps.proofs.Released.{own_sub}
 

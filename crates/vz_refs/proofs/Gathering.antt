@@ -1,7 +1,8 @@
 -- What can be reached, and the loops that reach it.
-use Rattle.std.proofs.Common.{◌≡◌, ℕ, ◌+◌, ◌-◌, ◌≤◌, ◌<◌, true, false, inl, inr, Option, Some, None, IfSome, IsTrue, List, [], ◌∷◌, ◌++◌, length, get_or, drop, map, slice_get, refl, ap, sym, ◌∙◌, arith, subst}
+use Rattle.std.proofs.Common.{◌≡◌, ℕ, zero, suc, ◌+◌, ◌-◌, ◌≤◌, ◌<◌, true, false, ◌||◌, inl, inr, Option, Some, None, IfSome, IsTrue, List, [], ◌∷◌, ◌++◌, length, get_or, drop, map, slice_get, refl, ap, sym, ◌∙◌, arith, subst}
 use Rattle.std.specs.List.{list_any, filter_map, cons_option}
-use Rattle.std.specs.Option.{option_to_list}
+use Rattle.std.specs.Option.{option_map, option_to_list}
+use Rattle.std.specs.Map.{values_of}
 use Rattle.std.proofs.lemmas.List.{drop_more}
 use Rattle.std.proofs.lemmas.List.Folds.{list_any-append}
 use Rattle.std.proofs.lemmas.Option.{slice_get_within, get_or_from_slice_get}
@@ -9,8 +10,10 @@ use Rattle.vz_ids.specs.declared.SurfaceId.{SurfaceId}
 use Rattle.vz_ids.specs.declared.SurfaceRange.{SurfaceRange}
 use Rattle.vz_ids.specs.Ids.{same_surface}
 use Rattle.vz_rules.specs.Closure.{adding, IsLeastClosed}
-use Rattle.vz_refs.specs.declared.references.Temporary.{Temporary}
-use Rattle.vz_refs.specs.Referring.{Ranged, is_set, ranges_of, next_in, starts}
+use Rattle.vz_refs.specs.declared.seats.Name.{Name}
+use Rattle.vz_refs.specs.declared.seats.Kept.{Kept}
+use Rattle.vz_refs.specs.Lasting.{all_in}
+use Rattle.vz_refs.specs.Referring.{Ranged, Temporary, is_set, ranges_of, next_in, starts}
 use Rattle.vz_marking.proofs.Marking.{from_or, left_or, right_or, next_room, Marked, first_room, marked_first, marked_next, marked_room, marked_within, marked_all}
 use Rattle.vz_refs.proofs.Same.{from_same, self_same}
 use Rattle.vz_refs.proofs.Changing.{set_ids}
@@ -49,6 +52,15 @@ length_two : {A : Type 0} (xs ys : List A) → length (xs ++ ys) ≡ length xs +
 length_two [] ys = omega arith
 length_two (x ∷ xs) ys = let rest = length_two xs ys in omega (arith, rest)
 
+-- as many as a map has
+pub all_long : (entries : List (Name × Kept)) → length (all_in entries) ≡ length entries
+all_long [] = refl
+all_long (e ∷ entries) = let rest = all_long entries in omega (arith, rest)
+
+-- room for all of a map
+pub all_room : (entries : List (Name × Kept)) (n spare : ℕ) → n + length entries < spare → n + length (all_in entries) < spare
+all_room entries n spare few = let same = all_long entries in omega (arith, same, few)
+
 at_most_one : (root : Option SurfaceId) → length (option_to_list root) ≤ 1
 at_most_one None = omega arith
 at_most_one (Some id) = omega arith
@@ -73,11 +85,26 @@ pub room_for : (out rest whole : List SurfaceId) (x : SurfaceId) (total spare : 
 room_for out rest whole x total spare left few enough none =
     next_room same_surface from_same self_same out rest x spare (let long = ap length left in omega (arith, long, few, enough)) none
 
+-- the surface at a place of a map
+pub id_there : (entries : List (Name × Kept)) (i : ℕ) (k : Kept) → slice_get (values_of entries) i ≡ Some k → option_map (λ t. t.id) (slice_get (all_in entries) i) ≡ Some k.id
+id_there [] i k e = absurd (cc)
+id_there (x ∷ entries) zero k e = let is : x.1 ≡ k = cc in ap (λ (k : Kept). Some k.id) is
+id_there (x ∷ entries) (suc i) k e = id_there entries i k e
+
 -- the next temporary surface is put in
-module _ (kept : List Temporary) (i : ℕ) (d : Temporary) (out whole : List SurfaceId) (inside : i < length kept)
+module _ (kept : List Temporary) (i : ℕ) (id : SurfaceId) (out whole : List SurfaceId) (here : option_map (λ t. t.id) (slice_get kept i) ≡ Some id)
     (left : adding same_surface out (map (λ t. t.id) (drop i kept)) ≡ whole) where
-  pub kept_step : adding same_surface out ((get_or kept i d).id ∷ map (λ t. t.id) (drop (i + 1) kept)) ≡ whole
-  kept_step = ap (λ l. adding same_surface out (map (λ (t : Temporary). t.id) l)) (sym (drop_more kept i d inside)) ∙ left
+  ids_left : map (λ (t : Temporary). t.id) (drop i kept) ≡ id ∷ map (λ t. t.id) (drop (i + 1) kept)
+  ids_left = by_get (slice_get kept i) refl here
+    where
+      by_get : (o : Option Temporary) → slice_get kept i ≡ o → option_map (λ (t : Temporary). t.id) o ≡ Some id → map (λ (t : Temporary). t.id) (drop i kept) ≡ id ∷ map (λ t. t.id) (drop (i + 1) kept)
+      by_get None e f = absurd (cc)
+      by_get (Some t) e f =
+          let is : t.id ≡ id = cc in
+          ap (map (λ (t : Temporary). t.id)) (drop_more kept i t (slice_get_within kept i t e) ∙ ap (λ r. r ∷ drop (i + 1) kept) (get_or_from_slice_get kept i t t e)) ∙ ap (λ x. x ∷ map (λ (t : Temporary). t.id) (drop (i + 1) kept)) is
+
+  pub kept_step : adding same_surface out (id ∷ map (λ t. t.id) (drop (i + 1) kept)) ≡ whole
+  kept_step = ap (adding same_surface out) (sym ids_left) ∙ left
 
 pub starts_none : (root : Option SurfaceId) (kept : List Temporary) → root ≡ None → starts root kept ≡ map (λ t. t.id) kept
 unfolding starts
@@ -146,3 +173,21 @@ module _ (shows : SurfaceRange → Option SurfaceId) (ranges : List SurfaceRange
   pub range_step : (range : SurfaceRange) (o : Option SurfaceId) → slice_get ranges k ≡ Some range → shows range ≡ o → adding same_surface out (cons_option o (filter_map shows (drop (k + 1) ranges))) ≡ whole
   range_step range o e is =
       sym (ap (λ l. adding same_surface out (filter_map shows l)) (split range e) ∙ ap (λ o. adding same_surface out (cons_option o (filter_map shows (drop (k + 1) ranges)))) is) ∙ left
+
+-- The roots in another order
+
+-- the least list for roots is so for others that are the same surfaces
+pub other_starts : (next : SurfaceId → List SurfaceId) (root : Option SurfaceId) (kept kept' : List Temporary) (xs : List SurfaceId)
+    → ((x : SurfaceId) → list_any (same_surface x) (map (λ t. t.id) kept) ≡ list_any (same_surface x) (map (λ t. t.id) kept'))
+    → IsLeastClosed same_surface next (starts root kept) xs → IsLeastClosed same_surface next (starts root kept') xs
+unfolding starts
+other_starts next root kept kept' xs same least = record {
+  has_roots = λ x h. least.has_roots x (has x ∙ h);
+  closed = least.closed;
+  least = λ other roots closed. least.least other (λ x h. roots x (sym (has x) ∙ h)) closed;
+}
+  where
+    has : (x : SurfaceId) → list_any (same_surface x) (option_to_list root ++ map (λ t. t.id) kept) ≡ list_any (same_surface x) (option_to_list root ++ map (λ t. t.id) kept')
+    has x =
+        list_any-append (same_surface x) (option_to_list root) (map (λ t. t.id) kept) ∙ ap (λ t. list_any (same_surface x) (option_to_list root) || t) (same x)
+        ∙ sym (list_any-append (same_surface x) (option_to_list root) (map (λ t. t.id) kept'))

@@ -1,7 +1,6 @@
 -- The indexes, where a surface has one range more.
-use Rattle.std.proofs.Common.{◌≡◌, ℕ, ◌+◌, ◌<◌, ◌≤◌, ◌==◌, Bool, true, false, Option, Some, None, is_some, List, [], ◌∷◌, ◌++◌, length, slice_get, refl, ap, sym, subst, ◌∙◌, arith, cond}
+use Rattle.std.proofs.Common.{◌≡◌, ℕ, ◌+◌, ◌==◌, Bool, true, false, Option, Some, None, List, [], ◌∷◌, ◌++◌, length, slice_get, refl, ap, sym, subst, ◌∙◌, arith, cond}
 use Rattle.std.specs.Option.{option_map}
-use Rattle.std.proofs.lemmas.Bool.Decides.{nat_tests}
 use Rattle.vz_ids.specs.declared.SurfaceId.{SurfaceId}
 use Rattle.vz_ids.specs.declared.SurfaceRange.{SurfaceRange}
 use Rattle.vz_ids.specs.Ids.{same_surface}
@@ -12,7 +11,9 @@ use Rattle.vz_refs.specs.declared.sets.Place.{Place}
 use Rattle.vz_refs.specs.declared.sets.Edge.{Edge}
 use Rattle.vz_refs.specs.Referring.{Ranged, is_set, ranges_of}
 use Rattle.vz_refs.specs.Indexing.{changing, one_more, same_nth, same_key, same_place, key_of, place_of, or_zero, IsIndexed}
-use Rattle.vz_refs.proofs.Same.{from_same, from_nth, self_nth, from_key, self_key, from_place, self_place, second_not}
+use Rattle.vz_refs.specs.Seated.{IsSeated}
+use Rattle.vz_refs.proofs.Seating.{sized, seat_more}
+use Rattle.vz_refs.proofs.Same.{from_same, from_nth, self_nth, second_not}
 use Rattle.vz_refs.proofs.Changing.{changed_set, changed_other, changed_own, changed_ids, get_last, get_before, get_over}
 
 one_longer : {A : Type 0} (xs : List A) (x : A) → length (xs ++ x ∷ []) ≡ length xs + 1
@@ -67,83 +68,24 @@ module _ (sets : List Ranged) (count : SurfaceId → Option ℕ) (edge : Nth →
           ] refl
         ] refl
 
-    own_size : size' (key_of range.end) ≡ Some (z + 1)
-    own_size = sizes (key_of range.end) ∙ ap (λ t. cond t (Some (z + 1)) (size (key_of range.end))) (self_key (key_of range.end))
-
-    no_less : (h : Group) → or_zero (size h) ≤ or_zero (size' h)
-    no_less h =
-        elim (same_key (key_of range.end) h) as (λ (t : Bool). same_key (key_of range.end) h ≡ t → or_zero (size h) ≤ or_zero (size' h)) [
-          | true ↦ λ e. subst (λ (h : Group). or_zero (size h) ≤ or_zero (size' h)) (from_key _ h e) (omega (arith, big, ap or_zero own_size))
-          | false ↦ λ e. let same = sizes h ∙ ap (λ t. cond t (Some (z + 1)) (size h)) e in omega (arith, ap or_zero same)
-        ] refl
-
-    more_placed : (q : Nth) (e : Edge) → edge' q ≡ Some e → (ends' (place_of e) ≡ Some q) × (e.at < or_zero (size' (key_of e.range.end)))
-    more_placed q e h =
-        elim (same_nth here q) as (λ (t : Bool). same_nth here q ≡ t → cond t (Some put) (edge q) ≡ Some e → (ends' (place_of e) ≡ Some q) × (e.at < or_zero (size' (key_of e.range.end)))) [
-          | true ↦ λ f g.
-              let is : put ≡ e = cc in
-              subst (λ (e : Edge). (ends' (place_of e) ≡ Some q) × (e.at < or_zero (size' (key_of e.range.end)))) is
-              (subst (λ (q : Nth). ends' (place_of put) ≡ Some q) (from_nth here q f) (ended (place_of put) ∙ ap (λ t. cond t (Some here) (ends (place_of put))) (self_place (place_of put))), omega (arith, ap or_zero own_size))
-          | false ↦ λ f g.
-              let old = good.placed q e g in (
-                elim (same_place (place_of put) (place_of e)) as (λ (t : Bool). same_place (place_of put) (place_of e) ≡ t → ends' (place_of e) ≡ Some q) [
-                  | true ↦ λ k.
-                      let is = from_place (place_of put) (place_of e) k in
-                      let at : z ≡ e.at = ap (λ p. p.at) is in
-                      let group : key_of range.end ≡ key_of e.range.end = ap (λ p. p.group) is in
-                      absurd (omega (arith, old.1, big, at, ap (λ h. or_zero (size h)) group))
-                  | false ↦ λ k. ended (place_of e) ∙ ap (λ t. cond t (Some here) (ends (place_of e))) k ∙ old.0
-                ] refl,
-                omega (arith, old.1, no_less (key_of e.range.end)),
-              )
-        ] refl (sym (edges q) ∙ h)
-
-    more_held : (p : Place) (q : Nth) → ends' p ≡ Some q → (e : Edge) × (edge' q ≡ Some e) × (place_of e ≡ p)
-    more_held p q h =
-        elim (same_place (place_of put) p) as (λ (t : Bool). same_place (place_of put) p ≡ t → cond t (Some here) (ends p) ≡ Some q → (e : Edge) × (edge' q ≡ Some e) × (place_of e ≡ p)) [
-          | true ↦ λ f g.
-              let is : here ≡ q = cc in
-              (put, subst (λ (q : Nth). edge' q ≡ Some put) is (edges here ∙ ap (λ t. cond t (Some put) (edge here)) (self_nth here)), from_place (place_of put) p f)
-          | false ↦ λ f g.
-              let old = good.held p q g in (
-                old.0,
-                elim (same_nth here q) as (λ (t : Bool). same_nth here q ≡ t → edge' q ≡ Some old.0) [
-                  | true ↦ λ k.
-                      let none : option_map (λ (e : Edge). e.range) (edge here) ≡ None = good.ranged here ∙ get_over (ranges_of sets id) n (omega (arith, many)) in
-                      let some : option_map (λ (e : Edge). e.range) (edge here) ≡ Some old.0.range = ap (λ (q : Nth). option_map (λ (e : Edge). e.range) (edge q)) (from_nth here q k) ∙ ap (option_map (λ (e : Edge). e.range)) old.1 in
-                      let no_way : None ≡ Some old.0.range = sym none ∙ some in absurd (cc)
-                  | false ↦ λ k. edges q ∙ ap (λ t. cond t (Some put) (edge q)) k ∙ old.1
-                ] refl,
-                old.2,
-              )
-        ] refl (sym (ended p) ∙ h)
-
-    more_filled : (p : Place) → p.at < or_zero (size' p.group) → is_some (ends' p) ≡ true
-    more_filled p low =
-        elim (same_place (place_of put) p) as (λ (t : Bool). same_place (place_of put) p ≡ t → is_some (ends' p) ≡ true) [
-          | true ↦ λ f. ap is_some (ended p ∙ ap (λ t. cond t (Some here) (ends p)) f)
-          | false ↦ λ f.
-              ap is_some (ended p ∙ ap (λ t. cond t (Some here) (ends p)) f)
-              ∙ good.filled p (elim (same_key (key_of range.end) p.group) as (λ (t : Bool). same_key (key_of range.end) p.group ≡ t → p.at < or_zero (size p.group)) [
-                | true ↦ λ k.
-                    let is = from_key (key_of range.end) p.group k in
-                    let apart = second_not (same_key (key_of range.end) p.group) (z == p.at) f k in
-                    let other : p.at < or_zero (size p.group) = below p.at z (or_zero (size p.group)) apart (omega (arith, low, ap (λ h. or_zero (size' h)) (sym is), ap or_zero own_size)) (omega (arith, big, ap (λ h. or_zero (size h)) is)) in
-                    other
-                | false ↦ λ k. let same = sizes p.group ∙ ap (λ t. cond t (Some (z + 1)) (size p.group)) k in omega (arith, low, ap or_zero same)
-              ] refl)
-        ] refl
+    -- nothing stood there
+    nothing : edge here ≡ None
+    nothing = by_edge (edge here) refl (good.ranged here ∙ get_over (ranges_of sets id) n (omega (arith, many)))
       where
-        below : (a z m : ℕ) → (z == a) ≡ false → a < z + 1 → z ≡ m → a < m
-        below a z m e f g = grind (arith, nat_tests)
+        by_edge : (o : Option Edge) → edge here ≡ o → option_map (λ (e : Edge). e.range) o ≡ None → edge here ≡ None
+        by_edge None e f = e
+        by_edge (Some x) e f = absurd (cc)
+
+    more_seated : IsSeated place_of edge' ends' (λ h. or_zero (size' h))
+    more_seated =
+        seat_more same_nth from_nth self_nth place_of edge ends (λ h. or_zero (size h)) good.seated here put nothing big edge' edges ends' ended (λ h. or_zero (size' h))
+        (λ h. ap or_zero (sizes h) ∙ sized (same_key (key_of range.end) h) (z + 1) (size h))
 
     pub appended : IsIndexed new_sets count' edge' ends' size'
     appended = record {
       counted = more_counted;
       ranged = more_ranged;
-      placed = more_placed;
-      held = more_held;
-      filled = more_filled;
+      seated = more_seated;
       once = ap (has_repeat same_surface) (changed_ids (one_more range) id sets) ∙ good.once;
     }
 

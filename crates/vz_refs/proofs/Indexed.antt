@@ -50,9 +50,7 @@ module _ (sets : List Ranged) (count : SurfaceId → Option ℕ) (edge : Nth →
   opened id none count' counts = subst (λ (l : List Ranged). IsIndexed l count' edge ends size) (sym (ap (λ t. cond t sets (sets ++ record { id = id; ranges = [] } ∷ [])) none)) (record {
     counted = more_counted;
     ranged = λ q. good.ranged q ∙ ap (λ l. slice_get l q.nth) (sym (same_ranges q.of));
-    placed = good.placed;
-    held = good.held;
-    filled = good.filled;
+    seated = good.seated;
     once = ap (has_repeat same_surface) (ids_behind sets id []) ∙ still_once;
   })
     where
@@ -81,9 +79,7 @@ module _ (sets : List Ranged) (count : SurfaceId → Option ℕ) (edge : Nth →
   forgotten id empty count' counts = record {
     counted = fewer_counted;
     ranged = λ q. good.ranged q ∙ ap (λ l. slice_get l q.nth) (sym (same_ranges q.of));
-    placed = good.placed;
-    held = good.held;
-    filled = good.filled;
+    seated = good.seated;
     once = removed_once sets id good.once;
   }
     where
@@ -144,7 +140,7 @@ module _ (sets : List Ranged) (count : SurfaceId → Option ℕ) (edge : Nth →
       with_edge w None f h = absurd (cc)
       with_edge w (Some e) f h =
           let is : e.range ≡ w.range = cc in
-          let placed = good.placed (record { of = w.of; nth = w.nth }) e f in
+          let placed = good.seated.placed (record { of = w.of; nth = w.nth }) e f in
           let named : names id e.range ≡ true = ap (names id) is ∙ w.named in
           let group = named_group id e.range named in
           let low : e.at < or_zero (size (key_of id)) = subst (λ (h : Group). e.at < or_zero (size h)) group placed.1 in
@@ -161,9 +157,11 @@ unfolding ranges_of
 none_set count edge ends size a b c d = record {
   counted = a;
   ranged = λ q. ap (option_map (λ (e : Edge). e.range)) (b q);
-  placed = λ q e h. let no_way : None ≡ Some e = sym (b q) ∙ h in absurd (cc);
-  held = λ p q h. let no_way : None ≡ Some q = sym (c p) ∙ h in absurd (cc);
-  filled = λ p low. absurd (omega (arith, low, ap or_zero (d p.group)));
+  seated = record {
+    placed = λ q e h. let no_way : None ≡ Some e = sym (b q) ∙ h in absurd (cc);
+    held = λ p q h. let no_way : None ≡ Some q = sym (c p) ∙ h in absurd (cc);
+    filled = λ p low. absurd (omega (arith, low, ap or_zero (d p.group)));
+  };
   once = refl;
 }
 

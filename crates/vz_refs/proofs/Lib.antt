@@ -8,3 +8,11 @@ pub mod Keyed
 pub mod Searching
 pub mod Gathering
 pub mod Noting
+pub mod Seating
+pub mod Named
+pub mod Ending
+pub mod Groups
+pub mod Lasts
+pub mod Counted
+pub mod Ticking
+pub mod Unnaming

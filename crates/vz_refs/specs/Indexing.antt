@@ -1,5 +1,5 @@
 -- What is set, range by range, and the indexes that know it.
-use Rattle.std.specs.Prelude.{◌≡◌, ℕ, ◌-◌, ◌<◌, Bool, false, IsTrue, ◌==◌, ◌&&◌, Option, Some, None, List, [], ◌∷◌, ◌++◌, length, take, map, if◌then◌else◌, position, slice_get, slice_set, is_some}
+use Rattle.std.specs.Prelude.{◌≡◌, ℕ, ◌-◌, Bool, false, IsTrue, ◌==◌, ◌&&◌, Option, Some, None, List, [], ◌∷◌, ◌++◌, length, take, map, if◌then◌else◌, position, slice_get, slice_set}
 use Rattle.std.specs.List.{list_any}
 use Rattle.std.specs.Option.{option_map, option_map_or, option_and_then}
 use Rattle.vz_ids.specs.declared.SurfaceId.{SurfaceId}
@@ -13,6 +13,7 @@ use Rattle.vz_refs.specs.declared.sets.Nth.{Nth}
 use Rattle.vz_refs.specs.declared.sets.Group.{Group}
 use Rattle.vz_refs.specs.declared.sets.Place.{Place}
 use Rattle.vz_refs.specs.declared.sets.Edge.{Edge}
+use Rattle.vz_refs.specs.Seated.{IsSeated}
 
 -- the ranges of a surface change
 abbrev pub change_one : (List SurfaceRange → List SurfaceRange) → SurfaceId → Ranged → Ranged
@@ -76,9 +77,7 @@ pub record Known : Type 0 where
 pub record IsIndexed (sets : List Ranged) (count : SurfaceId → Option ℕ) (edge : Nth → Option Edge) (ends : Place → Option Nth) (size : Group → Option ℕ) : Type 0 where
   pub counted : (id : SurfaceId) → count id ≡ (if is_set sets id then Some (length (ranges_of sets id)) else None)
   pub ranged : (n : Nth) → option_map (λ e. e.range) (edge n) ≡ slice_get (ranges_of sets n.of) n.nth
-  pub placed : (n : Nth) (e : Edge) → edge n ≡ Some e → (ends (place_of e) ≡ Some n) × (e.at < or_zero (size (key_of e.range.end)))
-  pub held : (p : Place) (n : Nth) → ends p ≡ Some n → (e : Edge) × (edge n ≡ Some e) × (place_of e ≡ p)
-  pub filled : (p : Place) → p.at < or_zero (size p.group) → IsTrue (is_some (ends p))
+  pub seated : IsSeated place_of edge ends (λ h. or_zero (size h))
   pub once : has_repeat same_surface (map (λ s. s.id) sets) ≡ false
 
 -- the place that is noted for a surface

@@ -1,3 +1,5 @@
 pub mod Referring
+pub mod Seated
 pub mod Indexing
+pub mod Lasting
 pub mod Meaning

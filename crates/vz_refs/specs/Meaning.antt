@@ -4,8 +4,7 @@ use Rattle.vz_ids.specs.declared.SurfaceId.{SurfaceId}
 use Rattle.vz_ids.specs.declared.SurfaceRange.{SurfaceRange}
 use Rattle.vz_rules.specs.World.{World, FrameData, active_frames, frame_on}
 use Rattle.vz_rules.specs.Reach.{has_id, roots}
-use Rattle.vz_refs.specs.declared.references.Temporary.{Temporary}
-use Rattle.vz_refs.specs.Referring.{Ranged, ranges_of, starts}
+use Rattle.vz_refs.specs.Referring.{Ranged, Temporary, ranges_of, starts}
 
 -- the references of a frame's frame, if there is one
 abbrev pub references_of : Option FrameData → List SurfaceRange

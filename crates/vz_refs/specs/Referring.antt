@@ -7,12 +7,16 @@ use Rattle.vz_ids.specs.declared.SurfaceId.{SurfaceId}
 use Rattle.vz_ids.specs.declared.SurfaceRange.{SurfaceRange}
 use Rattle.vz_ids.specs.Ids.{same_surface, same_sink}
 use Rattle.vz_rules.specs.Reach.{names}
-use Rattle.vz_refs.specs.declared.references.Temporary.{Temporary}
 
 -- a surface and the ranges that are set for it
 pub record Ranged : Type 0 where
   pub id : SurfaceId
   pub ranges : List SurfaceRange
+
+-- a surface that is kept until a tick
+pub record Temporary : Type 0 where
+  pub id : SurfaceId
+  pub until : ℕ
 
 -- what is set and what is temporary, with the room made before: for surfaces and ranges, and for temporary surfaces
 pub record Referring : Type 0 where

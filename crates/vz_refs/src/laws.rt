@@ -7,8 +7,7 @@ ghost use Rattle.vz_rules.specs.World.{World};
 ghost use Rattle.vz_rules.specs.Closure.{IsLeastClosed};
 ghost use Rattle.vz_rules.specs.Scene.{shown};
 ghost use Rattle.vz_rules.specs.Reach.{has_id, reach};
-ghost use Rattle.vz_refs.specs.declared.references.Temporary.{Temporary};
-ghost use Rattle.vz_refs.specs.Referring.{Ranged, is_set, ranges_of, setting, removing, next_in, starts};
+ghost use Rattle.vz_refs.specs.Referring.{Ranged, Temporary, is_set, ranges_of, setting, removing, next_in, starts};
 ghost use Rattle.vz_refs.specs.Meaning.{AreReferences, AreRoots};
 
 /// What is set for a surface is what was set last, and what is removed is not set.

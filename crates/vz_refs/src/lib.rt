@@ -11,7 +11,9 @@ mod listing;
 mod marking;
 mod naming;
 mod references;
+mod seats;
 mod sets;
 mod surfaces;
+mod temporaries;
 
 pub use references::{References, Shows};

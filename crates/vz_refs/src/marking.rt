@@ -1,16 +1,19 @@
 //! Lists of surfaces in which nothing stands twice. A surface that is set has a place in the
 //! index, and there it is noted where it stands in the list, so that it is not looked for.
-ghost use Rattle.std.specs.Prelude.{◌≡◌, ◌≤◌, ◌<◌, ◌+◌, [], ◌∷◌, length, map, false, IsFalse, slice_get};
+ghost use Rattle.std.specs.Prelude.{◌≡◌, ◌≤◌, ◌<◌, ◌+◌, [], ◌∷◌, length, map, false, IsFalse, Some, slice_get};
 ghost use Rattle.std.specs.List.{list_any};
-ghost use Rattle.std.specs.Option.{option_map_or};
+ghost use Rattle.std.specs.Option.{option_map, option_map_or};
 ghost use Rattle.vz_ids.specs.Ids.{same_surface};
 ghost use Rattle.vz_rules.specs.Closure.{adding};
 ghost use Rattle.vz_refs.specs.Referring.{next_in, starts};
 ghost use Rattle.vz_refs.specs.Indexing.{noted, noting, AreNoted};
+ghost use Rattle.vz_refs.specs.Lasting.{all_in};
 
-use crate::references::{Shows, Temporary};
+use crate::references::Shows;
+use crate::seats::{Kept, Name};
 use crate::sets::Sets;
 use crate::surfaces::{has_surface, is_same};
+use indexmap::IndexMap;
 use vz_frame::Room;
 use vz_ids::SurfaceId;
 
@@ -74,14 +77,14 @@ pub(crate) fn add(sets: &Sets, id: SurfaceId, places: &mut [usize], out: &mut Ro
 pub(crate) fn start(
     sets: &Sets,
     root: Option<SurfaceId>,
-    kept: &[Temporary],
+    kept: &IndexMap<Name, Kept>,
     places: &mut [usize],
     out: &mut Room<SurfaceId>,
 )
     requires noted { AreNoted sets.now.keys places.old out.old.list }
-    requires room { length (adding same_surface out.old.list (starts root kept.now))
+    requires room { length (adding same_surface out.old.list (starts root (all_in kept.now.entries)))
         ≤ length out.old.list + out.old.spare }
-    ensures list { out.new.list ≡ adding same_surface out.old.list (starts root kept.now) }
+    ensures list { out.new.list ≡ adding same_surface out.old.list (starts root (all_in kept.now.entries)) }
     ensures room { length out.old.list + out.old.spare ≤ length out.new.list + out.new.spare }
     ensures noted { AreNoted sets.now.keys places.new out.new.list }
 {
@@ -95,17 +98,30 @@ pub(crate) fn start(
 }
 
 /// Appends the temporary surfaces, each unless it is there.
-fn add_kept(sets: &Sets, kept: &[Temporary], places: &mut [usize], out: &mut Room<SurfaceId>)
+fn add_kept(
+    sets: &Sets,
+    kept: &IndexMap<Name, Kept>,
+    places: &mut [usize],
+    out: &mut Room<SurfaceId>,
+)
     requires noted { AreNoted sets.now.keys places.old out.old.list }
-    requires room { length (adding same_surface out.old.list (map (λ t. t.id) kept.now))
+    requires room { length (adding same_surface out.old.list (map (λ t. t.id) (all_in kept.now.entries)))
         ≤ length out.old.list + out.old.spare }
-    ensures list { out.new.list ≡ adding same_surface out.old.list (map (λ t. t.id) kept.now) }
+    ensures list { out.new.list ≡ adding same_surface out.old.list (map (λ t. t.id) (all_in kept.now.entries)) }
     ensures room { length out.old.list + out.old.spare ≤ length out.new.list + out.new.spare }
     ensures noted { AreNoted sets.now.keys places.new out.new.list }
 {
-    for temporary in kept {
-        add(sets, temporary.id, places, out);
+    for at in 0..kept.len() {
+        add(sets, id_at(kept, at), places, out);
     }
+}
+
+/// The temporary surface at a place. Condition: there is one.
+fn id_at(kept: &IndexMap<Name, Kept>, at: usize) -> SurfaceId
+    requires { at < length kept.now.entries }
+    ensures { option_map (λ t. t.id) (slice_get (all_in kept.now.entries) at) ≡ Some result }
+{
+    kept[at].id
 }
 
 /// Appends what the ranges of a surface show, each unless it is there.

@@ -3,7 +3,6 @@ ghost use Rattle.std.specs.Prelude.{◌≡◌, false};
 ghost use Rattle.std.specs.Option.{option_map_or};
 ghost use Rattle.indexmap.specs.IndexMap.{get};
 ghost use Rattle.vz_rules.specs.Reach.{names};
-ghost use Rattle.vz_refs.specs.Referring.{is_named_by};
 ghost use Rattle.vz_refs.specs.Indexing.{same_nth, same_place};
 
 use crate::sets::{Edge, Nth, Place};
@@ -12,22 +11,10 @@ use indexmap::IndexMap;
 use vz_ids::{SurfaceId, SurfaceRange};
 
 /// Whether a range names a surface.
-fn names(range: &SurfaceRange, id: &SurfaceId) -> bool
+pub(crate) fn names(range: &SurfaceRange, id: &SurfaceId) -> bool
     ensures { result ≡ names id.now range.now }
 {
     is_same(&range.end, id) || (range.end.sink == id.sink && range.end.local.newer(&id.local))
-}
-
-/// Whether one of these ranges names a surface.
-pub(crate) fn is_named_by(ranges: &[SurfaceRange], id: &SurfaceId) -> bool
-    ensures { result ≡ is_named_by ranges.now id.now }
-{
-    for range in ranges {
-        if names(range, id) {
-            return true;
-        }
-    }
-    false
 }
 
 /// Whether the range that stands at a place of a group names a surface.

@@ -3,11 +3,14 @@ ghost use Rattle.std.specs.Prelude.{◌≡◌, ◌≤◌, ◌<◌, ◌+◌, [], 
 ghost use Rattle.vz_ids.specs.Ids.{same_surface};
 ghost use Rattle.vz_frame.specs.Frame.{has_repeat};
 ghost use Rattle.vz_rules.specs.Closure.{IsLeastClosed};
+ghost use Rattle.vz_refs.specs.Lasting.{all_in};
 ghost use Rattle.vz_refs.specs.Referring.{is_set, setting, removing, keeping, unnamed, lasting, of_others, next_in, starts};
 
 use crate::marking::{follow, start};
-use crate::naming::is_named_by;
+use crate::seats::{Kept, Name};
 use crate::sets::Sets;
+use crate::temporaries::Temporaries;
+use indexmap::IndexMap;
 use std::alloc::Global;
 use std::cell::Cell;
 use std::marker::Model;
@@ -28,13 +31,6 @@ pub trait Shows {
         ensures { result ≡ shows self.now r.now };
 }
 
-/// A surface that is kept until a tick.
-#[derive(Clone, Copy)]
-pub(crate) struct Temporary {
-    pub(crate) id: SurfaceId,
-    pub(crate) until: u32,
-}
-
 /// Which ranges are set for which surfaces, and which surfaces are temporary. Contracts see
 /// both lists and, beside them, the room that was made before. A place for each surface that
 /// is set is made beside; in it `reachable` notes where the surface stands among the reached.
@@ -42,21 +38,20 @@ pub(crate) struct Temporary {
 #[derive(Drop)]
 pub struct References {
     sets: Sets,
-    temporary: Vec<Temporary>,
+    temporary: Temporaries,
     places: Cell<Option<Vec<usize>>>,
 }
 
 impl Model for References {
-    ghost use Rattle.std.specs.Prelude.{◌-◌, vec_len, vec_capacity};
     ghost use Rattle.vz_refs.specs.Referring.{Referring};
 
     ghost Value = { Referring };
 
     ghost view = { λ a. record {
       sets = a.sets.list;
-      temporary = a.temporary.items;
+      temporary = a.temporary.list;
       spare = a.sets.spare;
-      room = vec_capacity a.temporary - vec_len a.temporary;
+      room = a.temporary.spare;
     } };
 }
 
@@ -68,7 +63,7 @@ impl References {
     {
         References {
             sets: Sets::new(alloc),
-            temporary: Vec::new(alloc),
+            temporary: Temporaries::new(alloc),
             places: Cell::new(Some(Vec::new(alloc))),
         }
     }
@@ -96,8 +91,7 @@ impl References {
         ensures spare { self.new.spare ≡ self.old.spare }
         ensures room { self.old.room ≤ self.new.room }
     {
-        self.temporary.try_reserve(1)?;
-        Ok(())
+        self.temporary.reserve()
     }
 
     /// Sets the ranges of a surface in the place of those that it had, and ends each
@@ -119,7 +113,7 @@ impl References {
         self.sets.clear(id);
         self.sets.extend(id, ranges);
         make_places(&mut self.places, self.sets.len());
-        self.temporary.retain(|t| !is_named_by(ranges, &t.id));
+        self.temporary.end_named(ranges);
         Ok(())
     }
 
@@ -144,7 +138,7 @@ impl References {
         ensures room { self.old.room ≤ self.new.room + 1 }
     {
         if !self.sets.is_named(&id) {
-            self.temporary.push_reserved(Temporary { id, until });
+            self.temporary.keep(id, until);
         }
     }
 
@@ -155,7 +149,7 @@ impl References {
         ensures spare { self.new.spare ≡ self.old.spare }
         ensures room { self.old.room ≤ self.new.room }
     {
-        self.temporary.retain(|t| t.until > n);
+        self.temporary.tick(n);
     }
 
     /// Ends the temporary surfaces of a sink.
@@ -165,7 +159,7 @@ impl References {
         ensures spare { self.new.spare ≡ self.old.spare }
         ensures room { self.old.room ≤ self.new.room }
     {
-        self.temporary.retain(|t| t.id.sink != sink);
+        self.temporary.sink_gone(sink);
     }
 
     /// Whether ranges are set for a surface.
@@ -202,12 +196,13 @@ impl References {
             (starts root self.now.temporary) out.new.list }
         ensures once { has_repeat same_surface out.new.list ≡ false }
     {
+        let kept = self.temporary.all();
         match self.places.take() {
             Some(mut places) => {
-                reach(&self.sets, &self.temporary, root, s, &mut places, out);
+                reach(&self.sets, kept, root, s, &mut places, out);
                 self.places.set(Some(places));
             }
-            None => reach(&self.sets, &self.temporary, root, s, &mut [], out),
+            None => reach(&self.sets, kept, root, s, &mut [], out),
         }
     }
 }
@@ -225,18 +220,18 @@ fn make_places(places: &mut Cell<Option<Vec<usize>>>, n: usize) {
 /// Gives the reached surfaces, as `reachable` does.
 fn reach<S: Shows>(
     sets: &Sets,
-    kept: &[Temporary],
+    kept: &IndexMap<Name, Kept>,
     root: Option<SurfaceId>,
     s: &S,
     places: &mut [usize],
     out: &mut Room<SurfaceId>,
 )
     requires empty { out.old.list ≡ [] }
-    requires room { length sets.now.list + length kept.now < out.old.spare }
+    requires room { length sets.now.list + length kept.now.entries < out.old.spare }
     requires shown { (r : SurfaceRange)
         → IfSome (S.shows s.now r) (λ id. IsTrue (is_set sets.now.list id)) }
     ensures least { IsLeastClosed same_surface (next_in (S.shows s.now) sets.now.list)
-        (starts root kept.now) out.new.list }
+        (starts root (all_in kept.now.entries)) out.new.list }
     ensures once { has_repeat same_surface out.new.list ≡ false }
 {
     start(sets, root, kept, places, out);

@@ -1,5 +1,5 @@
 //! Why a relation is not registered.
-ghost use Rattle.std.specs.Prelude.{◌≡◌};
+ghost use Rattle.std.specs.Prelude.{◌≡◌, Some};
 ghost use Rattle.vz_sinks.specs.declared.refusals.SinkError.TheVariants as error;
 ghost use Rattle.vz_sinks.specs.Relating.{refusal_for};
 
@@ -21,12 +21,16 @@ pub enum SinkError {
 }
 
 impl fmt::Display for SinkError {
+    ghost use Rattle.vz_sinks.specs.Messages.{refusal_text};
+
+    ghost output = { λ error. Some (refusal_text error) };
+
     fn fmt<W: fmt::Write>(&self, f: &mut fmt::Formatter<W>) -> fmt::Result {
         match self {
             SinkError::Loop => f.write_str("the child reaches the parent"),
             SinkError::UnknownSink => f.write_str("no client has the parent or the child"),
             SinkError::ParentOfOther => f.write_str("the parent is another client's sink"),
-            SinkError::Memory => Memory.fmt(f),
+            SinkError::Memory => f.write_str("out of memory"),
         }
     }
 }

@@ -1,7 +1,7 @@
 use Rattle.std.proofs.Common.{◌+◌, ◌-◌, ◌<◌, length, subst, ap, sym, ◌∙◌}
 use Rattle.vz_deps.specs.Lacking.{noted, unready}
 use Rattle.vz_deps.proofs.Keeping.{unready_lower}
-use Rattle.vz_deps.proofs.Seating.{some_same}
+use Rattle.vz_deps.proofs.Same.{some_same}
 use Rattle.vz_deps.specs.declared.lacks.Count.{Count}
 use Rattle.vz_deps.proofs.lacks.lower.Goals as goal
 

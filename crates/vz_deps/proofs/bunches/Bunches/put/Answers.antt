@@ -1,6 +1,7 @@
 use Rattle.std.proofs.Common.{◌+◌, nat_lt, Some, cond, arith, ap, sym, ◌∙◌}
 use Rattle.vz_deps.specs.Bunching.{seat_in, seat_of, size_in, same_seat, same_lack, same_bunch}
-use Rattle.vz_deps.proofs.Seating.{on_ok, put_stands, few_seats, sized_put}
+use Rattle.vz_deps.proofs.Same.{on_ok}
+use Rattle.vz_deps.proofs.Seating.{put_stands, few_seats, sized_put}
 use Rattle.vz_deps.proofs.bunches.Bunches.put.Goals as goal
 
 pub overflow_add-at : goal.overflow_add-at

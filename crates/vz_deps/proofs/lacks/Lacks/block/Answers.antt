@@ -1,6 +1,6 @@
 use Rattle.std.proofs.Common.{arith, refl, length, vec_capacity, ◌-◌}
 use Rattle.vz_deps.specs.declared.lacks.Lacks.{Lacks}
-use Rattle.vz_deps.proofs.Seating.{on_ok}
+use Rattle.vz_deps.proofs.Same.{on_ok}
 use Rattle.vz_deps.proofs.Keeping.{room_places}
 use Rattle.vz_deps.proofs.Adding.{placed_of, block_kept}
 use Rattle.vz_deps.proofs.lacks.Lacks.block.Goals as goal

@@ -2,7 +2,7 @@ use Rattle.std.proofs.Common.{◌≡◌, nat_eq, Some, slice_get, length, false,
 use Rattle.vz_deps.specs.Tracking.{listed, is_blocked}
 use Rattle.vz_deps.specs.Lacking.{unmet_in, whole}
 use Rattle.vz_deps.specs.Ordered.{in_order}
-use Rattle.vz_deps.proofs.Seating.{on_ok}
+use Rattle.vz_deps.proofs.Same.{on_ok}
 use Rattle.vz_deps.proofs.Orders.{at_order, rising_order, order_more}
 use Rattle.vz_deps.proofs.Views.{listed_more, listed_same}
 use Rattle.vz_deps.proofs.Tracked.{fresh_sub, fresh_number, numbered_more, later_more, counts_more, other_unmet, new_unmet, not_next}

@@ -1,5 +1,4 @@
-use Rattle.std.proofs.Common.{[], ◌++◌, map, rules, ap, ◌∙◌}
-use Rattle.std.proofs.lemmas.Fn.{filter_same}
+use Rattle.std.proofs.Common.{[], ◌++◌, map, ap, ◌∙◌}
 use Rattle.vz_refs.specs.Referring.{is_set, set_one, setting, unnamed}
 use Rattle.vz_refs.specs.Indexing.{changing}
 use Rattle.vz_refs.proofs.Changing.{set_anew, opened_set}
@@ -15,6 +14,4 @@ returns-clause-sets c =
     ∙ set_anew c.args.id c.args.ranges.now c.reserve.new.self.list ∙ ap (setting c.args.id c.args.ranges.now) (c.in_ok-reserve.ensures.list ∙ ap (λ v. v.sets) c.self.view_is)
 
 pub returns-clause-temporary : goal.returns-clause-temporary
-unfolding unnamed
-returns-clause-temporary c =
-    filter_same _ _ _ (λ x b f' k. search rules) _ _ c.retain.ensures.filtered ∙ ap (λ v. unnamed c.args.ranges.now v.temporary) c.self.view_is
+returns-clause-temporary c = c.end_named.ensures.list ∙ ap (λ v. unnamed c.args.ranges.now v.temporary) c.self.view_is

@@ -12,7 +12,7 @@ use Rattle.vz_refs.proofs.sets.Sets.append.Goals as goal
 pub overflow_add-at : goal.overflow_add-at
 overflow_add-at c =
     let few = no_more same_place from_place self_place (λ k. record { group = c.group_of-group.result; at = k }) (λ j k e. ap (λ p. p.at) e) c.self.inside.ends.entries c.size_of-at.result
-    (λ k low. c.self.invariant.filled (record { group = c.group_of-group.result; at = k }) (omega (arith, low, c.size_of-at.ensures))) in
+    (λ k low. c.self.invariant.seated.filled (record { group = c.group_of-group.result; at = k }) (omega (arith, low, c.size_of-at.ensures))) in
     omega (arith, few, c.len-2.ensures.small, c.len-2.ensures.len)
 
 pub overflow_add-slot : goal.overflow_add-slot

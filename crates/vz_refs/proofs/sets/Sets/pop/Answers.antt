@@ -17,23 +17,23 @@ unwrap-edge-requires c =
 pub overflow_sub-last : goal.overflow_sub-last
 overflow_sub-last c =
     let was = found _ same_nth nths c.self.inside.edges _ _ _ c.swap_remove.ensures.value c.unwrap-edge.ensures in
-    let low = (c.self.invariant.placed _ c.unwrap-edge.result was).1 in
+    let low = (c.self.invariant.seated.placed _ c.unwrap-edge.result was).1 in
     let size = c.size_of-last.ensures ∙ ap (λ h. or_zero (get same_key c.self.inside.sizes h)) c.group_of-group.ensures in
     omega (arith, low, size)
 
 pub unwrap-moved-requires : goal.unwrap-moved-requires
 unwrap-moved-requires c =
     let was = found _ same_nth nths c.self.inside.edges _ _ _ c.swap_remove.ensures.value c.unwrap-edge.ensures in
-    let low = (c.self.invariant.placed _ c.unwrap-edge.result was).1 in
+    let low = (c.self.invariant.seated.placed _ c.unwrap-edge.result was).1 in
     let size = c.size_of-last.ensures ∙ ap (λ h. or_zero (get same_key c.self.inside.sizes h)) c.group_of-group.ensures in
     ap is_some (sym (at_key _ same_place places c.self.inside.ends _ _ c.swap_remove-2.ensures.value))
-    ∙ c.self.invariant.filled _ (omega (arith, low, size, c.size_of-last.ensures))
+    ∙ c.self.invariant.seated.filled _ (omega (arith, low, size, c.size_of-last.ensures))
 
 pub invariant_of-self : goal.invariant_of-self
 invariant_of-self c =
     let many = ap (λ v. length (ranges_of v.list c.args.id)) c.self.view_is in
     let was = found _ same_nth nths c.self.inside.edges _ _ _ c.swap_remove.ensures.value c.unwrap-edge.ensures in
-    let low = (c.self.invariant.placed _ c.unwrap-edge.result was).1 in
+    let low = (c.self.invariant.seated.placed _ c.unwrap-edge.result was).1 in
     let size = c.size_of-last.ensures ∙ ap (λ h. or_zero (get same_key c.self.inside.sizes h)) c.group_of-group.ensures in
     let last = found _ same_place places c.self.inside.ends _ _ _ c.swap_remove-2.ensures.value c.unwrap-moved.ensures in
     subst (λ l. IsIndexed l (get same_surface c.write-3.new.map) (get same_nth c.move_edge.new.edges) (get same_place c.write.new.map) (get same_key c.write-2.new.map)) (sym c.shorten.ensures)

@@ -1,0 +1,249 @@
+//! Temporary surfaces by their names, and where each of them stands in its group.
+ghost use Rattle.std.specs.Prelude.{◌≡◌, ◌≤◌, ◌<◌, ◌+◌, ◌-◌, ℕ, Bool, true, false, None, Some, [], cond, not, IsOk, OnOk, IsTrue};
+ghost use Rattle.std.specs.Option.{option_map};
+ghost use Rattle.std.specs.Map.{lookup};
+ghost use Rattle.indexmap.specs.IndexMap.{spare as spare_of};
+ghost use Rattle.vz_ids.specs.Ids.{same_sink};
+ghost use Rattle.vz_ids.specs.declared.SurfaceId.{SurfaceId as SurfaceOf};
+ghost use Rattle.vz_refs.specs.declared.sets.Group.{Group as GroupOf};
+ghost use Rattle.vz_refs.specs.declared.sets.Place.{Place as PlaceOf};
+ghost use Rattle.vz_refs.specs.declared.seats.Name.{Name as NameOf};
+ghost use Rattle.vz_refs.specs.declared.seats.Kept.{Kept as KeptOf};
+ghost use Rattle.vz_refs.specs.Indexing.{same_key, same_place, or_zero};
+ghost use Rattle.vz_refs.specs.Lasting.{same_name, kept_in, surface_in, name_in, size_in, room_in, Stands, Ends, IsRid, named_by, over_at, of_sink, not_of};
+
+use crate::indexes::{size_of, write};
+use crate::naming::names;
+use crate::sets::{Group, Place, group_of};
+use indexmap::IndexMap;
+use std::alloc::Global;
+use vz_base::Memory;
+use vz_ids::{FrameSinkId, SurfaceId, SurfaceRange};
+
+/// The name of a temporary surface: the tick until which it lasts, and a number.
+#[derive(Clone, Copy, PartialEq, Eq, Hash)]
+pub(crate) struct Name {
+    pub(crate) until: u32,
+    pub(crate) number: u64,
+}
+
+/// A temporary surface, and where it stands in its group.
+#[derive(Clone, Copy)]
+pub(crate) struct Kept {
+    pub(crate) id: SurfaceId,
+    pub(crate) at: usize,
+}
+
+/// Temporary surfaces by their names. Those of a group stand one after the other, so that what
+/// a range names is not looked for among all.
+#[derive(Drop)]
+pub(crate) struct Seats {
+    pub(crate) kept: IndexMap<Name, Kept>,
+    pub(crate) names: IndexMap<Place, Name>,
+    pub(crate) sizes: IndexMap<Group, usize>,
+}
+
+impl Seats {
+    /// There are none. It takes no memory.
+    pub(crate) fn new(alloc: Global) -> Seats
+        ensures stands { Stands result }
+        ensures none { result.kept.entries ≡ [] }
+    {
+        Seats {
+            kept: IndexMap::new(alloc),
+            names: IndexMap::new(alloc),
+            sizes: IndexMap::new(alloc),
+        }
+    }
+
+    /// Makes room for one.
+    pub(crate) fn reserve(&mut self) -> Result<(), Memory>
+        ensures kept { self.new.kept.entries ≡ self.old.kept.entries }
+        ensures names { self.new.names.entries ≡ self.old.names.entries }
+        ensures sizes { self.new.sizes.entries ≡ self.old.sizes.entries }
+        ensures ok { OnOk result (0 < room_in self.new) }
+        ensures succeeds { 0 < room_in self.old → IsOk result }
+        ensures room { room_in self.old ≤ room_in self.new }
+    {
+        self.kept.reserve(1)?;
+        self.names.reserve(1)?;
+        self.sizes.reserve(1)?;
+        Ok(())
+    }
+
+    /// Keeps a surface under a name. Conditions: nothing has that name, and there is room.
+    pub(crate) fn put(&mut self, name: Name, id: SurfaceId)
+        requires stands { Stands self.old }
+        requires new { kept_in self.old name ≡ None }
+        requires room { 0 < room_in self.old }
+        ensures stands { Stands self.new }
+        ensures surface { (n : NameOf) → surface_in self.new n
+            ≡ cond (same_name name n) (Some id) (surface_in self.old n) }
+        ensures room { room_in self.old ≤ room_in self.new + 1 }
+    {
+        let group = group_of(&id);
+        let at = size_of(&self.sizes, group);
+        prove!(self.names.len() < usize::MAX);
+        self.kept.insert(name, Kept { id, at }).unwrap();
+        self.names.insert(Place { group, at }, name).unwrap();
+        self.sizes.insert(group, at + 1).unwrap();
+    }
+
+    /// Ends what has a name, if anything has it. The last one of its group takes its place.
+    pub(crate) fn take(&mut self, name: &Name)
+        requires stands { Stands self.old }
+        ensures stands { Stands self.new }
+        ensures surface { (n : NameOf) → surface_in self.new n
+            ≡ cond (same_name name.now n) None (surface_in self.old n) }
+        ensures names { (p : PlaceOf) (n : NameOf) → name_in self.new p ≡ Some n
+            → (j : ℕ) × (p.at ≤ j) × (name_in self.old (record p { at = j }) ≡ Some n) }
+        ensures room { room_in self.old ≤ room_in self.new }
+    {
+        if let Some(gone) = self.kept.swap_remove(name) {
+            let group = group_of(&gone.id);
+            let last = shrink(&mut self.sizes, &group);
+            let moved = self.names.swap_remove(&Place { group, at: last }).unwrap();
+            write(&mut self.names, Place { group, at: gone.at }, moved);
+            seat(&mut self.kept, &moved, gone.at);
+        }
+    }
+
+    /// Whether a range names what has a name.
+    fn is_named(&self, name: &Name, range: &SurfaceRange) -> bool
+        ensures yes { result ≡ true → (d : SurfaceOf) → surface_in self.now name.now ≡ Some d
+            → named_by range.now name.now d ≡ true }
+        ensures no { result ≡ false → (d : SurfaceOf) → surface_in self.now name.now ≡ Some d
+            → named_by range.now name.now d ≡ false }
+    {
+        match self.kept.get(name) {
+            Some(kept) => names(range, &kept.id),
+            None => false,
+        }
+    }
+
+    /// Ends what stands at a place, where a range names it.
+    fn look(&mut self, range: &SurfaceRange, place: &Place)
+        requires stands { Stands self.old }
+        ensures ends { Ends (named_by range.now) self.old self.new }
+        ensures rid { (n : NameOf) (d : SurfaceOf) → name_in self.old place.now ≡ Some n
+            → surface_in self.new n ≡ Some d → named_by range.now n d ≡ false }
+    {
+        if let Some(name) = self.names.get(place).copied() {
+            if self.is_named(&name, range) {
+                self.take(&name);
+            }
+        }
+    }
+
+    /// Ends those that a range names. It looks at those of one group alone.
+    pub(crate) fn end_named(&mut self, range: &SurfaceRange)
+        requires stands { Stands self.old }
+        ensures ends { Ends (named_by range.now) self.old self.new }
+        ensures rid { IsRid (named_by range.now) self.new }
+    {
+        let group = group_of(&range.end);
+        let size = size_of(&self.sizes, group);
+        for k in 0..size {
+            let at = size - 1 - k;
+            self.look(range, &Place { group, at });
+        }
+    }
+
+    /// Ends those that last until a tick and have one of these numbers.
+    pub(crate) fn end_until(&mut self, until: u32, first: u64, next: u64)
+        requires stands { Stands self.old }
+        ensures ends { (tick : ℕ) → until ≤ tick → Ends (over_at tick) self.old self.new }
+        ensures rid { (n : NameOf) → n.until ≡ until → first ≤ n.number → n.number < next
+            → surface_in self.new n ≡ None }
+    {
+        for number in first..next {
+            self.take(&Name { until, number });
+        }
+    }
+
+    /// Ends those of a sink: whole groups.
+    pub(crate) fn end_of(&mut self, sink: FrameSinkId)
+        requires stands { Stands self.old }
+        ensures ends { Ends (of_sink sink) self.old self.new }
+        ensures rid { IsRid (of_sink sink) self.new }
+    {
+        keep_others(&mut self.kept, sink);
+        keep_other_places(&mut self.names, sink);
+        keep_other_groups(&mut self.sizes, sink);
+    }
+}
+
+/// A group has one fewer; its new size is answered. Condition: it has one.
+fn shrink(sizes: &mut IndexMap<Group, usize>, group: &Group) -> usize
+    requires { 0 < or_zero (lookup (same_key group.now) sizes.old.entries) }
+    ensures size { result + 1 ≡ or_zero (lookup (same_key group.now) sizes.old.entries) }
+    ensures sizes { (g : GroupOf) → or_zero (lookup (same_key g) sizes.new.entries)
+        ≡ cond (same_key group.now g) result (or_zero (lookup (same_key g) sizes.old.entries)) }
+    ensures spare { spare_of sizes.old ≤ spare_of sizes.new }
+{
+    match sizes.get_mut(group) {
+        Some(size) if *size > 1 => {
+            *size -= 1;
+            *size
+        }
+        _ => {
+            sizes.swap_remove(group);
+            0
+        }
+    }
+}
+
+/// What has a name, if anything has it, stands at another place of its group.
+fn seat(kept: &mut IndexMap<Name, Kept>, name: &Name, at: usize)
+    ensures kept { (n : NameOf) → lookup (same_name n) kept.new.entries
+        ≡ cond (same_name name.now n)
+        (option_map (λ (k : KeptOf). record k { at = at })
+        (lookup (same_name n) kept.old.entries))
+        (lookup (same_name n) kept.old.entries) }
+    ensures spare { spare_of kept.old ≤ spare_of kept.new }
+{
+    if let Some(one) = kept.get_mut(name) {
+        one.at = at;
+    }
+}
+
+/// Keeps the surfaces of other sinks.
+fn keep_others(kept: &mut IndexMap<Name, Kept>, sink: FrameSinkId)
+    ensures kept { (n : NameOf) → lookup (same_name n) kept.new.entries
+        ≡ not_of sink (lookup (same_name n) kept.old.entries) }
+    ensures spare { spare_of kept.old ≤ spare_of kept.new }
+{
+    prove!(kept.len() < usize::MAX);
+    kept.retain(
+        |_name: &Name, one: &mut Kept| -> bool
+            ensures { (result ≡ not (same_sink one.old.id.sink sink)) × (one.new ≡ one.old) }
+        { one.id.sink != sink },
+    );
+}
+
+/// Keeps the places in groups of other sinks.
+fn keep_other_places(names: &mut IndexMap<Place, Name>, sink: FrameSinkId)
+    ensures names { (p : PlaceOf) → lookup (same_place p) names.new.entries
+        ≡ cond (not (same_sink p.group.sink sink)) (lookup (same_place p) names.old.entries) None }
+    ensures spare { spare_of names.old ≤ spare_of names.new }
+{
+    names.retain(
+        |place: &Place, _name: &mut Name| -> bool
+            ensures { (result ≡ not (same_sink place.now.group.sink sink))
+                × (_name.new ≡ _name.old) }
+        { place.group.sink != sink },
+    );
+}
+
+/// Keeps the sizes of groups of other sinks.
+fn keep_other_groups(sizes: &mut IndexMap<Group, usize>, sink: FrameSinkId)
+    ensures sizes { (g : GroupOf) → or_zero (lookup (same_key g) sizes.new.entries)
+        ≡ cond (not (same_sink g.sink sink)) (or_zero (lookup (same_key g) sizes.old.entries)) 0 }
+    ensures spare { spare_of sizes.old ≤ spare_of sizes.new }
+{
+    sizes.retain(
+        |group: &Group, _size: &mut usize| -> bool
+            ensures { (result ≡ not (same_sink group.now.sink sink)) × (_size.new ≡ _size.old) }
+        { group.sink != sink },
+    );
+}

@@ -1,0 +1,222 @@
+//! The surfaces that are temporary, each until a tick.
+ghost use Rattle.std.specs.Prelude.{◌≡◌, ◌≤◌, ◌<◌, ◌+◌, ℕ, [], ◌∷◌, ◌++◌, not, map, filter, length, Some, IsOk, OnOk, nat_lt};
+ghost use Rattle.std.specs.Prelude.{slice_get, cond, None};
+ghost use Rattle.std.specs.Map.{keys_of};
+ghost use Rattle.std.specs.List.{list_any};
+ghost use Rattle.vz_refs.specs.declared.temporaries.Numbers.{Numbers as NumbersOf};
+ghost use Rattle.indexmap.specs.IndexMap.{spare as spare_of};
+ghost use Rattle.vz_ids.specs.declared.SurfaceId.{SurfaceId as SurfaceOf};
+ghost use Rattle.vz_ids.specs.Ids.{same_surface};
+ghost use Rattle.vz_rules.specs.Reach.{names};
+ghost use Rattle.vz_refs.specs.Referring.{unnamed, lasting, of_others};
+ghost use Rattle.vz_refs.specs.declared.seats.Name.{Name as NameOf};
+ghost use Rattle.vz_refs.specs.Lasting.{AreWithin, Stands, Ends, IsRid, over_at, surface_in, all_in, numbers_in, numbers_or};
+
+use crate::seats::{Kept, Name, Seats};
+use indexmap::IndexMap;
+use std::alloc::Global;
+use std::marker::Model;
+use vz_base::Memory;
+use vz_ghost::GhostList;
+use vz_ids::{FrameSinkId, SurfaceId, SurfaceRange};
+
+/// The numbers of those that last until a tick: from the first up to the next one.
+#[derive(Clone, Copy)]
+pub(crate) struct Numbers {
+    pub(crate) first: u64,
+    pub(crate) next: u64,
+}
+
+/// A surface that was made temporary, under its name.
+#[derive(Clone, Copy)]
+pub(crate) struct Named {
+    pub(crate) name: Name,
+    pub(crate) id: SurfaceId,
+}
+
+/// The temporary surfaces. Contracts see them in the order in which they were kept and, beside
+/// them, the room that was made before. Each has a name, of which none is given twice. What a
+/// range names is looked for in one group alone; those that end at a tick are found by the
+/// numbers that were given until it, so that a tick looks at each tick at which some end, and at
+/// those that end.
+#[derive(Drop)]
+pub(crate) struct Temporaries {
+    seats: Seats,
+    numbers: IndexMap<u32, Numbers>,
+    given: u64,
+    ever: GhostList<Named>,
+}
+
+impl Model for Temporaries {
+    ghost use Rattle.std.specs.Prelude.{◌-◌, min};
+    ghost use Rattle.indexmap.specs.IndexMap.{spare as spare_of};
+    ghost use Rattle.vz_refs.specs.Lasting.{Held, Stands, IsKept, surface_in, numbers_in, lasting_in, room_in, LAST_NUMBER};
+
+    ghost Value = { Held };
+
+    ghost view = { λ a. record {
+      list = lasting_in (surface_in a.seats) a.ever;
+      spare = min (room_in a.seats) (min (spare_of a.numbers) (LAST_NUMBER - a.given));
+    } };
+
+    ghost invariant = { λ a. Stands a.seats
+        × IsKept (surface_in a.seats) (numbers_in a.numbers) a.given a.ever };
+}
+
+impl Temporaries {
+    /// There are none. It takes no memory.
+    pub(crate) fn new(alloc: Global) -> Temporaries
+        ensures { result.list ≡ [] }
+    {
+        Temporaries {
+            seats: Seats::new(alloc),
+            numbers: IndexMap::new(alloc),
+            given: 0,
+            ever: GhostList::new(),
+        }
+    }
+
+    /// Makes room for one.
+    pub(crate) fn reserve(&mut self) -> Result<(), Memory>
+        ensures list { self.new.list ≡ self.old.list }
+        ensures ok { OnOk result (0 < self.new.spare) }
+        ensures succeeds { 0 < self.old.spare → IsOk result }
+        ensures spare { self.old.spare ≤ self.new.spare }
+    {
+        if self.given == u64::MAX {
+            return Err(Memory);
+        }
+        self.seats.reserve()?;
+        self.numbers.reserve(1)?;
+        Ok(())
+    }
+
+    /// How many there are.
+    pub(crate) fn len(&self) -> usize
+        ensures { result ≡ length self.now.list }
+    {
+        self.seats.kept.len()
+    }
+
+    /// All of them, in no order, by their names.
+    pub(crate) fn all(&self) -> &IndexMap<Name, Kept>
+        ensures ids { (x : SurfaceOf)
+            → list_any (same_surface x) (map (λ t. t.id) (all_in result.now.entries))
+            ≡ list_any (same_surface x) (map (λ t. t.id) self.now.list) }
+        ensures len { length result.now.entries ≡ length self.now.list }
+    {
+        prove!(self.seats.kept.len() < usize::MAX);
+        &self.seats.kept
+    }
+
+    /// A surface is temporary until a tick. Condition: there is room for it.
+    pub(crate) fn keep(&mut self, id: SurfaceId, until: u32)
+        requires { 0 < self.old.spare }
+        ensures list { self.new.list ≡ self.old.list ++ record { id = id; until = until } ∷ [] }
+        ensures spare { self.old.spare ≤ self.new.spare + 1 }
+    {
+        let Numbers { first, next } = numbers_until(&self.numbers, until, self.given);
+        let name = Name {
+            until,
+            number: next,
+        };
+        self.seats.put(name, id);
+        let numbers = Numbers {
+            first,
+            next: next + 1,
+        };
+        self.numbers.insert(until, numbers).unwrap();
+        self.given += 1;
+        self.ever.show(&Named { name, id });
+    }
+
+    /// Ends those that one of these ranges names.
+    pub(crate) fn end_named(&mut self, ranges: &[SurfaceRange])
+        ensures list { self.new.list ≡ unnamed ranges.now self.old.list }
+        ensures spare { self.old.spare ≤ self.new.spare }
+    {
+        for range in ranges {
+            self.end_one(range);
+        }
+    }
+
+    /// Ends those that a range names.
+    fn end_one(&mut self, range: &SurfaceRange)
+        ensures list { self.new.list ≡ filter (λ t. not (names t.id range.now)) self.old.list }
+        ensures spare { self.old.spare ≤ self.new.spare }
+    {
+        self.seats.end_named(range);
+    }
+
+    /// Ends those that last to a tick at most.
+    pub(crate) fn tick(&mut self, n: u32)
+        ensures list { self.new.list ≡ lasting n self.old.list }
+        ensures spare { self.old.spare ≤ self.new.spare }
+    {
+        end_all(&mut self.seats, &self.numbers, n);
+        keep_later(&mut self.numbers, n);
+    }
+
+    /// Ends those of a sink.
+    pub(crate) fn sink_gone(&mut self, sink: FrameSinkId)
+        ensures list { self.new.list ≡ of_others sink self.old.list }
+        ensures spare { self.old.spare ≤ self.new.spare }
+    {
+        self.seats.end_of(sink);
+    }
+}
+
+/// The numbers until a tick. Where there are none, the next one is behind all that were given.
+fn numbers_until(numbers: &IndexMap<u32, Numbers>, until: u32, given: u64) -> Numbers
+    ensures { result ≡ numbers_or given (numbers_in numbers.now until) }
+{
+    match numbers.get(&until) {
+        Some(all) => *all,
+        None => Numbers {
+            first: given,
+            next: given,
+        },
+    }
+}
+
+/// Ends those that last to a tick at most. Condition: there are numbers for each.
+fn end_all(seats: &mut Seats, numbers: &IndexMap<u32, Numbers>, tick: u32)
+    requires stands { Stands seats.old }
+    requires within { AreWithin (surface_in seats.old) (numbers_in numbers.now) }
+    ensures ends { Ends (over_at tick) seats.old seats.new }
+    ensures rid { IsRid (over_at tick) seats.new }
+{
+    for at in 0..numbers.len() {
+        end_at(seats, numbers, at, tick);
+    }
+}
+
+/// Ends those that last until the tick at a place, where a tick has come.
+fn end_at(seats: &mut Seats, numbers: &IndexMap<u32, Numbers>, at: usize, tick: u32)
+    requires stands { Stands seats.old }
+    ensures ends { Ends (over_at tick) seats.old seats.new }
+    ensures rid { (n : NameOf) (all : NumbersOf)
+        → slice_get (keys_of numbers.now.entries) at ≡ Some n.until
+        → n.until ≤ tick → numbers_in numbers.now n.until ≡ Some all
+        → all.first ≤ n.number → n.number < all.next
+        → surface_in seats.new n ≡ None }
+{
+    if let Some((until, all)) = numbers.get_index(at) {
+        if *until <= tick {
+            seats.end_until(*until, all.first, all.next);
+        }
+    }
+}
+
+/// The numbers until later ticks stay.
+fn keep_later(numbers: &mut IndexMap<u32, Numbers>, tick: u32)
+    ensures numbers { (u : ℕ) → numbers_in numbers.new u
+        ≡ cond (nat_lt tick u) (numbers_in numbers.old u) None }
+    ensures spare { spare_of numbers.old ≤ spare_of numbers.new }
+{
+    numbers.retain(
+        |until: &u32, _all: &mut Numbers| -> bool
+            ensures { (result ≡ nat_lt tick until.now) × (_all.new ≡ _all.old) }
+        { *until > tick },
+    );
+}
