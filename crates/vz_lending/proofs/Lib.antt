@@ -1,0 +1,3 @@
+pub mod Totals
+pub mod Listings
+pub mod Going_back
