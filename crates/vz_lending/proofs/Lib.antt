@@ -1,3 +1,5 @@
 pub mod Totals
 pub mod Listings
 pub mod Going_back
+pub mod Counting
+pub mod Alive

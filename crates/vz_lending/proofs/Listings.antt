@@ -30,11 +30,11 @@ pub done_next : {S : Type 0} (f : List ℕ → S → S) (g : ℕ → S → S) �
 done_next f g step L k d now new all inside was is =
     ap (f (ids_of (drop (k + 1) L))) is ∙ (sym (step (slice_index_or L k d).id (ids_of (drop (k + 1) L)) now) ∙ (sym (ap (λ l. f (ids_of l) now) (left_next L k d inside)) ∙ was))
 
-or_no : (a b : Bool) → (a || b) ≡ false → (a ≡ false) × (b ≡ false)
+pub or_no : (a b : Bool) → (a || b) ≡ false → (a ≡ false) × (b ≡ false)
 or_no true b h = absurd (cc)
 or_no false b h = (refl, h)
 
-other_way : (a b : ℕ) → (a == b) ≡ false → (b == a) ≡ false
+pub other_way : (a b : ℕ) → (a == b) ≡ false → (b == a) ≡ false
 other_way a b e = grind (arith, nat_tests, e)
 
 pub once_parts : (L : List Listing) (k : ℕ) (d : Listing) → k < length L → lists_twice (drop k L) ≡ false

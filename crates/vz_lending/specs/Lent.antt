@@ -58,10 +58,6 @@ IsOf client lenders l = slice_get lenders (client - 1) ≡ Some l
 abbrev pub NoneReleased : List Lent → Type 0
 NoneReleased lenders = (l : Lent) → Contains lenders l → l.released ≡ []
 
--- of each resource of a client one more reference can be counted
-abbrev pub AreFew : ℕ → List Lent → Type 0
-AreFew client lenders = (l : Lent) (id : ℕ) → IsOf client lenders l → IsCountable id l.holding
-
 -- there is room for a client to lend so many more resources
 abbrev pub HasRoom : ℕ → ℕ → List Lent → Type 0
 HasRoom n client lenders = (l : Lent) → IsOf client lenders l → (n ≤ l.spare) × (n ≤ l.places)
@@ -70,20 +66,24 @@ HasRoom n client lenders = (l : Lent) → IsOf client lenders l → (n ≤ l.spa
 abbrev pub HasPlaces : ℕ → ℕ → List Lent → Type 0
 HasPlaces n client lenders = (l : Lent) → IsOf client lenders l → n ≤ l.places
 
--- of each of a client's resources so many references are alive and not released
-abbrev pub AreOut : List ℕ → ℕ → List Lent → Type 0
-AreOut ids client lenders = (l : Lent) → IsOf client lenders l → Suffice (l.released ++ ids) l.holding
-
--- of each of a client's resources so many references are alive
-abbrev pub AreAlive : List ℕ → ℕ → List Lent → Type 0
-AreAlive ids client lenders = (l : Lent) → IsOf client lenders l → Suffice ids l.holding
-
 -- the resources of clients of which some reference is alive
 unfoldable pub resources_out : List Lent → ℕ
 resources_out lenders = sum_by (λ (l : Lent). length l.holding.counted) lenders
 
+-- one is the other, with no less room
+pub record IsRoomier (old new : Lent) : Type 0 where
+  pub holding : new.holding ≡ old.holding
+  pub released : new.released ≡ old.released
+  pub spare : old.spare ≤ new.spare
+  pub places : old.places ≤ new.places
+
+-- nothing changes but that there may be more room
+pub record AreRoomier (old new : List Lent) : Type 0 where
+  pub many : length new ≡ length old
+  pub each : (n : ℕ) (o l : Lent) → slice_get old n ≡ Some o → slice_get new n ≡ Some l → IsRoomier o l
+
 -- a client's counts change so and these of its references are released; nothing changes for the others
 pub record IsAfter (client : ℕ) (change : Holding → Holding) (ids : List ℕ) (old new : List Lent) : Type 0 where
   pub many : length new ≡ length old
-  pub own : (l : Lent) → IsOf client new l → (o : Lent) × IsOf client old o × (l.holding ≡ change o.holding) × (l.released ≡ o.released ++ ids)
+  pub own : (o l : Lent) → IsOf client old o → IsOf client new l → (l.holding ≡ change o.holding) × (l.released ≡ o.released ++ ids)
   pub others : (n : ℕ) → (n == client - 1) ≡ false → slice_get new n ≡ slice_get old n

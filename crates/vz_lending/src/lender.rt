@@ -178,6 +178,37 @@ impl Lender {
         }
     }
 
+    /// Lends each listed resource once more, and releases a reference of each of others. Conditions:
+    /// no resource is listed twice, of each one more reference can be counted, there is room for
+    /// all, and so many of the others are alive and not released.
+    pub(crate) fn accept(&mut self, listings: &[Listing], replaced: &[Listing])
+        requires once { IsFalse (lists_twice listings.now) }
+        requires countable { AreCountable (ids_of listings.now) self.old.holding }
+        requires spare { length listings.now ≤ self.old.spare }
+        requires places { length listings.now ≤ self.old.places }
+        requires suffice { Suffice (self.old.released ++ ids_of replaced.now) self.old.holding }
+        ensures holding { self.new.holding ≡ lent_all (ids_of listings.now) self.old.holding }
+        ensures released { self.new.released ≡ self.old.released ++ ids_of replaced.now }
+        ensures out { length self.new.holding.counted
+            ≤ length self.old.holding.counted + length listings.now }
+    {
+        self.lend_all(listings);
+        self.release_all(replaced);
+    }
+
+    /// Releases a reference of each resource that two lists have. Condition: so many are alive and
+    /// not released.
+    pub(crate) fn drop_all(&mut self, waiting: &[Listing], active: &[Listing])
+        requires { Suffice (self.old.released ++ (ids_of waiting.now ++ ids_of active.now))
+            self.old.holding }
+        ensures holding { self.new.holding ≡ self.old.holding }
+        ensures released { self.new.released
+            ≡ self.old.released ++ (ids_of waiting.now ++ ids_of active.now) }
+    {
+        self.release_all(waiting);
+        self.release_all(active);
+    }
+
     /// Gives back what was released: each resource of which no reference is alive any more goes
     /// back, by rising id, and then nothing is released. It takes no memory. Conditions: so many
     /// references of each are alive, and `out` has room for all resources of which some is.

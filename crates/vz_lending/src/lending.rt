@@ -1,18 +1,19 @@
 //! The references that all clients lent.
-ghost use Rattle.std.specs.Prelude.{◌≡◌, true, false, ℕ, ◌≤◌, ◌+◌, ◌==◌, Some, None, List, [], ◌∷◌, ◌++◌, length, IsTrue, IsFalse, IfOk, OnOk};
-ghost use Rattle.std.specs.List.{Contains};
+ghost use Rattle.std.specs.Prelude.{◌≡◌, ℕ, ◌≤◌, ◌+◌, Some, List, [], ◌∷◌, ◌++◌, length, IfOk, OnOk, OnErr, IfSome};
+ghost use Rattle.std.specs.List.{Contains, flat_map};
 ghost use Rattle.vz_ids.specs.declared.LocalSurfaceId.{LocalSurfaceId};
 ghost use Rattle.vz_ids.specs.declared.Sub.{Sub};
 ghost use Rattle.vz_frame.specs.declared.frame.CompositorFrame.{CompositorFrame};
 ghost use Rattle.vz_rules.specs.Plan.{Plan};
-ghost use Rattle.vz_rules.specs.World.{World, Client, Created, Submission, opening, is_waiting, is_active, has_sub, last_created, sub_of};
-ghost use Rattle.vz_rules.specs.Messages.{accepted, id_of, submit_refusal, taking, reclaim};
+ghost use Rattle.vz_rules.specs.World.{World, Client, Created, Submission, opening, sub_of};
+ghost use Rattle.vz_rules.specs.Messages.{accepted, in_use, taking, reclaim};
 ghost use Rattle.vz_rules.specs.Returns.{returned_in, give_back};
 ghost use Rattle.vz_rules.specs.Singly.{rising, going};
+ghost use Rattle.vz_rules.specs.Log.{rest_in};
 ghost use Rattle.vz_rules.specs.Kept.{KeepsAlways};
-ghost use Rattle.vz_returns.specs.Holding.{in_use};
-ghost use Rattle.vz_lending.specs.Lent.{AreLent, IsLender, NoneReleased, AreFew, HasRoom, HasPlaces, AreOut, AreAlive, IsAfter, resources_out};
-ghost use Rattle.vz_lending.specs.Listed.{lists_twice, waiting_listings, active_listings};
+ghost use Rattle.vz_returns.specs.Holding.{held};
+ghost use Rattle.vz_lending.specs.Lent.{Lent, AreLent, IsLender, IsOf, NoneReleased, HasRoom, HasPlaces, AreRoomier, resources_out};
+ghost use Rattle.vz_lending.specs.Changes.{IsAccepted, IsRising, IsGoing, IsDrawn, IsDone};
 
 use crate::lender::Lender;
 use std::alloc::Global;
@@ -50,5 +51,228 @@ impl Lending {
             lenders.push_reserved(Lender::new(alloc, k + 1));
         }
         Ok(Lending { lenders })
+    }
+
+    /// Makes room for the next submission of a client with so many listings: for the resources that
+    /// it lends, and for the release of their references. Memory is the only error. Nothing else
+    /// changes in any case, and no room is lost.
+    pub fn ready(&mut self, client: u32, listings: usize) -> Result<(), Memory>
+        requires known { IsLender client self.old }
+        ensures room { OnOk result (HasRoom listings client self.new) }
+        ensures same { AreRoomier self.old self.new }
+        ensures lent { (w : World) → AreLent w self.old → AreLent w self.new }
+    {
+        self.lenders[client as usize - 1].ready(listings)
+    }
+
+    /// Makes room for a drawn frame with so many listings in all. Memory is the only error. Nothing
+    /// else changes in any case, and no room is lost.
+    pub fn ready_to_draw(&mut self, listings: usize) -> Result<(), Memory>
+        ensures room { OnOk result ((client : ℕ) → HasPlaces listings client self.new) }
+        ensures same { AreRoomier self.old self.new }
+        ensures lent { (w : World) → AreLent w self.old → AreLent w self.new }
+    {
+        make_places(&mut self.lenders, listings)
+    }
+
+    /// Makes room in `out` for a return of each resource of which some reference is alive, and for
+    /// so many more. Memory is the only error, and then nothing changes.
+    pub fn make_room(&self, more: usize, out: &mut Room<Returned>) -> Result<(), Memory>
+        ensures ok { OnOk result (resources_out self.now + more ≤ out.new.spare) }
+        ensures list { out.new.list ≡ out.old.list }
+        ensures err { OnErr result (out.new ≡ out.old) }
+    {
+        match count_out(&self.lenders, more) {
+            Some(places) => out.reserve(places),
+            None => Err(Memory),
+        }
+    }
+
+    /// Whether an upload of a resource is refused, as a reference of it was lent that the client
+    /// has not taken back.
+    pub fn in_use(&self, client: u32, id: u32) -> bool
+        requires known { IsLender client self.now }
+        ensures { (w : World) (c : Client) → KeepsAlways w → Contains w.clients c
+            → c.number ≡ client → NoneReleased self.now → AreLent w self.now
+            → result ≡ in_use c.resources id }
+    {
+        self.lenders[client as usize - 1].in_use(id)
+    }
+
+    /// A submission of a client is accepted: each resource that it lists is lent once more, and
+    /// those of the one that it replaces are released. Condition: there is room for its listings.
+    pub fn accept(&mut self, client: u32, listings: &[Listing], replaced: &[Listing])
+        requires known { IsLender client self.old }
+        requires accepted { (p : Plan) × (w : World) × (c : Client) × (local : LocalSurfaceId)
+            × (frame : CompositorFrame)
+            × IsAccepted p w c local frame client listings.now replaced.now self.old }
+        requires room { HasRoom (length listings.now) client self.old }
+        ensures lent { (p : Plan) (w : World) (c : Client) (local : LocalSurfaceId)
+            (frame : CompositorFrame)
+            → IsAccepted p w c local frame client listings.now replaced.now self.old
+            → AreLent (accepted w c local frame).world self.new }
+        ensures out { resources_out self.new ≤ resources_out self.old + length listings.now }
+    {
+        self.lenders[client as usize - 1].accept(listings, replaced);
+    }
+
+    /// A submission becomes active: the resources of the active one of its surface are released.
+    pub fn past(&mut self, client: u32, listings: &[Listing])
+        requires known { IsLender client self.old }
+        requires rises { (w : World) × (s : Submission)
+            × IsRising w s client listings.now self.old }
+        ensures lent { (w : World) (s : Submission) → IsRising w s client listings.now self.old
+            → AreLent (rising s w) self.new }
+        ensures out { resources_out self.new ≡ resources_out self.old }
+    {
+        self.lenders[client as usize - 1].release_all(listings);
+    }
+
+    /// A surface is destroyed: the resources of its waiting and of its active submission are
+    /// released.
+    pub fn dropped(&mut self, client: u32, waiting: &[Listing], active: &[Listing])
+        requires known { IsLender client self.old }
+        requires goes { (w : World) × (d : Created)
+            × IsGoing w d client waiting.now active.now self.old }
+        ensures lent { (w : World) (d : Created)
+            → IsGoing w d client waiting.now active.now self.old
+            → AreLent (going d w) self.new }
+        ensures out { resources_out self.new ≡ resources_out self.old }
+    {
+        self.lenders[client as usize - 1].drop_all(waiting, active);
+    }
+
+    /// A submission is in a drawn frame: it holds its resources once more. Condition: there are
+    /// places for its listings.
+    pub fn drawn(&mut self, client: u32, listings: &[Listing])
+        requires known { IsLender client self.old }
+        requires drawn { (p : Plan) × (w : World) × (before : List Sub) × (s : Submission)
+            × IsDrawn p w before s client listings.now self.old }
+        requires room { HasPlaces (length listings.now) client self.old }
+        ensures lent { (p : Plan) (w : World) (before : List Sub) (s : Submission)
+            → IsDrawn p w before s client listings.now self.old
+            → AreLent (record w { in_flight = Some (before ++ sub_of s ∷ []) }) self.new }
+        ensures released { NoneReleased self.old → NoneReleased self.new }
+        ensures places { (n : ℕ) (q : ℕ) → HasPlaces (n + length listings.now) q self.old
+            → HasPlaces n q self.new }
+        ensures out { resources_out self.new ≡ resources_out self.old }
+    {
+        self.lenders[client as usize - 1].hold_all(listings);
+    }
+
+    /// The drawn frame is done: the resources of a submission in it are released.
+    pub fn landed(&mut self, client: u32, listings: &[Listing])
+        requires known { IsLender client self.old }
+        requires done { (w : World) × (s : Submission) × (others : List Sub)
+            × IsDone w s others client listings.now self.old }
+        ensures lent { (w : World) (s : Submission) (others : List Sub)
+            → IsDone w s others client listings.now self.old
+            → AreLent (record w { in_flight = Some others }) self.new }
+        ensures out { resources_out self.new ≡ resources_out self.old }
+    {
+        self.lenders[client as usize - 1].release_all(listings);
+    }
+
+    /// Gives back what was released: each resource of which no reference is alive any more goes
+    /// back with all that were received, by client and rising id. Condition: `out` has room for
+    /// each resource of which some reference was alive.
+    pub fn give_back(&mut self, out: &mut Room<Returned>)
+        requires stands { (w : World) × KeepsAlways w × AreLent w self.old }
+        requires room { resources_out self.old ≤ out.old.spare }
+        ensures returned { (w : World) → KeepsAlways w → AreLent w self.old
+            → out.new.list ≡ out.old.list ++ returned_in w }
+        ensures lent { (w : World) → KeepsAlways w → AreLent w self.old
+            → AreLent (give_back w) self.new }
+        ensures released { NoneReleased self.new }
+        ensures out { resources_out self.new ≤ resources_out self.old }
+    {
+        give_back_each(&mut self.lenders, out);
+    }
+
+    /// How many returns are in a client's queue.
+    pub fn queued(&self, client: u32) -> usize
+        requires known { IsLender client self.now }
+        ensures { (w : World) (c : Client) → KeepsAlways w → Contains w.clients c
+            → c.number ≡ client → AreLent w self.now → result ≡ length c.queue }
+    {
+        self.lenders[client as usize - 1].queued()
+    }
+
+    /// Appends the queue of a client, and empties it. Condition: `out` has room for all in it.
+    pub fn reclaim(&mut self, client: u32, out: &mut Room<Returned>)
+        requires known { IsLender client self.old }
+        requires room { (l : Lent) → IsOf client self.old l
+            → length l.holding.queue ≤ out.old.spare }
+        ensures returned { (w : World) (c : Client) → KeepsAlways w → Contains w.clients c
+            → c.number ≡ client → AreLent w self.old → out.new.list ≡ out.old.list ++ c.queue }
+        ensures lent { (w : World) (c : Client) → KeepsAlways w → Contains w.clients c
+            → c.number ≡ client → AreLent w self.old → AreLent (taking reclaim c w) self.new }
+        ensures released { NoneReleased self.old → NoneReleased self.new }
+        ensures out { resources_out self.new ≡ resources_out self.old }
+    {
+        self.lenders[client as usize - 1].take(out);
+    }
+
+    /// Appends each resource of which some reference is alive, by client and rising id, with all
+    /// that were received. Condition: `out` has room for all.
+    pub fn held(&self, out: &mut Room<Returned>)
+        requires room { resources_out self.now ≤ out.old.spare }
+        ensures { (w : World) → KeepsAlways w → AreLent w self.now
+            → out.new.list ≡ out.old.list ++ (rest_in w).held }
+    {
+        put_held(&self.lenders, out);
+    }
+}
+
+/// How many resources have some reference that is alive, and so many more, if it can be counted.
+fn count_out(lenders: &[Lender], more: usize) -> Option<usize>
+    ensures { IfSome result (λ n. n ≡ resources_out lenders.now + more) }
+{
+    let mut places = more;
+    for lender in lenders {
+        match places.checked_add(lender.listed()) {
+            Some(all) => places = all,
+            None => return None,
+        }
+    }
+    Some(places)
+}
+
+/// Makes places for so many more references of each client. Memory is the only error.
+fn make_places(lenders: &mut [Lender], n: usize) -> Result<(), Memory>
+    ensures same { AreRoomier lenders.old lenders.new }
+    ensures room { OnOk result ((client : ℕ) → HasPlaces n client lenders.new) }
+{
+    for k in 0..lenders.len() {
+        lenders[k].make_places(n)?;
+    }
+    Ok(())
+}
+
+/// Gives back what each client's references give. Condition: `out` has room for each resource of
+/// which some reference was alive.
+fn give_back_each(lenders: &mut [Lender], out: &mut Room<Returned>)
+    requires stands { (w : World) × KeepsAlways w × AreLent w lenders.old }
+    requires room { resources_out lenders.old ≤ out.old.spare }
+    ensures returned { (w : World) → KeepsAlways w → AreLent w lenders.old
+        → out.new.list ≡ out.old.list ++ returned_in w }
+    ensures lent { (w : World) → KeepsAlways w → AreLent w lenders.old
+        → AreLent (give_back w) lenders.new }
+    ensures released { NoneReleased lenders.new }
+    ensures out { resources_out lenders.new ≤ resources_out lenders.old }
+{
+    for k in 0..lenders.len() {
+        lenders[k].give_back(out);
+    }
+}
+
+/// Appends each client's resources of which some reference is alive. Condition: `out` has room for
+/// all.
+fn put_held(lenders: &[Lender], out: &mut Room<Returned>)
+    requires room { resources_out lenders.now ≤ out.old.spare }
+    ensures out { out.new.list ≡ out.old.list ++ flat_map (λ (l : Lent). held l.holding) lenders.now }
+{
+    for lender in lenders {
+        lender.held(out);
     }
 }
