@@ -136,7 +136,7 @@ alive_step w v f ended subs flight same split c id =
     omega (arith, there, flies, moved, moved_too)
 
 -- of the submissions on a surface that pass a test there is at most one
-one_there : (p : Submission → Bool) (id : SurfaceId) (subs : List Submission) → count_by (λ s. is_on id s && p s) subs ≤ 1 → count_by (λ s. p s && is_on id s) subs ≤ 1
+pub one_there : (p : Submission → Bool) (id : SurfaceId) (subs : List Submission) → count_by (λ s. is_on id s && p s) subs ≤ 1 → count_by (λ s. p s && is_on id s) subs ≤ 1
 one_there p id subs few =
     subst (λ n. n ≤ 1) (sym (count_both (λ s. p s && is_on id s) (λ s. is_on id s && p s) (λ s. false) subs (λ s q. split_by _ _ false (swap (p s) (is_on id s)) refl) ∙ none subs)) few
   where
@@ -152,7 +152,7 @@ one_there p id subs few =
 -- Where one becomes active
 
 module _ (w : World) (h : KeepsAlways w) where
-  one_named : (s t : Submission) → Contains w.subs s → Contains w.subs t → same_sub (sub_of s) (sub_of t) ≡ true → s ≡ t
+  pub one_named : (s t : Submission) → Contains w.subs s → Contains w.subs t → same_sub (sub_of s) (sub_of t) ≡ true → s ≡ t
   one_named s t p q e =
       let n = contains_at w.subs s p in
       let m = contains_at w.subs t q in
