@@ -77,7 +77,7 @@ module _ (w : World) (h : KeepsAlways w) (c : Client) (known : Contains w.client
           ∙ or_first _ _ (sym (found (λ (s : Created). same_surface s.id id && not s.destroyed) w.surfaces) ∙ e))
 
   -- the world after it, without the new submission
-  abbrev before_it : World
+  abbrev pub before_it : World
   before_it = record (accepted w c local frame).world { subs = map (replace_on (id_of c local)) w.subs }
 
   replaced_frame : (t : Submission) → (replace_on (id_of c local) t).submitted ≡ t.submitted
@@ -166,7 +166,7 @@ module _ (w : World) (h : KeepsAlways w) (c : Client) (known : Contains w.client
   unfolding new_submission
   new_client = refl
 
-  alive_before : (client : ℕ) (M : List Listing) → c.number ≡ client → M ≡ waiting_listings w (id_of c local) → lists_twice M ≡ false → (q id : ℕ) → alive_in w q id ≡ alive_in before_it q id + share client M q id
+  pub alive_before : (client : ℕ) (M : List Listing) → c.number ≡ client → M ≡ waiting_listings w (id_of c local) → lists_twice M ≡ false → (q id : ℕ) → alive_in w q id ≡ alive_in before_it q id + share client M q id
   unfolding accepted
   alive_before client M number replaced once q id =
       let waits : Submission → Bool = λ x. is_waiting x && is_on (id_of c local) x in

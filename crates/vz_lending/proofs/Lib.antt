@@ -5,3 +5,6 @@ pub mod Counting
 pub mod Alive
 pub mod Accepted
 pub mod Steps
+pub mod Clients
+pub mod Changed
+pub mod Rooms
