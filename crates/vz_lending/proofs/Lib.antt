@@ -8,3 +8,4 @@ pub mod Steps
 pub mod Clients
 pub mod Changed
 pub mod Rooms
+pub mod Returning

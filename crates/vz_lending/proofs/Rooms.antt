@@ -7,7 +7,7 @@ use Rattle.vz_rules.specs.World.{World, Client}
 use Rattle.vz_rules.specs.declared.entry.Returned.{Returned}
 use Rattle.vz_rules.proofs.Members.{at_within, at_contains, contains_at}
 use Rattle.vz_rules.proofs.Kept_small.{at_there}
-use Rattle.vz_returns.specs.Holding.{Holding, is_rising, lent, shared}
+use Rattle.vz_returns.specs.Holding.{Counted, Holding, received_of, alive_of, is_rising, lent, shared}
 use Rattle.vz_returns.specs.Giving.{AreCounts}
 use Rattle.vz_returns.proofs.Orders.{put_more, put_same, counts_there, rising_put}
 use Rattle.vz_returns.proofs.Releases.{from_eqb}
@@ -32,12 +32,13 @@ out_more items k n o new at e = omega (arith, sum_set (λ (l : Lent). length l.h
 
 pub lent_length : (ids : List ℕ) (h : Holding) → length (lent_all ids h).counted ≤ length h.counted + length ids
 lent_length [] h = omega arith
-lent_length (id ∷ ids) h = omega (arith, lent_length ids (lent id h), put_more _ h.counted)
+lent_length (id ∷ ids) h = omega (arith, lent_length ids (lent id h), put_more (record { id = id; received = received_of id h.counted + 1; alive = alive_of id h.counted + 1 }) h.counted)
 
 pub shared_length : (ids : List ℕ) (h : Holding) → is_rising h.counted ≡ true → Suffice ids h → length (shared_all ids h).counted ≡ length h.counted
 shared_length [] h up s = refl
 shared_length (id ∷ ids) h up s =
-    shared_length ids (shared id h) (rising_put _ h.counted up) (suffice_shared id ids h s) ∙ put_same _ h.counted up (counts_there id h.counted (first_some id ids h s))
+    let c : Counted = record { id = id; received = received_of id h.counted; alive = alive_of id h.counted + 1 } in
+    shared_length ids (shared id h) (rising_put c h.counted up) (suffice_shared id ids h s) ∙ put_same c h.counted up (counts_there id h.counted (first_some id ids h s))
 
 -- one by one
 

@@ -5,3 +5,6 @@ give_back-requires-clause-suffice c = ?
 
 pub give_back-requires-clause-room : goal.give_back-requires-clause-room
 give_back-requires-clause-room c = ?
+
+pub loop-k-preserved : goal.loop-k-preserved
+loop-k-preserved c = ?

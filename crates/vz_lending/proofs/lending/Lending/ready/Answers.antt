@@ -1,9 +1,14 @@
-use Rattle.std.proofs.Common.{◌≡◌, ap, sym, subst, refl, ◌∙◌, ◌+◌, ◌-◌, length, arith}
-use Rattle.vz_lending.specs.Lent.{IsLender, AreLent, NoneReleased, HasRoom, HasPlaces, resources_out}
-use Rattle.vz_lending.specs.Changes.{IsAccepted, IsRising, IsGoing, IsDrawn, IsDone}
-use Rattle.vz_lending.specs.Listed.{ids_of}
-use Rattle.vz_lending.proofs.Rooms.{roomier_lent}
+use Rattle.std.proofs.Common.{ap, sym, subst, ◌∙◌, ◌-◌, arith}
+use Rattle.vz_lending.specs.Lent.{IsLender, AreLent}
+use Rattle.vz_lending.proofs.Changed.{here}
+use Rattle.vz_lending.proofs.Rooms.{roomier_lent, roomier_set}
 use Rattle.vz_lending.proofs.lending.Lending.ready.Goals as goal
 
 pub returns-clause-lent : goal.returns-clause-lent
-returns-clause-lent c = λ w lent. roomier_lent w c.args.self.now _ (goal.returns-clause-same c) lent
+returns-clause-lent c = λ w lent.
+    let items = c.self.inside.lenders.items in
+    let known = subst (IsLender c.args.client) (sym c.self.view_is) c.requires.known in
+    let e = c.ready.ensures in
+    roomier_lent w items _
+    (roomier_set items (c.args.client - 1) c.index_mut.result.now c.ready.new.self (here items c.args.client known c.index_mut.result.now _ c.index_mut.ensures.value)
+    (record { holding = e.holding; released = e.released; spare = e.no_less; places = e.no_fewer })) (subst (AreLent w) (sym c.self.view_is) lent)
