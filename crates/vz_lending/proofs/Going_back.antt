@@ -110,3 +110,9 @@ given_in_order w c h xs ys up are moved order out new after grown is =
       grown ∙ ap (λ l. out ++ l) (returns_are w c h ys sorted up order),
       subst (λ x. AreCounts (give_back w) (queue_returns w c) x []) (sym is) (counts_after w c h ys sorted up order),
     )
+
+pub none_less_all : (ids : List ℕ) (h : Holding) → is_rising h.counted ≡ true → Suffice ids h → length (release_all ids h).counted ≤ length h.counted
+none_less_all [] h up s = omega arith
+none_less_all (id ∷ ids) h up s =
+    let some = first_some id ids h s in
+    omega (arith, none_less_all ids (released id h) (rising_released id h up) (rest_suffices id ids h s), none_less id h up some)

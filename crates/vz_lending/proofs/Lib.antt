@@ -9,3 +9,4 @@ pub mod Clients
 pub mod Changed
 pub mod Rooms
 pub mod Returning
+pub mod Beginning

@@ -25,15 +25,21 @@ use Rattle.vz_lending.proofs.Rooms.{by_place}
 
 pub record GivenTo (w : World) (k : ℕ) (now : List Lent) (start out : List Returned) : Type 0 where
   pub done : (n : ℕ) (c : Client) (l : Lent) → n < k → slice_get w.clients n ≡ Some c → slice_get now n ≡ Some l → AreCounts (give_back w) (queue_returns w c) l.holding l.released
-  pub out : out ≡ start ++ flat_map (returns_of w) (take k w.clients)
+  pub grown : out ≡ start ++ flat_map (returns_of w) (take k w.clients)
+
+one_more : (k : ℕ) → suc k ≡ k + 1
+one_more k = omega arith
+
+flat_after : {A B : Type 0} (f : A → List B) (xs : List A) (k : ℕ) (x : A) → slice_get xs k ≡ Some x → flat_map f (take (suc k) xs) ≡ flat_map f (take k xs) ++ f x
+flat_after f [] k x e = absurd (cc)
+flat_after f (y ∷ xs) zero x e = let same : y ≡ x = cc in append-nil (f y) ∙ ap f same
+flat_after f (y ∷ xs) (suc k) x e = ap (λ l. f y ++ l) (flat_after f xs k x e) ∙ sym (append_assoc (f y) (flat_map f (take k xs)) (f x))
 
 flat_next : {A B : Type 0} (f : A → List B) (xs : List A) (k : ℕ) (x : A) → slice_get xs k ≡ Some x → flat_map f (take (k + 1) xs) ≡ flat_map f (take k xs) ++ f x
-flat_next f [] k x e = absurd (cc)
-flat_next f (y ∷ xs) zero x e = let same : y ≡ x = cc in append-nil (f y) ∙ ap f same
-flat_next f (y ∷ xs) (suc k) x e = ap (λ l. f y ++ l) (flat_next f xs k x e) ∙ sym (append_assoc (f y) (flat_map f (take k xs)) (f x))
+flat_next f xs k x e = ap (λ n. flat_map f (take n xs)) (sym (one_more k)) ∙ flat_after f xs k x e
 
 pub given_first : (w : World) (now : List Lent) (start : List Returned) → GivenTo w 0 now start start
-given_first w now start = record { done = λ n c l low. absurd (omega (arith, low)); out = sym (append-nil start) }
+given_first w now start = record { done = λ n c l low. absurd (omega (arith, low)); grown = sym (append-nil start) }
 
 -- the one at this place, before it is given back to
 pub item_there : (now : List Lent) (k : ℕ) (d : Lent) → k < length now → slice_get now k ≡ Some (get_or now k d)
@@ -59,7 +65,7 @@ given_next w old now k o new start out more always lent left at given none so_fa
               let same : c.0 ≡ z = some_same c.0 z (sym c.1 ∙ r) in
               subst (λ x. AreCounts (give_back w) (queue_returns w x) new.holding new.released) same (subst (AreCounts (give_back w) (queue_returns w c.0) new.holding) (sym none) gives.1))
           (λ m y e s z here r. so_far.done m z y (less m k e here) r s) n l q d low p;
-      out = gives.0 ∙ (ap (λ l. l ++ returns_of w c.0) so_far.out ∙ (append_assoc start (flat_map (returns_of w) (take k w.clients)) (returns_of w c.0)
+      grown = gives.0 ∙ (ap (λ l. l ++ returns_of w c.0) so_far.grown ∙ (append_assoc start (flat_map (returns_of w) (take k w.clients)) (returns_of w c.0)
           ∙ ap (λ l. start ++ l) (sym (flat_next (returns_of w) w.clients k c.0 c.1))));
     }
   where
@@ -78,7 +84,7 @@ pub given_all : (w : World) (old now : List Lent) (k : ℕ) (start out : List Re
 unfolding returned_in give_back
 given_all w old now k start out lent many over within so_far =
     let end : k ≡ length w.clients = omega (arith, over, within, lent.many) in (
-      so_far.out ∙ ap (λ l. start ++ flat_map (returns_of w) l) (ap (λ n. take n w.clients) end ∙ take_all w.clients),
+      so_far.grown ∙ ap (λ l. start ++ flat_map (returns_of w) l) (ap (λ n. take n w.clients) end ∙ take_all w.clients),
       record {
         many = many ∙ (lent.many ∙ sym (length-map w.clients (queue_returns w)));
         each = λ n d l p q.
@@ -87,10 +93,13 @@ given_all w old now k start out lent many over within so_far =
       },
     )
 
+drop_after : {A : Type 0} (xs : List A) (k : ℕ) (x : A) → drop (suc k) (set xs k x) ≡ drop (suc k) xs
+drop_after [] k x = refl
+drop_after (y ∷ xs) zero x = refl
+drop_after (y ∷ xs) (suc k) x = drop_after xs k x
+
 drop_set : {A : Type 0} (xs : List A) (k : ℕ) (x : A) → drop (k + 1) (set xs k x) ≡ drop (k + 1) xs
-drop_set [] k x = refl
-drop_set (y ∷ xs) zero x = refl
-drop_set (y ∷ xs) (suc k) x = drop_set xs k x
+drop_set xs k x = ap (λ n. drop n (set xs k x)) (sym (one_more k)) ∙ (drop_after xs k x ∙ ap (λ n. drop n xs) (one_more k))
 
 pub out_behind : (now : List Lent) (k : ℕ) (new : Lent) → resources_out (drop (k + 1) (set now k new)) ≡ resources_out (drop (k + 1) now)
 out_behind now k new = ap resources_out (drop_set now k new)
@@ -169,3 +178,12 @@ module _ (items : List Lent) (client : ℕ) (known : IsLender client items) (o d
                 taken_counts new x held same (ap (λ z. took (reclaim z)) (sym one) ∙ sent);
             other = λ e l counts. other_taken n m.0 x l e m.1 m.2 counts;
           }
+
+pub later_other : (n k : ℕ) → k + 1 ≤ n → (n == k) ≡ false
+later_other n k l = grind (arith, nat_tests, l)
+
+pub earlier_other : (m k : ℕ) → (m == k) ≡ false → m < k + 1 → m < k
+earlier_other m k e l = grind (arith, nat_tests, e, l)
+
+pub all_none : (items : List Lent) (k : ℕ) → length items ≤ k → ((n : ℕ) (x : Lent) → n < k → slice_get items n ≡ Some x → x.released ≡ []) → NoneReleased items
+all_none items k over none l there = let n = contains_at items l there in none n.0 l (omega (arith, at_within items n.0 l n.1, over)) n.1

@@ -66,7 +66,7 @@ same_roomier l = record { holding = refl; released = refl; spare = omega arith; 
 some_same : {A : Type 0} (x y : A) → ◌≡◌ {A = Option A} (Some x) (Some y) → x ≡ y
 some_same x y e = cc
 
-length_set : {A : Type 0} (xs : List A) (k : ℕ) (x : A) → length (set xs k x) ≡ length xs
+pub length_set : {A : Type 0} (xs : List A) (k : ℕ) (x : A) → length (set xs k x) ≡ length xs
 length_set [] k x = refl
 length_set (y ∷ xs) zero x = refl
 length_set (y ∷ xs) (suc k) x = ap suc (length_set xs k x)
@@ -121,3 +121,7 @@ pub places_set : (items : List Lent) (k m : ℕ) (o new : Lent) → slice_get it
 places_set items k m o new at fewer n q has l is =
     by_place (λ j y. j ≡ q - 1 → n ≤ y.places) items k o new at (λ e. let h = has o (sym (ap (slice_get items) e) ∙ at) in omega (arith, h, fewer))
     (λ j y f p e. let h = has y (sym (ap (slice_get items) e) ∙ p) in omega (arith, h)) (q - 1) l is refl
+
+pub out_none : resources_out [] ≡ 0
+unfolding resources_out
+out_none = refl

@@ -222,6 +222,7 @@ impl Lender {
         ensures released { self.new.released ≡ [] }
         ensures room { out.old.spare + length self.new.holding.counted
             ≤ out.new.spare + length self.old.holding.counted }
+        ensures fewer { length self.new.holding.counted ≤ length self.old.holding.counted }
         ensures spare { self.old.spare ≤ self.new.spare }
         ensures places { self.old.places ≤ self.new.places }
     {

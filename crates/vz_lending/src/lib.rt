@@ -1,6 +1,7 @@
 //! The references that all clients lent, for the fast machine.
 #![tactic(auto)]
 
+pub mod laws;
 mod lender;
 mod lending;
 

@@ -6,7 +6,7 @@ use Rattle.vz_returns.specs.Giving.{AreCounts, is_sorted}
 use Rattle.vz_returns.proofs.All_released.{rising_all}
 use Rattle.vz_lending.specs.Lent.{Suffice, all_alive}
 use Rattle.vz_lending.proofs.Totals.{no_more}
-use Rattle.vz_lending.proofs.Going_back.{fewer_alive, sorted_suffice, never_fall, given_in_order}
+use Rattle.vz_lending.proofs.Going_back.{fewer_alive, sorted_suffice, never_fall, given_in_order, none_less_all}
 use Rattle.vz_lending.proofs.lender.Lender.give_back.Goals as goal
 
 pub overflow_sub-self : goal.overflow_sub-self
@@ -40,3 +40,13 @@ returns-clause-given c = λ w d up are.
     let order : is_sorted given ≡ true = ap is_sorted c.deref.ensures.value ∙ never_fall _ (IsNonDecreasingBy-from_sort (λ n. n) _ c.sort_unstable.ensures.sorted) in
     let counts : AreCounts w d h ids = subst (λ v. AreCounts w d v.holding v.released) (sym c.self.view_is) are in
     given_in_order w d h ids given up counts moved order _ _ _ c.give_back_all.ensures.out c.give_back_all.ensures.holding
+
+pub returns-clause-fewer : goal.returns-clause-fewer
+returns-clause-fewer c =
+    let h = c.self.inside.holder.holding in
+    let ids = c.self.inside.released.items in
+    let given = c.deref.result.now in
+    let moved : IsPermutation ids given = subst (IsPermutation ids) (sym c.deref.ensures.value) c.sort_unstable.ensures.permutation in
+    let s : Suffice given h = sorted_suffice ids given h moved (subst (λ v. Suffice v.released v.holding) (sym c.self.view_is) c.requires.suffice) in
+    let same = ap (λ v. length v.holding.counted) c.self.view_is in
+    omega (arith, none_less_all given h c.self.invariant.2 s, ap (λ x. length x.counted) c.give_back_all.ensures.holding, same)
