@@ -69,7 +69,7 @@ some_mapped f None = refl
 some_mapped f (Some a) = refl
 
 -- a surface exists as before where each keeps its name and is destroyed where it was
-exists_kept : (g : Created → Created) (ss : List Created) (id : SurfaceId) → ((s : Created) → (g s).id ≡ s.id) → ((s : Created) → (g s).destroyed ≡ s.destroyed) → stands_in (map g ss) id ≡ stands_in ss id
+pub exists_kept : (g : Created → Created) (ss : List Created) (id : SurfaceId) → ((s : Created) → (g s).id ≡ s.id) → ((s : Created) → (g s).destroyed ≡ s.destroyed) → stands_in (map g ss) id ≡ stands_in ss id
 exists_kept g ss id name gone =
     ap is_some (find_map (λ (s : Created). same_surface s.id id && not s.destroyed) g ss (λ s. (λ i. same_surface (name s i) id && not (gone s i))))
     ∙ some_mapped g (find (λ (s : Created). same_surface s.id id && not s.destroyed) ss)

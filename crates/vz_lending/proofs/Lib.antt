@@ -10,3 +10,5 @@ pub mod Changed
 pub mod Rooms
 pub mod Returning
 pub mod Beginning
+pub mod Rest
+pub mod Staying

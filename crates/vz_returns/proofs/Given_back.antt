@@ -70,7 +70,7 @@ held_are_alive w c id =
 
 -- What is queued of a client
 
-pub given : (w : World) (n : ℕ) → List Resource → List Counted
+unfoldable pub given : (w : World) (n : ℕ) → List Resource → List Counted
 given w n rs = map as_counted (filter_map (return_of w n) rs)
 
 given_first : (f : Resource → Option Returned) (o : Option Returned) (rs : List Resource) → map as_counted (cons_option o (filter_map f rs)) ≡ cons_option (option_map as_counted o) (map as_counted (filter_map f rs))
@@ -102,7 +102,7 @@ given_rising w n (r ∷ rs) h =
     ∙ rising_first (goes_back w n r) (record { client = n; id = r.id; count = r.lent - r.queued }) (map as_counted (filter_map (return_of w n) rs)) (given_above w n r.id rs h.0) (given_rising w n rs h.1)
 
 -- what is found of one resource
-pub given_of : (w : World) (n : ℕ) → Option Resource → Option Counted
+unfoldable pub given_of : (w : World) (n : ℕ) → Option Resource → Option Counted
 given_of w n o = elim o [ Some r ↦ option_map as_counted (return_of w n r) | None ↦ None ]
 
 none_above : (n : ℕ) (list : List Counted) → list_all (λ x. nat_lt n x.id) list ≡ true → counted_at n list ≡ None
