@@ -1,8 +1,8 @@
 -- The references that are alive, as a submission is accepted and as a drawn frame holds more or less.
-use Rattle.std.proofs.Common.{◌≡◌, ℕ, suc, ◌+◌, ◌≤◌, ◌<◌, Bool, true, false, not, ◌&&◌, ◌||◌, ◌==◌, inl, inr, Option, Some, None, is_some, List, [], ◌∷◌, ◌++◌, map, find, take, count_by, slice_get, refl, ap, sym, subst, ◌∙◌, arith, cond, Contains}
-use Rattle.std.specs.List.{list_any, list_all}
+use Rattle.std.proofs.Common.{◌≡◌, ℕ, suc, ◌+◌, ◌≤◌, Bool, true, false, not, ◌&&◌, ◌||◌, ◌==◌, Option, Some, None, is_some, List, [], ◌∷◌, ◌++◌, map, find, count_by, slice_get, refl, ap, sym, ◌∙◌, arith, cond, Contains}
+use Rattle.std.specs.List.{list_any}
 use Rattle.std.specs.Option.{option_map}
-use Rattle.std.proofs.lemmas.Bool.{both_ways, and_parts, and_from, eqb-true, eq-eqb}
+use Rattle.std.proofs.lemmas.Bool.{and_parts, and_from, eqb-true, eq-eqb}
 use Rattle.std.proofs.lemmas.List.Folds.{list_any-append}
 use Rattle.vz_ids.specs.declared.SurfaceId.{SurfaceId}
 use Rattle.vz_ids.specs.declared.LocalSurfaceId.{LocalSurfaceId}
@@ -12,20 +12,20 @@ use Rattle.vz_frame.specs.declared.frame.CompositorFrame.{CompositorFrame}
 use Rattle.vz_frame.specs.declared.frame.Listing.{Listing}
 use Rattle.vz_frame.specs.declared.rules.Rule.{Rule}
 use Rattle.vz_frame.specs.declared.rules.Rule.TheVariants.{ListedTwice}
-use Rattle.vz_frame.specs.Frame.{lists, breaks, rules_in_order, first_broken}
+use Rattle.vz_frame.specs.Frame.{breaks, rules_in_order, first_broken}
 use Rattle.vz_rules.specs.declared.entry.State.TheVariants.{Dropped}
 use Rattle.vz_rules.specs.declared.entry.Refusal.TheVariants as refusal
 use Rattle.vz_rules.specs.World.{World, Client, Created, Submission, exists, is_waiting, is_active, is_on, has_sub, is_in_flight, last_created, sub_of}
 use Rattle.vz_rules.specs.Messages.{accepted, id_of, submit_refusal, new_submission, with_surface, replace_on, is_unknown, is_last, violates, has_other_size, first_some, when}
 use Rattle.vz_rules.specs.Kept.{KeepsAlways, borrows, is_by, stands_in}
 use Rattle.vz_rules.proofs.Reached.{from_same}
-use Rattle.vz_rules.proofs.Members.{contains_at, at_contains, at_same, find_at, found, any_at, any_from, push_contains_last, when_same}
+use Rattle.vz_rules.proofs.Members.{contains_at, at_contains, find_at, found, any_at, any_from, push_contains_last, when_same}
 use Rattle.vz_rules.proofs.Counts.{count_cons, count_push, count_none, count_at}
 use Rattle.vz_rules.proofs.Kept_facts.{subs_apart}
 use Rattle.vz_rules.proofs.Kept_last.{one_client}
 use Rattle.vz_rules.proofs.Kept_submits.{always_accepted}
 use Rattle.vz_returns.specs.Giving.{holds_there, holds_in_flight, alive_in}
-use Rattle.vz_lending.specs.Listed.{lists_twice, listed_by, waiting_listings}
+use Rattle.vz_lending.specs.Listed.{lists_twice, waiting_listings}
 use Rattle.vz_lending.proofs.Counting.{IsSplit, split_and, count_both, one_found, share, one_shares, found_shares}
 use Rattle.vz_lending.proofs.Alive.{split_by, split_gone, alive_step, one_there, one_named}
 

@@ -1,33 +1,29 @@
 -- The references that are alive, as surfaces and submissions change.
-use Rattle.std.proofs.Common.{◌≡◌, ℕ, ◌+◌, ◌≤◌, Bool, true, false, not, ◌&&◌, ◌||◌, ◌==◌, inl, inr, Option, Some, None, is_some, List, [], ◌∷◌, ◌++◌, map, find, count_by, slice_get, refl, ap, sym, subst, ◌∙◌, arith, cond, Contains}
+use Rattle.std.proofs.Common.{◌≡◌, ℕ, ◌+◌, ◌≤◌, Bool, true, false, not, ◌&&◌, ◌||◌, ◌==◌, Option, Some, None, is_some, List, [], ◌∷◌, map, find, count_by, refl, ap, sym, subst, ◌∙◌, arith, cond, Contains}
 use Rattle.std.specs.List.{list_any}
 use Rattle.std.specs.Option.{option_map}
-use Rattle.std.proofs.lemmas.Bool.{both_ways, and_parts, and_from}
-use Rattle.std.proofs.lemmas.List.Folds.{list_any-append}
+use Rattle.std.proofs.lemmas.Bool.{and_parts, and_from}
 use Rattle.vz_ids.specs.declared.SurfaceId.{SurfaceId}
-use Rattle.vz_ids.specs.declared.LocalSurfaceId.{LocalSurfaceId}
-use Rattle.vz_ids.specs.declared.Sub.{Sub}
 use Rattle.vz_ids.specs.Ids.{same_surface, same_sub}
-use Rattle.vz_frame.specs.declared.frame.CompositorFrame.{CompositorFrame}
 use Rattle.vz_frame.specs.declared.frame.Listing.{Listing}
 use Rattle.vz_frame.specs.Frame.{lists}
 use Rattle.vz_rules.specs.declared.entry.State.{State}
 use Rattle.vz_rules.specs.declared.entry.State.TheVariants.{Waiting, Active, Past, Dropped}
-use Rattle.vz_rules.specs.World.{World, Client, Created, Submission, exists, is_waiting, is_active, is_on, is_in_flight, sub_of}
+use Rattle.vz_rules.specs.World.{World, Created, Submission, exists, is_waiting, is_active, is_on, is_in_flight, sub_of}
 use Rattle.vz_rules.specs.Settle.{marked_by}
 use Rattle.vz_rules.specs.Reach.{drop_on}
 use Rattle.vz_rules.specs.Singly.{as_one_rises, rising, as_one_goes, going}
 use Rattle.vz_rules.specs.Kept.{KeepsAlways, borrows, stands_in}
-use Rattle.vz_rules.proofs.Reached.{from_same, self_same}
-use Rattle.vz_rules.proofs.Members.{contains_at, at_same, find_at, found, any_map, any_none, contains_map, any_at, when_same}
+use Rattle.vz_rules.proofs.Reached.{from_same}
+use Rattle.vz_rules.proofs.Members.{contains_at, at_same, find_at, found, any_map, when_same}
 use Rattle.vz_rules.proofs.Rising.{find_map}
 use Rattle.vz_rules.proofs.Counts.{count_none}
 use Rattle.vz_rules.proofs.Kept_facts.{subs_apart}
 use Rattle.vz_rules.proofs.Kept_small.{one_submitter}
 use Rattle.vz_rules.proofs.Kept_last.{one_owner}
 use Rattle.vz_returns.specs.Giving.{holds_there, holds_in_flight, alive_in}
-use Rattle.vz_lending.specs.Listed.{lists_twice, listed_by, waiting_listings, active_listings}
-use Rattle.vz_lending.proofs.Counting.{IsSplit, split_and, count_split, count_alike, count_both, one_found, share, one_shares, found_shares}
+use Rattle.vz_lending.specs.Listed.{lists_twice, waiting_listings, active_listings}
+use Rattle.vz_lending.proofs.Counting.{IsSplit, split_and, count_split, count_alike, count_both, one_found, share, found_shares}
 
 -- Tests
 

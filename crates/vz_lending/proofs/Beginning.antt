@@ -1,11 +1,11 @@
 -- What clients lent stands for the first state, in which nothing is lent.
-use Rattle.std.proofs.Common.{◌≡◌, ℕ, zero, suc, ◌+◌, ◌<◌, true, inl, inr, Option, Some, None, List, [], ◌∷◌, ◌++◌, length, slice_get, refl, ap, sym, subst, ◌∙◌, arith, Contains}
+use Rattle.std.proofs.Common.{◌≡◌, ℕ, zero, suc, ◌+◌, inl, inr, Option, Some, List, [], ◌∷◌, ◌++◌, length, slice_get, refl, ap, sym, subst, ◌∙◌, arith}
 use Rattle.vz_frame.specs.declared.message.ClientFile.{ClientFile}
 use Rattle.vz_rules.specs.Plan.{Plan}
-use Rattle.vz_rules.specs.World.{World, Client, opening, new_clients}
+use Rattle.vz_rules.specs.World.{Client, opening, new_clients}
 use Rattle.vz_rules.proofs.Members.{at_push, contains_at}
-use Rattle.vz_returns.specs.Holding.{Holding, received_of, alive_of, is_rising}
-use Rattle.vz_returns.specs.Giving.{AreCounts, are_some, alive_in, out_in, times}
+use Rattle.vz_returns.specs.Holding.{received_of, alive_of, is_rising}
+use Rattle.vz_returns.specs.Giving.{AreCounts, are_some, alive_in, out_in}
 use Rattle.vz_lending.specs.Lent.{Lent, AreLent, NoneReleased}
 
 -- a client of this place has lent nothing

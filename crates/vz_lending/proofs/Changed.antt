@@ -1,9 +1,9 @@
 -- What clients lent, as the state changes by one change.
-use Rattle.std.proofs.Common.{◌≡◌, ℕ, ◌+◌, ◌-◌, ◌≤◌, ◌<◌, Bool, true, false, ◌&&◌, ◌||◌, ◌==◌, Option, Some, None, List, [], ◌∷◌, ◌++◌, length, map, slice_get, set, get_or, refl, ap, sym, subst, ◌∙◌, arith, cond, Contains}
+use Rattle.std.proofs.Common.{◌≡◌, ℕ, ◌+◌, ◌-◌, ◌≤◌, ◌<◌, Bool, true, false, ◌||◌, ◌==◌, Some, List, [], ◌∷◌, ◌++◌, length, map, slice_get, set, get_or, refl, ap, sym, subst, ◌∙◌, arith, cond, Contains}
 use Rattle.std.specs.List.{list_any}
 use Rattle.std.proofs.lemmas.Bool.Decides.{nat_tests}
 use Rattle.std.proofs.lemmas.Bool.{and_from}
-use Rattle.std.proofs.lemmas.List.{append-nil, length-map}
+use Rattle.std.proofs.lemmas.List.{length-map}
 use Rattle.std.proofs.lemmas.List.Folds.{list_any-append}
 use Rattle.vz_ids.specs.declared.LocalSurfaceId.{LocalSurfaceId}
 use Rattle.vz_ids.specs.declared.Sub.{Sub}
@@ -12,23 +12,22 @@ use Rattle.vz_frame.specs.declared.frame.CompositorFrame.{CompositorFrame}
 use Rattle.vz_frame.specs.declared.frame.Listing.{Listing}
 use Rattle.vz_rules.specs.Plan.{Plan}
 use Rattle.vz_rules.specs.World.{World, Client, Created, Resource, Submission, has_sub, is_waiting, is_active, last_created, sub_of}
-use Rattle.vz_rules.specs.Messages.{accepted, took, taking, reclaim, submitting, lend, is_unknown}
+use Rattle.vz_rules.specs.Messages.{accepted, took, submitting, lend, is_unknown}
 use Rattle.vz_rules.specs.Singly.{rising, going}
-use Rattle.vz_rules.specs.Kept.{KeepsAlways, KeepsClients}
-use Rattle.vz_rules.proofs.Members.{at_map, at_contains, at_within}
+use Rattle.vz_rules.proofs.Members.{at_map, at_contains}
 use Rattle.vz_rules.proofs.Kept_small.{at_there}
 use Rattle.vz_rules.proofs.Kept_submits.{one_of_number}
-use Rattle.vz_returns.specs.Holding.{Holding, is_rising, received_of, alive_of, taken}
+use Rattle.vz_returns.specs.Holding.{is_rising}
 use Rattle.vz_returns.specs.Giving.{AreCounts, alive_in, out_in, times}
 use Rattle.vz_returns.proofs.Releases.{from_eqb, to_eqb}
-use Rattle.vz_lending.specs.Lent.{Lent, AreLent, IsLender, NoneReleased, Suffice, IsCountable, AreCountable, lent_all, shared_all}
+use Rattle.vz_lending.specs.Lent.{Lent, AreLent, IsLender, Suffice, IsCountable, lent_all, shared_all}
 use Rattle.vz_lending.specs.Listed.{ids_of, lists_twice}
 use Rattle.vz_lending.specs.Changes.{IsAccepted, IsRising, IsGoing, IsDrawn, IsDone}
 use Rattle.vz_lending.proofs.Counting.{share, one_shares, share_of_own, share_of_other}
 use Rattle.vz_lending.proofs.Alive.{alive_risen, alive_gone}
 use Rattle.vz_lending.proofs.Accepted.{before_it, alive_before, alive_accepted, alive_flying, allowed_parts, allowed_once}
-use Rattle.vz_lending.proofs.Steps.{lent_set, frees, frees_enough, holds_more, AreMoved, GoesOn, times_more, own_at, at_set, at_others, lent_stays, received_lent_all, alive_lent_all}
-use Rattle.vz_lending.proofs.Clients.{out_lent, out_reclaimed, submits, countable, alive_some}
+use Rattle.vz_lending.proofs.Steps.{lent_set, frees, frees_enough, holds_more, AreMoved, GoesOn, times_more, own_at, lent_stays, received_lent_all, alive_lent_all}
+use Rattle.vz_lending.proofs.Clients.{out_lent, submits, countable, alive_some}
 
 client_is : (client : ℕ) (items : List Lent) → IsLender client items → client ≡ (client - 1) + 1
 client_is client items known = omega (arith, known.0)
@@ -180,9 +179,9 @@ module _ (items : List Lent) (client : ℕ) (known : IsLender client items) (o d
         let number : d.number ≡ c.number = ap (λ (z : Client). z.number) (sym after) ∙ sent.number in
         let out : (id : ℕ) → out_in d.resources id ≡ out_in c.resources id + times id (ids_of L) =
         λ id. ap (λ (z : Client). out_in z.resources id) (sym after)
-            ∙ (ap (λ rs. out_in rs id) sent.resources
-            ∙ (ap (λ l. out_in (map (lend l) c.resources) id) (sym x.listed)
-            ∙ out_lent L c.resources id (λ r q. (less r q)) (ap (list_any (is_unknown c.resources)) x.listed ∙ (allowed_parts (last_created w c.number) c local frame x.allowed).1) accepted_once)) in
+        ∙ (ap (λ rs. out_in rs id) sent.resources
+        ∙ (ap (λ l. out_in (map (lend l) c.resources) id) (sym x.listed)
+        ∙ out_lent L c.resources id (λ r q. (less r q)) (ap (list_any (is_unknown c.resources)) x.listed ∙ (allowed_parts (last_created w c.number) c local frame x.allowed).1) accepted_once)) in
         subst (λ h. AreCounts (accepted w c local frame).world d h new.released) (sym held) (subst (AreCounts (accepted w c local frame).world d (lent_all (ids_of L) o.holding)) (sym more) (record {
           client = stays.client ∙ (counts.client ∙ sym number);
           rising = stays.rising counts.rising;

@@ -1,15 +1,14 @@
 -- How many pass a test, where some of them pass no longer.
-use Rattle.std.proofs.Common.{◌≡◌, ℕ, suc, ◌+◌, ◌≤◌, ◌<◌, Bool, true, false, ◌&&◌, ◌||◌, ◌==◌, inl, inr, Option, Some, None, List, [], ◌∷◌, ◌++◌, map, find, count_by, slice_get, refl, ap, sym, subst, ◌∙◌, arith, cond, Contains}
+use Rattle.std.proofs.Common.{◌≡◌, ℕ, ◌+◌, ◌≤◌, Bool, true, false, ◌&&◌, ◌||◌, ◌==◌, Option, Some, None, List, [], ◌∷◌, map, find, count_by, refl, ap, sym, subst, ◌∙◌, arith, cond, Contains}
 use Rattle.std.specs.List.{list_any}
-use Rattle.std.proofs.lemmas.Bool.Decides.{nat_tests}
 use Rattle.vz_frame.specs.declared.frame.Listing.{Listing}
 use Rattle.vz_frame.specs.Frame.{lists}
 use Rattle.vz_rules.specs.World.{Submission}
 use Rattle.vz_rules.specs.Kept.{borrows}
-use Rattle.vz_rules.proofs.Members.{contains_here, contains_there, none_at, any_at, contains_at}
+use Rattle.vz_rules.proofs.Members.{contains_here, contains_there, contains_at}
 use Rattle.vz_rules.proofs.Counts.{count_cons, count_none, count_at}
 use Rattle.vz_returns.specs.Giving.{times}
-use Rattle.vz_returns.proofs.Releases.{from_eqb, to_eqb}
+use Rattle.vz_returns.proofs.Releases.{from_eqb}
 use Rattle.vz_lending.specs.Listed.{ids_of, lists_twice, listed_by}
 use Rattle.vz_lending.proofs.Listings.{or_no, times_at}
 

@@ -2,22 +2,22 @@
 use Rattle.std.proofs.Common.{◌≡◌, ℕ, suc, ◌+◌, ◌-◌, ◌<◌, ◌≤◌, Bool, true, false, ◌==◌, Option, Some, None, List, [], ◌∷◌, ◌++◌, length, drop, slice_index_or, option_to_list, nat_le, refl, ap, sym, subst, ◌∙◌, arith, cond}
 use Rattle.std.specs.List.{list_all}
 use Rattle.std.specs.List.Sorted.{IsPermutation, IsNonDecreasing}
-use Rattle.std.proofs.lemmas.List.{append-nil, append_assoc}
+use Rattle.std.proofs.lemmas.List.{append_assoc}
 use Rattle.std.proofs.lemmas.Bool.Decides.{nat_tests}
 use Rattle.std.proofs.lemmas.List.Sorted.{sum_by-IsPermutation}
 use Rattle.vz_rules.specs.World.{World, Client}
 use Rattle.vz_rules.specs.Returns.{returns_of, queue_returns, give_back}
 use Rattle.vz_rules.specs.Kept.{AreRising}
 use Rattle.vz_rules.specs.declared.entry.Returned.{Returned}
-use Rattle.vz_returns.specs.Holding.{Counted, Holding, alive_of, received_of, is_rising, is_last, return_at, released, without, put_in}
+use Rattle.vz_returns.specs.Holding.{Holding, alive_of, received_of, is_rising, is_last, return_at, released, without, put_in}
 use Rattle.vz_returns.specs.Giving.{AreCounts, alive_in, is_sorted, times, release_all, returns_in}
 use Rattle.vz_returns.proofs.Orders.{without_length, put_same, counts_there}
 use Rattle.vz_returns.proofs.Releases.{two_true, rising_released}
 use Rattle.vz_returns.proofs.Given_back.{returns_are, counts_after}
-use Rattle.vz_returns.proofs.All_released.{rest_suffices, rising_all}
+use Rattle.vz_returns.proofs.All_released.{rest_suffices}
 use Rattle.vz_lending.specs.Lent.{Suffice, all_alive}
 use Rattle.vz_lending.proofs.Totals.{all_released}
-use Rattle.vz_lending.proofs.Listings.{left_next, left_none, first_some}
+use Rattle.vz_lending.proofs.Listings.{left_next, first_some}
 
 pub fewer_left : (id : ℕ) (h : Holding) (r : Returned) → return_at id h ≡ Some r → is_rising h.counted ≡ true → 0 < alive_of id h.counted → length (released id h).counted + 1 ≡ length h.counted
 fewer_left id h r e up some = by (is_last id h) e

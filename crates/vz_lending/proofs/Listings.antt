@@ -1,18 +1,17 @@
 -- Listings one after the other: what is left of them, and what is counted on the way.
-use Rattle.std.proofs.Common.{◌≡◌, ℕ, suc, ◌+◌, ◌<◌, ◌≤◌, Bool, true, false, ◌==◌, ◌||◌, List, [], ◌∷◌, ◌++◌, map, length, drop, slice_index_or, get_or, refl, ap, sym, subst, ◌∙◌, arith, cond, Contains}
+use Rattle.std.proofs.Common.{◌≡◌, ℕ, suc, ◌+◌, ◌<◌, ◌≤◌, Bool, true, false, ◌==◌, ◌||◌, List, [], ◌∷◌, length, drop, slice_index_or, refl, ap, sym, subst, ◌∙◌, arith, cond, Contains}
 use Rattle.std.specs.List.{list_any}
 use Rattle.std.proofs.Math.Seq.{drop-cons}
 use Rattle.std.proofs.Math.ListN.{drop_of_length-le}
-use Rattle.std.proofs.lemmas.List.{append-nil, append_assoc}
 use Rattle.std.proofs.lemmas.Bool.Decides.{nat_tests}
 use Rattle.vz_frame.specs.declared.frame.Listing.{Listing}
-use Rattle.vz_frame.specs.Frame.{lists, has_repeat}
+use Rattle.vz_frame.specs.Frame.{lists}
 use Rattle.vz_rules.proofs.Members.{contains_here, contains_there, contains_map, none_at}
 use Rattle.vz_rules.proofs.Counts.{count_cons}
-use Rattle.vz_returns.specs.Holding.{MOST_REFERENCES, Holding, received_of, alive_of, lent, shared}
+use Rattle.vz_returns.specs.Holding.{Holding, received_of, alive_of, lent, shared}
 use Rattle.vz_returns.specs.Giving.{times}
-use Rattle.vz_returns.proofs.Releases.{from_eqb, to_eqb, received_lent, alive_lent, received_shared, alive_shared}
-use Rattle.vz_lending.specs.Lent.{lent_all, shared_all, Suffice, IsCountable, AreCountable}
+use Rattle.vz_returns.proofs.Releases.{to_eqb, received_lent, alive_lent, received_shared, alive_shared}
+use Rattle.vz_lending.specs.Lent.{Suffice, IsCountable, AreCountable}
 use Rattle.vz_lending.specs.Listed.{ids_of, lists_twice}
 
 one_more : (k : ℕ) → suc k ≡ k + 1

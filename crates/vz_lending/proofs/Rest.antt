@@ -1,16 +1,14 @@
 -- What is still out: each resource of which some reference is alive, with all that were received.
-use Rattle.std.proofs.Common.{◌≡◌, ℕ, zero, suc, ◌+◌, ◌-◌, ◌<◌, Bool, true, false, not, ◌&&◌, ◌==◌, Option, Some, None, List, [], ◌∷◌, ◌++◌, length, map, find, nat_lt, slice_get, refl, ap, sym, subst, ◌∙◌, arith, cond, Contains}
+use Rattle.std.proofs.Common.{◌≡◌, ℕ, suc, ◌-◌, Bool, true, false, ◌&&◌, ◌==◌, Option, Some, None, List, [], ◌∷◌, ◌++◌, length, map, nat_lt, slice_get, refl, ap, sym, ◌∙◌, arith, cond}
 use Rattle.std.specs.List.{list_all, flat_map, filter_map}
 use Rattle.std.specs.Option.{option_map}
 use Rattle.std.proofs.lemmas.Bool.Decides.{nat_tests}
-use Rattle.vz_rules.specs.declared.entry.Returned.{Returned}
 use Rattle.vz_rules.specs.World.{World, Client, Resource, resource_in}
 use Rattle.vz_rules.specs.Log.{held_resource, rest_in}
-use Rattle.vz_rules.specs.Returns.{is_held, goes_back, return_of}
+use Rattle.vz_rules.specs.Returns.{is_held, return_of}
 use Rattle.vz_rules.specs.Kept.{KeepsAlways, AreRising}
-use Rattle.vz_rules.proofs.Members.{all_at, find_at, at_contains, at_within}
+use Rattle.vz_rules.proofs.Members.{all_at, find_at, at_contains}
 use Rattle.vz_rules.proofs.Rising.{find_map}
-use Rattle.vz_rules.proofs.Kept_small.{at_there}
 use Rattle.vz_returns.specs.Holding.{Counted, Holding, counted_at, received_of, is_rising, as_returns, held}
 use Rattle.vz_returns.specs.Giving.{AreCounts, are_some, out_in}
 use Rattle.vz_returns.proofs.Orders.{one_list}

@@ -1,5 +1,5 @@
 -- What goes back to all clients, one after the other, and their queues.
-use Rattle.std.proofs.Common.{◌≡◌, ℕ, zero, suc, ◌+◌, ◌-◌, ◌≤◌, ◌<◌, Bool, true, false, ◌==◌, Option, Some, None, List, [], ◌∷◌, ◌++◌, length, map, take, drop, slice_get, set, get_or, refl, ap, sym, subst, ◌∙◌, arith, cond, Contains}
+use Rattle.std.proofs.Common.{◌≡◌, ℕ, zero, suc, ◌+◌, ◌-◌, ◌≤◌, ◌<◌, Bool, false, ◌==◌, Option, Some, List, [], ◌∷◌, ◌++◌, length, take, drop, slice_get, set, get_or, refl, ap, sym, subst, ◌∙◌, arith, cond, Contains}
 use Rattle.std.specs.List.{flat_map}
 use Rattle.std.proofs.lemmas.Bool.Decides.{nat_tests}
 use Rattle.std.proofs.lemmas.List.{append-nil, append_assoc, length-map}
@@ -12,8 +12,8 @@ use Rattle.vz_rules.specs.Kept.{KeepsAlways, AreRising}
 use Rattle.vz_rules.proofs.Members.{at_map, at_contains, at_within, contains_at}
 use Rattle.vz_rules.proofs.Kept_small.{at_there}
 use Rattle.vz_rules.proofs.Kept_submits.{one_of_number}
-use Rattle.vz_returns.specs.Holding.{Holding, alive_of, taken, in_use}
-use Rattle.vz_returns.specs.Giving.{AreCounts, alive_in, times}
+use Rattle.vz_returns.specs.Holding.{taken, in_use}
+use Rattle.vz_returns.specs.Giving.{AreCounts, alive_in}
 use Rattle.vz_returns.proofs.Releases.{from_eqb, to_eqb}
 use Rattle.vz_returns.proofs.Uses.{uses_are}
 use Rattle.vz_lending.specs.Lent.{Lent, AreLent, IsLender, NoneReleased, Suffice, resources_out}
@@ -62,8 +62,8 @@ given_next w old now k o new start out more always lent left at given none so_fa
       done = λ n d l low p q.
           by_place (λ m y. (z : Client) → m < k + 1 → slice_get w.clients m ≡ Some z → AreCounts (give_back w) (queue_returns w z) y.holding y.released) now k o new at
           (λ z here r.
-              let same : c.0 ≡ z = some_same c.0 z (sym c.1 ∙ r) in
-              subst (λ x. AreCounts (give_back w) (queue_returns w x) new.holding new.released) same (subst (AreCounts (give_back w) (queue_returns w c.0) new.holding) (sym none) gives.1))
+          let same : c.0 ≡ z = some_same c.0 z (sym c.1 ∙ r) in
+          subst (λ x. AreCounts (give_back w) (queue_returns w x) new.holding new.released) same (subst (AreCounts (give_back w) (queue_returns w c.0) new.holding) (sym none) gives.1))
           (λ m y e s z here r. so_far.done m z y (less m k e here) r s) n l q d low p;
       grown = gives.0 ∙ (ap (λ l. l ++ returns_of w c.0) so_far.grown ∙ (append_assoc start (flat_map (returns_of w) (take k w.clients)) (returns_of w c.0)
           ∙ ap (λ l. start ++ l) (sym (flat_next (returns_of w) w.clients k c.0 c.1))));
@@ -133,14 +133,14 @@ module _ (items : List Lent) (client : ℕ) (known : IsLender client items) (o d
   taken_counts new x held same after =
       let counts = its_counts in
       subst (λ z. AreCounts (taking reclaim c w) z new.holding new.released) after (subst (λ h. AreCounts (taking reclaim c w) (took (reclaim c)) h new.released) (sym held)
-          (subst (AreCounts (taking reclaim c w) (took (reclaim c)) (taken o.holding)) (sym same) (record {
-            client = counts.client;
-            rising = counts.rising;
-            some = counts.some;
-            received = λ id. counts.received id ∙ sym (out_reclaimed c.resources id);
-            alive = counts.alive;
-            queue = refl;
-          })))
+      (subst (AreCounts (taking reclaim c w) (took (reclaim c)) (taken o.holding)) (sym same) (record {
+        client = counts.client;
+        rising = counts.rising;
+        some = counts.some;
+        received = λ id. counts.received id ∙ sym (out_reclaimed c.resources id);
+        alive = counts.alive;
+        queue = refl;
+      })))
 
   other_taken : (n : ℕ) (z x : Client) (l : Lent) → (n == client - 1) ≡ false → slice_get w.clients n ≡ Some z → cond (z.number == c.number) (took (reclaim z)) z ≡ x → AreCounts w z l.holding l.released
       → AreCounts (taking reclaim c w) x l.holding l.released

@@ -1,17 +1,14 @@
 -- The room of lenders, and the resources that are out, as one lender changes.
-use Rattle.std.proofs.Common.{◌≡◌, ℕ, zero, suc, ◌+◌, ◌-◌, ◌≤◌, ◌<◌, Bool, true, false, ◌==◌, Option, Some, None, List, [], ◌∷◌, ◌++◌, length, drop, slice_get, slice_index_or, set, get_or, sum_by, refl, ap, sym, subst, ◌∙◌, arith, cond, Contains}
-use Rattle.std.specs.List.{flat_map}
+use Rattle.std.proofs.Common.{◌≡◌, ℕ, zero, suc, ◌+◌, ◌-◌, ◌≤◌, ◌<◌, Bool, true, false, ◌==◌, Option, Some, List, [], ◌∷◌, length, drop, slice_get, slice_index_or, set, sum_by, refl, ap, sym, subst, ◌∙◌, arith}
 use Rattle.std.proofs.lemmas.List.Sums.{sum_by-cons}
-use Rattle.std.proofs.lemmas.List.{append-nil, append_assoc}
 use Rattle.vz_rules.specs.World.{World, Client}
-use Rattle.vz_rules.specs.declared.entry.Returned.{Returned}
 use Rattle.vz_rules.proofs.Members.{at_within, at_contains, contains_at}
 use Rattle.vz_rules.proofs.Kept_small.{at_there}
 use Rattle.vz_returns.specs.Holding.{Counted, Holding, received_of, alive_of, is_rising, lent, shared}
 use Rattle.vz_returns.specs.Giving.{AreCounts}
 use Rattle.vz_returns.proofs.Orders.{put_more, put_same, counts_there, rising_put}
 use Rattle.vz_returns.proofs.Releases.{from_eqb}
-use Rattle.vz_lending.specs.Lent.{Lent, AreLent, IsLender, NoneReleased, HasPlaces, IsRoomier, AreRoomier, Suffice, lent_all, shared_all, resources_out}
+use Rattle.vz_lending.specs.Lent.{Lent, AreLent, NoneReleased, HasPlaces, IsRoomier, AreRoomier, Suffice, lent_all, shared_all, resources_out}
 use Rattle.vz_lending.proofs.Listings.{first_some, suffice_shared, left_next}
 use Rattle.vz_lending.proofs.Steps.{at_set, at_others}
 
@@ -125,3 +122,22 @@ places_set items k m o new at fewer n q has l is =
 pub out_none : resources_out [] ≡ 0
 unfolding resources_out
 out_none = refl
+
+sum_alike : {A : Type 0} (f : A → ℕ) (xs ys : List A) → length ys ≡ length xs → ((n : ℕ) (x y : A) → slice_get xs n ≡ Some x → slice_get ys n ≡ Some y → f y ≡ f x) → sum_by f ys ≡ sum_by f xs
+sum_alike f [] [] long same = refl
+sum_alike f [] (y ∷ ys) long same = absurd (omega (arith, long))
+sum_alike f (x ∷ xs) [] long same = absurd (omega (arith, long))
+sum_alike f (x ∷ xs) (y ∷ ys) long same =
+    omega (arith, sum_by-cons f x xs, sum_by-cons f y ys, same 0 x y refl refl, sum_alike f xs ys (omega (arith, long)) (λ n a b p q. same (suc n) a b p q))
+
+pub roomier_out : (old new : List Lent) → AreRoomier old new → resources_out new ≡ resources_out old
+unfolding resources_out
+roomier_out old new are =
+    sum_alike (λ (l : Lent). length l.holding.counted) old new are.many (λ n o l p q. let is = are.each n o l p q in ap (λ h. length h.counted) is.holding)
+
+pub roomier_none : (old new : List Lent) → AreRoomier old new → NoneReleased old → NoneReleased new
+roomier_none old new are none l there =
+    let n = contains_at new l there in
+    let o = at_there old n.0 (subst (λ m. n.0 < m) are.many (at_within new n.0 l n.1)) in
+    let is = are.each n.0 o.0 l o.1 n.1 in
+    is.released ∙ none o.0 (at_contains old n.0 o.0 o.1)

@@ -1,6 +1,5 @@
 -- What clients lent stands for a state with the same references.
-use Rattle.std.proofs.Common.{◌≡◌, ℕ, ◌+◌, ◌-◌, ◌≤◌, ◌<◌, Bool, true, false, not, ◌&&◌, ◌||◌, ◌==◌, Option, Some, None, is_some, List, [], ◌∷◌, ◌++◌, length, map, find, slice_get, count_by, refl, ap, sym, subst, ◌∙◌, arith, cond, Contains}
-use Rattle.std.specs.Option.{option_map}
+use Rattle.std.proofs.Common.{◌≡◌, ℕ, ◌-◌, Bool, true, false, not, ◌&&◌, ◌||◌, ◌==◌, Option, Some, None, List, [], ◌∷◌, length, map, slice_get, refl, ap, sym, ◌∙◌, arith, cond, Contains}
 use Rattle.std.proofs.lemmas.List.{length-map, map-id}
 use Rattle.vz_ids.specs.declared.FrameSinkId.{FrameSinkId}
 use Rattle.vz_ids.specs.declared.LocalSurfaceId.{LocalSurfaceId}
@@ -12,10 +11,10 @@ use Rattle.vz_rules.specs.declared.entry.Refusal.TheVariants as refusal
 use Rattle.vz_rules.specs.declared.entry.Reply.TheVariants as reply
 use Rattle.vz_rules.specs.Plan.{Plan}
 use Rattle.vz_rules.specs.World.{World, Client, Created, Resource, Submission, exists, resource_in, is_waiting, is_active}
-use Rattle.vz_rules.specs.Reach.{name_one, naming, is_named_now}
+use Rattle.vz_rules.specs.Reach.{name_one, naming}
 use Rattle.vz_rules.specs.Returns.{feed, mark_fed}
 use Rattle.vz_rules.specs.Messages.{Answer, says, id_of, took, taking, refused, put_resource, upload_answer, hierarchy_answer, hierarchy_refusal, unless_refused, root_answer, await_answer, message_answer, mark_of, in_use, relate}
-use Rattle.vz_rules.specs.Singly.{rising, as_one_rises}
+use Rattle.vz_rules.specs.Singly.{rising}
 use Rattle.vz_rules.specs.Step.{begin_answer, deliver, next_tick, is_attached}
 use Rattle.vz_rules.specs.Kept.{KeepsAlways, AreRising, borrows}
 use Rattle.vz_rules.proofs.Members.{at_map, at_contains, when_same}
@@ -23,7 +22,7 @@ use Rattle.vz_rules.proofs.Counts.{count_none}
 use Rattle.vz_rules.proofs.Rising.{counted, Rising}
 use Rattle.vz_rules.proofs.Given.{id_of as resource_id}
 use Rattle.vz_rules.proofs.Totals.{answered_stored}
-use Rattle.vz_returns.specs.Giving.{holds_there, alive_in, out_in, AreCounts, times}
+use Rattle.vz_returns.specs.Giving.{alive_in, out_in, times}
 use Rattle.vz_lending.specs.Lent.{Lent, AreLent}
 use Rattle.vz_lending.specs.Listed.{active_listings}
 use Rattle.vz_lending.specs.Quiet.{KeepsReferences, AreAlike}

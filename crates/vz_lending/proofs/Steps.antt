@@ -1,14 +1,14 @@
 -- What clients lent stands for a state, as one of them changes.
-use Rattle.std.proofs.Common.{◌≡◌, ℕ, zero, suc, ◌+◌, ◌-◌, ◌≤◌, ◌<◌, Bool, true, false, ◌&&◌, ◌==◌, Option, Some, None, List, [], ◌∷◌, ◌++◌, length, map, slice_get, set, get_or, count_by, refl, ap, sym, subst, ◌∙◌, arith, cond, Contains}
+use Rattle.std.proofs.Common.{◌≡◌, ℕ, zero, suc, ◌+◌, ◌<◌, Bool, true, false, ◌==◌, Option, Some, List, [], ◌∷◌, ◌++◌, length, slice_get, set, get_or, refl, ap, sym, subst, ◌∙◌, arith, cond}
 use Rattle.std.proofs.lemmas.Option.{slice_get-get_or}
 use Rattle.std.proofs.lemmas.Bool.Decides.{nat_tests}
 use Rattle.std.proofs.lemmas.List.Sums.{sum_by-append}
 use Rattle.vz_rules.specs.World.{World, Client}
-use Rattle.vz_rules.specs.Kept.{KeepsClients, KeepsAlways}
-use Rattle.vz_rules.proofs.Members.{at_within, at_contains}
+use Rattle.vz_rules.specs.Kept.{KeepsClients}
+use Rattle.vz_rules.proofs.Members.{at_within}
 use Rattle.vz_rules.proofs.Kept_small.{at_there}
 use Rattle.vz_returns.specs.Holding.{Holding, received_of, alive_of, is_rising, lent, shared}
-use Rattle.vz_returns.specs.Giving.{are_some, times, out_in, alive_in, AreCounts}
+use Rattle.vz_returns.specs.Giving.{are_some, times, alive_in, AreCounts}
 use Rattle.vz_returns.proofs.Orders.{rising_put}
 use Rattle.vz_returns.proofs.Releases.{from_eqb, to_eqb, received_lent, alive_lent, some_lent, received_shared, alive_shared, some_shared}
 use Rattle.vz_lending.specs.Lent.{Lent, AreLent, Suffice, lent_all, shared_all}

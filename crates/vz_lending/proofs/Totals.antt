@@ -1,5 +1,5 @@
 -- All references that are alive: how their number changes, and that no more are released.
-use Rattle.std.proofs.Common.{◌≡◌, ℕ, zero, suc, ◌+◌, ◌-◌, ◌<◌, ◌≤◌, Bool, true, false, not, ◌==◌, ◌&&◌, Option, Some, None, List, [], ◌∷◌, ◌++◌, length, filter, nat_lt, refl, ap, sym, ◌∙◌, arith, cond}
+use Rattle.std.proofs.Common.{◌≡◌, ℕ, suc, ◌+◌, ◌-◌, ◌<◌, ◌≤◌, Bool, true, false, not, ◌==◌, ◌&&◌, Some, None, List, [], ◌∷◌, length, filter, nat_lt, refl, ap, sym, ◌∙◌, arith, cond}
 use Rattle.std.specs.List.{list_all}
 use Rattle.std.proofs.lemmas.Bool.Decides.{nat_tests}
 use Rattle.std.proofs.lemmas.List.Sums.{sum_by-cons}

@@ -1,5 +1,5 @@
 -- The changes of the machine's state at which references are lent, held and released.
-use Rattle.std.specs.Prelude.{◌≡◌, ℕ, Some, None, List, [], ◌∷◌, ◌++◌, IsTrue, IsFalse}
+use Rattle.std.specs.Prelude.{◌≡◌, ℕ, Some, None, List, ◌∷◌, IsTrue, IsFalse}
 use Rattle.std.specs.List.{Contains}
 use Rattle.vz_ids.specs.declared.LocalSurfaceId.{LocalSurfaceId}
 use Rattle.vz_ids.specs.declared.Sub.{Sub}

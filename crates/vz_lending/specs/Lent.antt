@@ -1,5 +1,5 @@
 -- What clients lent, and how it stands for the machine's state.
-use Rattle.std.specs.Prelude.{◌≡◌, ℕ, ◌+◌, ◌-◌, ◌<◌, ◌≤◌, Bool, false, ◌==◌, Some, List, [], ◌∷◌, ◌++◌, length, slice_get}
+use Rattle.std.specs.Prelude.{◌≡◌, ℕ, ◌-◌, ◌<◌, ◌≤◌, false, ◌==◌, Some, List, [], ◌∷◌, ◌++◌, length, slice_get}
 use Rattle.std.specs.List.{Contains, sum_by}
 use Rattle.vz_rules.specs.World.{World, Client}
 use Rattle.vz_returns.specs.Holding.{MOST_REFERENCES, Counted, Holding, received_of, alive_of, lent, shared}
@@ -81,9 +81,3 @@ pub record IsRoomier (old new : Lent) : Type 0 where
 pub record AreRoomier (old new : List Lent) : Type 0 where
   pub many : length new ≡ length old
   pub each : (n : ℕ) (o l : Lent) → slice_get old n ≡ Some o → slice_get new n ≡ Some l → IsRoomier o l
-
--- a client's counts change so and these of its references are released; nothing changes for the others
-pub record IsAfter (client : ℕ) (change : Holding → Holding) (ids : List ℕ) (old new : List Lent) : Type 0 where
-  pub many : length new ≡ length old
-  pub own : (o l : Lent) → IsOf client old o → IsOf client new l → (l.holding ≡ change o.holding) × (l.released ≡ o.released ++ ids)
-  pub others : (n : ℕ) → (n == client - 1) ≡ false → slice_get new n ≡ slice_get old n

@@ -1,5 +1,5 @@
 -- What leaves the references of clients.
-use Rattle.std.specs.Prelude.{◌≡◌, ℕ}
+use Rattle.std.specs.Prelude.{◌≡◌}
 use Rattle.vz_rules.specs.World.{World, Client}
 
 -- a client changes and keeps its number, its resources and its queue

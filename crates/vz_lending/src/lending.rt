@@ -23,8 +23,8 @@ use vz_frame::{Listing, Room};
 use vz_rules::Returned;
 
 /// The references that clients lent, and those released since the last giving back. Contracts
-/// see a record for each client, by number. Between a call of `ready` or of `ready_to_draw` and
-/// the next one no other call takes memory.
+/// see a record for each client, by number: what it lent, what is released, and the room that was
+/// made before. Only `new`, `ready` and `ready_to_draw` take memory, and `make_room` for its list.
 #[derive(Drop)]
 pub struct Lending {
     lenders: Vec<Lender>,
@@ -61,6 +61,8 @@ impl Lending {
         ensures room { OnOk result (HasRoom listings client self.new) }
         ensures same { AreRoomier self.old self.new }
         ensures lent { (w : World) → AreLent w self.old → AreLent w self.new }
+        ensures released { NoneReleased self.old → NoneReleased self.new }
+        ensures out { resources_out self.new ≡ resources_out self.old }
     {
         self.lenders[client as usize - 1].ready(listings)
     }
@@ -71,6 +73,8 @@ impl Lending {
         ensures room { OnOk result ((client : ℕ) → HasPlaces listings client self.new) }
         ensures same { AreRoomier self.old self.new }
         ensures lent { (w : World) → AreLent w self.old → AreLent w self.new }
+        ensures released { NoneReleased self.old → NoneReleased self.new }
+        ensures out { resources_out self.new ≡ resources_out self.old }
     {
         make_places(&mut self.lenders, listings)
     }
@@ -101,7 +105,7 @@ impl Lending {
 
     /// A submission of a client is accepted: each resource that it lists is lent once more, and
     /// those of the one that it replaces are released. Condition: there is room for its listings.
-    pub fn accept(&mut self, client: u32, listings: &[Listing], replaced: &[Listing])
+    pub fn accepted(&mut self, client: u32, listings: &[Listing], replaced: &[Listing])
         requires known { IsLender client self.old }
         requires accepted { (p : Plan) × (w : World) × (c : Client) × (local : LocalSurfaceId)
             × (frame : CompositorFrame)
@@ -192,7 +196,8 @@ impl Lending {
     /// How many returns are in a client's queue.
     pub fn queued(&self, client: u32) -> usize
         requires known { IsLender client self.now }
-        ensures { (w : World) (c : Client) → KeepsAlways w → Contains w.clients c
+        ensures own { (l : Lent) → IsOf client self.now l → result ≡ length l.holding.queue }
+        ensures queue { (w : World) (c : Client) → KeepsAlways w → Contains w.clients c
             → c.number ≡ client → AreLent w self.now → result ≡ length c.queue }
     {
         self.lenders[client as usize - 1].queued()
@@ -204,9 +209,11 @@ impl Lending {
         requires room { (l : Lent) → IsOf client self.old l
             → length l.holding.queue ≤ out.old.spare }
         ensures returned { (w : World) (c : Client) → KeepsAlways w → Contains w.clients c
-            → c.number ≡ client → AreLent w self.old → out.new.list ≡ out.old.list ++ c.queue }
+            → c.number ≡ client → AreLent w self.old
+            → out.new.list ≡ out.old.list ++ c.queue }
         ensures lent { (w : World) (c : Client) → KeepsAlways w → Contains w.clients c
-            → c.number ≡ client → AreLent w self.old → AreLent (taking reclaim c w) self.new }
+            → c.number ≡ client → AreLent w self.old
+            → AreLent (taking reclaim c w) self.new }
         ensures released { NoneReleased self.old → NoneReleased self.new }
         ensures out { resources_out self.new ≡ resources_out self.old }
     {

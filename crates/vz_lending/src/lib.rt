@@ -6,4 +6,3 @@ mod lender;
 mod lending;
 
 pub use lending::Lending;
-

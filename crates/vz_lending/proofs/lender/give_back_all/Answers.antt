@@ -1,7 +1,7 @@
-use Rattle.std.proofs.Common.{ap, sym, ◌∙◌, ◌+◌, length, arith}
+use Rattle.std.proofs.Common.{ap, ◌∙◌, arith}
 use Rattle.vz_returns.specs.Holding.{is_rising}
 use Rattle.vz_returns.proofs.Releases.{rising_released}
-use Rattle.vz_lending.proofs.Going_back.{released_next, out_next, first_of_left, rest_of_left}
+use Rattle.vz_lending.proofs.Going_back.{released_next, out_next, rest_of_left}
 use Rattle.vz_lending.proofs.lender.give_back_all.Goals as goal
 
 pub loop-id-preserved : goal.loop-id-preserved

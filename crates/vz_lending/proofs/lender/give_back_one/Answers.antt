@@ -1,4 +1,4 @@
-use Rattle.std.proofs.Common.{ap, sym, ◌∙◌, ◌+◌, length, arith}
+use Rattle.std.proofs.Common.{ap, sym, length, arith}
 use Rattle.vz_lending.proofs.Going_back.{fewer_left, none_less}
 use Rattle.vz_lending.proofs.lender.give_back_one.Goals as goal
 

@@ -1,5 +1,5 @@
-use Rattle.std.proofs.Common.{◌≡◌, ◌≤◌, ◌+◌, length, drop, ap, sym, ◌∙◌, arith}
-use Rattle.vz_lending.specs.Lent.{Lent, resources_out}
+use Rattle.std.proofs.Common.{length, ap, arith}
+use Rattle.vz_lending.specs.Lent.{resources_out}
 use Rattle.vz_lending.proofs.Listings.{left_none}
 use Rattle.vz_lending.proofs.Rooms.{out_left, out_none}
 use Rattle.vz_lending.proofs.lending.count_out.Goals as goal

@@ -1,6 +1,4 @@
-use Rattle.std.proofs.Common.{◌≡◌, ◌≤◌, ◌<◌, ◌+◌, ◌==◌, ℕ, Some, [], length, drop, set, get_or, slice_get, false, ap, sym, subst, ◌∙◌, arith}
-use Rattle.std.proofs.lemmas.Bool.Decides.{nat_tests}
-use Rattle.vz_lending.specs.Lent.{Lent, resources_out}
+use Rattle.std.proofs.Common.{◌≡◌, ◌<◌, ◌+◌, [], length, get_or, ◌∙◌, arith}
 use Rattle.vz_lending.proofs.Steps.{at_others}
 use Rattle.vz_lending.proofs.Rooms.{by_place, out_left, out_more, length_set}
 use Rattle.vz_lending.proofs.Returning.{given_next, given_all, item_there, item_enough, out_behind, later_other, earlier_other, all_none}

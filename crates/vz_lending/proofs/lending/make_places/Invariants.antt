@@ -1,4 +1,4 @@
-use Rattle.std.proofs.Common.{◌≡◌, ◌≤◌, ◌<◌, ℕ, Some, length, slice_get}
+use Rattle.std.proofs.Common.{◌≡◌, ◌≤◌, ◌<◌, ℕ, Some, slice_get}
 use Rattle.vz_lending.specs.Lent.{Lent, AreRoomier}
 use Rattle.vz_lending.proofs.lending.make_places.Given as goal
 

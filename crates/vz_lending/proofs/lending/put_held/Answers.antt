@@ -1,8 +1,8 @@
-use Rattle.std.proofs.Common.{◌≡◌, ◌≤◌, ◌<◌, ◌+◌, ◌++◌, length, drop, slice_index_or, ap, sym, ◌∙◌, arith}
+use Rattle.std.proofs.Common.{◌+◌, ◌++◌, length, drop, ap, sym, ◌∙◌, arith}
 use Rattle.std.specs.List.{flat_map}
 use Rattle.std.proofs.lemmas.List.{append_assoc}
 use Rattle.vz_returns.specs.Holding.{held}
-use Rattle.vz_lending.specs.Lent.{Lent, resources_out}
+use Rattle.vz_lending.specs.Lent.{Lent}
 use Rattle.vz_lending.proofs.Listings.{left_next}
 use Rattle.vz_lending.proofs.Rooms.{out_left}
 use Rattle.vz_lending.proofs.lending.put_held.Goals as goal

@@ -1,4 +1,4 @@
-use Rattle.std.proofs.Common.{ap, sym, ◌∙◌, ◌+◌, ◌++◌, length, arith}
+use Rattle.std.proofs.Common.{ap, ◌++◌, length, arith}
 use Rattle.std.proofs.lemmas.List.{length-map}
 use Rattle.vz_returns.specs.Holding.{alive_of}
 use Rattle.vz_returns.specs.Giving.{times}

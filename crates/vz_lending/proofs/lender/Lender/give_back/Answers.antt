@@ -1,4 +1,4 @@
-use Rattle.std.proofs.Common.{rules, ◌≡◌, true, ap, sym, subst, refl, ◌∙◌, ◌+◌, ◌-◌, length, vec_capacity, arith}
+use Rattle.std.proofs.Common.{rules, ◌≡◌, true, ap, sym, subst, ◌∙◌, length, arith}
 use Rattle.std.proofs.lemmas.List.Sorted.{IsNonDecreasingBy-from_sort, length_permutation}
 use Rattle.std.specs.List.Sorted.{IsPermutation}
 use Rattle.vz_returns.specs.Holding.{is_rising}

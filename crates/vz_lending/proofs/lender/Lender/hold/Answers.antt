@@ -1,4 +1,4 @@
-use Rattle.std.proofs.Common.{ap, sym, ◌∙◌, ◌+◌, ◌-◌, vec_capacity, arith}
+use Rattle.std.proofs.Common.{ap, ◌∙◌, arith}
 use Rattle.vz_returns.specs.Holding.{is_rising}
 use Rattle.vz_returns.proofs.Orders.{rising_put}
 use Rattle.vz_lending.specs.Lent.{all_alive}

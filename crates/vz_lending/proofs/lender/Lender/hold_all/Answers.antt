@@ -1,4 +1,4 @@
-use Rattle.std.proofs.Common.{ap, sym, subst, refl, ◌∙◌, ◌+◌, length, drop, slice_index_or, arith}
+use Rattle.std.proofs.Common.{sym, subst, refl, ◌∙◌, ◌+◌, drop, arith}
 use Rattle.vz_returns.specs.Holding.{shared}
 use Rattle.vz_lending.specs.Lent.{AreCountable, Suffice, shared_all}
 use Rattle.vz_lending.specs.Listed.{ids_of}

@@ -1,4 +1,4 @@
-use Rattle.std.proofs.Common.{◌≡◌, subst, ap, sym, ◌∙◌, ◌+◌, ◌-◌, vec_capacity, arith}
+use Rattle.std.proofs.Common.{◌≡◌, subst, ap, ◌∙◌, arith}
 use Rattle.std.specs.Prelude.{OnOk, Result}
 use Rattle.vz_returns.specs.Holding.{is_rising, lent}
 use Rattle.vz_returns.proofs.Orders.{rising_put}

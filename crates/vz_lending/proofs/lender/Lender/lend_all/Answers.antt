@@ -1,6 +1,6 @@
-use Rattle.std.proofs.Common.{ap, sym, subst, refl, ◌∙◌, ◌+◌, length, drop, slice_index_or, arith}
+use Rattle.std.proofs.Common.{sym, subst, refl, ◌∙◌, ◌+◌, drop, arith}
 use Rattle.vz_returns.specs.Holding.{lent}
-use Rattle.vz_lending.specs.Lent.{AreCountable, Suffice, lent_all}
+use Rattle.vz_lending.specs.Lent.{AreCountable, lent_all}
 use Rattle.vz_lending.specs.Listed.{ids_of}
 use Rattle.vz_lending.proofs.Listings.{done_next, once_parts, countable_lent, left_countable, first_countable}
 use Rattle.vz_lending.proofs.lender.Lender.lend_all.Goals as goal

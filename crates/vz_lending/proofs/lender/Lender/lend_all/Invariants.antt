@@ -1,5 +1,5 @@
 use Rattle.std.proofs.Common.{◌≡◌, ◌≤◌, ◌+◌, false, length, drop}
-use Rattle.vz_lending.specs.Lent.{Suffice, AreCountable, lent_all}
+use Rattle.vz_lending.specs.Lent.{AreCountable, lent_all}
 use Rattle.vz_lending.specs.Listed.{ids_of, lists_twice}
 use Rattle.vz_lending.proofs.lender.Lender.lend_all.Given as goal
 

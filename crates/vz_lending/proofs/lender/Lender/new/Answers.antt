@@ -1,4 +1,4 @@
-use Rattle.std.proofs.Common.{ap, sym, refl, ◌∙◌, arith}
+use Rattle.std.proofs.Common.{ap, sym, arith}
 use Rattle.vz_returns.specs.Holding.{is_rising}
 use Rattle.vz_lending.specs.Lent.{all_alive}
 use Rattle.vz_lending.proofs.lender.Lender.new.Goals as goal

@@ -1,8 +1,8 @@
-use Rattle.std.proofs.Common.{rules, ◌≡◌, ap, sym, ◌∙◌, ◌+◌, ◌-◌, ◌++◌, [], ◌∷◌, length, vec_len, vec_capacity, arith}
+use Rattle.std.proofs.Common.{rules, ◌≡◌, ap, ◌++◌, [], ◌∷◌, length, vec_len, arith}
 use Rattle.vz_returns.specs.Holding.{alive_of}
 use Rattle.vz_returns.specs.Giving.{times}
 use Rattle.std.proofs.lemmas.List.{length-append}
-use Rattle.vz_lending.specs.Lent.{Suffice, all_alive}
+use Rattle.vz_lending.specs.Lent.{Suffice}
 use Rattle.vz_lending.proofs.Totals.{no_more}
 use Rattle.vz_lending.proofs.lender.Lender.release.Goals as goal
 

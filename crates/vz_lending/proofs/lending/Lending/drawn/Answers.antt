@@ -1,6 +1,6 @@
-use Rattle.std.proofs.Common.{◌≡◌, ap, sym, subst, refl, ◌∙◌, ◌+◌, ◌-◌, length, arith}
-use Rattle.vz_lending.specs.Lent.{IsLender, AreLent, NoneReleased, HasRoom, HasPlaces, resources_out}
-use Rattle.vz_lending.specs.Changes.{IsAccepted, IsRising, IsGoing, IsDrawn, IsDone}
+use Rattle.std.proofs.Common.{ap, sym, subst, ◌∙◌, ◌+◌, length, arith}
+use Rattle.vz_lending.specs.Lent.{IsLender, NoneReleased, HasPlaces, resources_out}
+use Rattle.vz_lending.specs.Changes.{IsDrawn}
 use Rattle.vz_lending.specs.Listed.{ids_of}
 use Rattle.vz_lending.proofs.Changed.{here, drawn_countable, drawn_alive, drawn_lent, drawn_rising}
 use Rattle.vz_lending.proofs.Rooms.{out_same, none_released_set, places_set, shared_length}

@@ -1,4 +1,4 @@
-use Rattle.std.proofs.Common.{rules, ◌≡◌, length, ap, sym, subst, ◌∙◌}
+use Rattle.std.proofs.Common.{rules, ◌≡◌, length, sym, subst}
 use Rattle.std.proofs.lemmas.List.{with_items_is}
 use Rattle.vz_lending.specs.Lent.{NoneReleased}
 use Rattle.vz_lending.proofs.lending.Lending.give_back.Goals as goal

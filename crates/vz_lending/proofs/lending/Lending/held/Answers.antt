@@ -1,4 +1,4 @@
-use Rattle.std.proofs.Common.{◌++◌, ap, sym, subst, ◌∙◌}
+use Rattle.std.proofs.Common.{◌++◌, ap, ◌∙◌}
 use Rattle.std.specs.List.{flat_map}
 use Rattle.vz_returns.specs.Holding.{held}
 use Rattle.vz_lending.specs.Lent.{Lent}

@@ -1,7 +1,5 @@
-use Rattle.std.proofs.Common.{◌≡◌, ap, sym, subst, refl, ◌∙◌, ◌+◌, ◌-◌, length, arith}
-use Rattle.vz_lending.specs.Lent.{IsLender, AreLent, NoneReleased, HasRoom, HasPlaces, resources_out}
-use Rattle.vz_lending.specs.Changes.{IsAccepted, IsRising, IsGoing, IsDrawn, IsDone}
-use Rattle.vz_lending.specs.Listed.{ids_of}
+use Rattle.std.proofs.Common.{sym, subst, ◌∙◌}
+use Rattle.vz_lending.specs.Lent.{IsLender, AreLent, NoneReleased}
 use Rattle.vz_lending.proofs.Returning.{refused_use}
 use Rattle.vz_lending.proofs.lending.Lending.in_use.Goals as goal
 

@@ -1,4 +1,4 @@
-use Rattle.std.proofs.Common.{rules, ◌≡◌, ◌≤◌, ◌<◌, ◌+◌, Some, [], ◌∷◌, length, vec_len, vec_capacity, slice_get, ap, sym, ◌∙◌, arith}
+use Rattle.std.proofs.Common.{rules, ◌≡◌, length, vec_len, arith}
 use Rattle.vz_lending.proofs.Beginning.{new_next, new_lent, new_released}
 use Rattle.vz_lending.proofs.lending.Lending.new.Goals as goal
 

@@ -1,7 +1,6 @@
-use Rattle.std.proofs.Common.{◌≡◌, ap, sym, subst, refl, ◌∙◌, ◌+◌, ◌-◌, length, arith}
-use Rattle.vz_lending.specs.Lent.{IsLender, AreLent, NoneReleased, HasRoom, HasPlaces, resources_out}
-use Rattle.vz_lending.specs.Changes.{IsAccepted, IsRising, IsGoing, IsDrawn, IsDone}
-use Rattle.vz_lending.specs.Listed.{ids_of}
+use Rattle.std.proofs.Common.{ap, sym, subst, ◌∙◌, length}
+use Rattle.vz_lending.specs.Lent.{IsLender, resources_out}
+use Rattle.vz_lending.specs.Changes.{IsRising}
 use Rattle.vz_lending.proofs.Changed.{here, past_enough, past_lent}
 use Rattle.vz_lending.proofs.Rooms.{out_same}
 use Rattle.vz_lending.proofs.lending.Lending.past.Goals as goal

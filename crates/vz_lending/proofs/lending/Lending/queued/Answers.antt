@@ -1,12 +1,10 @@
-use Rattle.std.proofs.Common.{◌≡◌, ap, sym, subst, refl, ◌∙◌, ◌+◌, ◌-◌, length, arith}
-use Rattle.vz_lending.specs.Lent.{IsLender, AreLent, NoneReleased, HasRoom, HasPlaces, resources_out}
-use Rattle.vz_lending.specs.Changes.{IsAccepted, IsRising, IsGoing, IsDrawn, IsDone}
-use Rattle.vz_lending.specs.Listed.{ids_of}
+use Rattle.std.proofs.Common.{ap, sym, subst, ◌∙◌, length}
+use Rattle.vz_lending.specs.Lent.{IsLender, AreLent}
 use Rattle.vz_lending.proofs.Returning.{its_queue}
 use Rattle.vz_lending.proofs.lending.Lending.queued.Goals as goal
 
-pub returns : goal.returns
-returns c = λ w d always there number lent.
+pub returns-clause-queue : goal.returns-clause-queue
+returns-clause-queue c = λ w d always there number lent.
     let items = c.self.inside.lenders.items in
     let known = subst (IsLender c.args.client) (sym c.self.view_is) c.requires.known in
     let o = c.index.result.now in

@@ -1,7 +1,5 @@
-use Rattle.std.proofs.Common.{◌≡◌, ap, sym, subst, refl, ◌∙◌, ◌+◌, ◌-◌, length, arith}
-use Rattle.vz_lending.specs.Lent.{IsLender, AreLent, NoneReleased, HasRoom, HasPlaces, resources_out}
-use Rattle.vz_lending.specs.Changes.{IsAccepted, IsRising, IsGoing, IsDrawn, IsDone}
-use Rattle.vz_lending.specs.Listed.{ids_of}
+use Rattle.std.proofs.Common.{ap, sym, subst, ◌∙◌, length}
+use Rattle.vz_lending.specs.Lent.{IsLender, AreLent, NoneReleased, resources_out}
 use Rattle.std.proofs.Common.{◌++◌}
 use Rattle.vz_lending.proofs.Changed.{here}
 use Rattle.vz_lending.proofs.Rooms.{out_same, none_released_set}

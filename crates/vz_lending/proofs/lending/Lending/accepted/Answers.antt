@@ -1,10 +1,9 @@
-use Rattle.std.proofs.Common.{◌≡◌, ap, sym, subst, refl, ◌∙◌, ◌+◌, ◌-◌, length, arith}
-use Rattle.vz_lending.specs.Lent.{IsLender, AreLent, NoneReleased, HasRoom, HasPlaces, resources_out}
-use Rattle.vz_lending.specs.Changes.{IsAccepted, IsRising, IsGoing, IsDrawn, IsDone}
-use Rattle.vz_lending.specs.Listed.{ids_of}
+use Rattle.std.proofs.Common.{ap, sym, subst, length, arith}
+use Rattle.vz_lending.specs.Lent.{IsLender, HasRoom, resources_out}
+use Rattle.vz_lending.specs.Changes.{IsAccepted}
 use Rattle.vz_lending.proofs.Changed.{here, accepted_once, accepted_countable, accepted_enough, accepted_lent}
 use Rattle.vz_lending.proofs.Rooms.{out_more}
-use Rattle.vz_lending.proofs.lending.Lending.accept.Goals as goal
+use Rattle.vz_lending.proofs.lending.Lending.accepted.Goals as goal
 
 pub accept-requires-clause-once : goal.accept-requires-clause-once
 accept-requires-clause-once c =
