@@ -12,8 +12,9 @@ use Rattle.vz_rules.specs.Kept.{KeepsAlways, KeepsPlan}
 use Rattle.vz_lending.specs.Lent.{Lent, AreLent, NoneReleased}
 use Rattle.vz_lending.specs.Listed.{lists_twice, waiting_listings, active_listings}
 
--- a submission of a client is accepted, that lists these resources and takes the place of one with those
-pub record IsAccepted (p : Plan) (w : World) (c : Client) (local : LocalSurfaceId) (frame : CompositorFrame) (client : ℕ) (listings replaced : List Listing) (lenders : List Lent) : Type 0 where
+-- a submission of a client is accepted that lists these resources, and the one that it replaces lists those
+pub record IsAccepted (p : Plan) (w : World) (c : Client) (local : LocalSurfaceId) (frame : CompositorFrame)
+    (client : ℕ) (listings replaced : List Listing) (lenders : List Lent) : Type 0 where
   pub plan : IsPlan p
   pub always : KeepsAlways w
   pub of_plan : KeepsPlan p w
@@ -49,7 +50,8 @@ pub record IsGoing (w : World) (d : Created) (client : ℕ) (waiting active : Li
   pub lent : AreLent w lenders
 
 -- a frame is drawn, of which these submissions hold their resources so far, and an active one of a client is the next
-pub record IsDrawn (p : Plan) (w : World) (drawn : List Sub) (s : Submission) (client : ℕ) (listings : List Listing) (lenders : List Lent) : Type 0 where
+pub record IsDrawn (p : Plan) (w : World) (drawn : List Sub) (s : Submission)
+    (client : ℕ) (listings : List Listing) (lenders : List Lent) : Type 0 where
   pub plan : IsPlan p
   pub always : KeepsAlways w
   pub of_plan : KeepsPlan p w
@@ -63,7 +65,8 @@ pub record IsDrawn (p : Plan) (w : World) (drawn : List Sub) (s : Submission) (c
   pub lent : AreLent (record w { in_flight = Some drawn }) lenders
 
 -- the drawn frame is done, and of those that hold their resources in it a client's is the first and these are the others
-pub record IsDone (w : World) (s : Submission) (others : List Sub) (client : ℕ) (listings : List Listing) (lenders : List Lent) : Type 0 where
+pub record IsDone (w : World) (s : Submission) (others : List Sub)
+    (client : ℕ) (listings : List Listing) (lenders : List Lent) : Type 0 where
   pub always : KeepsAlways w
   pub known : Contains w.subs s
   pub first : IsFalse (has_sub others (sub_of s))

@@ -44,7 +44,8 @@ AreCountable ids h = (id : ℕ) → Contains ids id → IsCountable id h
 -- references once those released are given back
 pub record AreLent (w : World) (lenders : List Lent) : Type 0 where
   pub many : length lenders ≡ length w.clients
-  pub each : (n : ℕ) (c : Client) (l : Lent) → slice_get w.clients n ≡ Some c → slice_get lenders n ≡ Some l → AreCounts w c l.holding l.released
+  pub each : (n : ℕ) (c : Client) (l : Lent) → slice_get w.clients n ≡ Some c → slice_get lenders n ≡ Some l
+      → AreCounts w c l.holding l.released
 
 -- there is a client of this number
 abbrev pub IsLender : ℕ → List Lent → Type 0

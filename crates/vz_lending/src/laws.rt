@@ -18,14 +18,15 @@ ghost use Rattle.vz_lending.specs.Lent.{Lent, AreLent};
 ghost use Rattle.vz_lending.specs.Listed.{active_listings};
 ghost use Rattle.vz_lending.specs.Quiet.{KeepsReferences, AreAlike};
 
-/// What clients lent stands for each state that has the same clients, surfaces, submissions and
-/// drawn frame, whatever else it has, and a drawn frame of nothing holds no more than none.
+/// What stands for a state stands for each other one with the same clients, surfaces, submissions
+/// and drawn frame, and a drawn frame without submissions holds no more than none.
 pub fn references_are_of_the_state()
     ensures alike { (w v : World) (lenders : List Lent) → AreAlike w v → AreLent w lenders
         → AreLent v lenders }
     ensures begun { (w : World) (lenders : List Lent) → w.in_flight ≡ None → AreLent w lenders
         → AreLent (record w { in_flight = Some [] }) lenders }
-    ensures over { (w : World) (lenders : List Lent) → AreLent (record w { in_flight = Some [] }) lenders
+    ensures over { (w : World) (lenders : List Lent)
+        → AreLent (record w { in_flight = Some [] }) lenders
         → AreLent (record w { in_flight = None }) lenders }
 {}
 

@@ -178,9 +178,9 @@ impl Lender {
         }
     }
 
-    /// Lends each listed resource once more, and releases a reference of each of others. Conditions:
-    /// no resource is listed twice, of each one more reference can be counted, there is room for
-    /// all, and so many of the others are alive and not released.
+    /// Lends each listed resource once more, and releases a reference of each of others.
+    /// Conditions: no resource is listed twice, of each one more reference can be counted, there is
+    /// room for all, and so many of the others are alive and not released.
     pub(crate) fn accept(&mut self, listings: &[Listing], replaced: &[Listing])
         requires once { IsFalse (lists_twice listings.now) }
         requires countable { AreCountable (ids_of listings.now) self.old.holding }

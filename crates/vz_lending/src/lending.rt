@@ -277,7 +277,8 @@ fn give_back_each(lenders: &mut [Lender], out: &mut Room<Returned>)
 /// all.
 fn put_held(lenders: &[Lender], out: &mut Room<Returned>)
     requires room { resources_out lenders.now ≤ out.old.spare }
-    ensures out { out.new.list ≡ out.old.list ++ flat_map (λ (l : Lent). held l.holding) lenders.now }
+    ensures out { out.new.list
+        ≡ out.old.list ++ flat_map (λ (l : Lent). held l.holding) lenders.now }
 {
     for lender in lenders {
         lender.held(out);
