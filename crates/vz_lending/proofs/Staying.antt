@@ -17,13 +17,13 @@ use Rattle.vz_rules.specs.Messages.{Answer, says, id_of, took, taking, refused, 
 use Rattle.vz_rules.specs.Singly.{rising}
 use Rattle.vz_rules.specs.Step.{begin_answer, deliver, next_tick, is_attached}
 use Rattle.vz_rules.specs.Kept.{KeepsAlways, AreRising, borrows}
-use Rattle.vz_rules.proofs.Members.{at_map, at_contains, when_same}
+use Rattle.vz_rules.proofs.Members.{at_map, at_within, at_contains, contains_at, when_same}
 use Rattle.vz_rules.proofs.Counts.{count_none}
 use Rattle.vz_rules.proofs.Rising.{counted, Rising}
 use Rattle.vz_rules.proofs.Given.{id_of as resource_id}
 use Rattle.vz_rules.proofs.Totals.{answered_stored}
 use Rattle.vz_returns.specs.Giving.{alive_in, out_in, times}
-use Rattle.vz_lending.specs.Lent.{Lent, AreLent}
+use Rattle.vz_lending.specs.Lent.{Lent, AreLent, IsLender}
 use Rattle.vz_lending.specs.Listed.{active_listings}
 use Rattle.vz_lending.specs.Quiet.{KeepsReferences, AreAlike}
 use Rattle.vz_lending.proofs.Counting.{share}
@@ -249,3 +249,12 @@ lent_uploaded w c id block items always lent =
           out = λ j. ap (λ (x : Client). out_in x.resources j) (sym m.2) ∙ out_when (m.0.number == c.number) m.0 j shelf.rising;
           queue = ap (λ (x : Client). x.queue) (sym m.2) ∙ when_same (λ (x : Client). x.queue) stores (m.0.number == c.number) m.0 refl;
         }
+
+-- Each client lends
+
+pub lends : (w : World) (c : Client) (items : List Lent) → KeepsAlways w → Contains w.clients c → AreLent w items → IsLender c.number items
+lends w c items always there lent =
+    let n = contains_at w.clients c there in
+    let number = always.clients.numbered n.0 c n.1 in
+    let within = at_within w.clients n.0 c n.1 in
+    (omega (arith, number), omega (arith, number, within, lent.many))

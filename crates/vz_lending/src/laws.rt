@@ -14,13 +14,16 @@ ghost use Rattle.vz_rules.specs.Singly.{rising};
 ghost use Rattle.vz_rules.specs.Step.{begin_answer};
 ghost use Rattle.vz_rules.specs.Kept.{KeepsAlways};
 ghost use Rattle.std.specs.List.{Contains};
-ghost use Rattle.vz_lending.specs.Lent.{Lent, AreLent};
+ghost use Rattle.vz_lending.specs.Lent.{Lent, AreLent, IsLender};
 ghost use Rattle.vz_lending.specs.Listed.{active_listings};
 ghost use Rattle.vz_lending.specs.Quiet.{KeepsReferences, AreAlike};
 
-/// What stands for a state stands for each other one with the same clients, surfaces, submissions
-/// and drawn frame, and a drawn frame without submissions holds no more than none.
+/// Each client of a state is one that lends. What stands for a state stands for each other one
+/// with the same clients, surfaces, submissions and drawn frame, and a drawn frame without
+/// submissions holds no more than none.
 pub fn references_are_of_the_state()
+    ensures lender { (w : World) (c : Client) (lenders : List Lent) → KeepsAlways w
+        → Contains w.clients c → AreLent w lenders → IsLender c.number lenders }
     ensures alike { (w v : World) (lenders : List Lent) → AreAlike w v → AreLent w lenders
         → AreLent v lenders }
     ensures begun { (w : World) (lenders : List Lent) → w.in_flight ≡ None → AreLent w lenders
