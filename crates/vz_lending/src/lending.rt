@@ -104,7 +104,9 @@ impl Lending {
     }
 
     /// A submission of a client is accepted: each resource that it lists is lent once more, and
-    /// those of the one that it replaces are released. Condition: there is room for its listings.
+    /// those of the one that it replaces are released; `replaced` is empty where there is none.
+    /// Conditions: a client that is not closed may submit it, nothing is released before it, and
+    /// there is room for its listings.
     pub fn accepted(&mut self, client: u32, listings: &[Listing], replaced: &[Listing])
         requires known { IsLender client self.old }
         requires accepted { (p : Plan) × (w : World) × (c : Client) × (local : LocalSurfaceId)
@@ -120,7 +122,8 @@ impl Lending {
         self.lenders[client as usize - 1].accept(listings, replaced);
     }
 
-    /// A submission becomes active: the resources of the active one of its surface are released.
+    /// A submission that waits becomes active: the resources of the active one of its surface are
+    /// released. Condition: these are the listings of that one, none where there is none.
     pub fn past(&mut self, client: u32, listings: &[Listing])
         requires known { IsLender client self.old }
         requires rises { (w : World) × (s : Submission)
@@ -133,7 +136,7 @@ impl Lending {
     }
 
     /// A surface is destroyed: the resources of its waiting and of its active submission are
-    /// released.
+    /// released. Condition: these are the listings of the two, none where there is none.
     pub fn dropped(&mut self, client: u32, waiting: &[Listing], active: &[Listing])
         requires known { IsLender client self.old }
         requires goes { (w : World) × (d : Created)
@@ -146,8 +149,9 @@ impl Lending {
         self.lenders[client as usize - 1].drop_all(waiting, active);
     }
 
-    /// A submission is in a drawn frame: it holds its resources once more. Condition: there are
-    /// places for its listings.
+    /// An active submission is in a drawn frame: it holds its resources once more. Conditions: it
+    /// is not among those of the frame so far, nothing is released, and there are places for its
+    /// listings.
     pub fn drawn(&mut self, client: u32, listings: &[Listing])
         requires known { IsLender client self.old }
         requires drawn { (p : Plan) × (w : World) × (before : List Sub) × (s : Submission)
@@ -164,7 +168,8 @@ impl Lending {
         self.lenders[client as usize - 1].hold_all(listings);
     }
 
-    /// The drawn frame is done: the resources of a submission in it are released.
+    /// The drawn frame is done: the resources of the first submission in it are released, which is
+    /// in it no more. Condition: these are its listings.
     pub fn landed(&mut self, client: u32, listings: &[Listing])
         requires known { IsLender client self.old }
         requires done { (w : World) × (s : Submission) × (others : List Sub)
@@ -178,8 +183,9 @@ impl Lending {
     }
 
     /// Gives back what was released: each resource of which no reference is alive any more goes
-    /// back with all that were received, by client and rising id. Condition: `out` has room for
-    /// each resource of which some reference was alive.
+    /// back with all that were received, by client and rising id. Conditions: it stands for a state
+    /// in which what always holds is kept, and `out` has room for each resource of which some
+    /// reference was alive.
     pub fn give_back(&mut self, out: &mut Room<Returned>)
         requires stands { (w : World) × KeepsAlways w × AreLent w self.old }
         requires room { resources_out self.old ≤ out.old.spare }
