@@ -10,9 +10,11 @@ use Rattle.vz_lending.specs.Lent.{Lent, AreLent, NoneReleased}
 
 -- a client of this place has lent nothing
 abbrev pub AreNew : List Lent → Type 0
-AreNew items = (n : ℕ) (x : Lent) → slice_get items n ≡ Some x → (x.holding ≡ record { client = n + 1; counted = []; queue = [] }) × (x.released ≡ [])
+AreNew items = (n : ℕ) (x : Lent) → slice_get items n ≡ Some x
+    → (x.holding ≡ record { client = n + 1; counted = []; queue = [] }) × (x.released ≡ [])
 
-pub new_next : (items more : List Lent) (k : ℕ) (new : Lent) → length items ≡ k → more ≡ items ++ new ∷ [] → new.holding.client ≡ k + 1 → new.holding.counted ≡ [] → new.holding.queue ≡ [] → new.released ≡ []
+pub new_next : (items more : List Lent) (k : ℕ) (new : Lent) → length items ≡ k → more ≡ items ++ new ∷ [] → new.holding.client ≡ k + 1
+    → new.holding.counted ≡ [] → new.holding.queue ≡ [] → new.released ≡ []
     → AreNew items → AreNew more
 new_next items more k new long grown client counted queue none are n x at =
     elim (at_push items new n x (sym (ap (λ l. slice_get l n) grown) ∙ at)) [
@@ -20,8 +22,11 @@ new_next items more k new long grown client counted queue none are n x at =
       | inr p ↦
           let place : n ≡ k = p.0 ∙ long in
           let is : new.holding ≡ record { client = n + 1; counted = []; queue = [] } =
-          λ i. record { client = (client ∙ ap (λ m. m + 1) (sym place)) i; counted = counted i; queue = queue i } in
-          (subst (λ (y : Lent). y.holding ≡ record { client = n + 1; counted = []; queue = [] }) p.1 is, subst (λ (y : Lent). y.released ≡ []) p.1 none)
+          λ i. record { client = (client ∙ ap (λ m. m + 1) (sym place)) i; counted = counted i; queue = queue i } in (
+            subst (λ (y : Lent). y.holding ≡ record { client = n + 1; counted = []; queue = [] }) p.1 is,
+            subst
+                (λ (y : Lent). y.released ≡ []) p.1 none,
+          )
     ]
 
 pub new_released : (items : List Lent) → AreNew items → NoneReleased items
@@ -44,9 +49,11 @@ new_at m (file ∷ files) zero c e =
   where
     first : {x y : Client} → ◌≡◌ {A = Option Client} (Some x) (Some y) → x ≡ y
     first e = cc
-new_at m (file ∷ files) (suc n) c e = let is = new_at (m + 1) files n c e in record { numbered = omega (arith, is.numbered); resources = is.resources; queue = is.queue }
+new_at m (file ∷ files) (suc n) c e = let is = new_at (m + 1) files n c e in record
+    { numbered = omega (arith, is.numbered); resources = is.resources; queue = is.queue }
 
-no_counts : (p : Plan) (c : Client) (n : ℕ) → IsNew (1 + n) c → AreCounts (opening p) c (record { client = n + 1; counted = []; queue = [] }) []
+no_counts : (p : Plan) (c : Client) (n : ℕ) → IsNew (1 + n) c
+    → AreCounts (opening p) c (record { client = n + 1; counted = []; queue = [] }) []
 unfolding opening alive_in is_rising are_some received_of alive_of out_in
 no_counts p c n is =
     record {
@@ -65,5 +72,6 @@ new_lent p items long are =
       many = sym (new_length 1 p.files ∙ long);
       each = λ n c l at is.
           let a = are n l is in
-          subst (λ r. AreCounts (opening p) c l.holding r) (sym a.1) (subst (λ h. AreCounts (opening p) c h []) (sym a.0) (no_counts p c n (new_at 1 p.files n c at)));
+          subst (λ r. AreCounts (opening p) c l.holding r) (sym a.1)
+          (subst (λ h. AreCounts (opening p) c h []) (sym a.0) (no_counts p c n (new_at 1 p.files n c at)));
     }

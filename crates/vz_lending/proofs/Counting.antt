@@ -21,7 +21,8 @@ split_and true a b c h = h
 split_and false a b c h = omega arith
 
 -- each is changed: those that passed pass still or pass another test
-pub count_split : {A : Type 0} (f : A → A) (before after ended : A → Bool) (xs : List A) → ((x : A) → Contains xs x → IsSplit (before x) (after (f x)) (ended x))
+pub count_split : {A : Type 0} (f : A → A) (before after ended : A → Bool) (xs : List A)
+    → ((x : A) → Contains xs x → IsSplit (before x) (after (f x)) (ended x))
     → count_by before xs ≡ count_by after (map f xs) + count_by ended xs
 count_split f before after ended [] h = refl
 count_split f before after ended (x ∷ xs) h =
@@ -35,16 +36,34 @@ count_split f before after ended (x ∷ xs) h =
     )
 
 -- as many pass tests that say the same of each
-pub count_alike : {A : Type 0} (f : A → A) (before after : A → Bool) (xs : List A) → ((x : A) → Contains xs x → after (f x) ≡ before x) → count_by after (map f xs) ≡ count_by before xs
+pub count_alike : {A : Type 0} (f : A → A) (before after : A → Bool) (xs : List A) → ((x : A) → Contains xs x → after (f x) ≡ before x)
+    → count_by after (map f xs) ≡ count_by before xs
 count_alike f before after [] h = refl
 count_alike f before after (x ∷ xs) h =
-    let first : ◌≡◌ {A = ℕ} (cond (after (f x)) 1 0) (cond (before x) 1 0) = ap {B = ℕ} (λ (t : Bool). cond t 1 0) (h x (contains_here x xs)) in
-    omega (arith, count_cons before x xs, count_cons after (f x) (map f xs), first, count_alike f before after xs (λ y c. h y (contains_there x y xs c)))
+    let first : ◌≡◌ {A = ℕ} (cond (after (f x)) 1 0) (cond (before x) 1 0) = ap {B = ℕ} (λ (t : Bool). cond t 1 0)
+    (h x (contains_here x xs)) in
+    omega (
+      arith,
+      count_cons before x xs,
+      count_cons after (f x) (map f xs),
+      first,
+      count_alike f before after xs
+          (λ y c. h y (contains_there x y xs c)),
+    )
 
-pub count_both : {A : Type 0} (before one two : A → Bool) (xs : List A) → ((x : A) → Contains xs x → IsSplit (before x) (one x) (two x)) → count_by before xs ≡ count_by one xs + count_by two xs
+pub count_both : {A : Type 0} (before one two : A → Bool) (xs : List A) → ((x : A) → Contains xs x → IsSplit (before x) (one x) (two x))
+    → count_by before xs ≡ count_by one xs + count_by two xs
 count_both before one two [] h = refl
 count_both before one two (x ∷ xs) h =
-    omega (arith, count_cons before x xs, count_cons one x xs, count_cons two x xs, h x (contains_here x xs), count_both before one two xs (λ y c. h y (contains_there x y xs c)))
+    omega (
+      arith,
+      count_cons before x xs,
+      count_cons one x xs,
+      count_cons two x xs,
+      h x (contains_here x xs),
+      count_both before one two xs
+          (λ y c. h y (contains_there x y xs c)),
+    )
 
 and_false : (a b : Bool) → b ≡ false → (a && b) ≡ false
 and_false true b e = e
@@ -58,7 +77,8 @@ none_counted t xs none x there = by (t x) refl
     by false e = refl
 
 -- the one that is found is the only one
-pub one_found : {A : Type 0} (b t : A → Bool) (xs : List A) (o : Option A) → count_by t xs ≤ 1 → find t xs ≡ o → count_by (λ x. b x && t x) xs ≡ elim o [ Some x ↦ cond (b x) 1 0 | None ↦ 0 ]
+pub one_found : {A : Type 0} (b t : A → Bool) (xs : List A) (o : Option A) → count_by t xs ≤ 1 → find t xs ≡ o
+    → count_by (λ x. b x && t x) xs ≡ elim o [ Some x ↦ cond (b x) 1 0 | None ↦ 0 ]
 one_found b t [] None few e = refl
 one_found b t [] (Some y) few e = absurd (cc)
 one_found b t (x ∷ xs) o few e = by (t x) refl e (λ q. one_found b t xs o (omega (arith, count_cons t x xs, few)) q)
@@ -74,13 +94,15 @@ one_found b t (x ∷ xs) o few e = by (t x) refl e (λ q. one_found b t xs o (om
     is_false true = refl
     is_false false = refl
 
-    by : (a : Bool) → t x ≡ a → cond a (Some x) (find t xs) ≡ o → (find t xs ≡ o → count_by (λ x. b x && t x) xs ≡ elim o [ Some x ↦ cond (b x) 1 0 | None ↦ 0 ])
+    by : (a : Bool) → t x ≡ a → cond a (Some x) (find t xs) ≡ o
+        → (find t xs ≡ o → count_by (λ x. b x && t x) xs ≡ elim o [ Some x ↦ cond (b x) 1 0 | None ↦ 0 ])
         → count_by (λ x. b x && t x) (x ∷ xs) ≡ elim o [ Some x ↦ cond (b x) 1 0 | None ↦ 0 ]
     by true k q rest =
         let here : ◌≡◌ {A = ℕ} (cond (t x) 1 0) 1 = ap {B = ℕ} (λ (r : Bool). cond r 1 0) k in
         let none : count_by t xs ≡ 0 = omega (arith, few, count_cons t x xs, here) in
         let left = count_none (λ x. b x && t x) xs (λ y c. and_false (b y) (t y) (none_counted t xs none y c)) in
-        let sum : count_by (λ x. b x && t x) (x ∷ xs) ≡ cond (b x) 1 0 = omega (arith, count_cons (λ x. b x && t x) x xs, first true k, is_true (b x), left) in
+        let sum : count_by (λ x. b x && t x) (x ∷ xs)
+        ≡ cond (b x) 1 0 = omega (arith, count_cons (λ x. b x && t x) x xs, first true k, is_true (b x), left) in
         subst (λ p. count_by (λ x. b x && t x) (x ∷ xs) ≡ elim p [ Some x ↦ cond (b x) 1 0 | None ↦ 0 ]) q sum
     by false k q rest = omega (arith, count_cons (λ x. b x && t x) x xs, first false k, is_false (b x), rest q)
 
@@ -93,22 +115,26 @@ listed_once id (l ∷ L) once =
     let parts = or_no (list_any (λ (b : Listing). lists l.id b) L) (lists_twice L) once in
     by (l.id == id) refl parts.0 (listed_once id L parts.1)
   where
-    by : (t : Bool) → (l.id == id) ≡ t → list_any (λ (b : Listing). lists l.id b) L ≡ false → ◌≡◌ {A = ℕ} (cond (list_any (lists id) L) 1 0) (times id (ids_of L))
+    by : (t : Bool) → (l.id == id) ≡ t → list_any (λ (b : Listing). lists l.id b) L ≡ false
+        → ◌≡◌ {A = ℕ} (cond (list_any (lists id) L) 1 0) (times id (ids_of L))
         → ◌≡◌ {A = ℕ} (cond ((l.id == id) || list_any (lists id) L) 1 0) (times id (l.id ∷ ids_of L))
     by true e none rest =
         let later : list_any (lists id) L ≡ false = sym (ap (λ n. list_any (lists n) L) (from_eqb l.id id e)) ∙ none in
         let zero : ◌≡◌ {A = ℕ} (cond (list_any (lists id) L) 1 0) 0 = ap {B = ℕ} (λ (r : Bool). cond r 1 0) later in
-        let here : ◌≡◌ {A = ℕ} (cond ((l.id == id) || list_any (lists id) L) 1 0) 1 = ap {B = ℕ} (λ (r : Bool). cond (r || list_any (lists id) L) 1 0) e in
+        let here : ◌≡◌ {A = ℕ} (cond ((l.id == id) || list_any (lists id) L) 1 0) 1 = ap {B = ℕ}
+        (λ (r : Bool). cond (r || list_any (lists id) L) 1 0) e in
         omega (arith, here, times_at id l.id (ids_of L) true e, rest, zero)
     by false e none rest =
-        let there : ◌≡◌ {A = ℕ} (cond ((l.id == id) || list_any (lists id) L) 1 0) (cond (list_any (lists id) L) 1 0) = ap {B = ℕ} (λ (r : Bool). cond (r || list_any (lists id) L) 1 0) e in
+        let there : ◌≡◌ {A = ℕ} (cond ((l.id == id) || list_any (lists id) L) 1 0) (cond (list_any (lists id) L) 1 0) = ap {B = ℕ}
+        (λ (r : Bool). cond (r || list_any (lists id) L) 1 0) e in
         omega (arith, there, times_at id l.id (ids_of L) false e, rest)
 
 -- the references of a client's resource that a client's submission with these listings holds
 unfoldable pub share : ℕ → List Listing → ℕ → ℕ → ℕ
 share client L c id = cond (client == c) (times id (ids_of L)) 0
 
-pub one_shares : (client : ℕ) (L : List Listing) (c id : ℕ) (s : Submission) → s.submitted.sub.client ≡ client → L ≡ s.submitted.frame.resources → lists_twice L ≡ false
+pub one_shares : (client : ℕ) (L : List Listing) (c id : ℕ) (s : Submission) → s.submitted.sub.client ≡ client
+    → L ≡ s.submitted.frame.resources → lists_twice L ≡ false
     → ◌≡◌ {A = ℕ} (cond (borrows c id s) 1 0) (share client L c id)
 unfolding share
 one_shares client L c id s own listed once =
@@ -123,11 +149,13 @@ none_shares : (t : Bool) (id : ℕ) → ◌≡◌ {A = ℕ} 0 (cond t (times id 
 none_shares true id = refl
 none_shares false id = refl
 
-pub found_shares : (client : ℕ) (L : List Listing) (c id : ℕ) (o : Option Submission) → ((s : Submission) → o ≡ Some s → s.submitted.sub.client ≡ client) → L ≡ listed_by o → lists_twice L ≡ false
+pub found_shares : (client : ℕ) (L : List Listing) (c id : ℕ) (o : Option Submission)
+    → ((s : Submission) → o ≡ Some s → s.submitted.sub.client ≡ client) → L ≡ listed_by o → lists_twice L ≡ false
     → ◌≡◌ {A = ℕ} (elim o [ Some s ↦ cond (borrows c id s) 1 0 | None ↦ 0 ]) (share client L c id)
 unfolding share
 found_shares client L c id (Some s) own listed once = one_shares client L c id s (own s refl) listed once
-found_shares client L c id None own listed once = none_shares (client == c) id ∙ ap {B = ℕ} (λ l. cond (client == c) (times id (ids_of l)) 0) (sym listed)
+found_shares client L c id None own listed once = none_shares (client == c) id
+    ∙ ap {B = ℕ} (λ l. cond (client == c) (times id (ids_of l)) 0) (sym listed)
 
 pub share_of_own : (client : ℕ) (L : List Listing) (c id : ℕ) → (client == c) ≡ true → share client L c id ≡ times id (ids_of L)
 unfolding share

@@ -19,23 +19,32 @@ use Rattle.vz_lending.specs.Lent.{Suffice, all_alive}
 use Rattle.vz_lending.proofs.Totals.{all_released}
 use Rattle.vz_lending.proofs.Listings.{left_next, first_some}
 
-pub fewer_left : (id : ℕ) (h : Holding) (r : Returned) → return_at id h ≡ Some r → is_rising h.counted ≡ true → 0 < alive_of id h.counted → length (released id h).counted + 1 ≡ length h.counted
+pub fewer_left : (id : ℕ) (h : Holding) (r : Returned) → return_at id h ≡ Some r → is_rising h.counted ≡ true → 0 < alive_of id h.counted
+    → length (released id h).counted + 1 ≡ length h.counted
 fewer_left id h r e up some = by (is_last id h) e
   where
     by : (t : Bool) → cond t (Some (record { client = h.client; id = id; count = received_of id h.counted })) None ≡ Some r
-        → length (cond t (without id h.counted) (put_in (record { id = id; received = received_of id h.counted; alive = alive_of id h.counted - 1 }) h.counted)) + 1 ≡ length h.counted
+        → length (cond t (without id h.counted)
+        (put_in (record { id = id; received = received_of id h.counted; alive = alive_of id h.counted - 1 }) h.counted)) + 1
+        ≡ length h.counted
     by true e = without_length id h.counted up (counts_there id h.counted some)
     by false e = absurd (cc)
 
-pub all_left : (id : ℕ) (h : Holding) → return_at id h ≡ None → is_rising h.counted ≡ true → 0 < alive_of id h.counted → length (released id h).counted ≡ length h.counted
+pub all_left : (id : ℕ) (h : Holding) → return_at id h ≡ None → is_rising h.counted ≡ true → 0 < alive_of id h.counted
+    → length (released id h).counted ≡ length h.counted
 all_left id h e up some = by (is_last id h) e
   where
-    by : (t : Bool) → ◌≡◌ {A = Option Returned} (cond t (Some (record { client = h.client; id = id; count = received_of id h.counted })) None) None
-        → length (cond t (without id h.counted) (put_in (record { id = id; received = received_of id h.counted; alive = alive_of id h.counted - 1 }) h.counted)) ≡ length h.counted
+    by : (t : Bool) → ◌≡◌ {A = Option Returned}
+        (cond t (Some (record { client = h.client; id = id; count = received_of id h.counted })) None) None
+        → length (cond t (without id h.counted)
+        (put_in (record { id = id; received = received_of id h.counted; alive = alive_of id h.counted - 1 }) h.counted))
+        ≡ length h.counted
     by true e = absurd (cc)
-    by false e = put_same (record { id = id; received = received_of id h.counted; alive = alive_of id h.counted - 1 }) h.counted up (counts_there id h.counted some)
+    by false e = put_same (record { id = id; received = received_of id h.counted; alive = alive_of id h.counted - 1 }) h.counted up
+        (counts_there id h.counted some)
 
-pub none_less : (id : ℕ) (h : Holding) → is_rising h.counted ≡ true → 0 < alive_of id h.counted → length (released id h).counted ≤ length h.counted
+pub none_less : (id : ℕ) (h : Holding) → is_rising h.counted ≡ true → 0 < alive_of id h.counted
+    → length (released id h).counted ≤ length h.counted
 none_less id h up some = by (return_at id h) refl
   where
     by : (o : Option Returned) → return_at id h ≡ o → length (released id h).counted ≤ length h.counted
@@ -44,26 +53,35 @@ none_less id h up some = by (return_at id h) refl
 
 -- One after the other
 
-pub released_next : (ids : List ℕ) (k d : ℕ) (now new all : Holding) → k < length ids → release_all (drop k ids) now ≡ all → new ≡ released (slice_index_or ids k d) now → release_all (drop (k + 1) ids) new ≡ all
-released_next ids k d now new all inside was is = ap (release_all (drop (k + 1) ids)) is ∙ (sym (ap (λ l. release_all l now) (left_next ids k d inside)) ∙ was)
+pub released_next : (ids : List ℕ) (k d : ℕ) (now new all : Holding) → k < length ids → release_all (drop k ids) now ≡ all
+    → new ≡ released (slice_index_or ids k d) now → release_all (drop (k + 1) ids) new ≡ all
+released_next ids k d now new all inside was is = ap (release_all (drop (k + 1) ids)) is
+    ∙ (sym (ap (λ l. release_all l now) (left_next ids k d inside)) ∙ was)
 
-pub out_next : (ids : List ℕ) (k d : ℕ) (now new : Holding) (out more all : List Returned) → k < length ids → out ++ returns_in (drop k ids) now ≡ all → new ≡ released (slice_index_or ids k d) now
+pub out_next : (ids : List ℕ) (k d : ℕ) (now new : Holding) (out more all : List Returned) → k < length ids
+    → out ++ returns_in (drop k ids) now ≡ all → new ≡ released (slice_index_or ids k d) now
     → more ≡ out ++ option_to_list (return_at (slice_index_or ids k d) now) → more ++ returns_in (drop (k + 1) ids) new ≡ all
 out_next ids k d now new out more all inside was is grown =
     (λ i. grown i ++ returns_in (drop (k + 1) ids) (is i))
-    ∙ (append_assoc out (option_to_list (return_at (slice_index_or ids k d) now)) (returns_in (drop (k + 1) ids) (released (slice_index_or ids k d) now))
+    ∙ (append_assoc out (option_to_list (return_at (slice_index_or ids k d) now))
+    (returns_in (drop (k + 1) ids) (released (slice_index_or ids k d) now))
     ∙ (sym (ap (λ l. out ++ returns_in l now) (left_next ids k d inside)) ∙ was))
 
-pub first_of_left : (ids : List ℕ) (k d : ℕ) (h : Holding) → k < length ids → Suffice (drop k ids) h → 0 < alive_of (slice_index_or ids k d) h.counted
-first_of_left ids k d h inside s = first_some (slice_index_or ids k d) (drop (k + 1) ids) h (subst (λ l. Suffice l h) (left_next ids k d inside) s)
+pub first_of_left : (ids : List ℕ) (k d : ℕ) (h : Holding) → k < length ids → Suffice (drop k ids) h
+    → 0 < alive_of (slice_index_or ids k d) h.counted
+first_of_left ids k d h inside s = first_some (slice_index_or ids k d) (drop (k + 1) ids) h
+    (subst (λ l. Suffice l h) (left_next ids k d inside) s)
 
-pub rest_of_left : (ids : List ℕ) (k d : ℕ) (h new : Holding) → k < length ids → Suffice (drop k ids) h → new ≡ released (slice_index_or ids k d) h → Suffice (drop (k + 1) ids) new
+pub rest_of_left : (ids : List ℕ) (k d : ℕ) (h new : Holding) → k < length ids → Suffice (drop k ids) h
+    → new ≡ released (slice_index_or ids k d) h → Suffice (drop (k + 1) ids) new
 rest_of_left ids k d h new inside s is =
-    subst (Suffice (drop (k + 1) ids)) (sym is) (rest_suffices (slice_index_or ids k d) (drop (k + 1) ids) h (subst (λ l. Suffice l h) (left_next ids k d inside) s))
+    subst (Suffice (drop (k + 1) ids)) (sym is)
+    (rest_suffices (slice_index_or ids k d) (drop (k + 1) ids) h (subst (λ l. Suffice l h) (left_next ids k d inside) s))
 
 -- All of them
 
-pub fewer_alive : (ids : List ℕ) (h : Holding) → is_rising h.counted ≡ true → Suffice ids h → all_alive (release_all ids h).counted + length ids ≡ all_alive h.counted
+pub fewer_alive : (ids : List ℕ) (h : Holding) → is_rising h.counted ≡ true → Suffice ids h
+    → all_alive (release_all ids h).counted + length ids ≡ all_alive h.counted
 fewer_alive [] h up s = omega arith
 fewer_alive (id ∷ ids) h up s =
     let some = first_some id ids h s in
@@ -102,7 +120,8 @@ never_fall (x ∷ xs) h =
     (never_fall xs (λ i j d first low. h (suc i) (suc j) d (omega (arith, first)) (omega (arith, low))))
 
 -- what goes back where they are released in order
-pub given_in_order : (w : World) (c : Client) (h : Holding) (xs ys : List ℕ) → AreRising c.resources → AreCounts w c h xs → IsPermutation xs ys → is_sorted ys ≡ true
+pub given_in_order : (w : World) (c : Client) (h : Holding) (xs ys : List ℕ) → AreRising c.resources → AreCounts w c h xs
+    → IsPermutation xs ys → is_sorted ys ≡ true
     → (out new : List Returned) (after : Holding) → new ≡ out ++ returns_in ys h → after ≡ release_all ys h
     → (new ≡ out ++ returns_of w c) × AreCounts (give_back w) (queue_returns w c) after []
 given_in_order w c h xs ys up are moved order out new after grown is =
@@ -111,7 +130,8 @@ given_in_order w c h xs ys up are moved order out new after grown is =
       subst (λ x. AreCounts (give_back w) (queue_returns w c) x []) (sym is) (counts_after w c h ys sorted up order),
     )
 
-pub none_less_all : (ids : List ℕ) (h : Holding) → is_rising h.counted ≡ true → Suffice ids h → length (release_all ids h).counted ≤ length h.counted
+pub none_less_all : (ids : List ℕ) (h : Holding) → is_rising h.counted ≡ true → Suffice ids h
+    → length (release_all ids h).counted ≤ length h.counted
 none_less_all [] h up s = omega arith
 none_less_all (id ∷ ids) h up s =
     let some = first_some id ids h s in

@@ -25,9 +25,12 @@ left_none L k over = drop_of_length-le L over
 
 -- what is done one after the other
 pub done_next : {S : Type 0} (f : List ℕ → S → S) (g : ℕ → S → S) → ((id : ℕ) (ids : List ℕ) (s : S) → f (id ∷ ids) s ≡ f ids (g id s))
-    → (L : List Listing) (k : ℕ) (d : Listing) (now new : S) (all : S) → k < length L → f (ids_of (drop k L)) now ≡ all → new ≡ g (slice_index_or L k d).id now → f (ids_of (drop (k + 1) L)) new ≡ all
+    → (L : List Listing) (k : ℕ) (d : Listing) (now new : S) (all : S) → k < length L → f (ids_of (drop k L)) now ≡ all
+    → new ≡ g (slice_index_or L k d).id now → f (ids_of (drop (k + 1) L)) new ≡ all
 done_next f g step L k d now new all inside was is =
-    ap (f (ids_of (drop (k + 1) L))) is ∙ (sym (step (slice_index_or L k d).id (ids_of (drop (k + 1) L)) now) ∙ (sym (ap (λ l. f (ids_of l) now) (left_next L k d inside)) ∙ was))
+    ap (f (ids_of (drop (k + 1) L))) is
+    ∙ (sym (step (slice_index_or L k d).id (ids_of (drop (k + 1) L)) now)
+    ∙ (sym (ap (λ l. f (ids_of l) now) (left_next L k d inside)) ∙ was))
 
 pub or_no : (a b : Bool) → (a || b) ≡ false → (a ≡ false) × (b ≡ false)
 or_no true b h = absurd (cc)
@@ -41,22 +44,27 @@ pub once_parts : (L : List Listing) (k : ℕ) (d : Listing) → k < length L →
 once_parts L k d inside once = or_no _ _ (sym (ap lists_twice (left_next L k d inside)) ∙ once)
 
 -- one that is listed later is another one
-pub is_other : (id j : ℕ) (rest : List Listing) → list_any (λ (b : Listing). lists id b) rest ≡ false → Contains (ids_of rest) j → (id == j) ≡ false
+pub is_other : (id j : ℕ) (rest : List Listing) → list_any (λ (b : Listing). lists id b) rest ≡ false → Contains (ids_of rest) j
+    → (id == j) ≡ false
 is_other id j rest none there =
     let m = contains_map (λ (l : Listing). l.id) rest j there in
     other_way j id (ap (λ n. n == id) (sym m.2) ∙ none_at (λ (b : Listing). lists id b) rest m.0 none m.1)
 
-pub countable_same : (h h' : Holding) (j : ℕ) → received_of j h'.counted ≡ received_of j h.counted → alive_of j h'.counted ≡ alive_of j h.counted → IsCountable j h → IsCountable j h'
+pub countable_same : (h h' : Holding) (j : ℕ) → received_of j h'.counted ≡ received_of j h.counted
+    → alive_of j h'.counted ≡ alive_of j h.counted → IsCountable j h → IsCountable j h'
 countable_same h h' j r a is = record { received = omega (arith, r, is.received); alive = omega (arith, a, is.alive) }
 
-pub countable_lent : (id : ℕ) (rest : List Listing) (h : Holding) → list_any (λ (b : Listing). lists id b) rest ≡ false → AreCountable (id ∷ ids_of rest) h → AreCountable (ids_of rest) (lent id h)
+pub countable_lent : (id : ℕ) (rest : List Listing) (h : Holding) → list_any (λ (b : Listing). lists id b) rest ≡ false
+    → AreCountable (id ∷ ids_of rest) h → AreCountable (ids_of rest) (lent id h)
 countable_lent id rest h none are j there =
     let other = is_other id j rest none there in
-    countable_same h (lent id h) j (received_lent j id h ∙ ap (λ (t : Bool). cond t (received_of j h.counted + 1) (received_of j h.counted)) other)
+    countable_same h (lent id h) j (received_lent j id h
+    ∙ ap (λ (t : Bool). cond t (received_of j h.counted + 1) (received_of j h.counted)) other)
     (alive_lent j id h ∙ ap (λ (t : Bool). cond t (alive_of j h.counted + 1) (alive_of j h.counted)) other)
     (are j (contains_there id j (ids_of rest) there))
 
-pub countable_shared : (id : ℕ) (rest : List Listing) (h : Holding) → list_any (λ (b : Listing). lists id b) rest ≡ false → AreCountable (id ∷ ids_of rest) h → AreCountable (ids_of rest) (shared id h)
+pub countable_shared : (id : ℕ) (rest : List Listing) (h : Holding) → list_any (λ (b : Listing). lists id b) rest ≡ false
+    → AreCountable (id ∷ ids_of rest) h → AreCountable (ids_of rest) (shared id h)
 countable_shared id rest h none are j there =
     let other = is_other id j rest none there in
     countable_same h (shared id h) j (received_shared j id h)
@@ -73,14 +81,28 @@ pub suffice_shared : (id : ℕ) (ids : List ℕ) (h : Holding) → Suffice (id �
 suffice_shared id ids h s j = by (id == j) refl
   where
     by : (t : Bool) → (id == j) ≡ t → times j ids ≤ alive_of j (shared id h).counted
-    by true e = omega (arith, s j, times_at j id ids true e, alive_shared j id h ∙ ap (λ (t : Bool). cond t (alive_of j h.counted + 1) (alive_of j h.counted)) e)
-    by false e = omega (arith, s j, times_at j id ids false e, alive_shared j id h ∙ ap (λ (t : Bool). cond t (alive_of j h.counted + 1) (alive_of j h.counted)) e)
+    by true e = omega (
+      arith,
+      s j,
+      times_at j id ids true e,
+      alive_shared j id h
+          ∙ ap (λ (t : Bool). cond t (alive_of j h.counted + 1) (alive_of j h.counted)) e,
+    )
+    by false e = omega (
+      arith,
+      s j,
+      times_at j id ids false e,
+      alive_shared j id h
+          ∙ ap (λ (t : Bool). cond t (alive_of j h.counted + 1) (alive_of j h.counted)) e,
+    )
 
 -- the countables and the references of what is left
-pub left_countable : (L : List Listing) (k : ℕ) (d : Listing) (h : Holding) → k < length L → AreCountable (ids_of (drop k L)) h → AreCountable ((slice_index_or L k d).id ∷ ids_of (drop (k + 1) L)) h
+pub left_countable : (L : List Listing) (k : ℕ) (d : Listing) (h : Holding) → k < length L → AreCountable (ids_of (drop k L)) h
+    → AreCountable ((slice_index_or L k d).id ∷ ids_of (drop (k + 1) L)) h
 left_countable L k d h inside are = subst (λ l. AreCountable (ids_of l) h) (left_next L k d inside) are
 
-pub left_suffice : (L : List Listing) (k : ℕ) (d : Listing) (h : Holding) → k < length L → Suffice (ids_of (drop k L)) h → Suffice ((slice_index_or L k d).id ∷ ids_of (drop (k + 1) L)) h
+pub left_suffice : (L : List Listing) (k : ℕ) (d : Listing) (h : Holding) → k < length L → Suffice (ids_of (drop k L)) h
+    → Suffice ((slice_index_or L k d).id ∷ ids_of (drop (k + 1) L)) h
 left_suffice L k d h inside s = subst (λ l. Suffice (ids_of l) h) (left_next L k d inside) s
 
 pub first_countable : (id : ℕ) (ids : List ℕ) (h : Holding) → AreCountable (id ∷ ids) h → IsCountable id h

@@ -52,13 +52,16 @@ and_true false = refl
 
 returns_all : (w : World) (n : ℕ) (r : Resource) → return_of (none_held w) n r ≡ held_resource n r
 unfolding is_held
-returns_all w n r = ap (λ (t : Bool). cond t (Some (record { client = n; id = r.id; count = r.lent - r.queued })) None) (and_true (nat_lt r.queued r.lent))
+returns_all w n r = ap (λ (t : Bool). cond t (Some (record { client = n; id = r.id; count = r.lent - r.queued })) None)
+    (and_true (nat_lt r.queued r.lent))
 
-received_is : (j : ℕ) (list : List Counted) (o : Option Counted) → counted_at j list ≡ o → received_of j list ≡ elim o [ Some c ↦ c.received | None ↦ 0 ]
+received_is : (j : ℕ) (list : List Counted) (o : Option Counted) → counted_at j list ≡ o
+    → received_of j list ≡ elim o [ Some c ↦ c.received | None ↦ 0 ]
 unfolding received_of
 received_is j list o e = ap (λ (x : Option Counted). elim x [ Some c ↦ c.received | None ↦ 0 ]) e
 
-out_is : (j : ℕ) (rs : List Resource) (q : Option Resource) → resource_in j rs ≡ q → out_in rs j ≡ elim q [ Some r ↦ r.lent - r.queued | None ↦ 0 ]
+out_is : (j : ℕ) (rs : List Resource) (q : Option Resource) → resource_in j rs ≡ q
+    → out_in rs j ≡ elim q [ Some r ↦ r.lent - r.queued | None ↦ 0 ]
 unfolding out_in
 out_is j rs q e = ap (λ (x : Option Resource). elim x [ Some r ↦ r.lent - r.queued | None ↦ 0 ]) e
 
@@ -69,12 +72,17 @@ some_received j list c some e =
     (both (nat_lt 0 c.received) (nat_lt 0 c.alive) (all_at (λ (x : Counted). nat_lt 0 x.received && nat_lt 0 x.alive) list c some at.0)).0
 
 module _ (w : World) (c : Client) (h : Holding) (ids : List ℕ) (counts : AreCounts w c h ids) (up : AreRising c.resources) where
-  picked : (j : ℕ) (o : Option Counted) (q : Option Resource) → counted_at j h.counted ≡ o → resource_in j c.resources ≡ q → option_map (mark c.number) o ≡ given_of (none_held w) c.number q
+  picked : (j : ℕ) (o : Option Counted) (q : Option Resource) → counted_at j h.counted ≡ o → resource_in j c.resources ≡ q
+      → option_map (mark c.number) o ≡ given_of (none_held w) c.number q
   unfolding given_of mark
   picked j None None e f = refl
   picked j None (Some r) e f =
-      let none : nat_lt r.queued r.lent ≡ false = no_more r.queued r.lent (sym (received_is j h.counted None e) ∙ (counts.received j ∙ out_is j c.resources (Some r) f)) in
-      sym (ap (option_map as_counted) (returns_all w c.number r) ∙ ap (λ (t : Bool). option_map as_counted (cond t (Some (record { client = c.number; id = r.id; count = r.lent - r.queued })) None)) none)
+      let none : nat_lt r.queued r.lent
+      ≡ false = no_more r.queued r.lent
+      (sym (received_is j h.counted None e) ∙ (counts.received j ∙ out_is j c.resources (Some r) f)) in
+      sym (ap (option_map as_counted) (returns_all w c.number r)
+      ∙ ap (λ (t : Bool). option_map as_counted
+      (cond t (Some (record { client = c.number; id = r.id; count = r.lent - r.queued })) None)) none)
     where
       no_more : (a b : ℕ) → 0 ≡ b - a → nat_lt a b ≡ false
       no_more a b e = grind (arith, nat_tests, e)
@@ -83,11 +91,15 @@ module _ (w : World) (c : Client) (h : Holding) (ids : List ℕ) (counts : AreCo
       let bad : true ≡ false = sym (some_received j h.counted x counts.some e) ∙ ap (nat_lt 0) none in
       absurd (cc)
   picked j (Some x) (Some r) e f =
-      let same : x.received ≡ r.lent - r.queued = sym (received_is j h.counted (Some x) e) ∙ (counts.received j ∙ out_is j c.resources (Some r) f) in
+      let same : x.received ≡ r.lent - r.queued = sym (received_is j h.counted (Some x) e)
+      ∙ (counts.received j ∙ out_is j c.resources (Some r) f) in
       let some : nat_lt r.queued r.lent ≡ true = more r.queued r.lent x.received same (some_received j h.counted x counts.some e) in
-      let id : x.id ≡ r.id = from_eqb x.id j (find_at (λ (y : Counted). y.id == j) h.counted x e).1 ∙ sym (from_eqb r.id j (find_at (λ (y : Resource). y.id == j) c.resources r f).1) in
+      let id : x.id ≡ r.id = from_eqb x.id j (find_at (λ (y : Counted). y.id == j) h.counted x e).1
+      ∙ sym (from_eqb r.id j (find_at (λ (y : Resource). y.id == j) c.resources r f).1) in
       (λ i. Some (record { id = id i; received = same i; alive = c.number }))
-      ∙ sym (ap (option_map as_counted) (returns_all w c.number r) ∙ ap (λ (t : Bool). option_map as_counted (cond t (Some (record { client = c.number; id = r.id; count = r.lent - r.queued })) None)) some)
+      ∙ sym (ap (option_map as_counted) (returns_all w c.number r)
+      ∙ ap (λ (t : Bool). option_map as_counted
+      (cond t (Some (record { client = c.number; id = r.id; count = r.lent - r.queued })) None)) some)
     where
       more : (a b n : ℕ) → n ≡ b - a → nat_lt 0 n ≡ true → nat_lt a b ≡ true
       more a b n e l = grind (arith, nat_tests, e, l)
@@ -96,11 +108,14 @@ module _ (w : World) (c : Client) (h : Holding) (ids : List ℕ) (counts : AreCo
   unfolding given
   held_are =
       let n = c.number in
-      let marked : map as_counted (held h) ≡ map (mark n) h.counted = returns_marked h.client h.counted ∙ ap (λ m. map (mark m) h.counted) counts.client in
+      let marked : map as_counted (held h) ≡ map (mark n) h.counted = returns_marked h.client h.counted
+      ∙ ap (λ m. map (mark m) h.counted) counts.client in
       same_returns (held h) (filter_map (held_resource n) c.resources)
       (marked
-      ∙ (one_list (map (mark n) h.counted) (given (none_held w) n c.resources) (rising_marked n h.counted counts.rising) (given_rising (none_held w) n c.resources up)
-      (λ j. found_marked n j h.counted ∙ (picked j (counted_at j h.counted) (resource_in j c.resources) refl refl ∙ sym (given_found (none_held w) n j c.resources up)))
+      ∙ (one_list (map (mark n) h.counted) (given (none_held w) n c.resources) (rising_marked n h.counted counts.rising)
+      (given_rising (none_held w) n c.resources up)
+      (λ j. found_marked n j h.counted
+      ∙ (picked j (counted_at j h.counted) (resource_in j c.resources) refl refl ∙ sym (given_found (none_held w) n j c.resources up)))
       ∙ (λ i. map as_counted (filter_map (λ r. returns_all w n r i) c.resources))))
 
 -- For all clients
@@ -110,10 +125,13 @@ flat_same : {A B C : Type 0} (f : A → List C) (g : B → List C) (xs : List A)
 flat_same f g [] [] long same = refl
 flat_same f g [] (y ∷ ys) long same = absurd (omega (arith, long))
 flat_same f g (x ∷ xs) [] long same = absurd (omega (arith, long))
-flat_same f g (x ∷ xs) (y ∷ ys) long same = (λ i. same 0 x y refl refl i ++ flat_same f g xs ys (omega (arith, long)) (λ n a b p q. same (suc n) a b p q) i)
+flat_same f g (x ∷ xs) (y ∷ ys) long
+    same = (λ i. same 0 x y refl refl i ++ flat_same f g xs ys (omega (arith, long)) (λ n a b p q. same (suc n) a b p q) i)
 
-pub rest_is : (w : World) (items : List Lent) → KeepsAlways w → AreLent w items → flat_map (λ (l : Lent). held l.holding) items ≡ (rest_in w).held
+pub rest_is : (w : World) (items : List Lent) → KeepsAlways w → AreLent w items
+    → flat_map (λ (l : Lent). held l.holding) items ≡ (rest_in w).held
 unfolding rest_in
 rest_is w items always lent =
     flat_same (λ (l : Lent). held l.holding) (λ (c : Client). filter_map (held_resource c.number) c.resources) items w.clients lent.many
-    (λ n l c p q. let shelf = always.shelves c (at_contains w.clients n c q) in held_are w c l.holding l.released (lent.each n c l q p) shelf.rising)
+    (λ n l c p q. let shelf = always.shelves c (at_contains w.clients n c q) in held_are w c l.holding l.released (lent.each n c l q p)
+    shelf.rising)

@@ -14,39 +14,53 @@ use Rattle.vz_lending.proofs.Steps.{at_set, at_others}
 
 -- What is out
 
-sum_set : {A : Type 0} (f : A → ℕ) (xs : List A) (k : ℕ) (o new : A) → slice_get xs k ≡ Some o → sum_by f (set xs k new) + f o ≡ sum_by f xs + f new
+sum_set : {A : Type 0} (f : A → ℕ) (xs : List A) (k : ℕ) (o new : A) → slice_get xs k ≡ Some o
+    → sum_by f (set xs k new) + f o ≡ sum_by f xs + f new
 sum_set f [] k o new e = absurd (cc)
 sum_set f (x ∷ xs) zero o new e = let same : x ≡ o = cc in omega (arith, sum_by-cons f new xs, sum_by-cons f x xs, ap f same)
 sum_set f (x ∷ xs) (suc k) o new e = omega (arith, sum_by-cons f x (set xs k new), sum_by-cons f x xs, sum_set f xs k o new e)
 
-pub out_same : (items : List Lent) (k : ℕ) (o new : Lent) → slice_get items k ≡ Some o → length new.holding.counted ≡ length o.holding.counted → resources_out (set items k new) ≡ resources_out items
+pub out_same : (items : List Lent) (k : ℕ) (o new : Lent) → slice_get items k ≡ Some o
+    → length new.holding.counted ≡ length o.holding.counted → resources_out (set items k new) ≡ resources_out items
 unfolding resources_out
 out_same items k o new at e = omega (arith, sum_set (λ (l : Lent). length l.holding.counted) items k o new at, e)
 
-pub out_more : (items : List Lent) (k n : ℕ) (o new : Lent) → slice_get items k ≡ Some o → length new.holding.counted ≤ length o.holding.counted + n → resources_out (set items k new) ≤ resources_out items + n
+pub out_more : (items : List Lent) (k n : ℕ) (o new : Lent) → slice_get items k ≡ Some o
+    → length new.holding.counted ≤ length o.holding.counted + n → resources_out (set items k new) ≤ resources_out items + n
 unfolding resources_out
 out_more items k n o new at e = omega (arith, sum_set (λ (l : Lent). length l.holding.counted) items k o new at, e)
 
 pub lent_length : (ids : List ℕ) (h : Holding) → length (lent_all ids h).counted ≤ length h.counted + length ids
 lent_length [] h = omega arith
-lent_length (id ∷ ids) h = omega (arith, lent_length ids (lent id h), put_more (record { id = id; received = received_of id h.counted + 1; alive = alive_of id h.counted + 1 }) h.counted)
+lent_length (id ∷ ids) h = omega (
+  arith,
+  lent_length ids (lent id h),
+  put_more
+      (record { id = id; received = received_of id h.counted + 1; alive = alive_of id h.counted + 1 }) h.counted,
+)
 
-pub shared_length : (ids : List ℕ) (h : Holding) → is_rising h.counted ≡ true → Suffice ids h → length (shared_all ids h).counted ≡ length h.counted
+pub shared_length : (ids : List ℕ) (h : Holding) → is_rising h.counted ≡ true → Suffice ids h
+    → length (shared_all ids h).counted ≡ length h.counted
 shared_length [] h up s = refl
 shared_length (id ∷ ids) h up s =
     let c : Counted = record { id = id; received = received_of id h.counted; alive = alive_of id h.counted + 1 } in
-    shared_length ids (shared id h) (rising_put c h.counted up) (suffice_shared id ids h s) ∙ put_same c h.counted up (counts_there id h.counted (first_some id ids h s))
+    shared_length ids (shared id h) (rising_put c h.counted up) (suffice_shared id ids h s)
+    ∙ put_same c h.counted up (counts_there id h.counted (first_some id ids h s))
 
 -- one by one
 
-pub out_left : (L : List Lent) (k : ℕ) (d : Lent) → k < length L → resources_out (drop k L) ≡ length (slice_index_or L k d).holding.counted + resources_out (drop (k + 1) L)
+pub out_left : (L : List Lent) (k : ℕ) (d : Lent) → k < length L
+    → resources_out (drop k L) ≡ length (slice_index_or L k d).holding.counted + resources_out (drop (k + 1) L)
 unfolding resources_out
-out_left L k d inside = ap (sum_by (λ (l : Lent). length l.holding.counted)) (left_next L k d inside) ∙ sum_by-cons (λ (l : Lent). length l.holding.counted) (slice_index_or L k d) (drop (k + 1) L)
+out_left L k d inside = ap (sum_by (λ (l : Lent). length l.holding.counted)) (left_next L k d inside)
+    ∙ sum_by-cons (λ (l : Lent). length l.holding.counted) (slice_index_or L k d) (drop (k + 1) L)
 
 -- Where only room changes
 
-pub roomier_counts : (w : World) (c : Client) (o l : Lent) → IsRoomier o l → AreCounts w c o.holding o.released → AreCounts w c l.holding l.released
-roomier_counts w c o l is counts = subst (λ r. AreCounts w c l.holding r) (sym is.released) (subst (λ h. AreCounts w c h o.released) (sym is.holding) counts)
+pub roomier_counts : (w : World) (c : Client) (o l : Lent) → IsRoomier o l → AreCounts w c o.holding o.released
+    → AreCounts w c l.holding l.released
+roomier_counts w c o l is counts = subst (λ r. AreCounts w c l.holding r) (sym is.released)
+    (subst (λ h. AreCounts w c h o.released) (sym is.holding) counts)
 
 pub roomier_lent : (w : World) (old new : List Lent) → AreRoomier old new → AreLent w old → AreLent w new
 roomier_lent w old new are lent =
@@ -69,18 +83,21 @@ length_set (y ∷ xs) zero x = refl
 length_set (y ∷ xs) (suc k) x = ap suc (length_set xs k x)
 
 -- what holds of the one that is new and of the others
-pub by_place : (P : ℕ → Lent → Type 0) (items : List Lent) (k : ℕ) (o new : Lent) → slice_get items k ≡ Some o → P k new → ((n : ℕ) (l : Lent) → (n == k) ≡ false → slice_get items n ≡ Some l → P n l)
+pub by_place : (P : ℕ → Lent → Type 0) (items : List Lent) (k : ℕ) (o new : Lent) → slice_get items k ≡ Some o → P k new
+    → ((n : ℕ) (l : Lent) → (n == k) ≡ false → slice_get items n ≡ Some l → P n l)
     → (n : ℕ) (l : Lent) → slice_get (set items k new) n ≡ Some l → P n l
 by_place P items k o new at is others n l q = by (n == k) refl
   where
     by : (t : Bool) → (n == k) ≡ t → P n l
     by true e =
         let here = from_eqb n k e in
-        let same : l ≡ new = some_same l new (sym q ∙ (ap (slice_get (set items k new)) here ∙ at_set items k new (at_within items k o at))) in
+        let same : l ≡ new = some_same l new
+        (sym q ∙ (ap (slice_get (set items k new)) here ∙ at_set items k new (at_within items k o at))) in
         subst (P n) (sym same) (subst (λ m. P m new) (sym here) is)
     by false e = others n l e (sym (at_others items k n new e) ∙ q)
 
-pub roomier_set : (items : List Lent) (k : ℕ) (o new : Lent) → slice_get items k ≡ Some o → IsRoomier o new → AreRoomier items (set items k new)
+pub roomier_set : (items : List Lent) (k : ℕ) (o new : Lent) → slice_get items k ≡ Some o → IsRoomier o new
+    → AreRoomier items (set items k new)
 roomier_set items k o new at is =
     record {
       many = length_set items k new;
@@ -109,31 +126,44 @@ roomier_over a b c one two =
 pub roomier_same : (a : List Lent) → AreRoomier a a
 roomier_same a = record { many = refl; each = λ n x y p q. subst (IsRoomier x) (some_same x y (sym p ∙ q)) (same_roomier x) }
 
-pub none_released_set : (items : List Lent) (k : ℕ) (o new : Lent) → slice_get items k ≡ Some o → new.released ≡ o.released → NoneReleased items → NoneReleased (set items k new)
+pub none_released_set : (items : List Lent) (k : ℕ) (o new : Lent) → slice_get items k ≡ Some o → new.released ≡ o.released
+    → NoneReleased items → NoneReleased (set items k new)
 none_released_set items k o new at e none l there =
     let n = contains_at (set items k new) l there in
-    by_place (λ m y. y.released ≡ []) items k o new at (e ∙ none o (at_contains items k o at)) (λ m y f q. none y (at_contains items m y q)) n.0 l n.1
+    by_place (λ m y. y.released ≡ []) items k o new at (e ∙ none o (at_contains items k o at)) (λ m y f q. none y (at_contains items m y q))
+    n.0 l n.1
 
-pub places_set : (items : List Lent) (k m : ℕ) (o new : Lent) → slice_get items k ≡ Some o → o.places ≤ new.places + m → (n q : ℕ) → HasPlaces (n + m) q items → HasPlaces n q (set items k new)
+pub places_set : (items : List Lent) (k m : ℕ) (o new : Lent) → slice_get items k ≡ Some o → o.places ≤ new.places + m → (n q : ℕ)
+    → HasPlaces (n + m) q items → HasPlaces n q (set items k new)
 places_set items k m o new at fewer n q has l is =
-    by_place (λ j y. j ≡ q - 1 → n ≤ y.places) items k o new at (λ e. let h = has o (sym (ap (slice_get items) e) ∙ at) in omega (arith, h, fewer))
+    by_place (λ j y. j ≡ q - 1 → n ≤ y.places) items k o new at
+    (λ e. let h = has o (sym (ap (slice_get items) e) ∙ at) in omega (arith, h, fewer))
     (λ j y f p e. let h = has y (sym (ap (slice_get items) e) ∙ p) in omega (arith, h)) (q - 1) l is refl
 
 pub out_none : resources_out [] ≡ 0
 unfolding resources_out
 out_none = refl
 
-sum_alike : {A : Type 0} (f : A → ℕ) (xs ys : List A) → length ys ≡ length xs → ((n : ℕ) (x y : A) → slice_get xs n ≡ Some x → slice_get ys n ≡ Some y → f y ≡ f x) → sum_by f ys ≡ sum_by f xs
+sum_alike : {A : Type 0} (f : A → ℕ) (xs ys : List A) → length ys ≡ length xs
+    → ((n : ℕ) (x y : A) → slice_get xs n ≡ Some x → slice_get ys n ≡ Some y → f y ≡ f x) → sum_by f ys ≡ sum_by f xs
 sum_alike f [] [] long same = refl
 sum_alike f [] (y ∷ ys) long same = absurd (omega (arith, long))
 sum_alike f (x ∷ xs) [] long same = absurd (omega (arith, long))
 sum_alike f (x ∷ xs) (y ∷ ys) long same =
-    omega (arith, sum_by-cons f x xs, sum_by-cons f y ys, same 0 x y refl refl, sum_alike f xs ys (omega (arith, long)) (λ n a b p q. same (suc n) a b p q))
+    omega (
+      arith,
+      sum_by-cons f x xs,
+      sum_by-cons f y ys,
+      same 0 x y refl refl,
+      sum_alike f xs ys (omega (arith, long))
+          (λ n a b p q. same (suc n) a b p q),
+    )
 
 pub roomier_out : (old new : List Lent) → AreRoomier old new → resources_out new ≡ resources_out old
 unfolding resources_out
 roomier_out old new are =
-    sum_alike (λ (l : Lent). length l.holding.counted) old new are.many (λ n o l p q. let is = are.each n o l p q in ap (λ h. length h.counted) is.holding)
+    sum_alike (λ (l : Lent). length l.holding.counted) old new are.many
+    (λ n o l p q. let is = are.each n o l p q in ap (λ h. length h.counted) is.holding)
 
 pub roomier_none : (old new : List Lent) → AreRoomier old new → NoneReleased old → NoneReleased new
 roomier_none old new are none l there =

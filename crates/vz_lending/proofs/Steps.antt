@@ -49,7 +49,8 @@ pub record GoesOn (w v : World) (k : ℕ) (o new : Lent) (n : ℕ) (d : Client) 
   pub own : (n == k) ≡ true → AreCounts w before o.holding o.released → AreCounts v d new.holding new.released
   pub other : (n == k) ≡ false → (l : Lent) → AreCounts w before l.holding l.released → AreCounts v d l.holding l.released
 
-pub lent_set : (w v : World) (items : List Lent) (k : ℕ) (o new : Lent) → slice_get items k ≡ Some o → AreLent w items → length v.clients ≡ length w.clients
+pub lent_set : (w v : World) (items : List Lent) (k : ℕ) (o new : Lent) → slice_get items k ≡ Some o → AreLent w items
+    → length v.clients ≡ length w.clients
     → ((n : ℕ) (d : Client) → slice_get v.clients n ≡ Some d → GoesOn w v k o new n d) → AreLent v (set items k new)
 lent_set w v items k o new own are many goes =
     record {
@@ -57,11 +58,13 @@ lent_set w v items k o new own are many goes =
       each = λ n d l p q. by n d l p q (n == k) refl;
     }
   where
-    by : (n : ℕ) (d : Client) (l : Lent) → slice_get v.clients n ≡ Some d → slice_get (set items k new) n ≡ Some l → (t : Bool) → (n == k) ≡ t → AreCounts v d l.holding l.released
+    by : (n : ℕ) (d : Client) (l : Lent) → slice_get v.clients n ≡ Some d → slice_get (set items k new) n ≡ Some l → (t : Bool)
+        → (n == k) ≡ t → AreCounts v d l.holding l.released
     by n d l p q true e =
         let on = goes n d p in
         let here = from_eqb n k e in
-        let is : l ≡ new = some_same l new (sym q ∙ (ap (slice_get (set items k new)) here ∙ at_set items k new (at_within items k o own))) in
+        let is : l ≡ new = some_same l new
+        (sym q ∙ (ap (slice_get (set items k new)) here ∙ at_set items k new (at_within items k o own))) in
         subst (λ x. AreCounts v d x.holding x.released) (sym is) (on.own e (are.each n on.before o on.at (ap (slice_get items) here ∙ own)))
     by n d l p q false e =
         let on = goes n d p in
@@ -82,8 +85,10 @@ number_test client k n m true e f g = to_eqb client m (omega (arith, e, f, from_
 number_test client k n m false e f g = grind (arith, nat_tests, e, f, g)
 
 -- fewer are alive, and these are released
-pub frees : (w v : World) (items : List Lent) (client k : ℕ) (o new : Lent) (ids : List ℕ) (amount : ℕ → ℕ → ℕ) → client ≡ k + 1 → slice_get items k ≡ Some o → KeepsClients w.clients
-    → v.clients ≡ w.clients → ((c id : ℕ) → alive_in w c id ≡ alive_in v c id + amount c id) → AreMoved client ids amount → new.holding ≡ o.holding → new.released ≡ o.released ++ ids
+pub frees : (w v : World) (items : List Lent) (client k : ℕ) (o new : Lent) (ids : List ℕ) (amount : ℕ → ℕ → ℕ) → client ≡ k + 1
+    → slice_get items k ≡ Some o → KeepsClients w.clients
+    → v.clients ≡ w.clients → ((c id : ℕ) → alive_in w c id ≡ alive_in v c id + amount c id) → AreMoved client ids amount
+    → new.holding ≡ o.holding → new.released ≡ o.released ++ ids
     → AreLent w items → AreLent v (set items k new)
 frees w v items client k o new ids amount number own kept same moved are held more lent =
     lent_set w v items k o new own lent (ap length same) (λ n d p.
@@ -113,14 +118,22 @@ frees w v items client k o new ids amount number own kept same moved are held mo
             rising = counts.rising;
             some = counts.some;
             received = counts.received;
-            alive = λ id. omega (arith, counts.alive id, moved d.number id, are.other d.number id (number_test client k n d.number false number (kept.numbered n d at) e));
+            alive = λ id. omega (
+              arith,
+              counts.alive id,
+              moved d.number id,
+              are.other d.number id
+                  (number_test client k n d.number false number (kept.numbered n d at) e),
+            );
             queue = counts.queue;
           };
     })
 
 -- so many were alive
-pub frees_enough : (w v : World) (items : List Lent) (client k : ℕ) (o : Lent) (ids : List ℕ) (amount : ℕ → ℕ → ℕ) → client ≡ k + 1 → slice_get items k ≡ Some o → KeepsClients w.clients
-    → ((c id : ℕ) → alive_in w c id ≡ alive_in v c id + amount c id) → AreMoved client ids amount → AreLent w items → Suffice (o.released ++ ids) o.holding
+pub frees_enough : (w v : World) (items : List Lent) (client k : ℕ) (o : Lent) (ids : List ℕ) (amount : ℕ → ℕ → ℕ) → client ≡ k + 1
+    → slice_get items k ≡ Some o → KeepsClients w.clients
+    → ((c id : ℕ) → alive_in w c id ≡ alive_in v c id + amount c id) → AreMoved client ids amount → AreLent w items
+    → Suffice (o.released ++ ids) o.holding
 frees_enough w v items client k o ids amount number own kept moved are lent id =
     let c = at_there w.clients k (subst (λ n. k < n) lent.many (at_within items k o own)) in
     let counts = lent.each k c.0 o c.1 own in
@@ -138,18 +151,44 @@ pub alive_lent_all : (j : ℕ) (ids : List ℕ) (h : Holding) → alive_of j (le
 alive_lent_all j [] h = omega arith
 alive_lent_all j (id ∷ ids) h = by (id == j) refl (alive_lent_all j ids (lent id h))
   where
-    by : (t : Bool) → (id == j) ≡ t → alive_of j (lent_all ids (lent id h)).counted ≡ alive_of j (lent id h).counted + times j ids → alive_of j (lent_all ids (lent id h)).counted ≡ alive_of j h.counted + times j (id ∷ ids)
-    by true e rest = omega (arith, rest, times_at j id ids true e, alive_lent j id h ∙ ap (λ (t : Bool). cond t (alive_of j h.counted + 1) (alive_of j h.counted)) e)
-    by false e rest = omega (arith, rest, times_at j id ids false e, alive_lent j id h ∙ ap (λ (t : Bool). cond t (alive_of j h.counted + 1) (alive_of j h.counted)) e)
+    by : (t : Bool) → (id == j) ≡ t → alive_of j (lent_all ids (lent id h)).counted ≡ alive_of j (lent id h).counted + times j ids
+        → alive_of j (lent_all ids (lent id h)).counted ≡ alive_of j h.counted + times j (id ∷ ids)
+    by true e rest = omega (
+      arith,
+      rest,
+      times_at j id ids true e,
+      alive_lent j id h
+          ∙ ap (λ (t : Bool). cond t (alive_of j h.counted + 1) (alive_of j h.counted)) e,
+    )
+    by false e rest = omega (
+      arith,
+      rest,
+      times_at j id ids false e,
+      alive_lent j id h
+          ∙ ap (λ (t : Bool). cond t (alive_of j h.counted + 1) (alive_of j h.counted)) e,
+    )
 
-pub received_lent_all : (j : ℕ) (ids : List ℕ) (h : Holding) → received_of j (lent_all ids h).counted ≡ received_of j h.counted + times j ids
+pub received_lent_all : (j : ℕ) (ids : List ℕ) (h : Holding)
+    → received_of j (lent_all ids h).counted ≡ received_of j h.counted + times j ids
 received_lent_all j [] h = omega arith
 received_lent_all j (id ∷ ids) h = by (id == j) refl (received_lent_all j ids (lent id h))
   where
     by : (t : Bool) → (id == j) ≡ t → received_of j (lent_all ids (lent id h)).counted ≡ received_of j (lent id h).counted + times j ids
         → received_of j (lent_all ids (lent id h)).counted ≡ received_of j h.counted + times j (id ∷ ids)
-    by true e rest = omega (arith, rest, times_at j id ids true e, received_lent j id h ∙ ap (λ (t : Bool). cond t (received_of j h.counted + 1) (received_of j h.counted)) e)
-    by false e rest = omega (arith, rest, times_at j id ids false e, received_lent j id h ∙ ap (λ (t : Bool). cond t (received_of j h.counted + 1) (received_of j h.counted)) e)
+    by true e rest = omega (
+      arith,
+      rest,
+      times_at j id ids true e,
+      received_lent j id h
+          ∙ ap (λ (t : Bool). cond t (received_of j h.counted + 1) (received_of j h.counted)) e,
+    )
+    by false e rest = omega (
+      arith,
+      rest,
+      times_at j id ids false e,
+      received_lent j id h
+          ∙ ap (λ (t : Bool). cond t (received_of j h.counted + 1) (received_of j h.counted)) e,
+    )
 
 -- what stays of a client's counts
 pub record Stays (h g : Holding) : Type 0 where
@@ -190,12 +229,26 @@ alive_shared_all j (id ∷ ids) h = by (id == j) refl (alive_shared_all j ids (s
   where
     by : (t : Bool) → (id == j) ≡ t → alive_of j (shared_all ids (shared id h)).counted ≡ alive_of j (shared id h).counted + times j ids
         → alive_of j (shared_all ids (shared id h)).counted ≡ alive_of j h.counted + times j (id ∷ ids)
-    by true e rest = omega (arith, rest, times_at j id ids true e, alive_shared j id h ∙ ap (λ (t : Bool). cond t (alive_of j h.counted + 1) (alive_of j h.counted)) e)
-    by false e rest = omega (arith, rest, times_at j id ids false e, alive_shared j id h ∙ ap (λ (t : Bool). cond t (alive_of j h.counted + 1) (alive_of j h.counted)) e)
+    by true e rest = omega (
+      arith,
+      rest,
+      times_at j id ids true e,
+      alive_shared j id h
+          ∙ ap (λ (t : Bool). cond t (alive_of j h.counted + 1) (alive_of j h.counted)) e,
+    )
+    by false e rest = omega (
+      arith,
+      rest,
+      times_at j id ids false e,
+      alive_shared j id h
+          ∙ ap (λ (t : Bool). cond t (alive_of j h.counted + 1) (alive_of j h.counted)) e,
+    )
 
 -- more are alive, and these are held once more
-pub holds_more : (w v : World) (items : List Lent) (client k : ℕ) (o new : Lent) (ids : List ℕ) (amount : ℕ → ℕ → ℕ) → client ≡ k + 1 → slice_get items k ≡ Some o → KeepsClients w.clients
-    → v.clients ≡ w.clients → ((c id : ℕ) → alive_in v c id ≡ alive_in w c id + amount c id) → AreMoved client ids amount → Suffice ids o.holding
+pub holds_more : (w v : World) (items : List Lent) (client k : ℕ) (o new : Lent) (ids : List ℕ) (amount : ℕ → ℕ → ℕ) → client ≡ k + 1
+    → slice_get items k ≡ Some o → KeepsClients w.clients
+    → v.clients ≡ w.clients → ((c id : ℕ) → alive_in v c id ≡ alive_in w c id + amount c id) → AreMoved client ids amount
+    → Suffice ids o.holding
     → new.holding ≡ shared_all ids o.holding → new.released ≡ o.released → AreLent w items → AreLent v (set items k new)
 holds_more w v items client k o new ids amount number own kept same moved are enough held more lent =
     lent_set w v items k o new own lent (ap length same) (λ n d p.
@@ -225,7 +278,13 @@ holds_more w v items client k o new ids amount number own kept same moved are en
             rising = counts.rising;
             some = counts.some;
             received = counts.received;
-            alive = λ id. omega (arith, counts.alive id, moved d.number id, are.other d.number id (number_test client k n d.number false number (kept.numbered n d at) e));
+            alive = λ id. omega (
+              arith,
+              counts.alive id,
+              moved d.number id,
+              are.other d.number id
+                  (number_test client k n d.number false number (kept.numbered n d at) e),
+            );
             queue = counts.queue;
           };
     })

@@ -6,7 +6,12 @@ use Rattle.vz_lending.proofs.lender.give_back_one.Goals as goal
 pub put-requires : goal.put-requires
 put-requires c =
     let h = c.args.holder.now.holding in
-    omega (arith, c.requires.room, fewer_left c.args.id h c.in-Some.returned (sym c.in-Some.ensures.value) c.requires.rising c.requires.alive)
+    omega (
+      arith,
+      c.requires.room,
+      fewer_left c.args.id h c.in-Some.returned (sym c.in-Some.ensures.value) c.requires.rising
+          c.requires.alive,
+    )
 
 pub returns-in-Some-clause-room : goal.returns-in-Some-clause-room
 returns-in-Some-clause-room c =
@@ -18,4 +23,9 @@ returns-in-Some-clause-room c =
 -- another is alive
 pub returns-in_default-clause-room : goal.returns-in_default-clause-room
 returns-in_default-clause-room c =
-    omega (arith, ap (λ x. length x.counted) c.release.ensures.holding, none_less c.args.id c.args.holder.now.holding c.requires.rising c.requires.alive)
+    omega (
+      arith,
+      ap (λ x. length x.counted) c.release.ensures.holding,
+      none_less c.args.id c.args.holder.now.holding c.requires.rising
+          c.requires.alive,
+    )

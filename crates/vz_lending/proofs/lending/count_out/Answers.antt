@@ -17,4 +17,10 @@ loop-lender-preserved c =
 
 pub returns : goal.returns
 returns c =
-    omega (arith, c.loop-lender.invariant, ap resources_out (left_none c.args.lenders.now c.loop-lender.lender-index (omega (arith, c.loop-lender-test.false))), out_none)
+    omega (
+      arith,
+      c.loop-lender.invariant,
+      ap resources_out
+          (left_none c.args.lenders.now c.loop-lender.lender-index (omega (arith, c.loop-lender-test.false))),
+      out_none,
+    )

@@ -10,7 +10,13 @@ use Rattle.vz_lending.proofs.lending.put_held.Goals as goal
 pub held-requires : goal.held-requires
 held-requires c =
     let x = c.lender-item.result in
-    omega (arith, c.loop-lender.invariant.1, out_left c.args.lenders.now c.loop-lender.lender-index x c.loop-lender-test.true, ap (λ l. length l.holding.counted) c.lender-item.is)
+    omega (
+      arith,
+      c.loop-lender.invariant.1,
+      out_left c.args.lenders.now c.loop-lender.lender-index x c.loop-lender-test.true,
+      ap
+          (λ l. length l.holding.counted) c.lender-item.is,
+    )
 
 pub loop-lender-preserved : goal.loop-lender-preserved
 loop-lender-preserved c =
@@ -21,6 +27,7 @@ loop-lender-preserved c =
     let rest = flat_map (λ (y : Lent). held y.holding) (drop (k + 1) L) in (
       ap (λ l. l ++ rest) c.held.ensures.out ∙ (append_assoc c.loop-lender.out.list (held x.holding) rest
           ∙ (ap (λ y. c.loop-lender.out.list ++ (held y.holding ++ rest)) c.lender-item.is
-          ∙ (sym (ap (λ l. c.loop-lender.out.list ++ flat_map (λ (y : Lent). held y.holding) l) (left_next L k x c.loop-lender-test.true)) ∙ i.0))),
+          ∙ (sym (ap (λ l. c.loop-lender.out.list ++ flat_map (λ (y : Lent). held y.holding) l) (left_next L k x c.loop-lender-test.true))
+          ∙ i.0))),
       omega (arith, i.1, out_left L k x c.loop-lender-test.true, ap (λ l. length l.holding.counted) c.lender-item.is, c.held.ensures.room),
     )

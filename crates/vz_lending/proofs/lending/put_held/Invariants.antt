@@ -7,5 +7,6 @@ use Rattle.vz_lending.proofs.lending.put_held.Given as goal
 -- what is left belongs behind what is there
 abbrev pub invariant-loop-lender : goal.invariant-loop-lender
 invariant-loop-lender l =
-    (l.out.list ++ flat_map (λ (x : Lent). held x.holding) (drop l.lender-index l.lenders) ≡ l.fn.out.list ++ flat_map (λ (x : Lent). held x.holding) l.lenders)
+    (l.out.list ++ flat_map (λ (x : Lent). held x.holding) (drop l.lender-index l.lenders)
+    ≡ l.fn.out.list ++ flat_map (λ (x : Lent). held x.holding) l.lenders)
     × (resources_out (drop l.lender-index l.lenders) ≤ l.out.spare)

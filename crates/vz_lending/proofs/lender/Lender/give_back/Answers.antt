@@ -24,9 +24,17 @@ invariant_of-self c =
     let ids = c.self.inside.released.items in
     let given = c.deref.result.now in
     let moved : IsPermutation ids given = subst (IsPermutation ids) (sym c.deref.ensures.value) c.sort_unstable.ensures.permutation in
-    let s : Suffice given h = sorted_suffice ids given h moved (subst (λ v. Suffice v.released v.holding) (sym c.self.view_is) c.requires.suffice) in
+    let s : Suffice given h = sorted_suffice ids given h moved
+    (subst (λ v. Suffice v.released v.holding) (sym c.self.view_is) c.requires.suffice) in
     let count : c.len.result ≡ length given = search rules in (
-      omega (arith, c.self.invariant.0, fewer_alive given h c.self.invariant.2 s, ap (λ x. all_alive x.counted) c.give_back_all.ensures.holding, count),
+      omega (
+        arith,
+        c.self.invariant.0,
+        fewer_alive given h c.self.invariant.2 s,
+        ap (λ x. all_alive x.counted)
+            c.give_back_all.ensures.holding,
+        count,
+      ),
       omega (arith, c.self.invariant.1, c.sort_unstable.ensures.capacity, c.clear.ensures.capacity),
       ap (λ x. is_rising x.counted) c.give_back_all.ensures.holding ∙ rising_all given h c.self.invariant.2,
     )
@@ -37,7 +45,8 @@ returns-clause-given c = λ w d up are.
     let ids = c.self.inside.released.items in
     let given = c.deref.result.now in
     let moved : IsPermutation ids given = subst (IsPermutation ids) (sym c.deref.ensures.value) c.sort_unstable.ensures.permutation in
-    let order : is_sorted given ≡ true = ap is_sorted c.deref.ensures.value ∙ never_fall _ (IsNonDecreasingBy-from_sort (λ n. n) _ c.sort_unstable.ensures.sorted) in
+    let order : is_sorted given ≡ true = ap is_sorted c.deref.ensures.value
+    ∙ never_fall _ (IsNonDecreasingBy-from_sort (λ n. n) _ c.sort_unstable.ensures.sorted) in
     let counts : AreCounts w d h ids = subst (λ v. AreCounts w d v.holding v.released) (sym c.self.view_is) are in
     given_in_order w d h ids given up counts moved order _ _ _ c.give_back_all.ensures.out c.give_back_all.ensures.holding
 
@@ -47,6 +56,7 @@ returns-clause-fewer c =
     let ids = c.self.inside.released.items in
     let given = c.deref.result.now in
     let moved : IsPermutation ids given = subst (IsPermutation ids) (sym c.deref.ensures.value) c.sort_unstable.ensures.permutation in
-    let s : Suffice given h = sorted_suffice ids given h moved (subst (λ v. Suffice v.released v.holding) (sym c.self.view_is) c.requires.suffice) in
+    let s : Suffice given h = sorted_suffice ids given h moved
+    (subst (λ v. Suffice v.released v.holding) (sym c.self.view_is) c.requires.suffice) in
     let same = ap (λ v. length v.holding.counted) c.self.view_is in
     omega (arith, none_less_all given h c.self.invariant.2 s, ap (λ x. length x.counted) c.give_back_all.ensures.holding, same)

@@ -10,7 +10,8 @@ hold-requires-clause-countable c =
     let L = c.args.listings.now in
     let k = c.loop-listing.listing-index in
     let inside = c.loop-listing-test.true in
-    first_countable _ (ids_of (drop (k + 1) L)) c.loop-listing.self.holding (left_countable L k _ c.loop-listing.self.holding inside c.loop-listing.invariant.4)
+    first_countable _ (ids_of (drop (k + 1) L)) c.loop-listing.self.holding
+    (left_countable L k _ c.loop-listing.self.holding inside c.loop-listing.invariant.4)
 
 pub loop-listing-preserved : goal.loop-listing-preserved
 loop-listing-preserved c =
@@ -25,8 +26,10 @@ loop-listing-preserved c =
       e.released ∙ i.1,
       omega (arith, i.2, e.places),
       once.1,
-      subst (AreCountable (ids_of (drop (k + 1) L))) (sym e.holding) (countable_shared _ (drop (k + 1) L) h once.0 (left_countable L k _ h inside i.4)),
+      subst (AreCountable (ids_of (drop (k + 1) L))) (sym e.holding)
+          (countable_shared _ (drop (k + 1) L) h once.0 (left_countable L k _ h inside i.4)),
       i.5,
       omega (arith, i.6, e.spare),
-      subst (Suffice (ids_of (drop (k + 1) L))) (sym e.holding) (suffice_shared _ (ids_of (drop (k + 1) L)) h (left_suffice L k _ h inside i.7)),
+      subst (Suffice (ids_of (drop (k + 1) L))) (sym e.holding)
+          (suffice_shared _ (ids_of (drop (k + 1) L)) h (left_suffice L k _ h inside i.7)),
     )

@@ -12,6 +12,20 @@ push_reserved-requires c =
     let released = c.self.inside.released.items in
     let same = c.self.view_is in
     let few : Suffice (released ++ c.args.id ∷ []) c.self.inside.holder.holding =
-    λ id. omega (arith, c.requires id, ap (λ v. times id (v.released ++ c.args.id ∷ [])) same, ap (λ v. alive_of id v.holding.counted) same) in
+    λ id. omega (
+      arith,
+      c.requires id,
+      ap (λ v. times id (v.released ++ c.args.id ∷ [])) same,
+      ap (λ v. alive_of id v.holding.counted)
+          same,
+    ) in
     let one : vec_len c.self.inside.released ≡ length released = search rules in
-    omega (arith, no_more (released ++ c.args.id ∷ []) list few, c.self.invariant.0, c.self.invariant.1, length-append released (c.args.id ∷ []), one)
+    omega (
+      arith,
+      no_more (released ++ c.args.id ∷ []) list few,
+      c.self.invariant.0,
+      c.self.invariant.1,
+      length-append released
+          (c.args.id ∷ []),
+      one,
+    )

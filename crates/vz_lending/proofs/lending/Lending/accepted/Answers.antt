@@ -31,7 +31,8 @@ accept-requires-clause-spare c =
     let known = subst (IsLender c.args.client) (sym c.self.view_is) c.requires.known in
     let o = c.index_mut.result.now in
     let is = c.index_mut.ensures.value in
-    (subst (HasRoom (length c.args.listings.now) c.args.client) (sym c.self.view_is) c.requires.room o (here items c.args.client known o _ is)).0
+    (subst (HasRoom (length c.args.listings.now) c.args.client) (sym c.self.view_is) c.requires.room o
+    (here items c.args.client known o _ is)).0
 
 pub accept-requires-clause-places : goal.accept-requires-clause-places
 accept-requires-clause-places c =
@@ -39,7 +40,8 @@ accept-requires-clause-places c =
     let known = subst (IsLender c.args.client) (sym c.self.view_is) c.requires.known in
     let o = c.index_mut.result.now in
     let is = c.index_mut.ensures.value in
-    (subst (HasRoom (length c.args.listings.now) c.args.client) (sym c.self.view_is) c.requires.room o (here items c.args.client known o _ is)).1
+    (subst (HasRoom (length c.args.listings.now) c.args.client) (sym c.self.view_is) c.requires.room o
+    (here items c.args.client known o _ is)).1
 
 pub accept-requires-clause-suffice : goal.accept-requires-clause-suffice
 accept-requires-clause-suffice c =
@@ -58,7 +60,8 @@ returns-clause-lent c = λ p w d local frame x.
     let o = c.index_mut.result.now in
     let is = c.index_mut.ensures.value in
     accepted_lent items c.args.client known o _ is p w d local frame c.args.listings.now c.args.replaced.now
-    (subst (IsAccepted p w d local frame c.args.client c.args.listings.now c.args.replaced.now) (sym c.self.view_is) x) c.accept.new.self c.accept.ensures.holding c.accept.ensures.released
+    (subst (IsAccepted p w d local frame c.args.client c.args.listings.now c.args.replaced.now) (sym c.self.view_is) x) c.accept.new.self
+    c.accept.ensures.holding c.accept.ensures.released
 
 pub returns-clause-out : goal.returns-clause-out
 returns-clause-out c =

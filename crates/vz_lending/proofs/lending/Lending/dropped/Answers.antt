@@ -12,7 +12,8 @@ drop_all-requires c =
     let o = c.index_mut.result.now in
     let is = c.index_mut.ensures.value in
     let x = c.requires.goes in
-    gone_enough items c.args.client known o _ is x.0 x.1 c.args.waiting.now c.args.active.now (subst (IsGoing x.0 x.1 c.args.client c.args.waiting.now c.args.active.now) (sym c.self.view_is) x.2)
+    gone_enough items c.args.client known o _ is x.0 x.1 c.args.waiting.now c.args.active.now
+    (subst (IsGoing x.0 x.1 c.args.client c.args.waiting.now c.args.active.now) (sym c.self.view_is) x.2)
 
 pub returns-clause-lent : goal.returns-clause-lent
 returns-clause-lent c = λ w d x.
@@ -20,7 +21,8 @@ returns-clause-lent c = λ w d x.
     let known = subst (IsLender c.args.client) (sym c.self.view_is) c.requires.known in
     let o = c.index_mut.result.now in
     let is = c.index_mut.ensures.value in
-    gone_lent items c.args.client known o _ is c.drop_all.new.self w d c.args.waiting.now c.args.active.now c.drop_all.ensures.holding c.drop_all.ensures.released
+    gone_lent items c.args.client known o _ is c.drop_all.new.self w d c.args.waiting.now c.args.active.now c.drop_all.ensures.holding
+    c.drop_all.ensures.released
     (subst (IsGoing w d c.args.client c.args.waiting.now c.args.active.now) (sym c.self.view_is) x)
 
 pub returns-clause-out : goal.returns-clause-out

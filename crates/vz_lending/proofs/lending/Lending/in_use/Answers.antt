@@ -10,4 +10,5 @@ returns c = λ w d always there number none lent.
     let o = c.index.result.now in
     let is = c.index.ensures in
     c.in_use.ensures
-    ∙ refused_use items c.args.client known o _ is w d always there number (subst (AreLent w) (sym c.self.view_is) lent) c.args.id (subst NoneReleased (sym c.self.view_is) none)
+    ∙ refused_use items c.args.client known o _ is w d always there number (subst (AreLent w) (sym c.self.view_is) lent) c.args.id
+    (subst NoneReleased (sym c.self.view_is) none)

@@ -8,4 +8,5 @@ invariant-loop-k l =
     (length l.lenders.items ≡ l.k)
     × (vec_len l.lenders ≡ l.k)
     × (l.clients ≤ vec_capacity l.lenders)
-    × ((n : ℕ) (x : Lent) → slice_get l.lenders.items n ≡ Some x → (x.holding ≡ record { client = n + 1; counted = []; queue = [] }) × (x.released ≡ []))
+    × ((n : ℕ) (x : Lent) → slice_get l.lenders.items n ≡ Some x
+    → (x.holding ≡ record { client = n + 1; counted = []; queue = [] }) × (x.released ≡ []))

@@ -9,4 +9,5 @@ returns-clause-queue c = λ w d always there number lent.
     let known = subst (IsLender c.args.client) (sym c.self.view_is) c.requires.known in
     let o = c.index.result.now in
     let is = c.index.ensures in
-    c.queued.ensures ∙ ap length (its_queue items c.args.client known o _ is w d always there number (subst (AreLent w) (sym c.self.view_is) lent))
+    c.queued.ensures ∙ ap length (its_queue items c.args.client known o _ is w d always there number
+    (subst (AreLent w) (sym c.self.view_is) lent))

@@ -12,7 +12,8 @@ returns-clause-returned c = λ w d always there number lent.
     let known = subst (IsLender c.args.client) (sym c.self.view_is) c.requires.known in
     let o = c.index_mut.result.now in
     let is = c.index_mut.ensures.value in
-    c.take.ensures.out ∙ ap (λ q. c.args.out.now.list ++ q) (its_queue items c.args.client known o _ is w d always there number (subst (AreLent w) (sym c.self.view_is) lent))
+    c.take.ensures.out ∙ ap (λ q. c.args.out.now.list ++ q)
+    (its_queue items c.args.client known o _ is w d always there number (subst (AreLent w) (sym c.self.view_is) lent))
 
 pub returns-clause-lent : goal.returns-clause-lent
 returns-clause-lent c = λ w d always there number lent.
@@ -20,7 +21,8 @@ returns-clause-lent c = λ w d always there number lent.
     let known = subst (IsLender c.args.client) (sym c.self.view_is) c.requires.known in
     let o = c.index_mut.result.now in
     let is = c.index_mut.ensures.value in
-    reclaimed_lent items c.args.client known o _ is w d always there number (subst (AreLent w) (sym c.self.view_is) lent) c.take.new.self c.take.ensures.holding c.take.ensures.released
+    reclaimed_lent items c.args.client known o _ is w d always there number (subst (AreLent w) (sym c.self.view_is) lent) c.take.new.self
+    c.take.ensures.holding c.take.ensures.released
 
 pub returns-clause-released : goal.returns-clause-released
 returns-clause-released c = λ none.
@@ -28,7 +30,8 @@ returns-clause-released c = λ none.
     let known = subst (IsLender c.args.client) (sym c.self.view_is) c.requires.known in
     let o = c.index_mut.result.now in
     let is = c.index_mut.ensures.value in
-    none_released_set items _ o c.take.new.self (here items c.args.client known o _ is) c.take.ensures.released (subst NoneReleased (sym c.self.view_is) none)
+    none_released_set items _ o c.take.new.self (here items c.args.client known o _ is) c.take.ensures.released
+    (subst NoneReleased (sym c.self.view_is) none)
 
 pub returns-clause-out : goal.returns-clause-out
 returns-clause-out c =
@@ -36,4 +39,5 @@ returns-clause-out c =
     let known = subst (IsLender c.args.client) (sym c.self.view_is) c.requires.known in
     let o = c.index_mut.result.now in
     let is = c.index_mut.ensures.value in
-    out_same items _ o c.take.new.self (here items c.args.client known o _ is) (ap (λ h. length h.counted) c.take.ensures.holding) ∙ ap resources_out c.self.view_is
+    out_same items _ o c.take.new.self (here items c.args.client known o _ is) (ap (λ h. length h.counted) c.take.ensures.holding)
+    ∙ ap resources_out c.self.view_is
