@@ -18,8 +18,6 @@ mod note;
 mod opening;
 mod pause;
 mod show;
-#[cfg(test)]
-mod tests;
 mod totals;
 
 pub use answer::{Answer, Note};

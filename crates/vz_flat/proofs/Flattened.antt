@@ -1,5 +1,5 @@
 -- That a scene's list of operations does what painting does.
-use Rattle.std.proofs.Common.{◌≡◌, ℕ, zero, suc, ◌&&◌, not, ◌||◌, Bool, true, false, Option, Some, None, List, [], ◌∷◌, refl, ap, ◌∙◌, cond, subst}
+use Rattle.std.proofs.Common.{◌≡◌, ℕ, zero, suc, ◌&&◌, not, ◌||◌, ◌==◌, Bool, true, false, Option, Some, None, List, [], ◌∷◌, refl, ap, ◌∙◌, cond, subst}
 use Rattle.vz_geom.specs.declared.Point.{Point}
 use Rattle.vz_geom.specs.Rectangle.{Rectangle, has, plus, corner, meet, moved, sized}
 use Rattle.vz_ids.specs.declared.SurfaceId.{SurfaceId}
@@ -15,13 +15,18 @@ use Rattle.vz_frame.specs.declared.frame.Material.TheVariants.{Solid, Tile, Surf
 use Rattle.vz_frame.specs.Frame.{passes_down, names_pass, frame_size}
 use Rattle.vz_rules.specs.World.{FrameData}
 use Rattle.vz_rules.specs.Scene.{shown_frame}
-use Rattle.vz_rules.specs.Paint.{covers, local_point, tile_colour, Named, Embedding, Content, on_path, material_painted, quads_painted, pass_painted, group_laid, groups, root_painted, content_at, is_absent, is_straight, content_laid, embeds, pix}
+use Rattle.vz_rules.specs.Paint.{covers, local_point, Named, Embedding, Content, on_path, material_painted, quads_painted, pass_painted, group_laid, groups, root_painted, content_at, is_absent, is_straight, content_laid}
 use Rattle.vz_rules.specs.Walk.{Placement, seen_part, place_in}
 use Rattle.vz_rules.proofs.Geometry.{local_stays, output_stays, has_moved_is, has_meet_is, has_seen_is}
 use Rattle.vz_flat.specs.declared.op.Op.{Op}
 use Rattle.vz_flat.specs.declared.op.Op.TheVariants.{Fill}
-use Rattle.vz_flat.specs.Flat.{ActsAs, FlatNamed, FlatRange, FlatTile, FlatGutter, FlatContent, material_flat, quads_flat, group_flat, inner_place, groups_flat, root_flat, surface_place, content_flat, present_place, laid_flat, range_flat, flat, FlatIsPainted}
-use Rattle.vz_flat.proofs.Acting.{value_of_acts, acts_none, acts_both, acts_fill, acts_group, acts_same}
+use Rattle.vz_flat.specs.Parts.{seen_flat, pass_part, inner_place, surface_place}
+use Rattle.vz_flat.specs.Gutters.{gutter_flat}
+use Rattle.vz_flat.specs.Flat.{FlatNamed, FlatRange, FlatContent, material_flat, quad_flat, quads_flat, group_flat, groups_flat, root_flat, content_flat, present_place, laid_flat, shown_flat, range_flat, flat}
+use Rattle.vz_flat.proofs.Acting.{ActsAs, acts_none, acts_both, acts_fill, acts_group, acts_same, acts_seen}
+use Rattle.vz_flat.proofs.Tiled.{tile_acts}
+use Rattle.vz_flat.proofs.Guttered.{gutter_acts}
+use Rattle.vz_flat.proofs.Levelled.{embeds_until, pix_until}
 
 -- a quad in front of others: where the window has the point and the quad covers it
 before_case : (w c s : Bool) → s ≡ (w && c) → (f g : Colour → Colour) (d : Colour)
@@ -36,7 +41,8 @@ group_case true true s e m o g d = rw e
 group_case true false s e m o g d = rw e
 group_case false c s e m o g d = rw e
 
-choice_acts : (P : Point) (t w : Bool) (xs ys : List Op) (f g : Colour → Colour) → ActsAs P xs (λ d. cond w (f d) d) → ActsAs P ys (λ d. cond w (g d) d)
+choice_acts : (P : Point) (t w : Bool) (xs ys : List Op) (f g : Colour → Colour) → ActsAs P xs (λ d. cond w (f d) d)
+    → ActsAs P ys (λ d. cond w (g d) d)
     → ActsAs P (elim t [ true ↦ xs | false ↦ ys ]) (λ d. cond w (elim t [ true ↦ f d | false ↦ g d ]) d)
 choice_acts P true w xs ys f g a b = a
 choice_acts P false w xs ys f g a b = b
@@ -45,59 +51,69 @@ nothing_acts : (P : Point) (w : Bool) → ActsAs P [] (λ d. cond w d d)
 nothing_acts P true = acts_none P
 nothing_acts P false = acts_none P
 
-module _ (tiles : FlatTile) (P : Point)
-    (tiles_act : (i : FrameData) (id tx ty : ℕ) (m : Blend) (o : ℕ) (l : Point) (place : Placement) → plus l place.shift ≡ P → ActsAs P (tiles i id tx ty m o place) (λ d. cond (has place.window P) (laid m (tile_colour i id tx ty l) o d) d))
-    (i : FrameData) (ranges : Embedding) (flat_ranges : FlatRange)
+module _ (P : Point) (i : FrameData) (ranges : Embedding) (flat_ranges : FlatRange)
     (ranges_act : (range : SurfaceRange) (b : Colour) (m : Blend) (o : ℕ) (l : Point) (place : Placement) → plus l place.shift ≡ P → ActsAs P (flat_ranges range b m o place) (λ d. cond (has place.window P) (ranges range b m o l d) d)) where
   abbrev pub NamedActs : Named → FlatNamed → Type 0
-  NamedActs named flat = (id : ℕ) (m : Blend) (o : ℕ) (l : Point) (place : Placement) → plus l place.shift ≡ P → ActsAs P (flat id m o place) (λ d. cond (has place.window P) (named id m o l d) d)
+  NamedActs named flat =
+      (id : ℕ) (m : Blend) (o : ℕ) (l : Point) (place : Placement) → plus l place.shift ≡ P → ActsAs P (flat id m o place)
+      (λ d. cond (has place.window P) (named id m o l d) d)
 
-  material_acts : (named : Named) (flat : FlatNamed) → NamedActs named flat → (quad : DrawQuad) (m : Material) → quad.material ≡ m → (q : Point) (place : Placement) → plus (local_point quad q) place.shift ≡ P
-      → ActsAs P (material_flat tiles i flat flat_ranges quad place) (λ d. cond (has place.window P) (material_painted i named ranges quad q d) d)
+  material_acts : (named : Named) (flat : FlatNamed) → NamedActs named flat → (quad : DrawQuad) (m : Material) → quad.material ≡ m
+      → (q : Point) (place : Placement) → plus (local_point quad q) place.shift ≡ P
+      → ActsAs P (material_flat i flat flat_ranges quad place) (λ d. cond (has place.window P) (material_painted i named ranges quad q d) d)
   unfolding material_flat material_painted
   material_acts named flat acts quad (Solid c) e q place stays = rw e (acts_fill P place.window c quad.opacity quad.blend)
-  material_acts named flat acts quad (Tile id tx ty) e q place stays = rw e (tiles_act i id tx ty quad.blend quad.opacity (local_point quad q) place stays)
-  material_acts named flat acts quad (Surface range b) e q place stays = rw e (ranges_act range b quad.blend quad.opacity (local_point quad q) place stays)
+  material_acts named flat acts quad (Tile id tx ty) e q place stays =
+      rw e (tile_acts P i id tx ty quad.blend quad.opacity (local_point quad q) place stays)
+  material_acts named flat acts quad (Surface range b) e q place stays =
+      rw e (ranges_act range b quad.blend quad.opacity (local_point quad q) place stays)
   material_acts named flat acts quad (Pass id) e q place stays = rw e (acts id quad.blend quad.opacity (local_point quad q) place stays)
 
-  quads_act : (named : Named) (flat : FlatNamed) → NamedActs named flat → (pass : RenderPass) (quads : List DrawQuad) (q : Point) (place : Placement) → plus q place.shift ≡ P
-      → ActsAs P (quads_flat tiles i flat flat_ranges pass place quads) (λ d. cond (has place.window P) (quads_painted i named ranges pass quads q d) d)
+  quads_act : (named : Named) (flat : FlatNamed) → NamedActs named flat
+      → (pass : RenderPass) (quads : List DrawQuad) (q : Point) (place : Placement) → plus q place.shift ≡ P
+      → ActsAs P (quads_flat i flat flat_ranges pass place quads) (λ d. cond (has place.window P) (quads_painted i named ranges pass quads q d) d)
   unfolding quads_flat quads_painted
   quads_act named flat acts pass [] q place stays = nothing_acts P (has place.window P)
   quads_act named flat acts pass (quad ∷ behind) q place stays =
       let seen : has (seen_part place pass quad) P ≡ (has place.window P && covers pass quad q) =
-      subst (λ (p : Point). has (seen_part place pass quad) p ≡ (has place.window p && covers pass quad q)) stays (has_seen_is pass quad q place) in
+      subst (λ (p : Point). has (seen_part place pass quad) p ≡ (has place.window p && covers pass quad q)) stays
+      (has_seen_is pass quad q place) in
       acts_same P _ _ _
       (before_case (has place.window P) (covers pass quad q) (has (seen_part place pass quad) P) seen (material_painted i named ranges quad q) (quads_painted i named ranges pass behind q))
-      (acts_both P (quads_flat tiles i flat flat_ranges pass place behind) (material_flat tiles i flat flat_ranges quad (place_in place pass quad)) _ _
+      (acts_both P (quads_flat i flat flat_ranges pass place behind) (quad_flat i flat flat_ranges quad (place_in place pass quad)) _ _
       (quads_act named flat acts pass behind q place stays)
-      (material_acts named flat acts quad quad.material refl q (place_in place pass quad) (local_stays quad q place.shift ∙ stays)))
+      (acts_seen P (seen_part place pass quad) _ (material_painted i named ranges quad q) (has (seen_part place pass quad) P) refl
+      (material_acts named flat acts quad quad.material refl q (place_in place pass quad) (local_stays quad q place.shift ∙ stays))))
 
-  group_acts : (named : Named) (flat : FlatNamed) → NamedActs named flat → (pass : RenderPass) (m : Blend) (o : ℕ) (l : Point) (place : Placement) → plus l place.shift ≡ P
-      → ActsAs P (group_flat tiles i flat flat_ranges pass m o place) (λ d. cond (has place.window P) (group_laid i named ranges pass m o l d) d)
+  group_acts : (named : Named) (flat : FlatNamed) → NamedActs named flat
+      → (pass : RenderPass) (m : Blend) (o : ℕ) (l : Point) (place : Placement) → plus l place.shift ≡ P
+      → ActsAs P (group_flat i flat flat_ranges pass m o place) (λ d. cond (has place.window P) (group_laid i named ranges pass m o l d) d)
   unfolding group_flat group_laid pass_painted
   group_acts named flat acts pass m o l place stays =
-      let out : has (moved pass.output place.shift) P ≡ has pass.output l = subst (λ (p : Point). has (moved pass.output place.shift) p ≡ has pass.output l) stays (has_moved_is pass.output place.shift l) in
-      let area : has (meet place.window (moved pass.output place.shift)) P ≡ (has place.window P && has pass.output l) =
+      let out : has (moved pass.output place.shift) P ≡ has pass.output l = subst
+      (λ (p : Point). has (moved pass.output place.shift) p ≡ has pass.output l) stays (has_moved_is pass.output place.shift l) in
+      let area : has (pass_part pass place) P ≡ (has place.window P && has pass.output l) =
       has_meet_is place.window (moved pass.output place.shift) P ∙ ap (λ t. has place.window P && t) out in
       acts_same P _ _ _
-      (group_case (has place.window P) (has pass.output l) (has (meet place.window (moved pass.output place.shift)) P) area m o (quads_painted i named ranges pass pass.quads l))
-      (acts_group P (meet place.window (moved pass.output place.shift)) o m _ _ (quads_act named flat acts pass pass.quads l place stays))
+      (group_case (has place.window P) (has pass.output l) (has (pass_part pass place) P) area m o (quads_painted i named ranges pass pass.quads l))
+      (acts_seen P (pass_part pass place) _ (λ d. laid m (cond (has place.window P) (quads_painted i named ranges pass pass.quads l transparent) transparent) o d) (has (pass_part pass place) P) refl
+      (acts_group P (pass_part pass place) o m _ _ (quads_act named flat acts pass pass.quads l place stays)))
 
-  groups_act : (passes : List RenderPass) → NamedActs (groups i ranges passes) (groups_flat tiles i flat_ranges passes)
+  groups_act : (passes : List RenderPass) → NamedActs (groups i ranges passes) (groups_flat i flat_ranges passes)
   unfolding groups groups_flat
   groups_act [] id m o l place stays = nothing_acts P (has place.window P)
   groups_act (pass ∷ earlier) id m o l place stays =
       choice_acts P (names_pass id pass) (has place.window P) _ _ _ _
-      (group_acts (groups i ranges earlier) (groups_flat tiles i flat_ranges earlier) (groups_act earlier) pass m o (plus l (corner pass.output)) (inner_place pass place)
+      (group_acts (groups i ranges earlier) (groups_flat i flat_ranges earlier) (groups_act earlier) pass m o (plus l (corner pass.output)) (inner_place pass place)
       (output_stays l (corner pass.output) place.shift ∙ stays))
       (groups_act earlier id m o l place stays)
 
-  pub root_acts : (passes : List RenderPass) (q : Point) (place : Placement) → plus q place.shift ≡ P → ActsAs P (root_flat tiles i flat_ranges passes place) (λ d. cond (has place.window P) (root_painted i ranges passes q d) d)
+  pub root_acts : (passes : List RenderPass) (q : Point) (place : Placement) → plus q place.shift ≡ P
+      → ActsAs P (root_flat i flat_ranges passes place) (λ d. cond (has place.window P) (root_painted i ranges passes q d) d)
   unfolding root_flat root_painted pass_painted
   root_acts [] q place stays = nothing_acts P (has place.window P)
   root_acts (root ∷ earlier) q place stays =
-      quads_act (groups i ranges earlier) (groups_flat tiles i flat_ranges earlier) (groups_act earlier) root root.quads q place stays
+      quads_act (groups i ranges earlier) (groups_flat i flat_ranges earlier) (groups_act earlier) root root.quads q place stays
 
 -- the gutter and then the content, where it is not absent
 body_case : (w s e : Bool) (b : Colour) (f : Colour → Colour) (d : Colour)
@@ -109,7 +125,8 @@ body_case true false false b f d = refl
 body_case false s e b f d = refl
 
 -- a group in the window, of a body that acts in the window
-laid_case : (w : Bool) (f : Colour → Colour) (m : Blend) (o : ℕ) (d : Colour) → cond w (laid m (cond w (f transparent) transparent) o d) d ≡ cond w (laid m (f transparent) o d) d
+laid_case : (w : Bool) (f : Colour → Colour) (m : Blend) (o : ℕ) (d : Colour)
+    → cond w (laid m (cond w (f transparent) transparent) o d) d ≡ cond w (laid m (f transparent) o d) d
 laid_case true f m o d = refl
 laid_case false f m o d = refl
 
@@ -121,42 +138,49 @@ present_case P true true false place inner h k = h
 present_case P true false false place inner h k = h
 present_case P false s false place inner h k = h
 
-module _ (tiles : FlatTile) (gutter : FlatGutter) (P : Point)
-    (tiles_act : (i : FrameData) (id tx ty : ℕ) (m : Blend) (o : ℕ) (l : Point) (place : Placement) → plus l place.shift ≡ P → ActsAs P (tiles i id tx ty m o place) (λ d. cond (has place.window P) (laid m (tile_colour i id tx ty l) o d) d))
-    (gutter_acts : (range : SurfaceRange) (b : Colour) (i : FrameData) (l : Point) (place : Placement) → plus l place.shift ≡ P
-    → ActsAs P (gutter range b i place) (λ d. cond (has place.window P && (not (has (sized (frame_size i.frame)) l) && not (same_surface i.id range.end))) (over b d) d))
-    (active : List FrameData) where
+module _ (P : Point) (active : List FrameData) where
   abbrev pub ContentActs : Content → FlatContent → Type 0
-  ContentActs content ops = (path : List SurfaceId) (i : FrameData) (l : Point) (place : Placement) → plus l place.shift ≡ P → ActsAs P (ops path i place) (λ d. cond (has place.window P) (content path i l d) d)
+  ContentActs content ops =
+      (path : List SurfaceId) (i : FrameData) (l : Point) (place : Placement) → plus l place.shift ≡ P → ActsAs P (ops path i place)
+      (λ d. cond (has place.window P) (content path i l d) d)
 
   -- inside the window, where the content is not absent
   abbrev pub present : SurfaceRange → FrameData → Point → Placement → Bool
   present range i l place = has place.window P && not (is_absent range i l)
 
-  content_acts : (content : Content) (ops : FlatContent) → ContentActs content ops → (path : List SurfaceId) (range : SurfaceRange) (b : Colour) (i : FrameData) (l : Point) (place : Placement) → plus l place.shift ≡ P
-      → ActsAs P (content_flat gutter ops path range b i place) (λ d. cond (present range i l place) (content_at content path b i l d) d)
+  content_acts : (content : Content) (ops : FlatContent) → ContentActs content ops
+      → (path : List SurfaceId) (range : SurfaceRange) (b : Colour) (i : FrameData) (l : Point) (place : Placement)
+      → plus l place.shift ≡ P
+      → ActsAs P (content_flat ops path range b i place) (λ d. cond (present range i l place) (content_at content path b i l d) d)
   unfolding content_flat content_at is_absent
   content_acts content ops acts path range b i l place stays =
       let size : Rectangle = sized (frame_size i.frame) in
-      let in_size : has (moved size place.shift) P ≡ has size l = subst (λ (p : Point). has (moved size place.shift) p ≡ has size l) stays (has_moved_is size place.shift l) in
+      let in_size : has (moved size place.shift) P ≡ has size l = subst (λ (p : Point). has (moved size place.shift) p ≡ has size l) stays
+      (has_moved_is size place.shift l) in
       let window : has (meet place.window (moved size place.shift)) P ≡ (has place.window P && has size l) =
       has_meet_is place.window (moved size place.shift) P ∙ ap (λ t. has place.window P && t) in_size in
-      let inside : ActsAs P (ops path i (surface_place i place)) (λ d. cond (has place.window P && has size l) (content path i l d) d) =
-      acts_same P _ _ _ (λ d. ap (λ t. cond t (content path i l d) d) window) (acts path i l (surface_place i place) stays) in
+      let inside : ActsAs P (seen_flat (surface_place i place).window (ops path i (surface_place i place)))
+      (λ d. cond (has place.window P && has size l) (content path i l d) d) =
+      acts_seen P (surface_place i place).window (ops path i (surface_place i place)) (content path i l)
+      (has place.window P && has size l) window
+      (acts_same P _ _ _ (λ d. ap (λ t. cond t (content path i l d) d) window) (acts path i l (surface_place i place) stays)) in
       acts_same P _ _ _
       (body_case (has place.window P) (has size l) (same_surface i.id range.end) b (content path i l))
-      (acts_both P (gutter range b i place) (ops path i (surface_place i place)) _ _ (gutter_acts range b i l place stays) inside)
+      (acts_both P (gutter_flat range b i place) (seen_flat (surface_place i place).window (ops path i (surface_place i place))) _ _ (gutter_acts P range b i l place stays) inside)
 
   -- the part in which it is not absent has the point where the window has it and the content is not absent
-  present_is : (range : SurfaceRange) (i : FrameData) (l : Point) (place : Placement) → plus l place.shift ≡ P → has (present_place range i place).window P ≡ present range i l place
+  present_is : (range : SurfaceRange) (i : FrameData) (l : Point) (place : Placement) → plus l place.shift ≡ P
+      → has (present_place range i place).window P ≡ present range i l place
   unfolding present_place is_absent
   present_is range i l place stays =
       let size : Rectangle = sized (frame_size i.frame) in
-      let in_size : has (moved size place.shift) P ≡ has size l = subst (λ (p : Point). has (moved size place.shift) p ≡ has size l) stays (has_moved_is size place.shift l) in
+      let in_size : has (moved size place.shift) P ≡ has size l = subst (λ (p : Point). has (moved size place.shift) p ≡ has size l) stays
+      (has_moved_is size place.shift l) in
       present_case P (has place.window P) (has size l) (same_surface i.id range.end) place (surface_place i place) refl
       (has_meet_is place.window (moved size place.shift) P ∙ ap (λ t. has place.window P && t) in_size)
 
-  laid_acts : (body : List Op) (f : Colour → Colour) (m : Blend) (o : ℕ) (place : Placement) (w : Bool) → has place.window P ≡ w → ActsAs P body (λ d. cond w (f d) d)
+  laid_acts : (body : List Op) (f : Colour → Colour) (m : Blend) (o : ℕ) (place : Placement) (w : Bool) → has place.window P ≡ w
+      → ActsAs P body (λ d. cond w (f d) d)
       → ActsAs P (laid_flat body m o place) (λ d. cond w (content_laid f m o d) d)
   unfolding laid_flat content_laid
   laid_acts body f m o place w e a =
@@ -164,38 +188,39 @@ module _ (tiles : FlatTile) (gutter : FlatGutter) (P : Point)
       (acts_same P _ _ _ (λ d. ap (λ t. cond t (laid m (cond w (f transparent) transparent) o d) d) e ∙ laid_case w f m o d) (acts_group P place.window o m body _ a))
 
   -- what is laid where the window has the point, but for what is on the path and what is absent
-  skip_case : (w t s : Bool) (f : Colour → Colour) (d : Colour) → cond (w && not s) (elim t [ true ↦ d | false ↦ f d ]) d ≡ cond w (elim (t || s) [ true ↦ d | false ↦ f d ]) d
+  skip_case : (w t s : Bool) (f : Colour → Colour) (d : Colour)
+      → cond (w && not s) (elim t [ true ↦ d | false ↦ f d ]) d ≡ cond w (elim (t || s) [ true ↦ d | false ↦ f d ]) d
   skip_case true true true f d = refl
   skip_case true true false f d = refl
   skip_case true false true f d = refl
   skip_case true false false f d = refl
   skip_case false t s f d = refl
 
-  range_acts : (content : Content) (ops : FlatContent) → ContentActs content ops → (path : List SurfaceId) (range : SurfaceRange) (b : Colour) (m : Blend) (o : ℕ) (l : Point) (place : Placement) → plus l place.shift ≡ P
-      → ActsAs P (range_flat gutter ops active path range b m o place) (λ d. cond (has place.window P) (embeds content active path range b m o l d) d)
-  unfolding range_flat embeds
-  range_acts content ops acts path range b m o l place stays =
+  range_acts : (ends : Bool) (content : Content) (ops : FlatContent) → ContentActs content ops
+      → (path : List SurfaceId) (range : SurfaceRange) (b : Colour) (m : Blend) (o : ℕ) (l : Point) (place : Placement)
+      → plus l place.shift ≡ P
+      → ActsAs P (range_flat ends ops active path range b m o place) (λ d. cond (has place.window P) (embeds_until ends content active path range b m o l d) d)
+  unfolding range_flat embeds_until
+  range_acts ends content ops acts path range b m o l place stays =
       elim (shown_frame active range) as (λ (s : Option FrameData). ActsAs P
-      (elim s [ None ↦ Fill place.window b o m ∷ [] | Some i ↦ elim (on_path path i) [ true ↦ [] | false ↦ laid_flat (content_flat gutter ops path range b i place) m o (present_place range i place) ] ])
-      (λ d. cond (has place.window P) (elim s [ None ↦ laid m b o d | Some i ↦ elim (on_path path i || is_absent range i l) [ true ↦ d | false ↦ content_laid (content_at content path b i l) m o d ] ]) d)) [
+      (elim s [ None ↦ Fill place.window b o m ∷ [] | Some i ↦ elim (ends || on_path path i) [ true ↦ [] | false ↦ shown_flat ops path range b m o place i ] ])
+      (λ d. cond (has place.window P) (elim s [ None ↦ laid m b o d | Some i ↦ elim ((ends || on_path path i) || is_absent range i l) [ true ↦ d | false ↦ content_laid (content_at content path b i l) m o d ] ]) d)) [
         | None ↦ acts_fill P place.window b o m
         | Some i ↦
-            acts_same P _ _ _ (skip_case (has place.window P) (on_path path i) (is_absent range i l) (content_laid (content_at content path b i l) m o))
-            (choice_acts P (on_path path i) (present range i l place) _ _ (λ d. d) (λ d. content_laid (content_at content path b i l) m o d)
+            acts_same P _ _ _
+            (skip_case (has place.window P) (ends || on_path path i) (is_absent range i l) (content_laid (content_at content path b i l) m o))
+            (choice_acts P (ends || on_path path i) (present range i l place) _ _ (λ d. d) (λ d. content_laid (content_at content path b i l) m o d)
             (nothing_acts P (present range i l place))
-            (laid_acts (content_flat gutter ops path range b i place) (content_at content path b i l) m o (present_place range i place) (present range i l place)
-            (present_is range i l place stays) (content_acts content ops acts path range b i l place stays)))
+            (acts_seen P (present_place range i place).window _ (content_laid (content_at content path b i l) m o) (present range i l place) (present_is range i l place stays)
+            (laid_acts (content_flat ops path range b i place) (content_at content path b i l) m o (present_place range i place) (present range i l place)
+            (present_is range i l place stays) (content_acts content ops acts path range b i l place stays))))
       ]
 
   -- at n levels the operations do what painting does
-  pub flat_acts : (n : ℕ) → ContentActs (pix n active) (flat tiles gutter n active)
-  unfolding flat pix
+  pub flat_acts : (n : ℕ) → ContentActs (pix_until n active) (flat n active)
+  unfolding flat pix_until
   flat_acts zero path i l place stays = nothing_acts P (has place.window P)
   flat_acts (suc n) path i l place stays =
-      root_acts tiles P tiles_act i (embeds (pix n active) active (i.id ∷ path)) (range_flat gutter (flat tiles gutter n active) active (i.id ∷ path))
-      (range_acts (pix n active) (flat tiles gutter n active) (flat_acts n) (i.id ∷ path)) (passes_down i.frame) l place stays
-
-pub flat_is_painted : FlatIsPainted
-flat_is_painted tiles gutter P tiles_act gutter_acts n active path i q place d stays =
-    value_of_acts P (flat tiles gutter n active path i place) (λ d. cond (has place.window P) (pix n active path i q d) d)
-    (flat_acts tiles gutter P tiles_act gutter_acts active n path i q place stays) d
+      root_acts P i (embeds_until (n == 0) (pix_until n active) active (i.id ∷ path))
+      (range_flat (n == 0) (flat n active) active (i.id ∷ path))
+      (range_acts (n == 0) (pix_until n active) (flat n active) (flat_acts n) (i.id ∷ path)) (passes_down i.frame) l place stays

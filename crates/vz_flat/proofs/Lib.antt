@@ -1,3 +1,17 @@
 pub mod Nested
 pub mod Acting
+pub mod Tiled
+pub mod Guttered
+pub mod Levelled
 pub mod Flattened
+pub mod Drawn
+pub mod Sound
+pub mod Tile_sound
+pub mod Flat_sound
+pub mod Wholes
+pub mod Rounded
+pub mod Sizes
+pub mod Named
+pub mod Standing
+pub mod Rooted
+pub mod Stored_scenes

@@ -1,10 +1,9 @@
 -- What a list of operations does to a colour at a point of the display.
-use Rattle.std.specs.Prelude.{ℕ, ℤ, pos, ◌+◌, ◌-◌, ◌+ℤ◌, ◌*◌, length, int_le, nat_lt, max, Bool, true, ◌&&◌, ◌||◌, ◌==◌, List, [], ◌∷◌, if◌then◌else◌, Some}
+use Rattle.std.specs.Prelude.{ℕ, ℤ, pos, ◌+◌, ◌-◌, ◌+ℤ◌, int_le, nat_lt, max, Bool, true, ◌&&◌, ◌||◌, ◌==◌, List, [], ◌∷◌, if◌then◌else◌, Some}
 use Rattle.std.specs.List.{list_all}
 use Rattle.vz_geom.specs.declared.Point.{Point}
 use Rattle.vz_geom.specs.Rectangle.{is_empty_rect, has, plus, minus, corner}
 use Rattle.vz_pixels.specs.Colour.{Colour, transparent}
-use Rattle.vz_pixels.specs.Block.{Block}
 use Rattle.vz_frame.specs.declared.blend.Blend.{Blend}
 use Rattle.vz_frame.specs.Blending.{laid}
 use Rattle.vz_rules.specs.Paint.{texel_of}
@@ -50,14 +49,10 @@ is_nested n (Blit area block tx ty o m ∷ ops) = is_nested n ops
 abbrev pub is_span_inside : ℤ → ℤ → ℕ → Bool
 is_span_inside start count side = int_le (pos 0) start && int_le (start +ℤ count) (pos side)
 
--- a block has a pixel for each of its places, as every block has
-abbrev pub is_filled : Block → Bool
-is_filled block = length block.pixels == block.w * block.h
-
 -- the texels of a blit are inside its block; one without an area has none
 unfoldable pub is_inside : Op → Bool
 is_inside (Blit area block tx ty o m) =
-    is_empty_rect area || (is_span_inside tx area.w block.w && (is_span_inside ty area.h block.h && is_filled block))
+    is_empty_rect area || (is_span_inside tx area.w block.w && is_span_inside ty area.h block.h)
 is_inside (Fill area c o m) = true
 is_inside (Push area o m) = true
 is_inside Pop = true

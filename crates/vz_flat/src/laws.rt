@@ -1,8 +1,32 @@
 //! Laws of operations, each the contract of a function that does nothing.
-ghost use Rattle.vz_flat.specs.Flat.{FlatIsPainted};
+ghost use Rattle.std.specs.Prelude.{◌≡◌, Some, false, true};
+ghost use Rattle.vz_geom.specs.declared.Point.{Point};
+ghost use Rattle.vz_geom.specs.declared.Size.{Size};
+ghost use Rattle.vz_geom.specs.Rectangle.{has, sized};
+ghost use Rattle.vz_pixels.specs.Colour.{black};
+ghost use Rattle.vz_rules.specs.World.{World, Scene};
+ghost use Rattle.vz_rules.specs.Scene.{scene_of};
+ghost use Rattle.vz_rules.specs.Kept.{KeepsAlways};
+ghost use Rattle.vz_surfaces.specs.Stored.{stored_of};
+ghost use Rattle.vz_surfaces.specs.Reading.{seen_frames};
+ghost use Rattle.vz_rules.specs.Paint.{full};
+ghost use Rattle.vz_rules.specs.Walk.{walk_of, too_much};
+ghost use Rattle.vz_flat.specs.Ops.{value};
+ghost use Rattle.vz_flat.specs.Flat.{scene_flat};
 
-/// A surface's list of operations, with its passes and the surfaces that it embeds as groups or in
-/// place, leaves at each point of its window the colour that painting leaves, and changes no other.
+use vz_surfaces::laws::stores_tell;
+
+/// A scene's operations leave at each point of the display the colour that painting leaves, where
+/// its walk is not too much.
 pub fn flat_is_painted()
-    ensures { FlatIsPainted }
+    ensures { (size : Size) (scene : Scene) (p : Point) → too_much (walk_of size scene) ≡ false
+        → has (sized size) p ≡ true → value (scene_flat size scene) p black ≡ full scene p }
 {}
+
+/// What can be seen of the machine's state is what a store shows that stands for it.
+pub fn scenes_are_stored()
+    ensures { (w : World) (scene : Scene) → KeepsAlways w → scene_of w ≡ Some scene
+        → record { root = scene.root; active = seen_frames (stored_of w) } ≡ scene }
+{
+    stores_tell();
+}

@@ -1,11 +1,10 @@
 //! How deep the groups of operations are nested.
 ghost use Rattle.std.specs.Prelude.{◌≡◌, ◌≤◌, ◌+◌, ◌-◌, ◌&&◌, pos, ◌+ℤ◌, int_le, nat_lt, max, true, false, List, ◌∷◌, MatchOption};
 ghost use Rattle.vz_flat.specs.declared.op.Op.{Op as Step};
-ghost use Rattle.vz_flat.specs.Ops.{is_whole, is_whole_from, is_inside, is_filled, deepest};
+ghost use Rattle.vz_flat.specs.Ops.{is_whole, is_whole_from, is_inside, deepest};
 ghost use Rattle.vz_flat.specs.Nesting.{NestsOn};
 
 use crate::{MOST_OPEN, Op};
-use vz_pixels::PixelBlock;
 
 /// The groups that are open, and the most that were.
 #[derive(Clone, Copy)]
@@ -19,13 +18,6 @@ fn is_span_inside(from: i32, count: i32, side: u32) -> bool
     ensures { result ≡ (int_le (pos 0) from && int_le (from +ℤ count) (pos side)) }
 {
     0 <= from && i64::from(from) + i64::from(count) <= i64::from(side)
-}
-
-/// Whether a block has a pixel for each of its places.
-fn is_filled(block: &PixelBlock) -> bool
-    ensures { result ≡ is_filled block.now }
-{
-    block.pixels().len() == block.w() as usize * block.h() as usize
 }
 
 /// Whether the texels of an operation are inside its block.
@@ -43,7 +35,7 @@ fn is_inside(op: &Op) -> bool
         } => {
             area.is_empty()
                 || (is_span_inside(*tx, area.w(), block.w())
-                    && (is_span_inside(*ty, area.h(), block.h()) && is_filled(block)))
+                    && is_span_inside(*ty, area.h(), block.h()))
         }
         Op::Fill { .. } => true,
         Op::Push { .. } => true,

@@ -1,8 +1,8 @@
 -- The texels of a block at the places of a row.
 use Rattle.std.proofs.Common.{◌≡◌, ℕ, ◌+◌, ◌-◌, ◌*◌, ◌≤◌, ◌<◌, ℤ, pos, nat_abs, ◌+ℤ◌, ◌-ℤ◌, ◌≤ℤ◌, ◌<ℤ◌, Bool, true, false, ◌&&◌, ◌||◌, if◌then◌else◌, List, length, take, drop, get_or, refl, sym, ap, ◌∙◌, Some, arith}
-use Rattle.std.specs.Prelude.{int_le, nat_le, nat_lt, ◌==◌}
+use Rattle.std.specs.Prelude.{int_le, nat_le, nat_lt}
 use Rattle.std.proofs.lemmas.Int.{ints}
-use Rattle.std.proofs.lemmas.Bool.{and_parts, lt-ltb, le-leb, eqb-true}
+use Rattle.std.proofs.lemmas.Bool.{and_parts, lt-ltb, le-leb}
 use Rattle.std.proofs.Math.Nat.{mul-le-mul_right}
 use Rattle.std.proofs.lemmas.List.{get_or-take, get_or-drop}
 use borrow.Rule.Slice.PartMut.{put_mid}
@@ -18,7 +18,7 @@ use Rattle.vz_frame.specs.Blending.{laid}
 use Rattle.vz_rules.specs.Paint.{texel_of}
 use Rattle.vz_flat.specs.declared.op.Op.{Op}
 use Rattle.vz_flat.specs.declared.op.Op.TheVariants.{Blit}
-use Rattle.vz_flat.specs.Ops.{is_inside, is_span_inside, is_filled}
+use Rattle.vz_flat.specs.Ops.{is_inside, is_span_inside}
 use Rattle.vz_paint.specs.Row.{right_of}
 use Rattle.vz_paint.proofs.Spanned.{mixed, length_part}
 
@@ -33,7 +33,6 @@ pub record FitsBlock (area : Rectangle) (block : Block) (first start : Point) (f
   pub columns : (first.x +ℤ area.w) ≤ℤ pos block.w
   pub row : pos 0 ≤ℤ first.y
   pub rows : (first.y +ℤ area.h) ≤ℤ pos block.h
-  pub filled : is_filled block ≡ true
 
 both : (a b : Bool) → a ≡ true → b ≡ true → (a && b) ≡ true
 both a b e f = ap (λ t. t && b) e ∙ f
@@ -51,13 +50,12 @@ fits_block area block first start o m count from to some most exact inside =
     let i = to_in area (right_of start from) one in
     let j = to_in area (right_of start (to - 1)) last in
     let far = j.right in
-    let all : (is_span_inside first.x area.w block.w && (is_span_inside first.y area.h block.h && is_filled block)) ≡ true =
-    ap (λ t. t || (is_span_inside first.x area.w block.w && (is_span_inside first.y area.h block.h && is_filled block))) (sym (in_is_full area (right_of start from) one)) ∙ inside
+    let all : (is_span_inside first.x area.w block.w && is_span_inside first.y area.h block.h) ≡ true =
+    ap (λ t. t || (is_span_inside first.x area.w block.w && is_span_inside first.y area.h block.h)) (sym (in_is_full area (right_of start from) one)) ∙ inside
     in
-    let parts = and_parts (is_span_inside first.x area.w block.w) (is_span_inside first.y area.h block.h && is_filled block) all in
-    let rest = and_parts (is_span_inside first.y area.h block.h) (is_filled block) parts.1 in
+    let parts = and_parts (is_span_inside first.x area.w block.w) (is_span_inside first.y area.h block.h) all in
     let across = and_parts (int_le (pos 0) first.x) (int_le (first.x +ℤ area.w) (pos block.w)) parts.0 in
-    let down = and_parts (int_le (pos 0) first.y) (int_le (first.y +ℤ area.h) (pos block.h)) rest.0 in
+    let down = and_parts (int_le (pos 0) first.y) (int_le (first.y +ℤ area.h) (pos block.h)) parts.1 in
     record {
       some = some;
       left = i.left;
@@ -68,7 +66,6 @@ fits_block area block first start o m count from to some most exact inside =
       columns = le_true (first.x +ℤ area.w) (pos block.w) across.1;
       row = le_true (pos 0) first.y down.0;
       rows = le_true (first.y +ℤ area.h) (pos block.h) down.1;
-      filled = rest.1;
     }
 
 pub columns_fit : (area : Rectangle) (block : Block) (first start p : Point) (from to : ℕ) → FitsBlock area block first start from to → p ≡ right_of start from → ((p.x -ℤ area.x) +ℤ first.x) <ℤ pos block.w
@@ -120,13 +117,9 @@ texel_same area block first start p from to column row is at is_column is_row i 
     ∙ (ap (λ n. get_or block.pixels n transparent) same
     ∙ sym (at_texel block (column + (i - from)) row (nat_abs (((start.x +ℤ pos i) -ℤ area.x) +ℤ first.x)) (nat_abs ((start.y -ℤ area.y) +ℤ first.y)) x_at y_at low)))
 
-filled_length : (block : Block) → is_filled block ≡ true → length block.pixels ≡ block.w * block.h
-filled_length block e = eqb-true (length block.pixels) (block.w * block.h) e
-
 -- the texels of a part of a row are in the block's list
-pub listed : (block : Block) (column row n : ℕ) → is_filled block ≡ true → column + n ≤ block.w → row < block.h → row * block.w + column + n ≤ length block.pixels
-listed block column row n filled low down =
-    let long = filled_length block filled in
+pub listed : (block : Block) (column row n : ℕ) → length block.pixels ≡ block.w * block.h → column + n ≤ block.w → row < block.h → row * block.w + column + n ≤ length block.pixels
+listed block column row n long low down =
     let upto : (row + 1) * block.w ≤ block.h * block.w = mul-le-mul_right block.w (omega (arith, down)) in
     let next : (row + 1) * block.w ≡ row * block.w + block.w = grind arith in
     let other : block.h * block.w ≡ block.w * block.h = grind arith in

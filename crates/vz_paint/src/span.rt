@@ -5,7 +5,7 @@ ghost use Rattle.vz_geom.specs.Rectangle.{has, plus, minus, corner};
 ghost use Rattle.vz_pixels.specs.Colour.{transparent};
 ghost use Rattle.vz_frame.specs.Blending.{blend, laid};
 ghost use Rattle.vz_rules.specs.Paint.{texel_of};
-ghost use Rattle.vz_flat.specs.Ops.{is_inside, is_filled};
+ghost use Rattle.vz_flat.specs.Ops.{is_inside};
 ghost use Rattle.vz_flat.specs.declared.op.Op.TheVariants.{Blit};
 ghost use Rattle.vz_paint.specs.Row.{right_of, IsStart};
 ghost use lib.Lanes.{zip2};
@@ -166,11 +166,11 @@ fn texel_at(block: &PixelBlock, p: Point, area: &Rect, tx: &i32, ty: &i32) -> Te
 
 /// So many texels of a row of a block, from one on.
 fn texels(block: &PixelBlock, at: Texel, count: usize) -> &[Pixel]
-    requires filled { is_filled block.now ≡ true }
     requires across { (at.column + count) ≤ block.now.w }
     requires down { at.row < block.now.h }
     requires small { block.now.h ≤ GREATEST_BLOCK_SIDE }
     ensures value { result.now ≡ take count (drop (at.row * block.now.w + at.column) block.now.pixels) }
+    ensures counted { length block.now.pixels ≡ block.now.w * block.now.h }
 {
     let from = at.row * block.w() as usize + at.column;
     &block.pixels()[from..from + count]

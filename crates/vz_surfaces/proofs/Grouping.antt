@@ -1,5 +1,5 @@
 -- Groups have the surfaces that exist, and what was ever active, over the changes of a store.
-use Rattle.std.proofs.Common.{◌≡◌, ℕ, ◌+◌, Bool, true, false, not, ◌&&◌, ◌||◌, ◌==◌, ◌⊎◌, inl, inr, rules, Option, Some, None, List, [], ◌∷◌, ◌++◌, map, filter, refl, ap, sym, ◌∙◌, cond, subst, Contains, append-nil}
+use Rattle.std.proofs.Common.{◌≡◌, ℕ, Bool, true, false, not, ◌&&◌, ◌||◌, ◌==◌, ◌⊎◌, inl, inr, rules, Option, Some, None, List, [], ◌∷◌, ◌++◌, map, filter, refl, ap, sym, ◌∙◌, cond, subst, Contains, append-nil}
 use Rattle.std.specs.List.{list_any}
 use Rattle.std.proofs.lemmas.List.{map-append}
 use Rattle.std.proofs.lemmas.List.Elements.{filter-append}
@@ -29,7 +29,7 @@ use Rattle.vz_surfaces.specs.declared.groups.Groups.{Groups}
 use Rattle.vz_surfaces.specs.Chains.{is_group, chain_at, newest_at, reaches, newer_local, is_newer_id, IsRising, KeepsGroups}
 use Rattle.vz_surfaces.proofs.Ages.{at_least_is, at_least_trans}
 use Rattle.vz_surfaces.proofs.Telling.{read_same, filter_all}
-use Rattle.vz_surfaces.proofs.Others.{never, no_and}
+use Rattle.vz_surfaces.proofs.Others.{never}
 use Rattle.vz_surfaces.proofs.Accepting.{replaces_on}
 use Rattle.vz_surfaces.proofs.Raising.{Waits_in, rises_on, one_is}
 use Rattle.vz_surfaces.proofs.Destroying.{drops_on}

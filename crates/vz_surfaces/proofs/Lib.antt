@@ -18,6 +18,7 @@ mod Grouping
 mod Pointing
 mod Shown
 mod Seeing
+mod Awaited
 mod Marking
 mod Numbering
 mod Listing

@@ -1,7 +1,6 @@
 -- Which surfaces are marked, over the changes of a store.
-use Rattle.std.proofs.Common.{◌≡◌, ℕ, ◌+◌, ◌-◌, ◌≤◌, ◌<◌, Bool, true, false, not, ◌&&◌, ◌||◌, ◌==◌, nat_le, nat_lt, inl, inr, Option, Some, None, List, [], ◌∷◌, ◌++◌, map, find, is_some, refl, ap, sym, ◌∙◌, arith, cond, subst, Contains, count_by}
-use Rattle.std.specs.Option.{option_map}
-use Rattle.std.proofs.lemmas.Bool.{and_parts, both_ways, eqb-true, eq-eqb, leb-true}
+use Rattle.std.proofs.Common.{◌≡◌, ℕ, ◌+◌, ◌-◌, ◌≤◌, Bool, true, false, ◌&&◌, ◌||◌, ◌==◌, nat_le, nat_lt, inl, inr, Option, Some, None, List, [], ◌∷◌, ◌++◌, find, is_some, refl, ap, sym, ◌∙◌, arith, cond, subst, Contains, count_by}
+use Rattle.std.proofs.lemmas.Bool.{both_ways, eqb-true, eq-eqb}
 use Rattle.std.proofs.lemmas.Bool.Decides.{nat_tests}
 use Rattle.vz_ids.specs.declared.FrameSinkId.{FrameSinkId}
 use Rattle.vz_ids.specs.declared.LocalSurfaceId.{LocalSurfaceId}
@@ -11,19 +10,17 @@ use Rattle.vz_geom.specs.declared.Size.{Size}
 use Rattle.vz_pixels.specs.Block.{Block}
 use Rattle.vz_frame.specs.declared.frame.CompositorFrame.{CompositorFrame}
 use Rattle.vz_rules.specs.World.{Created, Submission}
-use Rattle.vz_rules.specs.Settle.{number_of, is_before, marked_by}
+use Rattle.vz_rules.specs.Settle.{is_before, marked_by}
 use Rattle.vz_rules.specs.Messages.{is_last, mark_of}
-use Rattle.vz_rules.specs.Kept.{last_in, is_surface_of, stands_in}
+use Rattle.vz_rules.specs.Kept.{last_in, is_surface_of}
 use Rattle.vz_rules.proofs.Reached.{from_same, self_same}
 use Rattle.vz_rules.proofs.Members.{when_same, contains_map, contains_push, contains_at, at_same, find_at, found, any_from}
 use Rattle.vz_rules.proofs.Kept_last.{surfaces_differ}
 use Rattle.vz_surfaces.specs.Stored.{Stored, surface_of, new_surface, storing, raising, marking, ended_at, destroying}
-use Rattle.vz_surfaces.specs.Reading.{standing, has_mark}
 use Rattle.vz_surfaces.specs.Keeping.{KeepsStored}
 use Rattle.vz_surfaces.specs.declared.owners.Owner.{Owner}
 use Rattle.vz_surfaces.specs.declared.owners.Owners.{Owners}
-use Rattle.vz_surfaces.specs.Memory.{owner_at, HasNumber, KeepsOwners, KeepsMarks, counting, marked_up, is_named_last}
-use Rattle.vz_surfaces.proofs.Others.{never}
+use Rattle.vz_surfaces.specs.Memory.{owner_at, HasNumber, KeepsOwners, KeepsMarks, counting, marked_up}
 use Rattle.vz_surfaces.proofs.Raising.{Waits_in}
 
 -- a surface keeps its number and its mark

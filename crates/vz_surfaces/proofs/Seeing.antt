@@ -1,5 +1,5 @@
 -- Active submissions are found by their surfaces, and by the ranges that show them.
-use Rattle.std.proofs.Common.{◌≡◌, Bool, true, false, ◌&&◌, ◌⊎◌, inl, inr, Option, Some, None, List, [], ◌∷◌, map, filter, find, refl, ap, sym, ◌∙◌, cond, subst, Contains}
+use Rattle.std.proofs.Common.{◌≡◌, Bool, true, false, ◌&&◌, Option, Some, None, List, [], ◌∷◌, filter, refl, ap, sym, ◌∙◌, cond, subst, Contains}
 use Rattle.std.specs.Option.{option_map}
 use Rattle.std.proofs.lemmas.Bool.{and_from}
 use Rattle.vz_ids.specs.declared.SurfaceId.{SurfaceId}
@@ -9,7 +9,7 @@ use Rattle.vz_rules.specs.World.{World, FrameData, Submission, is_active, is_on,
 use Rattle.vz_rules.specs.Scene.{or_else, newest, newer_frame, in_range, after_start, shown_frame, id_of_frame}
 use Rattle.vz_rules.specs.Kept.{KeepsMessages, IsWhole, stands_in}
 use Rattle.vz_rules.proofs.Reached.{from_same, self_same}
-use Rattle.vz_rules.proofs.Members.{contains_here, contains_there, contains_none, contains_map, contains_at, at_same, filter_at, find_at}
+use Rattle.vz_rules.proofs.Members.{contains_here, contains_there, contains_map, contains_at, at_same, filter_at, find_at}
 use Rattle.vz_rules.proofs.Counts.{one_place}
 use Rattle.vz_surfaces.specs.declared.held.Held.{Held}
 use Rattle.vz_surfaces.specs.Stored.{Stored, bare_sub, stored_of}

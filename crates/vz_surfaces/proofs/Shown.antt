@@ -1,5 +1,5 @@
 -- What is found in the groups is what a range shows.
-use Rattle.std.proofs.Common.{◌≡◌, Bool, true, false, not, ◌&&◌, ◌||◌, ◌==◌, ◌⊎◌, inl, inr, Option, Some, None, is_some, List, [], ◌∷◌, ◌++◌, map, filter, find, reverse, refl, ap, sym, ◌∙◌, cond, subst, Contains}
+use Rattle.std.proofs.Common.{◌≡◌, Bool, true, false, not, ◌&&◌, ◌||◌, ◌⊎◌, inl, inr, Option, Some, None, is_some, List, [], ◌∷◌, map, filter, find, reverse, refl, ap, sym, ◌∙◌, cond, subst, Contains}
 use Rattle.std.specs.Option.{option_map, option_map_or}
 use Rattle.std.specs.List.{list_any}
 use Rattle.std.proofs.lemmas.List.{reverse-append}
@@ -17,7 +17,7 @@ use Rattle.vz_surfaces.specs.Reading.{standing, held_of, seen_frames, shown_in}
 use Rattle.vz_surfaces.specs.declared.table.Surface.{Surface}
 use Rattle.vz_surfaces.specs.declared.table.Table.{Table}
 use Rattle.vz_surfaces.specs.declared.groups.Groups.{Groups}
-use Rattle.vz_surfaces.specs.Memory.{look, kept_of, surface_at, KeepsTable}
+use Rattle.vz_surfaces.specs.Memory.{kept_of, surface_at, KeepsTable}
 use Rattle.vz_surfaces.specs.Chains.{chain_at, is_acting, is_newer_id, IsRising, KeepsGroups, that_passes, starts_from, last_acting, newest_to, newest_from}
 use Rattle.vz_surfaces.proofs.Ages.{newer_once, at_least_trans}
 use Rattle.vz_surfaces.proofs.Finding.{find_end}

@@ -7,7 +7,7 @@ use Rattle.vz_ids.specs.declared.LocalSurfaceId.{LocalSurfaceId}
 use Rattle.vz_ids.specs.declared.SurfaceId.{SurfaceId}
 use Rattle.vz_ids.specs.declared.SurfaceRange.{SurfaceRange}
 use Rattle.vz_ids.specs.Ids.{same_surface, at_least}
-use Rattle.vz_rules.specs.World.{FrameData, Created, active_frames, frame_on}
+use Rattle.vz_rules.specs.World.{FrameData, Created, Submission, active_frames, frame_on, is_waiting, is_on}
 use Rattle.vz_rules.specs.Scene.{shown_frame, id_of_frame}
 use Rattle.vz_rules.specs.Kept.{last_in, stands_in}
 use Rattle.vz_surfaces.specs.declared.held.Held.{Held}
@@ -53,6 +53,14 @@ active_on st id = frame_on id (seen_frames st)
 -- what a store keeps of a frame
 abbrev pub held_of : FrameData → Held
 held_of i = record { sub = i.sub; index = i.index; frame = i.frame; blocks = i.blocks }
+
+-- the frame that waits on a surface that exists
+unfoldable pub waiting_at : Stored → SurfaceId → Option FrameData
+waiting_at st id =
+    elim (standing id st.surfaces) [
+      | Some c ↦ option_map (λ (s : Submission). s.submitted) (find (λ s. is_waiting s && is_on id s) st.subs)
+      | None ↦ None
+    ]
 
 -- what is kept of a frame on a surface, as it is seen
 abbrev pub frame_at : SurfaceId → Held → FrameData

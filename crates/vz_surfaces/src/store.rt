@@ -1,14 +1,15 @@
 //! All surfaces that were ever created, and all submissions that were ever accepted.
 ghost use Rattle.std.specs.Prelude.{◌≡◌, ◌≤◌, ◌<◌, ◌+◌, ◌++◌, ◌∷◌, ◌&&◌, [], ℕ, not, cond, length, Some, None, count_by, false, IsTrue, IfOk, OnOk, OnErr, IfErr};
+ghost use Rattle.std.specs.List.{Contains};
 ghost use Rattle.std.specs.Option.{option_copied, option_map};
 ghost use Rattle.indexmap.specs.IndexMap.{spare as spare_of};
 ghost use Rattle.vz_ids.specs.declared.SurfaceId.{SurfaceId as Id};
-ghost use Rattle.vz_rules.specs.World.{Created as Surface, is_on};
+ghost use Rattle.vz_rules.specs.World.{Created as Surface, Submission, is_on, is_waiting, sub_of};
 ghost use Rattle.vz_rules.specs.Messages.{violates, is_last};
 ghost use Rattle.vz_rules.specs.Scene.{shown_frame};
 ghost use Rattle.vz_rules.specs.Kept.{is_by, last_in};
 ghost use Rattle.vz_surfaces.specs.Stored.{nothing_stored, surface_of, storing, activating, marking, destroying};
-ghost use Rattle.vz_surfaces.specs.Reading.{stands, standing, existing_count, last_of, active_on, seen_frames, held_of, has_mark, marked_to, was_reached};
+ghost use Rattle.vz_surfaces.specs.Reading.{stands, standing, existing_count, last_of, active_on, waiting_at, seen_frames, held_of, has_mark, marked_to, was_reached};
 ghost use Rattle.vz_surfaces.specs.Keeping.{KeepsStored};
 ghost use Rattle.vz_surfaces.specs.Chains.{is_group, chain_at, newest_at};
 ghost use Rattle.vz_surfaces.specs.Numbers.{list_at, has_room};
@@ -22,7 +23,7 @@ use crate::seen::Seen;
 use crate::showing::shown_by;
 use crate::size::frame_size;
 use crate::standing::Standing;
-use crate::table::{Table, sub_of};
+use crate::table::{Table, sub_of as name_of};
 use crate::told::{Acceptance, Told, note};
 use crate::waits::Waits;
 use std::alloc::Global;
@@ -110,6 +111,24 @@ impl Store {
             None => None,
             Some(surface) => surface.active.as_ref(),
         }
+    }
+
+    /// The submission that waits on a surface that exists, None exactly where there is none.
+    pub fn waiting(&self, id: &SurfaceId) -> Option<&Held>
+        ensures { option_copied result ≡ option_map held_of (waiting_at self.now id.now) }
+    {
+        match self.table.get(id) {
+            None => None,
+            Some(surface) => surface.waiting.as_ref(),
+        }
+    }
+
+    /// The surface on which a submission waits, where it does.
+    pub fn waits_on(&self, s: Sub) -> Option<SurfaceId>
+        ensures { (x : Submission) → Contains self.now.subs x → IsTrue (is_waiting x)
+            → sub_of x ≡ s → result ≡ Some x.submitted.id }
+    {
+        self.waits.get(&s)
     }
 
     /// The active submission of a surface that exists, as it is seen.
@@ -291,7 +310,7 @@ impl Store {
         let Some(surface) = self.table.remove(id) else {
             unreachable!()
         };
-        let waiting = sub_of(&surface.waiting);
+        let waiting = name_of(&surface.waiting);
         self.waits.remove(waiting);
         self.groups.remove(id);
         self.standing.remove(surface.client, id);
@@ -301,7 +320,7 @@ impl Store {
                 surface: surface.number,
             },
             waiting,
-            active: sub_of(&surface.active),
+            active: name_of(&surface.active),
         }
     }
 }

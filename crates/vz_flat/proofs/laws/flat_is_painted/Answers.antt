@@ -1,4 +1,4 @@
-use Rattle.vz_flat.proofs.Flattened.{flat_is_painted}
+use Rattle.vz_flat.proofs.Drawn.{flat_is_painted}
 use Rattle.vz_flat.proofs.laws.flat_is_painted.Goals as goal
 
 pub returns : goal.returns

@@ -38,13 +38,6 @@ texel_at-at-requires-clause-row c =
     let e = c.span_of-here.ensures in
     (fits_block a.area.now a.block.now (record { x = a.tx.now; y = a.ty.now }) a.start a.opacity a.mode (length a.row.now) here.from here.to c.if-here.false e.most e.exact c.requires.inside).row
 
-pub texels-source-requires-clause-filled : goal.texels-source-requires-clause-filled
-texels-source-requires-clause-filled c =
-    let a = c.args in
-    let here = c.span_of-here.result in
-    let e = c.span_of-here.ensures in
-    (fits_block a.area.now a.block.now (record { x = a.tx.now; y = a.ty.now }) a.start a.opacity a.mode (length a.row.now) here.from here.to c.if-here.false e.most e.exact c.requires.inside).filled
-
 pub texels-source-requires-clause-across : goal.texels-source-requires-clause-across
 texels-source-requires-clause-across c =
     let a = c.args in
@@ -62,7 +55,7 @@ mix-requires c =
     let most = e.most in
     let fits = fits_block a.area.now a.block.now (record { x = a.tx.now; y = a.ty.now }) a.start a.opacity a.mode (length a.row.now) here.from here.to c.if-here.false e.most e.exact c.requires.inside in
     let low = across a.area.now a.block.now (record { x = a.tx.now; y = a.ty.now }) a.start c.right_of-p.result here.from here.to c.texel_at-at.result.column fits c.right_of-p.ensures c.texel_at-at.ensures.column in
-    let there = listed a.block.now c.texel_at-at.result.column c.texel_at-at.result.row (here.to - here.from) fits.filled low c.texel_at-at.ensures.inside in
+    let there = listed a.block.now c.texel_at-at.result.column c.texel_at-at.result.row (here.to - here.from) c.texels-source.ensures.counted low c.texel_at-at.ensures.inside in
     length_part transparent a.row.now here.from (here.to - here.from) (omega (arith, up, most))
     ∙ sym (ap length c.texels-source.ensures.value ∙ length_part transparent a.block.now.pixels _ (here.to - here.from) there)
 
@@ -73,7 +66,7 @@ returns-clause-each c =
     let e = c.span_of-here.ensures in
     let fits = fits_block a.area.now a.block.now (record { x = a.tx.now; y = a.ty.now }) a.start a.opacity a.mode (length a.row.now) here.from here.to c.if-here.false e.most e.exact c.requires.inside in
     let low = across a.area.now a.block.now (record { x = a.tx.now; y = a.ty.now }) a.start c.right_of-p.result here.from here.to c.texel_at-at.result.column fits c.right_of-p.ensures c.texel_at-at.ensures.column in
-    let there = listed a.block.now c.texel_at-at.result.column c.texel_at-at.result.row (here.to - here.from) fits.filled low c.texel_at-at.ensures.inside in
+    let there = listed a.block.now c.texel_at-at.result.column c.texel_at-at.result.row (here.to - here.from) c.texels-source.ensures.counted low c.texel_at-at.ensures.inside in
     mixed a.area.now a.start a.mode a.opacity here.from here.to a.row.now c.texels-source.result.now c.mix.new.row
     (λ i. texel_of (Some a.block.now) (plus (minus (right_of a.start i) (corner a.area.now)) (record { x = a.tx.now; y = a.ty.now })))
     e.ordered e.most e.exact

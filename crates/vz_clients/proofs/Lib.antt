@@ -1,0 +1,4 @@
+mod Listed
+mod Sending
+mod Messaging
+mod Standing

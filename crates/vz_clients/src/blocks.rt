@@ -1,0 +1,102 @@
+//! The blocks that a client stored.
+ghost use Rattle.std.specs.Prelude.{◌≡◌, ◌++◌, [], Some, None, ◌<◌, nat_eq, IfOk, OnOk};
+ghost use Rattle.std.specs.List.{list_all};
+
+ghost use Rattle.std.specs.Option.{option_copied, option_to_list};
+ghost use Rattle.indexmap.specs.IndexMap.{insert_entry, spare as spare_of};
+ghost use Rattle.vz_clients.specs.Sent.{block_in, knows, blocks_in};
+
+use indexmap::IndexMap;
+use std::alloc::Global;
+use vz_base::Memory;
+use vz_frame::{List, Listing};
+use vz_pixels::PixelBlock;
+
+/// The blocks that a client stored, each under its id.
+#[derive(Drop)]
+pub(crate) struct Blocks {
+    pub(crate) blocks: IndexMap<u32, PixelBlock>,
+}
+
+impl Blocks {
+    /// None is stored. It takes no memory.
+    pub(crate) fn new(alloc: Global) -> Blocks
+        ensures { result.blocks.entries ≡ [] }
+    {
+        Blocks {
+            blocks: IndexMap::new(alloc),
+        }
+    }
+
+    /// Makes room for one block more. Memory is the only error.
+    pub(crate) fn reserve(&mut self) -> Result<(), Memory>
+        ensures entries { self.new.blocks.entries ≡ self.old.blocks.entries }
+        ensures room { OnOk result (0 < spare_of self.new.blocks) }
+    {
+        self.blocks.reserve(1)?;
+        Ok(())
+    }
+
+    /// An id names a block from now on. Condition: there is room for one.
+    pub(crate) fn put(&mut self, id: u32, block: PixelBlock)
+        requires { 0 < spare_of self.old.blocks }
+        ensures { self.new.blocks.entries ≡ insert_entry nat_eq self.old.blocks.entries id block }
+    {
+        self.blocks.insert(id, block).unwrap();
+    }
+
+    /// The block that an id names.
+    pub(crate) fn get(&self, id: u32) -> Option<&PixelBlock>
+        ensures { option_copied result ≡ block_in self.now.blocks.entries id }
+    {
+        self.blocks.get(&id)
+    }
+
+    /// Whether a listing has a stored block of its size.
+    fn knows(&self, listing: &Listing) -> bool
+        ensures { result ≡ knows self.now.blocks.entries listing.now }
+    {
+        match self.get(listing.id) {
+            None => false,
+            Some(block) => {
+                block.w() == u32::from(listing.w) && block.h() == u32::from(listing.h)
+            }
+        }
+    }
+
+    /// Whether each of some listings has a stored block of its size.
+    pub(crate) fn knows_all(&self, listings: &[Listing]) -> bool
+        ensures { result ≡ list_all (knows self.now.blocks.entries) listings.now }
+    {
+        listings.iter().all(|listing| self.knows(listing))
+    }
+
+    /// The block of each of some listings. No pixel is copied.
+    pub(crate) fn listed(
+        &self,
+        alloc: Global,
+        listings: &[Listing],
+    ) -> Result<List<PixelBlock>, Memory>
+        ensures { IfOk result (λ list. list ≡ blocks_in self.now.blocks.entries listings.now) }
+    {
+        let mut list = Vec::with_capacity(alloc, listings.len())?;
+        for listing in listings {
+            push_shared(&mut list, self.get(listing.id))?;
+        }
+        Ok(List::from_vec(list))
+    }
+}
+
+/// Puts a block at the end, if there is one. No pixel is copied.
+fn push_shared(list: &mut Vec<PixelBlock>, block: Option<&PixelBlock>) -> Result<(), Memory>
+    ensures { OnOk result
+        (list.new.items ≡ list.old.items ++ option_to_list (option_copied block.entry)) }
+{
+    match block {
+        None => Ok(()),
+        Some(block) => {
+            list.push(block.share()?)?;
+            Ok(())
+        }
+    }
+}

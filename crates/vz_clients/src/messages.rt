@@ -1,0 +1,63 @@
+//! The messages that a client has still to send.
+ghost use Rattle.std.specs.Prelude.{◌≡◌, ◌<◌, ◌-◌, ◌+◌, ◌∷◌, drop, length, Some};
+ghost use Rattle.std.specs.Option.{option_copied};
+ghost use Rattle.vz_frame.specs.Frame.{first_of};
+
+use std::marker::Model;
+use std::mem;
+use vz_frame::Message;
+
+/// The messages of a file, of which the first ones were taken.
+#[derive(Drop)]
+pub(crate) struct Messages {
+    items: Vec<Message>,
+    taken: usize,
+}
+
+impl Model for Messages {
+    ghost use Rattle.std.specs.Prelude.{drop, ◌≤◌, length};
+    ghost use Rattle.vz_clients.specs.Sent.{Left};
+
+    ghost Value = { Left };
+
+    ghost view = { λ m. record { left = drop m.taken m.items.items; taken = m.taken } };
+
+    ghost invariant = { λ m. m.taken ≤ length m.items.items };
+}
+
+impl Messages {
+    /// None of these was taken.
+    pub(crate) fn new(items: Vec<Message>) -> Messages
+        ensures { result ≡ record { left = items.items; taken = 0 } }
+    {
+        Messages { items, taken: 0 }
+    }
+
+    /// The message that is taken next.
+    pub(crate) fn next(&self) -> Option<&Message>
+        ensures { option_copied result ≡ first_of self.now.left }
+    {
+        self.items.get(self.taken)
+    }
+
+    /// Takes the next message. Condition: there is one.
+    pub(crate) fn take(&mut self) -> Message
+        requires { 0 < length self.old.left }
+        ensures message { Some result ≡ first_of self.old.left }
+        ensures taken { self.new
+            ≡ record { left = drop 1 self.old.left; taken = self.old.taken + 1 } }
+    {
+        let message = mem::replace(&mut self.items[self.taken], Message::Reclaim);
+        self.taken += 1;
+        message
+    }
+
+    /// The last message that was taken is the next one again. Condition: one was taken.
+    pub(crate) fn put_back(&mut self, message: Message)
+        requires { 0 < self.old.taken }
+        ensures { self.new ≡ record { left = message ∷ self.old.left; taken = self.old.taken - 1 } }
+    {
+        self.taken -= 1;
+        self.items[self.taken] = message;
+    }
+}

@@ -1,0 +1,262 @@
+//! The submissions that await feedback, and the feedback that is due.
+ghost use Rattle.std.specs.Prelude.{◌≡◌, ◌≤◌, ◌<◌, ◌+◌, [], ◌++◌, length, true, Option, List, None, Some, IsOk, OnOk};
+ghost use Rattle.vz_ids.specs.declared.LocalSurfaceId.{LocalSurfaceId};
+ghost use Rattle.vz_frame.specs.declared.frame.CompositorFrame.{CompositorFrame};
+ghost use Rattle.vz_rules.specs.Plan.{Plan};
+ghost use Rattle.vz_rules.specs.World.{World, Client, Created, Submission, opening, is_waiting, is_on, sub_of, has_sub};
+ghost use Rattle.vz_rules.specs.Messages.{accepted, new_submission, id_of};
+ghost use Rattle.vz_rules.specs.Returns.{feed, fed_in};
+ghost use Rattle.vz_rules.specs.Singly.{rising, going};
+ghost use Rattle.vz_rules.specs.Ends.{landed, presenting};
+ghost use Rattle.vz_rules.specs.Log.{rest_in};
+ghost use Rattle.vz_rules.specs.Kept.{Keeps, KeepsAlways};
+ghost use Rattle.vz_rules.specs.declared.entry.Fed.{Fed as Feedback};
+ghost use Rattle.std.specs.List.{Contains, filter_map};
+ghost use Rattle.std.specs.Option.{option_map};
+ghost use Rattle.vz_feeding.specs.Owing.{Owes, AreOwed, place_of, ended_of, waiting_on, active_on};
+ghost use Rattle.vz_feeding.specs.Noting.{IsNoted, IsAdded, noted, owed_count, without_due};
+
+use crate::due::{Due, put_all, sort};
+use crate::ended::{Ended, dropped_by};
+use indexmap::IndexMap;
+use std::alloc::Global;
+use std::marker::Model;
+use vz_base::Memory;
+use vz_frame::Room;
+use vz_ids::Sub;
+use vz_returns::Feedbacks;
+use vz_rules::Fed;
+
+/// The feedback that is owed: the submissions that await it, each with its place in the order
+/// of acceptance, and what is due at the end of the step. Contracts see what is kept of it
+/// and, beside it, the room that was made before.
+///
+/// A submission that ends is told once: from then on its feedback is due, unless it is in
+/// flight.
+#[derive(Drop)]
+pub struct Feeding {
+    unfed: Feedbacks,
+    places: IndexMap<Sub, u64>,
+    due: Vec<Due>,
+    accepted: u64,
+}
+
+impl Model for Feeding {
+    ghost use Rattle.std.specs.Prelude.{◌+◌, ◌-◌, length, vec_len, vec_capacity};
+    ghost use Rattle.indexmap.specs.IndexMap.{spare as spare_of};
+    ghost use Rattle.vz_feeding.specs.Owing.{OwedAndRoom};
+    ghost use Rattle.vz_feeding.specs.Noting.{AreKept, room_for};
+
+    ghost Value = { OwedAndRoom };
+
+    ghost view = { λ a. record {
+      owed = record {
+        unfed = a.unfed.list;
+        places = a.places.entries;
+        due = a.due.items;
+        accepted = a.accepted;
+      };
+      spare = room_for a.unfed.spare (spare_of a.places)
+          (vec_capacity a.due - vec_len a.due - length a.places.entries);
+    } };
+
+    ghost invariant = { λ a. AreKept a.unfed.list a.places.entries
+        (vec_capacity a.due - vec_len a.due) };
+}
+
+impl Feeding {
+    /// Nothing was accepted. It takes no memory.
+    pub fn new(alloc: Global) -> Feeding
+        ensures owed { (p : Plan) → AreOwed (opening p) result.owed }
+    {
+        Feeding {
+            unfed: Feedbacks::new(alloc),
+            places: IndexMap::new(alloc),
+            due: Vec::new(alloc),
+            accepted: 0,
+        }
+    }
+
+    /// Makes room for at least one submission more. Memory is the only error. Nothing else
+    /// changes in any case, and no room is lost.
+    pub fn ready(&mut self) -> Result<(), Memory>
+        ensures owed { self.new.owed ≡ self.old.owed }
+        ensures ok { OnOk result (0 < self.new.spare) }
+        ensures succeeds { 0 < self.old.spare → IsOk result }
+        ensures spare { self.old.spare ≤ self.new.spare }
+    {
+        self.unfed.ready(1)?;
+        self.places.reserve(1)?;
+        self.due.try_reserve(self.places.len() + 1)?;
+        Ok(())
+    }
+
+    /// A submission is accepted and awaits feedback from now on; the one that waited on its
+    /// surface is replaced and ends. Conditions: there is room for one, the submission does not
+    /// await feedback, and fewer than 2^64 - 1 were accepted.
+    pub fn accept(&mut self, sub: Sub, replaced: Option<Ended>)
+        requires room { 0 < self.old.spare }
+        requires new { place_of self.old.owed sub ≡ None }
+        requires few { self.old.owed.accepted < u64.MAX }
+        ensures owed { (w : World) (c : Client) (local : LocalSurfaceId) (frame : CompositorFrame)
+            → KeepsAlways w → AreOwed w self.old.owed
+            → sub ≡ sub_of (new_submission w c local frame)
+            → replaced ≡ option_map (ended_of w) (waiting_on w (id_of c local))
+            → AreOwed (accepted w c local frame).world self.new.owed }
+        ensures count { owed_count self.new.owed ≡ owed_count self.old.owed + 1 }
+        ensures due { length self.new.owed.due ≤ length self.old.owed.due + 1 }
+        ensures spare { self.old.spare ≤ self.new.spare + 1 }
+    {
+        self.note(dropped_by(replaced), false);
+        self.add(sub);
+    }
+
+    /// A submission becomes active, and the active one of its surface, if there is one, is
+    /// past.
+    pub fn activate(&mut self, past: Option<Ended>)
+        ensures owed { (w : World) (s : Submission) → KeepsAlways w → AreOwed w self.old.owed
+            → Contains w.subs s → is_waiting s ≡ true
+            → past ≡ option_map (ended_of w) (active_on w s.submitted.id)
+            → AreOwed (rising s w) self.new.owed }
+        ensures count { owed_count self.new.owed ≡ owed_count self.old.owed }
+        ensures due { length self.new.owed.due ≤ length self.old.owed.due + 1 }
+        ensures spare { self.old.spare ≤ self.new.spare }
+    {
+        self.note(dropped_by(past), false);
+    }
+
+    /// A surface is destroyed, and its waiting and its active submission are dropped, where
+    /// there are such.
+    pub fn destroy(&mut self, waiting: Option<Ended>, active: Option<Ended>)
+        ensures owed { (w : World) (c : Created) → KeepsAlways w → AreOwed w self.old.owed
+            → waiting ≡ option_map (ended_of w) (waiting_on w c.id)
+            → active ≡ option_map (ended_of w) (active_on w c.id)
+            → AreOwed (going c w) self.new.owed }
+        ensures count { owed_count self.new.owed ≡ owed_count self.old.owed }
+        ensures due { length self.new.owed.due ≤ length self.old.owed.due + 2 }
+        ensures spare { self.old.spare ≤ self.new.spare }
+    {
+        self.note(dropped_by(waiting), false);
+        self.note(dropped_by(active), false);
+    }
+
+    /// Appends the feedback that is due, in the order of acceptance, and nothing is due any
+    /// more. It takes no memory. Condition: `out` has room for what is due.
+    pub fn feed(&mut self, out: &mut Room<Fed>)
+        requires { length self.old.owed.due ≤ out.old.spare }
+        ensures fed { (w : World) → AreOwed w self.old.owed
+            → out.new.list ≡ out.old.list ++ fed_in [] w }
+        ensures owed { (w : World) → AreOwed w self.old.owed
+            → AreOwed (feed [] w) self.new.owed }
+        ensures none { self.new.owed.due ≡ [] }
+        ensures unfed { length self.new.owed.unfed ≡ length self.old.owed.unfed }
+        ensures spare { self.old.spare ≤ self.new.spare }
+        ensures room { out.old.spare + length out.old.list
+            ≡ out.new.spare + length out.new.list }
+    {
+        self.give(out);
+    }
+
+    /// The drawn frame is done: the submissions in it are presented, where they await feedback.
+    /// Appends this feedback with what else is due, in the order of acceptance, and nothing is
+    /// due any more. It takes no memory. Condition: `out` has room for what is due and for as
+    /// many as were drawn.
+    pub fn present(&mut self, drawn: &[Sub], out: &mut Room<Fed>)
+        requires { length self.old.owed.due + length drawn.now ≤ out.old.spare }
+        ensures fed { (w : World) → AreOwed w self.old.owed → w.in_flight ≡ Some drawn.now
+            → out.new.list ≡ out.old.list ++ fed_in drawn.now (landed w) }
+        ensures owed { (w : World) → AreOwed w self.old.owed → w.in_flight ≡ Some drawn.now
+            → AreOwed (presenting drawn.now (landed w)).world self.new.owed }
+        ensures none { self.new.owed.due ≡ [] }
+        ensures spare { self.old.spare ≤ self.new.spare }
+        ensures room { out.old.spare + length out.old.list
+            ≡ out.new.spare + length out.new.list }
+    {
+        self.note_all(drawn);
+        self.give(out);
+    }
+
+    /// How many submissions await feedback.
+    pub fn unfed(&self) -> usize
+        ensures { result ≡ length self.now.owed.unfed }
+    {
+        self.unfed.unfed()
+    }
+
+    /// Appends the submissions that await feedback, by client and ordinal. It takes no memory.
+    /// Condition: `out` has room for all.
+    pub fn subs(&self, out: &mut Room<Sub>)
+        requires { length self.now.owed.unfed ≤ out.old.spare }
+        ensures list { out.new.list ≡ out.old.list ++ self.now.owed.unfed }
+        ensures rest { (w : World) → Keeps w → AreOwed w self.now.owed
+            → out.new.list ≡ out.old.list ++ (rest_in w).unfed }
+        ensures room { out.old.spare ≡ out.new.spare + length self.now.owed.unfed }
+    {
+        self.unfed.subs(out);
+    }
+
+    /// The feedback of a submission, if one is given that awaits it, becomes due.
+    fn note(&mut self, sub: Option<Sub>, presented: bool)
+        ensures noted { IsNoted sub presented self.old.owed self.new.owed }
+        ensures count { owed_count self.new.owed ≡ owed_count self.old.owed }
+        ensures due { length self.new.owed.due ≤ length self.old.owed.due + 1 }
+        ensures spare { self.old.spare ≤ self.new.spare }
+    {
+        let Some(sub) = sub else {
+            return;
+        };
+        let Some(place) = self.places.swap_remove(&sub) else {
+            return;
+        };
+        self.unfed.feed(sub);
+        self.due.push_reserved(Due {
+            place,
+            fed: Fed { sub, presented },
+        });
+    }
+
+    /// The feedback of those of these that await it becomes due: they are presented.
+    fn note_all(&mut self, drawn: &[Sub])
+        ensures owed { (gets : Submission → Option Feedback) (subs : List Submission)
+            → Owes gets subs self.old.owed
+            → Owes (noted (has_sub drawn.now) true gets) subs self.new.owed }
+        ensures due { length self.new.owed.due ≤ length self.old.owed.due + length drawn.now }
+        ensures spare { self.old.spare ≤ self.new.spare }
+    {
+        for sub in drawn {
+            self.note(Some(*sub), true);
+        }
+    }
+
+    /// Appends what is due, in the order of acceptance, and nothing is due any more. Condition:
+    /// `out` has room for it.
+    fn give(&mut self, out: &mut Room<Fed>)
+        requires { length self.old.owed.due ≤ out.old.spare }
+        ensures fed { (gets : Submission → Option Feedback) (subs : List Submission)
+            → Owes gets subs self.old.owed
+            → out.new.list ≡ out.old.list ++ filter_map gets subs }
+        ensures rest { self.new.owed ≡ without_due self.old.owed }
+        ensures spare { self.old.spare ≤ self.new.spare }
+        ensures room { out.old.spare + length out.old.list
+            ≡ out.new.spare + length out.new.list }
+    {
+        sort(&mut self.due);
+        put_all(&self.due, out);
+        self.due.clear();
+    }
+
+    /// One more submission awaits feedback. Conditions: there is room for one, it does not await
+    /// feedback, and fewer than 2^64 - 1 were accepted.
+    fn add(&mut self, sub: Sub)
+        requires room { 0 < self.old.spare }
+        requires new { place_of self.old.owed sub ≡ None }
+        requires few { self.old.owed.accepted < u64.MAX }
+        ensures added { IsAdded sub self.old.owed self.new.owed }
+        ensures count { owed_count self.new.owed ≡ owed_count self.old.owed + 1 }
+        ensures spare { self.old.spare ≤ self.new.spare + 1 }
+    {
+        self.places.insert(sub, self.accepted).unwrap();
+        self.unfed.add(sub).unwrap();
+        self.accepted += 1;
+    }
+}

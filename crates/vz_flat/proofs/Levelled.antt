@@ -1,0 +1,184 @@
+-- Painting that goes into no more surfaces on a path than there may be. Where a scene is not too much it is the whole painting.
+use Rattle.std.proofs.Common.{◌≡◌, ℕ, zero, suc, ◌+◌, ◌≤◌, ◌==◌, Bool, true, false, ◌||◌, Option, Some, None, List, [], ◌∷◌, length, refl, sym, ◌∙◌, arith}
+use Rattle.std.specs.Prelude.{nat_lt}
+use Rattle.std.specs.List.{list_any}
+use Rattle.std.proofs.lemmas.List.Folds.{list_any-append}
+use Rattle.std.proofs.lemmas.Bool.{eqb-true}
+use Rattle.std.proofs.lemmas.Bool.Decides.{nat_tests}
+use Rattle.std.proofs.lemmas.Int.{ints}
+use Rattle.vz_geom.specs.declared.Point.{Point}
+use Rattle.vz_geom.specs.declared.Size.{Size}
+use Rattle.vz_geom.specs.Rectangle.{has, sized}
+use Rattle.vz_ids.specs.declared.SurfaceId.{SurfaceId}
+use Rattle.vz_ids.specs.declared.SurfaceRange.{SurfaceRange}
+use Rattle.vz_pixels.specs.Colour.{Colour, transparent, over}
+use Rattle.vz_frame.specs.declared.blend.Blend.{Blend}
+use Rattle.vz_frame.specs.declared.blend.Blend.TheVariants.{Over}
+use Rattle.vz_frame.specs.Blending.{laid}
+use Rattle.vz_frame.specs.Frame.{passes_down, frame_size}
+use Rattle.vz_rules.specs.World.{FrameData, Scene, frame_on}
+use Rattle.vz_rules.specs.Scene.{shown_frame}
+use Rattle.vz_rules.specs.Paint.{Embedding, Content, on_path, is_absent, root_painted, content_at, content_laid, embeds, pix, levels}
+use Rattle.vz_rules.specs.Trace.{trace}
+use Rattle.vz_rules.specs.Walk.{Placement, Visit, Enters, is_deep, whole, range_walked, walk, walk_of, weight, too_much}
+use Rattle.vz_rules.proofs.Traces.{SkipsZero, trace_shown, laid_zero}
+use Rattle.vz_rules.proofs.Same.{same_shows, HasParts, IsSeen, root_same}
+use Rattle.vz_rules.proofs.Agree.{embeds_skips, laid_same}
+use Rattle.vz_rules.proofs.Geometry.{same_point}
+
+-- what a range does, and where the path ends here nothing of a surface
+unfoldable pub embeds_until : Bool → Content → List FrameData → List SurfaceId → Embedding
+embeds_until ends content active path range b m o l d =
+    elim (shown_frame active range) [
+      | None ↦ laid m b o d
+      | Some i ↦ elim ((ends || on_path path i) || is_absent range i l) [
+        | true ↦ d
+        | false ↦ content_laid (content_at content path b i l) m o d
+      ]
+    ]
+
+-- what a surface leaves, with so many surfaces left, where the last one embeds none
+unfoldable pub pix_until : ℕ → List FrameData → Content
+pix_until zero active path i q d = d
+pix_until (suc n) active path i q d =
+    root_painted i (embeds_until (n == 0) (pix_until n active) active (i.id ∷ path)) (passes_down i.frame) q d
+
+until_skips : (ends : Bool) (content : Content) (active : List FrameData) (path : List SurfaceId)
+    → SkipsZero (embeds_until ends content active path)
+unfolding embeds_until content_laid
+until_skips ends content active path range b l d =
+    elim (shown_frame active range) as (λ (s : Option FrameData). ◌≡◌ {A = Colour} (elim s [
+      | None ↦ laid Over b 0 d
+      | Some i ↦ elim
+          ((ends || on_path path i) || is_absent range i l) [ true ↦ d | false ↦ laid Over (content_at content path b i l transparent) 0 d ]
+    ]) d) [
+      | None ↦ laid_zero b d
+      | Some i ↦ elim ((ends || on_path path i) || is_absent range i l) as
+          (λ (t : Bool). ◌≡◌ {A = Colour} (elim t [ true ↦ d | false ↦ laid Over (content_at content path b i l transparent) 0 d ]) d) [
+            | true ↦ refl
+            | false ↦ laid_zero (content_at content path b i l transparent) d
+          ]
+    ]
+
+-- none of these goes too deep
+abbrev Shallow : List Visit → Type 0
+Shallow ms = list_any is_deep ms ≡ false
+
+or_first : (a b : Bool) → (a || b) ≡ false → a ≡ false
+or_first true b h = h
+or_first false b h = refl
+
+or_second : (a b : Bool) → (a || b) ≡ false → b ≡ false
+or_second true b h = absurd (cc)
+or_second false b h = h
+
+shallow_parts : HasParts Shallow
+shallow_parts =
+    record {
+      tail = λ m ms h. or_second (is_deep m) (list_any is_deep ms) h;
+      front = λ ms ns h. or_first (list_any is_deep ms) (list_any is_deep ns) (sym (list_any-append is_deep ms ns) ∙ h);
+      back = λ ms ns h. or_second (list_any is_deep ms) (list_any is_deep ns) (sym (list_any-append is_deep ms ns) ∙ h);
+    }
+
+not_deep : (n : ℕ) → nat_lt 64 n ≡ false → n ≤ 64
+not_deep n h = grind (arith, nat_tests)
+
+choose : (t : Bool) (x y z : Colour) → x ≡ y → ◌≡◌ {A = Colour} (elim t [ true ↦ x | false ↦ z ]) (elim t [ true ↦ y | false ↦ z ])
+choose true x y z e = e
+choose false x y z e = refl
+
+module _ (active : List FrameData) (P : Point) where
+  -- the n levels of the whole painting and these m are enough behind a path, and do the same
+  abbrev pub SameLevels : ℕ → ℕ → Type 0
+  SameLevels n m =
+      (path : List SurfaceId) (i : FrameData) (l : Point)
+      (place : Placement) → length path + 1 ≤ 64 → 65 ≤ n + length path → 64 ≤ m + length path → IsSeen P l place
+      → Shallow (walk n active path i place) → (d : Colour) → pix n active path i l d ≡ pix_until m active path i l d
+
+  content_levels : (n m : ℕ) → SameLevels n m → (path : List SurfaceId) (b : Colour) (j : FrameData) (l : Point) (place : Placement)
+      → length path + 1 ≤ 64 → 65 ≤ n + length path → 64 ≤ m + length path → IsSeen P l place
+      → Shallow (walk n active path j place) → (d : Colour)
+      → content_at (pix n active) path b j l d ≡ content_at (pix_until m active) path b j l d
+  unfolding content_at
+  content_levels n m same path b j l place short en em seen shallow d =
+      choose (has (sized (frame_size j.frame)) l) _ _ (over b d) (same path j l place short en em seen shallow d)
+
+  path_levels : (n m : ℕ) → SameLevels n m
+      → (path : List SurfaceId) (b : Colour) (k : Blend) (o : ℕ) (j : FrameData) (l : Point) (place : Placement) → 65 ≤ n + length path
+      → 64 ≤ m + length path → IsSeen P l place
+      → (u t s : Bool) → (m == 0) ≡ u
+      → Shallow (elim t [ true ↦ [] | false ↦ Enters (length path + 1) j place ∷ walk n active path j place ]) → (d : Colour)
+      → ◌≡◌ {A = Colour} (elim (t || s) [ true ↦ d | false ↦ content_laid (content_at (pix n active) path b j l) k o d ])
+      (elim ((u || t) || s) [ true ↦ d | false ↦ content_laid (content_at (pix_until m active) path b j l) k o d ])
+  path_levels n m same path b k o j l place en em seen true true s e shallow d = refl
+  path_levels n m same path b k o j l place en em seen false true s e shallow d = refl
+  path_levels n m same path b k o j l place en em seen false false true e shallow d = refl
+  path_levels n m same path b k o j l place en em seen true false s e shallow d =
+      let short : length path + 1 ≤ 64 = not_deep (length path + 1)
+      (or_first (nat_lt 64 (length path + 1)) (list_any is_deep (walk n active path j place)) shallow) in
+      let none : m ≡ 0 = eqb-true m 0 e in
+      absurd (omega (arith, short, none, em))
+  path_levels n m same path b k o j l place en em seen false false false e shallow d =
+      let short : length path + 1 ≤ 64 = not_deep (length path + 1)
+      (or_first (nat_lt 64 (length path + 1)) (list_any is_deep (walk n active path j place)) shallow) in
+      let rest : Shallow (walk n active path j place) = or_second (nat_lt 64 (length path + 1))
+      (list_any is_deep (walk n active path j place)) shallow in
+      laid_same (content_at (pix n active) path b j l) (content_at (pix_until m active) path b j l)
+      (content_levels n m same path b j l place short en em seen rest) k o d
+
+  shown_levels : (n m : ℕ) → SameLevels n m
+      → (path : List SurfaceId) (range : SurfaceRange) (b : Colour) (k : Blend) (o : ℕ) (l : Point) (place : Placement)
+      → 65 ≤ n + length path → 64 ≤ m + length path → IsSeen P l place
+      → (s : Option FrameData)
+      → Shallow (elim s [ None ↦ [] | Some j ↦ elim (on_path path j) [ true ↦ [] | false ↦ Enters (length path + 1) j place ∷ walk n active path j place ] ])
+      → (d : Colour)
+      → ◌≡◌ {A = Colour} (elim s [ None ↦ laid k b o d | Some j ↦ elim (on_path path j || is_absent range j l) [ true ↦ d | false ↦ content_laid (content_at (pix n active) path b j l) k o d ] ])
+      (elim s [ None ↦ laid k b o d | Some j ↦ elim (((m == 0) || on_path path j) || is_absent range j l) [ true ↦ d | false ↦ content_laid (content_at (pix_until m active) path b j l) k o d ] ])
+  shown_levels n m same path range b k o l place en em seen None shallow d = refl
+  shown_levels n m same path range b k o l place en em seen (Some j) shallow d =
+      path_levels n m same path b k o j l place en em seen (m == 0) (on_path path j) (is_absent range j l) refl shallow d
+
+  ranges_levels : (n m : ℕ) → SameLevels n m → (path : List SurfaceId) → 65 ≤ n + length path → 64 ≤ m + length path
+      → (range : SurfaceRange) (b : Colour) (k : Blend) (o : ℕ) (l : Point) (place : Placement) → IsSeen P l place
+      → Shallow (range_walked (walk n active) active path range place) → (d : Colour)
+      → embeds (pix n active) active path range b k o l d ≡ embeds_until (m == 0) (pix_until m active) active path range b k o l d
+  unfolding embeds embeds_until range_walked
+  ranges_levels n m same path en em range b k o l place seen shallow d =
+      shown_levels n m same path range b k o l place en em seen (shown_frame active range) shallow d
+
+  same_levels : (n m : ℕ) → SameLevels n m
+  unfolding pix pix_until walk trace
+  same_levels zero m path i l place short en em seen shallow d = absurd (omega arith)
+  same_levels (suc n) zero path i l place short en em seen shallow d = absurd (omega arith)
+  same_levels (suc n) (suc m) path i l place short en em seen shallow d =
+      let e : Embedding = embeds (pix n active) active (i.id ∷ path) in
+      let f : Embedding = embeds_until (m == 0) (pix_until m active) active (i.id ∷ path) in
+      trace_shown e (embeds_skips (pix n active) active (i.id ∷ path)) i l d
+      ∙ (same_shows e f (trace i l)
+      (root_same e f Shallow shallow_parts (range_walked (walk n active) active (i.id ∷ path)) P
+      (ranges_levels n m (same_levels n m) (i.id ∷ path) (omega arith) (omega arith)) i (passes_down i.frame) l place seen shallow) d
+      ∙ sym (trace_shown f (until_skips (m == 0) (pix_until m active) active (i.id ∷ path)) i l d))
+
+walked_by : (size : Size) (scene : Scene) (s : Option FrameData) (i : FrameData) → s ≡ Some i
+    → (nat_lt 65536 (weight (elim s [ None ↦ [] | Some j ↦ Enters 1 j (whole size) ∷ walk levels scene.active [] j (whole size) ]))
+    || list_any is_deep (elim s [ None ↦ [] | Some j ↦ Enters 1 j (whole size) ∷ walk levels scene.active [] j (whole size) ])) ≡ false
+    → Shallow (walk levels scene.active [] i (whole size))
+walked_by size scene s i e h =
+    let deep : list_any is_deep (Enters 1 i (whole size) ∷ walk levels scene.active [] i (whole size)) ≡ false = or_second _ _
+    (rw e at h) in
+    or_second (nat_lt 64 1) _ deep
+
+walked_shallow : (size : Size) (scene : Scene) (i : FrameData) → frame_on scene.root scene.active ≡ Some i
+    → too_much (walk_of size scene) ≡ false → Shallow (walk levels scene.active [] i (whole size))
+unfolding walk_of too_much
+walked_shallow size scene i e h = walked_by size scene (frame_on scene.root scene.active) i e h
+
+-- at a point of the display 64 levels are enough, where a drawing is not too much
+pub enough_levels : (size : Size) (scene : Scene) (i : FrameData) (p : Point) (d : Colour) → frame_on scene.root scene.active ≡ Some i
+    → too_much (walk_of size scene) ≡ false
+    → has (sized size) p ≡ true → pix levels scene.active [] i p d ≡ pix_until 64 scene.active [] i p d
+unfolding levels
+enough_levels size scene i p d e h inside =
+    same_levels scene.active p 65 64 [] i p (whole size) (omega arith) (omega arith) (omega arith)
+    (record { stays = same_point (omega (arith, ints)) (omega (arith, ints)); inside = inside })
+    (walked_shallow size scene i e h) d

@@ -1,0 +1,70 @@
+//! What is drawn on a display of a store's surfaces.
+ghost use Rattle.std.specs.Prelude.{◌≡◌, ◌++◌, true, false, OnOk, IfOk};
+ghost use Rattle.vz_geom.specs.declared.Point.{Point};
+ghost use Rattle.vz_geom.specs.Display.{IsDisplaySize};
+ghost use Rattle.vz_geom.specs.Rectangle.{has, sized};
+ghost use Rattle.vz_pixels.specs.Colour.{black};
+ghost use Rattle.vz_rules.specs.Paint.{full};
+ghost use Rattle.vz_rules.specs.Walk.{walk_of, too_much};
+ghost use Rattle.vz_surfaces.specs.Reading.{seen_frames};
+ghost use Rattle.vz_surfaces.specs.Keeping.{KeepsStored, KeepsFrames};
+ghost use Rattle.vz_flat.specs.Ops.{value};
+ghost use Rattle.vz_flat.specs.Flat.{scene_flat};
+
+use crate::flattening::surface;
+use crate::surface::surface_place;
+use crate::{Op, Ops};
+use std::alloc::Global;
+use vz_base::Memory;
+use vz_base::limits::MOST_ON_PATH;
+use vz_frame::List;
+use vz_geom::Size;
+use vz_ids::SurfaceId;
+use vz_surfaces::Store;
+use vz_walk::{Path, Place};
+
+/// Appends what is drawn of the root, in the part of the display in which it has points.
+#[tactic(auto, unfolding(crate::specs::Flat::scene_flat))]
+fn put_root(store: &Store, root: &SurfaceId, size: Size, ops: &mut List<Op>) -> Result<(), Memory>
+    requires size { IsDisplaySize size }
+    requires keeps { KeepsStored store.now }
+    requires frames { KeepsFrames store.now }
+    ensures { OnOk result (ops.new ≡ ops.old
+        ++ scene_flat size (record { root = root.now; active = seen_frames store.now })) }
+{
+    match store.frame_on(root) {
+        None => Ok(()),
+        Some(seen) => {
+            let place = surface_place(&seen, &Place::whole(size));
+            if place.window().is_empty() {
+                return Ok(());
+            }
+            surface(store, MOST_ON_PATH as u32, &Path::Start, &seen, &place, ops)?;
+            Ok(())
+        }
+    }
+}
+
+/// The operations of a display of this size, back to front, whose root is a surface of the store.
+/// At each point of the display, on opaque black, they leave the colour that painting leaves, and
+/// opaque black everywhere where the root has no active frame. A part of the scene that has no
+/// point on the display has no operation. Blocks are shared, and nothing of a frame is copied.
+///
+/// Conditions: the size is a display's, the store keeps what always holds, its frames are whole,
+/// and the walk from the root is not too much.
+pub fn flatten(alloc: Global, store: &Store, root: &SurfaceId, size: Size) -> Result<Ops, Memory>
+    requires size { IsDisplaySize size }
+    requires keeps { KeepsStored store.now }
+    requires frames { KeepsFrames store.now }
+    requires bounded { too_much
+        (walk_of size (record { root = root.now; active = seen_frames store.now })) ≡ false }
+    ensures painted { (p : Point) → has (sized size) p ≡ true → IfOk result (λ ops. value ops p black
+        ≡ full (record { root = root.now; active = seen_frames store.now }) p) }
+{
+    let mut list = List::new(alloc);
+    put_root(store, root, size, &mut list)?;
+    match Ops::of(list) {
+        Ok(ops) => Ok(ops),
+        Err(_) => unreachable!(),
+    }
+}

@@ -1,0 +1,35 @@
+//! The part of the display in which a surface has points.
+ghost use Rattle.std.specs.Prelude.{◌≡◌};
+ghost use Rattle.vz_rules.specs.Kept.{IsWhole};
+ghost use Rattle.vz_walk.specs.Limits.{HasRoom};
+ghost use Rattle.vz_flat.specs.Parts.{surface_place};
+ghost use Rattle.vz_flat.specs.Flat.{present_place};
+
+use vz_ids::SurfaceRange;
+use vz_surfaces::Seen;
+use vz_walk::{Place, frame_rect, moved};
+
+/// The place of a surface in the part in which it has points.
+pub(crate) fn surface_place(seen: &Seen<'_>, place: &Place) -> Place
+    requires whole { IsWhole seen.now }
+    requires room { HasRoom 0 place.now.shift }
+    ensures { result ≡ surface_place seen.now place.now }
+{
+    let size = frame_rect(&seen.held().frame);
+    let part = moved(&size, place.shift());
+    place.within(&part)
+}
+
+/// The place of a surface in the part in which what a range shows is not absent.
+#[tactic(auto, unfolding(crate::specs::Flat::present_place))]
+pub(crate) fn present_place(range: &SurfaceRange, seen: &Seen<'_>, place: &Place) -> Place
+    requires whole { IsWhole seen.now }
+    requires room { HasRoom 0 place.now.shift }
+    ensures { result ≡ present_place range.now seen.now place.now }
+{
+    if seen.id() == range.end {
+        surface_place(seen, place)
+    } else {
+        *place
+    }
+}

@@ -1,0 +1,13 @@
+//! A bell that wakes.
+use std::test::Fail;
+use std::thread;
+use vz_desk::Bell;
+
+#[test]
+fn a_ring_wakes_who_waits(rt: HostRuntime) -> Result<(), Fail> {
+    let bell = Bell::new();
+    let heard = bell.rings(&rt);
+    thread::join(&rt, || bell.wait_beyond(&rt, heard), || bell.ring(&rt));
+    assert!(&rt; bell.rings(&rt) == 1);
+    Ok(())
+}

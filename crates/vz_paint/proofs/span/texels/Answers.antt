@@ -1,1 +1,0 @@
-use Rattle.vz_paint.proofs.span.texels.Goals as goal

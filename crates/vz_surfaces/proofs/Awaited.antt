@@ -1,0 +1,46 @@
+-- What waits is found by its surface and by its name.
+use Rattle.std.proofs.Common.{◌≡◌, true, Option, Some, None, find, refl, ap, sym, ◌∙◌, ◌&&◌, Contains}
+use Rattle.std.specs.Option.{option_map}
+use Rattle.vz_ids.specs.declared.SurfaceId.{SurfaceId}
+use Rattle.vz_ids.specs.declared.Sub.{Sub}
+use Rattle.vz_rules.specs.World.{FrameData, Submission, Created, is_waiting, is_on, sub_of}
+use Rattle.vz_surfaces.specs.declared.held.Held.{Held}
+use Rattle.vz_surfaces.specs.declared.table.Surface.{Surface}
+use Rattle.vz_surfaces.specs.declared.table.Table.{Table}
+use Rattle.vz_surfaces.specs.declared.waits.Waits.{Waits}
+use Rattle.vz_surfaces.specs.declared.owners.Owners.{Owners}
+use Rattle.vz_surfaces.specs.Stored.{Stored}
+use Rattle.vz_surfaces.specs.Reading.{standing, held_of, waiting_at}
+use Rattle.vz_surfaces.specs.Memory.{look, kept_of, surface_at, waits_on, Keeps}
+
+twice : (o : Option Submission) → option_map (λ (s : Submission). held_of s.submitted) o ≡ option_map held_of (option_map (λ (s : Submission). s.submitted) o)
+twice None = refl
+twice (Some s) = refl
+
+abbrev read : Stored → SurfaceId → Option Created → Option FrameData
+read st id o =
+    elim o as (λ o. Option FrameData) [ Some c ↦ option_map (λ (s : Submission). s.submitted) (find (λ s. is_waiting s && is_on id s) st.subs) | None ↦ None ]
+
+none_by : (st : Stored) (id : SurfaceId) (o : Option Created) → None ≡ option_map (kept_of id st.subs) o → ◌≡◌ {A = Option Held} None (option_map held_of (read st id o))
+none_by st id None e = refl
+none_by st id (Some c) e = absurd (cc)
+
+pub waiting_none : (t : Table) (w : Waits) (o : Owners) (st : Stored) (id : SurfaceId) → Keeps t w o st → None ≡ look t id → ◌≡◌ {A = Option Held} None (option_map held_of (waiting_at st id))
+unfolding waiting_at surface_at
+waiting_none t w o st id h e = none_by st id (standing id st.surfaces) (e ∙ h.table.surfaces id)
+
+some_same : {A : Type 0} {a b : A} → Some a ≡ Some b → a ≡ b
+some_same f = cc
+
+some_by : (st : Stored) (id : SurfaceId) (s : Surface) (o : Option Created) → Some s ≡ option_map (kept_of id st.subs) o → s.waiting ≡ option_map held_of (read st id o)
+some_by st id s None e = absurd (cc)
+some_by st id s (Some c) e = ap (λ (z : Surface). z.waiting) (some_same e) ∙ twice (find (λ s. is_waiting s && is_on id s) st.subs)
+
+pub waiting_some : (t : Table) (w : Waits) (o : Owners) (st : Stored) (id : SurfaceId) (s : Surface) → Keeps t w o st → Some s ≡ look t id → s.waiting ≡ option_map held_of (waiting_at st id)
+unfolding waiting_at surface_at
+waiting_some t w o st id s h e = some_by st id s (standing id st.surfaces) (e ∙ h.table.surfaces id)
+
+-- the index has the surface of each submission that waits
+pub waits_there : (t : Table) (w : Waits) (o : Owners) (st : Stored) (sub : Sub) (r : Option SurfaceId) → Keeps t w o st → r ≡ waits_on w sub
+    → (x : Submission) → Contains st.subs x → is_waiting x ≡ true → sub_of x ≡ sub → r ≡ Some x.submitted.id
+waits_there t w o st sub r h e x c waits name = e ∙ (ap (waits_on w) (sym name) ∙ h.waits.found x c waits)

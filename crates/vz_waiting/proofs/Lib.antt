@@ -1,0 +1,10 @@
+mod Lists
+mod Standing
+mod Unchanged
+mod Removing
+mod Meeting
+mod Closing
+mod Ticking
+mod Arriving
+mod Without
+mod One_by_one

@@ -1,0 +1,11 @@
+pub mod Fitting
+pub mod Rooms
+pub mod Meeting
+pub mod Passing
+pub mod Standing
+pub mod Seeing
+pub mod Rooting
+pub mod Alike
+pub mod Weighing
+pub mod Ends
+pub mod Sides

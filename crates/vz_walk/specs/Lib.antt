@@ -1,0 +1,4 @@
+pub mod Limits
+pub mod Meeting
+pub mod Walking
+pub mod Weighing

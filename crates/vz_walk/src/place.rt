@@ -1,0 +1,169 @@
+//! Where the walk stands on the display.
+ghost use Rattle.std.specs.Prelude.{◌≡◌};
+ghost use Rattle.vz_geom.specs.Rectangle.{plus, minus, corner, meet, moved, sized, no_rectangle};
+ghost use Rattle.vz_geom.specs.Rectangle.{IsOffset};
+ghost use Rattle.vz_geom.specs.Display.{IsDisplaySize};
+ghost use Rattle.vz_rules.specs.Walk.{cut, seen_part, place_in, whole};
+ghost use Rattle.vz_walk.specs.Limits.{HasRoom, IsInReach, coordinates};
+ghost use Rattle.vz_walk.specs.Limits.{IsPassInReach, IsQuadInReach, IsClipInReach};
+
+use std::marker::Model;
+use vz_frame::{DrawQuad, RenderPass};
+use vz_geom::{Point, Rect, Size};
+
+/// Where a pass or a surface stands: what moves a point of it to the display, and the part of the
+/// display that the path leaves.
+#[derive(Clone, Copy)]
+pub struct Place {
+    shift: Point,
+    window: Rect,
+}
+
+impl Model for Place {
+    ghost use Rattle.vz_rules.specs.Walk.{Placement};
+
+    ghost Value = { Placement };
+
+    ghost view = { λ p. record { shift = p.shift; window = p.window } };
+
+    ghost inverse = { λ p. record { shift = p.shift; window = p.window } };
+}
+
+/// The rectangle without a point.
+#[tactic(auto, unfolding(vz_geom::specs::Rectangle::with_sides))]
+pub fn nothing() -> Rect
+    ensures { result ≡ no_rectangle }
+{
+    Rect::new(0, 0, 0, 0)
+}
+
+/// The rectangle of the display. Condition: the size is a display's.
+pub fn display_rect(size: Size) -> Rect
+    requires { IsDisplaySize size }
+    ensures { result ≡ sized size }
+{
+    Rect::new(0, 0, size.w, size.h)
+}
+
+/// A point moved by an offset. Condition: it has room for that.
+fn plus(p: Point, by: Point) -> Point
+    requires room { HasRoom (coordinates 1) p }
+    requires offset { IsOffset by }
+    ensures { result ≡ plus p by }
+{
+    Point {
+        x: p.x + by.x,
+        y: p.y + by.y,
+    }
+}
+
+/// The first point of a rectangle.
+fn corner(r: &Rect) -> Point
+    ensures { result ≡ corner r.now }
+{
+    Point { x: r.x(), y: r.y() }
+}
+
+/// A rectangle moved by an offset. Conditions: it is in reach, and so is the offset.
+pub fn moved(r: &Rect, by: Point) -> Rect
+    requires reach { IsInReach r.now }
+    requires room { HasRoom 0 by }
+    ensures { result ≡ moved r.now by }
+{
+    r.translate(by)
+}
+
+/// A rectangle inside the clip, where there is one. Conditions: the clip is in reach, and so
+/// is the offset by which it is moved.
+fn cut(clip: &Option<Rect>, shift: Point, r: Rect) -> Rect
+    requires reach { IsClipInReach clip.now }
+    requires room { HasRoom 0 shift }
+    ensures { result ≡ cut clip.now shift r }
+{
+    match clip {
+        None => r,
+        Some(c) => moved(c, shift).intersect(&r),
+    }
+}
+
+impl Place {
+    /// The place of the root on the display. Condition: the size is a display's.
+    pub fn whole(size: Size) -> Place
+        requires { IsDisplaySize size }
+        ensures { result ≡ whole size }
+    {
+        Place {
+            shift: Point { x: 0, y: 0 },
+            window: display_rect(size),
+        }
+    }
+
+    /// What moves a point of it to the display.
+    pub fn shift(&self) -> Point
+        ensures { result ≡ self.now.shift }
+    {
+        self.shift
+    }
+
+    /// The part of the display that the path leaves.
+    pub fn window(&self) -> Rect
+        ensures { result ≡ self.now.window }
+    {
+        self.window
+    }
+
+    /// The part of the display in which a quad is seen. Conditions: the pass and the quad are in
+    /// reach, and the place has room for the quad's offset.
+    #[tactic(auto, unfolding(vz_rules::specs::Walk::seen_part))]
+    pub fn seen_part(&self, pass: &RenderPass, quad: &DrawQuad) -> Rect
+        requires pass { IsPassInReach pass.now }
+        requires quad { IsQuadInReach quad.now }
+        requires room { HasRoom (coordinates 1) self.now.shift }
+        ensures { result ≡ seen_part self.now pass.now quad.now }
+    {
+        let output = moved(&pass.output, self.shift);
+        let window = self.window.intersect(&output);
+        let visible = moved(&quad.visible, plus(self.shift, quad.offset));
+        let part = cut(&quad.clip, self.shift, visible);
+        window.intersect(&part)
+    }
+
+    /// The place of what a quad draws. Conditions: the pass and the quad are in reach, and the
+    /// place has room for the quad's offset and the first point of its rectangle.
+    pub fn place_in(&self, pass: &RenderPass, quad: &DrawQuad) -> Place
+        requires pass { IsPassInReach pass.now }
+        requires quad { IsQuadInReach quad.now }
+        requires room { HasRoom (coordinates 2) self.now.shift }
+        ensures { result ≡ place_in self.now pass.now quad.now }
+    {
+        let by = plus(self.shift, quad.offset);
+        Place {
+            shift: plus(by, corner(&quad.area)),
+            window: self.seen_part(pass, quad),
+        }
+    }
+
+    /// The place counted from the first point of a pass. Conditions: the pass is in reach, and
+    /// the place has room for its first point.
+    pub fn inside(&self, pass: &RenderPass) -> Place
+        requires pass { IsPassInReach pass.now }
+        requires room { HasRoom (coordinates 1) self.now.shift }
+        ensures { result
+            ≡ record self.now { shift = minus self.now.shift (corner pass.now.output) } }
+    {
+        Place {
+            shift: self.shift.minus(corner(&pass.output)),
+            window: self.window,
+        }
+    }
+
+    /// The place in a part of the display alone.
+    pub fn within(&self, part: &Rect) -> Place
+        ensures { result ≡ record self.now { window = meet self.now.window part.now } }
+    {
+        Place {
+            shift: self.shift,
+            window: self.window.intersect(part),
+        }
+    }
+}

@@ -1,0 +1,235 @@
+//! The walk over a store, quad by quad, along the definitions.
+ghost use Rattle.std.specs.Prelude.{◌≡◌, ◌≤◌, ◌<◌, ◌+◌, length, reverse, take, false, IfSome};
+ghost use Rattle.vz_geom.specs.Display.{IsDisplaySize};
+ghost use Rattle.vz_rules.specs.Paint.{on_path};
+ghost use Rattle.vz_rules.specs.Walk.{Placement, WalkRange, walk, walk_of, place_in, groups_walked};
+ghost use Rattle.vz_rules.specs.Walk.{range_walked};
+ghost use Rattle.vz_surfaces.specs.Reading.{seen_frames};
+ghost use Rattle.vz_surfaces.specs.Keeping.{KeepsStored, KeepsFrames};
+ghost use Rattle.vz_walk.specs.Limits.{FitsFile, HasRoom, IsPassInReach, IsQuadInReach};
+ghost use Rattle.vz_walk.specs.Limits.{coordinates, room_for};
+ghost use Rattle.vz_walk.specs.Meeting.{Meets};
+ghost use Rattle.vz_walk.specs.Walking.{ids, ranges_of, named_of, quad_of, pass_of, group_at, shown_at};
+
+use crate::path::Path;
+use crate::place::Place;
+use crate::visitor::Visitor;
+use std::marker::Model;
+use vz_base::limits::MOST_ON_PATH;
+use vz_frame::{CompositorFrame, DrawQuad, Material, RenderPass};
+use vz_geom::Size;
+use vz_ids::{SurfaceId, SurfaceRange};
+use vz_surfaces::{Seen, Store};
+
+/// How many surfaces deep the walk goes: one more than is not too much.
+const LEVELS: u32 = MOST_ON_PATH as u32 + 1;
+
+/// Where a walk stands: in a frame, behind the surfaces of a path and with so many surfaces left.
+#[derive(Drop)]
+struct Walker<'b, 's> {
+    store: &'b Store,
+    levels: u32,
+    path: &'b Path<'b>,
+    frame: &'s CompositorFrame,
+}
+
+impl<'b, 's> Model for Walker<'b, 's> {
+    ghost use Rattle.vz_surfaces.specs.Reading.{seen_frames};
+    ghost use Rattle.vz_walk.specs.Walking.{Stand, IsStanding, ids};
+
+    ghost Value = { Stand };
+
+    ghost view = { λ w. record {
+      active = seen_frames w.store.now;
+      levels = w.levels;
+      path = ids w.path.now;
+      frame = w.frame.now;
+    } };
+
+    ghost invariant = { λ w. IsStanding w.store.now w.levels (ids w.path.now) w.frame.now };
+}
+
+/// The pass of an id before a place, the last one.
+fn pass_named(passes: &[RenderPass], before: usize, id: u32) -> Option<usize>
+    requires { before ≤ length passes.now }
+    ensures found { (ranges : WalkRange) (place : Placement)
+        → groups_walked ranges (reverse (take before passes.now)) id place
+        ≡ group_at ranges passes.now place result }
+    ensures before { IfSome result (λ k. k < before) }
+{
+    let mut k = before;
+    while k > 0 {
+        k -= 1;
+        if passes[k].id == id {
+            return Some(k);
+        }
+    }
+    None
+}
+
+/// The walk in a surface, behind the surfaces of a path and with so many surfaces left.
+/// Conditions: what always holds is kept, no surface too many is on the path or left, the frame
+/// fits, and the place has room for the passes of all surfaces that are left.
+#[cycle(walk)]
+fn surface<V: Visitor>(
+    store: &Store,
+    levels: u32,
+    path: &Path<'_>,
+    seen: &Seen<'_>,
+    place: &Place,
+    visitor: &mut V,
+) -> bool
+    requires keeps { KeepsStored store.now }
+    requires frames { KeepsFrames store.now }
+    requires deep { length (ids path.now) + levels ≡ 65 }
+    requires fits { FitsFile seen.now.frame }
+    requires room { HasRoom (room_for levels 0) place.now.shift }
+    ensures { Meets V.has_met V.has_stopped result visitor.old visitor.new
+        (walk levels (seen_frames store.now) (ids path.now) seen.now place.now) }
+{
+    if levels == 0 {
+        return true;
+    }
+    let frame = &seen.held().frame;
+    let count = frame.passes.as_slice().len();
+    if count == 0 {
+        return true;
+    }
+    let behind = Path::Behind {
+        id: seen.id(),
+        before: &*path,
+    };
+    let walker = Walker {
+        store: &*store,
+        levels: levels - 1,
+        path: &behind,
+        frame,
+    };
+    walker.pass(count - 1, place, visitor)
+}
+
+impl<'b, 's> Walker<'b, 's> {
+    /// The walk in the pass at a place of the frame. Conditions: it is there, and the place has
+    /// room for it, those before it and all surfaces that are left.
+    #[cycle(walk)]
+    fn pass<V: Visitor>(&self, k: usize, place: &Place, visitor: &mut V) -> bool
+        requires there { k < length self.now.frame.passes }
+        requires room { HasRoom (room_for self.now.levels (k + 1)) place.now.shift }
+        ensures { Meets V.has_met V.has_stopped result visitor.old visitor.new
+            (pass_of self.now k place.now) }
+    {
+        let pass = &self.frame.passes.as_slice()[k];
+        for quad in pass.quads.as_slice() {
+            if !self.quad(k, pass, quad, place, visitor) {
+                return false;
+            }
+        }
+        true
+    }
+
+    /// A quad of the pass at a place, and the walk in what it draws. Conditions: the pass is
+    /// there, it and the quad are in reach, and the place has room as for the pass.
+    #[cycle(walk)]
+    fn quad<V: Visitor>(
+        &self,
+        k: usize,
+        pass: &RenderPass,
+        quad: &DrawQuad,
+        place: &Place,
+        visitor: &mut V,
+    ) -> bool
+        requires there { k < length self.now.frame.passes }
+        requires pass { IsPassInReach pass.now }
+        requires quad { IsQuadInReach quad.now }
+        requires room { HasRoom (room_for self.now.levels (k + 1)) place.now.shift }
+        ensures { Meets V.has_met V.has_stopped result visitor.old visitor.new
+            (quad_of self.now k pass.now place.now quad.now) }
+    {
+        if !visitor.quad() {
+            return false;
+        }
+        match quad.material {
+            Material::Pass(id) => self.group(k, id, &place.place_in(pass, quad), visitor),
+            Material::Surface { range, .. } => {
+                self.range(&range, &place.place_in(pass, quad), visitor)
+            }
+            Material::Solid(_) => true,
+            Material::Tile { .. } => true,
+        }
+    }
+
+    /// The walk in the pass of an id before a place, seen as a group. Conditions: there is a pass
+    /// at the place, and the group's place has room for the passes before it and all surfaces
+    /// that are left.
+    #[cycle(walk)]
+    fn group<V: Visitor>(&self, before: usize, id: u32, place: &Place, visitor: &mut V) -> bool
+        requires there { before < length self.now.frame.passes }
+        requires room { HasRoom (room_for self.now.levels before + coordinates 1) place.now.shift }
+        ensures { Meets V.has_met V.has_stopped result visitor.old visitor.new
+            (named_of self.now before id place.now) }
+    {
+        let passes = self.frame.passes.as_slice();
+        match pass_named(passes, before, id) {
+            None => true,
+            Some(k) => self.pass(k, &place.inside(&passes[k]), visitor),
+        }
+    }
+
+    /// A range, and the walk in the surface that it shows, unless that is on the path. Condition:
+    /// the place has room for all surfaces that are left.
+    #[cycle(walk)]
+    fn range<V: Visitor>(&self, range: &SurfaceRange, place: &Place, visitor: &mut V) -> bool
+        requires { HasRoom (room_for self.now.levels 0) place.now.shift }
+        ensures { Meets V.has_met V.has_stopped result visitor.old visitor.new
+            (ranges_of self.now range.now place.now) }
+    {
+        let shown = self.store.shown_frame(range);
+        if !visitor.shows(range, &shown, &place.window()) {
+            return false;
+        }
+        match &shown {
+            None => true,
+            Some(seen) => self.shown(seen, place, visitor),
+        }
+    }
+
+    /// The walk into a surface that a range shows, unless it is on the path. Conditions: its frame
+    /// fits, and the place has room for all surfaces that are left.
+    #[cycle(walk)]
+    fn shown<V: Visitor>(&self, seen: &Seen<'_>, place: &Place, visitor: &mut V) -> bool
+        requires fits { FitsFile seen.now.frame }
+        requires room { HasRoom (room_for self.now.levels 0) place.now.shift }
+        ensures { Meets V.has_met V.has_stopped result visitor.old visitor.new
+            (shown_at self.now seen.now place.now) }
+    {
+        if self.path.has(&seen.id()) {
+            return true;
+        }
+        if !visitor.enters(LEVELS - self.levels + 1, seen, place) {
+            return false;
+        }
+        surface(self.store, self.levels, self.path, seen, place, visitor)
+    }
+}
+
+/// Walks from the root pass of the root, and tells a visitor of each visit, in order. It takes no
+/// memory. The answer is whether it went to its end; where not, the visitor stopped it.
+/// Conditions: what always holds is kept, the frames fit, and the size is a display's.
+pub fn walk<V: Visitor>(store: &Store, root: &SurfaceId, size: Size, visitor: &mut V) -> bool
+    requires keeps { KeepsStored store.now }
+    requires frames { KeepsFrames store.now }
+    requires size { IsDisplaySize size }
+    ensures { Meets V.has_met V.has_stopped result visitor.old visitor.new
+        (walk_of size (record { root = root.now; active = seen_frames store.now })) }
+{
+    match store.frame_on(root) {
+        None => true,
+        Some(seen) => {
+            let place = Place::whole(size);
+            if !visitor.enters(1, &seen, &place) {
+                return false;
+            }
+            surface(store, LEVELS, &Path::Start, &seen, &place, visitor)
+        }
+    }
+}

@@ -1,0 +1,64 @@
+//! The weight of what is on a root.
+ghost use Rattle.std.specs.Prelude.{◌≡◌, MatchOption, true, false};
+ghost use Rattle.vz_geom.specs.declared.Size.{Size as AnySize};
+ghost use Rattle.vz_rules.specs.Walk.{walk_of, weight, too_much};
+ghost use Rattle.vz_surfaces.specs.Reading.{seen_frames};
+ghost use Rattle.vz_surfaces.specs.Keeping.{KeepsStored, KeepsFrames};
+
+use crate::place::Place;
+use crate::visitor::Visitor;
+use crate::walker::walk;
+use vz_base::limits::{MOST_ON_PATH, MOST_WEIGHT};
+use vz_geom::{Rect, Size};
+use vz_ids::{SurfaceId, SurfaceRange};
+use vz_surfaces::{Seen, Store};
+
+/// Counts quads, and stops where they or the surfaces of a path are too many.
+#[derive(Drop)]
+struct Weigher {
+    quads: u32,
+}
+
+impl Visitor for Weigher {
+    ghost use Rattle.vz_walk.specs.Weighing.{IsWeighed, IsHeavy};
+
+    ghost has_met = { λ w visits. IsWeighed w.quads visits };
+
+    ghost has_stopped = { λ w visits. IsHeavy visits };
+
+    fn quad(&mut self) -> bool {
+        if self.quads >= MOST_WEIGHT {
+            return false;
+        }
+        self.quads += 1;
+        true
+    }
+
+    fn shows(&mut self, _: &SurfaceRange, _: &Option<Seen<'_>>, _: &Rect) -> bool {
+        true
+    }
+
+    fn enters(&mut self, depth: u32, _: &Seen<'_>, _: &Place) -> bool {
+        depth <= MOST_ON_PATH as u32
+    }
+}
+
+/// The weight of what is on the root: how many quads a walk from it meets, with repetition, on a
+/// display of any size. None is the answer exactly where more than `MOST_WEIGHT` are met, or a
+/// path has more than `MOST_ON_PATH` surfaces. It takes no memory. Conditions: what always holds
+/// is kept, and the frames fit.
+pub fn weight(store: &Store, root: &SurfaceId) -> Option<u32>
+    requires keeps { KeepsStored store.now }
+    requires frames { KeepsFrames store.now }
+    ensures { (size : AnySize) → MatchOption result
+        (too_much (walk_of size (record { root = root.now; active = seen_frames store.now })) ≡ true)
+        (λ n. (n ≡ weight (walk_of size (record { root = root.now; active = seen_frames store.now })))
+        × (too_much (walk_of size (record { root = root.now; active = seen_frames store.now })) ≡ false)) }
+{
+    let mut weigher = Weigher { quads: 0 };
+    if walk(store, root, Size { w: 1, h: 1 }, &mut weigher) {
+        Some(weigher.quads)
+    } else {
+        None
+    }
+}
