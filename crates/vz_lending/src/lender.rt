@@ -1,5 +1,5 @@
 //! The references that one client lent, and those released since the last giving back.
-ghost use Rattle.std.specs.Prelude.{◌≡◌, ◌≤◌, ◌<◌, ◌+◌, [], ◌∷◌, ◌++◌, length, option_to_list, IsTrue, IsFalse, OnOk};
+ghost use Rattle.std.specs.Prelude.{◌≡◌, ◌≤◌, ◌<◌, ◌+◌, [], ◌∷◌, ◌++◌, length, option_to_list, IsTrue, IsFalse, IsOk, OnOk};
 ghost use Rattle.vz_rules.specs.World.{World, Client};
 ghost use Rattle.vz_rules.specs.Returns.{returns_of, queue_returns, give_back};
 ghost use Rattle.vz_rules.specs.Kept.{AreRising};
@@ -64,6 +64,7 @@ impl Lender {
         ensures holding { self.new.holding ≡ self.old.holding }
         ensures released { self.new.released ≡ self.old.released }
         ensures ok { OnOk result (n ≤ self.new.places) }
+        ensures succeeds { self.old.released ≡ [] → n ≤ self.old.places → IsOk result }
         ensures spare { self.old.spare ≤ self.new.spare }
         ensures places { self.old.places ≤ self.new.places }
     {
@@ -83,6 +84,8 @@ impl Lender {
         ensures released { self.new.released ≡ self.old.released }
         ensures spare { OnOk result (n ≤ self.new.spare) }
         ensures places { OnOk result (n ≤ self.new.places) }
+        ensures succeeds { self.old.released ≡ [] → n ≤ self.old.spare → n ≤ self.old.places
+            → IsOk result }
         ensures no_less { self.old.spare ≤ self.new.spare }
         ensures no_fewer { self.old.places ≤ self.new.places }
     {

@@ -1,5 +1,5 @@
 //! The references that all clients lent.
-ghost use Rattle.std.specs.Prelude.{◌≡◌, ℕ, ◌≤◌, ◌+◌, Some, List, [], ◌∷◌, ◌++◌, length, IfOk, OnOk, OnErr, IfSome};
+ghost use Rattle.std.specs.Prelude.{◌≡◌, ℕ, ◌≤◌, ◌+◌, Some, List, [], ◌∷◌, ◌++◌, length, IfOk, IsOk, OnOk, OnErr, IfSome};
 ghost use Rattle.std.specs.List.{Contains, flat_map};
 ghost use Rattle.vz_ids.specs.declared.LocalSurfaceId.{LocalSurfaceId};
 ghost use Rattle.vz_ids.specs.declared.Sub.{Sub};
@@ -54,11 +54,14 @@ impl Lending {
     }
 
     /// Makes room for the next submission of a client with so many listings: for the resources that
-    /// it lends, and for the release of their references. Memory is the only error. Nothing else
-    /// changes in any case, and no room is lost.
+    /// it lends, and for the release of their references. Memory is the only error, and where nothing
+    /// is released and there is the room it answers Ok. Nothing else changes in any case, and no
+    /// room is lost.
     pub fn ready(&mut self, client: u32, listings: usize) -> Result<(), Memory>
         requires known { IsLender client self.old }
         ensures room { OnOk result (HasRoom listings client self.new) }
+        ensures succeeds { NoneReleased self.old → HasRoom listings client self.old
+            → IsOk result }
         ensures same { AreRoomier self.old self.new }
         ensures lent { (w : World) → AreLent w self.old → AreLent w self.new }
         ensures released { NoneReleased self.old → NoneReleased self.new }
