@@ -70,7 +70,7 @@ held_are_alive w c id =
 
 -- What is queued of a client
 
-given : (w : World) (n : ℕ) → List Resource → List Counted
+unfoldable pub given : (w : World) (n : ℕ) → List Resource → List Counted
 given w n rs = map as_counted (filter_map (return_of w n) rs)
 
 given_first : (f : Resource → Option Returned) (o : Option Returned) (rs : List Resource) → map as_counted (cons_option o (filter_map f rs)) ≡ cons_option (option_map as_counted o) (map as_counted (filter_map f rs))
@@ -94,7 +94,7 @@ unfolding is_rising
 rising_first true r rest h k = two_true _ _ h k
 rising_first false r rest h k = k
 
-given_rising : (w : World) (n : ℕ) (rs : List Resource) → AreRising rs → is_rising (given w n rs) ≡ true
+pub given_rising : (w : World) (n : ℕ) (rs : List Resource) → AreRising rs → is_rising (given w n rs) ≡ true
 unfolding given is_rising
 given_rising w n [] h = refl
 given_rising w n (r ∷ rs) h =
@@ -102,7 +102,7 @@ given_rising w n (r ∷ rs) h =
     ∙ rising_first (goes_back w n r) (record { client = n; id = r.id; count = r.lent - r.queued }) (map as_counted (filter_map (return_of w n) rs)) (given_above w n r.id rs h.0) (given_rising w n rs h.1)
 
 -- what is found of one resource
-given_of : (w : World) (n : ℕ) → Option Resource → Option Counted
+unfoldable pub given_of : (w : World) (n : ℕ) → Option Resource → Option Counted
 given_of w n o = elim o [ Some r ↦ option_map as_counted (return_of w n r) | None ↦ None ]
 
 none_above : (n : ℕ) (list : List Counted) → list_all (λ x. nat_lt n x.id) list ≡ true → counted_at n list ≡ None
@@ -116,7 +116,7 @@ found_first : (j : ℕ) (t : Bool) (r : Returned) (rest : List Counted) → coun
 found_first j true r rest = refl
 found_first j false r rest = refl
 
-given_found : (w : World) (n j : ℕ) (rs : List Resource) → AreRising rs → counted_at j (given w n rs) ≡ given_of w n (resource_in j rs)
+pub given_found : (w : World) (n j : ℕ) (rs : List Resource) → AreRising rs → counted_at j (given w n rs) ≡ given_of w n (resource_in j rs)
 unfolding given given_of
 given_found w n j [] h = refl
 given_found w n j (r ∷ rs) h =

@@ -1,0 +1,14 @@
+pub mod Totals
+pub mod Listings
+pub mod Going_back
+pub mod Counting
+pub mod Alive
+pub mod Accepted
+pub mod Steps
+pub mod Clients
+pub mod Changed
+pub mod Rooms
+pub mod Returning
+pub mod Beginning
+pub mod Rest
+pub mod Staying

@@ -1,0 +1,4 @@
+pub mod Lent
+pub mod Listed
+pub mod Changes
+pub mod Quiet

@@ -1,0 +1,295 @@
+//! The references that all clients lent.
+ghost use Rattle.std.specs.Prelude.{◌≡◌, ℕ, ◌≤◌, ◌+◌, Some, List, [], ◌∷◌, ◌++◌, length, IfOk, IsOk, OnOk, OnErr, IfSome};
+ghost use Rattle.std.specs.List.{Contains, flat_map};
+ghost use Rattle.vz_ids.specs.declared.LocalSurfaceId.{LocalSurfaceId};
+ghost use Rattle.vz_ids.specs.declared.Sub.{Sub};
+ghost use Rattle.vz_frame.specs.declared.frame.CompositorFrame.{CompositorFrame};
+ghost use Rattle.vz_rules.specs.Plan.{Plan};
+ghost use Rattle.vz_rules.specs.World.{World, Client, Created, Submission, opening, sub_of};
+ghost use Rattle.vz_rules.specs.Messages.{accepted, in_use, taking, reclaim};
+ghost use Rattle.vz_rules.specs.Returns.{returned_in, give_back};
+ghost use Rattle.vz_rules.specs.Singly.{rising, going};
+ghost use Rattle.vz_rules.specs.Log.{rest_in};
+ghost use Rattle.vz_rules.specs.Kept.{KeepsAlways};
+ghost use Rattle.vz_returns.specs.Holding.{held};
+ghost use Rattle.vz_lending.specs.Lent.{Lent, AreLent, IsLender, IsOf, NoneReleased, HasRoom, HasPlaces, AreRoomier, resources_out};
+ghost use Rattle.vz_lending.specs.Changes.{IsAccepted, IsRising, IsGoing, IsDrawn, IsDone};
+
+use crate::lender::Lender;
+use std::alloc::Global;
+use std::marker::Model;
+use vz_base::Memory;
+use vz_frame::{Listing, Room};
+use vz_rules::Returned;
+
+/// The references that clients lent, and those released since the last giving back. Contracts
+/// see a record for each client, by number: what it lent, what is released, and the room that was
+/// made before. Only `new`, `ready` and `ready_to_draw` take memory, and `make_room` for its list.
+#[derive(Drop)]
+pub struct Lending {
+    lenders: Vec<Lender>,
+}
+
+impl Model for Lending {
+    ghost use Rattle.std.specs.Prelude.{List as Row};
+    ghost use Rattle.vz_lending.specs.Lent.{Lent};
+
+    ghost Value = { Row Lent };
+
+    ghost view = { λ a. a.lenders.items };
+}
+
+impl Lending {
+    /// Clients of the numbers from 1 to this one have lent nothing. Memory is the only error.
+    pub fn new(alloc: Global, clients: u32) -> Result<Lending, Memory>
+        ensures lent { IfOk result (λ l. (p : Plan) → length p.files ≡ clients
+            → AreLent (opening p) l) }
+        ensures released { IfOk result NoneReleased }
+    {
+        let mut lenders = Vec::with_capacity(alloc, clients as usize)?;
+        for k in 0..clients {
+            lenders.push_reserved(Lender::new(alloc, k + 1));
+        }
+        Ok(Lending { lenders })
+    }
+
+    /// Makes room for the next submission of a client with so many listings: for the resources that
+    /// it lends, and for the release of their references. Memory is the only error, and where nothing
+    /// is released and there is the room it answers Ok. Nothing else changes in any case, and no
+    /// room is lost.
+    pub fn ready(&mut self, client: u32, listings: usize) -> Result<(), Memory>
+        requires known { IsLender client self.old }
+        ensures room { OnOk result (HasRoom listings client self.new) }
+        ensures succeeds { NoneReleased self.old → HasRoom listings client self.old
+            → IsOk result }
+        ensures same { AreRoomier self.old self.new }
+        ensures lent { (w : World) → AreLent w self.old → AreLent w self.new }
+        ensures released { NoneReleased self.old → NoneReleased self.new }
+        ensures out { resources_out self.new ≡ resources_out self.old }
+    {
+        self.lenders[client as usize - 1].ready(listings)
+    }
+
+    /// Makes room for a drawn frame with so many listings in all. Memory is the only error. Nothing
+    /// else changes in any case, and no room is lost.
+    pub fn ready_to_draw(&mut self, listings: usize) -> Result<(), Memory>
+        ensures room { OnOk result ((client : ℕ) → HasPlaces listings client self.new) }
+        ensures same { AreRoomier self.old self.new }
+        ensures lent { (w : World) → AreLent w self.old → AreLent w self.new }
+        ensures released { NoneReleased self.old → NoneReleased self.new }
+        ensures out { resources_out self.new ≡ resources_out self.old }
+    {
+        make_places(&mut self.lenders, listings)
+    }
+
+    /// Makes room in `out` for a return of each resource of which some reference is alive, and for
+    /// so many more. Memory is the only error, and then nothing changes.
+    pub fn make_room(&self, more: usize, out: &mut Room<Returned>) -> Result<(), Memory>
+        ensures ok { OnOk result (resources_out self.now + more ≤ out.new.spare) }
+        ensures list { out.new.list ≡ out.old.list }
+        ensures err { OnErr result (out.new ≡ out.old) }
+    {
+        match count_out(&self.lenders, more) {
+            Some(places) => out.reserve(places),
+            None => Err(Memory),
+        }
+    }
+
+    /// Whether an upload of a resource is refused, as a reference of it was lent that the client
+    /// has not taken back.
+    pub fn in_use(&self, client: u32, id: u32) -> bool
+        requires known { IsLender client self.now }
+        ensures { (w : World) (c : Client) → KeepsAlways w → Contains w.clients c
+            → c.number ≡ client → NoneReleased self.now → AreLent w self.now
+            → result ≡ in_use c.resources id }
+    {
+        self.lenders[client as usize - 1].in_use(id)
+    }
+
+    /// A submission of a client is accepted: each resource that it lists is lent once more, and
+    /// those of the one that it replaces are released; `replaced` is empty where there is none.
+    /// Conditions: a client that is not closed may submit it, nothing is released before it, and
+    /// there is room for its listings.
+    pub fn accepted(&mut self, client: u32, listings: &[Listing], replaced: &[Listing])
+        requires known { IsLender client self.old }
+        requires accepted { (p : Plan) × (w : World) × (c : Client) × (local : LocalSurfaceId)
+            × (frame : CompositorFrame)
+            × IsAccepted p w c local frame client listings.now replaced.now self.old }
+        requires room { HasRoom (length listings.now) client self.old }
+        ensures lent { (p : Plan) (w : World) (c : Client) (local : LocalSurfaceId)
+            (frame : CompositorFrame)
+            → IsAccepted p w c local frame client listings.now replaced.now self.old
+            → AreLent (accepted w c local frame).world self.new }
+        ensures out { resources_out self.new ≤ resources_out self.old + length listings.now }
+    {
+        self.lenders[client as usize - 1].accept(listings, replaced);
+    }
+
+    /// A submission that waits becomes active: the resources of the active one of its surface are
+    /// released. Condition: these are the listings of that one, none where there is none.
+    pub fn past(&mut self, client: u32, listings: &[Listing])
+        requires known { IsLender client self.old }
+        requires rises { (w : World) × (s : Submission)
+            × IsRising w s client listings.now self.old }
+        ensures lent { (w : World) (s : Submission) → IsRising w s client listings.now self.old
+            → AreLent (rising s w) self.new }
+        ensures out { resources_out self.new ≡ resources_out self.old }
+    {
+        self.lenders[client as usize - 1].release_all(listings);
+    }
+
+    /// A surface is destroyed: the resources of its waiting and of its active submission are
+    /// released. Condition: these are the listings of the two, none where there is none.
+    pub fn dropped(&mut self, client: u32, waiting: &[Listing], active: &[Listing])
+        requires known { IsLender client self.old }
+        requires goes { (w : World) × (d : Created)
+            × IsGoing w d client waiting.now active.now self.old }
+        ensures lent { (w : World) (d : Created)
+            → IsGoing w d client waiting.now active.now self.old
+            → AreLent (going d w) self.new }
+        ensures out { resources_out self.new ≡ resources_out self.old }
+    {
+        self.lenders[client as usize - 1].drop_all(waiting, active);
+    }
+
+    /// An active submission is in a drawn frame: it holds its resources once more. Conditions: it
+    /// is not among those of the frame so far, nothing is released, and there are places for its
+    /// listings.
+    pub fn drawn(&mut self, client: u32, listings: &[Listing])
+        requires known { IsLender client self.old }
+        requires drawn { (p : Plan) × (w : World) × (before : List Sub) × (s : Submission)
+            × IsDrawn p w before s client listings.now self.old }
+        requires room { HasPlaces (length listings.now) client self.old }
+        ensures lent { (p : Plan) (w : World) (before : List Sub) (s : Submission)
+            → IsDrawn p w before s client listings.now self.old
+            → AreLent (record w { in_flight = Some (before ++ sub_of s ∷ []) }) self.new }
+        ensures released { NoneReleased self.old → NoneReleased self.new }
+        ensures places { (n : ℕ) (q : ℕ) → HasPlaces (n + length listings.now) q self.old
+            → HasPlaces n q self.new }
+        ensures out { resources_out self.new ≡ resources_out self.old }
+    {
+        self.lenders[client as usize - 1].hold_all(listings);
+    }
+
+    /// The drawn frame is done: the resources of the first submission in it are released, which is
+    /// in it no more. Condition: these are its listings.
+    pub fn landed(&mut self, client: u32, listings: &[Listing])
+        requires known { IsLender client self.old }
+        requires done { (w : World) × (s : Submission) × (others : List Sub)
+            × IsDone w s others client listings.now self.old }
+        ensures lent { (w : World) (s : Submission) (others : List Sub)
+            → IsDone w s others client listings.now self.old
+            → AreLent (record w { in_flight = Some others }) self.new }
+        ensures out { resources_out self.new ≡ resources_out self.old }
+    {
+        self.lenders[client as usize - 1].release_all(listings);
+    }
+
+    /// Gives back what was released: each resource of which no reference is alive any more goes
+    /// back with all that were received, by client and rising id. Conditions: it stands for a state
+    /// in which what always holds is kept, and `out` has room for each resource of which some
+    /// reference was alive.
+    pub fn give_back(&mut self, out: &mut Room<Returned>)
+        requires stands { (w : World) × KeepsAlways w × AreLent w self.old }
+        requires room { resources_out self.old ≤ out.old.spare }
+        ensures returned { (w : World) → KeepsAlways w → AreLent w self.old
+            → out.new.list ≡ out.old.list ++ returned_in w }
+        ensures lent { (w : World) → KeepsAlways w → AreLent w self.old
+            → AreLent (give_back w) self.new }
+        ensures released { NoneReleased self.new }
+        ensures out { resources_out self.new ≤ resources_out self.old }
+    {
+        give_back_each(&mut self.lenders, out);
+    }
+
+    /// How many returns are in a client's queue.
+    pub fn queued(&self, client: u32) -> usize
+        requires known { IsLender client self.now }
+        ensures own { (l : Lent) → IsOf client self.now l → result ≡ length l.holding.queue }
+        ensures queue { (w : World) (c : Client) → KeepsAlways w → Contains w.clients c
+            → c.number ≡ client → AreLent w self.now → result ≡ length c.queue }
+    {
+        self.lenders[client as usize - 1].queued()
+    }
+
+    /// Appends the queue of a client, and empties it. Condition: `out` has room for all in it.
+    pub fn reclaim(&mut self, client: u32, out: &mut Room<Returned>)
+        requires known { IsLender client self.old }
+        requires room { (l : Lent) → IsOf client self.old l
+            → length l.holding.queue ≤ out.old.spare }
+        ensures returned { (w : World) (c : Client) → KeepsAlways w → Contains w.clients c
+            → c.number ≡ client → AreLent w self.old
+            → out.new.list ≡ out.old.list ++ c.queue }
+        ensures lent { (w : World) (c : Client) → KeepsAlways w → Contains w.clients c
+            → c.number ≡ client → AreLent w self.old
+            → AreLent (taking reclaim c w) self.new }
+        ensures released { NoneReleased self.old → NoneReleased self.new }
+        ensures out { resources_out self.new ≡ resources_out self.old }
+    {
+        self.lenders[client as usize - 1].take(out);
+    }
+
+    /// Appends each resource of which some reference is alive, by client and rising id, with all
+    /// that were received. Condition: `out` has room for all.
+    pub fn held(&self, out: &mut Room<Returned>)
+        requires room { resources_out self.now ≤ out.old.spare }
+        ensures { (w : World) → KeepsAlways w → AreLent w self.now
+            → out.new.list ≡ out.old.list ++ (rest_in w).held }
+    {
+        put_held(&self.lenders, out);
+    }
+}
+
+/// How many resources have some reference that is alive, and so many more, if it can be counted.
+fn count_out(lenders: &[Lender], more: usize) -> Option<usize>
+    ensures { IfSome result (λ n. n ≡ resources_out lenders.now + more) }
+{
+    let mut places = more;
+    for lender in lenders {
+        match places.checked_add(lender.listed()) {
+            Some(all) => places = all,
+            None => return None,
+        }
+    }
+    Some(places)
+}
+
+/// Makes places for so many more references of each client. Memory is the only error.
+fn make_places(lenders: &mut [Lender], n: usize) -> Result<(), Memory>
+    ensures same { AreRoomier lenders.old lenders.new }
+    ensures room { OnOk result ((client : ℕ) → HasPlaces n client lenders.new) }
+{
+    for k in 0..lenders.len() {
+        lenders[k].make_places(n)?;
+    }
+    Ok(())
+}
+
+/// Gives back what each client's references give. Condition: `out` has room for each resource of
+/// which some reference was alive.
+fn give_back_each(lenders: &mut [Lender], out: &mut Room<Returned>)
+    requires stands { (w : World) × KeepsAlways w × AreLent w lenders.old }
+    requires room { resources_out lenders.old ≤ out.old.spare }
+    ensures returned { (w : World) → KeepsAlways w → AreLent w lenders.old
+        → out.new.list ≡ out.old.list ++ returned_in w }
+    ensures lent { (w : World) → KeepsAlways w → AreLent w lenders.old
+        → AreLent (give_back w) lenders.new }
+    ensures released { NoneReleased lenders.new }
+    ensures out { resources_out lenders.new ≤ resources_out lenders.old }
+{
+    for k in 0..lenders.len() {
+        lenders[k].give_back(out);
+    }
+}
+
+/// Appends each client's resources of which some reference is alive. Condition: `out` has room for
+/// all.
+fn put_held(lenders: &[Lender], out: &mut Room<Returned>)
+    requires room { resources_out lenders.now ≤ out.old.spare }
+    ensures out { out.new.list
+        ≡ out.old.list ++ flat_map (λ (l : Lent). held l.holding) lenders.now }
+{
+    for lender in lenders {
+        lender.held(out);
+    }
+}

@@ -1,0 +1,8 @@
+//! The references that all clients lent, for the fast machine.
+#![tactic(auto)]
+
+pub mod laws;
+mod lender;
+mod lending;
+
+pub use lending::Lending;
