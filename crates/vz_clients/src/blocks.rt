@@ -1,7 +1,6 @@
 //! The blocks that a client stored.
 ghost use Rattle.std.specs.Prelude.{◌≡◌, ◌++◌, [], Some, None, ◌<◌, nat_eq, IfOk, OnOk};
 ghost use Rattle.std.specs.List.{list_all};
-
 ghost use Rattle.std.specs.Option.{option_copied, option_to_list};
 ghost use Rattle.indexmap.specs.IndexMap.{insert_entry, spare as spare_of};
 ghost use Rattle.vz_clients.specs.Sent.{block_in, knows, blocks_in};
