@@ -1,0 +1,11 @@
+mod Owning
+mod Rising_one
+mod Rising_kept
+mod Accepting_kept
+mod Staying
+mod Naming_kept
+mod Ticking_kept
+mod Closing_kept
+mod New_surfaces
+mod Kept_new
+mod Going_kept

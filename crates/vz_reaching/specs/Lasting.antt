@@ -1,0 +1,53 @@
+-- Which surfaces last although nothing references them, and when what is kept of references is that of the machine's state.
+use Rattle.std.specs.Prelude.{◌≡◌, ◌+◌, Bool, false, not, ◌&&◌, ◌||◌, ◌⊎◌, nat_lt, IsTrue, Option, Some, None, List}
+use Rattle.std.specs.List.{Contains, list_any}
+use Rattle.vz_base.specs.declared.limits.TheConstants.{TEMPORARY_TICKS}
+use Rattle.vz_ids.specs.declared.SurfaceId.{SurfaceId}
+use Rattle.vz_ids.specs.Ids.{same_surface}
+use Rattle.vz_rules.specs.World.{World, Created, Submission, FrameData, is_waiting, is_active, active_frames}
+use Rattle.vz_rules.specs.Reach.{names, is_named_now, has_closed}
+use Rattle.vz_refs.specs.Referring.{Temporary}
+use Rattle.vz_refs.specs.Referring.{Referring, Ranged, is_set, ranges_of}
+use Rattle.vz_refs.specs.Meaning.{AreReferences}
+
+-- a surface is temporary, once what is named now is named: it exists, nothing named it, its client is not closed, and it is
+-- younger than the time of one
+unfoldable pub lasts : World → Created → Bool
+lasts w c = not c.destroyed && not (c.named || is_named_now w c.id) && not (has_closed w c.client) && nat_lt w.tick (c.born + TEMPORARY_TICKS)
+
+-- a surface is this one, if there is one
+abbrev pub is_one : Option SurfaceId → SurfaceId → Bool
+is_one None id = false
+is_one (Some new) id = same_surface new id
+
+-- a surface is kept as temporary
+abbrev pub has_kept : List Temporary → SurfaceId → Bool
+has_kept kept id = list_any (λ t. same_surface t.id id) kept
+
+-- a submission references a surface
+abbrev pub names_it : SurfaceId → Submission → Bool
+names_it id s = list_any (names id) s.submitted.frame.metadata.references
+
+-- what an active submission names is named, where another waits on its surface and may follow it; but for a new surface
+abbrev pub AreNoted : World → Option SurfaceId → Type 0
+AreNoted w but =
+    (s t : Submission) (c : Created) → Contains w.subs s → Contains w.subs t → Contains w.surfaces c → IsTrue (is_active s) → IsTrue (is_waiting t)
+    → IsTrue (same_surface s.submitted.id t.submitted.id) → IsTrue (names_it c.id s) → IsTrue c.named ⊎ IsTrue c.destroyed ⊎ IsTrue (is_one but c.id)
+
+-- each entry is the one that is found for its surface
+abbrev pub AreOwn : List Ranged → Type 0
+AreOwn sets = (s : Ranged) → Contains sets s → ranges_of sets s.id ≡ s.ranges
+
+-- a temporary surface that was created, and the tick up to which it lasts
+abbrev pub IsKeptFor : List Created → Temporary → Type 0
+IsKeptFor surfaces t = (c : Created) × Contains surfaces c × (c.id ≡ t.id) × (t.until ≡ c.born + TEMPORARY_TICKS)
+
+-- the references of active frames are set, and the temporary surfaces are those that last, but for a new surface that is to be kept still
+pub record AreKept (w : World) (but : Option SurfaceId) (r : Referring) : Type 0 where
+  pub sets : AreReferences w r.sets
+  pub own : AreOwn r.sets
+  pub all_set : (i : FrameData) → Contains (active_frames w.subs) i → IsTrue (is_set r.sets i.id)
+  pub lasting : (c : Created) → Contains w.surfaces c → is_one but c.id ≡ false → has_kept r.temporary c.id ≡ lasts w c
+  pub fresh : (c : Created) → Contains w.surfaces c → IsTrue (is_one but c.id) → has_kept r.temporary c.id ≡ false
+  pub known : (t : Temporary) → Contains r.temporary t → IsKeptFor w.surfaces t
+  pub noted : AreNoted w but

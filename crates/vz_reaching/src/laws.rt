@@ -1,0 +1,103 @@
+//! Laws of what is kept, each the contract of a function that does nothing: what is set and what is
+//! temporary changes as the machine's state does.
+ghost use Rattle.std.specs.Prelude.{◌≡◌, ℕ, ◌+◌, Bool, not, ◌&&◌, true, false, Option, Some, None, IsTrue, IsFalse, List, []};
+ghost use Rattle.std.specs.List.{Contains};
+ghost use Rattle.vz_base.specs.declared.limits.TheConstants.{TEMPORARY_TICKS};
+ghost use Rattle.vz_ids.specs.declared.SurfaceId.{SurfaceId};
+ghost use Rattle.vz_ids.specs.declared.LocalSurfaceId.{LocalSurfaceId};
+ghost use Rattle.vz_frame.specs.declared.frame.CompositorFrame.{CompositorFrame};
+ghost use Rattle.vz_frame.specs.declared.message.Message.TheVariants.{Close};
+ghost use Rattle.vz_rules.specs.Plan.{Plan};
+ghost use Rattle.vz_rules.specs.World.{World, Client, Created, Submission, opening, client_at, is_waiting, last_created};
+ghost use Rattle.vz_rules.specs.Kept.{Keeps, KeepsAlways};
+ghost use Rattle.vz_rules.specs.Messages.{accepted, id_of, is_last, violates, taking, message_answer};
+ghost use Rattle.vz_rules.specs.Reach.{naming, has_closed, is_named_now};
+ghost use Rattle.vz_rules.specs.Returns.{give_back};
+ghost use Rattle.vz_rules.specs.Singly.{rising, going};
+ghost use Rattle.vz_rules.specs.Step.{begin_answer, next_tick};
+ghost use Rattle.vz_refs.specs.Referring.{Referring, setting, removing, keeping, unnamed, lasting, of_others};
+ghost use Rattle.vz_reaching.specs.Lasting.{has_kept, AreKept};
+
+/// What is kept is that of the opening state where nothing is set and nothing is temporary.
+pub fn nothing_is_kept()
+    ensures { (p : Plan) (r : Referring) → r.sets ≡ [] → r.temporary ≡ []
+        → AreKept (opening p) None r }
+{}
+
+/// A submission becomes active: its ranges are set, and what they name is temporary no longer.
+pub fn ranges_follow()
+    ensures { (w : World) (but : Option SurfaceId) (s : Submission) (r : Referring) → KeepsAlways w
+        → Contains w.subs s → IsTrue (is_waiting s) → AreKept w but r
+        → AreKept (rising s w) but (record r {
+          sets = setting s.submitted.id s.submitted.frame.metadata.references r.sets;
+          temporary = unnamed s.submitted.frame.metadata.references r.temporary;
+        }) }
+{}
+
+/// These changes of the machine's state are none for what is kept: whatever leaves the submissions,
+/// the surfaces, the tick and which clients are closed.
+pub fn kept_ones_stay()
+    ensures same { (w v : World) (but : Option SurfaceId) (r : Referring) → v.subs ≡ w.subs
+        → v.surfaces ≡ w.surfaces → v.tick ≡ w.tick
+        → ((c : ℕ) → has_closed v c ≡ has_closed w c) → AreKept w but r → AreKept v but r }
+    ensures clients { (w : World) (but : Option SurfaceId) (r : Referring) (f : Client → Client)
+        (c : Client) → ((x : Client) → (f x).number ≡ x.number)
+        → ((x : Client) → (f x).closed ≡ x.closed) → AreKept w but r
+        → AreKept (taking f c w) but r }
+    ensures returns { (w : World) (but : Option SurfaceId) (r : Referring) → AreKept w but r
+        → AreKept (give_back w) but r }
+{}
+
+/// What is named now is named: nothing changes of what is kept.
+pub fn names_are_noted()
+    ensures { (w : World) (but : Option SurfaceId) (r : Referring) → AreKept w but r
+        → AreKept (naming w) but r }
+{}
+
+/// A begin-frame ends the temporary surfaces that last no longer than its tick.
+pub fn ticks_end_some()
+    ensures { (p : Plan) (w : World) (but : Option SurfaceId) (r : Referring) → KeepsAlways w
+        → AreKept w but r → AreKept (begin_answer p w).world but
+        (record r { temporary = lasting (next_tick w.tick) r.temporary }) }
+{}
+
+/// A client is closed: none of its surfaces is temporary any longer.
+pub fn closed_clients_keep_none()
+    ensures { (w : World) (c : Client) (r : Referring) → KeepsAlways w → Contains w.clients c
+        → AreKept w None r → AreKept (message_answer w c Close).world None
+        (record r { temporary = of_others c.sink r.temporary }) }
+{}
+
+/// A submission is accepted: where it creates a surface, this one is to be kept still, when all that
+/// follows became active; where it creates none, nothing changes.
+pub fn new_surfaces_follow()
+    ensures created { (w : World) (c : Client) (local : LocalSurfaceId) (frame : CompositorFrame)
+        (r : Referring) → Keeps w → Contains w.clients c → AreKept w None r
+        → violates (last_created w c.number) local ≡ false
+        → is_last (last_created w c.number) local ≡ false
+        → AreKept (accepted w c local frame).world (Some (id_of c local)) r }
+    ensures accepted { (w : World) (c : Client) (local : LocalSurfaceId) (frame : CompositorFrame)
+        (r : Referring) → Keeps w → Contains w.clients c → AreKept w None r
+        → is_last (last_created w c.number) local ≡ true
+        → AreKept (accepted w c local frame).world None r }
+{}
+
+/// When all that follows became active, and what is named now is named, a new surface becomes
+/// temporary, unless a range that is set names it.
+pub fn new_surfaces_last()
+    ensures { (w : World) (c : Created) (r : Referring) → KeepsAlways w → naming w ≡ w
+        → Contains w.surfaces c → c.born ≡ w.tick → c.destroyed ≡ false
+        → has_closed w c.client ≡ false → (c.named ≡ true → is_named_now w c.id ≡ true)
+        → AreKept w (Some c.id) r → AreKept w None (record r {
+          temporary = keeping r.sets c.id (w.tick + TEMPORARY_TICKS) r.temporary;
+        }) }
+{}
+
+/// A surface is destroyed that is not temporary, where what is named now is named: nothing is set for
+/// it any longer, and what is named now is still named.
+pub fn destroyed_surfaces_go()
+    ensures { (w : World) (d : Created) (r : Referring) → naming w ≡ w
+        → has_kept r.temporary d.id ≡ false → AreKept w None r
+        → AreKept (going d w) None (record r { sets = removing d.id r.sets })
+        × (naming (going d w) ≡ going d w) }
+{}
