@@ -25,6 +25,7 @@ use Rattle.vz_rules.proofs.Traces.{SkipsZero, trace_shown, laid_zero}
 use Rattle.vz_rules.proofs.Same.{same_shows, HasParts, IsSeen, root_same}
 use Rattle.vz_rules.proofs.Agree.{embeds_skips, laid_same}
 use Rattle.vz_rules.proofs.Geometry.{same_point}
+use Rattle.vz_rules.proofs.Levels.{Shallow, or_first, or_second, shallow_parts, not_deep, choose, walked_shallow}
 
 -- what a range does, and where the path ends here nothing of a surface
 unfoldable pub embeds_until : Bool → Content → List FrameData → List SurfaceId → Embedding
@@ -59,33 +60,6 @@ until_skips ends content active path range b l d =
             | false ↦ laid_zero (content_at content path b i l transparent) d
           ]
     ]
-
--- none of these goes too deep
-abbrev Shallow : List Visit → Type 0
-Shallow ms = list_any is_deep ms ≡ false
-
-or_first : (a b : Bool) → (a || b) ≡ false → a ≡ false
-or_first true b h = h
-or_first false b h = refl
-
-or_second : (a b : Bool) → (a || b) ≡ false → b ≡ false
-or_second true b h = absurd (cc)
-or_second false b h = h
-
-shallow_parts : HasParts Shallow
-shallow_parts =
-    record {
-      tail = λ m ms h. or_second (is_deep m) (list_any is_deep ms) h;
-      front = λ ms ns h. or_first (list_any is_deep ms) (list_any is_deep ns) (sym (list_any-append is_deep ms ns) ∙ h);
-      back = λ ms ns h. or_second (list_any is_deep ms) (list_any is_deep ns) (sym (list_any-append is_deep ms ns) ∙ h);
-    }
-
-not_deep : (n : ℕ) → nat_lt 64 n ≡ false → n ≤ 64
-not_deep n h = grind (arith, nat_tests)
-
-choose : (t : Bool) (x y z : Colour) → x ≡ y → ◌≡◌ {A = Colour} (elim t [ true ↦ x | false ↦ z ]) (elim t [ true ↦ y | false ↦ z ])
-choose true x y z e = e
-choose false x y z e = refl
 
 module _ (active : List FrameData) (P : Point) where
   -- the n levels of the whole painting and these m are enough behind a path, and do the same
@@ -158,20 +132,6 @@ module _ (active : List FrameData) (P : Point) where
       (root_same e f Shallow shallow_parts (range_walked (walk n active) active (i.id ∷ path)) P
       (ranges_levels n m (same_levels n m) (i.id ∷ path) (omega arith) (omega arith)) i (passes_down i.frame) l place seen shallow) d
       ∙ sym (trace_shown f (until_skips (m == 0) (pix_until m active) active (i.id ∷ path)) i l d))
-
-walked_by : (size : Size) (scene : Scene) (s : Option FrameData) (i : FrameData) → s ≡ Some i
-    → (nat_lt 65536 (weight (elim s [ None ↦ [] | Some j ↦ Enters 1 j (whole size) ∷ walk levels scene.active [] j (whole size) ]))
-    || list_any is_deep (elim s [ None ↦ [] | Some j ↦ Enters 1 j (whole size) ∷ walk levels scene.active [] j (whole size) ])) ≡ false
-    → Shallow (walk levels scene.active [] i (whole size))
-walked_by size scene s i e h =
-    let deep : list_any is_deep (Enters 1 i (whole size) ∷ walk levels scene.active [] i (whole size)) ≡ false = or_second _ _
-    (rw e at h) in
-    or_second (nat_lt 64 1) _ deep
-
-walked_shallow : (size : Size) (scene : Scene) (i : FrameData) → frame_on scene.root scene.active ≡ Some i
-    → too_much (walk_of size scene) ≡ false → Shallow (walk levels scene.active [] i (whole size))
-unfolding walk_of too_much
-walked_shallow size scene i e h = walked_by size scene (frame_on scene.root scene.active) i e h
 
 -- at a point of the display 64 levels are enough, where a drawing is not too much
 pub enough_levels : (size : Size) (scene : Scene) (i : FrameData) (p : Point) (d : Colour) → frame_on scene.root scene.active ≡ Some i

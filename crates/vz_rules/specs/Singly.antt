@@ -1,5 +1,7 @@
 -- A round and a collection, one submission and one surface after another.
-use Rattle.std.specs.Prelude.{true, ◌&&◌, List, [], ◌∷◌, map, if◌then◌else◌}
+use Rattle.std.specs.Prelude.{true, ◌&&◌, List, [], ◌∷◌, map, if◌then◌else◌, IsTrue}
+use Rattle.std.specs.List.{Contains}
+use Rattle.vz_ids.specs.declared.SurfaceId.{SurfaceId}
 use Rattle.vz_ids.specs.Ids.{same_surface, same_sub}
 use Rattle.vz_rules.specs.World.{World, Submission, Created, is_active, is_on, sub_of}
 use Rattle.vz_rules.specs.Settle.{marked_by}
@@ -33,3 +35,7 @@ going c w = record w { surfaces = map (as_one_goes c) w.surfaces; subs = map (dr
 unfoldable pub all_going : List Created → World → World
 all_going [] w = w
 all_going (c ∷ cs) w = all_going cs (going c w)
+
+-- the surface of this id, where there is one, is marked
+abbrev pub IsMarked : World → SurfaceId → Type 0
+IsMarked w id = (s : Created) → Contains w.surfaces s → IsTrue (same_surface s.id id) → IsTrue s.marked

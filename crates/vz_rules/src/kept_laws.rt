@@ -23,7 +23,7 @@ ghost use Rattle.vz_rules.specs.Returns.{is_held, give_back, feed};
 ghost use Rattle.vz_rules.specs.Messages.{Answer, refused, taking, answer_tick, reclaim, upload_answer, hierarchy_answer, await_answer};
 ghost use Rattle.vz_rules.specs.Step.{answer_to, draw_answer, outcome_of, step_in, world, Legal};
 ghost use Rattle.vz_rules.specs.Log.{Spellable, rest_of};
-ghost use Rattle.vz_rules.specs.Singly.{all_rising, all_going};
+ghost use Rattle.vz_rules.specs.Singly.{rising, all_rising, going, all_going, IsMarked};
 ghost use Rattle.vz_rules.specs.declared.entry.Reply.TheVariants as reply;
 ghost use Rattle.vz_rules.specs.Ends.{landed, presenting};
 ghost use Rattle.vz_rules.specs.Kept.{Keeps, KeepsAlways, KeepsPlan, KeepsMessages, AreShort, HasSmallClient, IsSmallReturn, IsSmallResource, IsSmallSubmission, IsSmallSurface, count_of, is_open, no_effects, out_of};
@@ -257,4 +257,20 @@ pub fn changes_go_one_by_one()
     ensures clearing { (w : World) (cs : List Created) → KeepsAlways w → ((c : Created)
         → Contains cs c → Contains (lost_in w) c) → ((c : Created) → Contains (lost_in w) c
         → Contains cs c) → clearing w ≡ all_going cs w }
+{}
+
+/// Between the parts of a round and of a collection, which go one by one, what always holds is
+/// kept, so that calls may follow one another: as a submission that waits becomes active, where
+/// the others wait on, and as a marked surface is destroyed, where the others stay marked.
+pub fn single_changes_keep()
+    ensures rising { (w : World) (s : Submission) → KeepsAlways w → Contains w.subs s
+        → IsTrue (is_waiting s) → KeepsAlways (rising s w) }
+    ensures waits { (w : World) (s t : Submission) → Contains w.subs t → IsTrue (is_waiting t)
+        → IsFalse (same_sub (sub_of t) (sub_of s)) → Contains (rising s w).subs t }
+    ensures going { (w : World) (c : Created) → KeepsAlways w → IsMarked w c.id
+        → KeepsAlways (going c w) }
+    ensures marked { (w : World) (id : SurfaceId) (c : Created) → IsMarked w id
+        → IsMarked (going c w) id }
+    ensures lost { (w : World) (c : Created) → KeepsAlways w → Contains (lost_in w) c
+        → IsMarked w c.id }
 {}

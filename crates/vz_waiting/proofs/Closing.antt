@@ -23,7 +23,8 @@ use Rattle.vz_deps.proofs.Rounds.{close_meets, round_meets}
 use Rattle.vz_deadlines.specs.Timing.{due_of}
 use Rattle.vz_waiting.specs.Awaiting.{Waits, AreWaiting}
 use Rattle.vz_waiting.specs.Leaving.{due_without}
-use Rattle.vz_waiting.proofs.Lists.{apart, filter_alike, filter_changed}
+use Rattle.vz_rules.proofs.Kept_singly.{active_waits_not, apart}
+use Rattle.vz_waiting.proofs.Lists.{filter_alike, filter_changed}
 use Rattle.vz_waiting.proofs.Standing.{Stand, comes, stays, stand_of, waiting_from, stand_alike, ready_comes}
 use Rattle.vz_waiting.proofs.Meeting.{met_then, rises, all_then, frees, leaves, clears}
 
@@ -95,15 +96,6 @@ ready_closed w c sink old h at none r is =
     ∙ ap (map sub_of) ((λ i. filter (comes (sym (met_closed w c sink h at is) i) w.tick) w.subs) ∙ sym (ready_comes v)))
 
 -- A round
-
-pub active_waits_not : (s : Submission) → is_active s ≡ true → is_waiting s ≡ false
-active_waits_not s e = by_state s.state e
-  where
-    by_state : (x : State) → ◌≡◌ {A = Bool} (elim x [ Active ↦ true | _ ↦ false ]) true → ◌≡◌ {A = Bool} (elim x [ Waiting ↦ true | _ ↦ false ]) false
-    by_state Waiting e = absurd (cc)
-    by_state Active e = refl
-    by_state Past e = refl
-    by_state Dropped e = refl
 
 came : (a m n d : Bool) → (m ≡ true → n ≡ true) → (a && (m || d)) ≡ true → false ≡ (a && not (n || d))
 came true true true d h e = refl

@@ -7,4 +7,3 @@ mod Closing
 mod Ticking
 mod Arriving
 mod Without
-mod One_by_one

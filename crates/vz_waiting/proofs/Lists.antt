@@ -5,9 +5,8 @@ use Rattle.std.proofs.lemmas.Bool.{eq-eqb}
 use Rattle.vz_ids.specs.declared.Sub.{Sub}
 use Rattle.vz_ids.specs.Ids.{same_sub}
 use Rattle.vz_rules.specs.World.{World, Submission, sub_of, has_sub}
-use Rattle.vz_rules.specs.Kept.{KeepsAlways}
 use Rattle.vz_rules.proofs.Members.{contains_here, contains_there, contains_map, map_contains, contains_at, at_same, filter_at, filter_has, any_at, any_from, same_tests}
-use Rattle.vz_rules.proofs.Kept_facts.{subs_apart}
+use Rattle.vz_rules.proofs.Kept_singly.{Apart, own_sub}
 
 -- tests that say the same of each
 pub filter_alike : {A : Type 0} (p q : A → Bool) (xs : List A) → ((x : A) → Contains xs x → p x ≡ q x) → filter p xs ≡ filter q xs
@@ -77,19 +76,6 @@ all_left p (x ∷ xs) e =
     ] e
 
 -- Names
-
--- no two have one name
-abbrev pub Apart : List Submission → Type 0
-Apart subs = (s t : Submission) → Contains subs s → Contains subs t → same_sub (sub_of s) (sub_of t) ≡ true → s ≡ t
-
-pub apart : (w : World) → KeepsAlways w → Apart w.subs
-apart w h s t c d e =
-    let n = contains_at w.subs s c in
-    let m = contains_at w.subs t d in
-    at_same w.subs n.0 m.0 s t n.1 m.1 (subs_apart w n.0 m.0 s t h n.1 m.1 e)
-
-pub own_sub : (s : Sub) → same_sub s s ≡ true
-own_sub s = ap (λ (b : Bool). b && (s.ordinal == s.ordinal)) (eq-eqb s.client s.client refl) ∙ eq-eqb s.ordinal s.ordinal refl
 
 -- a name is one of those that pass where its own submission passes
 pub named_is : (q : Submission → Bool) (subs : List Submission) (s : Submission) → Apart subs → Contains subs s → has_sub (map sub_of (filter q subs)) (sub_of s) ≡ q s

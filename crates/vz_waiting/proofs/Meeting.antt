@@ -9,7 +9,8 @@ use Rattle.vz_deps.specs.Blocking.{dependencies_of, lacks_in, blocked_of, blocke
 use Rattle.vz_deps.proofs.Rounds.{frees_more, still_more}
 use Rattle.vz_deadlines.specs.Timing.{due_of}
 use Rattle.vz_waiting.specs.Leaving.{due_without}
-use Rattle.vz_waiting.proofs.Lists.{Apart, named_is, filter_twice}
+use Rattle.vz_rules.proofs.Kept_singly.{Apart}
+use Rattle.vz_waiting.proofs.Lists.{named_is, filter_twice}
 use Rattle.vz_waiting.proofs.Standing.{comes, stays}
 use Rattle.vz_waiting.proofs.Removing.{due_less}
 

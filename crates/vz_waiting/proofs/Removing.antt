@@ -19,7 +19,8 @@ use Rattle.vz_deadlines.specs.declared.due.Due.{Due}
 use Rattle.vz_deadlines.specs.Timing.{due_of}
 use Rattle.vz_waiting.specs.Awaiting.{Waits, AreWaiting, waiting_on}
 use Rattle.vz_waiting.specs.Leaving.{blocked_without, due_without}
-use Rattle.vz_waiting.proofs.Lists.{apart, own_sub, filter_alike, filter_twice, filter_mapped, filter_changed}
+use Rattle.vz_rules.proofs.Kept_singly.{apart, own_sub}
+use Rattle.vz_waiting.proofs.Lists.{filter_alike, filter_twice, filter_mapped, filter_changed}
 use Rattle.vz_waiting.proofs.Standing.{Stand, stays, stand_of, waiting_from, stand_alike}
 use Rattle.vz_waiting.proofs.Unchanged.{LeavesActive, met_by, met_is, met_alike, map_same}
 

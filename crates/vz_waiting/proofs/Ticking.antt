@@ -19,7 +19,8 @@ use Rattle.vz_deadlines.specs.declared.due.Due.{Due}
 use Rattle.vz_deadlines.specs.Timing.{due_at, left_at, due_of}
 use Rattle.vz_waiting.specs.Awaiting.{Waits, AreWaiting}
 use Rattle.vz_waiting.specs.Leaving.{blocked_without}
-use Rattle.vz_waiting.proofs.Lists.{apart, named_is, filter_alike, filter_twice, filter_mapped, both_lengths}
+use Rattle.vz_rules.proofs.Kept_singly.{apart}
+use Rattle.vz_waiting.proofs.Lists.{named_is, filter_alike, filter_twice, filter_mapped, both_lengths}
 use Rattle.vz_waiting.proofs.Standing.{Stand, comes, stays, stand_of, waiting_from, stand_alike, ready_comes}
 use Rattle.vz_waiting.proofs.Unchanged.{ClosesNone, met_is, met_of_clients}
 use Rattle.vz_waiting.proofs.Removing.{blocked_less}

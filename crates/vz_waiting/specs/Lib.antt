@@ -1,3 +1,2 @@
 pub mod Awaiting
 pub mod Leaving
-pub mod Single

@@ -18,7 +18,6 @@ ghost use Rattle.vz_rules.specs.Singly.{rising, going};
 ghost use Rattle.vz_rules.specs.Step.{draw_answer, done_answer};
 ghost use Rattle.vz_rules.specs.Kept.{KeepsAlways};
 ghost use Rattle.vz_waiting.specs.Awaiting.{Waits, AreWaiting, is_among};
-ghost use Rattle.vz_waiting.specs.Single.{IsMarked};
 
 /// No other change of the machine's state changes which submissions wait: a message that closes
 /// no client, as it changes neither a client's sink nor whether it is closed, names, returns,
@@ -63,20 +62,4 @@ pub fn arrivals_are_new()
     ensures { (w : World) (c : Client) (local : LocalSurfaceId) (frame : CompositorFrame)
         (a : Waits) → KeepsAlways w → AreWaiting w a
         → IsFalse (is_among a (sub_of (new_submission w c local frame))) }
-{}
-
-/// Between the parts of a round and of a collection, which go one by one, what always holds is
-/// kept, so that calls may follow one another: as a submission that waits becomes active, where
-/// the others wait on, and as a marked surface is destroyed, where the others stay marked.
-pub fn single_changes_keep()
-    ensures rising { (w : World) (s : Submission) → KeepsAlways w → Contains w.subs s
-        → IsTrue (is_waiting s) → KeepsAlways (rising s w) }
-    ensures waits { (w : World) (s t : Submission) → Contains w.subs t → IsTrue (is_waiting t)
-        → IsFalse (same_sub (sub_of t) (sub_of s)) → Contains (rising s w).subs t }
-    ensures going { (w : World) (c : Created) → KeepsAlways w → IsMarked w c.id
-        → KeepsAlways (going c w) }
-    ensures marked { (w : World) (id : SurfaceId) (c : Created) → IsMarked w id
-        → IsMarked (going c w) id }
-    ensures lost { (w : World) (c : Created) → KeepsAlways w → Contains (lost_in w) c
-        → IsMarked w c.id }
 {}

@@ -1,14 +1,16 @@
 -- What a world keeps all the time, as one submission becomes active or one surface is destroyed.
 use Rattle.std.proofs.Common.{◌≡◌, Bool, true, false, not, ◌&&◌, ◌||◌, ◌==◌, inl, inr, List, [], ◌∷◌, map, filter, refl, ap, sym, ◌∙◌, cond, subst, Contains}
 use Rattle.std.specs.List.{list_any}
-use Rattle.std.proofs.lemmas.Bool.{and_parts, and_from, or_left, both_ways, false_from_ne_true}
+use Rattle.std.proofs.lemmas.Bool.{eq-eqb, and_parts, and_from, or_left, both_ways, false_from_ne_true}
 use Rattle.vz_ids.specs.declared.SurfaceId.{SurfaceId}
+use Rattle.vz_ids.specs.declared.Sub.{Sub}
 use Rattle.vz_ids.specs.Ids.{same_surface, same_sub}
-use Rattle.vz_rules.specs.declared.entry.State.TheVariants.{Active, Past}
+use Rattle.vz_rules.specs.declared.entry.State.{State}
+use Rattle.vz_rules.specs.declared.entry.State.TheVariants.{Waiting, Active, Past, Dropped}
 use Rattle.vz_rules.specs.World.{World, Created, Submission, is_waiting, is_active, is_on, sub_of}
 use Rattle.vz_rules.specs.Settle.{after_round, is_before, marked_by}
 use Rattle.vz_rules.specs.Reach.{has_id, reach, is_lost, drop_on, lost_in}
-use Rattle.vz_rules.specs.Singly.{as_one_rises, rising, as_one_goes, going}
+use Rattle.vz_rules.specs.Singly.{as_one_rises, rising, as_one_goes, going, IsMarked}
 use Rattle.vz_rules.specs.Kept.{KeepsAlways, KeepsStates, IsCreated, is_open}
 use Rattle.vz_rules.proofs.Reached.{from_same, self_same}
 use Rattle.vz_rules.proofs.Members.{any_at, any_from, at_contains, at_same, contains_at, contains_map, contains_cases, contains_none, filter_at, filter_has, map_contains, same_tests, when_same}
@@ -19,11 +21,32 @@ use Rattle.vz_rules.proofs.Kept_stays.{IsSafe, last_unmarked}
 use Rattle.vz_rules.proofs.Kept_accepted.{flight_keeps}
 use Rattle.vz_rules.proofs.Kept_rounds.{map_alike}
 use Rattle.vz_rules.proofs.Kept_clears.{drops, open_unlost}
-use Rattle.vz_rules.proofs.Kept_facts.{surfaces_apart}
+use Rattle.vz_rules.proofs.Kept_facts.{surfaces_apart, subs_apart}
 use Rattle.vz_rules.proofs.Kept_worlds.{always_parts, stands_at, stands_from, stands_map, holds_from}
-use Rattle.vz_waiting.specs.Single.{IsMarked}
-use Rattle.vz_waiting.proofs.Closing.{active_waits_not}
-use Rattle.vz_waiting.proofs.Lists.{apart, own_sub}
+
+-- Names and states
+
+-- no two have one name
+abbrev pub Apart : List Submission → Type 0
+Apart subs = (s t : Submission) → Contains subs s → Contains subs t → same_sub (sub_of s) (sub_of t) ≡ true → s ≡ t
+
+pub apart : (w : World) → KeepsAlways w → Apart w.subs
+apart w h s t c d e =
+    let n = contains_at w.subs s c in
+    let m = contains_at w.subs t d in
+    at_same w.subs n.0 m.0 s t n.1 m.1 (subs_apart w n.0 m.0 s t h n.1 m.1 e)
+
+pub own_sub : (s : Sub) → same_sub s s ≡ true
+own_sub s = ap (λ (b : Bool). b && (s.ordinal == s.ordinal)) (eq-eqb s.client s.client refl) ∙ eq-eqb s.ordinal s.ordinal refl
+
+pub active_waits_not : (s : Submission) → is_active s ≡ true → is_waiting s ≡ false
+active_waits_not s e = by_state s.state e
+  where
+    by_state : (x : State) → ◌≡◌ {A = Bool} (elim x [ Active ↦ true | _ ↦ false ]) true → ◌≡◌ {A = Bool} (elim x [ Waiting ↦ true | _ ↦ false ]) false
+    by_state Waiting e = absurd (cc)
+    by_state Active e = refl
+    by_state Past e = refl
+    by_state Dropped e = refl
 
 -- A surface is destroyed
 

@@ -1,5 +1,5 @@
-use Rattle.vz_waiting.proofs.One_by_one.{always_rising, others_wait, always_going, marked_on, lost_marked}
-use Rattle.vz_waiting.proofs.laws.single_changes_keep.Goals as goal
+use Rattle.vz_rules.proofs.Kept_singly.{always_rising, others_wait, always_going, marked_on, lost_marked}
+use Rattle.vz_rules.proofs.kept_laws.single_changes_keep.Goals as goal
 
 pub returns : goal.returns
 returns c =
