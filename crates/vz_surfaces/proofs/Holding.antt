@@ -1,5 +1,5 @@
 -- What memory keeps is that of the store, where a submission is accepted.
-use Rattle.std.proofs.Common.{◌≡◌, ℕ, ◌+◌, ◌≤◌, ◌<◌, Bool, true, false, not, ◌&&◌, ◌==◌, nat_eq, Option, Some, None, List, [], ◌∷◌, ◌++◌, map, find, length, refl, ap, sym, ◌∙◌, arith, cond, subst, count_by, is_some}
+use Rattle.std.proofs.Common.{◌≡◌, ℕ, ◌+◌, ◌≤◌, ◌<◌, Bool, true, false, not, ◌&&◌, ◌==◌, nat_eq, Option, Some, None, List, [], ◌∷◌, ◌++◌, map, find, length, refl, ap, sym, ◌∙◌, arith, cond, subst, Contains, count_by, is_some}
 use Rattle.std.specs.Option.{option_map}
 use Rattle.std.specs.Map.{lookup}
 use Rattle.std.proofs.lemmas.Bool.{eq-eqb}
@@ -27,7 +27,7 @@ use Rattle.vz_surfaces.specs.declared.owners.Owners.{Owners}
 use Rattle.vz_surfaces.specs.Stored.{Stored, surface_of, storing}
 use Rattle.vz_surfaces.specs.Reading.{stands, standing, held_of, existing_count, last_of}
 use Rattle.vz_surfaces.specs.Keeping.{KeepsStored}
-use Rattle.vz_surfaces.specs.Memory.{is_key, look, is_name, waits_on, owner_at, HasNumber, IsSinkOf, Keeps, KeepsOwners, KeepsMarks, kept_of, surface_at, holding, empty_surface, counting, is_named_last, waiting_on}
+use Rattle.vz_surfaces.specs.Memory.{is_key, look, is_name, waits_on, owner_at, HasNumber, IsSinkOf, Keeps, KeepsOwners, KeepsMarks, kept_of, surface_at, holding, empty_surface, counting, is_named_last, held_in, waiting_on}
 use Rattle.vz_surfaces.specs.declared.groups.Groups.{Groups}
 use Rattle.vz_surfaces.specs.Chains.{is_group, chain_at, newest_at, KeepsGroups}
 use Rattle.vz_surfaces.proofs.Grouping.{stored_groups}
@@ -55,6 +55,7 @@ pub record IsHeldAt (st : Stored) (id : SurfaceId) (o : Option Surface) (limit :
   pub accepted : surface.accepted ≡ count_by (is_on id) st.subs
   pub few : surface.accepted < limit
   pub waiting : option_map (λ (h : Held). h.sub) surface.waiting ≡ waiting_on st id
+  pub held : surface.waiting ≡ held_in is_waiting id st.subs
 
 -- the waiting one of what is kept
 pub kept_waiting : (id : SurfaceId) (st : Stored) (c : Created) → option_map (λ (h : Held). h.sub) (kept_of id st.subs c).waiting ≡ waiting_on st id
@@ -108,6 +109,9 @@ module _ (st : Stored) (c : ℕ) (sink : FrameSinkId) (local : LocalSurfaceId) (
       let made = keeps.numbers.created s p in
       eq-eqb s.submitted.sub.client c (sym made.3 ∙ of.alone made.0 made.1 (ap (λ i. i.sink) (made.2 ∙ from_same s.submitted.id this e)))))
 
+  none_waits : ((s : Submission) → Contains st.subs s → is_on this s ≡ false) → find (λ s. is_waiting s && is_on this s) st.subs ≡ None
+  none_waits unused = find_none (λ s. is_waiting s && is_on this s) st.subs (λ s p. no_and (is_waiting s) (is_on this s) (unused s p))
+
   -- the surface on which the submission waits then
   pub held_before : (t0 t1 t2 : Table) (w : Waits) (o : Owners) (last : Bool) (created limit : ℕ) → Keeps t0 w o st → t1.surfaces.entries ≡ t0.surfaces.entries
       → last ≡ is_named_last (owner_at o c).last local → (is_that ≡ true → stands st this ≡ true) → count_by (is_by c) st.subs < limit
@@ -124,6 +128,7 @@ module _ (st : Stored) (c : ℕ) (sink : FrameSinkId) (local : LocalSurfaceId) (
             accepted = refl;
             few = omega (arith, on_own, few);
             waiting = kept_waiting this st x.0;
+            held = refl;
           }
       by false e k =
           let unused = is_unused st this keeps (is_unknown st c sink local keeps of goes (sym e)) in
@@ -132,7 +137,8 @@ module _ (st : Stored) (c : ℕ) (sink : FrameSinkId) (local : LocalSurfaceId) (
             is = k ∙ ap (λ (b : Bool). cond b (Some (empty_surface c (created + 1))) (look t1 this)) (key_of this this ∙ self_same this);
             accepted = sym (count_none (is_on this) st.subs unused);
             few = omega (arith, few);
-            waiting = sym (ap (option_map (λ (s : Submission). sub_of s)) (find_none (λ s. is_waiting s && is_on this s) st.subs (λ s p. no_and (is_waiting s) (is_on this s) (unused s p))));
+            waiting = sym (ap (option_map (λ (s : Submission). sub_of s)) (none_waits unused));
+            held = sym (ap (option_map (λ (s : Submission). held_of s.submitted)) (none_waits unused));
           }
 
   module _ (frame : CompositorFrame) (blocks : List Block) where

@@ -13,6 +13,7 @@ mod Destroying
 mod Ends
 mod Holding
 mod Storing
+mod Storing_whole
 mod Ages
 mod Grouping
 mod Pointing

@@ -1,22 +1,24 @@
 -- What is read of a store is read of the machine's state.
-use Rattle.std.proofs.Common.{◌≡◌, ℕ, Bool, true, false, ◌&&◌, ◌||◌, ◌==◌, not, Option, Some, None, List, [], ◌∷◌, map, filter, refl, ap, sym, ◌∙◌, cond, Contains, count_by, is_some, subst}
+use Rattle.std.proofs.Common.{◌≡◌, ℕ, Bool, true, false, ◌&&◌, ◌||◌, ◌==◌, not, Option, Some, None, List, [], ◌∷◌, map, filter, find, refl, ap, sym, ◌∙◌, cond, Contains, count_by, is_some, subst}
 use Rattle.std.specs.Option.{option_map}
 use Rattle.std.specs.List.{list_any}
-use Rattle.std.proofs.lemmas.Bool.{or_right}
+use Rattle.std.proofs.lemmas.Bool.{or_left, or_right, and_parts, both_ways, false_from_ne_true}
 use Rattle.vz_geom.specs.declared.Size.{Size}
 use Rattle.vz_ids.specs.declared.LocalSurfaceId.{LocalSurfaceId}
 use Rattle.vz_ids.specs.declared.SurfaceId.{SurfaceId}
 use Rattle.vz_ids.specs.declared.SurfaceRange.{SurfaceRange}
 use Rattle.vz_ids.specs.Ids.{same_sink, same_surface, at_least}
-use Rattle.vz_rules.specs.World.{World, Client, Created, FrameData, Submission, is_waiting, is_active, active_frames, frame_on, existing, exists, last_created}
+use Rattle.vz_rules.specs.World.{World, Client, Created, FrameData, Submission, is_waiting, is_active, is_on, active_frames, frame_on, existing, exists, last_created}
 use Rattle.vz_rules.specs.Scene.{shown, shown_frame, id_of_frame}
 use Rattle.vz_rules.specs.Settle.{is_met}
 use Rattle.vz_rules.specs.Kept.{KeepsAlways, last_in, stands_in}
 use Rattle.vz_rules.proofs.Members.{contains_here, contains_there, contains_map, filter_at, any_map}
 use Rattle.vz_rules.proofs.Counts.{count_same}
 use Rattle.vz_rules.proofs.Rising.{find_map}
+use Rattle.vz_rules.proofs.Reached.{from_same}
+use Rattle.vz_surfaces.proofs.Finding.{find_none}
 use Rattle.vz_surfaces.specs.Stored.{bare_surface, bare_sub, stored_of}
-use Rattle.vz_surfaces.specs.Reading.{stands, standing, existing_count, has_mark, marked_of, last_of, seen_frames, active_on, shown_in, was_reached}
+use Rattle.vz_surfaces.specs.Reading.{stands, standing, existing_count, has_mark, marked_of, last_of, seen_frames, active_on, waiting_at, shown_in, was_reached}
 use Rattle.vz_surfaces.proofs.Following.{last_bare}
 
 pub standing_bare : (ss : List Created) (id : SurfaceId) → standing id (map bare_surface ss) ≡ option_map bare_surface (standing id ss)
@@ -99,6 +101,49 @@ seen_all w h =
 pub tells_active : (w : World) (id : SurfaceId) → KeepsAlways w → active_on (stored_of w) id ≡ frame_on id (active_frames w.subs)
 unfolding active_on
 tells_active w id h = ap (frame_on id) (seen_all w h)
+
+-- What waits and what is active on a surface
+
+found_frame : (id : SurfaceId) (subs : List Submission) → frame_on id (active_frames subs) ≡ option_map (λ (s : Submission). s.submitted) (find (λ s. is_active s && is_on id s) subs)
+found_frame id [] = refl
+found_frame id (s ∷ subs) =
+    elim (is_active s) as (λ (t : Bool). frame_on id (map (λ (x : Submission). x.submitted) (cond t (s ∷ filter is_active subs) (filter is_active subs)))
+    ≡ option_map (λ (x : Submission). x.submitted) (cond (t && is_on id s) (Some s) (find (λ s. is_active s && is_on id s) subs))) [
+      | true ↦ elim (same_surface s.submitted.id id) as (λ (u : Bool). cond u (Some s.submitted) (frame_on id (active_frames subs))
+          ≡ option_map (λ (x : Submission). x.submitted) (cond u (Some s) (find (λ s. is_active s && is_on id s) subs))) [
+            | true ↦ refl
+            | false ↦ found_frame id subs
+          ]
+      | false ↦ found_frame id subs
+    ]
+
+pub tells_acting : (w : World) (id : SurfaceId) → KeepsAlways w → active_on (stored_of w) id ≡ option_map (λ (s : Submission). s.submitted) (find (λ s. is_active s && is_on id s) w.subs)
+tells_acting w id h = tells_active w id h ∙ found_frame id w.subs
+
+bare_frame : (o : Option Submission) → option_map (λ (s : Submission). s.submitted) (option_map bare_sub o) ≡ option_map (λ (s : Submission). s.submitted) o
+bare_frame None = refl
+bare_frame (Some s) = refl
+
+waits_on_none : (w : World) (id : SurfaceId) → KeepsAlways w → stands_in w.surfaces id ≡ false → find (λ s. is_waiting s && is_on id s) w.subs ≡ None
+waits_on_none w id h none =
+    find_none (λ s. is_waiting s && is_on id s) w.subs (λ s c. false_from_ne_true (is_waiting s && is_on id s) (λ e.
+    let parts = and_parts (is_waiting s) (is_on id s) e in
+    let there : stands_in w.surfaces s.submitted.id ≡ true = h.states.stand s c (or_left (is_waiting s) (is_active s) parts.0) in
+    both_ways (stands_in w.surfaces id) none (ap (stands_in w.surfaces) (sym (from_same s.submitted.id id parts.1)) ∙ there)))
+
+waiting_by : (w : World) (id : SurfaceId) (o : Option Created) → KeepsAlways w → standing id (stored_of w).surfaces ≡ o
+    → (elim o as (λ o. Option FrameData) [ Some c ↦ option_map (λ (s : Submission). s.submitted) (find (λ s. is_waiting s && is_on id s) (stored_of w).subs) | None ↦ None ])
+    ≡ option_map (λ (s : Submission). s.submitted) (find (λ s. is_waiting s && is_on id s) w.subs)
+unfolding stored_of
+waiting_by w id (Some c) h e =
+    ap (option_map (λ (s : Submission). s.submitted)) (find_map (λ s. is_waiting s && is_on id s) bare_sub w.subs (λ x. refl))
+    ∙ bare_frame (find (λ s. is_waiting s && is_on id s) w.subs)
+waiting_by w id None h e =
+    ap (option_map (λ (s : Submission). s.submitted)) (sym (waits_on_none w id h (sym (stands_bare w.surfaces id) ∙ ap is_some e)))
+
+pub tells_waiting : (w : World) (id : SurfaceId) → KeepsAlways w → waiting_at (stored_of w) id ≡ option_map (λ (s : Submission). s.submitted) (find (λ s. is_waiting s && is_on id s) w.subs)
+unfolding waiting_at
+tells_waiting w id h = waiting_by w id (standing id (stored_of w).surfaces) h refl
 
 id_read : (o : Option FrameData) → id_of_frame o ≡ (elim o as (λ o. Option SurfaceId) [ Some i ↦ Some i.id | None ↦ None ])
 id_read None = refl

@@ -18,14 +18,14 @@ pub struct Held {
 }
 
 /// What a submission was accepted as.
-#[derive(Clone, Copy, Debug, PartialEq, Eq)]
+#[derive(Drop)]
 pub struct Taken {
     /// Its client and ordinal.
     pub sub: Sub,
     /// Its number among the submissions on its surface, from 1 on.
     pub index: u32,
-    /// The submission that waited on the surface and is dropped, if one did.
-    pub replaced: Option<Sub>,
+    /// The submission that waited on the surface and is dropped, if one did. It is moved out.
+    pub replaced: Option<Held>,
 }
 
 /// What ended with a surface.

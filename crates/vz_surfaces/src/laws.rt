@@ -1,6 +1,6 @@
 //! Laws of stores, each the contract of a function that does nothing: what a store stands for
 //! changes as the machine's state does, and what is read of it is read of that state.
-ghost use Rattle.std.specs.Prelude.{◌≡◌, ℕ, not, ◌&&◌, ◌||◌, ◌==◌, Some, None, false, List, map, filter, count_by};
+ghost use Rattle.std.specs.Prelude.{◌≡◌, ℕ, not, ◌&&◌, ◌||◌, ◌==◌, Some, None, false, List, map, filter, find, count_by};
 ghost use Rattle.std.specs.Option.{option_map};
 ghost use Rattle.std.specs.List.{Contains, list_any};
 ghost use Rattle.vz_ids.specs.declared.FrameSinkId.{FrameSinkId};
@@ -13,7 +13,7 @@ ghost use Rattle.vz_pixels.specs.Block.{Block};
 ghost use Rattle.vz_frame.specs.declared.frame.CompositorFrame.{CompositorFrame};
 ghost use Rattle.vz_frame.specs.declared.message.Message.TheVariants.{Close};
 ghost use Rattle.vz_rules.specs.Plan.{Plan};
-ghost use Rattle.vz_rules.specs.World.{World, Client, Created, Submission, opening, exists, existing, active_frames, frame_on, last_created, sub_of};
+ghost use Rattle.vz_rules.specs.World.{World, Client, Created, Submission, opening, exists, existing, active_frames, frame_on, is_waiting, is_active, is_on, last_created, sub_of};
 ghost use Rattle.vz_rules.specs.Scene.{shown};
 ghost use Rattle.vz_rules.specs.Settle.{is_met};
 ghost use Rattle.vz_rules.specs.Reach.{naming};
@@ -23,7 +23,7 @@ ghost use Rattle.vz_rules.specs.Singly.{rising, going};
 ghost use Rattle.vz_rules.specs.Step.{begin_answer, draw_answer, done_answer};
 ghost use Rattle.vz_rules.specs.Kept.{KeepsAlways, KeepsMessages};
 ghost use Rattle.vz_surfaces.specs.Stored.{stored_of, nothing_stored, storing, activating, marking, destroying};
-ghost use Rattle.vz_surfaces.specs.Reading.{stands, has_mark, existing_count, marked_of, last_of, seen_frames, active_on, shown_in, was_reached};
+ghost use Rattle.vz_surfaces.specs.Reading.{stands, has_mark, existing_count, marked_of, last_of, seen_frames, active_on, waiting_at, shown_in, was_reached};
 ghost use Rattle.vz_surfaces.specs.Keeping.{KeepsStored, KeepsFrames};
 
 /// A store changes as the machine's state does: where a submission is accepted, where one becomes
@@ -63,7 +63,7 @@ pub fn stores_stay()
 
 /// What is read of a store is read of the machine's state: the surfaces that exist and their marks,
 /// the last one of a client, what was ever active, and, where what always holds is kept, the
-/// active frames and what ranges show.
+/// active frames, what waits and is active on a surface, and what ranges show.
 pub fn stores_tell()
     ensures exists { (w : World) (id : SurfaceId) → stands (stored_of w) id ≡ exists w id }
     ensures marks { (w : World) (id : SurfaceId) → has_mark (stored_of w) id
@@ -81,6 +81,10 @@ pub fn stores_tell()
         → seen_frames (stored_of w) ≡ active_frames w.subs }
     ensures active { (w : World) (id : SurfaceId) → KeepsAlways w
         → active_on (stored_of w) id ≡ frame_on id (active_frames w.subs) }
+    ensures acting { (w : World) (id : SurfaceId) → KeepsAlways w → active_on (stored_of w) id
+        ≡ option_map (λ s. s.submitted) (find (λ s. is_active s && is_on id s) w.subs) }
+    ensures waiting { (w : World) (id : SurfaceId) → KeepsAlways w → waiting_at (stored_of w) id
+        ≡ option_map (λ s. s.submitted) (find (λ s. is_waiting s && is_on id s) w.subs) }
     ensures shown { (w : World) (range : SurfaceRange) → KeepsAlways w
         → shown_in (stored_of w) range ≡ shown w range }
 {}

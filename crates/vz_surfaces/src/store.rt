@@ -13,7 +13,7 @@ ghost use Rattle.vz_surfaces.specs.Reading.{stands, standing, existing_count, la
 ghost use Rattle.vz_surfaces.specs.Keeping.{KeepsStored};
 ghost use Rattle.vz_surfaces.specs.Chains.{is_group, chain_at, newest_at};
 ghost use Rattle.vz_surfaces.specs.Numbers.{list_at, has_room};
-ghost use Rattle.vz_surfaces.specs.Memory.{HasNumber, IsSinkOf, waiting_on, acting_on, is_waiting_in, past_by};
+ghost use Rattle.vz_surfaces.specs.Memory.{HasNumber, IsSinkOf, held_in, waiting_on, acting_on, is_waiting_in, past_by};
 
 use crate::groups::Groups;
 use crate::held::{Gone, Held, Taken};
@@ -94,6 +94,17 @@ impl Store {
         ensures { result ≡ stands self.now id.now }
     {
         self.table.get(id).is_some()
+    }
+
+    /// The number of the client that created the surface of an id, None exactly where there is no
+    /// such surface.
+    pub fn client(&self, id: &SurfaceId) -> Option<u32>
+        ensures { result ≡ option_map (λ c. c.client) (standing id.now self.now.surfaces) }
+    {
+        match self.table.get(id) {
+            None => None,
+            Some(surface) => Some(surface.client),
+        }
     }
 
     /// How many surfaces exist.
@@ -187,7 +198,7 @@ impl Store {
     /// A submission of a client is accepted on a surface of its sink, which is created where the
     /// local id is not the client's last one. It waits, and the one that waited there is dropped.
     /// The answer is its client and ordinal, its number on the surface, and the one that is
-    /// dropped. For want of memory, and only then, the frame comes back, and nothing changes.
+    /// dropped, moved out. For want of memory, and only then, the frame comes back, and nothing changes.
     ///
     /// Conditions: the number of the client is 1 to 16; what always holds is kept; the sink is
     /// that of all earlier calls for the client and of none for another; the local id is not
@@ -214,7 +225,7 @@ impl Store {
         ensures index { IfOk result (λ t. t.index
             ≡ count_by (is_on (surface_of sink local)) self.old.subs + 1) }
         ensures replaced { IfOk result (λ t. t.replaced
-            ≡ waiting_on self.old (surface_of sink local)) }
+            ≡ held_in is_waiting (surface_of sink local) self.old.subs) }
         ensures err { OnErr result (self.new ≡ self.old) }
         ensures back { IfErr result (λ f. f ≡ frame) }
     {
@@ -253,7 +264,8 @@ impl Store {
         let (index, replaced) = self
             .table
             .hold(&id, sub, acceptance.frame, acceptance.blocks);
-        self.waits.remove(replaced);
+        let waited = name_of(&replaced);
+        self.waits.remove(waited);
         self.waits.put(sub, id);
         self.owners.set(c, owner.counting(last, local, size));
         Ok(Taken {

@@ -128,14 +128,14 @@ impl Table {
         sub: Sub,
         frame: CompositorFrame,
         blocks: List<PixelBlock>,
-    ) -> (u32, Option<Sub>)
+    ) -> (u32, Option<Held>)
         requires there { (s : Kept) × (look self.old id.now ≡ Some s) × (s.accepted < u32.MAX) }
         ensures surfaces { (q : Id) → look self.new q
             ≡ cond (is_key id.now q) (option_map (holding sub frame blocks) (look self.old q))
             (look self.old q) }
         ensures index { (s : Kept) → look self.old id.now ≡ Some s → result.0 ≡ s.accepted + 1 }
         ensures replaced { (s : Kept) → look self.old id.now ≡ Some s
-            → result.1 ≡ option_map (λ h. h.sub) s.waiting }
+            → result.1 ≡ s.waiting }
         ensures len { length self.new.surfaces.entries ≡ length self.old.surfaces.entries }
     {
         match self.surfaces.get_mut(id) {
@@ -178,11 +178,11 @@ fn wait(
     sub: Sub,
     frame: CompositorFrame,
     blocks: List<PixelBlock>,
-) -> (u32, Option<Sub>)
+) -> (u32, Option<Held>)
     requires { surface.old.accepted < u32.MAX }
     ensures surface { surface.new ≡ holding sub frame blocks surface.old }
     ensures index { result.0 ≡ surface.old.accepted + 1 }
-    ensures replaced { result.1 ≡ option_map (λ h. h.sub) surface.old.waiting }
+    ensures replaced { result.1 ≡ surface.old.waiting }
 {
     let index = surface.accepted + 1;
     let held = Held {
@@ -193,7 +193,7 @@ fn wait(
     };
     surface.accepted = index;
     let replaced = mem::replace(&mut surface.waiting, Some(held));
-    (index, sub_of(&replaced))
+    (index, replaced)
 }
 
 /// The submission that waits becomes the active one.

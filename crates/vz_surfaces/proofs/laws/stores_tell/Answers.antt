@@ -1,4 +1,4 @@
-use Rattle.vz_surfaces.proofs.Telling.{tells_exists, tells_marks, tells_count, tells_marked, tells_last, tells_met, seen_all, tells_active, tells_shown}
+use Rattle.vz_surfaces.proofs.Telling.{tells_exists, tells_marks, tells_count, tells_marked, tells_last, tells_met, seen_all, tells_active, tells_acting, tells_waiting, tells_shown}
 use Rattle.vz_surfaces.proofs.laws.stores_tell.Goals as goal
 
 pub returns : goal.returns
@@ -12,5 +12,7 @@ returns c =
       met = tells_met;
       seen = seen_all;
       active = tells_active;
+      acting = tells_acting;
+      waiting = tells_waiting;
       shown = tells_shown;
     }

@@ -1,10 +1,13 @@
-use Rattle.std.proofs.Common.{◌+◌, ap, sym, ◌∙◌, subst}
+use Rattle.std.proofs.Common.{◌≡◌, ◌+◌, ap, sym, ◌∙◌, subst}
+use Rattle.std.specs.Option.{option_map}
+use Rattle.vz_surfaces.specs.declared.held.Held.{Held}
 use Rattle.vz_surfaces.specs.Numbers.{KeepsLists}
 use Rattle.vz_surfaces.proofs.Listing.{lists_alike}
 use Rattle.vz_surfaces.specs.Chains.{Stands, KeepsGroups}
-use Rattle.vz_surfaces.specs.Memory.{Keeps, KeepsMarks, look, is_named_last}
+use Rattle.vz_surfaces.specs.Memory.{Keeps, KeepsMarks, look, is_named_last, waiting_on}
 use Rattle.vz_surfaces.proofs.Holding.{IsHeldAt, open_new, few_before, held_before, accepted_keeps, accepted_groups, accepted_marks, accepted_lists}
-use Rattle.vz_surfaces.proofs.Storing.{stored_more, stands_still}
+use Rattle.vz_surfaces.proofs.Storing.{stored_more}
+use Rattle.vz_surfaces.proofs.Storing_whole.{stands_still}
 use Rattle.vz_surfaces.proofs.store.Store.accept.Goals as goal
 
 pub open-requires-clause-new : goal.open-requires-clause-new
@@ -52,7 +55,12 @@ returns-clause-index c =
     let h = held_after c in c.hold-index.ensures.index h.surface h.is ∙ ap (λ n. n + 1) h.accepted
 
 pub returns-clause-replaced : goal.returns-clause-replaced
-returns-clause-replaced c = let h = held_after c in c.hold-index.ensures.replaced h.surface h.is ∙ h.waiting
+returns-clause-replaced c = let h = held_after c in c.hold-index.ensures.replaced h.surface h.is ∙ h.held
+
+waited : (c : goal.After-set) → c.sub_of-waited.result ≡ waiting_on c.args.self.now (record { sink = c.args.sink; local = c.args.local })
+waited c =
+    let h = held_after c in
+    c.sub_of-waited.ensures ∙ (ap (option_map (λ (x : Held). x.sub)) (c.hold-index.ensures.replaced h.surface h.is) ∙ h.waiting)
 
 pub invariant_of-self-2 : goal.invariant_of-self-2
 invariant_of-self-2 c =
@@ -62,8 +70,8 @@ invariant_of-self-2 c =
           (record {
             kept = accepted_keeps c.args.self.now c.args.c c.args.sink c.args.local c.requires.keeps c.requires.number c.requires.sink c.requires.goes_on c.args.frame c.args.blocks inside.table c.grow.new.table c.open.new.self
                 c.hold-index.new.self inside.waits c.grow.new.waits c.remove.new.self c.put.new.self inside.owners c.set.new.self c.get-owner.result c.counting.result c.is_last-last.result c.frame_size-size.result c.note-acceptance.result
-                c.hold-index.result.1 kept c.in-Ok.ensures.table c.in-Ok.ensures.waits c.frame_size-size.ensures c.get-owner.ensures c.is_last-last.ensures c.note-acceptance.ensures.back
-                c.open.ensures.surfaces c.open.ensures.len c.hold-index.ensures.surfaces c.hold-index.ensures.len (returns-clause-replaced c) c.remove.ensures.none c.remove.ensures.others c.put.ensures c.counting.ensures c.set.ensures;
+                c.sub_of-waited.result kept c.in-Ok.ensures.table c.in-Ok.ensures.waits c.frame_size-size.ensures c.get-owner.ensures c.is_last-last.ensures c.note-acceptance.ensures.back
+                c.open.ensures.surfaces c.open.ensures.len c.hold-index.ensures.surfaces c.hold-index.ensures.len (waited c) c.remove.ensures.none c.remove.ensures.others c.put.ensures c.counting.ensures c.set.ensures;
             groups = accepted_groups c.args.self.now c.args.c c.args.sink c.args.local c.requires.keeps c.requires.number c.requires.sink c.requires.goes_on c.args.frame c.args.blocks inside.owners c.get-owner.result inside.groups c.grow.new.groups
                 c.is_last-last.result kept.owners (subst (KeepsGroups inside.groups) c.self.view_is c.self.invariant.0.groups) c.get-owner.ensures c.is_last-last.ensures c.in-Ok.ensures.chain c.in-Ok.ensures.newest;
             marks = accepted_marks c.args.self.now c.args.c c.args.sink c.args.local c.requires.keeps c.requires.number c.requires.sink c.requires.goes_on c.args.frame c.args.blocks inside.owners c.set.new.self c.is_last-last.result

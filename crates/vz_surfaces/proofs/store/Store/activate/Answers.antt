@@ -1,6 +1,7 @@
 use Rattle.std.proofs.Common.{subst, sym}
 use Rattle.vz_surfaces.specs.Numbers.{KeepsLists}
-use Rattle.vz_surfaces.proofs.Storing.{stored_more, found_waiting, activated_stands, activated_lists, has_group, mark_number, mark_there, past_reads}
+use Rattle.vz_surfaces.proofs.Storing.{stored_more, found_waiting, past_reads}
+use Rattle.vz_surfaces.proofs.Storing_whole.{activated_stands, activated_lists, has_group, mark_number, mark_there}
 use Rattle.vz_surfaces.proofs.store.Store.activate.Goals as goal
 
 pub unreachable-requires : goal.unreachable-requires

@@ -1,6 +1,7 @@
 use Rattle.std.proofs.Common.{subst, sym}
 use Rattle.vz_surfaces.specs.Numbers.{KeepsLists}
-use Rattle.vz_surfaces.proofs.Storing.{stored_more, found_standing, kept_at, IsKeptAt, lost_reads, waiting_reads, active_reads, destroyed_stands, destroyed_lists}
+use Rattle.vz_surfaces.proofs.Storing.{stored_more, found_standing, kept_at, IsKeptAt, lost_reads, waiting_reads, active_reads}
+use Rattle.vz_surfaces.proofs.Storing_whole.{destroyed_stands, destroyed_lists}
 use Rattle.vz_surfaces.proofs.store.Store.destroy.Goals as goal
 
 pub unreachable-requires : goal.unreachable-requires

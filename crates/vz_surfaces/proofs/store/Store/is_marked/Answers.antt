@@ -1,7 +1,7 @@
 use Rattle.std.proofs.Common.{nat_le, subst, ap, ◌∙◌}
 use Rattle.vz_surfaces.specs.declared.owners.Owner.{Owner}
 use Rattle.vz_surfaces.specs.Memory.{Keeps}
-use Rattle.vz_surfaces.proofs.Storing.{mark_none, mark_client, mark_some}
+use Rattle.vz_surfaces.proofs.Storing_whole.{mark_none, mark_client, mark_some}
 use Rattle.vz_surfaces.proofs.store.Store.is_marked.Goals as goal
 
 pub returns-in-None : goal.returns-in-None

@@ -1,7 +1,8 @@
 use Rattle.std.proofs.Common.{subst, sym}
 use Rattle.vz_surfaces.specs.Numbers.{KeepsLists}
 use Rattle.vz_surfaces.proofs.Listing.{marked_lists}
-use Rattle.vz_surfaces.proofs.Storing.{stored_more, marked_stands}
+use Rattle.vz_surfaces.proofs.Storing.{stored_more}
+use Rattle.vz_surfaces.proofs.Storing_whole.{marked_stands}
 use Rattle.vz_surfaces.proofs.store.Store.mark_all.Goals as goal
 
 pub returns : goal.returns

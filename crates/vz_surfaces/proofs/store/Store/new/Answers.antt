@@ -1,4 +1,5 @@
-use Rattle.vz_surfaces.proofs.Storing.{stored_none, stands_none, lists_none}
+use Rattle.vz_surfaces.proofs.Storing.{stored_none}
+use Rattle.vz_surfaces.proofs.Storing_whole.{stands_none, lists_none}
 use Rattle.vz_surfaces.proofs.store.Store.new.Goals as goal
 
 pub invariant_of-result : goal.invariant_of-result

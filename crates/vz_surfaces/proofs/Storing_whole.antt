@@ -1,0 +1,242 @@
+-- What memory keeps of a store is that of it, with the groups and the lists of surfaces.
+use Rattle.std.proofs.Common.{◌≡◌, ℕ, ◌+◌, ◌-◌, ◌≤◌, ◌==◌, nat_le, nat_eq, Bool, true, false, not, ◌&&◌, Option, Some, None, List, [], ◌∷◌, ◌++◌, filter, length, refl, ap, sym, ◌∙◌, arith, cond, subst, Contains, is_some}
+use Rattle.std.specs.Option.{option_map, option_map_or, option_and_then}
+use Rattle.std.proofs.lemmas.Bool.{or_left, and_parts}
+use Rattle.vz_ids.specs.declared.LocalSurfaceId.{LocalSurfaceId}
+use Rattle.vz_ids.specs.declared.SurfaceId.{SurfaceId}
+use Rattle.vz_ids.specs.declared.Sub.{Sub}
+use Rattle.vz_ids.specs.Ids.{same_surface}
+use Rattle.vz_rules.specs.World.{Created, Submission, is_waiting, is_active, sub_of}
+use Rattle.vz_rules.specs.Kept.{stands_in}
+use Rattle.vz_rules.proofs.Reached.{from_same}
+use Rattle.vz_rules.proofs.Members.{contains_none, find_at}
+use Rattle.vz_surfaces.specs.declared.told.Told.{Told}
+use Rattle.vz_surfaces.specs.declared.told.Told.TheVariants as told
+use Rattle.vz_surfaces.specs.declared.held.Held.{Held}
+use Rattle.vz_surfaces.specs.declared.table.Surface.{Surface}
+use Rattle.vz_surfaces.specs.declared.table.Table.{Table}
+use Rattle.vz_surfaces.specs.declared.waits.Waits.{Waits}
+use Rattle.vz_surfaces.specs.declared.owners.Owners.{Owners}
+use Rattle.vz_surfaces.specs.Stored.{Stored, nothing_stored, raising, activating, destroying}
+use Rattle.vz_surfaces.specs.Told.{stored}
+use Rattle.vz_surfaces.specs.Reading.{standing, was_reached, has_mark}
+use Rattle.vz_surfaces.specs.Keeping.{KeepsStored}
+use Rattle.vz_surfaces.specs.Memory.{is_key, look, is_name, waits_on, owner_at, no_owner, HasNumber, marked_up, Keeps, KeepsOwners, KeepsMarks, kept_of, surface_at, raised, is_waiting_in}
+use Rattle.std.specs.Map.{lookup}
+use Rattle.vz_surfaces.specs.declared.groups.Group.{Group}
+use Rattle.vz_surfaces.specs.declared.groups.Groups.{Groups}
+use Rattle.vz_surfaces.specs.Chains.{Stands, KeepsGroups, IsRising, is_group, group_at, chain_at, newest_at, reaches, newer_local}
+use Rattle.vz_surfaces.proofs.Grouping.{groups_alike, marked_groups, raised_groups, gone_groups}
+use Rattle.vz_surfaces.proofs.Marking.{owners_marked, marking_marks, raised_marks, gone_marks, own_client, one_surface}
+use Rattle.vz_surfaces.specs.declared.standing.Numbered.{Numbered}
+use Rattle.vz_surfaces.specs.declared.standing.Row.{Row}
+use Rattle.vz_surfaces.specs.declared.standing.Standing.{Standing}
+use Rattle.vz_surfaces.specs.Numbers.{list_in, list_at, Rises, KeepsLists}
+use Rattle.vz_surfaces.proofs.Listing.{raised_lists, gone_lists}
+use Rattle.vz_surfaces.proofs.Shown.{chain_has}
+use Rattle.vz_surfaces.proofs.Raising.{waiting_one, Waits_in, activates}
+use Rattle.vz_surfaces.proofs.Holding.{standing_of}
+use Rattle.vz_surfaces.proofs.Storing.{stored_more, stored_none, keeps_none, marked_keeps, activated_keeps, IsKeptAt, kept_at, destroyed_keeps}
+
+-- With the groups
+
+pub stands_none : (t : Table) (w : Waits) (o : Owners) (g : Groups) (ts : List Told) → ((q : SurfaceId) → look t q ≡ None) → length t.surfaces.entries ≡ 0 → ((q : ℕ) → owner_at o q ≡ no_owner)
+    → ((q : SurfaceId) → group_at g q ≡ None) → ts ≡ [] → Stands t w o g (stored ts)
+unfolding nothing_stored was_reached IsRising
+stands_none t w o g ts none len owners groups e =
+    record {
+      kept = keeps_none t w o ts none len owners e;
+      groups = subst (KeepsGroups g) (sym (stored_none ts e)) (record {
+        chain = λ q. ap (λ (x : Option Group). option_map_or (λ (y : Group). y.chain.items) x []) (groups q);
+        rising = λ q. subst IsRising (sym (ap (λ (x : Option Group). option_map_or (λ (y : Group). y.chain.items) x []) (groups q))) tt;
+        reached = λ d. ap (λ (x : Option Group). reaches (option_and_then (λ (y : Group). y.newest) x) d) (groups d);
+        made = λ d l f. no_one (sym (ap (λ (x : Option Group). option_and_then (λ (y : Group). y.newest) x) (groups d)) ∙ f);
+      });
+      marks = subst (KeepsMarks o) (sym (stored_none ts e)) (record {
+        clients = λ s p. absurd (contains_none s p);
+        numbers = λ s p. absurd (contains_none s p);
+        marks = λ s p. absurd (contains_none s p);
+        created = λ c h. omega (arith, ap (λ x. x.marked_to) (owners c), ap (λ x. x.created) (owners c));
+      });
+    }
+  where
+    no_one : {A : Type 0} {l : LocalSurfaceId} → ◌≡◌ {A = Option LocalSurfaceId} None (Some l) → A
+    no_one f = absurd (cc)
+
+pub stands_still : (t0 t1 : Table) (w0 w1 : Waits) (o : Owners) (g0 g1 : Groups) (st : Stored) → Stands t0 w0 o g0 st → t1.surfaces.entries ≡ t0.surfaces.entries → w1.surfaces.entries ≡ w0.surfaces.entries
+    → ((q : SurfaceId) → chain_at g1 q ≡ chain_at g0 q) → ((q : SurfaceId) → newest_at g1 q ≡ newest_at g0 q) → Stands t1 w1 o g1 st
+stands_still t0 t1 w0 w1 o g0 g1 st h table waits chain newest =
+    record {
+      kept = record {
+        table = record { surfaces = λ q. ap (lookup (is_key q)) table ∙ h.kept.table.surfaces q; count = ap length table ∙ h.kept.table.count };
+        waits = record { found = λ s p e. ap (lookup (is_name (sub_of s))) waits ∙ h.kept.waits.found s p e };
+        owners = h.kept.owners;
+      };
+      groups = groups_alike g0 g1 st chain newest h.groups;
+      marks = h.marks;
+    }
+
+re_owned : (t : Table) (w : Waits) (o0 o1 : Owners) (st : Stored) → Keeps t w o0 st → KeepsOwners o1 st → Keeps t w o1 st
+re_owned t w o0 o1 st h owners = record { table = h.table; waits = h.waits; owners = owners }
+
+pub marked_stands : (g : Groups) (t : Table) (w : Waits) (o0 o1 : Owners) (ts now : List Told) (st : Stored) (c : ℕ) → HasNumber c → Stands t w o0 g (stored ts) → stored ts ≡ st → now ≡ ts ++ told.MarkedAll c ∷ []
+    → ((q : ℕ) → 1 ≤ q → owner_at o1 q ≡ cond (q == c) (marked_up (owner_at o0 c).created (owner_at o0 c)) (owner_at o0 q)) → Stands t w o1 g (stored now)
+marked_stands g t w o0 o1 ts now st c number inv view e set =
+    let kept = marked_keeps t w o0 ts now st c inv.kept view e in
+    record {
+      kept = re_owned t w o0 o1 (stored now) kept (owners_marked o0 o1 c (owner_at o0 c).created set (stored now) kept.owners);
+      groups = subst (KeepsGroups g) (sym (stored_more ts now (told.MarkedAll c) st e view)) (marked_groups c st g (subst (KeepsGroups g) view inv.groups));
+      marks = subst (KeepsMarks o1) (sym (stored_more ts now (told.MarkedAll c) st e view)) (marking_marks o0 o1 c st number (subst (KeepsMarks o0) view inv.marks) set);
+    }
+
+-- the surface on which a submission waits is in its group
+pub has_group : (g : Groups) (t : Table) (w : Waits) (o : Owners) (ts : List Told) (st : Stored) (sub : Sub) (id : SurfaceId) → KeepsStored st → Stands t w o g (stored ts) → stored ts ≡ st
+    → is_waiting_in st sub ≡ true → Some id ≡ waits_on w sub → is_some (group_at g id) ≡ true
+has_group g t w o ts st sub id keeps inv view waits found =
+    let h = subst (Keeps t w o) view inv.kept in
+    let hg = subst (KeepsGroups g) view inv.groups in
+    let x = waiting_one st sub waits in
+    let in_it = x.1 in
+    let at : id ≡ x.0.submitted.id = some_id (found ∙ (ap (waits_on w) (sym x.2) ∙ h.waits.found x.0 in_it.there in_it.waits)) in
+    let here = keeps.states.stand x.0 in_it.there (or_left (is_waiting x.0) (is_active x.0) in_it.waits) in
+    by (group_at g id) refl (chain_has t g st h.table hg id (ap (stands_in st.surfaces) at ∙ here))
+  where
+    some_id : {a b : SurfaceId} → Some a ≡ Some b → a ≡ b
+    some_id f = cc
+
+    by : (x : Option Group) → group_at g id ≡ x → Contains (chain_at g id) id → is_some x ≡ true
+    by None e c = absurd (contains_none id (subst (λ (y : Option Group). Contains (option_map_or (λ (z : Group). z.chain.items) y []) id) e c))
+    by (Some x) e c = refl
+
+-- the surface on which a submission waits
+pub record IsUp (t : Table) (st : Stored) (sub : Sub) (id : SurfaceId) : Type 0 where
+  pub one : Submission
+  pub in_it : Waits_in st one
+  pub named : sub_of one ≡ sub
+  pub at : id ≡ one.submitted.id
+  pub surface : Created
+  pub there : Contains st.surfaces surface
+  pub of_id : surface.id ≡ one.submitted.id
+  pub kept : look t id ≡ Some (kept_of id st.subs surface)
+
+pub is_up : (t : Table) (w : Waits) (o : Owners) (st : Stored) (sub : Sub) (id : SurfaceId) → KeepsStored st → Keeps t w o st → is_waiting_in st sub ≡ true → Some id ≡ waits_on w sub → IsUp t st sub id
+unfolding surface_at
+is_up t w o st sub id keeps h waits found =
+    let x = waiting_one st sub waits in
+    let in_it = x.1 in
+    let at : id ≡ x.0.submitted.id = some_id (found ∙ (ap (waits_on w) (sym x.2) ∙ h.waits.found x.0 in_it.there in_it.waits)) in
+    let here = standing_of st id (ap (stands_in st.surfaces) at ∙ keeps.states.stand x.0 in_it.there (or_left (is_waiting x.0) (is_active x.0) in_it.waits)) in
+    let found_one = find_at (λ (s : Created). same_surface s.id id && not s.destroyed) st.surfaces here.0 here.1 in
+    record {
+      one = x.0;
+      in_it = in_it;
+      named = x.2;
+      at = at;
+      surface = here.0;
+      there = found_one.0;
+      of_id = from_same here.0.id id (and_parts (same_surface here.0.id id) (not here.0.destroyed) found_one.1).0 ∙ at;
+      kept = h.table.surfaces id ∙ ap (option_map (kept_of id st.subs)) here.1;
+    }
+  where
+    some_id : {a b : SurfaceId} → Some a ≡ Some b → a ≡ b
+    some_id f = cc
+
+pub mark_number : (g : Groups) (t : Table) (w : Waits) (o : Owners) (ts : List Told) (st : Stored) (sub : Sub) (id : SurfaceId) → KeepsStored st → Stands t w o g (stored ts) → stored ts ≡ st
+    → is_waiting_in st sub ≡ true → Some id ≡ waits_on w sub → HasNumber sub.client
+mark_number g t w o ts st sub id keeps inv view waits found =
+    let up = is_up t w o st sub id keeps (subst (Keeps t w o) view inv.kept) waits found in
+    let h = subst (KeepsMarks o) view inv.marks in
+    subst HasNumber (own_client st up.one keeps up.in_it up.surface up.there up.of_id ∙ ap (λ (s : Sub). s.client) up.named) (h.clients up.surface up.there)
+
+pub mark_there : (g : Groups) (t : Table) (w : Waits) (o : Owners) (ts : List Told) (st : Stored) (sub : Sub) (id : SurfaceId) → KeepsStored st → Stands t w o g (stored ts) → stored ts ≡ st
+    → is_waiting_in st sub ≡ true → Some id ≡ waits_on w sub → (s : Surface) × (look t id ≡ Some s) × (1 ≤ s.number)
+mark_there g t w o ts st sub id keeps inv view waits found =
+    let up = is_up t w o st sub id keeps (subst (Keeps t w o) view inv.kept) waits found in
+    let h = subst (KeepsMarks o) view inv.marks in
+    (kept_of id st.subs up.surface, up.kept, (h.numbers up.surface up.there).0)
+
+pub activated_stands : (g0 g1 : Groups) (t0 t1 : Table) (w0 w1 : Waits) (o0 o1 : Owners) (ts now : List Told) (st : Stored) (sub : Sub) (id : SurfaceId) → KeepsStored st → Stands t0 w0 o0 g0 (stored ts) → stored ts ≡ st
+    → is_waiting_in st sub ≡ true → now ≡ ts ++ told.Activated sub ∷ [] → Some id ≡ waits_on w0 sub
+    → ((s : Sub) → Some sub ≡ Some s → (q : Sub) → waits_on w1 q ≡ cond (is_name s q) None (waits_on w0 q))
+    → ((q : SurfaceId) → look t1 q ≡ cond (is_key id q) (option_map raised (look t0 q)) (look t0 q)) → length t1.surfaces.entries ≡ length t0.surfaces.entries
+    → ((q : SurfaceId) → chain_at g1 q ≡ chain_at g0 q) → ((q : SurfaceId) → newest_at g1 q ≡ cond (is_group id q) (newer_local id.local (newest_at g0 q)) (newest_at g0 q))
+    → ((s : Surface) → look t0 id ≡ Some s → (q : ℕ) → 1 ≤ q → owner_at o1 q ≡ cond (q == sub.client) (marked_up (s.number - 1) (owner_at o0 sub.client)) (owner_at o0 q)) → Stands t1 w1 o1 g1 (stored now)
+activated_stands g0 g1 t0 t1 w0 w1 o0 o1 ts now st sub id keeps inv view waits e found gone rose same chain newest marks =
+    let up = is_up t0 w0 o0 st sub id keeps (subst (Keeps t0 w0 o0) view inv.kept) waits found in
+    let x = up.one in
+    let in_it = up.in_it in
+    let set : (q : ℕ) → 1 ≤ q → owner_at o1 q ≡ cond (q == sub.client) (marked_up (up.surface.number - 1) (owner_at o0 sub.client)) (owner_at o0 q) = marks (kept_of id st.subs up.surface) up.kept in
+    let kept = activated_keeps t0 t1 w0 w1 o0 ts now st sub id keeps inv.kept view waits e found gone rose same in
+    let is : stored now ≡ raising x st = stored_more ts now (told.Activated sub) st e view ∙ (ap (λ s. activating s st) (sym up.named) ∙ activates st x keeps in_it.there) in
+    record {
+      kept = re_owned t1 w1 o0 o1 (stored now) kept (owners_marked o0 o1 sub.client (up.surface.number - 1) set (stored now) kept.owners);
+      groups = subst (KeepsGroups g1) (sym is)
+          (raised_groups st x keeps in_it g0 g1 (subst (KeepsGroups g0) view inv.groups) chain
+          (λ q. newest q ∙ ap (λ (i : SurfaceId). cond (is_group i q) (newer_local i.local (newest_at g0 q)) (newest_at g0 q)) up.at));
+      marks = subst (KeepsMarks o1) (sym is)
+          (raised_marks st x keeps in_it o0 o1 up.surface up.there up.of_id (subst (KeepsMarks o0) view inv.marks)
+          (λ q h. set q h ∙ ap (λ (s : Sub). cond (q == s.client) (marked_up (up.surface.number - 1) (owner_at o0 s.client)) (owner_at o0 q)) (sym up.named)));
+    }
+
+pub destroyed_stands : (g0 g1 : Groups) (t0 t1 : Table) (w0 w1 : Waits) (o : Owners) (ts now : List Told) (st : Stored) (id : SurfaceId) (s : Surface) (r : Option Sub) → KeepsStored st → Stands t0 w0 o g0 (stored ts) → stored ts ≡ st
+    → now ≡ ts ++ told.Destroyed id ∷ [] → Some s ≡ look t0 id → r ≡ option_map (λ (h : Held). h.sub) s.waiting → (r ≡ None → w1 ≡ w0)
+    → ((x : Sub) → r ≡ Some x → (q : Sub) → waits_on w1 q ≡ cond (is_name x q) None (waits_on w0 q))
+    → ((q : SurfaceId) → look t1 q ≡ cond (is_key id q) None (look t0 q)) → ((x : Surface) → look t0 id ≡ Some x → length t1.surfaces.entries + 1 ≡ length t0.surfaces.entries)
+    → ((q : SurfaceId) → chain_at g1 q ≡ cond (is_group id q) (filter (λ (x : SurfaceId). not (same_surface x id)) (chain_at g0 q)) (chain_at g0 q)) → ((q : SurfaceId) → newest_at g1 q ≡ newest_at g0 q)
+    → Stands t1 w1 o g1 (stored now)
+destroyed_stands g0 g1 t0 t1 w0 w1 o ts now st id s r keeps inv view e found is none some goes fewer chain newest =
+    record {
+      kept = destroyed_keeps t0 t1 w0 w1 o ts now st id s r keeps inv.kept view e found is none some goes fewer;
+      groups = subst (KeepsGroups g1) (sym (stored_more ts now (told.Destroyed id) st e view)) (gone_groups id st g0 g1 (subst (KeepsGroups g0) view inv.groups) chain newest);
+      marks = subst (KeepsMarks o) (sym (stored_more ts now (told.Destroyed id) st e view)) (gone_marks id st o (subst (KeepsMarks o) view inv.marks));
+    }
+
+-- Whether a surface is marked
+
+pub mark_none : (t : Table) (w : Waits) (o : Owners) (st : Stored) (id : SurfaceId) → Keeps t w o st → None ≡ look t id → false ≡ has_mark st id
+unfolding has_mark surface_at
+mark_none t w o st id h e = by (standing id st.surfaces) (e ∙ h.table.surfaces id)
+  where
+    by : (x : Option Created) → None ≡ option_map (kept_of id st.subs) x → false ≡ (elim x as (λ x. Bool) [ Some c ↦ c.marked | None ↦ false ])
+    by None f = refl
+    by (Some c) f = absurd (cc)
+
+pub mark_client : (t : Table) (w : Waits) (o : Owners) (ts : List Told) (st : Stored) (g : Groups) (id : SurfaceId) (s : Surface) → Stands t w o g (stored ts) → stored ts ≡ st → Some s ≡ look t id → HasNumber s.client
+mark_client t w o ts st g id s inv view e =
+    let k = kept_at t w o ts st id s inv.kept view e in
+    let h = subst (KeepsMarks o) view inv.marks in
+    let there = find_at (λ (c : Created). same_surface c.id id && not c.destroyed) st.surfaces k.surface k.is in
+    subst HasNumber (ap (λ (x : Surface). x.client) (sym k.kept)) (h.clients k.surface there.0)
+
+pub mark_some : (t : Table) (w : Waits) (o : Owners) (ts : List Told) (st : Stored) (g : Groups) (id : SurfaceId) (s : Surface) → Stands t w o g (stored ts) → stored ts ≡ st → Some s ≡ look t id
+    → nat_le s.number (owner_at o s.client).marked_to ≡ has_mark st id
+unfolding has_mark
+mark_some t w o ts st g id s inv view e =
+    let k = kept_at t w o ts st id s inv.kept view e in
+    let h = subst (KeepsMarks o) view inv.marks in
+    let there = find_at (λ (c : Created). same_surface c.id id && not c.destroyed) st.surfaces k.surface k.is in
+    ap (λ (x : Surface). nat_le x.number (owner_at o x.client).marked_to) k.kept
+    ∙ (sym (h.marks k.surface there.0) ∙ sym (ap (λ (x : Option Created). elim x as (λ x. Bool) [ Some c ↦ c.marked | None ↦ false ]) k.is))
+
+-- With the lists
+
+pub lists_none : (s : Standing) (ts : List Told) → ((q : ℕ) → list_in s q ≡ None) → ts ≡ [] → KeepsLists s (stored ts)
+unfolding nothing_stored Rises
+lists_none s ts none e =
+    subst (KeepsLists s) (sym (stored_none ts e)) (record {
+      lists = λ q. ap (λ (x : Option Row). option_map_or (λ (r : Row). r.all.items) x []) (none q);
+      rise = λ q. subst Rises (sym (ap (λ (x : Option Row). option_map_or (λ (r : Row). r.all.items) x []) (none q))) tt;
+    })
+
+pub activated_lists : (s : Standing) (st : Stored) (sub : Sub) → KeepsStored st → is_waiting_in st sub ≡ true → KeepsLists s st → KeepsLists s (activating sub st)
+activated_lists s st sub keeps waits h =
+    let x = waiting_one st sub waits in
+    subst (KeepsLists s) (sym (ap (λ y. activating y st) (sym x.2) ∙ activates st x.0 keeps x.1.there)) (raised_lists s st x.0 h)
+
+pub destroyed_lists : (l0 l1 : Standing) (st : Stored) (id : SurfaceId) (s : Surface) → KeepsStored st → IsKeptAt st id s → KeepsLists l0 st
+    → ((q : ℕ) → list_at l1 q ≡ cond (nat_eq s.client q) (filter (λ (x : Numbered). not (same_surface x.id id)) (list_at l0 q)) (list_at l0 q)) → KeepsLists l1 (destroying id st)
+destroyed_lists l0 l1 st id s keeps k h goes =
+    let there = find_at (λ (c : Created). same_surface c.id id && not c.destroyed) st.surfaces k.surface k.is in
+    let at = from_same k.surface.id id (and_parts (same_surface k.surface.id id) (not k.surface.destroyed) there.1).0 in
+    gone_lists id s.client st l0 l1 h
+    (λ c p e. ap (λ (x : Created). x.client) (one_surface st c k.surface keeps p there.0 (from_same c.id id e ∙ sym at)) ∙ ap (λ (x : Surface). x.client) (sym k.kept)) goes
