@@ -1,0 +1,5 @@
+mod Stored
+mod Rising
+mod Raised
+mod Gone
+mod Read
