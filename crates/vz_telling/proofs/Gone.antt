@@ -14,7 +14,7 @@ use Rattle.vz_rules.proofs.Counts.{count_same}
 use Rattle.vz_rules.proofs.Members.{contains_map, any_map, found}
 use Rattle.vz_damage.specs.Told.{Told, Damaged, told_on}
 use Rattle.vz_damage.specs.Measured.{without_indices}
-use Rattle.vz_telling.specs.Telling.{AreTold, AreLatest, told_in, index_of, index_on}
+use Rattle.vz_telling.specs.Telling.{AreTold, AreLatest, AreUnseen, told_in, index_of, index_on}
 use Rattle.vz_telling.proofs.Raised.{damages_same}
 use Rattle.vz_telling.proofs.Rising.{active_cons, seen_as, seen_off, seen_inactive}
 
@@ -116,6 +116,12 @@ latest_gone w c k r m e =
     ∙ sym (count_same (drop_on (c ∷ [])) (is_on r.submitted.id) (is_on r.submitted.id) w.subs
     (λ s. ap (λ (i : FrameData). same_surface i.id r.submitted.id) (submitted_drop c s)))))
 
+unseen_gone : (w : World) (c : Created) → AreUnseen w.subs w.last → AreUnseen (going c w).subs w.last
+unfolding going
+unseen_gone w c k id none =
+    k id (sym (count_same (drop_on (c ∷ [])) (is_on id) (is_on id) w.subs
+    (λ s. ap (λ (i : FrameData). same_surface i.id id) (submitted_drop c s))) ∙ none)
+
 abbrev Where : Bool → Told → Option Told
 Where t y = cond t (Some y) None
 
@@ -144,4 +150,5 @@ told_gone w c d d' k none others last =
           ∙ ap (λ (o : Option Aggregation). Where (exists (going c w) id) (told_in (going c w).subs o id)) (sym (last_gone w c));
       last = last ∙ (k.last ∙ ap (λ (o : Option Aggregation). option_map without_indices o) (sym (last_gone w c)));
       latest = latest_gone w c k.latest;
+      unseen = λ id none. ap (λ (o : Option Aggregation). index_on o id) (last_gone w c) ∙ unseen_gone w c k.unseen id none;
     }

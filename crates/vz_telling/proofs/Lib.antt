@@ -3,3 +3,8 @@ mod Rising
 mod Raised
 mod Gone
 mod Read
+mod Absent
+mod Arriving
+mod Accepted
+mod Seen
+mod Taking

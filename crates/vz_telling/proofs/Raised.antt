@@ -14,7 +14,7 @@ use Rattle.vz_rules.proofs.Reached.{from_same, self_same}
 use Rattle.vz_rules.proofs.Counts.{count_cons, count_same}
 use Rattle.vz_damage.specs.Told.{Told, Damaged, told_on, with_active}
 use Rattle.vz_damage.specs.Measured.{without_indices}
-use Rattle.vz_telling.specs.Telling.{AreTold, AreLatest, told_in, index_of, index_on}
+use Rattle.vz_telling.specs.Telling.{AreTold, AreLatest, AreUnseen, told_in, index_of, index_on}
 use Rattle.vz_telling.proofs.Rising.{Rises, IsIt, IsPast, Stays, rises_by, frame_risen, exists_risen, risen_at}
 
 abbrev pub damages : SurfaceId → List Submission → List Rectangle
@@ -28,7 +28,7 @@ submitted_same x t = by (same_sub (sub_of t) (sub_of x)) (is_active t && is_on x
     by false true = refl
     by false false = refl
 
-damages_cons : (id : SurfaceId) (s : Submission) (xs : List Submission)
+pub damages_cons : (id : SurfaceId) (s : Submission) (xs : List Submission)
     → damages id (s ∷ xs) ≡ cond (same_surface s.submitted.id id) (root_damage s.submitted.frame ∷ damages id xs) (damages id xs)
 damages_cons id s xs = by (is_on id s)
   where
@@ -50,7 +50,7 @@ length_by : (t : Bool) (r : Rectangle) (l : List Rectangle) → length (cond t (
 length_by true r l = omega arith
 length_by false r l = omega arith
 
-as_many : (id : SurfaceId) (xs : List Submission) → length (damages id xs) ≡ count_by (is_on id) xs
+pub as_many : (id : SurfaceId) (xs : List Submission) → length (damages id xs) ≡ count_by (is_on id) xs
 as_many id [] = refl
 as_many id (s ∷ xs) =
     ap {B = ℕ} (λ (l : List Rectangle). length l) (damages_cons id s xs)
@@ -73,6 +73,12 @@ module _ (w : World) (x : Submission) (h : KeepsAlways w) (there : Contains w.su
       ∙ (ap (λ (s : Submission). count_by (is_on s.submitted.id) w.subs) (sym same)
       ∙ sym (count_same (as_one_rises x) (is_on r.submitted.id) (is_on r.submitted.id) w.subs
       (λ s. ap (λ (i : FrameData). same_surface i.id r.submitted.id) (submitted_same x s)))))
+
+  unseen_risen : AreUnseen w.subs w.last → AreUnseen (rising x w).subs w.last
+  unfolding rising
+  unseen_risen k id none =
+      k id (sym (count_same (as_one_rises x) (is_on id) (is_on id) w.subs
+      (λ s. ap (λ (i : FrameData). same_surface i.id id) (submitted_same x s))) ∙ none)
 
   told_risen : (id : SurfaceId) → told_in (rising x w).subs w.last id
       ≡ record { damages = damages id w.subs; active = index_of (cond (same_surface x.submitted.id id) (Some x.submitted) (frame_on id (active_frames w.subs))); seen = index_on w.last id }
@@ -132,4 +138,5 @@ module _ (w : World) (x : Submission) (h : KeepsAlways w) (there : Contains w.su
             ∙ ap (λ (o : Option Aggregation). Where (exists (rising x w) id) (told_in (rising x w).subs o id)) (sym last_risen));
         last = last ∙ (k.last ∙ ap (λ (o : Option Aggregation). option_map without_indices o) (sym last_risen));
         latest = latest_risen k.latest;
+        unseen = λ id none. ap (λ (o : Option Aggregation). index_on o id) last_risen ∙ unseen_risen k.unseen id none;
       }

@@ -43,7 +43,7 @@ damages_bare id (s ∷ xs) = by (is_on id s) (damages_bare id xs)
     by true e = ap (λ (l : List Rectangle). root_damage s.submitted.frame ∷ l) e
     by false e = e
 
-count_bare : (id : SurfaceId) (xs : List Submission) → count_by (is_on id) (map bare_sub xs) ≡ count_by (is_on id) xs
+pub count_bare : (id : SurfaceId) (xs : List Submission) → count_by (is_on id) (map bare_sub xs) ≡ count_by (is_on id) xs
 count_bare id [] = refl
 count_bare id (s ∷ xs) =
     count_cons (is_on id) (bare_sub s) (map bare_sub xs)
@@ -70,6 +70,9 @@ latest_same xs ys e h s m waits =
     ∙ (ap (λ (i : FrameData). count_by (is_on i.id) xs) same
     ∙ (sym (count_bare s.submitted.id xs) ∙ (ap (count_by (is_on s.submitted.id)) (sym e) ∙ count_bare s.submitted.id ys))))
 
+count_like : (xs ys : List Submission) (id : SurfaceId) → map bare_sub ys ≡ map bare_sub xs → count_by (is_on id) ys ≡ count_by (is_on id) xs
+count_like xs ys id e = sym (count_bare id ys) ∙ (ap (count_by (is_on id)) e ∙ count_bare id xs)
+
 abbrev told_where : Bool → Told → Option Told
 told_where t x = cond t (Some x) None
 
@@ -86,6 +89,7 @@ told_stays w v d reads e last h =
           ∙ ap (λ (o : Option Aggregation). told_where (exists v id) (told_in v.subs o id)) (sym last)));
       last = h.last ∙ ap (λ (o : Option Aggregation). option_map without_indices o) (sym last);
       latest = latest_same w.subs v.subs subs h.latest;
+      unseen = λ id none. ap (λ (o : Option Aggregation). index_on o id) last ∙ h.unseen id (sym (count_like w.subs v.subs id subs) ∙ none);
     }
 
 -- Before the first step
@@ -97,6 +101,7 @@ told_first p d none first =
       told = λ id. ap (λ (l : List (SurfaceId × Told)). told_on l id) none;
       last = first;
       latest = λ s m waits. absurd (contains_none s m);
+      unseen = λ id none. refl;
     }
 
 -- The last aggregation

@@ -31,8 +31,13 @@ told_in subs last id = record {
 abbrev pub AreLatest : List Submission → Type 0
 AreLatest subs = (s : Submission) → Contains subs s → IsTrue (is_waiting s) → s.submitted.index ≡ count_by (is_on s.submitted.id) subs
 
+-- of a surface on which nothing was accepted no index is remembered
+abbrev pub AreUnseen : List Submission → Option Aggregation → Type 0
+AreUnseen subs last = (id : SurfaceId) → count_by (is_on id) subs ≡ 0 → index_on last id ≡ 0
+
 -- of each surface that exists what is to be told is told, and nothing of others, and the last aggregation is remembered
 pub record AreTold (w : World) (d : Damaged) : Type 0 where
   pub told : (id : SurfaceId) → told_on d.surfaces id ≡ (if exists w id then Some (told_in w.subs w.last id) else None)
   pub last : d.last ≡ option_map without_indices w.last
   pub latest : AreLatest w.subs
+  pub unseen : AreUnseen w.subs w.last
