@@ -1,9 +1,9 @@
 -- A surface on which nothing was accepted: nothing is to be told of it.
-use Rattle.std.proofs.Common.{arith, ◌&&◌, ◌≡◌, ℕ, zero, suc, ◌+◌, Bool, true, false, Option, Some, None, List, [], ◌∷◌, count_by, length, refl, ap, sym, ◌∙◌, cond}
+use Rattle.std.proofs.Common.{arith, ◌≡◌, ℕ, ◌+◌, Bool, true, false, None, List, [], ◌∷◌, count_by, length, refl, sym, ◌∙◌, cond}
 use Rattle.vz_geom.specs.Rectangle.{Rectangle}
 use Rattle.vz_ids.specs.declared.SurfaceId.{SurfaceId}
 use Rattle.vz_ids.specs.Ids.{same_surface}
-use Rattle.vz_rules.specs.World.{Submission, FrameData, is_on, is_active, active_frames, frame_on}
+use Rattle.vz_rules.specs.World.{Submission, is_on, is_active, active_frames, frame_on}
 use Rattle.vz_rules.proofs.Counts.{count_cons}
 use Rattle.vz_telling.proofs.Raised.{damages, as_many}
 use Rattle.vz_telling.proofs.Rising.{active_cons, seen_off}

@@ -1,6 +1,6 @@
 -- A submission is accepted: what is told of its surface.
-use Rattle.std.proofs.Common.{arith, ◌&&◌, ◌||◌, ◌≡◌, ℕ, ◌+◌, ◌==◌, Bool, true, false, Option, Some, None, List, [], ◌∷◌, ◌++◌, map, count_by, length, refl, ap, sym, ◌∙◌, subst, cond, Contains, inl, inr}
-use Rattle.std.proofs.lemmas.Bool.{both_ways, or_left, false_from_ne_true}
+use Rattle.std.proofs.Common.{arith, ◌≡◌, ℕ, ◌+◌, ◌==◌, Bool, true, false, Option, Some, None, List, [], ◌∷◌, ◌++◌, map, count_by, refl, ap, sym, ◌∙◌, subst, cond, Contains, inl, inr}
+use Rattle.std.proofs.lemmas.Bool.{both_ways, or_left}
 use Rattle.std.proofs.lemmas.List.{append-nil}
 use Rattle.std.specs.Option.{option_map}
 use Rattle.vz_geom.specs.Rectangle.{Rectangle}

@@ -1,5 +1,5 @@
 -- A submission is accepted: what is found on surfaces after it.
-use Rattle.std.proofs.Common.{arith, ◌&&◌, ◌||◌, ◌≡◌, ℕ, ◌+◌, ◌==◌, Bool, true, false, not, Option, Some, None, List, [], ◌∷◌, ◌++◌, map, filter, find, is_some, count_by, refl, ap, sym, ◌∙◌, cond, nat_lt, nat_le, Contains, inl, inr}
+use Rattle.std.proofs.Common.{arith, ◌&&◌, ◌||◌, ◌≡◌, ℕ, ◌+◌, Bool, true, false, not, Option, Some, None, List, [], ◌∷◌, ◌++◌, map, filter, find, is_some, count_by, refl, ap, sym, ◌∙◌, cond, nat_lt, nat_le, Contains, inl, inr}
 use Rattle.std.specs.List.{list_any}
 use Rattle.std.specs.Option.{option_map}
 use Rattle.std.proofs.lemmas.Bool.{and_parts, or_cases, both_ways, false_from_ne_true, ltb-true}

@@ -1,5 +1,5 @@
 -- A surface is destroyed: nothing is told of it from then on.
-use Rattle.std.proofs.Common.{◌≡◌, ℕ, Bool, true, false, not, ◌&&◌, ◌||◌, Option, Some, None, List, [], ◌∷◌, map, filter, find, count_by, refl, ap, sym, ◌∙◌, cond, Contains, is_some}
+use Rattle.std.proofs.Common.{◌≡◌, Bool, true, false, not, ◌&&◌, ◌||◌, Option, Some, None, List, [], ◌∷◌, map, count_by, refl, ap, sym, ◌∙◌, cond}
 use Rattle.std.proofs.lemmas.Bool.{both_ways}
 use Rattle.std.specs.Option.{option_map}
 use Rattle.std.specs.List.{list_any}
@@ -9,7 +9,7 @@ use Rattle.vz_rules.specs.declared.entry.State.TheVariants.{Dropped}
 use Rattle.vz_rules.specs.World.{World, Created, Submission, FrameData, Aggregation, is_on, is_waiting, is_active, active_frames, frame_on, exists}
 use Rattle.vz_rules.specs.Reach.{drop_on}
 use Rattle.vz_rules.specs.Singly.{as_one_goes, going}
-use Rattle.vz_rules.proofs.Reached.{from_same, self_same}
+use Rattle.vz_rules.proofs.Reached.{from_same}
 use Rattle.vz_rules.proofs.Counts.{count_same}
 use Rattle.vz_rules.proofs.Members.{contains_map, any_map, found}
 use Rattle.vz_damage.specs.Told.{Told, Damaged, told_on}

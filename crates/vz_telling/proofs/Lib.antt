@@ -6,5 +6,6 @@ mod Read
 mod Absent
 mod Arriving
 mod Accepted
+mod Viewed
 mod Seen
 mod Taking

@@ -1,6 +1,6 @@
 -- A submission becomes active: what is told of its surface.
 use Rattle.std.proofs.Common.{arith, ◌&&◌, ◌≡◌, ℕ, ◌+◌, Bool, true, false, Option, Some, None, List, [], ◌∷◌, map, filter, count_by, length, refl, ap, sym, ◌∙◌, subst, cond, Contains}
-use Rattle.std.proofs.lemmas.Bool.{both_ways, or_left}
+use Rattle.std.proofs.lemmas.Bool.{both_ways}
 use Rattle.std.specs.Option.{option_map}
 use Rattle.vz_geom.specs.Rectangle.{Rectangle}
 use Rattle.vz_ids.specs.declared.SurfaceId.{SurfaceId}

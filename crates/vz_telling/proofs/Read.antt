@@ -1,13 +1,12 @@
 -- What a drawing reads of what is told.
-use Rattle.std.proofs.Common.{◌≡◌, ℕ, Bool, true, Option, Some, None, List, map, filter, refl, ap, sym, ◌∙◌, cond, Contains}
+use Rattle.std.proofs.Common.{◌≡◌, Bool, true, Option, Some, None, map, filter, ap, sym, ◌∙◌, cond, Contains}
 use Rattle.std.proofs.lemmas.Bool.{or_right}
-use Rattle.vz_ids.specs.declared.SurfaceId.{SurfaceId}
 use Rattle.vz_rules.specs.Damage.{root_damage}
-use Rattle.vz_rules.specs.World.{World, Submission, FrameData, Aggregation, is_on, is_waiting, is_active, active_frames, frame_on, exists}
+use Rattle.vz_rules.specs.World.{World, Submission, FrameData, Aggregation, is_on, is_waiting, is_active}
 use Rattle.vz_rules.specs.Kept.{KeepsAlways}
 use Rattle.vz_rules.proofs.Kept_facts.{active_seen}
 use Rattle.vz_rules.proofs.Members.{contains_map, filter_at}
-use Rattle.vz_damage.specs.Told.{Told, Damaged, told_on}
+use Rattle.vz_damage.specs.Told.{Damaged, told_on}
 use Rattle.vz_damage.specs.Accepted.{TellsLast, told_of}
 use Rattle.vz_telling.specs.Telling.{AreTold, told_in, index_of, index_on}
 

@@ -1,8 +1,8 @@
 -- One submission becomes active: what is found on surfaces after it.
-use Rattle.std.proofs.Common.{◌≡◌, ◌≤◌, Bool, true, false, not, ◌&&◌, ◌||◌, ◌==◌, ◌⊎◌, inl, inr, Option, Some, None, List, [], ◌∷◌, map, filter, find, refl, ap, sym, ◌∙◌, subst, cond, Contains, is_some}
+use Rattle.std.proofs.Common.{◌≡◌, Bool, true, false, not, ◌&&◌, ◌||◌, ◌==◌, ◌⊎◌, inl, inr, Option, Some, None, List, [], ◌∷◌, map, filter, refl, ap, sym, ◌∙◌, cond, Contains, is_some}
 use Rattle.std.specs.Option.{option_map}
 use Rattle.std.specs.List.{list_any}
-use Rattle.std.proofs.lemmas.Bool.{and_parts, and_from, or_left, or_right, both_ways, eq-eqb}
+use Rattle.std.proofs.lemmas.Bool.{and_from, both_ways, eq-eqb}
 use Rattle.vz_ids.specs.declared.SurfaceId.{SurfaceId}
 use Rattle.vz_ids.specs.declared.Sub.{Sub}
 use Rattle.vz_ids.specs.Ids.{same_surface, same_sub}
@@ -13,10 +13,9 @@ use Rattle.vz_rules.specs.Settle.{marked_by, is_before}
 use Rattle.vz_rules.specs.Singly.{as_one_rises, rising}
 use Rattle.vz_rules.specs.Kept.{KeepsAlways}
 use Rattle.vz_rules.proofs.Reached.{from_same, self_same}
-use Rattle.vz_rules.proofs.Members.{contains_here, contains_there, contains_none, contains_cases, contains_map, map_contains, contains_at, at_same, any_at, any_from, same_tests}
+use Rattle.vz_rules.proofs.Members.{contains_here, contains_there, contains_none, contains_cases, contains_map, contains_at, at_same}
 use Rattle.vz_rules.proofs.Counts.{one_place}
 use Rattle.vz_rules.proofs.Kept_facts.{subs_apart}
-use Rattle.vz_rules.specs.Reach.{names, is_named_now}
 use Rattle.vz_rules.proofs.Rising.{find_map}
 
 either : (s t : Bool) → (s || t) ≡ true → (s ≡ true) ⊎ (t ≡ true)

@@ -1,5 +1,5 @@
 -- Messages that submit nothing, and the end: what is told stays.
-use Rattle.std.proofs.Common.{◌&&◌, ◌≡◌, ℕ, ◌==◌, Bool, true, false, not, Option, Some, None, is_some, List, [], ◌∷◌, map, find, refl, ap, sym, ◌∙◌, subst, cond}
+use Rattle.std.proofs.Common.{◌&&◌, ◌≡◌, ℕ, ◌==◌, Bool, true, false, not, Option, Some, None, List, map, refl, ap, sym, ◌∙◌, subst, cond}
 use Rattle.std.specs.Option.{option_map}
 use Rattle.vz_ids.specs.declared.FrameSinkId.{FrameSinkId}
 use Rattle.vz_ids.specs.declared.LocalSurfaceId.{LocalSurfaceId}

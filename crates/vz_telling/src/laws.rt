@@ -2,6 +2,7 @@
 ghost use Rattle.std.specs.Prelude.{◌≡◌, ℕ, ◌+◌, Some, None, is_some, [], List, count_by, IsTrue, IsFalse};
 ghost use Rattle.std.specs.List.{Contains};
 ghost use Rattle.std.specs.Option.{option_map};
+ghost use Rattle.vz_geom.specs.declared.Size.{Size};
 ghost use Rattle.vz_ids.specs.declared.FrameSinkId.{FrameSinkId};
 ghost use Rattle.vz_ids.specs.declared.LocalSurfaceId.{LocalSurfaceId};
 ghost use Rattle.vz_ids.specs.declared.Sub.{Sub};
@@ -14,7 +15,7 @@ ghost use Rattle.vz_rules.specs.declared.entry.Event.TheVariants.{Over};
 ghost use Rattle.vz_rules.specs.Singly.{rising, going};
 ghost use Rattle.vz_rules.specs.Kept.{KeepsAlways};
 ghost use Rattle.vz_rules.specs.Plan.{Plan};
-ghost use Rattle.vz_rules.specs.World.{World, Client, Created, Scene, Submission, opening, is_on, is_waiting};
+ghost use Rattle.vz_rules.specs.World.{World, Client, Created, FrameData, Submission, opening, is_on, is_waiting};
 ghost use Rattle.vz_rules.specs.Scene.{scene_of};
 ghost use Rattle.vz_rules.specs.Walk.{walk_of, too_much};
 ghost use Rattle.vz_rules.specs.Damage.{root_damage, aggregation_of};
@@ -23,9 +24,10 @@ ghost use Rattle.vz_rules.specs.Returns.{give_back, feed};
 ghost use Rattle.vz_rules.specs.Messages.{accepted, id_of, new_submission, taking, message_answer, upload_answer, hierarchy_answer, root_answer, await_answer};
 ghost use Rattle.vz_rules.specs.Step.{answer_to, begin_answer, draw_answer, done_answer};
 ghost use Rattle.vz_surfaces.specs.Stored.{stored_of};
+ghost use Rattle.vz_surfaces.specs.Reading.{active_on};
 ghost use Rattle.vz_walk.specs.Scenes.{scene_in, walked_in};
 ghost use Rattle.vz_damage.specs.Told.{Damaged, told_on, next_index, with_damage, with_active, with_seen};
-ghost use Rattle.vz_damage.specs.Accepted.{TellsLast};
+ghost use Rattle.vz_damage.specs.Accepted.{TellsLast, scene_from};
 ghost use Rattle.vz_damage.specs.Measured.{told_damage, what_changed, without_indices};
 ghost use Rattle.vz_telling.specs.Telling.{AreTold};
 ghost use Rattle.vz_telling.specs.Changing.{IsAllowed, Draws, drawn_reply};
@@ -117,6 +119,21 @@ pub fn damages_go()
         → new.last ≡ old.last → AreTold (going c w) new }
 {}
 
+/// What can be seen of the machine's state, and the walk through it, are those of a store that
+/// stands for it.
+pub fn scenes_are_stored()
+    ensures rootless { (w : World) → w.root ≡ None → scene_of w ≡ None }
+    ensures nothing { (w : World) (root : SurfaceId) → KeepsAlways w → w.root ≡ Some root
+        → active_on (stored_of w) root ≡ None → scene_of w ≡ None }
+    ensures seen { (w : World) (root : SurfaceId) (i : FrameData) → KeepsAlways w
+        → w.root ≡ Some root → active_on (stored_of w) root ≡ Some i
+        → scene_of w ≡ Some (scene_from root w) }
+    ensures walked { (w : World) (root : SurfaceId) (size : Size) → KeepsAlways w
+        → walked_in size root (stored_of w) ≡ walk_of size (scene_from root w) }
+{
+    stores_tell();
+}
+
 /// What is told is what `measured_damages_are_drawn` asks for, and where a drawing walks, what
 /// `measure` tells of a store that stands for the machine's state is what is answered.
 pub fn damages_tell()
@@ -143,8 +160,9 @@ pub fn damages_are_seen()
         → AreTold w d → AreTold (draw_answer p w).world d }
     ensures nothing { (p : Plan) (w : World) (d : Damaged) → scene_of w ≡ None
         → AreTold w d → AreTold (draw_answer p w).world d }
-    ensures too_much { (p : Plan) (w : World) (scene : Scene) (d : Damaged)
-        → scene_of w ≡ Some scene → IsTrue (too_much (walk_of p.size scene))
+    ensures too_much { (p : Plan) (w : World) (root : SurfaceId) (d : Damaged)
+        → scene_of w ≡ Some (scene_from root w)
+        → IsTrue (too_much (walk_of p.size (scene_from root w)))
         → AreTold w d → AreTold (draw_answer p w).world d }
 {
     measured_damages_are_drawn();

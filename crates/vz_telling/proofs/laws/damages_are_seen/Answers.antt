@@ -1,5 +1,6 @@
 use Rattle.std.proofs.Common.{Some, ap, ◌∙◌}
 use Rattle.vz_rules.specs.World.{Aggregation}
+use Rattle.vz_damage.specs.Accepted.{scene_from}
 use Rattle.vz_damage.specs.Measured.{without_indices}
 use Rattle.vz_telling.proofs.Seen.{told_drawn, told_busy, told_nowhere, told_too_much}
 use Rattle.vz_telling.proofs.laws.damages_are_seen.Goals as goal
@@ -16,4 +17,4 @@ pub returns-clause-nothing : goal.returns-clause-nothing
 returns-clause-nothing c = told_nowhere
 
 pub returns-clause-too_much : goal.returns-clause-too_much
-returns-clause-too_much c p w scene d = told_too_much p w d scene
+returns-clause-too_much c p w root d = told_too_much p w d (scene_from root w)

@@ -1,4 +1,3 @@
-use Rattle.vz_rules.specs.World.{World}
 use Rattle.vz_rules.specs.Reach.{naming}
 use Rattle.vz_rules.specs.Returns.{give_back, feed}
 use Rattle.vz_rules.specs.Step.{begin_answer, done_answer}

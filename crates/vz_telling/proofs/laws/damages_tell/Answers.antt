@@ -1,5 +1,4 @@
 use Rattle.std.proofs.Common.{Option, ap, ◌∙◌}
-use Rattle.std.specs.Option.{option_map}
 use Rattle.vz_rules.specs.World.{Aggregation}
 use Rattle.vz_walk.specs.Scenes.{walked_in}
 use Rattle.vz_surfaces.specs.Stored.{stored_of}
