@@ -30,7 +30,8 @@ use Rattle.vz_telling.proofs.Arriving.{off_back, unknown, allowed_parts, waits_o
 abbrev Where : Bool → Told → Option Told
 Where t y = cond t (Some y) None
 
-module _ (w : World) (c : Client) (local : LocalSurfaceId) (frame : CompositorFrame) (h : KeepsAlways w) (k : IsAllowed w c local frame) where
+module _ (w : World) (c : Client) (local : LocalSurfaceId) (frame : CompositorFrame) (h : KeepsAlways w)
+    (k : IsAllowed w c local frame) where
   abbrev after : World
   after = (accepted w c local frame).world
 
@@ -44,7 +45,9 @@ module _ (w : World) (c : Client) (local : LocalSurfaceId) (frame : CompositorFr
   fine = (allowed_parts (last_created w c.number) c.resources local frame k.allowed).1
 
   always_after : KeepsAlways after
-  always_after = always_accepted w c local frame h k.known k.stays fine (allowed_parts (last_created w c.number) c.resources local frame k.allowed).0
+  always_after =
+      always_accepted w c local frame h k.known k.stays fine
+      (allowed_parts (last_created w c.number) c.resources local frame k.allowed).0
 
   subs_after : after.subs ≡ map (replace_on id) w.subs ++ new ∷ []
   unfolding accepted
@@ -79,7 +82,8 @@ module _ (w : World) (c : Client) (local : LocalSurfaceId) (frame : CompositorFr
   stands_here : stands_in after.surfaces id ≡ true
   stands_here =
       ap (stands_in after.surfaces) (sym new_id)
-      ∙ always_after.states.stand new (subst (λ (l : List Submission). Contains l new) (sym subs_after) (push_contains_last (map (replace_on id) w.subs) new))
+      ∙ always_after.states.stand new
+      (subst (λ (l : List Submission). Contains l new) (sym subs_after) (push_contains_last (map (replace_on id) w.subs) new))
       (or_left (is_waiting new) (is_active new) new_waits)
 
   -- the surface that may be created
@@ -117,7 +121,8 @@ module _ (w : World) (c : Client) (local : LocalSurfaceId) (frame : CompositorFr
       by : (t : Bool) → is_last (last_created w c.number) local ≡ t → count_by (is_on id) w.subs ≡ 0
       by true e =
           absurd (both_ways (exists w id) missing
-          (ap (λ (l : List Created). stands_in l id) (sym (surfaces_after ∙ ap (λ (t : Bool). cond t w.surfaces (w.surfaces ++ made ∷ [])) e)) ∙ stands_here))
+          (ap (λ (l : List Created). stands_in l id)
+          (sym (surfaces_after ∙ ap (λ (t : Bool). cond t w.surfaces (w.surfaces ++ made ∷ [])) e)) ∙ stands_here))
       by false e =
           count_none (is_on id) w.subs (λ s m.
           let of = h.numbers.created s m in
@@ -138,7 +143,8 @@ module _ (w : World) (c : Client) (local : LocalSurfaceId) (frame : CompositorFr
   told_after x =
       ap (λ (l : List Submission). told_in l w.last x) subs_after
       ∙ (λ i. record {
-        damages = (damages_more x id new w.subs ∙ ap (λ (t : FrameData). damages x w.subs ++ cond (same_surface t.id x) (root_damage t.frame ∷ []) []) new_data) i;
+        damages = (damages_more x id new w.subs
+            ∙ ap (λ (t : FrameData). damages x w.subs ++ cond (same_surface t.id x) (root_damage t.frame ∷ []) []) new_data) i;
         active = index_of (frame_on x (frames_accepted id new w.subs new_inactive i));
         seen = index_on w.last x;
       })
@@ -151,19 +157,22 @@ module _ (w : World) (c : Client) (local : LocalSurfaceId) (frame : CompositorFr
       less false n e = omega (arith, e)
 
   latest_after : AreLatest w.subs → AreLatest after.subs
-  latest_after l r m waits = elim (contains_push (map (replace_on id) w.subs) new r (subst (λ (ss : List Submission). Contains ss r) subs_after m)) [
-    | inl o ↦ old r o waits
-    | inr e ↦ subst (λ (s : Submission). s.submitted.index ≡ count_by (is_on s.submitted.id) after.subs) e arrives
-  ]
+  latest_after l r m waits =
+      elim (contains_push (map (replace_on id) w.subs) new r (subst (λ (ss : List Submission). Contains ss r) subs_after m)) [
+        | inl o ↦ old r o waits
+        | inr e ↦ subst (λ (s : Submission). s.submitted.index ≡ count_by (is_on s.submitted.id) after.subs) e arrives
+      ]
     where
-      old : (r : Submission) → Contains (map (replace_on id) w.subs) r → is_waiting r ≡ true → r.submitted.index ≡ count_by (is_on r.submitted.id) after.subs
+      old : (r : Submission) → Contains (map (replace_on id) w.subs) r → is_waiting r ≡ true
+          → r.submitted.index ≡ count_by (is_on r.submitted.id) after.subs
       old r o waits =
           let t = contains_map (replace_on id) w.subs r o in
           let on = waits_on id t.0 r t.2 waits in
           let off : same_surface id r.submitted.id ≡ false =
           off_back r.submitted.id id (ap (λ (s : Submission). same_surface s.submitted.id id) on.0 ∙ on.1) in
           let was : r.submitted.index ≡ count_by (is_on r.submitted.id) w.subs =
-          subst (λ (s : Submission). s.submitted.index ≡ count_by (is_on s.submitted.id) w.subs) (sym on.0) (l t.0 t.1 (ap is_waiting (sym on.0) ∙ waits)) in
+          subst (λ (s : Submission). s.submitted.index ≡ count_by (is_on s.submitted.id) w.subs) (sym on.0)
+          (l t.0 t.1 (ap is_waiting (sym on.0) ∙ waits)) in
           omega (arith, was, count_after r.submitted.id, ap {B = ℕ} (λ (q : Bool). cond q 1 0) off)
 
       arrives : new.submitted.index ≡ count_by (is_on new.submitted.id) after.subs
@@ -175,12 +184,19 @@ module _ (w : World) (c : Client) (local : LocalSurfaceId) (frame : CompositorFr
   -- What is told
 
   abbrev as_told : List Rectangle → Told
-  as_told more = record { damages = damages id w.subs ++ more; active = index_of (frame_on id (active_frames w.subs)); seen = index_on w.last id }
+  as_told more =
+      record {
+        damages = damages id w.subs ++ more;
+        active = index_of (frame_on id (active_frames w.subs));
+        seen = index_on w.last id;
+      }
 
-  with_here : AreUnseen w.subs w.last → (t : Bool) → exists w id ≡ t → with_damage (Where t (told_in w.subs w.last id)) (root_damage frame) ≡ told_in after.subs w.last id
+  with_here : AreUnseen w.subs w.last → (t : Bool) → exists w id ≡ t
+      → with_damage (Where t (told_in w.subs w.last id)) (root_damage frame) ≡ told_in after.subs w.last id
   with_here u t e = by t e ∙ (ap (λ (q : Bool). as_told (cond q (root_damage frame ∷ []) [])) (sym (self_same id)) ∙ sym (told_after id))
     where
-      by : (t : Bool) → exists w id ≡ t → with_damage (Where t (told_in w.subs w.last id)) (root_damage frame) ≡ as_told (root_damage frame ∷ [])
+      by : (t : Bool) → exists w id ≡ t
+          → with_damage (Where t (told_in w.subs w.last id)) (root_damage frame) ≡ as_told (root_damage frame ∷ [])
       by true e = refl
       by false e =
           let none = none_on e in
@@ -190,18 +206,21 @@ module _ (w : World) (c : Client) (local : LocalSurfaceId) (frame : CompositorFr
             seen = sym (u id none) i;
           }
 
-  told_here : AreUnseen w.subs w.last → (d : Damaged) → AreTold w d → (y : Told) → y ≡ with_damage (told_on d.surfaces id) (root_damage frame)
+  told_here : AreUnseen w.subs w.last → (d : Damaged) → AreTold w d → (y : Told)
+      → y ≡ with_damage (told_on d.surfaces id) (root_damage frame)
       → Some y ≡ Where (exists after id) (told_in after.subs w.last id)
   told_here u d told y e =
       ap (λ (z : Told). Some z)
       (e ∙ (ap (λ (o : Option Told). with_damage o (root_damage frame)) (told.told id) ∙ with_here u (exists w id) refl))
       ∙ ap (λ (t : Bool). Where t (told_in after.subs w.last id)) (sym exists_here)
 
-  told_there : (x : SurfaceId) → same_surface id x ≡ false → Where (exists w x) (told_in w.subs w.last x) ≡ Where (exists after x) (told_in after.subs w.last x)
+  told_there : (x : SurfaceId) → same_surface id x ≡ false
+      → Where (exists w x) (told_in w.subs w.last x) ≡ Where (exists after x) (told_in after.subs w.last x)
   told_there x off =
       ap (λ (t : Bool). Where t (told_in w.subs w.last x)) (sym (exists_there x off))
       ∙ ap (Where (exists after x)) (λ i. record {
-        damages = (sym (append-nil (damages x w.subs)) ∙ ap (λ (q : Bool). damages x w.subs ++ cond q (root_damage frame ∷ []) []) (sym off)) i;
+        damages = (sym (append-nil (damages x w.subs))
+            ∙ ap (λ (q : Bool). damages x w.subs ++ cond q (root_damage frame ∷ []) []) (sym off)) i;
         active = index_of (frame_on x (active_frames w.subs));
         seen = index_on w.last x;
       }) ∙ ap (Where (exists after x)) (sym (told_after x))
@@ -216,7 +235,8 @@ module _ (w : World) (c : Client) (local : LocalSurfaceId) (frame : CompositorFr
       ∙ ap (λ (i : SurfaceId). Where (exists after i) (told_in after.subs w.last i)) at))
   told_by d d' told here others x false e = others x e ∙ (told.told x ∙ told_there x e)
 
-  pub told_accepted : (d d' : Damaged) → AreTold w d → told_on d'.surfaces id ≡ Some (with_damage (told_on d.surfaces id) (root_damage frame))
+  pub told_accepted : (d d' : Damaged) → AreTold w d
+      → told_on d'.surfaces id ≡ Some (with_damage (told_on d.surfaces id) (root_damage frame))
       → ((x : SurfaceId) → same_surface id x ≡ false → told_on d'.surfaces x ≡ told_on d.surfaces x) → d'.last ≡ d.last → AreTold after d'
   told_accepted d d' told here others last =
       record {

@@ -48,7 +48,8 @@ unknown w c local x keeps there good last m =
     let same : x.id ≡ id = from_same x.id id e in
     let of = keeps.surfaces.of_clients x m in
     let owner : x.client ≡ c.number =
-    sym of.2 ∙ ap (λ (y : Client). y.number) (one_client w.clients of.0 c keeps.clients of.1 there (of.3 ∙ ap (λ (i : SurfaceId). i.sink) same))
+    sym of.2 ∙ ap (λ (y : Client). y.number)
+    (one_client w.clients of.0 c keeps.clients of.1 there (of.3 ∙ ap (λ (i : SurfaceId). i.sink) same))
     in
     let n = contains_at w.surfaces x m in
     raises_none local
@@ -57,7 +58,8 @@ unknown w c local x keeps there good last m =
 
 -- What is not refused
 
-unrefused : (x y z : Refusal) (o : Option Refusal) (a b t : Bool) → first_some (o ∷ when a x ∷ when b y ∷ when t z ∷ []) ≡ None → (a ≡ false) × (b ≡ false)
+unrefused : (x y z : Refusal) (o : Option Refusal) (a b t : Bool) → first_some (o ∷ when a x ∷ when b y ∷ when t z ∷ []) ≡ None
+    → (a ≡ false) × (b ≡ false)
 unrefused x y z (Some r) a b t h = absurd (cc)
 unrefused x y z None true b t h = absurd (cc)
 unrefused x y z None false true t h = absurd (cc)
@@ -65,10 +67,12 @@ unrefused x y z None false false t h = (refl, refl)
 
 -- what is not refused lists nothing unknown, and its id does not violate the last one
 pub allowed_parts : (last : Option Created) (resources : List Resource) (local : LocalSurfaceId) (frame : CompositorFrame)
-    → submit_refusal last resources local frame ≡ None → (list_any (is_unknown resources) frame.resources ≡ false) × (violates last local ≡ false)
+    → submit_refusal last resources local frame ≡ None
+    → (list_any (is_unknown resources) frame.resources ≡ false) × (violates last local ≡ false)
 unfolding submit_refusal
 allowed_parts last resources local frame h =
-    unrefused refusal.UnknownResource refusal.InvariantsViolation refusal.SizeMismatch (option_map (λ rule. refusal.Malformed rule) (first_broken frame))
+    unrefused refusal.UnknownResource refusal.InvariantsViolation refusal.SizeMismatch
+    (option_map (λ rule. refusal.Malformed rule) (first_broken frame))
     (list_any (is_unknown resources) frame.resources) (violates last local) (has_other_size last local frame) h
 
 -- Submissions
@@ -97,15 +101,18 @@ waits_on id s r e waits = by (is_waiting s) refl (is_on id s) e
     by true f false k = (sym k, refl)
     by false f b k = absurd (both_ways (is_waiting s) f (ap is_waiting k ∙ waits))
 
-frames_cons : (s : Submission) (xs : List Submission) → active_frames (s ∷ xs) ≡ cond (is_active s) (s.submitted ∷ active_frames xs) (active_frames xs)
+frames_cons : (s : Submission) (xs : List Submission)
+    → active_frames (s ∷ xs) ≡ cond (is_active s) (s.submitted ∷ active_frames xs) (active_frames xs)
 frames_cons s xs = by (is_active s)
   where
-    by : (t : Bool) → map (λ (x : Submission). x.submitted) (cond t (s ∷ filter is_active xs) (filter is_active xs)) ≡ cond t (s.submitted ∷ active_frames xs) (active_frames xs)
+    by : (t : Bool) → map (λ (x : Submission). x.submitted) (cond t (s ∷ filter is_active xs) (filter is_active xs))
+        ≡ cond t (s.submitted ∷ active_frames xs) (active_frames xs)
     by true = refl
     by false = refl
 
 -- the active frames stay
-pub frames_accepted : (id : SurfaceId) (n : Submission) (xs : List Submission) → is_active n ≡ false → active_frames (map (replace_on id) xs ++ n ∷ []) ≡ active_frames xs
+pub frames_accepted : (id : SurfaceId) (n : Submission) (xs : List Submission) → is_active n ≡ false
+    → active_frames (map (replace_on id) xs ++ n ∷ []) ≡ active_frames xs
 frames_accepted id n [] e = frames_cons n [] ∙ ap (λ t. cond t (n.submitted ∷ []) []) e
 frames_accepted id n (s ∷ xs) e =
     frames_cons (replace_on id s) (map (replace_on id) xs ++ n ∷ [])
@@ -121,7 +128,8 @@ abbrev told_more : SurfaceId → Submission → List Rectangle
 told_more id n = cond (same_surface n.submitted.id id) (root_damage n.submitted.frame ∷ []) []
 
 -- one damage more is told on its surface
-pub damages_more : (id at : SurfaceId) (n : Submission) (xs : List Submission) → damages id (map (replace_on at) xs ++ n ∷ []) ≡ damages id xs ++ told_more id n
+pub damages_more : (id at : SurfaceId) (n : Submission) (xs : List Submission)
+    → damages id (map (replace_on at) xs ++ n ∷ []) ≡ damages id xs ++ told_more id n
 damages_more id at n [] = damages_cons id n []
 damages_more id at n (s ∷ xs) =
     let all = map (replace_on at) xs ++ n ∷ [] in
@@ -140,15 +148,18 @@ count_more id at n xs =
 
 -- Surfaces
 
-stands_cons : (s : Created) (xs : List Created) (id : SurfaceId) → stands_in (s ∷ xs) id ≡ ((same_surface s.id id && not s.destroyed) || stands_in xs id)
+stands_cons : (s : Created) (xs : List Created) (id : SurfaceId)
+    → stands_in (s ∷ xs) id ≡ ((same_surface s.id id && not s.destroyed) || stands_in xs id)
 stands_cons s xs id = by (same_surface s.id id && not s.destroyed)
   where
-    by : (t : Bool) → is_some (cond t (Some s) (find (λ (x : Created). same_surface x.id id && not x.destroyed) xs)) ≡ (t || stands_in xs id)
+    by : (t : Bool) → is_some (cond t (Some s) (find (λ (x : Created). same_surface x.id id && not x.destroyed) xs))
+        ≡ (t || stands_in xs id)
     by true = refl
     by false = refl
 
 -- another surface stands where it stood
-pub stands_more : (xs : List Created) (new : Created) (id : SurfaceId) → same_surface new.id id ≡ false → stands_in (xs ++ new ∷ []) id ≡ stands_in xs id
+pub stands_more : (xs : List Created) (new : Created) (id : SurfaceId) → same_surface new.id id ≡ false
+    → stands_in (xs ++ new ∷ []) id ≡ stands_in xs id
 stands_more [] new id off = stands_cons new [] id ∙ ap (λ (t : Bool). (t && not new.destroyed) || false) off
 stands_more (s ∷ xs) new id off =
     stands_cons s (xs ++ new ∷ []) id

@@ -55,7 +55,8 @@ exists_there : (w : World) (c : Created) (id : SurfaceId) → same_surface c.id 
 unfolding going
 exists_there w c id off =
     found (stands_at id) (map (as_one_goes c) w.surfaces)
-    ∙ (any_map (as_one_goes c) (stands_at id) (stands_at id) w.surfaces (λ s. goes_there c id s off) ∙ sym (found (stands_at id) w.surfaces))
+    ∙ (any_map (as_one_goes c) (stands_at id) (stands_at id) w.surfaces (λ s. goes_there c id s off)
+    ∙ sym (found (stands_at id) w.surfaces))
 
 -- a submission is dropped or stays
 data Drops (c : Created) (s r : Submission) : Type 0 where
@@ -78,7 +79,8 @@ frame_step : (c : Created) (id : SurfaceId) (s r : Submission) (a b : Option Fra
     → seen_as id (is_active r) r.submitted a ≡ seen_as id (is_active s) s.submitted b
 frame_step c id s r a b off (Ends on gone rests e) f =
     seen_inactive id (is_active r) r.submitted a gone
-    ∙ (f ∙ sym (seen_off id (is_active s) s.submitted b (λ k. ap (λ (i : SurfaceId). same_surface i id) (from_same s.submitted.id c.id on) ∙ off)))
+    ∙ (f ∙ sym (seen_off id (is_active s) s.submitted b
+    (λ k. ap (λ (i : SurfaceId). same_surface i id) (from_same s.submitted.id c.id on) ∙ off)))
 frame_step c id s r a b off (Stays e) f =
     ap (λ (x : Submission). seen_as id (is_active x) x.submitted a) e ∙ ap (seen_as id (is_active s) s.submitted) f
 
@@ -92,7 +94,8 @@ frames_there c id (s ∷ xs) off =
 submitted_drop : (c : Created) (s : Submission) → (drop_on (c ∷ []) s).submitted ≡ s.submitted
 submitted_drop c s = dropped_same c s (drop_on (c ∷ []) s) (drops_by c s)
 
-told_there : (w : World) (c : Created) (id : SurfaceId) → same_surface c.id id ≡ false → told_in (going c w).subs w.last id ≡ told_in w.subs w.last id
+told_there : (w : World) (c : Created) (id : SurfaceId) → same_surface c.id id ≡ false
+    → told_in (going c w).subs w.last id ≡ told_in w.subs w.last id
 unfolding going
 told_there w c id off =
     λ i. record {
@@ -131,7 +134,8 @@ last_gone w c = refl
 
 told_by : (w : World) (c : Created) (d d' : Damaged) → AreTold w d → told_on d'.surfaces c.id ≡ None
     → ((id : SurfaceId) → same_surface c.id id ≡ false → told_on d'.surfaces id ≡ told_on d.surfaces id)
-    → (id : SurfaceId) (t : Bool) → same_surface c.id id ≡ t → told_on d'.surfaces id ≡ Where (exists (going c w) id) (told_in (going c w).subs w.last id)
+    → (id : SurfaceId) (t : Bool) → same_surface c.id id ≡ t
+    → told_on d'.surfaces id ≡ Where (exists (going c w) id) (told_in (going c w).subs w.last id)
 told_by w c d d' k none others id true e =
     let at : c.id ≡ id = from_same c.id id e in
     ap (told_on d'.surfaces) (sym at)

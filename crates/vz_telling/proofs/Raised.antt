@@ -23,7 +23,8 @@ damages id xs = map (λ (s : Submission). root_damage s.submitted.frame) (filter
 submitted_same : (x t : Submission) → (as_one_rises x t).submitted ≡ t.submitted
 submitted_same x t = by (same_sub (sub_of t) (sub_of x)) (is_active t && is_on x.submitted.id t)
   where
-    by : (a b : Bool) → (cond a (record t { state = Active; was_active = true }) (cond b (record t { state = Past }) t)).submitted ≡ t.submitted
+    by : (a b : Bool) → (cond a (record t { state = Active; was_active = true }) (cond b (record t { state = Past }) t)).submitted
+        ≡ t.submitted
     by true b = refl
     by false true = refl
     by false false = refl
@@ -37,7 +38,8 @@ damages_cons id s xs = by (is_on id s)
     by true = refl
     by false = refl
 
-pub damages_same : (id : SurfaceId) (f : Submission → Submission) (xs : List Submission) → ((t : Submission) → (f t).submitted ≡ t.submitted)
+pub damages_same : (id : SurfaceId) (f : Submission → Submission) (xs : List Submission)
+    → ((t : Submission) → (f t).submitted ≡ t.submitted)
     → damages id (map f xs) ≡ damages id xs
 damages_same id f [] h = refl
 damages_same id f (s ∷ xs) h =
@@ -81,7 +83,11 @@ module _ (w : World) (x : Submission) (h : KeepsAlways w) (there : Contains w.su
       (λ s. ap (λ (i : FrameData). same_surface i.id id) (submitted_same x s))) ∙ none)
 
   told_risen : (id : SurfaceId) → told_in (rising x w).subs w.last id
-      ≡ record { damages = damages id w.subs; active = index_of (cond (same_surface x.submitted.id id) (Some x.submitted) (frame_on id (active_frames w.subs))); seen = index_on w.last id }
+      ≡ record {
+        damages = damages id w.subs;
+        active = index_of (cond (same_surface x.submitted.id id) (Some x.submitted) (frame_on id (active_frames w.subs)));
+        seen = index_on w.last id;
+      }
   unfolding rising
   told_risen id =
       λ i. record {
@@ -107,7 +113,8 @@ module _ (w : World) (x : Submission) (h : KeepsAlways w) (there : Contains w.su
   abbrev as_active : SurfaceId → ℕ → Told
   as_active id n = record { damages = damages id w.subs; active = n; seen = index_on w.last id }
 
-  told_here : AreLatest w.subs → (id : SurfaceId) → x.submitted.id ≡ id → with_active (told_in w.subs w.last id) ≡ told_in (rising x w).subs w.last id
+  told_here : AreLatest w.subs → (id : SurfaceId) → x.submitted.id ≡ id
+      → with_active (told_in w.subs w.last id) ≡ told_in (rising x w).subs w.last id
   told_here k id e =
       ap (as_active id) (ap (λ (i : SurfaceId). length (damages i w.subs)) (sym e) ∙ sym (latest_index k))
       ∙ (ap (λ (t : Bool). as_active id (index_of (cond t (Some x.submitted) (frame_on id (active_frames w.subs)))))
@@ -115,11 +122,13 @@ module _ (w : World) (x : Submission) (h : KeepsAlways w) (there : Contains w.su
 
   told_there : (id : SurfaceId) → same_surface x.submitted.id id ≡ false → told_in w.subs w.last id ≡ told_in (rising x w).subs w.last id
   told_there id e =
-      ap (λ (t : Bool). as_active id (index_of (cond t (Some x.submitted) (frame_on id (active_frames w.subs))))) (sym e) ∙ sym (told_risen id)
+      ap (λ (t : Bool). as_active id (index_of (cond t (Some x.submitted) (frame_on id (active_frames w.subs))))) (sym e)
+      ∙ sym (told_risen id)
 
   told_by : (d d' : Damaged) → AreTold w d → told_on d'.surfaces x.submitted.id ≡ option_map with_active (told_on d.surfaces x.submitted.id)
       → ((id : SurfaceId) → same_surface x.submitted.id id ≡ false → told_on d'.surfaces id ≡ told_on d.surfaces id)
-      → (id : SurfaceId) (t : Bool) → same_surface x.submitted.id id ≡ t → told_on d'.surfaces id ≡ Where (exists w id) (told_in (rising x w).subs w.last id)
+      → (id : SurfaceId) (t : Bool) → same_surface x.submitted.id id ≡ t
+      → told_on d'.surfaces id ≡ Where (exists w id) (told_in (rising x w).subs w.last id)
   told_by d d' k here others id true e =
       let at : x.submitted.id ≡ id = from_same x.submitted.id id e in
       ap (told_on d'.surfaces) (sym at)
@@ -128,7 +137,8 @@ module _ (w : World) (x : Submission) (h : KeepsAlways w) (there : Contains w.su
       ∙ (with_where (exists w id) (told_in w.subs w.last id) ∙ ap (Where (exists w id)) (told_here k.latest id at)))))
   told_by d d' k here others id false e = others id e ∙ (k.told id ∙ ap (Where (exists w id)) (told_there id e))
 
-  pub told_raised : (d d' : Damaged) → AreTold w d → told_on d'.surfaces x.submitted.id ≡ option_map with_active (told_on d.surfaces x.submitted.id)
+  pub told_raised : (d d' : Damaged) → AreTold w d
+      → told_on d'.surfaces x.submitted.id ≡ option_map with_active (told_on d.surfaces x.submitted.id)
       → ((id : SurfaceId) → same_surface x.submitted.id id ≡ false → told_on d'.surfaces id ≡ told_on d.surfaces id) → d'.last ≡ d.last
       → AreTold (rising x w) d'
   told_raised d d' k here others last =

@@ -10,11 +10,13 @@ use Rattle.vz_damage.specs.Told.{Damaged, told_on}
 use Rattle.vz_damage.specs.Accepted.{TellsLast, told_of}
 use Rattle.vz_telling.specs.Telling.{AreTold, told_in, index_of, index_on}
 
-tells_one : (w : World) (d : Damaged) (a : Aggregation) (s : Submission) → KeepsAlways w → AreTold w d → w.last ≡ Some a → Contains w.subs s → is_active s ≡ true
+tells_one : (w : World) (d : Damaged) (a : Aggregation) (s : Submission) → KeepsAlways w → AreTold w d → w.last ≡ Some a
+    → Contains w.subs s → is_active s ≡ true
     → told_on d.surfaces s.submitted.id ≡ Some (told_of w a s.submitted)
 tells_one w d a s h k last m acts =
     k.told s.submitted.id
-    ∙ (ap (λ (t : Bool). cond t (Some (told_in w.subs w.last s.submitted.id)) None) (h.states.stand s m (or_right (is_waiting s) (is_active s) acts))
+    ∙ (ap (λ (t : Bool). cond t (Some (told_in w.subs w.last s.submitted.id)) None)
+    (h.states.stand s m (or_right (is_waiting s) (is_active s) acts))
     ∙ (ap (λ (o : Option Aggregation). Some (told_in w.subs o s.submitted.id)) last
     ∙ ap (λ (o : Option FrameData). Some (record {
       damages = map (λ (x : Submission). root_damage x.submitted.frame) (filter (is_on s.submitted.id) w.subs);

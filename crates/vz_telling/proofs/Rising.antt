@@ -27,21 +27,24 @@ either false t e = inr e
 pub waits_inactive : (s : Submission) → is_waiting s ≡ true → is_active s ≡ false
 waits_inactive s h = by s.state h
   where
-    by : (t : State) → (elim t as (λ t. Bool) [ Waiting ↦ true | _ ↦ false ]) ≡ true → (elim t as (λ t. Bool) [ Active ↦ true | _ ↦ false ]) ≡ false
+    by : (t : State) → (elim t as (λ t. Bool) [ Waiting ↦ true | _ ↦ false ]) ≡ true
+        → (elim t as (λ t. Bool) [ Active ↦ true | _ ↦ false ]) ≡ false
     by Waiting h = refl
     by Active h = absurd (cc)
     by Past h = absurd (cc)
     by Dropped h = absurd (cc)
 
 -- a submission of the same name is the same
-pub one_sub : (w : World) (s t : Submission) → KeepsAlways w → Contains w.subs s → Contains w.subs t → same_sub (sub_of s) (sub_of t) ≡ true → s ≡ t
+pub one_sub : (w : World) (s t : Submission) → KeepsAlways w → Contains w.subs s → Contains w.subs t
+    → same_sub (sub_of s) (sub_of t) ≡ true → s ≡ t
 one_sub w s t h c d e =
     let n = contains_at w.subs s c in
     let m = contains_at w.subs t d in
     at_same w.subs n.0 m.0 s t n.1 m.1 (subs_apart w n.0 m.0 s t h n.1 m.1 e)
 
 -- of a surface one at most waits
-pub one_waits : (w : World) (s t : Submission) → KeepsAlways w → Contains w.subs s → Contains w.subs t → is_waiting s ≡ true → is_waiting t ≡ true
+pub one_waits : (w : World) (s t : Submission) → KeepsAlways w → Contains w.subs s → Contains w.subs t → is_waiting s ≡ true
+    → is_waiting t ≡ true
     → same_surface s.submitted.id t.submitted.id ≡ true → s ≡ t
 one_waits w s t h c d e f same =
     let n = contains_at w.subs s c in
@@ -49,19 +52,23 @@ one_waits w s t h c d e f same =
     let on : Submission → Bool = λ x. is_on t.submitted.id x && is_waiting x in
     at_same w.subs n.0 m.0 s t n.1 m.1
     (one_place on w.subs n.0 m.0 s t (h.states.one_waits t.submitted.id) n.1 m.1
-    (and_from (is_on t.submitted.id s) (is_waiting s) same e) (and_from (is_on t.submitted.id t) (is_waiting t) (self_same t.submitted.id) f))
+    (and_from (is_on t.submitted.id s) (is_waiting s) same e)
+    (and_from (is_on t.submitted.id t) (is_waiting t) (self_same t.submitted.id) f))
 
 -- what a submission is as another one becomes active
 pub data Rises (x t : Submission) (r : Submission) : Type 0 where
   IsIt : t ≡ x → is_active r ≡ true → is_waiting r ≡ false → r.submitted ≡ x.submitted → Rises x t r
-  IsPast : is_active t ≡ true → is_on x.submitted.id t ≡ true → is_active r ≡ false → is_waiting r ≡ false → r.submitted ≡ t.submitted → Rises x t r
+  IsPast : is_active t ≡ true → is_on x.submitted.id t ≡ true → is_active r ≡ false → is_waiting r ≡ false → r.submitted ≡ t.submitted
+      → Rises x t r
   Stays : (t ≡ x → ⊥) → (is_active t ≡ true → is_on x.submitted.id t ≡ false) → r ≡ t → Rises x t r
 
 self_sub : (a : Sub) → same_sub a a ≡ true
 self_sub a = and_from (a.client == a.client) (a.ordinal == a.ordinal) (eq-eqb a.client a.client refl) (eq-eqb a.ordinal a.ordinal refl)
 
 other : {x t : Submission} → t ≡ x → same_sub (sub_of t) (sub_of x) ≡ false → ⊥
-other {x} {t} s e = absurd (both_ways (same_sub (sub_of t) (sub_of x)) e (ap (λ (y : Submission). same_sub (sub_of y) (sub_of x)) s ∙ self_sub (sub_of x)))
+other {x} {t} s e =
+    absurd (both_ways (same_sub (sub_of t) (sub_of x)) e
+    (ap (λ (y : Submission). same_sub (sub_of y) (sub_of x)) s ∙ self_sub (sub_of x)))
 
 pub rises_by : (w : World) (x t : Submission) → KeepsAlways w → Contains w.subs x → Contains w.subs t → Rises x t (as_one_rises x t)
 rises_by w x t h c d = by (same_sub (sub_of t) (sub_of x)) refl (is_active t) refl (is_on x.submitted.id t) refl
@@ -75,7 +82,9 @@ rises_by w x t h c d = by (same_sub (sub_of t) (sub_of x)) refl (is_active t) re
 
 -- Active frames
 
-pub active_cons : (id : SurfaceId) (r : Submission) (ys : List Submission) → frame_on id (active_frames (r ∷ ys)) ≡ cond (is_active r && same_surface r.submitted.id id) (Some r.submitted) (frame_on id (active_frames ys))
+pub active_cons : (id : SurfaceId) (r : Submission) (ys : List Submission)
+    → frame_on id (active_frames (r ∷ ys))
+    ≡ cond (is_active r && same_surface r.submitted.id id) (Some r.submitted) (frame_on id (active_frames ys))
 active_cons id r ys = by (is_active r)
   where
     by : (b : Bool) → frame_on id (map (λ (s : Submission). s.submitted) (cond b (r ∷ filter is_active ys) (filter is_active ys)))
@@ -86,13 +95,16 @@ active_cons id r ys = by (is_active r)
 abbrev pub seen_as : SurfaceId → Bool → FrameData → Option FrameData → Option FrameData
 seen_as id b i rest = cond (b && same_surface i.id id) (Some i) rest
 
-seen_active : (id : SurfaceId) (b : Bool) (i j : FrameData) (rest : Option FrameData) → b ≡ true → i ≡ j → seen_as id b i rest ≡ cond (same_surface j.id id) (Some j) rest
-seen_active id b i j rest e f = ap (λ (t : Bool). seen_as id t i rest) e ∙ ap (λ (k : FrameData). cond (same_surface k.id id) (Some k) rest) f
+seen_active : (id : SurfaceId) (b : Bool) (i j : FrameData) (rest : Option FrameData) → b ≡ true → i ≡ j
+    → seen_as id b i rest ≡ cond (same_surface j.id id) (Some j) rest
+seen_active id b i j rest e f = ap (λ (t : Bool). seen_as id t i rest) e
+    ∙ ap (λ (k : FrameData). cond (same_surface k.id id) (Some k) rest) f
 
 pub seen_inactive : (id : SurfaceId) (b : Bool) (i : FrameData) (rest : Option FrameData) → b ≡ false → seen_as id b i rest ≡ rest
 seen_inactive id b i rest e = ap (λ (t : Bool). seen_as id t i rest) e
 
-pub seen_off : (id : SurfaceId) (b : Bool) (i : FrameData) (rest : Option FrameData) → (b ≡ true → same_surface i.id id ≡ false) → seen_as id b i rest ≡ rest
+pub seen_off : (id : SurfaceId) (b : Bool) (i : FrameData) (rest : Option FrameData) → (b ≡ true → same_surface i.id id ≡ false)
+    → seen_as id b i rest ≡ rest
 seen_off id true i rest f = ap (λ (t : Bool). cond t (Some i) rest) (f refl)
 seen_off id false i rest f = refl
 
@@ -119,39 +131,50 @@ module _ (w : World) (x : Submission) (h : KeepsAlways w) (there : Contains w.su
   off_step id t r a b off (Stays apart clear is) e =
       ap (λ (s : Submission). seen_as id (is_active s) s.submitted a) is ∙ ap (seen_as id (is_active t) t.submitted) e
 
-  frames_off : (id : SurfaceId) (ts : List Submission) → ((t : Submission) → Contains ts t → Contains w.subs t) → same_surface x.submitted.id id ≡ false
+  frames_off : (id : SurfaceId) (ts : List Submission) → ((t : Submission) → Contains ts t → Contains w.subs t)
+      → same_surface x.submitted.id id ≡ false
       → frame_on id (active_frames (map (as_one_rises x) ts)) ≡ frame_on id (active_frames ts)
   frames_off id [] in_subs off = refl
   frames_off id (t ∷ ts) in_subs off =
       active_cons id (as_one_rises x t) (map (as_one_rises x) ts)
-      ∙ (off_step id t (as_one_rises x t) _ _ off (rises t (in_subs t (contains_here t ts))) (frames_off id ts (λ s c. in_subs s (contains_there t s ts c)) off)
+      ∙ (off_step id t (as_one_rises x t) _ _ off (rises t (in_subs t (contains_here t ts)))
+      (frames_off id ts (λ s c. in_subs s (contains_there t s ts c)) off)
       ∙ sym (active_cons id t ts))
 
   -- the surface on which it rises shows it
-  on_step : (t r : Submission) (ts : List Submission) (a : Option FrameData) → Rises x t r → (t ≡ x) ⊎ Contains ts x → (Contains ts x → a ≡ Some x.submitted)
+  on_step : (t r : Submission) (ts : List Submission) (a : Option FrameData) → Rises x t r → (t ≡ x) ⊎ Contains ts x
+      → (Contains ts x → a ≡ Some x.submitted)
       → seen_as x.submitted.id (is_active r) r.submitted a ≡ Some x.submitted
   on_step t r ts a (IsIt same acts rests is) c rest =
-      seen_active x.submitted.id (is_active r) r.submitted x.submitted a acts is ∙ ap (λ (q : Bool). cond q (Some x.submitted) a) (self_same x.submitted.id)
-  on_step t r ts a (IsPast acts on gone rests is) (inl e) rest = absurd (both_ways (is_active t) (ap is_active e ∙ waits_inactive x waits) acts)
+      seen_active x.submitted.id (is_active r) r.submitted x.submitted a acts is ∙ ap (λ (q : Bool). cond q (Some x.submitted) a)
+      (self_same x.submitted.id)
+  on_step t r ts a (IsPast acts on gone rests is) (inl e) rest =
+      absurd (both_ways (is_active t) (ap is_active e ∙ waits_inactive x waits) acts)
   on_step t r ts a (IsPast acts on gone rests is) (inr c) rest = seen_inactive x.submitted.id (is_active r) r.submitted a gone ∙ rest c
   on_step t r ts a (Stays apart clear is) (inl e) rest = absurd (apart e)
   on_step t r ts a (Stays apart clear is) (inr c) rest =
-      ap (λ (s : Submission). seen_as x.submitted.id (is_active s) s.submitted a) is ∙ (seen_off x.submitted.id (is_active t) t.submitted a clear ∙ rest c)
+      ap (λ (s : Submission). seen_as x.submitted.id (is_active s) s.submitted a) is
+      ∙ (seen_off x.submitted.id (is_active t) t.submitted a clear ∙ rest c)
 
   frames_on : (ts : List Submission) → ((t : Submission) → Contains ts t → Contains w.subs t) → Contains ts x
       → frame_on x.submitted.id (active_frames (map (as_one_rises x) ts)) ≡ Some x.submitted
   frames_on [] in_subs c = absurd (contains_none x c)
   frames_on (t ∷ ts) in_subs c =
       active_cons x.submitted.id (as_one_rises x t) (map (as_one_rises x) ts)
-      ∙ on_step t (as_one_rises x t) ts _ (rises t (in_subs t (contains_here t ts))) (contains_cases t x ts c) (λ d. frames_on ts (λ s e. in_subs s (contains_there t s ts e)) d)
+      ∙ on_step t (as_one_rises x t) ts _ (rises t (in_subs t (contains_here t ts))) (contains_cases t x ts c)
+      (λ d. frames_on ts (λ s e. in_subs s (contains_there t s ts e)) d)
 
-  pub frame_risen : (id : SurfaceId) → frame_on id (active_frames (rising x w).subs) ≡ cond (same_surface x.submitted.id id) (Some x.submitted) (frame_on id (active_frames w.subs))
+  pub frame_risen : (id : SurfaceId)
+      → frame_on id (active_frames (rising x w).subs)
+      ≡ cond (same_surface x.submitted.id id) (Some x.submitted) (frame_on id (active_frames w.subs))
   unfolding rising
   frame_risen id = by (same_surface x.submitted.id id) refl
     where
-      by : (t : Bool) → same_surface x.submitted.id id ≡ t → frame_on id (active_frames (map (as_one_rises x) w.subs)) ≡ cond t (Some x.submitted) (frame_on id (active_frames w.subs))
+      by : (t : Bool) → same_surface x.submitted.id id ≡ t
+          → frame_on id (active_frames (map (as_one_rises x) w.subs)) ≡ cond t (Some x.submitted) (frame_on id (active_frames w.subs))
       by true e =
-          ap (λ (i : SurfaceId). frame_on i (active_frames (map (as_one_rises x) w.subs))) (sym (from_same x.submitted.id id e)) ∙ frames_on w.subs (λ t c. c) there
+          ap (λ (i : SurfaceId). frame_on i (active_frames (map (as_one_rises x) w.subs))) (sym (from_same x.submitted.id id e))
+          ∙ frames_on w.subs (λ t c. c) there
       by false e = frames_off id w.subs (λ t c. c) e
 
   -- Surfaces
@@ -164,9 +187,12 @@ module _ (w : World) (x : Submission) (h : KeepsAlways w) (there : Contains w.su
   pub exists_risen : (id : SurfaceId) → exists (rising x w) id ≡ exists w id
   unfolding rising
   exists_risen id =
-      ap is_some (find_map (λ (s : Created). same_surface s.id id && not s.destroyed) (marked_by w.surfaces (x ∷ [])) w.surfaces (λ c. same_one id c (list_any (is_before w.surfaces c) (x ∷ []))))
+      ap is_some (find_map (λ (s : Created). same_surface s.id id && not s.destroyed) (marked_by w.surfaces (x ∷ [])) w.surfaces
+      (λ c. same_one id c (list_any (is_before w.surfaces c) (x ∷ []))))
       ∙ stands_map id (existing w id) (marked_by w.surfaces (x ∷ []))
     where
-      same_one : (id : SurfaceId) (c : Created) (t : Bool) → (same_surface (cond t (record c { marked = true }) c).id id && not (cond t (record c { marked = true }) c).destroyed) ≡ (same_surface c.id id && not c.destroyed)
+      same_one : (id : SurfaceId) (c : Created) (t : Bool)
+          → (same_surface (cond t (record c { marked = true }) c).id id && not (cond t (record c { marked = true }) c).destroyed)
+          ≡ (same_surface c.id id && not c.destroyed)
       same_one id c true = refl
       same_one id c false = refl

@@ -25,7 +25,8 @@ frames_bare [] = refl
 frames_bare (s ∷ xs) = by (is_active s) (frames_bare xs)
   where
     by : (t : Bool) → active_frames (map bare_sub xs) ≡ active_frames xs
-        → map (λ (x : Submission). x.submitted) (cond t (bare_sub s ∷ filter is_active (map bare_sub xs)) (filter is_active (map bare_sub xs)))
+        → map (λ (x : Submission). x.submitted)
+        (cond t (bare_sub s ∷ filter is_active (map bare_sub xs)) (filter is_active (map bare_sub xs)))
         ≡ map (λ (x : Submission). x.submitted) (cond t (s ∷ filter is_active xs) (filter is_active xs))
     by true e = ap (λ (l : List FrameData). s.submitted ∷ l) e
     by false e = e
@@ -58,33 +59,38 @@ told_bare xs last id =
       seen = index_on last id;
     }
 
-told_same : (xs ys : List Submission) (last : Option Aggregation) (id : SurfaceId) → map bare_sub ys ≡ map bare_sub xs → told_in ys last id ≡ told_in xs last id
+told_same : (xs ys : List Submission) (last : Option Aggregation) (id : SurfaceId) → map bare_sub ys ≡ map bare_sub xs
+    → told_in ys last id ≡ told_in xs last id
 told_same xs ys last id e = sym (told_bare ys last id) ∙ (ap (λ (l : List Submission). told_in l last id) e ∙ told_bare xs last id)
 
 latest_same : (xs ys : List Submission) → map bare_sub ys ≡ map bare_sub xs → AreLatest xs → AreLatest ys
 latest_same xs ys e h s m waits =
-    let t = contains_map bare_sub xs (bare_sub s) (subst (λ (l : List Submission). Contains l (bare_sub s)) e (map_contains bare_sub ys s m)) in
+    let t = contains_map bare_sub xs (bare_sub s)
+    (subst (λ (l : List Submission). Contains l (bare_sub s)) e (map_contains bare_sub ys s m)) in
     let same : t.0.submitted ≡ s.submitted = ap (λ (x : Submission). x.submitted) t.2 in
     ap (λ (i : FrameData). i.index) (sym same)
     ∙ (h t.0 t.1 (ap is_waiting t.2 ∙ waits)
     ∙ (ap (λ (i : FrameData). count_by (is_on i.id) xs) same
     ∙ (sym (count_bare s.submitted.id xs) ∙ (ap (count_by (is_on s.submitted.id)) (sym e) ∙ count_bare s.submitted.id ys))))
 
-count_like : (xs ys : List Submission) (id : SurfaceId) → map bare_sub ys ≡ map bare_sub xs → count_by (is_on id) ys ≡ count_by (is_on id) xs
+count_like : (xs ys : List Submission) (id : SurfaceId) → map bare_sub ys ≡ map bare_sub xs
+    → count_by (is_on id) ys ≡ count_by (is_on id) xs
 count_like xs ys id e = sym (count_bare id ys) ∙ (ap (count_by (is_on id)) e ∙ count_bare id xs)
 
 abbrev told_where : Bool → Told → Option Told
 told_where t x = cond t (Some x) None
 
 -- where a store stands for the same, and the last aggregation is the same, the same is told
-pub told_stays : (w v : World) (d : Damaged) → ((u : World) (id : SurfaceId) → stands (stored_of u) id ≡ exists u id) → stored_of v ≡ stored_of w → v.last ≡ w.last
+pub told_stays : (w v : World) (d : Damaged) → ((u : World) (id : SurfaceId) → stands (stored_of u) id ≡ exists u id)
+    → stored_of v ≡ stored_of w → v.last ≡ w.last
     → AreTold w d → AreTold v d
 unfolding stored_of
 told_stays w v d reads e last h =
     let subs : map bare_sub v.subs ≡ map bare_sub w.subs = ap (λ (st : Stored). st.subs) e in
     record {
       told = λ id. h.told id
-          ∙ (ap (λ (t : Bool). told_where t (told_in w.subs w.last id)) (sym (reads w id) ∙ (ap (λ (st : Stored). stands st id) (sym e) ∙ reads v id))
+          ∙ (ap (λ (t : Bool). told_where t (told_in w.subs w.last id))
+          (sym (reads w id) ∙ (ap (λ (st : Stored). stands st id) (sym e) ∙ reads v id))
           ∙ (ap (told_where (exists v id)) (sym (told_same w.subs v.subs w.last id subs))
           ∙ ap (λ (o : Option Aggregation). told_where (exists v id) (told_in v.subs o id)) (sym last)));
       last = h.last ∙ ap (λ (o : Option Aggregation). option_map without_indices o) (sym last);
@@ -124,4 +130,6 @@ last_begun p w = refl
 
 pub last_done : (w : World) → (done_answer w).world.last ≡ w.last
 unfolding done_answer
-last_done w = elim w.in_flight as (λ (o : Option (List Sub)). (cond (is_some o) (says reply.Shown (record w { in_flight = None })) (says reply.Nothing w)).world.last ≡ w.last) [ None ↦ refl | Some l ↦ refl ]
+last_done w = elim w.in_flight as
+    (λ (o : Option (List Sub)). (cond (is_some o) (says reply.Shown (record w { in_flight = None })) (says reply.Nothing w)).world.last
+    ≡ w.last) [ None ↦ refl | Some l ↦ refl ]

@@ -24,7 +24,8 @@ either : (t : Bool) (a b : Answer) (o : Option Aggregation) → a.world.last ≡
 either true a b o e f = e
 either false a b o e f = f
 
-refused_or : (w : World) (c : Client) (o : Option Refusal) (a : Answer) → a.world.last ≡ w.last → (unless_refused w c o a).world.last ≡ w.last
+refused_or : (w : World) (c : Client) (o : Option Refusal) (a : Answer) → a.world.last ≡ w.last
+    → (unless_refused w c o a).world.last ≡ w.last
 refused_or w c None a e = e
 refused_or w c (Some r) a e = refl
 
@@ -55,7 +56,8 @@ abbrev Where : Bool → Told → Option Told
 Where t y = cond t (Some y) None
 
 -- where the same surfaces exist, and submissions and the last aggregation are the same, the same is told
-told_alike : (w v : World) (d : Damaged) → v.subs ≡ w.subs → v.last ≡ w.last → ((id : SurfaceId) → exists v id ≡ exists w id) → AreTold w d → AreTold v d
+told_alike : (w v : World) (d : Damaged) → v.subs ≡ w.subs → v.last ≡ w.last → ((id : SurfaceId) → exists v id ≡ exists w id) → AreTold w d
+    → AreTold v d
 told_alike w v d subs last exist h =
     record {
       told = λ id. h.told id
@@ -64,7 +66,8 @@ told_alike w v d subs last exist h =
           ∙ ap (λ (o : Option Aggregation). Where (exists v id) (told_in v.subs o id)) (sym last)));
       last = h.last ∙ ap (λ (o : Option Aggregation). option_map without_indices o) (sym last);
       latest = subst AreLatest (sym subs) h.latest;
-      unseen = subst (λ (o : Option Aggregation). AreUnseen v.subs o) (sym last) (subst (λ (l : List Submission). AreUnseen l w.last) (sym subs) h.unseen);
+      unseen = subst (λ (o : Option Aggregation). AreUnseen v.subs o) (sym last)
+          (subst (λ (l : List Submission). AreUnseen l w.last) (sym subs) h.unseen);
     }
 
 abbrev stands_at : SurfaceId → Created → Bool
@@ -82,7 +85,8 @@ unfolding message_answer
 told_closed w c d h =
     told_alike w _ d refl refl
     (λ id. found (stands_at id) (map (mark_of c.number) w.surfaces)
-    ∙ (any_map (mark_of c.number) (stands_at id) (stands_at id) w.surfaces (λ s. marked_at c.number id s) ∙ sym (found (stands_at id) w.surfaces))) h
+    ∙ (any_map (mark_of c.number) (stands_at id) (stands_at id) w.surfaces (λ s. marked_at c.number id s)
+    ∙ sym (found (stands_at id) w.surfaces))) h
 
 pub told_over : (p : Plan) (w : World) (d : Damaged) → AreTold w d → AreTold (answer_to p w Over).world d
 unfolding answer_to

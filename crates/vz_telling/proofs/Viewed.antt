@@ -14,7 +14,8 @@ rootless w e = ap (λ (o : Option SurfaceId). option_and_then (λ (root : Surfac
 abbrev by_frame : SurfaceId → World → Option FrameData → Option Scene
 by_frame root w o = elim o [ Some i ↦ Some (scene_from root w) | None ↦ None ]
 
-scene_by : (w : World) (root : SurfaceId) (o : Option FrameData) → w.root ≡ Some root → frame_on root (active_frames w.subs) ≡ o → scene_of w ≡ by_frame root w o
+scene_by : (w : World) (root : SurfaceId) (o : Option FrameData) → w.root ≡ Some root → frame_on root (active_frames w.subs) ≡ o
+    → scene_of w ≡ by_frame root w o
 unfolding scene_of
 scene_by w root o e f =
     ap (λ (r : Option SurfaceId). option_and_then (λ (root : SurfaceId). scene_at root (active_frames w.subs)) r) e ∙ ap (by_frame root w) f

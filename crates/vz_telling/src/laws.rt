@@ -58,9 +58,9 @@ pub fn damages_stay()
     stores_tell();
 }
 
-/// What is told stays where a client took a message that submits nothing: where it alone changes, as
-/// where it is refused, reclaims or produced nothing, and where it uploads, relates sinks, names the
-/// root, awaits a frame or closes.
+/// What is told stays where a client took a message that submits nothing: where it alone changes,
+/// as where it is refused, reclaims or produced nothing, and where it uploads, relates sinks, names
+/// the root, awaits a frame or closes.
 pub fn damages_stay_in_messages()
     ensures clients { (f : Client → Client) (c : Client) (w : World) (d : Damaged)
         → AreTold w d → AreTold (taking f c w) d }

@@ -9,7 +9,8 @@ returns-clause-clients c f x w d = told_stays w (taking f x w) d c.stores_tell.e
 
 pub returns-clause-upload : goal.returns-clause-upload
 returns-clause-upload c w x id block d =
-    told_stays w (upload_answer w x id block).world d c.stores_tell.ensures.exists (c.stores_stay.ensures.upload w x id block) (last_uploaded w x id block)
+    told_stays w (upload_answer w x id block).world d c.stores_tell.ensures.exists (c.stores_stay.ensures.upload w x id block)
+    (last_uploaded w x id block)
 
 pub returns-clause-hierarchy : goal.returns-clause-hierarchy
 returns-clause-hierarchy c w x parent child d =
