@@ -1,0 +1,11 @@
+mod Stored
+mod Rising
+mod Raised
+mod Gone
+mod Read
+mod Absent
+mod Arriving
+mod Accepted
+mod Viewed
+mod Seen
+mod Taking
