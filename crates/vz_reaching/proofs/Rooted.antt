@@ -96,13 +96,17 @@ module _ (w : World) (r : Referring) (named : naming w ≡ w) (h : AreKept w Non
       (map_contains (λ (c : Created). c.id) (filter (is_temporary w) w.surfaces) k.0 (filter_has (is_temporary w) w.surfaces k.0 k.1 last)) (ap (same_surface x) (k.2 ∙ t.2) ∙ m.2)
 
   -- what is temporary is kept
+  kept_one : (x id : SurfaceId) (c : Created) → Contains w.surfaces c → is_temporary w c ≡ true → c.id ≡ id → same_surface x id ≡ true → has_id kept_ids x ≡ true
+  kept_one x id c m e is same =
+      let a = any_at (λ (t : Temporary). same_surface t.id c.id) r.temporary (h.lasting c m refl ∙ (plain c m ∙ e)) in
+      any_from (same_surface x) kept_ids a.0.id (map_contains (λ (t : Temporary). t.id) r.temporary a.0 a.1) (ap (same_surface x) (from_same a.0.id c.id a.2 ∙ is) ∙ same)
+
   there_kept : (x : SurfaceId) → has_id temporary_ids x ≡ true → has_id kept_ids x ≡ true
   there_kept x e =
       let m = any_at (same_surface x) temporary_ids e in
       let c = contains_map (λ (c : Created). c.id) (filter (is_temporary w) w.surfaces) m.0 m.1 in
       let f = filter_at (is_temporary w) w.surfaces c.0 c.1 in
-      let a = any_at (λ (t : Temporary). same_surface t.id c.0.id) r.temporary (h.lasting c.0 f.0 refl ∙ (plain c.0 f.0 ∙ f.1)) in
-      any_from (same_surface x) kept_ids a.0.id (map_contains (λ (t : Temporary). t.id) r.temporary a.0 a.1) (ap (same_surface x) (from_same a.0.id c.0.id a.2 ∙ c.2) ∙ m.2)
+      kept_one x m.0 c.0 f.0 f.1 c.2 m.2
 
   pub roots_same : AreRoots w (root_of w) r.temporary
   unfolding starts roots
