@@ -1,0 +1,4 @@
+pub mod Putting
+pub mod Gathering
+pub mod Rostered
+pub mod Counting
