@@ -2,3 +2,5 @@ pub mod Putting
 pub mod Gathering
 pub mod Rostered
 pub mod Counting
+pub mod Staying
+pub mod Drawings
