@@ -1,5 +1,6 @@
 -- A drawing: the drawn frame is what the walk over the store goes into.
-use Rattle.std.proofs.Common.{◌≡◌, Bool, true, false, ◌&&◌, Option, Some, None, is_some, List, filter, refl, ap, sym, ◌∙◌, cond, Contains, subst}
+use Rattle.std.proofs.Common.{◌≡◌, Bool, true, false, ◌&&◌, Option, Some, None, is_some, List, filter, refl, ap, sym, ◌∙◌, cond, Contains}
+use Rattle.std.proofs.Common.{subst}
 use Rattle.std.specs.List.{list_any}
 use Rattle.vz_geom.specs.declared.Size.{Size}
 use Rattle.vz_geom.specs.Rectangle.{Rectangle, is_empty_rect}
@@ -107,7 +108,8 @@ module _ (p : Plan) (w : World) (root : SurfaceId) (k : Draws p w root) where
   still_by f h true e = record { drawn = h.drawn; listed = h.listed }
   still_by f h false e = absurd (cc)
 
-  pub flown_still : (f : Option (List Flown)) → (draw_answer p w).reply ≡ reply.Unchanged → AreFlown w f → AreFlown (draw_answer p w).world f
+  pub flown_still : (f : Option (List Flown)) → (draw_answer p w).reply ≡ reply.Unchanged → AreFlown w f
+      → AreFlown (draw_answer p w).world f
   flown_still f e h =
       subst (λ (a : Answer). AreFlown a.world f) (sym answer_is)
       (still_by f h (is_some w.last && is_empty_rect damage) (sym (ap (λ (a : Answer). a.reply) answer_is) ∙ e))

@@ -7,7 +7,8 @@ use Rattle.vz_ids.specs.declared.Sub.{Sub}
 use Rattle.vz_ids.specs.Ids.{same_sub}
 use Rattle.vz_rules.specs.Closure.{adding}
 use Rattle.vz_rules.specs.World.{has_sub}
-use Rattle.vz_rules.proofs.Members.{contains_none, contains_cases, contains_here, contains_there, contains_push, push_contains, push_contains_last, any_at, none_at, at_contains, map_contains}
+use Rattle.vz_rules.proofs.Members.{contains_none, contains_cases, contains_here, contains_there, contains_push, push_contains}
+use Rattle.vz_rules.proofs.Members.{push_contains_last, any_at, none_at, at_contains, map_contains}
 use Rattle.vz_flight.specs.Flying.{Flown, subs_of}
 use Rattle.vz_flight.specs.Drawn.{same_flown}
 use Rattle.vz_flight.proofs.Putting.{named}
@@ -57,7 +58,8 @@ module _ (P : Flown → Type 0) (alone : (f g : Flown) → P f → P g → same_
       subst (λ x. Contains xs x) (sym (alone f m.0 p (all m.0 m.1) m.2)) m.1
   there_by false xs f e all p = push_contains_last xs f
 
-  all_by : (t : Bool) (xs : List Flown) (f g : Flown) → ((g : Flown) → Contains xs g → P g) → P f → Contains (cond t xs (xs ++ f ∷ [])) g → P g
+  all_by : (t : Bool) (xs : List Flown) (f g : Flown) → ((g : Flown) → Contains xs g → P g) → P f
+      → Contains (cond t xs (xs ++ f ∷ [])) g → P g
   all_by t xs f g all p c = elim (from_by t xs f g c) [ inl m ↦ all g m | inr e ↦ subst P e p ]
 
   -- where those of one name are one, all that are added are there
@@ -125,5 +127,6 @@ next_is : (k : ℕ) → suc k ≡ k + 1
 next_is k = omega arith
 
 -- nor among those behind it
-pub once_behind : (xs : List Flown) → Once xs → (k : ℕ) (f : Flown) → slice_get xs k ≡ Some f → has_sub (subs_of (drop (k + 1) xs)) f.0 ≡ false
+pub once_behind : (xs : List Flown) → Once xs → (k : ℕ) (f : Flown) → slice_get xs k ≡ Some f
+    → has_sub (subs_of (drop (k + 1) xs)) f.0 ≡ false
 once_behind xs h k f e = ap (λ n. has_sub (subs_of (drop n xs)) f.0) (sym (next_is k)) ∙ behind_by xs h k f e

@@ -11,9 +11,10 @@ use Rattle.vz_ids.specs.declared.Sub.{Sub}
 use Rattle.vz_ids.specs.Ids.{same_sub}
 use Rattle.vz_rules.specs.Closure.{adding}
 use Rattle.vz_rules.specs.Kept.{stands_in}
-use Rattle.vz_rules.specs.World.{FrameData, Scene, Submission, has_sub, is_active, sub_of}
+use Rattle.vz_rules.specs.World.{FrameData, Scene, Submission, active_frames, has_sub, is_active, sub_of}
 use Rattle.vz_rules.specs.Walk.{Visit, Quad, Shows, Enters, goes_into, walked_subs}
-use Rattle.vz_rules.proofs.Members.{contains_none, contains_cases, contains_map, map_contains, contains_at, at_same, any_at, any_from, filter_at, filter_has, filter_map_at, filter_map_has, same_tests}
+use Rattle.vz_rules.proofs.Members.{contains_none, contains_cases, contains_map, map_contains, contains_at, at_same, any_at, any_from}
+use Rattle.vz_rules.proofs.Members.{filter_at, filter_has, filter_map_at, filter_map_has, same_tests}
 use Rattle.vz_rules.proofs.Kept_accepted.{subs_differ}
 use Rattle.vz_surfaces.specs.Stored.{Stored}
 use Rattle.vz_surfaces.specs.Reading.{seen_frames}
@@ -117,7 +118,8 @@ module _ (active : List FrameData) (visits : List Visit) (goes : Each (GoesTo ac
         all = all_met;
         only = only_met;
         names = λ sub. same_tests (has_sub (subs_of (met_in visits)) sub) (has_sub (subs_of (flown_in active visits)) sub)
-            (has_more (met_in visits) (flown_in active visits) only_met sub) (has_more (flown_in active visits) (met_in visits) all_met sub);
+            (has_more (met_in visits) (flown_in active visits) only_met sub)
+            (has_more (flown_in active visits) (met_in visits) all_met sub);
         before = once_before (met_in visits) (adding_once [] (filter_map flown_at visits) tt);
         behind = once_behind (met_in visits) (adding_once [] (filter_map flown_at visits) tt);
       }
@@ -127,7 +129,7 @@ module _ (active : List FrameData) (visits : List Visit) (goes : Each (GoesTo ac
 -- one that is seen is that of a submission
 seen_sub : (st : Stored) (i : FrameData) → Contains (seen_frames st) i → (s : Submission) × Contains st.subs s × (s.submitted ≡ i)
 seen_sub st i c =
-    let a = filter_at (λ (j : FrameData). stands_in st.surfaces j.id) (map (λ (s : Submission). s.submitted) (filter is_active st.subs)) i c in
+    let a = filter_at (λ (j : FrameData). stands_in st.surfaces j.id) (active_frames st.subs) i c in
     let m = contains_map (λ (s : Submission). s.submitted) (filter is_active st.subs) i a.0 in
     (m.0, (filter_at is_active st.subs m.0 m.1).0, m.2)
 

@@ -1,5 +1,6 @@
 -- The drawn frame stays where what is in flight and what was accepted does.
-use Rattle.std.proofs.Common.{◌≡◌, ℕ, ◌==◌, Bool, true, false, ◌&&◌, ◌||◌, Option, Some, None, List, [], ◌∷◌, map, refl, ap, sym, ◌∙◌, cond, Contains, subst}
+use Rattle.std.proofs.Common.{◌≡◌, ℕ, ◌==◌, Bool, true, false, ◌&&◌, ◌||◌, Option, Some, None, List, [], ◌∷◌, map, refl, ap, sym, ◌∙◌, cond}
+use Rattle.std.proofs.Common.{Contains, subst}
 use Rattle.std.proofs.Common.{is_some}
 use Rattle.std.specs.Option.{option_map}
 use Rattle.std.specs.List.{list_any}
@@ -14,12 +15,14 @@ use Rattle.vz_rules.specs.declared.entry.Event.TheVariants.{Over}
 use Rattle.vz_rules.specs.declared.entry.Refusal.{Refusal}
 use Rattle.vz_rules.specs.declared.entry.State.TheVariants.{Active, Past, Dropped}
 use Rattle.vz_rules.specs.Plan.{Plan}
-use Rattle.vz_rules.specs.World.{World, Client, Created, Submission, FrameData, opening, is_waiting, is_active, is_on, is_in_flight, has_sub, sub_of}
+use Rattle.vz_rules.specs.World.{World, Client, Created, Submission, FrameData, opening, is_waiting, is_active, is_on, is_in_flight}
+use Rattle.vz_rules.specs.World.{has_sub, sub_of}
 use Rattle.vz_rules.specs.Singly.{rising, going, as_one_rises}
 use Rattle.vz_rules.specs.Reach.{naming, drop_on}
 use Rattle.vz_rules.specs.Returns.{give_back, feed, mark_fed}
 use Rattle.vz_rules.specs.declared.entry.Reply.TheVariants as reply
-use Rattle.vz_rules.specs.Messages.{Answer, says, accepted, new_submission, replace_on, taking, unless_refused, in_use, upload_answer, hierarchy_refusal, hierarchy_answer, root_answer, await_answer, message_answer}
+use Rattle.vz_rules.specs.Messages.{Answer, says, accepted, new_submission, replace_on, taking, unless_refused, in_use, upload_answer}
+use Rattle.vz_rules.specs.Messages.{hierarchy_refusal, hierarchy_answer, root_answer, await_answer, message_answer}
 use Rattle.vz_rules.specs.Step.{answer_to, begin_answer, done_answer}
 use Rattle.vz_rules.proofs.Members.{map_contains, push_contains}
 use Rattle.vz_flight.specs.Flying.{Flown, AreFlown, subs_of, flies}

@@ -1,5 +1,6 @@
 //! Submissions with what they list.
-ghost use Rattle.std.specs.Prelude.{◌≡◌, ◌<◌, ◌++◌, ◌∷◌, [], length, slice_get, Some, IsFalse, IfOk, OnOk, OnErr, MatchOption};
+ghost use Rattle.std.specs.Prelude.{◌≡◌, ◌<◌, ◌++◌, ◌∷◌, [], length, slice_get, Some, IsFalse};
+ghost use Rattle.std.specs.Prelude.{IfOk, OnOk, OnErr, MatchOption};
 ghost use Rattle.vz_rules.specs.Closure.{adding};
 ghost use Rattle.vz_rules.specs.World.{has_sub};
 ghost use Rattle.vz_flight.specs.Flying.{subs_of};

@@ -13,7 +13,7 @@ pub returns : goal.returns
 returns c =
     let old = c.args.self.now in
     let new : Flyer = record { roster = c.note.new.self } in
-    meets_one (λ (f : Flyer). f.roster) c.is_ok.result old new (Enters c.args.arg2 c.args.frame.now c.args.arg4.now)
+    meets_one (λ (f : Flyer). f.roster) c.is_ok.result old new (Enters _ c.args.frame.now _)
     (λ e. where_ok c.note.result _ c.note.ensures (sym c.is_ok.ensures.value ∙ e)
     ∙ (ap (λ (l : List Listing). adding same_flown old.roster ((c.held-held.result.now.sub, l) ∷ [])) c.as_slice-listings.ensures
     ∙ ap (λ (h : Held). adding same_flown old.roster ((h.sub, h.frame.resources) ∷ [])) c.held-held.ensures))

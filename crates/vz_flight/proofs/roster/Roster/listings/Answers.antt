@@ -21,4 +21,5 @@ loop-k-preserved c =
     )
 
 pub returns : goal.returns
-returns c = omega (arith, c.loop-k.invariant, count_none c.args.self.now c.loop-k.k (omega (arith, c.loop-k-test.false, c.len-k-end.ensures)))
+returns c =
+    omega (arith, c.loop-k.invariant, count_none c.args.self.now c.loop-k.k (omega (arith, c.loop-k-test.false, c.len-k-end.ensures)))
