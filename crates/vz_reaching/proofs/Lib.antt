@@ -9,3 +9,5 @@ mod Closing_kept
 mod New_surfaces
 mod Kept_new
 mod Going_kept
+mod Rooted
+mod Feeding_kept
