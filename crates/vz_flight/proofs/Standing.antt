@@ -30,7 +30,8 @@ abbrev gets_by : World → (Sub → Bool) → Submission → Option Fed
 gets_by w named s =
     if s.fed then None
     else (if named (sub_of s) then Some (record { sub = sub_of s; presented = true })
-    else (if is_ended s && not (is_in_flight w.in_flight (sub_of s)) then Some (record { sub = sub_of s; presented = Bool.false }) else None))
+    else (if is_ended s && not (is_in_flight w.in_flight (sub_of s)) then Some (record { sub = sub_of s; presented = Bool.false })
+    else None))
 
 same_names : (flown roster : List Flown) → IsRosterOf flown roster → has_sub (subs_of roster) ≡ has_sub (subs_of flown)
 same_names flown roster is = λ i sub. is.names sub i
