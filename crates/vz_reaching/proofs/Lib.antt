@@ -1,11 +1,11 @@
-mod Owning
-mod Rising_one
-mod Rising_kept
-mod Accepting_kept
-mod Staying
-mod Naming_kept
-mod Ticking_kept
-mod Closing_kept
-mod New_surfaces
-mod Kept_new
-mod Going_kept
+pub mod Owning
+pub mod Rising_one
+pub mod Rising_kept
+pub mod Accepting_kept
+pub mod Staying
+pub mod Naming_kept
+pub mod Ticking_kept
+pub mod Closing_kept
+pub mod New_surfaces
+pub mod Kept_new
+pub mod Going_kept

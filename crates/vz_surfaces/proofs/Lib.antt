@@ -1,7 +1,7 @@
-mod Following
-mod Staying
-mod Telling
-mod Kept_of_world
+pub mod Following
+pub mod Staying
+pub mod Telling
+pub mod Kept_of_world
 mod Finding
 mod Keyed
 mod Others
@@ -18,7 +18,7 @@ mod Ages
 mod Grouping
 mod Pointing
 mod Shown
-mod Seeing
+pub mod Seeing
 mod Awaited
 mod Marking
 mod Numbering

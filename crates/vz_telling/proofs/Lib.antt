@@ -1,11 +1,11 @@
-mod Stored
-mod Rising
-mod Raised
-mod Gone
-mod Read
-mod Absent
-mod Arriving
-mod Accepted
-mod Viewed
-mod Seen
-mod Taking
+pub mod Stored
+pub mod Rising
+pub mod Raised
+pub mod Gone
+pub mod Read
+pub mod Absent
+pub mod Arriving
+pub mod Accepted
+pub mod Viewed
+pub mod Seen
+pub mod Taking

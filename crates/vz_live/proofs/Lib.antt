@@ -1,0 +1,5 @@
+mod Wanting
+mod Found
+mod Staying
+mod Risen
+mod Gone

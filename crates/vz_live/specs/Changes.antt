@@ -1,0 +1,28 @@
+-- The changes of the machine's state that surfaces go through.
+use Rattle.std.specs.Prelude.{◌≡◌, false, Option, None, IsTrue, IsFalse}
+use Rattle.std.specs.List.{Contains}
+use Rattle.vz_ids.specs.declared.SurfaceId.{SurfaceId}
+use Rattle.vz_ids.specs.declared.Sub.{Sub}
+use Rattle.vz_rules.specs.World.{World, Created, Submission, is_waiting, sub_of}
+use Rattle.vz_rules.specs.Reach.{naming}
+use Rattle.vz_rules.specs.Kept.{KeepsAlways}
+use Rattle.vz_reaching.specs.Lasting.{has_kept}
+use Rattle.vz_live.specs.Living.{Live, AreLive}
+
+-- the submission of this name waits and becomes active
+pub record IsRising (w : World) (but : Option SurfaceId) (s : Submission) (sub : Sub) (v : Live) : Type 0 where
+  pub always : KeepsAlways w
+  pub live : AreLive w but v
+  pub known : Contains w.subs s
+  pub waits : IsTrue (is_waiting s)
+  pub name : sub_of s ≡ sub
+
+-- the surface of this id exists, is not temporary, and is destroyed, once what is named now is named
+pub record IsGoing (w : World) (c : Created) (id : SurfaceId) (v : Live) : Type 0 where
+  pub always : KeepsAlways w
+  pub live : AreLive w None v
+  pub named : naming w ≡ w
+  pub known : Contains w.surfaces c
+  pub name : c.id ≡ id
+  pub exists : IsFalse c.destroyed
+  pub lasts_not : has_kept v.kept.temporary id ≡ false

@@ -1,0 +1,4 @@
+pub mod Flying
+pub mod Living
+pub mod Ending
+pub mod Changes

@@ -1,0 +1,16 @@
+//! The surfaces of the machine and what hangs on them: the submissions that wait and are active,
+//! what their clients lent for them, the feedback that they are owed, what they reference, what
+//! they changed, and the drawn frame.
+//!
+//! Each call is one change of the machine's state, made to all of these. Its contract says, for
+//! every state that they stand for, that they stand for the next one.
+#![tactic(auto)]
+
+mod ending;
+mod flight;
+mod going;
+mod live;
+mod rising;
+
+pub use flight::Flight;
+pub use live::LiveSurfaces;

@@ -1,0 +1,39 @@
+//! The surfaces with what hangs on them.
+use crate::flight::Flight;
+use std::marker::Model;
+use vz_damage::Damage;
+use vz_feeding::Feeding;
+use vz_lending::Lending;
+use vz_refs::References;
+use vz_surfaces::Store;
+
+/// The surfaces of the machine with what hangs on them. Contracts see a value for each part.
+///
+/// A submission that waits has its places among the references made before, so that nothing that
+/// follows a step's own change takes memory.
+#[derive(Drop)]
+pub struct LiveSurfaces {
+    pub(crate) store: Store,
+    pub(crate) lending: Lending,
+    pub(crate) feeding: Feeding,
+    pub(crate) references: References,
+    pub(crate) damage: Damage,
+    pub(crate) flight: Option<Flight>,
+    pub(crate) wanted: usize,
+}
+
+impl Model for LiveSurfaces {
+    ghost use Rattle.vz_live.specs.Living.{Live};
+
+    ghost Value = { Live };
+
+    ghost view = { λ a. record {
+      store = a.store;
+      lent = a.lending;
+      owed = a.feeding;
+      kept = a.references;
+      damaged = a.damage;
+      flight = a.flight;
+      wanted = a.wanted;
+    } };
+}
