@@ -9,3 +9,5 @@ pub mod Closing_kept
 pub mod New_surfaces
 pub mod Kept_new
 pub mod Going_kept
+pub mod Rooted
+pub mod Feeding_kept

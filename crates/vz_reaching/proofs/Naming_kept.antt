@@ -7,6 +7,7 @@ use Rattle.vz_rules.specs.World.{World, Created}
 use Rattle.vz_rules.specs.Reach.{is_named_now, has_closed, name_one, naming}
 use Rattle.vz_rules.specs.Kept.{stands_in}
 use Rattle.vz_rules.proofs.Members.{contains_map, map_contains, any_map, found}
+use Rattle.vz_rules.proofs.Kept_reach.{named_after, naming_stays}
 use Rattle.vz_refs.specs.Referring.{Temporary}
 use Rattle.vz_refs.specs.Referring.{Referring}
 use Rattle.vz_reaching.specs.Lasting.{lasts, is_one, has_kept, names_it, AreNoted, IsKeptFor, AreKept}
@@ -124,3 +125,7 @@ module _ (w : World) (but : Option SurfaceId) (r : Referring) (h : AreKept w but
         known = known_named;
         noted = noted_named;
       }
+
+-- then nothing more is named
+pub named_again : (w : World) → naming (naming w) ≡ naming w
+named_again w = naming_stays (naming w) (named_after w)

@@ -1,10 +1,10 @@
 -- Which surfaces last although nothing references them, and when what is kept of references is that of the machine's state.
-use Rattle.std.specs.Prelude.{◌≡◌, ◌+◌, Bool, false, not, ◌&&◌, ◌||◌, ◌⊎◌, nat_lt, IsTrue, Option, Some, None, List}
+use Rattle.std.specs.Prelude.{◌≡◌, ◌+◌, Bool, false, not, ◌&&◌, ◌||◌, ◌⊎◌, nat_lt, IsTrue, Option, Some, None, List, if◌then◌else◌}
 use Rattle.std.specs.List.{Contains, list_any}
 use Rattle.vz_base.specs.declared.limits.TheConstants.{TEMPORARY_TICKS}
 use Rattle.vz_ids.specs.declared.SurfaceId.{SurfaceId}
 use Rattle.vz_ids.specs.Ids.{same_surface}
-use Rattle.vz_rules.specs.World.{World, Created, Submission, FrameData, is_waiting, is_active, active_frames}
+use Rattle.vz_rules.specs.World.{World, Created, Submission, FrameData, exists, is_waiting, is_active, active_frames}
 use Rattle.vz_rules.specs.Reach.{names, is_named_now, has_closed}
 use Rattle.vz_refs.specs.Referring.{Temporary}
 use Rattle.vz_refs.specs.Referring.{Referring, Ranged, is_set, ranges_of}
@@ -51,3 +51,12 @@ pub record AreKept (w : World) (but : Option SurfaceId) (r : Referring) : Type 0
   pub fresh : (c : Created) → Contains w.surfaces c → IsTrue (is_one but c.id) → has_kept r.temporary c.id ≡ false
   pub known : (t : Temporary) → Contains r.temporary t → IsKeptFor w.surfaces t
   pub noted : AreNoted w but
+
+-- a surface, if it exists
+abbrev pub if_exists : World → Option SurfaceId → Option SurfaceId
+if_exists w None = None
+if_exists w (Some id) = if exists w id then Some id else None
+
+-- the root, where it exists
+abbrev pub root_of : World → Option SurfaceId
+root_of w = if_exists w w.root

@@ -1,22 +1,28 @@
 //! Laws of what is kept, each the contract of a function that does nothing: what is set and what is
 //! temporary changes as the machine's state does.
-ghost use Rattle.std.specs.Prelude.{◌≡◌, ℕ, ◌+◌, Bool, not, ◌&&◌, true, false, Option, Some, None, IsTrue, IsFalse, List, []};
+ghost use Rattle.std.specs.Prelude.{◌≡◌, ℕ, ◌+◌, Bool, not, ◌&&◌, true, false, Option, Some, None, IfSome, IsTrue, IsFalse, List, [], map, filter, ◌==◌};
 ghost use Rattle.std.specs.List.{Contains};
 ghost use Rattle.vz_base.specs.declared.limits.TheConstants.{TEMPORARY_TICKS};
 ghost use Rattle.vz_ids.specs.declared.SurfaceId.{SurfaceId};
 ghost use Rattle.vz_ids.specs.declared.LocalSurfaceId.{LocalSurfaceId};
+ghost use Rattle.vz_ids.specs.declared.Sub.{Sub};
+ghost use Rattle.vz_ids.specs.declared.SurfaceRange.{SurfaceRange};
+ghost use Rattle.vz_ids.specs.Ids.{same_surface};
 ghost use Rattle.vz_frame.specs.declared.frame.CompositorFrame.{CompositorFrame};
 ghost use Rattle.vz_frame.specs.declared.message.Message.TheVariants.{Close};
 ghost use Rattle.vz_rules.specs.Plan.{Plan};
 ghost use Rattle.vz_rules.specs.World.{World, Client, Created, Submission, opening, client_at, is_waiting, last_created};
 ghost use Rattle.vz_rules.specs.Kept.{Keeps, KeepsAlways};
 ghost use Rattle.vz_rules.specs.Messages.{accepted, id_of, is_last, violates, taking, message_answer};
-ghost use Rattle.vz_rules.specs.Reach.{naming, has_closed, is_named_now};
-ghost use Rattle.vz_rules.specs.Returns.{give_back};
+ghost use Rattle.vz_rules.specs.Reach.{has_id, naming, has_closed, is_named_now, reach, is_lost, lost_in};
+ghost use Rattle.vz_rules.specs.Returns.{give_back, feed};
+ghost use Rattle.vz_rules.specs.Closure.{IsLeastClosed};
+ghost use Rattle.vz_rules.specs.Scene.{shown};
 ghost use Rattle.vz_rules.specs.Singly.{rising, going};
 ghost use Rattle.vz_rules.specs.Step.{begin_answer, next_tick};
-ghost use Rattle.vz_refs.specs.Referring.{Referring, setting, removing, keeping, unnamed, lasting, of_others};
-ghost use Rattle.vz_reaching.specs.Lasting.{has_kept, AreKept};
+ghost use Rattle.vz_refs.specs.Referring.{Referring, is_set, setting, removing, keeping, unnamed, lasting, of_others, next_in, starts};
+ghost use Rattle.vz_refs.specs.Meaning.{AreRoots};
+ghost use Rattle.vz_reaching.specs.Lasting.{has_kept, AreKept, root_of};
 
 /// What is kept is that of the opening state where nothing is set and nothing is temporary.
 pub fn nothing_is_kept()
@@ -46,12 +52,15 @@ pub fn kept_ones_stay()
         → AreKept (taking f c w) but r }
     ensures returns { (w : World) (but : Option SurfaceId) (r : Referring) → AreKept w but r
         → AreKept (give_back w) but r }
+    ensures feedback { (presented : List Sub) (w : World) (but : Option SurfaceId) (r : Referring)
+        → AreKept w but r → AreKept (feed presented w) but r }
 {}
 
-/// What is named now is named: nothing changes of what is kept.
+/// What is named now is named: nothing changes of what is kept, and nothing more is named then.
 pub fn names_are_noted()
-    ensures { (w : World) (but : Option SurfaceId) (r : Referring) → AreKept w but r
+    ensures kept { (w : World) (but : Option SurfaceId) (r : Referring) → AreKept w but r
         → AreKept (naming w) but r }
+    ensures again { (w : World) → naming (naming w) ≡ naming w }
 {}
 
 /// A begin-frame ends the temporary surfaces that last no longer than its tick.
@@ -100,4 +109,36 @@ pub fn destroyed_surfaces_go()
         → has_kept r.temporary d.id ≡ false → AreKept w None r
         → AreKept (going d w) None (record r { sets = removing d.id r.sets })
         × (naming (going d w) ≡ going d w) }
+{}
+
+/// What a range shows is set: `References::reachable` may be called.
+pub fn shown_ones_are_set()
+    ensures { (w : World) (but : Option SurfaceId) (r : Referring)
+        (shows : SurfaceRange → Option SurfaceId) → ((x : SurfaceRange) → shows x ≡ shown w x)
+        → AreKept w but r
+        → (x : SurfaceRange) → IfSome (shows x) (λ id. IsTrue (is_set r.sets id)) }
+{}
+
+/// Where what is named now is named, reaching starts at the root, where it exists, and at what is
+/// temporary: what `References::reachable` answers for them has exactly the surfaces that are reached.
+/// A marked surface that exists is lost exactly where such a list has it not (of each client in the
+/// order of creation), and none that is lost is temporary.
+pub fn roots_are_reached()
+    ensures roots { (w : World) (r : Referring) → naming w ≡ w → AreKept w None r
+        → AreRoots w (root_of w) r.temporary }
+    ensures reached { (w : World) (r : Referring) (shows : SurfaceRange → Option SurfaceId)
+        (ids : List SurfaceId) → naming w ≡ w → AreKept w None r
+        → ((x : SurfaceRange) → shows x ≡ shown w x)
+        → IsLeastClosed same_surface (next_in shows r.sets) (starts (root_of w) r.temporary) ids
+        → (id : SurfaceId) → has_id ids id ≡ has_id (reach w) id }
+    ensures lost { (w : World) (ids : List SurfaceId)
+        → ((id : SurfaceId) → has_id ids id ≡ has_id (reach w) id)
+        → lost_in w ≡ filter (is_lost ids) w.surfaces }
+    ensures marked { (w : World) (ids : List SurfaceId) (c : ℕ)
+        → ((id : SurfaceId) → has_id ids id ≡ has_id (reach w) id)
+        → map (λ s. s.id) (filter (λ s. s.client == c) (lost_in w))
+        ≡ filter (λ id. not (has_id ids id)) (map (λ s. s.id)
+        (filter (λ (s : Created). (s.client == c) && s.marked && not s.destroyed) w.surfaces)) }
+    ensures not_kept { (w : World) (r : Referring) → naming w ≡ w → AreKept w None r
+        → (c : Created) → Contains (lost_in w) c → has_kept r.temporary c.id ≡ false }
 {}

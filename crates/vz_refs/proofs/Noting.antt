@@ -1,7 +1,7 @@
 -- Places that are noted for surfaces that are out.
 use Rattle.std.proofs.Common.{◌≡◌, ℕ, zero, suc, ◌+◌, ◌<◌, ◌≤◌, ◌==◌, Bool, true, false, not, ◌||◌, inl, inr, Option, Some, None, List, [], ◌∷◌, ◌++◌, length, nat_lt, position, slice_get, slice_set, drop, refl, ap, sym, subst, ◌∙◌, arith, cond}
 use Rattle.std.specs.List.{list_any, position_or_len, filter_map}
-use Rattle.std.specs.Option.{option_map_or, option_and_then}
+use Rattle.std.specs.Option.{option_map, option_map_or}
 use Rattle.std.proofs.lemmas.List.Folds.{list_any-append}
 use Rattle.std.proofs.lemmas.Bool.Decides.{nat_tests}
 use Rattle.vz_ids.specs.declared.SurfaceId.{SurfaceId}
@@ -9,19 +9,21 @@ use Rattle.vz_ids.specs.Ids.{same_surface}
 use Rattle.vz_ids.specs.declared.SurfaceRange.{SurfaceRange}
 use Rattle.vz_frame.specs.Roomy.{Roomy}
 use Rattle.vz_rules.specs.Closure.{adding}
-use Rattle.vz_refs.specs.Indexing.{noted, noting, AreNoted}
+use Rattle.indexmap.specs.IndexMap.{get}
+use Rattle.vz_refs.specs.declared.notes.Notes.{Notes}
+use Rattle.vz_refs.specs.Noted.{noted_at, noted_in, noted, IsNoted, AreNoted}
 use Rattle.vz_marking.proofs.Marking.{from_or}
 use Rattle.vz_refs.proofs.Same.{from_same, self_same, from_eqb}
 use Rattle.vz_refs.proofs.Changing.{get_last, found_there}
 
 -- nothing is out
-pub noted_none : (keys : List SurfaceId) (places : List ℕ) (out : List SurfaceId) → out ≡ [] → AreNoted keys places out
-noted_none keys places out e = subst (λ (l : List SurfaceId). AreNoted keys places l) (sym e) (λ id place h k. absurd (cc))
+pub noted_none : (place : SurfaceId → Option ℕ) (out : List SurfaceId) → out ≡ [] → AreNoted place out
+noted_none place out e = subst (λ (l : List SurfaceId). AreNoted place l) (sym e) (λ id p h k. absurd (cc))
 
 -- one that stands at its place is out, and one that does not is not
-pub stands : (keys : List SurfaceId) (places : List ℕ) (out : List SurfaceId) (id : SurfaceId) (place : ℕ) → AreNoted keys places out → Some place ≡ noted keys places id
+pub stands : (placed : SurfaceId → Option ℕ) (out : List SurfaceId) (id : SurfaceId) (place : ℕ) → AreNoted placed out → Some place ≡ placed id
     → option_map_or (same_surface id) (slice_get out place) false ≡ list_any (same_surface id) out
-stands keys places out id place good e = by_out (list_any (same_surface id) out) refl
+stands placed out id place good e = by_out (list_any (same_surface id) out) refl
   where
     by_get : (o : Option SurfaceId) → slice_get out place ≡ o → list_any (same_surface id) out ≡ false → option_map_or (same_surface id) o false ≡ false
     by_get None f h = refl
@@ -85,41 +87,69 @@ get_front [] y k x e = absurd (cc)
 get_front (z ∷ xs) y zero x e = e
 get_front (z ∷ xs) y (suc k) x e = get_front xs y k x e
 
--- what is noted for a surface after one was noted
-noted_own : (keys : List SurfaceId) (places : List ℕ) (id : SurfaceId) (v p : ℕ) → noted keys (noting keys id v places) id ≡ Some p → p ≡ v
-noted_own keys places id v p e = by_index (position (same_surface id) keys) e
-  where
-    by_index : (o : Option ℕ) → option_and_then (λ i. slice_get (option_map_or (λ i. slice_set places i v) o places) i) o ≡ Some p → p ≡ v
-    by_index None e = absurd (cc)
-    by_index (Some i) e = set_same places i v p e
+-- Notes of a surface that has an index, and of one that has none
 
-noted_other : (keys : List SurfaceId) (places : List ℕ) (id other : SurfaceId) (v p : ℕ) → same_surface id other ≡ false → noted keys (noting keys id v places) other ≡ Some p → noted keys places other ≡ Some p
-noted_other keys places id other v p apart e = by_index (position (same_surface id) keys) (position (same_surface other) keys) refl refl e
-  where
-    differ : (i j : ℕ) → position (same_surface id) keys ≡ Some i → position (same_surface other) keys ≡ Some j → (i == j) ≡ false
-    differ i j f g =
-        elim (i == j) as (λ (t : Bool). (i == j) ≡ t → t ≡ false) [
-          | true ↦ λ h. sym (ap (same_surface id) (sym (one_index keys id other j (f ∙ ap (λ n. Some n) (from_eqb i j h)) g)) ∙ self_same id) ∙ apart
-          | false ↦ λ h. refl
-        ] refl
+same_option : {A : Type 0} (o : Option A) (v p : A) → option_map (λ _. v) o ≡ Some p → p ≡ v
+same_option None v p e = absurd (cc)
+same_option (Some x) v p e = let is : v ≡ p = cc in sym is
 
-    by_index : (o q : Option ℕ) → position (same_surface id) keys ≡ o → position (same_surface other) keys ≡ q
-        → option_and_then (λ j. slice_get (option_map_or (λ i. slice_set places i v) o places) j) q ≡ Some p → option_and_then (λ j. slice_get places j) q ≡ Some p
-    by_index o None f g e = absurd (cc)
-    by_index None (Some j) f g e = e
-    by_index (Some i) (Some j) f g e = sym (set_else places i j v (differ i j f g)) ∙ e
+module _ (keys : List SurfaceId) (old new : Notes) (id : SurfaceId) (place : ℕ) where
+  -- at an index
+  pub noted_placed : (i : ℕ) → position (same_surface id) keys ≡ Some i → new.places.items ≡ slice_set old.places.items i place → ((q : SurfaceId) → get same_surface new.others q ≡ get same_surface old.others q)
+      → IsNoted (noted_in keys old) (noted_in keys new) id place
+  noted_placed i at placed others = (own, other)
+    where
+      own : (p : ℕ) → noted_in keys new id ≡ Some p → p ≡ place
+      own p e = set_same old.places.items i place p (sym (ap (λ l. slice_get l i) placed) ∙ sym (ap (λ o. noted_at o new id) at) ∙ e)
+
+      apart : (q : SurfaceId) (j : ℕ) → position (same_surface q) keys ≡ Some j → same_surface id q ≡ false → (i == j) ≡ false
+      apart q j there f =
+          elim (i == j) as (λ (t : Bool). (i == j) ≡ t → t ≡ false) [
+            | true ↦ λ h. sym (ap (same_surface id) (sym (one_index keys id q j (at ∙ ap (λ n. Some n) (from_eqb i j h)) there)) ∙ self_same id) ∙ f
+            | false ↦ λ h. refl
+          ] refl
+
+      by_index : (q : SurfaceId) (p : ℕ) (o : Option ℕ) → position (same_surface q) keys ≡ o → same_surface id q ≡ false → noted_at o new q ≡ Some p → noted_at o old q ≡ Some p
+      by_index q p None there f e = sym (others q) ∙ e
+      by_index q p (Some j) there f e = sym (set_else old.places.items i j place (apart q j there f)) ∙ sym (ap (λ l. slice_get l j) placed) ∙ e
+
+      other : (q : SurfaceId) (p : ℕ) → same_surface id q ≡ false → noted_in keys new q ≡ Some p → noted_in keys old q ≡ Some p
+      other q p f e = by_index q p (position (same_surface q) keys) refl f e
+
+  -- under its own name
+  pub noted_named : position (same_surface id) keys ≡ None → new.places.items ≡ old.places.items
+      → ((q : SurfaceId) → get same_surface new.others q ≡ cond (same_surface id q) (option_map (λ _. place) (get same_surface old.others q)) (get same_surface old.others q))
+      → IsNoted (noted_in keys old) (noted_in keys new) id place
+  noted_named none placed others = (own, other)
+    where
+      own : (p : ℕ) → noted_in keys new id ≡ Some p → p ≡ place
+      own p e =
+          same_option (get same_surface old.others id) place p
+          (sym (ap (λ t. cond t (option_map (λ _. place) (get same_surface old.others id)) (get same_surface old.others id)) (self_same id)) ∙ sym (others id) ∙ sym (ap (λ o. noted_at o new id) none) ∙ e)
+
+      by_index : (q : SurfaceId) (p : ℕ) (o : Option ℕ) → same_surface id q ≡ false → noted_at o new q ≡ Some p → noted_at o old q ≡ Some p
+      by_index q p None f e = sym (others q ∙ ap (λ t. cond t (option_map (λ _. place) (get same_surface old.others q)) (get same_surface old.others q)) f) ∙ e
+      by_index q p (Some j) f e = sym (ap (λ l. slice_get l j) placed) ∙ e
+
+      other : (q : SurfaceId) (p : ℕ) → same_surface id q ≡ false → noted_in keys new q ≡ Some p → noted_in keys old q ≡ Some p
+      other q p f e = by_index q p (position (same_surface q) keys) f e
+
+  -- nothing is noted where there is no place
+  pub noted_nowhere : (i : ℕ) → position (same_surface id) keys ≡ Some i → length old.places.items ≤ i → new.places.items ≡ old.places.items → ((q : SurfaceId) → get same_surface new.others q ≡ get same_surface old.others q)
+      → IsNoted (noted_in keys old) (noted_in keys new) id place
+  noted_nowhere i at past placed others = noted_placed i at (placed ∙ sym (set_past old.places.items i place past)) others
 
 -- one more is out, and stands where it was noted
-pub noted_more : (keys : List SurfaceId) (places : List ℕ) (out : List SurfaceId) (id : SurfaceId) (place : ℕ) → AreNoted keys places out → place ≡ length out → AreNoted keys (noting keys id place places) (out ++ id ∷ [])
-noted_more keys places out id place good end other p e there =
+pub noted_more : (before after : SurfaceId → Option ℕ) (out : List SurfaceId) (id : SurfaceId) (place : ℕ) → AreNoted before out → IsNoted before after id place → place ≡ length out → AreNoted after (out ++ id ∷ [])
+noted_more before after out id place good now end other p e there =
     elim (same_surface id other) as (λ (t : Bool). same_surface id other ≡ t → slice_get (out ++ id ∷ []) p ≡ Some other) [
       | true ↦ λ f.
           let is = from_same id other f in
           subst (λ (x : SurfaceId). slice_get (out ++ id ∷ []) p ≡ Some x) is
-          (get_last out id p (noted_own keys places id place p (ap (noted keys (noting keys id place places)) is ∙ e) ∙ end))
+          (get_last out id p (now.0 p (ap after is ∙ e) ∙ end))
       | false ↦ λ f.
-          let before : list_any (same_surface other) out ≡ true = was_out (same_surface other id) (turned f) (sym (list_any-append (same_surface other) out (id ∷ [])) ∙ there) in
-          get_front out id p other (good other p (noted_other keys places id other place p f e) before)
+          let was : list_any (same_surface other) out ≡ true = was_out (same_surface other id) (turned f) (sym (list_any-append (same_surface other) out (id ∷ [])) ∙ there) in
+          get_front out id p other (good other p (now.1 other p f e) was)
     ] refl
   where
     turned : same_surface id other ≡ false → same_surface other id ≡ false
@@ -130,7 +160,7 @@ noted_more keys places out id place good end other p e there =
     was_out false f h = elim (from_or (list_any (same_surface other) out) (false || false) h) [ inl q ↦ q | inr q ↦ absurd (cc) ]
 
 -- what the ranges from a place on show comes behind what is there
-abbrev pub AreFollowed : (SurfaceRange → Option SurfaceId) → List SurfaceRange → ℕ → Roomy SurfaceId → List SurfaceId → List ℕ → Roomy SurfaceId → Type 0
-AreFollowed shows ranges k before keys places out =
+abbrev pub AreFollowed : (SurfaceRange → Option SurfaceId) → List SurfaceRange → ℕ → Roomy SurfaceId → List SurfaceId → Option Notes → Roomy SurfaceId → Type 0
+AreFollowed shows ranges k before keys notes out =
     (adding same_surface out.list (filter_map shows (drop k ranges)) ≡ adding same_surface before.list (filter_map shows ranges))
-    × (length before.list + before.spare ≤ length out.list + out.spare) × AreNoted keys places out.list
+    × (length before.list + before.spare ≤ length out.list + out.spare) × AreNoted (noted keys notes) out.list

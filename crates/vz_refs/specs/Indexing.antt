@@ -1,7 +1,6 @@
 -- What is set, range by range, and the indexes that know it.
-use Rattle.std.specs.Prelude.{◌≡◌, ℕ, ◌-◌, Bool, false, IsTrue, ◌==◌, ◌&&◌, Option, Some, None, List, [], ◌∷◌, ◌++◌, length, take, map, if◌then◌else◌, position, slice_get, slice_set}
-use Rattle.std.specs.List.{list_any}
-use Rattle.std.specs.Option.{option_map, option_map_or, option_and_then}
+use Rattle.std.specs.Prelude.{◌≡◌, ℕ, ◌-◌, Bool, false, ◌==◌, ◌&&◌, Option, Some, None, List, [], ◌∷◌, ◌++◌, length, take, map, if◌then◌else◌, slice_get}
+use Rattle.std.specs.Option.{option_map, option_map_or}
 use Rattle.vz_ids.specs.declared.SurfaceId.{SurfaceId}
 use Rattle.vz_ids.specs.declared.SurfaceRange.{SurfaceRange}
 use Rattle.vz_ids.specs.Ids.{same_surface, same_sink}
@@ -79,16 +78,3 @@ pub record IsIndexed (sets : List Ranged) (count : SurfaceId → Option ℕ) (ed
   pub ranged : (n : Nth) → option_map (λ e. e.range) (edge n) ≡ slice_get (ranges_of sets n.of) n.nth
   pub seated : IsSeated place_of edge ends (λ h. or_zero (size h))
   pub once : has_repeat same_surface (map (λ s. s.id) sets) ≡ false
-
--- the place that is noted for a surface
-abbrev pub noted : List SurfaceId → List ℕ → SurfaceId → Option ℕ
-noted keys places id = option_and_then (λ i. slice_get places i) (position (same_surface id) keys)
-
--- the places, with one noted for a surface
-abbrev pub noting : List SurfaceId → SurfaceId → ℕ → List ℕ → List ℕ
-noting keys id place places = option_map_or (λ i. slice_set places i place) (position (same_surface id) keys) places
-
--- a surface that is out and has a place stands there
-abbrev pub AreNoted : List SurfaceId → List ℕ → List SurfaceId → Type 0
-AreNoted keys places out =
-    (id : SurfaceId) (place : ℕ) → noted keys places id ≡ Some place → IsTrue (list_any (same_surface id) out) → slice_get out place ≡ Some id

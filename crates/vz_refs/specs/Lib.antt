@@ -2,4 +2,5 @@ pub mod Referring
 pub mod Seated
 pub mod Indexing
 pub mod Lasting
+pub mod Noted
 pub mod Meaning

@@ -10,6 +10,7 @@ pub mod laws;
 mod listing;
 mod marking;
 mod naming;
+mod notes;
 mod references;
 mod seats;
 mod sets;

@@ -1,14 +1,15 @@
-//! Lists of surfaces in which nothing stands twice. A surface that is set has a place in the
-//! index, and there it is noted where it stands in the list, so that it is not looked for.
+//! Lists of surfaces in which nothing stands twice. Where a surface stands in the list is noted,
+//! so that it is not looked for.
 ghost use Rattle.std.specs.Prelude.{◌≡◌, ◌≤◌, ◌<◌, ◌+◌, [], ◌∷◌, length, map, false, IsFalse, Some, slice_get};
 ghost use Rattle.std.specs.List.{list_any};
 ghost use Rattle.std.specs.Option.{option_map, option_map_or};
 ghost use Rattle.vz_ids.specs.Ids.{same_surface};
 ghost use Rattle.vz_rules.specs.Closure.{adding};
 ghost use Rattle.vz_refs.specs.Referring.{next_in, starts};
-ghost use Rattle.vz_refs.specs.Indexing.{noted, noting, AreNoted};
+ghost use Rattle.vz_refs.specs.Noted.{noted, AreNoted};
 ghost use Rattle.vz_refs.specs.Lasting.{all_in};
 
+use crate::notes::{Notes, note, noted};
 use crate::references::Shows;
 use crate::seats::{Kept, Name};
 use crate::sets::Sets;
@@ -16,27 +17,6 @@ use crate::surfaces::{has_surface, is_same};
 use indexmap::IndexMap;
 use vz_frame::Room;
 use vz_ids::SurfaceId;
-
-/// The place that is noted for a surface.
-fn noted(sets: &Sets, id: &SurfaceId, places: &[usize]) -> Option<usize>
-    ensures { result ≡ noted sets.now.keys places.now id.now }
-{
-    match sets.place(id) {
-        Some(index) => places.get(index).copied(),
-        None => None,
-    }
-}
-
-/// Notes a place for a surface, where there is room for it.
-fn note(sets: &Sets, id: &SurfaceId, places: &mut [usize], place: usize)
-    ensures { places.new ≡ noting sets.now.keys id.now place places.old }
-{
-    if let Some(index) = sets.place(id) {
-        if index < places.len() {
-            places[index] = place;
-        }
-    }
-}
 
 /// Whether a surface stands at a place.
 fn stands_at(out: &[SurfaceId], place: usize, id: &SurfaceId) -> bool
@@ -49,26 +29,26 @@ fn stands_at(out: &[SurfaceId], place: usize, id: &SurfaceId) -> bool
 }
 
 /// Whether a surface is out. One without a place is looked for.
-fn is_out(sets: &Sets, id: &SurfaceId, places: &[usize], out: &[SurfaceId]) -> bool
-    requires { AreNoted sets.now.keys places.now out.now }
+fn is_out(sets: &Sets, id: &SurfaceId, notes: &Option<Notes>, out: &[SurfaceId]) -> bool
+    requires { AreNoted (noted sets.now.keys notes.now) out.now }
     ensures { result ≡ list_any (same_surface id.now) out.now }
 {
-    match noted(sets, id, places) {
+    match noted(sets, id, notes) {
         Some(place) => stands_at(out, place, id),
         None => has_surface(out, id),
     }
 }
 
 /// Appends a surface unless it is there.
-pub(crate) fn add(sets: &Sets, id: SurfaceId, places: &mut [usize], out: &mut Room<SurfaceId>)
-    requires noted { AreNoted sets.now.keys places.old out.old.list }
+pub(crate) fn add(sets: &Sets, id: SurfaceId, notes: &mut Option<Notes>, out: &mut Room<SurfaceId>)
+    requires noted { AreNoted (noted sets.now.keys notes.old) out.old.list }
     requires room { IsFalse (list_any (same_surface id) out.old.list) → 0 < out.old.spare }
     ensures list { out.new.list ≡ adding same_surface out.old.list (id ∷ []) }
     ensures room { length out.old.list + out.old.spare ≤ length out.new.list + out.new.spare }
-    ensures noted { AreNoted sets.now.keys places.new out.new.list }
+    ensures noted { AreNoted (noted sets.now.keys notes.new) out.new.list }
 {
-    if !is_out(sets, &id, places, out.as_slice()) {
-        note(sets, &id, places, out.as_slice().len());
+    if !is_out(sets, &id, notes, out.as_slice()) {
+        note(sets, &id, notes, out.as_slice().len());
         out.put(id);
     }
 }
@@ -78,21 +58,21 @@ pub(crate) fn start(
     sets: &Sets,
     root: Option<SurfaceId>,
     kept: &IndexMap<Name, Kept>,
-    places: &mut [usize],
+    notes: &mut Option<Notes>,
     out: &mut Room<SurfaceId>,
 )
-    requires noted { AreNoted sets.now.keys places.old out.old.list }
+    requires noted { AreNoted (noted sets.now.keys notes.old) out.old.list }
     requires room { length (adding same_surface out.old.list (starts root (all_in kept.now.entries)))
         ≤ length out.old.list + out.old.spare }
     ensures list { out.new.list ≡ adding same_surface out.old.list (starts root (all_in kept.now.entries)) }
     ensures room { length out.old.list + out.old.spare ≤ length out.new.list + out.new.spare }
-    ensures noted { AreNoted sets.now.keys places.new out.new.list }
+    ensures noted { AreNoted (noted sets.now.keys notes.new) out.new.list }
 {
     match root {
-        None => add_kept(sets, kept, places, out),
+        None => add_kept(sets, kept, notes, out),
         Some(id) => {
-            add(sets, id, places, out);
-            add_kept(sets, kept, places, out);
+            add(sets, id, notes, out);
+            add_kept(sets, kept, notes, out);
         }
     }
 }
@@ -101,18 +81,18 @@ pub(crate) fn start(
 fn add_kept(
     sets: &Sets,
     kept: &IndexMap<Name, Kept>,
-    places: &mut [usize],
+    notes: &mut Option<Notes>,
     out: &mut Room<SurfaceId>,
 )
-    requires noted { AreNoted sets.now.keys places.old out.old.list }
+    requires noted { AreNoted (noted sets.now.keys notes.old) out.old.list }
     requires room { length (adding same_surface out.old.list (map (λ t. t.id) (all_in kept.now.entries)))
         ≤ length out.old.list + out.old.spare }
     ensures list { out.new.list ≡ adding same_surface out.old.list (map (λ t. t.id) (all_in kept.now.entries)) }
     ensures room { length out.old.list + out.old.spare ≤ length out.new.list + out.new.spare }
-    ensures noted { AreNoted sets.now.keys places.new out.new.list }
+    ensures noted { AreNoted (noted sets.now.keys notes.new) out.new.list }
 {
     for at in 0..kept.len() {
-        add(sets, id_at(kept, at), places, out);
+        add(sets, id_at(kept, at), notes, out);
     }
 }
 
@@ -129,21 +109,21 @@ pub(crate) fn follow<S: Shows>(
     sets: &Sets,
     from: SurfaceId,
     s: &S,
-    places: &mut [usize],
+    notes: &mut Option<Notes>,
     out: &mut Room<SurfaceId>,
 )
-    requires noted { AreNoted sets.now.keys places.old out.old.list }
+    requires noted { AreNoted (noted sets.now.keys notes.old) out.old.list }
     requires room { length (adding same_surface out.old.list (next_in (S.shows s.now) sets.now.list from))
         ≤ length out.old.list + out.old.spare }
     ensures list { out.new.list
         ≡ adding same_surface out.old.list (next_in (S.shows s.now) sets.now.list from) }
     ensures room { length out.old.list + out.old.spare ≤ length out.new.list + out.new.spare }
-    ensures noted { AreNoted sets.now.keys places.new out.new.list }
+    ensures noted { AreNoted (noted sets.now.keys notes.new) out.new.list }
 {
     for nth in 0..sets.count(&from) {
         let range = sets.nth(from, nth);
         match s.shown(&range) {
-            Some(id) => add(sets, id, places, out),
+            Some(id) => add(sets, id, notes, out),
             None => {}
         }
     }

@@ -7,6 +7,7 @@ ghost use Rattle.vz_refs.specs.Lasting.{all_in};
 ghost use Rattle.vz_refs.specs.Referring.{is_set, setting, removing, keeping, unnamed, lasting, of_others, next_in, starts};
 
 use crate::marking::{follow, start};
+use crate::notes::Notes;
 use crate::seats::{Kept, Name};
 use crate::sets::Sets;
 use crate::temporaries::Temporaries;
@@ -32,14 +33,13 @@ pub trait Shows {
 }
 
 /// Which ranges are set for which surfaces, and which surfaces are temporary. Contracts see
-/// both lists and, beside them, the room that was made before. A place for each surface that
-/// is set is made beside; in it `reachable` notes where the surface stands among the reached.
-/// What stands there before has no meaning.
+/// both lists and, beside them, the room that was made before. A place for each surface of both is
+/// made beside; in it `reachable` notes where the surface stands among the reached.
 #[derive(Drop)]
 pub struct References {
     sets: Sets,
     temporary: Temporaries,
-    places: Cell<Option<Vec<usize>>>,
+    notes: Cell<Option<Notes>>,
 }
 
 impl Model for References {
@@ -64,7 +64,7 @@ impl References {
         References {
             sets: Sets::new(alloc),
             temporary: Temporaries::new(alloc),
-            places: Cell::new(Some(Vec::new(alloc))),
+            notes: Cell::new(Some(Notes::new(alloc))),
         }
     }
 
@@ -91,7 +91,9 @@ impl References {
         ensures spare { self.new.spare ≡ self.old.spare }
         ensures room { self.old.room ≤ self.new.room }
     {
-        self.temporary.reserve()
+        self.temporary.reserve()?;
+        make_room(&mut self.notes, self.temporary.len());
+        Ok(())
     }
 
     /// Sets the ranges of a surface in the place of those that it had, and ends each
@@ -112,7 +114,7 @@ impl References {
         self.sets.open(id);
         self.sets.clear(id);
         self.sets.extend(id, ranges);
-        make_places(&mut self.places, self.sets.len());
+        make_places(&mut self.notes, self.sets.len());
         self.temporary.end_named(ranges);
         Ok(())
     }
@@ -197,23 +199,31 @@ impl References {
         ensures once { has_repeat same_surface out.new.list ≡ false }
     {
         let kept = self.temporary.all();
-        match self.places.take() {
-            Some(mut places) => {
-                reach(&self.sets, kept, root, s, &mut places, out);
-                self.places.set(Some(places));
-            }
-            None => reach(&self.sets, kept, root, s, &mut [], out),
-        }
+        let mut notes = self.notes.take();
+        seat(&mut notes, &self.sets, kept);
+        reach(&self.sets, kept, root, s, &mut notes, out);
+        self.notes.set(notes);
     }
 }
 
-/// Makes a place for each of so many surfaces. Where there is no memory for it, those without
-/// a place are looked for.
-fn make_places(places: &mut Cell<Option<Vec<usize>>>, n: usize) {
-    if let Some(places) = places.get_mut() {
-        if places.len() < n {
-            let _ = places.resize(n, 0);
-        }
+/// Makes a place for each of so many surfaces that are set.
+fn make_places(notes: &mut Cell<Option<Notes>>, n: usize) {
+    if let Some(notes) = notes.get_mut() {
+        notes.make_places(n);
+    }
+}
+
+/// Makes room for the places of more than so many temporary surfaces.
+fn make_room(notes: &mut Cell<Option<Notes>>, n: usize) {
+    if let Some(notes) = notes.get_mut() {
+        notes.make_room(n);
+    }
+}
+
+/// Gives each temporary surface that is not set a place.
+fn seat(notes: &mut Option<Notes>, sets: &Sets, kept: &IndexMap<Name, Kept>) {
+    if let Some(notes) = notes {
+        notes.seat(sets, kept);
     }
 }
 
@@ -223,7 +233,7 @@ fn reach<S: Shows>(
     kept: &IndexMap<Name, Kept>,
     root: Option<SurfaceId>,
     s: &S,
-    places: &mut [usize],
+    notes: &mut Option<Notes>,
     out: &mut Room<SurfaceId>,
 )
     requires empty { out.old.list ≡ [] }
@@ -234,11 +244,11 @@ fn reach<S: Shows>(
         (starts root (all_in kept.now.entries)) out.new.list }
     ensures once { has_repeat same_surface out.new.list ≡ false }
 {
-    start(sets, root, kept, places, out);
+    start(sets, root, kept, notes, out);
     let mut at = 0;
     while at < out.as_slice().len() {
         let id = out.as_slice()[at];
-        follow(sets, id, s, places, out);
+        follow(sets, id, s, notes, out);
         at += 1;
     }
 }

@@ -28,13 +28,13 @@ loop-nth-preserved g c =
     elim c.match-shown.branch [
       | in-Some w ↦
           let step = range_step shows ranges l.nth l.out.list _ l.invariant.0 c.nth-range.result (Some w.in-Some.id) c.nth-range.ensures (sym c.shown.ensures ∙ w.in-Some.is) in
-          subst (λ (o : Roomy SurfaceId). AreFollowed shows ranges (l.nth + 1) c.args.out.now c.args.sets.now.keys c.match-shown.places o) (sym w.out-is)
-          (subst (λ ps. AreFollowed shows ranges (l.nth + 1) c.args.out.now c.args.sets.now.keys ps w.add.new.out) (sym w.places-is)
+          subst (λ (o : Roomy SurfaceId). AreFollowed shows ranges (l.nth + 1) c.args.out.now c.args.sets.now.keys c.match-shown.notes o) (sym w.out-is)
+          (subst (λ ns. AreFollowed shows ranges (l.nth + 1) c.args.out.now c.args.sets.now.keys ns w.add.new.out) (sym w.notes-is)
           (grows l.out.list w.add.new.out.list (filter_map shows (drop (l.nth + 1) ranges)) _ w.in-Some.id step w.add.ensures.list, omega (arith, l.invariant.1, w.add.ensures.room), w.add.ensures.noted))
       | in-None w ↦
           let step = range_step shows ranges l.nth l.out.list _ l.invariant.0 c.nth-range.result None c.nth-range.ensures (sym c.shown.ensures ∙ w.in-None.is) in
-          subst (λ (o : Roomy SurfaceId). AreFollowed shows ranges (l.nth + 1) c.args.out.now c.args.sets.now.keys c.match-shown.places o) (sym w.out-is)
-          (subst (λ ps. AreFollowed shows ranges (l.nth + 1) c.args.out.now c.args.sets.now.keys ps l.out) (sym w.places-is) (step, l.invariant.1, l.invariant.2))
+          subst (λ (o : Roomy SurfaceId). AreFollowed shows ranges (l.nth + 1) c.args.out.now c.args.sets.now.keys c.match-shown.notes o) (sym w.out-is)
+          (subst (λ ns. AreFollowed shows ranges (l.nth + 1) c.args.out.now c.args.sets.now.keys ns l.out) (sym w.notes-is) (step, l.invariant.1, l.invariant.2))
     ]
 
 pub returns-clause-list : goal.returns-clause-list

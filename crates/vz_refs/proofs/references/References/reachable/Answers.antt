@@ -7,14 +7,8 @@ use Rattle.vz_refs.specs.Lasting.{all_in}
 use Rattle.vz_refs.proofs.Gathering.{other_starts}
 use Rattle.vz_refs.proofs.references.References.reachable.Goals as goal
 
-pub returns-in-Some-clause-least : goal.returns-in-Some-clause-least
-returns-in-Some-clause-least g c =
+pub returns-clause-least : goal.returns-clause-least
+returns-clause-least g c =
     subst (λ sets. IsLeastClosed same_surface (next_in (g.S.Shows.shows c.args.s.now) sets) (starts c.args.root c.args.self.now.temporary) c.reach.new.out.list) (ap (λ v. v.sets) c.self.view_is)
     (other_starts (next_in (g.S.Shows.shows c.args.s.now) c.self.inside.sets.list) c.args.root (all_in c.all-kept.result.now.entries) c.args.self.now.temporary c.reach.new.out.list
     (λ x. c.all-kept.ensures.ids x ∙ ap (λ v. list_any (same_surface x) (map (λ t. t.id) v.temporary)) c.self.view_is) c.reach.ensures.least)
-
-pub returns-in-None-clause-least : goal.returns-in-None-clause-least
-returns-in-None-clause-least g c =
-    subst (λ sets. IsLeastClosed same_surface (next_in (g.S.Shows.shows c.args.s.now) sets) (starts c.args.root c.args.self.now.temporary) c.reach-in-None.new.out.list) (ap (λ v. v.sets) c.self.view_is)
-    (other_starts (next_in (g.S.Shows.shows c.args.s.now) c.self.inside.sets.list) c.args.root (all_in c.all-kept.result.now.entries) c.args.self.now.temporary c.reach-in-None.new.out.list
-    (λ x. c.all-kept.ensures.ids x ∙ ap (λ v. list_any (same_surface x) (map (λ t. t.id) v.temporary)) c.self.view_is) c.reach-in-None.ensures.least)
