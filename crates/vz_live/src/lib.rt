@@ -8,9 +8,12 @@
 
 mod ending;
 mod flight;
+mod giving;
 mod going;
+pub mod laws;
 mod live;
 mod rising;
+mod ticking;
 
 pub use flight::Flight;
 pub use live::LiveSurfaces;
