@@ -1,0 +1,6 @@
+pub mod Putting
+pub mod Gathering
+pub mod Rostered
+pub mod Counting
+pub mod Staying
+pub mod Drawings
