@@ -1,5 +1,8 @@
 mod Wanting
 mod Found
 mod Staying
+mod Quiet
+mod Kept_quiet
 mod Risen
 mod Gone
+mod Given

@@ -1,4 +1,3 @@
-pub mod Flying
 pub mod Living
 pub mod Ending
 pub mod Changes

@@ -1,11 +1,11 @@
 //! Submissions that end.
 ghost use Rattle.std.specs.Prelude.{◌≡◌};
 ghost use Rattle.std.specs.Option.{option_copied};
-ghost use Rattle.vz_live.specs.Flying.{flies};
+ghost use Rattle.vz_flight.specs.Flying.{flies};
 ghost use Rattle.vz_live.specs.Ending.{listings_of, ended_in, wanted_by};
 
-use crate::flight::Flight;
 use vz_feeding::Ended;
+use vz_flight::Flight;
 use vz_frame::Listing;
 use vz_surfaces::Held;
 

@@ -7,7 +7,6 @@
 #![tactic(auto)]
 
 mod ending;
-mod flight;
 mod giving;
 mod going;
 pub mod laws;
@@ -15,5 +14,4 @@ mod live;
 mod rising;
 mod ticking;
 
-pub use flight::Flight;
 pub use live::LiveSurfaces;

@@ -1,8 +1,8 @@
 //! The surfaces with what hangs on them.
-use crate::flight::Flight;
 use std::marker::Model;
 use vz_damage::Damage;
 use vz_feeding::Feeding;
+use vz_flight::Flight;
 use vz_lending::Lending;
 use vz_refs::References;
 use vz_surfaces::Store;

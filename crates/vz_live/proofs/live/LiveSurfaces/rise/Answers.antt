@@ -1,7 +1,4 @@
-use Rattle.std.proofs.Common.{◌≡◌, ap, sym, ◌∙◌, subst, Option, List}
-use Rattle.vz_ids.specs.declared.SurfaceId.{SurfaceId}
-use Rattle.vz_rules.specs.World.{World, Submission}
-use Rattle.vz_live.specs.Living.{Live}
+use Rattle.std.proofs.Common.{sym, ◌∙◌, subst}
 use Rattle.vz_live.specs.Changes.{IsRising}
 use Rattle.vz_live.proofs.Staying.{got}
 use Rattle.vz_live.proofs.Risen.{id_is, none_missing, acts_is, releases, is_lender, none_waits, ranges_are, wants_less, fits, keeps, waits_there, past_is, live_risen}
