@@ -63,14 +63,14 @@ drop_keeps false true true t e f = sym (wants_not t e)
 drop_keeps false true false t e f = refl
 drop_keeps false false on t e f = refl
 
-wanted_frame : (p : Submission → Bool) (subs : List Submission) → ((s : Submission) → p s ≡ true → is_waiting s ≡ true) → wanted_by (frame_of (find p subs)) ≡ wanted_of (find p subs)
+pub wanted_frame : (p : Submission → Bool) (subs : List Submission) → ((s : Submission) → p s ≡ true → is_waiting s ≡ true) → wanted_by (frame_of (find p subs)) ≡ wanted_of (find p subs)
 wanted_frame p subs waits = by (find p subs) refl
   where
     by : (o : Option Submission) → find p subs ≡ o → wanted_by (frame_of o) ≡ wanted_of o
     by None e = refl
     by (Some s) e = sym (ap {B = ℕ} (λ (b : Bool). cond b (length s.submitted.frame.metadata.references + 1) 0) (waits s (find_at p subs s e).1))
 
-wanted_fits : (p : Submission → Bool) (subs : List Submission) → wanted_of (find p subs) ≤ sum_by wants subs
+pub wanted_fits : (p : Submission → Bool) (subs : List Submission) → wanted_of (find p subs) ≤ sum_by wants subs
 wanted_fits p subs = by (find p subs) refl
   where
     by : (o : Option Submission) → find p subs ≡ o → wanted_of o ≤ sum_by wants subs

@@ -6,3 +6,6 @@ mod Kept_quiet
 mod Risen
 mod Gone
 mod Given
+mod Ends
+mod Arrived
+mod Opened

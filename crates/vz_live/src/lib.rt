@@ -6,6 +6,7 @@
 //! every state that they stand for, that they stand for the next one.
 #![tactic(auto)]
 
+mod accepting;
 mod ending;
 mod giving;
 mod going;
@@ -14,4 +15,5 @@ mod live;
 mod rising;
 mod ticking;
 
+pub use accepting::Accepted;
 pub use live::LiveSurfaces;
