@@ -1,0 +1,11 @@
+mod Wanting
+mod Found
+mod Staying
+mod Quiet
+mod Kept_quiet
+mod Risen
+mod Gone
+mod Given
+mod Ends
+mod Arrived
+mod Opened
