@@ -16,6 +16,7 @@ use Rattle.vz_rules.specs.Step.{accepted_frames, scene_answer, draw_answer, done
 use Rattle.vz_rules.specs.Walk.{walk_of, too_much}
 use Rattle.vz_rules.specs.Damage.{drawn_damage}
 use Rattle.vz_clients.specs.Sending.{AreSenders}
+use Rattle.vz_clients.proofs.Standing.{stays_given as keeps_given}
 use Rattle.vz_sinks.specs.declared.seats.Seat.{Seat}
 use Rattle.vz_sinks.specs.Relating.{Related, seat_of, related_in}
 use Rattle.vz_support.specs.Supporting.{Supported, IsSupport}
@@ -90,12 +91,11 @@ same_seats : (f : Client → Client) (xs : List Client) → ((x : Client) → se
 same_seats f [] e = refl
 same_seats f (x ∷ xs) e = λ i. e x i ∷ same_seats f xs e i
 
-pub stays_given : (p : Plan) (w : World) (v : Supported) → ((list : List _) → AreSenders p w list → AreSenders p (give_back w) list) → IsSupport p w v
-    → IsSupport p (give_back w) v
+pub stays_given : (p : Plan) (w : World) (v : Supported) → IsSupport p w v → IsSupport p (give_back w) v
 unfolding give_back
-stays_given p w v senders h =
+stays_given p w v h =
     record {
-      clients = senders v.clients h.clients;
+      clients = keeps_given p w v.clients h.clients;
       first = h.first;
       sinks = h.sinks ∙ related_by v.sinks.first w (give_back w) (same_seats (queue_returns w) w.clients (λ x. refl)) refl;
       tick = h.tick;

@@ -1,7 +1,8 @@
 -- What is kept for the clients, and when it is as the machine's state has it.
-use Rattle.std.specs.Prelude.{◌≡◌, ℕ, Bool, Option, Some, List}
+use Rattle.std.specs.Prelude.{◌≡◌, ℕ, Bool, true, false, Option, Some, List}
 use Rattle.vz_ids.specs.declared.SurfaceId.{SurfaceId}
 use Rattle.vz_frame.specs.declared.message.Message.{Message}
+use Rattle.vz_frame.specs.declared.message.Message.TheVariants.{Await}
 use Rattle.vz_rules.specs.Plan.{Plan}
 use Rattle.vz_rules.specs.World.{World, Client, client_at, first_sink, next_message}
 use Rattle.vz_rules.specs.Kept.{KeepsAlways}
@@ -33,3 +34,8 @@ pub record Sends (p : Plan) (w : World) (c : ℕ) (x : Client) (m : Message) : T
   pub keeps : KeepsAlways w
   pub here : client_at w c ≡ Some x
   pub next : next_message p x ≡ Some m
+
+-- a message awaits a begin-frame
+abbrev pub is_await : Option Message → Bool
+is_await (Some Await) = true
+is_await _ = false

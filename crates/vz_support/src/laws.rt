@@ -10,8 +10,6 @@ ghost use Rattle.vz_rules.specs.Singly.{rising, going};
 ghost use Rattle.vz_rules.specs.Step.{draw_answer, done_answer};
 ghost use Rattle.vz_support.specs.Supporting.{Supported, IsSupport};
 
-use vz_clients::laws::clients_stay;
-
 /// What is kept for the clients stays where a submission becomes active, and through a round and
 /// all rounds of a step.
 pub fn support_stays_in_rounds()
@@ -45,6 +43,4 @@ pub fn support_stays_at_ends()
         → IsSupport p w v → IsSupport p (draw_answer p w).world v }
     ensures done { (p : Plan) (w : World) (v : Supported)
         → IsSupport p w v → IsSupport p (done_answer w).world v }
-{
-    clients_stay();
-}
+{}

@@ -6,6 +6,7 @@
 #![tactic(auto)]
 
 pub mod laws;
+mod reading;
 mod support;
 
 pub use support::Support;
