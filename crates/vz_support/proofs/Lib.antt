@@ -1,2 +1,3 @@
 mod Staying
 mod Asking
+mod Taking

@@ -34,7 +34,7 @@ same_senders p w u v e h =
     record { count = h.count ∙ ap length (sym e); each = λ c x at. h.each c x (ap (find (λ (z : Client). z.number == c)) (sym e) ∙ at) }
 
 -- the hierarchy of a state with these seats and relations
-related_by : (first : FrameSinkId) (w u : World) → map seat_of u.clients ≡ map seat_of w.clients → u.relations ≡ w.relations → related_in first w ≡ related_in first u
+pub related_by : (first : FrameSinkId) (w u : World) → map seat_of u.clients ≡ map seat_of w.clients → u.relations ≡ w.relations → related_in first w ≡ related_in first u
 related_by first w u e f = λ i. record { first = first; seats = sym e i; relations = sym f i }
 
 pub stays_like : (p : Plan) (w u : World) (v : Supported) → IsLike w u → IsSupport p w v → IsSupport p u v
@@ -87,7 +87,7 @@ stays_collected p w v h = stays_cleared p (naming w) v (stays_named p w v h)
 
 -- Ends
 
-same_seats : (f : Client → Client) (xs : List Client) → ((x : Client) → seat_of (f x) ≡ seat_of x) → map seat_of (map f xs) ≡ map seat_of xs
+pub same_seats : (f : Client → Client) (xs : List Client) → ((x : Client) → seat_of (f x) ≡ seat_of x) → map seat_of (map f xs) ≡ map seat_of xs
 same_seats f [] e = refl
 same_seats f (x ∷ xs) e = λ i. e x i ∷ same_seats f xs e i
 

@@ -3,11 +3,11 @@ use Rattle.std.specs.Prelude.{◌≡◌, ℕ, Bool, true, false, Option, Some, L
 use Rattle.vz_ids.specs.declared.SurfaceId.{SurfaceId}
 use Rattle.vz_frame.specs.declared.message.Message.{Message}
 use Rattle.vz_frame.specs.declared.message.Message.TheVariants.{Await}
+use Rattle.vz_frame.specs.Frame.{first_of}
 use Rattle.vz_rules.specs.Plan.{Plan}
 use Rattle.vz_rules.specs.World.{World, Client, client_at, first_sink, next_message}
 use Rattle.vz_rules.specs.Kept.{KeepsAlways}
-use Rattle.vz_clients.specs.Sent.{Sender}
-use Rattle.vz_clients.specs.Changed.{ChangesOne}
+use Rattle.vz_clients.specs.Sent.{Sender, sender_at}
 use Rattle.vz_clients.specs.Sending.{AreSenders}
 use Rattle.vz_sinks.specs.Relating.{Related, related_in}
 
@@ -34,6 +34,10 @@ pub record Sends (p : Plan) (w : World) (c : ℕ) (x : Client) (m : Message) : T
   pub keeps : KeepsAlways w
   pub here : client_at w c ≡ Some x
   pub next : next_message p x ≡ Some m
+
+-- a client takes this message next
+abbrev pub IsNext : Supported → ℕ → Message → Type 0
+IsNext v c m = first_of (sender_at v.clients c).left ≡ Some m
 
 -- a message awaits a begin-frame
 abbrev pub is_await : Option Message → Bool
