@@ -1,3 +1,5 @@
 mod Staying
 mod Asking
 mod Taking
+mod Requesting
+mod Ticking

@@ -8,6 +8,8 @@
 pub mod laws;
 mod messages;
 mod reading;
+mod requests;
 mod support;
+mod ticks;
 
 pub use support::Support;
