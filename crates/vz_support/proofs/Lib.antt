@@ -3,3 +3,5 @@ mod Asking
 mod Taking
 mod Requesting
 mod Ticking
+mod Submitting
+mod Opened

@@ -124,7 +124,7 @@ begun_seats c [] = refl
 begun_seats c (x ∷ xs) = λ i. one_begun (x.number == c) x i ∷ begun_seats c xs i
 
 -- two clients of one number are one
-same_client : (clients : List Client) (x y : Client) → KeepsClients clients → Contains clients x → Contains clients y → x.number ≡ y.number → x ≡ y
+pub same_client : (clients : List Client) (x y : Client) → KeepsClients clients → Contains clients x → Contains clients y → x.number ≡ y.number → x ≡ y
 same_client clients x y keeps cx cy e =
     let n = contains_at clients x cx in
     let m = contains_at clients y cy in

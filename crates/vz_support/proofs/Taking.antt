@@ -73,7 +73,7 @@ takes p w v x f new e senders is =
       over = is.over;
     }
 
-ticked_seat : (t : Bool) (tick : ℕ) (y : Client) → seat_of (cond t (record y { answered = tick }) y) ≡ seat_of y
+pub ticked_seat : (t : Bool) (tick : ℕ) (y : Client) → seat_of (cond t (record y { answered = tick }) y) ≡ seat_of y
 ticked_seat true tick y = refl
 ticked_seat false tick y = refl
 

@@ -7,7 +7,8 @@ use Rattle.vz_frame.specs.Frame.{first_of}
 use Rattle.vz_rules.specs.Plan.{Plan}
 use Rattle.vz_rules.specs.World.{World, Client, client_at, first_sink, next_message}
 use Rattle.vz_rules.specs.Kept.{KeepsAlways}
-use Rattle.vz_clients.specs.Sent.{Sender, sender_at}
+use Rattle.vz_clients.specs.Sent.{Sender, sender_at, taking_one}
+use Rattle.vz_clients.specs.Changed.{ChangesOne}
 use Rattle.vz_clients.specs.Sending.{AreSenders}
 use Rattle.vz_sinks.specs.Relating.{Related, related_in}
 
@@ -38,6 +39,11 @@ pub record Sends (p : Plan) (w : World) (c : ℕ) (x : Client) (m : Message) : T
 -- a client takes this message next
 abbrev pub IsNext : Supported → ℕ → Message → Type 0
 IsNext v c m = first_of (sender_at v.clients c).left ≡ Some m
+
+-- a client's next message was taken, and nothing else changed
+pub record HasTaken (c : ℕ) (old new : Supported) : Type 0 where
+  pub changes : ChangesOne c taking_one old.clients new.clients
+  pub kept : new ≡ record old { clients = new.clients }
 
 -- a message awaits a begin-frame
 abbrev pub is_await : Option Message → Bool

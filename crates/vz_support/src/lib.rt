@@ -7,8 +7,10 @@
 
 pub mod laws;
 mod messages;
+mod opening;
 mod reading;
 mod requests;
+mod submissions;
 mod support;
 mod ticks;
 
