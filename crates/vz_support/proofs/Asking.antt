@@ -1,22 +1,22 @@
 -- What is asked of a client is what is asked of it in the machine's state.
-use Rattle.std.proofs.Common.{◌≡◌, ℕ, ◌+◌, ◌-◌, ◌<◌, ◌≤◌, Bool, true, false, not, ◌&&◌, ◌||◌, ◌==◌, nat_lt, Option, Some, None, is_some, is_none, List, [], find, length, slice_get, option_copied, Bor, refl, ap, sym, ◌∙◌, subst, arith}
+use Rattle.std.proofs.Common.{◌≡◌, ℕ, ◌+◌, ◌-◌, ◌<◌, ◌≤◌, Bool, true, false, not, ◌&&◌, ◌||◌, ◌==◌, nat_lt, Option, Some, None, is_some, is_none, length, option_copied, Bor, refl, ap, sym, ◌∙◌, subst, arith}
 use Rattle.std.proofs.lemmas.Bool.{eq-eqb}
 use Rattle.vz_frame.specs.declared.message.Message.{Message}
 use Rattle.vz_frame.specs.declared.message.Message.TheVariants.{Upload, Submit, DidNotProduce, Reclaim, SetRoot, Hierarchy, Await, Close}
 use Rattle.vz_frame.specs.Frame.{first_of}
 use Rattle.vz_rules.specs.Plan.{Plan}
 use Rattle.vz_rules.specs.World.{World, Client, Machine, client_at, next_message}
-use Rattle.vz_rules.specs.Kept.{KeepsClients}
+use Rattle.vz_rules.specs.Kept.{KeepsClients, KeepsPlan}
 use Rattle.vz_rules.specs.Course.{waits, is_idle, has_answered}
 use Rattle.vz_rules.specs.Step.{is_attached}
 use Rattle.vz_rules.proofs.Cases.{number_at}
 use Rattle.vz_rules.proofs.Kept_small.{at_there}
 use Rattle.vz_rules.proofs.Members.{at_contains, any_from, found}
-use Rattle.vz_machine.specs.Stepping.{asked, waits_at, idle_at, answered_at, attached_at, listed_at, listed_in}
+use Rattle.vz_machine.specs.Stepping.{HasClient, asked, waits_at, idle_at, answered_at, attached_at, listed_at, listed_in}
 use Rattle.vz_clients.specs.Sent.{sender_at}
 use Rattle.vz_clients.specs.Sending.{IsSender}
 use Rattle.vz_clients.proofs.Standing.{tells_next}
-use Rattle.vz_sinks.specs.Relating.{standing, attached_in, related_in}
+use Rattle.vz_sinks.specs.Relating.{standing, attached_in}
 use Rattle.vz_sinks.proofs.Same_seats.{standing_is, attached_as}
 use Rattle.vz_support.specs.Supporting.{Supported, IsSupport, is_await}
 
@@ -41,6 +41,12 @@ numbered_there w c keeps some known =
     some_client (client_at w c)
     (found (λ (z : Client). z.number == c) w.clients
     ∙ any_from (λ (z : Client). z.number == c) w.clients at.0 (at_contains w.clients (c - 1) at.0 at.1) (eq-eqb at.0.number c number))
+
+-- each client of the plan is kept
+pub known_there : (m : Machine) (c : ℕ) (v : Supported) → KeepsPlan m.plan m.world → IsSupport m.plan m.world v → HasClient m c → (1 ≤ c) × (c ≤ length v.clients)
+known_there m c v keeps is has =
+    let many : length v.clients ≡ length m.plan.files = is.clients.count ∙ keeps.files.as_many in
+    (omega (arith, has.0), omega (arith, has.1, many))
 
 -- what is kept of a client of the state
 pub kept_of : (p : Plan) (w : World) (v : Supported) (c : ℕ) (x : Client) → IsSupport p w v → client_at w c ≡ Some x → IsSender p x (sender_at v.clients c)

@@ -1,5 +1,5 @@
 -- Before the first step.
-use Rattle.std.proofs.Common.{◌≡◌, ℕ, false, Option, Some, None, List, [], map, slice_get, refl, ap, sym, ◌∙◌, subst}
+use Rattle.std.proofs.Common.{◌≡◌, false, Some, None, List, [], map, slice_get, refl, ap, sym, ◌∙◌, subst}
 use Rattle.vz_ids.specs.declared.FrameSinkId.{FrameSinkId}
 use Rattle.vz_frame.specs.declared.message.ClientFile.{ClientFile}
 use Rattle.vz_rules.specs.Plan.{Plan}
@@ -9,7 +9,7 @@ use Rattle.vz_clients.specs.Sending.{AreSenders}
 use Rattle.vz_clients.proofs.Standing.{opens}
 use Rattle.vz_sinks.specs.Relating.{Related, seats_from}
 use Rattle.vz_sinks.proofs.Same_seats.{opened_as, first_as}
-use Rattle.vz_support.specs.Supporting.{Supported, IsSupport}
+use Rattle.vz_support.specs.Supporting.{IsSupport}
 use Rattle.vz_support.proofs.Requesting.{makes}
 
 -- what is made of the files of a plan

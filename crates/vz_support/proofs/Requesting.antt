@@ -1,13 +1,12 @@
 -- What is answered by what is kept for all clients is what the machine answers.
-use Rattle.std.proofs.Common.{◌≡◌, ℕ, ◌+◌, ◌≤◌, Bool, true, false, not, ◌&&◌, ◌==◌, Option, Some, None, List, [], ◌∷◌, map, refl, ap, sym, ◌∙◌, subst, cond, if◌then◌else◌, arith, option_and_then, Contains}
+use Rattle.std.proofs.Common.{◌≡◌, ℕ, ◌+◌, Bool, true, false, ◌&&◌, ◌==◌, Option, Some, None, List, [], ◌∷◌, map, refl, ap, sym, ◌∙◌, subst, cond, if◌then◌else◌, arith, option_and_then, Contains}
 use Rattle.std.proofs.lemmas.Bool.{eq-eqb, eqb-true}
 use Rattle.vz_ids.specs.declared.FrameSinkId.{FrameSinkId}
 use Rattle.vz_ids.specs.declared.LocalSurfaceId.{LocalSurfaceId}
 use Rattle.vz_ids.specs.declared.SurfaceId.{SurfaceId}
 use Rattle.vz_frame.specs.declared.message.Message.{Message}
-use Rattle.vz_frame.specs.declared.message.Message.TheVariants.{SetRoot, Hierarchy, Await}
+use Rattle.vz_frame.specs.declared.message.Message.TheVariants.{SetRoot, Hierarchy}
 use Rattle.vz_frame.specs.Frame.{first_of}
-use Rattle.vz_rules.specs.declared.entry.Reply.{Reply}
 use Rattle.vz_rules.specs.declared.entry.Reply.TheVariants as reply
 use Rattle.vz_rules.specs.declared.entry.Refusal.TheVariants as refusal
 use Rattle.vz_rules.specs.Plan.{Plan}
@@ -19,10 +18,9 @@ use Rattle.vz_clients.specs.Sent.{Sender, sender_at, taking_one}
 use Rattle.vz_clients.specs.Changed.{ChangesOne}
 use Rattle.vz_clients.specs.Sending.{AreSenders}
 use Rattle.vz_clients.proofs.Messaging.{follows_begun}
-use Rattle.vz_sinks.specs.declared.seats.Seat.{Seat}
 use Rattle.vz_sinks.specs.declared.refusals.SinkError.{SinkError}
 use Rattle.vz_sinks.specs.declared.refusals.SinkError.TheVariants as error
-use Rattle.vz_sinks.specs.Relating.{Related, seat_of, take_one, standing, refusal_for, refusal_in, refusal_of, related_in, is_known_in, is_own}
+use Rattle.vz_sinks.specs.Relating.{Related, seat_of, take_one, standing, refusal_for, refusal_in, refusal_of, is_known_in, is_own}
 use Rattle.vz_sinks.proofs.Same_seats.{refused_as}
 use Rattle.vz_support.specs.Supporting.{Supported, IsSupport, Sends}
 use Rattle.vz_support.specs.Relations.{reply_for, relations_for}
@@ -226,9 +224,9 @@ module _ (p : Plan) (w : World) (v : Supported) (c : ℕ) (x : Client) (m : Mess
       (left_by w x joined parent child v.sinks.relations (λ u rs. s.relations ≡ rs → IsSupport p u (record v { clients = new; sinks = s })) (refusal_in v.sinks c parent child)
       (no_memory v.sinks c parent child)
       (λ e. makes p joined.world (record v { clients = new; sinks = s }) (record { count = t.clients.count; each = t.clients.each }) (first_is p w v s is first)
-        (seats ∙ seats_now) (e ∙ ap (relate parent child) (relations_are p w v is)) t.tick t.root t.over)
+      (seats ∙ seats_now) (e ∙ ap (relate parent child) (relations_are p w v is)) t.tick t.root t.over)
       (λ e. makes p (taking (λ y. y) x w) (record v { clients = new; sinks = s }) t.clients (first_is p w v s is first)
-        (seats ∙ seats_now) (e ∙ relations_are p w v is) t.tick t.root t.over)
+      (seats ∙ seats_now) (e ∙ relations_are p w v is) t.tick t.root t.over)
       relations)
     where
       joined : Answer

@@ -1,5 +1,5 @@
 -- Changes of the machine's state that are none of what is kept for the clients.
-use Rattle.std.proofs.Common.{◌≡◌, ℕ, zero, suc, Bool, true, false, ◌&&◌, ◌==◌, Option, Some, None, is_some, List, [], ◌∷◌, map, find, length, refl, ap, sym, ◌∙◌, subst, cond}
+use Rattle.std.proofs.Common.{◌≡◌, ℕ, zero, suc, Bool, true, false, ◌&&◌, ◌==◌, Option, Some, None, is_some, List, [], ◌∷◌, map, find, length, refl, ap, sym, ◌∙◌, cond}
 use Rattle.vz_ids.specs.declared.FrameSinkId.{FrameSinkId}
 use Rattle.vz_ids.specs.declared.Sub.{Sub}
 use Rattle.vz_geom.specs.Rectangle.{is_empty_rect}
@@ -17,8 +17,7 @@ use Rattle.vz_rules.specs.Walk.{walk_of, too_much}
 use Rattle.vz_rules.specs.Damage.{drawn_damage}
 use Rattle.vz_clients.specs.Sending.{AreSenders}
 use Rattle.vz_clients.proofs.Standing.{stays_given as keeps_given}
-use Rattle.vz_sinks.specs.declared.seats.Seat.{Seat}
-use Rattle.vz_sinks.specs.Relating.{Related, seat_of, related_in}
+use Rattle.vz_sinks.specs.Relating.{seat_of, related_in}
 use Rattle.vz_support.specs.Supporting.{Supported, IsSupport}
 
 -- what is kept for the clients is of these parts of the state alone

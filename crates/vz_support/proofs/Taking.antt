@@ -1,7 +1,6 @@
 -- What is kept for a client changes with the message that it takes.
-use Rattle.std.proofs.Common.{◌≡◌, ℕ, ◌≤◌, Bool, true, false, ◌==◌, Option, Some, None, List, [], ◌∷◌, map, find, refl, ap, sym, ◌∙◌, subst, cond}
+use Rattle.std.proofs.Common.{◌≡◌, ℕ, ◌≤◌, Bool, true, false, ◌==◌, Option, Some, List, [], ◌∷◌, map, refl, ap, sym, ◌∙◌, subst, cond}
 use Rattle.std.proofs.lemmas.Bool.{eq-eqb}
-use Rattle.vz_ids.specs.declared.FrameSinkId.{FrameSinkId}
 use Rattle.vz_pixels.specs.Block.{Block}
 use Rattle.vz_frame.specs.declared.message.Message.{Message}
 use Rattle.vz_frame.specs.declared.message.Message.TheVariants.{DidNotProduce, Close}
@@ -18,8 +17,7 @@ use Rattle.vz_clients.specs.Changed.{ChangesOne}
 use Rattle.vz_clients.specs.Sending.{AreSenders}
 use Rattle.vz_clients.proofs.Sending.{some_number}
 use Rattle.vz_clients.proofs.Messaging.{follows_plain, follows_reclaim, follows_noted, follows_stored, follows_closed}
-use Rattle.vz_sinks.specs.declared.seats.Seat.{Seat}
-use Rattle.vz_sinks.specs.Relating.{Related, seat_of, close_one, related_in}
+use Rattle.vz_sinks.specs.Relating.{Related, seat_of, close_one}
 use Rattle.vz_support.specs.Supporting.{Supported, IsSupport, Sends}
 use Rattle.vz_support.proofs.Staying.{same_seats, related_by}
 use Rattle.vz_support.proofs.Asking.{next_same}
@@ -39,7 +37,7 @@ two_changes c f g a b d some first second =
       count = second.count ∙ first.count;
       each = λ q one.
           let here : sender_at b c ≡ f (sender_at a c) =
-            first.each c some ∙ ap (λ (t : Bool). cond t (f (sender_at a c)) (sender_at a c)) (eq-eqb c c refl) in
+          first.each c some ∙ ap (λ (t : Bool). cond t (f (sender_at a c)) (sender_at a c)) (eq-eqb c c refl) in
           second.each q one
           ∙ ((λ i. cond (q == c) (g (here i)) (first.each q one i)) ∙ twice (q == c) (g (f (sender_at a c))) (f (sender_at a c)) (sender_at a q));
     }
@@ -126,9 +124,9 @@ module _ (p : Plan) (w : World) (v : Supported) (c : ℕ) (x : Client) (m : Mess
 
       by : AreSenders p (upload_answer w x id block).world new → IsSupport p (upload_answer w x id block).world (record v { clients = new })
       by = subst
-        (λ (t : Bool). AreSenders p (cond t (refused w x refusal.InUse) (says reply.Stored (taking put x w))).world new
-        → IsSupport p (cond t (refused w x refusal.InUse) (says reply.Stored (taking put x w))).world (record v { clients = new }))
-        (sym free) (λ senders. takes p w v x put new (λ y. refl) senders is)
+          (λ (t : Bool). AreSenders p (cond t (refused w x refusal.InUse) (says reply.Stored (taking put x w))).world new
+          → IsSupport p (cond t (refused w x refusal.InUse) (says reply.Stored (taking put x w))).world (record v { clients = new }))
+          (sym free) (λ senders. takes p w v x put new (λ y. refl) senders is)
 
   pub closes : (mid new : List Sender) (sinks : Related) → ChangesOne c taking_one v.clients mid → ChangesOne c closing mid new
       → sinks.first ≡ v.sinks.first → sinks.seats ≡ map (close_one c) v.sinks.seats → sinks.relations ≡ v.sinks.relations
@@ -137,8 +135,8 @@ module _ (p : Plan) (w : World) (v : Supported) (c : ℕ) (x : Client) (m : Mess
   closes mid new sinks first second same seats relations =
       record {
         clients =
-          follows_closed p w x v.clients new sends.keeps.clients is.clients here_is
-          (changes_at (λ s. closing (taking_one s)) new (two_changes c taking_one closing v.clients mid new some_is first second));
+            follows_closed p w x v.clients new sends.keeps.clients is.clients here_is
+            (changes_at (λ s. closing (taking_one s)) new (two_changes c taking_one closing v.clients mid new some_is first second));
         first = is.first ∙ ap (λ z. Some z) (sym same);
         sinks = λ i. record { first = sinks.first; seats = closed_is i; relations = (relations ∙ ap (λ (r : Related). r.relations) is.sinks) i };
         tick = is.tick;

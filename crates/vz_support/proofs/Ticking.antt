@@ -1,11 +1,11 @@
 -- A begin-frame and the end are those of the machine's state.
-use Rattle.std.proofs.Common.{◌≡◌, ℕ, true, Some, List, map, refl, ap, sym, ◌∙◌, subst}
+use Rattle.std.proofs.Common.{◌≡◌, ℕ, true, refl, ap, sym, ◌∙◌}
 use Rattle.vz_rules.specs.declared.entry.Reply.TheVariants.{Ticked}
 use Rattle.vz_rules.specs.Plan.{Plan}
 use Rattle.vz_rules.specs.World.{World}
 use Rattle.vz_rules.specs.Step.{next_tick, begin_answer}
 use Rattle.vz_clients.proofs.Standing.{stays_begun}
-use Rattle.vz_sinks.specs.Relating.{Related, delivered_to, related_in}
+use Rattle.vz_sinks.specs.Relating.{Related, delivered_to}
 use Rattle.vz_sinks.proofs.Same_seats.{delivered_as}
 use Rattle.vz_support.specs.Supporting.{Supported, IsSupport}
 use Rattle.vz_support.proofs.Requesting.{makes, first_is, relations_are}

@@ -1,14 +1,22 @@
 //! Laws of what is kept for the clients, each the contract of a function that does nothing.
-ghost use Rattle.std.specs.Prelude.{List};
+ghost use Rattle.std.specs.Prelude.{ℕ, ◌≤◌, List, length};
 ghost use Rattle.vz_ids.specs.declared.Sub.{Sub};
 ghost use Rattle.vz_rules.specs.Plan.{Plan};
-ghost use Rattle.vz_rules.specs.World.{World, Created, Submission};
+ghost use Rattle.vz_rules.specs.World.{World, Machine, Created, Submission};
 ghost use Rattle.vz_rules.specs.Settle.{round, settle};
 ghost use Rattle.vz_rules.specs.Reach.{naming, clearing, collect};
 ghost use Rattle.vz_rules.specs.Returns.{give_back, feed};
 ghost use Rattle.vz_rules.specs.Singly.{rising, going};
 ghost use Rattle.vz_rules.specs.Step.{draw_answer, done_answer};
+ghost use Rattle.vz_rules.specs.Kept.{KeepsPlan};
+ghost use Rattle.vz_machine.specs.Stepping.{HasClient};
 ghost use Rattle.vz_support.specs.Supporting.{Supported, IsSupport};
+
+/// Each client of the plan is one of those that are kept.
+pub fn clients_are_known()
+    ensures { (m : Machine) (c : ℕ) (v : Supported) → KeepsPlan m.plan m.world
+        → IsSupport m.plan m.world v → HasClient m c → (1 ≤ c) × (c ≤ length v.clients) }
+{}
 
 /// What is kept for the clients stays where a submission becomes active, and through a round and
 /// all rounds of a step.

@@ -11,6 +11,7 @@ ghost use Rattle.vz_support.specs.Supporting.{IsSupport, is_await};
 
 use crate::support::Support;
 use vz_frame::Message;
+use vz_ids::{FrameSinkId, SurfaceId};
 
 /// Whether a message awaits a begin-frame.
 fn is_await(message: Option<&Message>) -> bool
@@ -39,6 +40,37 @@ fn listed_in(message: Option<&Message>) -> u64
 }
 
 impl Support {
+    /// The number of the last begin-frame, 0 before the first one.
+    pub fn tick(&self) -> u32
+        ensures { (p : Plan) (w : World) → IsSupport p w self.now → result ≡ w.tick }
+    {
+        self.tick
+    }
+
+    /// The surface that the first client named last as the root, whether it exists or not.
+    pub fn root(&self) -> Option<SurfaceId>
+        ensures { (p : Plan) (w : World) → IsSupport p w self.now → result ≡ w.root }
+    {
+        self.root
+    }
+
+    /// Whether it is over.
+    pub fn is_over(&self) -> bool
+        ensures { (p : Plan) (w : World) → IsSupport p w self.now → result ≡ w.over }
+    {
+        self.over
+    }
+
+    /// The sink of a client. Condition: the client is there.
+    pub fn sink(&self, c: u32) -> FrameSinkId
+        requires some { 1 ≤ c }
+        requires known { c ≤ length self.now.clients }
+        ensures { (p : Plan) (w : World) (x : Client) → IsSupport p w self.now
+            → client_at w c ≡ Some x → result ≡ x.sink }
+    {
+        self.clients.sink(c)
+    }
+
     /// The message that a client sends next, if there is one. Condition: the client is there.
     pub fn next(&self, c: u32) -> Option<&Message>
         requires some { 1 ≤ c }

@@ -1,4 +1,4 @@
-use Rattle.std.proofs.Common.{None, Some, refl, true, false, subst, sym, ap, ◌∙◌}
+use Rattle.std.proofs.Common.{None, Some, refl, true, false, subst, sym, ◌∙◌}
 use Rattle.vz_support.specs.Supporting.{IsSupport}
 use Rattle.vz_support.proofs.Requesting.{none_of, says_awaited, begins, waits_on, ends}
 use Rattle.vz_support.proofs.support.Support.await_begin.Goals as goal

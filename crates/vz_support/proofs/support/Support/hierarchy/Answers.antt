@@ -1,8 +1,7 @@
-use Rattle.std.proofs.Common.{◌≡◌, subst, sym, refl, ap, ◌∙◌}
+use Rattle.std.proofs.Common.{subst, sym, refl, ◌∙◌}
 use Rattle.vz_sinks.specs.Relating.{refusal_in}
 use Rattle.vz_support.specs.Relations.{reply_for, relations_for}
 use Rattle.vz_support.specs.Supporting.{IsSupport}
-use Rattle.vz_support.proofs.Taking.{sent_is}
 use Rattle.vz_support.proofs.Requesting.{asked_is, says_related, relates}
 use Rattle.vz_support.proofs.support.Support.hierarchy.Goals as goal
 

@@ -1,6 +1,5 @@
-use Rattle.std.proofs.Common.{◌≡◌, Some, map, slice_get, ap, sym, ◌∙◌}
+use Rattle.std.proofs.Common.{map, ap, ◌∙◌}
 use Rattle.vz_frame.specs.declared.message.ClientFile.{ClientFile}
-use Rattle.vz_sinks.specs.Relating.{seats_from}
 use Rattle.vz_support.proofs.Opened.{opens_as}
 use Rattle.vz_support.proofs.support.Support.open.Goals as goal
 

@@ -1,4 +1,4 @@
-use Rattle.std.proofs.Common.{subst, sym, ap, ◌∙◌}
+use Rattle.std.proofs.Common.{subst, sym, ◌∙◌}
 use Rattle.vz_support.specs.Supporting.{IsSupport}
 use Rattle.vz_support.proofs.Taking.{sent_is}
 use Rattle.vz_support.proofs.Requesting.{same_local_id, other_number, one_number, refuses_root, says_not_root, names_root, says_rooted}
