@@ -3,3 +3,5 @@ mod Found
 mod Staying
 mod Risen
 mod Gone
+pub mod Reaches
+mod Setting

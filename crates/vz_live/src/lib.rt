@@ -10,6 +10,7 @@ mod ending;
 mod flight;
 mod going;
 mod live;
+mod reaching;
 mod rising;
 
 pub use flight::Flight;
