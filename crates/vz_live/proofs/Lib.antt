@@ -9,3 +9,5 @@ mod Given
 mod Ends
 mod Arrived
 mod Opened
+pub mod Reaches
+mod Setting

@@ -12,6 +12,7 @@ mod giving;
 mod going;
 pub mod laws;
 mod live;
+mod reaching;
 mod rising;
 mod ticking;
 

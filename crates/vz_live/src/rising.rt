@@ -25,6 +25,8 @@ impl LiveSurfaces {
             → IsRising w but s sub self.old → result ≡ s.submitted.id }
         ensures out { resources_out self.new.lent ≡ resources_out self.old.lent }
         ensures count { owed_count self.new.owed.owed ≡ owed_count self.old.owed.owed }
+        ensures sets { length self.new.kept.sets ≤ length self.old.kept.sets + 1 }
+        ensures temporary { length self.new.kept.temporary ≤ length self.old.kept.temporary }
     {
         let Some(id) = self.store.waits_on(sub) else {
             unreachable!()

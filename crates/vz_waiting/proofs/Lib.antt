@@ -1,5 +1,5 @@
 mod Lists
-mod Standing
+pub mod Standing
 mod Unchanged
 mod Removing
 mod Meeting

@@ -1,7 +1,13 @@
+<<<<<<< HEAD
 use Rattle.std.proofs.Common.{sym, ◌∙◌, subst}
+=======
+use Rattle.std.proofs.Common.{◌+◌, ◌≤◌, length, sym, ◌∙◌, subst}
+use Rattle.vz_live.specs.Living.{Live}
+>>>>>>> ddc12798685da0b35a0a96d6630b9d9106969602
 use Rattle.vz_live.specs.Changes.{IsRising}
 use Rattle.vz_live.proofs.Staying.{got}
 use Rattle.vz_live.proofs.Risen.{id_is, none_missing, acts_is, releases, is_lender, none_waits, ranges_are, wants_less, fits, keeps, waits_there, past_is, live_risen}
+use Rattle.vz_live.proofs.Setting.{one_set, none_more}
 use Rattle.vz_live.proofs.live.LiveSurfaces.rise.Goals as goal
 
 pub unreachable-requires : goal.unreachable-requires
@@ -74,3 +80,13 @@ pub returns-clause-surface : goal.returns-clause-surface
 returns-clause-surface c w but s x =
     let h = subst (IsRising w but s c.args.sub) (sym c.self.view_is) x in
     id_is w but s c.args.sub _ h c.in-Some.id c.in-Some.ensures
+
+pub returns-clause-sets : goal.returns-clause-sets
+returns-clause-sets c =
+    subst (λ (v : Live). length c.set.new.self.sets ≤ length v.kept.sets + 1) c.self.view_is
+    (one_set _ _ _ _ (got _ _ _ c.unwrap.ensures c.set.ensures.sets))
+
+pub returns-clause-temporary : goal.returns-clause-temporary
+returns-clause-temporary c =
+    subst (λ (v : Live). length c.set.new.self.temporary ≤ length v.kept.temporary) c.self.view_is
+    (none_more _ _ _ (got _ _ _ c.unwrap.ensures c.set.ensures.temporary))

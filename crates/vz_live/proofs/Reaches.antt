@@ -1,0 +1,38 @@
+-- What is reached over what is kept is what is reached in the machine's state.
+use Rattle.std.proofs.Common.{◌≡◌, Bool, Option, Some, None, IfSome, IsTrue, List, refl, ap, ◌∙◌, subst, cond}
+use Rattle.vz_ids.specs.declared.SurfaceId.{SurfaceId}
+use Rattle.vz_ids.specs.declared.SurfaceRange.{SurfaceRange}
+use Rattle.vz_ids.specs.Ids.{same_surface}
+use Rattle.vz_rules.specs.World.{World}
+use Rattle.vz_rules.specs.Closure.{IsLeastClosed}
+use Rattle.vz_rules.specs.Scene.{shown}
+use Rattle.vz_rules.specs.Reach.{has_id, naming, reach}
+use Rattle.vz_rules.specs.Kept.{KeepsAlways}
+use Rattle.vz_refs.specs.Referring.{is_set, next_in, starts}
+use Rattle.vz_surfaces.specs.Stored.{Stored, stored_of}
+use Rattle.vz_surfaces.specs.Reading.{stands, shown_in}
+use Rattle.vz_surfaces.proofs.Telling.{tells_exists, tells_shown}
+use Rattle.vz_reaching.specs.Lasting.{if_exists}
+use Rattle.vz_reaching.proofs.Rooted.{shown_set, marked_reached}
+use Rattle.vz_live.specs.Living.{Live, AreLive}
+use Rattle.vz_live.specs.Rooting.{if_stands}
+
+-- the root where it exists
+pub root_there : (w : World) (st : Stored) (root : Option SurfaceId) → st ≡ stored_of w → if_stands st root ≡ if_exists w root
+root_there w st None e = refl
+root_there w st (Some id) e = ap (λ (t : Bool). cond t (Some id) None) (ap (λ (s : Stored). stands s id) e ∙ tells_exists w id)
+
+module _ (w : World) (but : Option SurfaceId) (v : Live) (h : KeepsAlways w) (live : AreLive w but v) where
+  pub shows_is : (x : SurfaceRange) → shown_in v.store x ≡ shown w x
+  shows_is x = ap (λ (s : Stored). shown_in s x) live.store ∙ tells_shown w x h
+
+  pub set_there : (x : SurfaceRange) → IfSome (shown_in v.store x) (λ id. IsTrue (is_set v.kept.sets id))
+  set_there = shown_set w but v.kept (shown_in v.store) shows_is live.kept
+
+pub reaches : (w : World) (v : Live) (given root : Option SurfaceId) (ids : List SurfaceId) → KeepsAlways w → AreLive w None v → naming w ≡ w → given ≡ w.root
+    → root ≡ if_stands v.store given
+    → IsLeastClosed same_surface (next_in (shown_in v.store) v.kept.sets) (starts root v.kept.temporary) ids → (id : SurfaceId) → has_id ids id ≡ has_id (reach w) id
+reaches w v given root ids h live named e f least =
+    marked_reached w v.kept named live.kept (shown_in v.store) ids (shows_is w None v h live)
+    (subst (λ r. IsLeastClosed same_surface (next_in (shown_in v.store) v.kept.sets) (starts r v.kept.temporary) ids)
+    (f ∙ (root_there w v.store given live.store ∙ ap (if_exists w) e)) least)

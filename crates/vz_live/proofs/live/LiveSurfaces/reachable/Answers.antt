@@ -1,0 +1,13 @@
+use Rattle.std.proofs.Common.{sym, subst}
+use Rattle.vz_live.specs.Living.{AreLive}
+use Rattle.vz_live.proofs.Reaches.{set_there, reaches}
+use Rattle.vz_live.proofs.live.LiveSurfaces.reachable.Goals as goal
+
+pub reachable-requires-clause-shown : goal.reachable-requires-clause-shown
+reachable-requires-clause-shown c =
+    let x = c.requires.live in
+    set_there x.0 x.1 _ x.2 (subst (AreLive x.0 x.1) (sym c.self.view_is) x.3)
+
+pub returns-clause-reached : goal.returns-clause-reached
+returns-clause-reached c w h live named is =
+    reaches w _ c.args.root c.if_exists-root.result _ h (subst (AreLive w _) (sym c.self.view_is) live) named is c.if_exists-root.ensures c.reachable.ensures.least

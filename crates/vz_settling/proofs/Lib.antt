@@ -1,0 +1,4 @@
+mod Differing
+mod Rising_on
+mod Rounded
+mod Settling_on

@@ -1,0 +1,18 @@
+use Rattle.std.proofs.Common.{◌≡◌, ◌+◌, ◌≤◌, length, Option}
+use Rattle.vz_ids.specs.declared.SurfaceId.{SurfaceId}
+use Rattle.vz_rules.specs.World.{World}
+use Rattle.vz_lending.specs.Lent.{resources_out}
+use Rattle.vz_feeding.specs.Noting.{owed_count}
+use Rattle.vz_settling.specs.Settles.{IsRound}
+use Rattle.vz_settling.proofs.Rising_on.{IsRisingOn}
+use Rattle.vz_settling.proofs.rounds.rise_all.Given as goal
+
+-- those so far have risen, each into one place, and nothing more is out or owed
+abbrev pub invariant-loop-sub : goal.invariant-loop-sub
+invariant-loop-sub l =
+    ((w : World) (but : Option SurfaceId) → IsRound w but l.subs l.fn.live → IsRisingOn w but l.sub-index l.live l.fn.ids.list l.ids.list)
+    × (l.fn.ids.spare ≡ l.ids.spare + l.sub-index)
+    × (resources_out l.live.lent ≡ resources_out l.fn.live.lent)
+    × (owed_count l.live.owed.owed ≡ owed_count l.fn.live.owed.owed)
+    × (length l.live.kept.sets ≤ length l.fn.live.kept.sets + l.sub-index)
+    × (length l.live.kept.temporary ≤ length l.fn.live.kept.temporary)

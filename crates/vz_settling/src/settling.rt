@@ -1,0 +1,56 @@
+//! The surfaces and the submissions that wait, as they settle.
+ghost use Rattle.std.specs.Prelude.{◌≡◌, ◌≤◌, ◌+◌, [], length, Option};
+ghost use Rattle.vz_ids.specs.declared.SurfaceId.{SurfaceId as Id};
+ghost use Rattle.vz_rules.specs.World.{World};
+ghost use Rattle.vz_rules.specs.Settle.{settle, activated_in};
+ghost use Rattle.vz_lending.specs.Lent.{resources_out};
+ghost use Rattle.vz_feeding.specs.Noting.{owed_count};
+ghost use Rattle.vz_settling.specs.Settles.{AreSettling, IsToSettle};
+
+use crate::rounds::{rise_all, since};
+use vz_frame::Room;
+use vz_ids::{Sub, SurfaceId};
+use vz_live::LiveSurfaces;
+use vz_waiting::Waiting;
+
+/// The surfaces with what hangs on them, and what the submissions that wait lack.
+#[derive(Drop)]
+pub struct Settling {
+    /// The surfaces with what hangs on them.
+    pub live: LiveSurfaces,
+    /// The submissions that wait, until they become active.
+    pub waiting: Waiting,
+}
+
+impl Settling {
+    /// Rounds, until nothing is ready: `activated` has those that are ready, and all that become
+    /// active follow there, round by round; `ids` is used beside. It takes no memory.
+    ///
+    /// Conditions: `ids` is empty, and there is room for all that wait.
+    pub fn settle(&mut self, ids: &mut Room<SurfaceId>, activated: &mut Room<Sub>)
+        requires settles { (w : World) × (but : Option Id)
+            × IsToSettle w but self.old activated.old.list }
+        requires empty { ids.old.list ≡ [] }
+        requires room { length self.old.waiting.blocked ≤ activated.old.spare }
+        requires beside { length activated.old.list + length self.old.waiting.blocked
+            ≤ ids.old.spare }
+        ensures settled { (w : World) (but : Option Id)
+            → IsToSettle w but self.old activated.old.list → AreSettling (settle w) but self.new }
+        ensures activated { (w : World) (but : Option Id)
+            → IsToSettle w but self.old activated.old.list → activated.new.list ≡ activated_in w }
+        ensures out { resources_out self.new.live.lent ≡ resources_out self.old.live.lent }
+        ensures count { owed_count self.new.live.owed.owed ≡ owed_count self.old.live.owed.owed }
+        ensures sets { length self.new.live.kept.sets ≤ length self.old.live.kept.sets
+            + (length activated.old.list + length self.old.waiting.blocked) }
+        ensures temporary { length self.new.live.kept.temporary
+            ≤ length self.old.live.kept.temporary }
+    {
+        let mut from = 0;
+        while from < activated.as_slice().len() {
+            let to = activated.as_slice().len();
+            rise_all(&mut self.live, since(activated, from), ids);
+            self.waiting.activated(since(ids, from), activated);
+            from = to;
+        }
+    }
+}
