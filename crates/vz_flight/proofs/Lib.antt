@@ -4,3 +4,4 @@ pub mod Rostered
 pub mod Counting
 pub mod Staying
 pub mod Drawings
+pub mod Standing

@@ -19,7 +19,7 @@ ghost use Rattle.vz_rules.specs.Scene.{scene_of};
 ghost use Rattle.vz_rules.specs.Walk.{walk_of, too_much};
 ghost use Rattle.vz_rules.specs.Singly.{rising, going};
 ghost use Rattle.vz_rules.specs.Reach.{naming};
-ghost use Rattle.vz_rules.specs.Returns.{give_back, feed};
+ghost use Rattle.vz_rules.specs.Returns.{give_back, holds, feedback_of, feed, fed_in};
 ghost use Rattle.vz_rules.specs.Messages.{accepted, taking, message_answer, upload_answer};
 ghost use Rattle.vz_rules.specs.Messages.{hierarchy_answer, root_answer, await_answer};
 ghost use Rattle.vz_rules.specs.Step.{answer_to, begin_answer, draw_answer, done_answer};
@@ -125,4 +125,21 @@ pub fn flights_tell()
         → AreFlown w (Some flown) → IsRosterOf flown roster → Contains roster f
         → (s : Submission) × Contains w.subs s × (sub_of s ≡ f.0)
         × (s.submitted.frame.resources ≡ f.1) }
+{}
+
+/// A roster of the drawn frame stands for it: with it in flight, each submission holds what it
+/// lists and gets its feedback as before, and where those of it are presented, the same feedback is
+/// given.
+pub fn rosters_stand()
+    ensures holds { (w : World) (flown roster : List Flown) (s : Submission)
+        → AreFlown w (Some flown) → IsRosterOf flown roster
+        → holds (record w { in_flight = Some (subs_of roster) }) s ≡ holds w s }
+    ensures gets { (w : World) (flown roster : List Flown) (presented : List Sub)
+        (s : Submission) → AreFlown w (Some flown) → IsRosterOf flown roster
+        → feedback_of (record w { in_flight = Some (subs_of roster) }) presented s
+        ≡ feedback_of w presented s }
+    ensures fed { (w : World) (flown roster : List Flown) → IsRosterOf flown roster
+        → fed_in (subs_of roster) w ≡ fed_in (subs_of flown) w }
+    ensures feed { (w : World) (flown roster : List Flown) → IsRosterOf flown roster
+        → feed (subs_of roster) w ≡ feed (subs_of flown) w }
 {}
