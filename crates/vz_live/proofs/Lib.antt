@@ -6,3 +6,5 @@ mod Kept_quiet
 mod Risen
 mod Gone
 mod Given
+mod Released
+mod Landed

@@ -1,3 +1,4 @@
 pub mod Living
 pub mod Ending
 pub mod Changes
+pub mod Landing

@@ -9,6 +9,7 @@
 mod ending;
 mod giving;
 mod going;
+mod landing;
 pub mod laws;
 mod live;
 mod rising;
