@@ -1,5 +1,6 @@
 pub mod Putting
 pub mod Gathering
+pub mod Counted
 pub mod Rostered
 pub mod Counting
 pub mod Staying

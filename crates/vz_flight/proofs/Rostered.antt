@@ -24,6 +24,7 @@ use Rattle.vz_walk.specs.Scenes.{scene_in, walked_in}
 use Rattle.vz_damage.proofs.Entering.{Each, GoesTo, goes_to_active}
 use Rattle.vz_flight.specs.Flying.{Flown, subs_of}
 use Rattle.vz_flight.specs.Drawn.{flown_as, flown_in, flown_from, flown_at, same_flown, met_in, IsRosterOf}
+use Rattle.vz_flight.proofs.Counted.{Apart, seen_apart, drawn_once, as_many}
 use Rattle.vz_flight.proofs.Gathering.{adding_from, adding_has, adding_once, once_before, once_behind}
 
 own_sub : (s : Sub) → same_sub s s ≡ true
@@ -56,7 +57,7 @@ has_more xs ys all sub e =
 -- A walk into frames of which no two have one name
 
 module _ (active : List FrameData) (visits : List Visit) (goes : Each (GoesTo active) visits) (alone : (i j : FrameData)
-    → Contains active i → Contains active j → same_sub i.sub j.sub ≡ true → i ≡ j) where
+    → Contains active i → Contains active j → same_sub i.sub j.sub ≡ true → i ≡ j) (apart : Apart (λ (i : FrameData). i.sub) active) where
   -- one that is met is of a frame that is drawn
   drawn_by : (x : Visit) (f : Flown) → Contains visits x → GoesTo active x → flown_at x ≡ Some f → Contains (flown_in active visits) f
   unfolding flown_in
@@ -117,6 +118,8 @@ module _ (active : List FrameData) (visits : List Visit) (goes : Each (GoesTo ac
       record {
         all = all_met;
         only = only_met;
+        many = as_many (λ f. own_sub f.0) (met_in visits) (flown_in active visits) (adding_once [] (filter_map flown_at visits) tt)
+            (drawn_once active visits apart) only_met all_met;
         names = λ sub. same_tests (has_sub (subs_of (met_in visits)) sub) (has_sub (subs_of (flown_in active visits)) sub)
             (has_more (met_in visits) (flown_in active visits) only_met sub)
             (has_more (flown_in active visits) (met_in visits) all_met sub);
@@ -151,7 +154,7 @@ seen_alone st keeps i j c d e =
 pub walk_is_roster : (size : Size) (root : SurfaceId) (st : Stored) → KeepsStored st
     → IsRosterOf (flown_from size root st) (met_in (walked_in size root st))
 walk_is_roster size root st keeps =
-    met_is_roster (seen_frames st) (walked_in size root st) (goes_to_active size (scene_in root st)) (seen_alone st keeps)
+    met_is_roster (seen_frames st) (walked_in size root st) (goes_to_active size (scene_in root st)) (seen_alone st keeps) (seen_apart st keeps)
 
 -- The visitor
 

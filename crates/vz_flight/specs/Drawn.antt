@@ -46,6 +46,7 @@ listing_count flown = sum_by (λ (f : Flown). length f.1) flown
 pub record IsRosterOf (flown roster : List Flown) : Type 0 where
   pub all : (f : Flown) → Contains flown f → Contains roster f
   pub only : (f : Flown) → Contains roster f → Contains flown f
+  pub many : length roster ≡ length flown
   pub names : (sub : Sub) → has_sub (subs_of roster) sub ≡ has_sub (subs_of flown) sub
   pub before : (k : ℕ) (f : Flown) → slice_get roster k ≡ Some f → IsFalse (has_sub (subs_of (take k roster)) f.0)
   pub behind : (k : ℕ) (f : Flown) → slice_get roster k ≡ Some f → IsFalse (has_sub (subs_of (drop (k + 1) roster)) f.0)

@@ -1,5 +1,5 @@
 //! The drawn frame.
-ghost use Rattle.std.specs.Prelude.{◌≡◌, IfOk};
+ghost use Rattle.std.specs.Prelude.{◌≡◌, length, IfOk};
 ghost use Rattle.vz_geom.specs.Display.{IsDisplaySize};
 ghost use Rattle.vz_rules.specs.World.{has_sub};
 ghost use Rattle.vz_rules.specs.Walk.{walked_subs};
@@ -45,6 +45,13 @@ impl Flight {
         ensures { result ≡ has_sub (subs_of self.now) sub.now }
     {
         self.roster.has(sub)
+    }
+
+    /// How many submissions are in the frame.
+    pub fn len(&self) -> usize
+        ensures { result ≡ length self.now }
+    {
+        self.roster.len()
     }
 
     /// The submissions in the order in which the walk met them, each once, with what they list.

@@ -62,6 +62,13 @@ impl Roster {
         self.subs.len()
     }
 
+    /// The submissions in it, in their order.
+    pub fn subs(&self) -> &[Sub]
+        ensures { result.now ≡ subs_of self.now }
+    {
+        self.subs.keys().as_slice()
+    }
+
     /// Puts a submission at the end, with a copy of what it lists. For want of memory, and only
     /// then, it answers Memory and nothing changes. Condition: the submission is not in it.
     pub fn put(&mut self, sub: Sub, listings: &[Listing]) -> Result<(), Memory>

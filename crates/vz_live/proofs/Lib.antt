@@ -11,3 +11,5 @@ mod Arrived
 mod Opened
 pub mod Reaches
 mod Setting
+mod Released
+mod Landed

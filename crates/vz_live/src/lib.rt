@@ -10,6 +10,7 @@ mod accepting;
 mod ending;
 mod giving;
 mod going;
+mod landing;
 pub mod laws;
 mod live;
 mod reaching;
