@@ -1,9 +1,5 @@
-<<<<<<< HEAD
-use Rattle.std.proofs.Common.{sym, ◌∙◌, subst}
-=======
 use Rattle.std.proofs.Common.{◌+◌, ◌≤◌, length, sym, ◌∙◌, subst}
 use Rattle.vz_live.specs.Living.{Live}
->>>>>>> ddc12798685da0b35a0a96d6630b9d9106969602
 use Rattle.vz_live.specs.Changes.{IsRising}
 use Rattle.vz_live.proofs.Staying.{got}
 use Rattle.vz_live.proofs.Risen.{id_is, none_missing, acts_is, releases, is_lender, none_waits, ranges_are, wants_less, fits, keeps, waits_there, past_is, live_risen}
