@@ -1,5 +1,5 @@
 -- What a range names is looked for in one group alone, from its end on, and what a tick ends by its numbers.
-use Rattle.std.proofs.Common.{◌≡◌, ℕ, ◌+◌, ◌-◌, ◌≤◌, ◌<◌, Bool, true, false, ◌==◌, nat_le, Option, Some, None, refl, ap, sym, subst, ◌∙◌, arith, cond}
+use Rattle.std.proofs.Common.{◌≡◌, ℕ, ◌+◌, ◌-◌, ◌≤◌, ◌<◌, Bool, true, false, ◌==◌, ◌&&◌, nat_le, nat_lt, Option, Some, None, refl, ap, sym, subst, ◌∙◌, arith, cond}
 use Rattle.std.proofs.lemmas.Bool.Decides.{nat_tests}
 use Rattle.vz_ids.specs.declared.SurfaceId.{SurfaceId}
 use Rattle.vz_ids.specs.declared.SurfaceRange.{SurfaceRange}
@@ -49,8 +49,20 @@ all_done range s group from stands is low done x d h =
 
 -- Numbers until a tick
 
-pub is_over : (until tick : ℕ) → until ≤ tick → nat_le until tick ≡ true
-is_over until tick h = grind (arith, nat_tests)
+-- three tests that hold
+three : (a b c : Bool) → a ≡ true → b ≡ true → c ≡ true → (a && (b && c)) ≡ true
+three true true true e f g = refl
+three true true false e f g = g
+three true false c e f g = f
+three false b c e f g = e
+
+-- a number within the bounds is among them
+pub is_within : (until first next k : ℕ) → first ≤ k → k < next → ((until == until) && (nat_le first k && nat_lt k next)) ≡ true
+is_within until first next k low high =
+    let same : (until == until) ≡ true = grind (arith, nat_tests) in
+    let over : nat_le first k ≡ true = grind (arith, nat_tests, low) in
+    let under : nat_lt k next ≡ true = grind (arith, nat_tests, high) in
+    three (until == until) (nat_le first k) (nat_lt k next) same over under
 
 -- those with numbers below this one are gone
 abbrev pub AreGone : ℕ → ℕ → ℕ → Seats → Type 0

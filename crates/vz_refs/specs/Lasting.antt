@@ -1,5 +1,5 @@
 -- The temporary surfaces by their names, and which of them end.
-use Rattle.std.specs.Prelude.{◌≡◌, ℕ, ◌≤◌, ◌<◌, ◌⊎◌, Bool, not, true, false, if◌then◌else◌, IsTrue, ◌==◌, ◌&&◌, nat_eq, nat_le, min, Option, Some, None, is_some, List, map, filter}
+use Rattle.std.specs.Prelude.{◌≡◌, ℕ, ◌≤◌, ◌<◌, ◌⊎◌, Bool, not, true, false, if◌then◌else◌, IsTrue, ◌==◌, ◌&&◌, nat_eq, nat_le, nat_lt, min, Option, Some, None, is_some, List, map, filter}
 use Rattle.std.specs.List.{list_any, AllByRecursion}
 use Rattle.std.specs.Option.{option_map}
 use Rattle.std.specs.Map.{lookup}
@@ -76,6 +76,10 @@ named_by range n d = names d range
 -- a tick is the last one of a name, or later
 abbrev pub over_at : ℕ → Name → SurfaceId → Bool
 over_at tick n d = nat_le n.until tick
+
+-- a name has this tick, and one of the numbers from the first up to the next one
+abbrev pub is_among : ℕ → ℕ → ℕ → Name → SurfaceId → Bool
+is_among until first next n d = (n.until == until) && (nat_le first n.number && nat_lt n.number next)
 
 -- the surface is of a sink
 abbrev pub of_sink : FrameSinkId → Name → SurfaceId → Bool

@@ -10,7 +10,7 @@ ghost use Rattle.vz_refs.specs.declared.sets.Place.{Place as PlaceOf};
 ghost use Rattle.vz_refs.specs.declared.seats.Name.{Name as NameOf};
 ghost use Rattle.vz_refs.specs.declared.seats.Kept.{Kept as KeptOf};
 ghost use Rattle.vz_refs.specs.Indexing.{same_key, same_place, or_zero};
-ghost use Rattle.vz_refs.specs.Lasting.{same_name, kept_in, surface_in, name_in, size_in, room_in, Stands, Ends, IsRid, named_by, over_at, of_sink, not_of};
+ghost use Rattle.vz_refs.specs.Lasting.{same_name, kept_in, surface_in, name_in, size_in, room_in, Stands, Ends, IsRid, named_by, is_among, of_sink, not_of};
 
 use crate::indexes::{size_of, write};
 use crate::naming::names;
@@ -152,7 +152,7 @@ impl Seats {
     /// Ends those that last until a tick and have one of these numbers.
     pub(crate) fn end_until(&mut self, until: u32, first: u64, next: u64)
         requires stands { Stands self.old }
-        ensures ends { (tick : ℕ) → until ≤ tick → Ends (over_at tick) self.old self.new }
+        ensures ends { Ends (is_among until first next) self.old self.new }
         ensures rid { (n : NameOf) → n.until ≡ until → first ≤ n.number → n.number < next
             → surface_in self.new n ≡ None }
     {

@@ -13,7 +13,8 @@ use Rattle.vz_support.specs.Supporting.{IsSupport}
 use Rattle.vz_support.proofs.Requesting.{makes}
 
 -- what is made of the files of a plan
-pub opens_as : (p : Plan) (files : List ClientFile) (list : List FrameSinkId) (clients : List Sender) (s : Related) → p.files ≡ files → list ≡ map (λ (f : ClientFile). f.sink) files
+pub opens_as : (p : Plan) (files : List ClientFile) (list : List FrameSinkId) (clients : List Sender) (s : Related) → p.files ≡ files
+    → list ≡ map (λ (f : ClientFile). f.sink) files
     → clients ≡ map opened files → slice_get list 0 ≡ Some s.first → s.seats ≡ seats_from 1 list → s.relations ≡ []
     → IsSupport p (opening p) (record { clients = clients; sinks = s; tick = 0; root = None; over = false })
 unfolding opening

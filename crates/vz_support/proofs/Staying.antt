@@ -1,5 +1,6 @@
 -- Changes of the machine's state that are none of what is kept for the clients.
-use Rattle.std.proofs.Common.{◌≡◌, ℕ, zero, suc, Bool, true, false, ◌&&◌, ◌==◌, Option, Some, None, is_some, List, [], ◌∷◌, map, find, length, refl, ap, sym, ◌∙◌, cond}
+use Rattle.std.proofs.Common.{◌≡◌, ℕ, zero, suc, Bool, true, false, ◌&&◌, ◌==◌, Option, Some, None, is_some, List, [], ◌∷◌, map, find}
+use Rattle.std.proofs.Common.{length, refl, ap, sym, ◌∙◌, cond}
 use Rattle.vz_ids.specs.declared.FrameSinkId.{FrameSinkId}
 use Rattle.vz_ids.specs.declared.Sub.{Sub}
 use Rattle.vz_geom.specs.Rectangle.{is_empty_rect}
@@ -33,7 +34,8 @@ same_senders p w u v e h =
     record { count = h.count ∙ ap length (sym e); each = λ c x at. h.each c x (ap (find (λ (z : Client). z.number == c)) (sym e) ∙ at) }
 
 -- the hierarchy of a state with these seats and relations
-pub related_by : (first : FrameSinkId) (w u : World) → map seat_of u.clients ≡ map seat_of w.clients → u.relations ≡ w.relations → related_in first w ≡ related_in first u
+pub related_by : (first : FrameSinkId) (w u : World) → map seat_of u.clients ≡ map seat_of w.clients → u.relations ≡ w.relations
+    → related_in first w ≡ related_in first u
 related_by first w u e f = λ i. record { first = first; seats = sym e i; relations = sym f i }
 
 pub stays_like : (p : Plan) (w u : World) (v : Supported) → IsLike w u → IsSupport p w v → IsSupport p u v
@@ -51,7 +53,8 @@ stays_like p w u v like h =
 
 pub stays_rising : (p : Plan) (w : World) (s : Submission) (v : Supported) → IsSupport p w v → IsSupport p (rising s w) v
 unfolding rising
-stays_rising p w s v h = stays_like p w (rising s w) v (record { clients = refl; relations = refl; tick = refl; root = refl; over = refl }) h
+stays_rising p w s v h =
+    stays_like p w (rising s w) v (record { clients = refl; relations = refl; tick = refl; root = refl; over = refl }) h
 
 pub stays_round : (p : Plan) (w : World) (v : Supported) → IsSupport p w v → IsSupport p (round w) v
 unfolding round
@@ -86,7 +89,8 @@ stays_collected p w v h = stays_cleared p (naming w) v (stays_named p w v h)
 
 -- Ends
 
-pub same_seats : (f : Client → Client) (xs : List Client) → ((x : Client) → seat_of (f x) ≡ seat_of x) → map seat_of (map f xs) ≡ map seat_of xs
+pub same_seats : (f : Client → Client) (xs : List Client) → ((x : Client) → seat_of (f x) ≡ seat_of x)
+    → map seat_of (map f xs) ≡ map seat_of xs
 same_seats f [] e = refl
 same_seats f (x ∷ xs) e = λ i. e x i ∷ same_seats f xs e i
 
@@ -104,7 +108,8 @@ stays_given p w v h =
 
 pub stays_fed : (p : Plan) (w : World) (presented : List Sub) (v : Supported) → IsSupport p w v → IsSupport p (feed presented w) v
 unfolding feed
-stays_fed p w presented v h = stays_like p w (feed presented w) v (record { clients = refl; relations = refl; tick = refl; root = refl; over = refl }) h
+stays_fed p w presented v h =
+    stays_like p w (feed presented w) v (record { clients = refl; relations = refl; tick = refl; root = refl; over = refl }) h
 
 like_either : (t : Bool) (a b : Answer) (w : World) → IsLike w a.world → IsLike w b.world → IsLike w (cond t a b).world
 like_either true a b w e f = e
@@ -136,7 +141,8 @@ like_maybe p w (Some scene) = like_scene p w scene
 like_drawn : (p : Plan) (w : World) → IsLike w (draw_answer p w).world
 unfolding draw_answer
 like_drawn p w =
-    like_either (is_some w.in_flight) _ _ w (record { clients = refl; relations = refl; tick = refl; root = refl; over = refl }) (like_maybe p w (scene_of w))
+    like_either (is_some w.in_flight) _ _ w (record { clients = refl; relations = refl; tick = refl; root = refl; over = refl })
+    (like_maybe p w (scene_of w))
 
 pub stays_drawn : (p : Plan) (w : World) (v : Supported) → IsSupport p w v → IsSupport p (draw_answer p w).world v
 stays_drawn p w v h = stays_like p w (draw_answer p w).world v (like_drawn p w) h

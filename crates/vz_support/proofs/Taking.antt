@@ -31,7 +31,8 @@ twice : {A : Type 0} (t : Bool) (a b d : A) → cond t a (cond t b d) ≡ cond t
 twice true a b d = refl
 twice false a b d = refl
 
-pub two_changes : (c : ℕ) (f g : Sender → Sender) (a b d : List Sender) → 1 ≤ c → ChangesOne c f a b → ChangesOne c g b d → ChangesOne c (λ s. g (f s)) a d
+pub two_changes : (c : ℕ) (f g : Sender → Sender) (a b d : List Sender) → 1 ≤ c → ChangesOne c f a b → ChangesOne c g b d
+    → ChangesOne c (λ s. g (f s)) a d
 two_changes c f g a b d some first second =
     record {
       count = second.count ∙ first.count;
@@ -39,27 +40,33 @@ two_changes c f g a b d some first second =
           let here : sender_at b c ≡ f (sender_at a c) =
           first.each c some ∙ ap (λ (t : Bool). cond t (f (sender_at a c)) (sender_at a c)) (eq-eqb c c refl) in
           second.each q one
-          ∙ ((λ i. cond (q == c) (g (here i)) (first.each q one i)) ∙ twice (q == c) (g (f (sender_at a c))) (f (sender_at a c)) (sender_at a q));
+          ∙ ((λ i. cond (q == c) (g (here i)) (first.each q one i))
+          ∙ twice (q == c) (g (f (sender_at a c))) (f (sender_at a c)) (sender_at a q));
     }
 
 -- The seats
 
 -- a message that a client takes leaves its seat where what changes of the client is none of it
-took_seats : (f : Client → Client) (c : ℕ) (xs : List Client) → ((y : Client) → seat_of (f y) ≡ seat_of y) → map seat_of (change_client (λ y. took (f y)) c xs) ≡ map seat_of xs
-took_seats f c xs e = same_seats (λ y. cond (y.number == c) (took (f y)) y) xs (λ y. when_same seat_of (λ z. took (f z)) (y.number == c) y (e y))
+took_seats : (f : Client → Client) (c : ℕ) (xs : List Client) → ((y : Client) → seat_of (f y) ≡ seat_of y)
+    → map seat_of (change_client (λ y. took (f y)) c xs) ≡ map seat_of xs
+took_seats f c xs e =
+    same_seats (λ y. cond (y.number == c) (took (f y)) y) xs (λ y. when_same seat_of (λ z. took (f z)) (y.number == c) y (e y))
 
-one_closed : (t : Bool) (x : Client) → seat_of (cond t (took (record x { closed = true })) x) ≡ cond t (record (seat_of x) { closed = true }) (seat_of x)
+one_closed : (t : Bool) (x : Client)
+    → seat_of (cond t (took (record x { closed = true })) x) ≡ cond t (record (seat_of x) { closed = true }) (seat_of x)
 one_closed true x = refl
 one_closed false x = refl
 
-closed_seats : (c : ℕ) (xs : List Client) → map seat_of (change_client (λ (y : Client). took (record y { closed = true })) c xs) ≡ map (close_one c) (map seat_of xs)
+closed_seats : (c : ℕ) (xs : List Client)
+    → map seat_of (change_client (λ (y : Client). took (record y { closed = true })) c xs) ≡ map (close_one c) (map seat_of xs)
 closed_seats c [] = refl
 closed_seats c (x ∷ xs) = λ i. one_closed (x.number == c) x i ∷ closed_seats c xs i
 
 -- Messages
 
 -- a client takes a message that leaves its seat
-pub takes : (p : Plan) (w : World) (v : Supported) (x : Client) (f : Client → Client) (new : List Sender) → ((y : Client) → seat_of (f y) ≡ seat_of y)
+pub takes : (p : Plan) (w : World) (v : Supported) (x : Client) (f : Client → Client) (new : List Sender)
+    → ((y : Client) → seat_of (f y) ≡ seat_of y)
     → AreSenders p (taking f x w) new → IsSupport p w v → IsSupport p (taking f x w) (record v { clients = new })
 takes p w v x f new e senders is =
     record {
@@ -91,19 +98,24 @@ module _ (p : Plan) (w : World) (v : Supported) (c : ℕ) (x : Client) (m : Mess
   pub changes_at : (g : Sender → Sender) (new : List Sender) → ChangesOne c g v.clients new → ChangesOne x.number g v.clients new
   changes_at g new = subst (λ n. ChangesOne n g v.clients new) (sym number_is)
 
-  pub takes_plain : (new : List Sender) → ChangesOne c taking_one v.clients new → IsSupport p (taking (λ y. y) x w) (record v { clients = new })
+  pub takes_plain : (new : List Sender) → ChangesOne c taking_one v.clients new
+      → IsSupport p (taking (λ y. y) x w) (record v { clients = new })
   takes_plain new changes =
-      takes p w v x (λ y. y) new (λ y. refl) (follows_plain p w x v.clients new sends.keeps.clients is.clients here_is (changes_at taking_one new changes)) is
+      takes p w v x (λ y. y) new (λ y. refl)
+      (follows_plain p w x v.clients new sends.keeps.clients is.clients here_is (changes_at taking_one new changes)) is
 
-  pub takes_returns : (new : List Sender) → ChangesOne c taking_one v.clients new → IsSupport p (taking reclaim x w) (record v { clients = new })
+  pub takes_returns : (new : List Sender) → ChangesOne c taking_one v.clients new
+      → IsSupport p (taking reclaim x w) (record v { clients = new })
   takes_returns new changes =
-      takes p w v x reclaim new (λ y. refl) (follows_reclaim p w x v.clients new sends.keeps.clients is.clients here_is (changes_at taking_one new changes)) is
+      takes p w v x reclaim new (λ y. refl)
+      (follows_reclaim p w x v.clients new sends.keeps.clients is.clients here_is (changes_at taking_one new changes)) is
 
   -- the tick is noted
   pub noted_at : (n : ℕ) (new : List Sender) → ChangesOne c (λ s. answered_by v.tick n (taking_one s)) v.clients new
       → ChangesOne x.number (λ s. answered_by w.tick n (taking_one s)) v.clients new
   noted_at n new changes =
-      subst (λ t. ChangesOne x.number (λ s. answered_by t n (taking_one s)) v.clients new) is.tick (changes_at (λ s. answered_by v.tick n (taking_one s)) new changes)
+      subst (λ t. ChangesOne x.number (λ s. answered_by t n (taking_one s)) v.clients new) is.tick
+      (changes_at (λ s. answered_by v.tick n (taking_one s)) new changes)
 
   pub takes_answer : (n : ℕ) (mid new : List Sender) → ChangesOne c taking_one v.clients mid → ChangesOne c (answered_by v.tick n) mid new
       → IsSupport p (taking (answer_tick w.tick n) x w) (record v { clients = new })
@@ -113,11 +125,13 @@ module _ (p : Plan) (w : World) (v : Supported) (c : ℕ) (x : Client) (m : Mess
       (noted_at n new (two_changes c taking_one (answered_by v.tick n) v.clients mid new some_is first second)))
       is
 
-  pub takes_block : (id : ℕ) (block : Block) (new : List Sender) → in_use x.resources id ≡ false → ChangesOne c (λ s. storing_block id block (taking_one s)) v.clients new
+  pub takes_block : (id : ℕ) (block : Block) (new : List Sender) → in_use x.resources id ≡ false
+      → ChangesOne c (λ s. storing_block id block (taking_one s)) v.clients new
       → IsSupport p (upload_answer w x id block).world (record v { clients = new })
   unfolding upload_answer
   takes_block id block new free changes =
-      by (follows_stored p w x id block v.clients new sends.keeps.clients is.clients here_is free (changes_at (λ s. storing_block id block (taking_one s)) new changes))
+      by (follows_stored p w x id block v.clients new sends.keeps.clients is.clients here_is free
+      (changes_at (λ s. storing_block id block (taking_one s)) new changes))
     where
       put : Client → Client
       put y = record y { resources = put_resource id block y.resources }
@@ -138,7 +152,12 @@ module _ (p : Plan) (w : World) (v : Supported) (c : ℕ) (x : Client) (m : Mess
             follows_closed p w x v.clients new sends.keeps.clients is.clients here_is
             (changes_at (λ s. closing (taking_one s)) new (two_changes c taking_one closing v.clients mid new some_is first second));
         first = is.first ∙ ap (λ z. Some z) (sym same);
-        sinks = λ i. record { first = sinks.first; seats = closed_is i; relations = (relations ∙ ap (λ (r : Related). r.relations) is.sinks) i };
+        sinks =
+            λ i. record {
+              first = sinks.first;
+              seats = closed_is i;
+              relations = (relations ∙ ap (λ (r : Related). r.relations) is.sinks) i;
+            };
         tick = is.tick;
         root = is.root;
         over = is.over;

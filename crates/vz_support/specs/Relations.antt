@@ -13,6 +13,7 @@ reply_for None = reply.Joined
 reply_for (Some e) = elim (refusal_of e) as (λ o. Reply) [ Some r ↦ reply.Refused r | None ↦ reply.Joined ]
 
 -- the relations that are left
-abbrev pub relations_for : Option SinkError → FrameSinkId → FrameSinkId → List (FrameSinkId × FrameSinkId) → List (FrameSinkId × FrameSinkId)
+abbrev pub relations_for : Option SinkError → FrameSinkId → FrameSinkId → List (FrameSinkId × FrameSinkId)
+    → List (FrameSinkId × FrameSinkId)
 relations_for None parent child relations = relate parent child relations
 relations_for (Some e) parent child relations = relations

@@ -2,11 +2,13 @@
 ghost use Rattle.std.specs.Prelude.{◌≡◌, ◌≤◌, ℕ, false, length, OnOk, OnErr};
 ghost use Rattle.vz_pixels.specs.Block.{Block};
 ghost use Rattle.vz_frame.specs.declared.message.Message.{Message as Sent};
-ghost use Rattle.vz_frame.specs.declared.message.Message.TheVariants.{Upload, DidNotProduce, Reclaim, Close};
+ghost use Rattle.vz_frame.specs.declared.message.Message.TheVariants.{Upload, DidNotProduce};
+ghost use Rattle.vz_frame.specs.declared.message.Message.TheVariants.{Reclaim, Close};
 ghost use Rattle.vz_rules.specs.Plan.{Plan};
 ghost use Rattle.vz_rules.specs.World.{World, Client};
 ghost use Rattle.vz_rules.specs.declared.entry.Refusal.{Refusal};
-ghost use Rattle.vz_rules.specs.Messages.{taking, refused, answer_tick, reclaim, in_use, upload_answer, message_answer};
+ghost use Rattle.vz_rules.specs.Messages.{taking, refused, answer_tick, reclaim, in_use};
+ghost use Rattle.vz_rules.specs.Messages.{upload_answer, message_answer};
 ghost use Rattle.vz_clients.specs.Sent.{answered_by};
 ghost use Rattle.vz_clients.specs.Changed.{ChangesOne};
 ghost use Rattle.vz_support.specs.Supporting.{IsSupport, IsNext, Sends};
@@ -35,7 +37,8 @@ impl Support {
         requires known { c ≤ length self.old.clients }
         requires next { (m : Sent) × IsNext self.old c m }
         ensures { (p : Plan) (w : World) (x : Client) (m : Sent) (r : Refusal)
-            → Sends p w c x m → IsSupport p w self.old → IsSupport p (refused w x r).world self.new }
+            → Sends p w c x m → IsSupport p w self.old
+            → IsSupport p (refused w x r).world self.new }
     {
         self.clients.take(c);
     }

@@ -5,4 +5,5 @@ use Rattle.vz_support.proofs.support.Support.is_unknown.Goals as goal
 
 pub returns : goal.returns
 returns c p w x frame up is here same =
-    unknown_same p w _ c.args.c x frame c.args.listings.now c.knows_all.result up (subst (IsSupport p w) (sym c.self.view_is) is) here same c.knows_all.ensures
+    unknown_same p w _ c.args.c x frame c.args.listings.now c.knows_all.result up (subst (IsSupport p w) (sym c.self.view_is) is) here same
+    c.knows_all.ensures

@@ -9,4 +9,5 @@ use Rattle.vz_support.proofs.support.Support.listed.Goals as goal
 pub returns : goal.returns
 returns c m keeps is =
     listed_here m c.args.self.now c.args.c keeps.clients is c.requires.some c.requires.known c.listed_in.result
-    (c.listed_in.ensures ∙ ap listed_in (c.next.ensures ∙ ap (λ (v : Supported). first_of (sender_at v.clients c.args.c).left) c.self.view_is))
+    (c.listed_in.ensures
+    ∙ ap listed_in (c.next.ensures ∙ ap (λ (v : Supported). first_of (sender_at v.clients c.args.c).left) c.self.view_is))

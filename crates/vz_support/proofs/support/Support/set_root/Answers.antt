@@ -10,7 +10,8 @@ returns-then-c-ne1-clause-reply c p w x local sends is =
 
 pub returns-then-c-ne1-clause-world : goal.returns-then-c-ne1-clause-world
 returns-then-c-ne1-clause-world c p w x local sends is =
-    refuses_root p w _ c.args.c x _ sends (subst (IsSupport p w) (sym c.self.view_is) is) local c.take.new.self (other_number c.args.c 1 c.if-c-ne1.true) c.take.ensures.taken
+    refuses_root p w _ c.args.c x _ sends (subst (IsSupport p w) (sym c.self.view_is) is) local c.take.new.self
+    (other_number c.args.c 1 c.if-c-ne1.true) c.take.ensures.taken
 
 pub returns-clause-reply : goal.returns-clause-reply
 returns-clause-reply c p w x local sends is =
@@ -19,5 +20,6 @@ returns-clause-reply c p w x local sends is =
 pub returns-clause-world : goal.returns-clause-world
 returns-clause-world c p w x local sends is =
     let kept = subst (IsSupport p w) (sym c.self.view_is) is in
-    names_root p w _ c.args.c x _ sends kept local c.take.new.self _ (one_number c.args.c 1 c.if-c-ne1.false) c.take.ensures.taken c.sink-sink.ensures
+    names_root p w _ c.args.c x _ sends kept local c.take.new.self _ (one_number c.args.c 1 c.if-c-ne1.false) c.take.ensures.taken
+    c.sink-sink.ensures
     (same_local_id c.in-SetRoot.local local (c.in-SetRoot.ensures.message ∙ sent_is p w _ c.args.c x _ sends kept))
