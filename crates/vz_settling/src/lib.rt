@@ -4,6 +4,7 @@
 
 mod collecting;
 mod index;
+pub mod laws;
 mod lists;
 mod rounds;
 mod settling;
