@@ -1,4 +1,4 @@
 mod Listed
-mod Sending
-mod Messaging
-mod Standing
+pub mod Sending
+pub mod Messaging
+pub mod Standing

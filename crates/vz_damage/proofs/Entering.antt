@@ -31,7 +31,7 @@ use Rattle.vz_damage.specs.Accepted.{told_of, TellsActive, TellsLast, scene_from
 use Rattle.vz_damage.specs.Measured.{told_claims_of, told_claims, told_damage, without_indices, seen_damage}
 use Rattle.vz_damage.proofs.Between.{drawn_is_told}
 
-abbrev Each : (Visit → Type 0) → List Visit → Type 0
+abbrev pub Each : (Visit → Type 0) → List Visit → Type 0
 Each P xs = AllByRecursion P xs
 
 each_append : (P : Visit → Type 0) (xs ys : List Visit) → Each P xs → Each P ys → Each P (xs ++ ys)
@@ -47,7 +47,7 @@ each_choice P true xs ys h k = h
 each_choice P false xs ys h k = k
 
 -- the surface that is gone into has one of these frames
-abbrev GoesTo : List FrameData → Visit → Type 0
+abbrev pub GoesTo : List FrameData → Visit → Type 0
 GoesTo active Quad = Unit {0}
 GoesTo active (Shows range now seen) = Unit {0}
 GoesTo active (Enters depth i place) = Contains active i
@@ -116,7 +116,7 @@ whole_goes n size active None there = tt
 whole_goes n size active (Some i) there = (there i refl, walk_goes n active [] i (whole size))
 
 -- a walk goes into surfaces with active frames alone
-goes_to_active : (size : Size) (scene : Scene) → Each (GoesTo scene.active) (walk_of size scene)
+pub goes_to_active : (size : Size) (scene : Scene) → Each (GoesTo scene.active) (walk_of size scene)
 unfolding walk_of
 goes_to_active size scene =
     whole_goes levels size scene.active (frame_on scene.root scene.active) (λ i e. (find_at (λ

@@ -1,9 +1,9 @@
-mod Owes
-mod Noted
-mod Sorting
-mod Standing
-mod Events
-mod Given
-mod Staying
-mod Resting
-mod Single
+pub mod Owes
+pub mod Noted
+pub mod Sorting
+pub mod Standing
+pub mod Events
+pub mod Given
+pub mod Staying
+pub mod Resting
+pub mod Single

@@ -1,5 +1,5 @@
 -- What clients lent stands for a state with the same references.
-use Rattle.std.proofs.Common.{◌≡◌, ℕ, ◌-◌, Bool, true, false, not, ◌&&◌, ◌||◌, ◌==◌, Option, Some, None, List, [], ◌∷◌, length, map, slice_get, refl, ap, sym, ◌∙◌, arith, cond, Contains}
+use Rattle.std.proofs.Common.{◌≡◌, ℕ, ◌-◌, Bool, true, false, not, ◌&&◌, ◌||◌, ◌==◌, Option, Some, None, List, [], ◌∷◌, ◌+◌, count_by, length, map, slice_get, refl, ap, sym, ◌∙◌, arith, cond, Contains}
 use Rattle.std.proofs.lemmas.List.{length-map, map-id}
 use Rattle.vz_ids.specs.declared.FrameSinkId.{FrameSinkId}
 use Rattle.vz_ids.specs.declared.LocalSurfaceId.{LocalSurfaceId}
@@ -10,7 +10,7 @@ use Rattle.vz_rules.specs.declared.entry.Refusal.{Refusal}
 use Rattle.vz_rules.specs.declared.entry.Refusal.TheVariants as refusal
 use Rattle.vz_rules.specs.declared.entry.Reply.TheVariants as reply
 use Rattle.vz_rules.specs.Plan.{Plan}
-use Rattle.vz_rules.specs.World.{World, Client, Created, Resource, Submission, exists, resource_in, is_waiting, is_active}
+use Rattle.vz_rules.specs.World.{World, Client, Created, Resource, Submission, exists, resource_in, is_waiting, is_active, has_sub, sub_of}
 use Rattle.vz_rules.specs.Reach.{name_one, naming}
 use Rattle.vz_rules.specs.Returns.{feed, mark_fed}
 use Rattle.vz_rules.specs.Messages.{Answer, says, id_of, took, taking, refused, put_resource, upload_answer, hierarchy_answer, hierarchy_refusal, unless_refused, root_answer, await_answer, message_answer, mark_of, in_use, relate}
@@ -22,7 +22,7 @@ use Rattle.vz_rules.proofs.Counts.{count_none}
 use Rattle.vz_rules.proofs.Rising.{counted, Rising}
 use Rattle.vz_rules.proofs.Given.{id_of as resource_id}
 use Rattle.vz_rules.proofs.Totals.{answered_stored}
-use Rattle.vz_returns.specs.Giving.{alive_in, out_in, times}
+use Rattle.vz_returns.specs.Giving.{alive_in, holds_there, out_in, times}
 use Rattle.vz_lending.specs.Lent.{Lent, AreLent, IsLender}
 use Rattle.vz_lending.specs.Listed.{active_listings}
 use Rattle.vz_lending.specs.Quiet.{KeepsReferences, AreAlike}
@@ -218,6 +218,18 @@ lent_begun p w items lent =
     (changed_as w (deliver p w tick)
     (keeps_when gives (λ c. is_attached p w c && not c.closed)
     (record { number = λ c. refl; resources = λ c. refl; queue = λ c. refl }))) (λ c id. refl) lent
+
+-- A drawn frame in another order
+
+pub lent_ordered : (w : World) (a b : List Sub) (items : List Lent) → ((sub : Sub) → has_sub a sub ≡ has_sub b sub)
+    → AreLent (record w { in_flight = Some a }) items → AreLent (record w { in_flight = Some b }) items
+unfolding alive_in
+lent_ordered w a b items same lent =
+    let v : World = record w { in_flight = Some a } in
+    let back : (sub : Sub) → has_sub b sub ≡ has_sub a sub = λ sub. sym (same sub) in
+    lent_same v (record w { in_flight = Some b }) items refl (stays_as v (record w { in_flight = Some b }) refl)
+    (λ c id i. count_by (λ (s : Submission). borrows c id s && holds_there w s) w.subs
+    + count_by (λ (s : Submission). borrows c id s && back (sub_of s) i) w.subs) lent
 
 -- A drawn frame of nothing
 

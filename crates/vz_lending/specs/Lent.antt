@@ -1,5 +1,5 @@
 -- What clients lent, and how it stands for the machine's state.
-use Rattle.std.specs.Prelude.{◌≡◌, ℕ, ◌-◌, ◌<◌, ◌≤◌, false, ◌==◌, Some, List, [], ◌∷◌, ◌++◌, length, slice_get}
+use Rattle.std.specs.Prelude.{◌≡◌, ℕ, ◌-◌, ◌<◌, ◌≤◌, Some, List, [], ◌∷◌, length, slice_get}
 use Rattle.std.specs.List.{Contains, sum_by}
 use Rattle.vz_rules.specs.World.{World, Client}
 use Rattle.vz_returns.specs.Holding.{MOST_REFERENCES, Counted, Holding, received_of, alive_of, lent, shared}

@@ -6,7 +6,7 @@ ghost use Rattle.vz_ids.specs.declared.Sub.{Sub};
 ghost use Rattle.vz_pixels.specs.Block.{Block};
 ghost use Rattle.vz_frame.specs.declared.message.Message.TheVariants.{Close};
 ghost use Rattle.vz_rules.specs.Plan.{Plan};
-ghost use Rattle.vz_rules.specs.World.{World, Client, Submission, is_waiting};
+ghost use Rattle.vz_rules.specs.World.{World, Client, Submission, is_waiting, has_sub};
 ghost use Rattle.vz_rules.specs.Reach.{naming};
 ghost use Rattle.vz_rules.specs.Returns.{feed};
 ghost use Rattle.vz_rules.specs.Messages.{taking, upload_answer, hierarchy_answer, root_answer, await_answer, message_answer};
@@ -19,13 +19,17 @@ ghost use Rattle.vz_lending.specs.Listed.{active_listings};
 ghost use Rattle.vz_lending.specs.Quiet.{KeepsReferences, AreAlike};
 
 /// Each client of a state is one that lends. What stands for a state stands for each other one
-/// with the same clients, surfaces, submissions and drawn frame, and a drawn frame without
-/// submissions holds no more than none.
+/// with the same clients, surfaces, submissions and drawn frame, in whatever order its submissions
+/// are named, and a drawn frame without submissions holds no more than none.
 pub fn references_are_of_the_state()
     ensures lender { (w : World) (c : Client) (lenders : List Lent) → KeepsAlways w
         → Contains w.clients c → AreLent w lenders → IsLender c.number lenders }
     ensures alike { (w v : World) (lenders : List Lent) → AreAlike w v → AreLent w lenders
         → AreLent v lenders }
+    ensures order { (w : World) (a b : List Sub) (lenders : List Lent)
+        → ((sub : Sub) → has_sub a sub ≡ has_sub b sub)
+        → AreLent (record w { in_flight = Some a }) lenders
+        → AreLent (record w { in_flight = Some b }) lenders }
     ensures begun { (w : World) (lenders : List Lent) → w.in_flight ≡ None → AreLent w lenders
         → AreLent (record w { in_flight = Some [] }) lenders }
     ensures over { (w : World) (lenders : List Lent)

@@ -1,21 +1,18 @@
 -- What a store finds for the machine's state.
-use Rattle.std.proofs.Common.{◌≡◌, ℕ, ◌+◌, ◌≤◌, Bool, true, false, ◌&&◌, not, Option, Some, None, List, [], ◌∷◌, length, map, find, refl, ap, sym, ◌∙◌, subst, cond, ◌||◌, Contains, count_by, is_some, is_none}
+use Rattle.std.proofs.Common.{◌≡◌, Bool, true, false, ◌&&◌, Option, Some, None, List, [], ◌∷◌, find, refl, ap, sym, ◌∙◌, cond, ◌||◌, Contains, is_some}
 use Rattle.std.specs.Option.{option_map}
 use Rattle.std.specs.List.{list_any}
-use Rattle.std.proofs.lemmas.Bool.{and_from, and_parts, both_ways, false_from_ne_true, eq-eqb}
+use Rattle.std.proofs.lemmas.Bool.{and_from, and_parts, both_ways}
 use Rattle.vz_ids.specs.declared.SurfaceId.{SurfaceId}
-use Rattle.vz_ids.specs.declared.Sub.{Sub}
-use Rattle.vz_ids.specs.Ids.{same_surface, same_sub}
-use Rattle.vz_frame.specs.declared.frame.CompositorFrame.{CompositorFrame}
-use Rattle.vz_frame.specs.declared.frame.Listing.{Listing}
+use Rattle.vz_ids.specs.Ids.{same_sub}
 use Rattle.vz_frame.specs.declared.rules.Rule.{Rule}
 use Rattle.vz_frame.specs.declared.rules.Rule.TheVariants.{ListedTwice}
 use Rattle.vz_frame.specs.Frame.{first_broken, breaks, rules_in_order}
 use Rattle.vz_rules.specs.World.{World, Client, Created, Submission, FrameData, is_waiting, is_active, is_on, sub_of}
 use Rattle.vz_rules.specs.Kept.{KeepsAlways, IsWhole}
-use Rattle.vz_rules.proofs.Members.{contains_map, map_contains, contains_at, at_same, any_from, find_at, found, none_at, at_contains}
+use Rattle.vz_rules.proofs.Members.{map_contains, contains_at, at_same, any_from, find_at, found, none_at, at_contains}
 use Rattle.vz_rules.proofs.Counts.{one_place}
-use Rattle.vz_rules.proofs.Reached.{from_same, self_same}
+use Rattle.vz_rules.proofs.Reached.{self_same}
 use Rattle.vz_rules.proofs.Kept_singly.{own_sub}
 use Rattle.vz_surfaces.specs.declared.held.Held.{Held}
 use Rattle.vz_surfaces.specs.Stored.{Stored, stored_of, bare_sub}
@@ -24,7 +21,7 @@ use Rattle.vz_surfaces.specs.Memory.{is_waiting_in}
 use Rattle.vz_surfaces.proofs.Telling.{tells_acting, tells_waiting}
 use Rattle.vz_lending.specs.Listed.{lists_twice, listed_by}
 use Rattle.vz_live.specs.Living.{AreWhole}
-use Rattle.vz_live.specs.Ending.{listings_of, ended_in, wanted_by}
+use Rattle.vz_live.specs.Ending.{listings_of}
 
 -- the frame of a submission that is found
 abbrev pub frame_of : Option Submission → Option Held

@@ -9,9 +9,9 @@ use Rattle.vz_ids.specs.Ids.{same_surface}
 use Rattle.vz_frame.specs.declared.frame.Listing.{Listing}
 use Rattle.vz_rules.specs.declared.entry.Lost.{Lost}
 use Rattle.vz_rules.specs.declared.entry.State.TheVariants.{Dropped}
-use Rattle.vz_rules.specs.World.{World, Created, Submission, existing, exists, is_waiting, is_active, is_on, sub_of}
+use Rattle.vz_rules.specs.World.{World, Created, Submission, existing, is_waiting, is_active, is_on, sub_of}
 use Rattle.vz_rules.specs.Reach.{naming, drop_on}
-use Rattle.vz_rules.specs.Singly.{as_one_goes, going}
+use Rattle.vz_rules.specs.Singly.{going}
 use Rattle.vz_rules.proofs.Members.{contains_at, at_same, find_at, any_from, found}
 use Rattle.vz_rules.proofs.Reached.{self_same}
 use Rattle.vz_rules.proofs.Rising.{find_map}
@@ -40,7 +40,8 @@ use Rattle.vz_live.specs.Living.{Live, AreLive, wants}
 use Rattle.vz_live.specs.Ending.{listings_of, ended_in, wanted_by}
 use Rattle.vz_live.specs.Changes.{IsGoing}
 use Rattle.vz_live.proofs.Wanting.{sum_less, sum_one, one_wants, wanted_of, wants_not}
-use Rattle.vz_live.proofs.Staying.{whole_mapped, flown_mapped, kept_same, ended_is}
+use Rattle.vz_flight.proofs.Staying.{flown_gone}
+use Rattle.vz_live.proofs.Staying.{whole_mapped, kept_same, ended_is}
 use Rattle.vz_live.proofs.Found.{frame_of, acts_in, waits_in, listings_read, found_once, client_of_surface}
 
 some_same : {A : Type 0} {a b : A} → Some a ≡ Some b → a ≡ b
@@ -62,14 +63,14 @@ drop_keeps false true true t e f = sym (wants_not t e)
 drop_keeps false true false t e f = refl
 drop_keeps false false on t e f = refl
 
-wanted_frame : (p : Submission → Bool) (subs : List Submission) → ((s : Submission) → p s ≡ true → is_waiting s ≡ true) → wanted_by (frame_of (find p subs)) ≡ wanted_of (find p subs)
+pub wanted_frame : (p : Submission → Bool) (subs : List Submission) → ((s : Submission) → p s ≡ true → is_waiting s ≡ true) → wanted_by (frame_of (find p subs)) ≡ wanted_of (find p subs)
 wanted_frame p subs waits = by (find p subs) refl
   where
     by : (o : Option Submission) → find p subs ≡ o → wanted_by (frame_of o) ≡ wanted_of o
     by None e = refl
     by (Some s) e = sym (ap {B = ℕ} (λ (b : Bool). cond b (length s.submitted.frame.metadata.references + 1) 0) (waits s (find_at p subs s e).1))
 
-wanted_fits : (p : Submission → Bool) (subs : List Submission) → wanted_of (find p subs) ≤ sum_by wants subs
+pub wanted_fits : (p : Submission → Bool) (subs : List Submission) → wanted_of (find p subs) ≤ sum_by wants subs
 wanted_fits p subs = by (find p subs) refl
   where
     by : (o : Option Submission) → find p subs ≡ o → wanted_of o ≤ sum_by wants subs
@@ -212,7 +213,7 @@ module _ (w : World) (d : Created) (id : SurfaceId) (v : Live) (h : IsGoing w d 
             (going_both w d v.kept h.named (ap (has_kept v.kept.temporary) h.name ∙ h.lasts_not) h.live.kept).0;
         told = told_gone w d v.damaged damaged h.live.told (ap (told_on damaged.surfaces) h.name ∙ told)
             (λ other f. others other (ap (λ i. same_surface i other) (sym h.name) ∙ f)) last;
-        flown = flown_mapped w (going d w) (drop_on (d ∷ [])) v.flight refl refl same h.live.flown;
+        flown = flown_gone d w v.flight h.live.flown;
         wanted = omega (arith, less, h.live.wanted, wanted, wants_is o is_held);
         room = omega (arith, spare, h.live.room);
       }

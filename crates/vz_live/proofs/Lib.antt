@@ -1,7 +1,15 @@
 mod Wanting
 mod Found
 mod Staying
+mod Quiet
+mod Kept_quiet
 mod Risen
 mod Gone
+mod Given
+mod Ends
+mod Arrived
+mod Opened
 pub mod Reaches
 mod Setting
+mod Released
+mod Landed

@@ -13,7 +13,6 @@ use Rattle.vz_rules.specs.Singly.{as_one_rises, rising}
 use Rattle.vz_rules.proofs.Reached.{self_same}
 use Rattle.vz_rules.proofs.Kept_singly.{apart, own_sub, active_waits_not}
 use Rattle.vz_refs.specs.Referring.{Referring, setting, unnamed}
-use Rattle.vz_reaching.specs.Lasting.{AreKept}
 use Rattle.vz_reaching.proofs.Rising_kept.{kept_rising}
 use Rattle.vz_surfaces.specs.declared.held.Held.{Held}
 use Rattle.vz_surfaces.specs.Stored.{Stored, stored_of, bare_sub, activating}
@@ -23,7 +22,6 @@ use Rattle.vz_surfaces.specs.Memory.{is_waiting_in}
 use Rattle.vz_surfaces.proofs.Following.{follows_activated}
 use Rattle.vz_surfaces.proofs.Kept_of_world.{keeps_of_world}
 use Rattle.vz_damage.specs.Told.{Damaged, told_on, with_active}
-use Rattle.vz_telling.specs.Telling.{AreTold}
 use Rattle.vz_telling.proofs.Raised.{told_raised}
 use Rattle.vz_lending.specs.Lent.{Lent, AreLent, IsLender}
 use Rattle.vz_lending.specs.Listed.{lists_twice, listed_by}
@@ -32,12 +30,12 @@ use Rattle.vz_lending.proofs.Alive.{one_there}
 use Rattle.vz_lending.proofs.Staying.{lends}
 use Rattle.vz_feeding.specs.declared.ended.Ended.{Ended}
 use Rattle.vz_feeding.specs.Owing.{OwedAndRoom, AreOwed, ended_of, active_on as sub_active_on}
-use Rattle.vz_live.specs.Flying.{AreFlown}
 use Rattle.vz_live.specs.Living.{Live, AreLive, wants}
 use Rattle.vz_live.specs.Ending.{listings_of, ended_in}
 use Rattle.vz_live.specs.Changes.{IsRising}
 use Rattle.vz_live.proofs.Wanting.{sum_less, sum_one, one_wants, wants_not}
-use Rattle.vz_live.proofs.Staying.{whole_mapped, flown_mapped, kept_same, ended_is}
+use Rattle.vz_flight.proofs.Staying.{flown_risen}
+use Rattle.vz_live.proofs.Staying.{whole_mapped, kept_same, ended_is}
 use Rattle.vz_live.proofs.Found.{frame_of, acts_in, waits_in, listings_read, found_once, client_of, one_waits, waits_alone, waits_stored, is_waiting_there}
 
 some_same : {A : Type 0} {a b : A} → Some a ≡ Some b → a ≡ b
@@ -177,7 +175,7 @@ module _ (w : World) (but : Option SurfaceId) (s : Submission) (sub : Sub) (v : 
         told = told_raised w s h.always h.known h.waits v.damaged damaged h.live.told
             (subst (λ i. told_on damaged.surfaces i ≡ option_map with_active (told_on v.damaged.surfaces i)) e told)
             (λ other f. others other (ap (λ i. same_surface i other) e ∙ f)) last;
-        flown = flown_mapped w (rising s w) (as_one_rises s) v.flight refl refl same h.live.flown;
+        flown = flown_risen s w v.flight h.live.flown;
         wanted = omega (arith, less, h.live.wanted, wants_is, ap length ranges);
         room = omega (arith, spare, h.live.room);
       }

@@ -1,43 +1,25 @@
 -- What stays where submissions keep what they were accepted with.
-use Rattle.std.proofs.Common.{◌≡◌, Bool, Option, Some, None, List, map, refl, ap, sym, ◌∙◌, subst, Contains}
+use Rattle.std.proofs.Common.{◌≡◌, Option, Some, None, List, map, refl, ap, sym, ◌∙◌, subst, Contains}
 use Rattle.std.specs.Prelude.{Result, Ok, OnOk}
 use Rattle.std.specs.Option.{option_map}
-use Rattle.vz_frame.specs.declared.frame.CompositorFrame.{CompositorFrame}
-use Rattle.vz_rules.specs.World.{World, Submission, FrameData, sub_of}
+use Rattle.vz_rules.specs.World.{World, Submission, sub_of}
 use Rattle.vz_rules.specs.Kept.{IsWhole}
-use Rattle.vz_rules.proofs.Members.{contains_map, map_contains}
-use Rattle.vz_live.specs.Flying.{Flown, subs_of, AreFlown}
+use Rattle.vz_rules.proofs.Members.{contains_map}
+use Rattle.vz_flight.specs.Flying.{Flown, AreFlown}
 use Rattle.vz_ids.specs.declared.SurfaceId.{SurfaceId}
-use Rattle.vz_ids.specs.declared.Sub.{Sub}
-use Rattle.vz_rules.specs.World.{is_in_flight}
-use Rattle.vz_refs.specs.Referring.{Referring, Ranged, Temporary, is_set}
+use Rattle.vz_refs.specs.Referring.{Referring, is_set}
 use Rattle.vz_refs.specs.Meaning.{AreReferences}
-use Rattle.vz_reaching.specs.Lasting.{has_kept, lasts, AreOwn, IsKeptFor, AreKept}
-use Rattle.vz_feeding.specs.declared.ended.Ended.{Ended}
+use Rattle.vz_reaching.specs.Lasting.{has_kept, AreOwn, AreKept}
 use Rattle.vz_feeding.specs.Owing.{ended_of}
-use Rattle.vz_live.specs.Flying.{flies}
 use Rattle.vz_live.specs.Living.{AreWhole}
 use Rattle.vz_live.specs.Ending.{ended_in}
+use Rattle.vz_flight.proofs.Staying.{flown_flies}
 use Rattle.vz_live.proofs.Found.{frame_of}
 
 pub whole_mapped : (f : Submission → Submission) (subs : List Submission) → ((s : Submission) → (f s).submitted ≡ s.submitted) → AreWhole subs → AreWhole (map f subs)
 whole_mapped f subs same h s c =
     let m = contains_map f subs s c in
     subst IsWhole (sym (same m.0) ∙ ap (λ (x : Submission). x.submitted) m.2) (h m.0 m.1)
-
-pub flown_mapped : (w v : World) (f : Submission → Submission) (flight : Option (List Flown)) → v.in_flight ≡ w.in_flight → v.subs ≡ map f w.subs
-    → ((s : Submission) → (f s).submitted ≡ s.submitted) → AreFlown w flight → AreFlown v flight
-flown_mapped w v f flight drawn subs same h =
-    record {
-      drawn = drawn ∙ h.drawn;
-      listed = λ flown x e c.
-          let m = h.listed flown x e c in (
-            f m.0,
-            subst (λ l. Contains l (f m.0)) (sym subs) (map_contains f w.subs m.0 m.1),
-            ap (λ (i : FrameData). i.sub) (same m.0) ∙ m.2,
-            ap (λ (i : FrameData). i.frame.resources) (same m.0) ∙ m.3,
-          );
-    }
 
 -- what is set and what is temporary is all that counts
 pub kept_same : (w : World) (but : Option SurfaceId) (r q : Referring) → q.sets ≡ r.sets → q.temporary ≡ r.temporary → AreKept w but r → AreKept w but q
@@ -52,18 +34,10 @@ kept_same w but r q sets temporary h =
       noted = h.noted;
     }
 
--- whether a submission is in the drawn frame
-pub flies_is : (w : World) (flight : Option (List Flown)) (sub : Sub) → AreFlown w flight → flies flight sub ≡ is_in_flight w.in_flight sub
-flies_is w flight sub h = by flight ∙ ap (λ d. is_in_flight d sub) (sym h.drawn)
-  where
-    by : (f : Option (List Flown)) → flies f sub ≡ is_in_flight (option_map subs_of f) sub
-    by None = refl
-    by (Some f) = refl
-
 -- what is said of a submission that ends
 pub ended_is : (w : World) (flight : Option (List Flown)) (o : Option Submission) → AreFlown w flight → ended_in flight (frame_of o) ≡ option_map (ended_of w) (option_map (λ (s : Submission). sub_of s) o)
 ended_is w flight None h = refl
-ended_is w flight (Some s) h = λ i. Some (record { sub = sub_of s; in_flight = flies_is w flight (sub_of s) h i })
+ended_is w flight (Some s) h = λ i. Some (record { sub = sub_of s; in_flight = flown_flies w flight (sub_of s) h i })
 
 -- the fact of an answer that is Ok
 pub got : {A E : Type 0} (r : Result A E) (x : A) (P : Type 0) → r ≡ Ok x → OnOk r P → P

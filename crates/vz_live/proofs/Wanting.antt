@@ -1,13 +1,9 @@
 -- The places that submissions want which wait.
-use Rattle.std.proofs.Common.{◌≡◌, ℕ, zero, suc, slice_get, ◌+◌, ◌≤◌, Bool, true, false, ◌&&◌, inl, inr, Option, Some, None, List, [], ◌∷◌, ◌++◌, length, map, filter, find, refl, ap, sym, ◌∙◌, arith, cond, Contains, sum_by, count_by}
-use Rattle.std.proofs.lemmas.List.Sums.{sum_by-cons, sum_by-append}
-use Rattle.std.proofs.lemmas.Bool.{and_from, and_parts}
-use Rattle.vz_ids.specs.declared.SurfaceId.{SurfaceId}
-use Rattle.vz_rules.specs.World.{World, Submission, is_waiting, is_active, is_on, sub_of}
-use Rattle.vz_rules.specs.Kept.{KeepsAlways}
-use Rattle.vz_rules.proofs.Members.{contains_here, contains_there, contains_at, at_same, find_at}
-use Rattle.vz_rules.proofs.Counts.{count_cons, count_none, one_place}
-use Rattle.vz_rules.proofs.Reached.{self_same}
+use Rattle.std.proofs.Common.{◌≡◌, ℕ, zero, suc, slice_get, ◌+◌, ◌≤◌, Bool, true, false, Option, Some, None, List, [], ◌∷◌, length, map, filter, find, refl, ap, arith, cond, Contains, sum_by, count_by}
+use Rattle.std.proofs.lemmas.List.Sums.{sum_by-cons}
+use Rattle.vz_rules.specs.World.{Submission, is_waiting}
+use Rattle.vz_rules.proofs.Members.{contains_here, contains_there, contains_at}
+use Rattle.vz_rules.proofs.Counts.{count_cons}
 use Rattle.vz_live.specs.Living.{wants}
 
 -- a sum over a list that is changed: what changed counts nothing afterwards

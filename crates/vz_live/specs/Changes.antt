@@ -3,8 +3,8 @@ use Rattle.std.specs.Prelude.{◌≡◌, false, Option, None, IsTrue, IsFalse}
 use Rattle.std.specs.List.{Contains}
 use Rattle.vz_ids.specs.declared.SurfaceId.{SurfaceId}
 use Rattle.vz_ids.specs.declared.Sub.{Sub}
-use Rattle.vz_rules.specs.World.{World, Created, Submission, is_waiting, sub_of}
-use Rattle.vz_rules.specs.Reach.{naming}
+use Rattle.vz_rules.specs.World.{World, Client, Created, Submission, is_waiting, sub_of}
+use Rattle.vz_rules.specs.Reach.{naming, has_closed, is_named_now}
 use Rattle.vz_rules.specs.Kept.{KeepsAlways}
 use Rattle.vz_reaching.specs.Lasting.{has_kept}
 use Rattle.vz_live.specs.Living.{Live, AreLive}
@@ -26,3 +26,21 @@ pub record IsGoing (w : World) (c : Created) (id : SurfaceId) (v : Live) : Type 
   pub name : c.id ≡ id
   pub exists : IsFalse c.destroyed
   pub lasts_not : has_kept v.kept.temporary id ≡ false
+
+-- a client changes and keeps its number, whether it is closed, its resources and its queue
+pub record KeepsHolding (f : Client → Client) : Type 0 where
+  pub number : (c : Client) → (f c).number ≡ c.number
+  pub closed : (c : Client) → (f c).closed ≡ c.closed
+  pub resources : (c : Client) → (f c).resources ≡ c.resources
+  pub queue : (c : Client) → (f c).queue ≡ c.queue
+
+-- a surface of this id was created in this tick by a client that is not closed, and exists; what is named now is named, and
+-- that one is named only if it is named now
+pub record IsNew (w : World) (c : Created) (id : SurfaceId) : Type 0 where
+  pub named : naming w ≡ w
+  pub known : Contains w.surfaces c
+  pub name : c.id ≡ id
+  pub born : c.born ≡ w.tick
+  pub exists : IsFalse c.destroyed
+  pub stays : IsFalse (has_closed w c.client)
+  pub now : IsTrue c.named → IsTrue (is_named_now w c.id)

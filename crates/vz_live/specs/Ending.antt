@@ -3,7 +3,7 @@ use Rattle.std.specs.Prelude.{ℕ, ◌+◌, Option, Some, None, List, [], length
 use Rattle.vz_frame.specs.declared.frame.Listing.{Listing}
 use Rattle.vz_surfaces.specs.declared.held.Held.{Held}
 use Rattle.vz_feeding.specs.declared.ended.Ended.{Ended}
-use Rattle.vz_live.specs.Flying.{Flown, flies}
+use Rattle.vz_flight.specs.Flying.{Flown, flies}
 
 -- what a submission lists, if there is one
 abbrev pub listings_of : Option Held → List Listing

@@ -1,5 +1,6 @@
-pub mod Flying
 pub mod Living
 pub mod Ending
 pub mod Changes
+pub mod Arriving
 pub mod Rooting
+pub mod Landing

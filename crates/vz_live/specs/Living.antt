@@ -11,7 +11,7 @@ use Rattle.vz_damage.specs.Told.{Damaged}
 use Rattle.vz_telling.specs.Telling.{AreTold}
 use Rattle.vz_lending.specs.Lent.{Lent, AreLent}
 use Rattle.vz_feeding.specs.Owing.{OwedAndRoom, AreOwed}
-use Rattle.vz_live.specs.Flying.{Flown, AreFlown}
+use Rattle.vz_flight.specs.Flying.{Flown, AreFlown}
 
 -- the surfaces and submissions, what clients lent, the feedback that is owed, what is referenced and temporary, the damages, the
 -- drawn frame, and how many places the submissions that wait want among the references once they become active

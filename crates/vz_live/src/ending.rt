@@ -1,12 +1,13 @@
 //! Submissions that end.
 ghost use Rattle.std.specs.Prelude.{◌≡◌};
-ghost use Rattle.std.specs.Option.{option_copied};
-ghost use Rattle.vz_live.specs.Flying.{flies};
+ghost use Rattle.std.specs.Option.{option_copied, option_map};
+ghost use Rattle.vz_flight.specs.Flying.{flies};
 ghost use Rattle.vz_live.specs.Ending.{listings_of, ended_in, wanted_by};
 
-use crate::flight::Flight;
 use vz_feeding::Ended;
+use vz_flight::Flight;
 use vz_frame::Listing;
+use vz_ids::Sub;
 use vz_surfaces::Held;
 
 /// What a submission lists, nothing where there is none.
@@ -49,5 +50,15 @@ pub(crate) fn wanted_by(held: Option<&Held>) -> usize
     match held {
         None => 0,
         Some(held) => held.frame.metadata.references.as_slice().len() + 1,
+    }
+}
+
+/// The client and ordinal of a submission, if there is one.
+pub(crate) fn name_of(held: Option<&Held>) -> Option<Sub>
+    ensures { result ≡ option_map (λ h. h.sub) (option_copied held.entry) }
+{
+    match held {
+        None => None,
+        Some(held) => Some(held.sub),
     }
 }

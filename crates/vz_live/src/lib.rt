@@ -6,12 +6,16 @@
 //! every state that they stand for, that they stand for the next one.
 #![tactic(auto)]
 
+mod accepting;
 mod ending;
-mod flight;
+mod giving;
 mod going;
+mod landing;
+pub mod laws;
 mod live;
 mod reaching;
 mod rising;
+mod ticking;
 
-pub use flight::Flight;
+pub use accepting::Accepted;
 pub use live::LiveSurfaces;

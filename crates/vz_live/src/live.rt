@@ -1,8 +1,16 @@
 //! The surfaces with what hangs on them.
-use crate::flight::Flight;
+ghost use Rattle.std.specs.Prelude.{◌≡◌, None, length, IfOk};
+ghost use Rattle.vz_rules.specs.Plan.{Plan};
+ghost use Rattle.vz_rules.specs.World.{opening};
+ghost use Rattle.vz_lending.specs.Lent.{NoneReleased};
+ghost use Rattle.vz_live.specs.Living.{AreLive};
+
+use std::alloc::Global;
 use std::marker::Model;
+use vz_base::Memory;
 use vz_damage::Damage;
 use vz_feeding::Feeding;
+use vz_flight::Flight;
 use vz_lending::Lending;
 use vz_refs::References;
 use vz_surfaces::Store;
@@ -36,4 +44,23 @@ impl Model for LiveSurfaces {
       flight = a.flight;
       wanted = a.wanted;
     } };
+}
+
+impl LiveSurfaces {
+    /// No surface was created, for so many clients, numbered from 1. Memory is the only error.
+    pub fn open(alloc: Global, clients: u32) -> Result<LiveSurfaces, Memory>
+        ensures live { IfOk result (λ s. (p : Plan) → length p.files ≡ clients
+            → AreLive (opening p) None s) }
+        ensures released { IfOk result (λ s. NoneReleased s.lent) }
+    {
+        Ok(LiveSurfaces {
+            store: Store::new(alloc),
+            lending: Lending::new(alloc, clients)?,
+            feeding: Feeding::new(alloc),
+            references: References::new(alloc),
+            damage: Damage::new(alloc),
+            flight: None,
+            wanted: 0,
+        })
+    }
 }

@@ -1,4 +1,4 @@
-use Rattle.vz_lending.proofs.Staying.{lends, lent_alike, lent_none_drawn, lent_all_done}
+use Rattle.vz_lending.proofs.Staying.{lends, lent_alike, lent_ordered, lent_none_drawn, lent_all_done}
 use Rattle.vz_lending.proofs.laws.references_are_of_the_state.Goals as goal
 
 pub returns-clause-alike : goal.returns-clause-alike
@@ -12,3 +12,6 @@ returns-clause-over c = lent_all_done
 
 pub returns-clause-lender : goal.returns-clause-lender
 returns-clause-lender c = lends
+
+pub returns-clause-order : goal.returns-clause-order
+returns-clause-order c = lent_ordered

@@ -1,4 +1,4 @@
-use Rattle.std.proofs.Common.{sym, ◌∙◌, subst}
+use Rattle.std.proofs.Common.{sym, subst}
 use Rattle.vz_live.specs.Changes.{IsGoing}
 use Rattle.vz_live.proofs.Gone.{client_is, none_missing, is_lender, waits_is, acts_is, releases, wants_less, keeps, stands_there, waiting_is, acting_is, ends_name, lost_is, live_gone, named_gone}
 use Rattle.vz_live.proofs.live.LiveSurfaces.go.Goals as goal

@@ -1,0 +1,26 @@
+-- Before the first step.
+use Rattle.std.proofs.Common.{◌≡◌, false, Some, None, List, [], map, slice_get, refl, ap, sym, ◌∙◌, subst}
+use Rattle.vz_ids.specs.declared.FrameSinkId.{FrameSinkId}
+use Rattle.vz_frame.specs.declared.message.ClientFile.{ClientFile}
+use Rattle.vz_rules.specs.Plan.{Plan}
+use Rattle.vz_rules.specs.World.{opening}
+use Rattle.vz_clients.specs.Sent.{Sender, opened}
+use Rattle.vz_clients.specs.Sending.{AreSenders}
+use Rattle.vz_clients.proofs.Standing.{opens}
+use Rattle.vz_sinks.specs.Relating.{Related, seats_from}
+use Rattle.vz_sinks.proofs.Same_seats.{opened_as, first_as}
+use Rattle.vz_support.specs.Supporting.{IsSupport}
+use Rattle.vz_support.proofs.Requesting.{makes}
+
+-- what is made of the files of a plan
+pub opens_as : (p : Plan) (files : List ClientFile) (list : List FrameSinkId) (clients : List Sender) (s : Related) → p.files ≡ files → list ≡ map (λ (f : ClientFile). f.sink) files
+    → clients ≡ map opened files → slice_get list 0 ≡ Some s.first → s.seats ≡ seats_from 1 list → s.relations ≡ []
+    → IsSupport p (opening p) (record { clients = clients; sinks = s; tick = 0; root = None; over = false })
+unfolding opening
+opens_as p files list clients s same listed kept first seats relations =
+    let sinks : list ≡ map (λ (f : ClientFile). f.sink) p.files = listed ∙ ap (map (λ (f : ClientFile). f.sink)) (sym same) in
+    makes p (opening p) (record { clients = clients; sinks = s; tick = 0; root = None; over = false })
+    (subst (AreSenders p (opening p)) (sym (kept ∙ ap (map opened) (sym same))) (opens p))
+    (first_as p ∙ (ap (λ l. slice_get l 0) (sym sinks) ∙ first))
+    (seats ∙ (ap (seats_from 1) sinks ∙ sym (opened_as p)))
+    relations refl refl refl

@@ -1,0 +1,10 @@
+use Rattle.std.proofs.Common.{ap, ◌∙◌}
+use Rattle.vz_clients.specs.Sent.{sender_at}
+use Rattle.vz_support.specs.Supporting.{Supported}
+use Rattle.vz_support.proofs.Asking.{kept_of}
+use Rattle.vz_support.proofs.support.Support.is_closed.Goals as goal
+
+pub returns : goal.returns
+returns c p w x is here =
+    c.is_closed.ensures
+    ∙ (ap (λ (v : Supported). (sender_at v.clients c.args.c).closed) c.self.view_is ∙ (kept_of p w c.args.self.now c.args.c x is here).closed)

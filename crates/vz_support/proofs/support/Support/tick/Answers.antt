@@ -1,0 +1,6 @@
+use Rattle.std.proofs.Common.{ap, ◌∙◌}
+use Rattle.vz_support.specs.Supporting.{Supported}
+use Rattle.vz_support.proofs.support.Support.tick.Goals as goal
+
+pub returns : goal.returns
+returns c p w is = ap (λ (v : Supported). v.tick) c.self.view_is ∙ is.tick

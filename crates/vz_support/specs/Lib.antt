@@ -1,0 +1,2 @@
+pub mod Supporting
+pub mod Relations

@@ -1,0 +1,53 @@
+//! What is kept for the clients before the first step.
+ghost use Rattle.std.specs.Prelude.{◌≡◌, ◌≤◌, length, map, IfOk, IfErr};
+ghost use Rattle.vz_frame.specs.declared.message.ClientFile.{ClientFile as File};
+ghost use Rattle.vz_rules.specs.Plan.{Plan};
+ghost use Rattle.vz_rules.specs.World.{opening};
+ghost use Rattle.vz_support.specs.Supporting.{IsSupport};
+
+use crate::support::Support;
+use std::alloc::Global;
+use vz_base::Memory;
+use vz_base::limits::MOST_FILES;
+use vz_clients::Clients;
+use vz_frame::ClientFile;
+use vz_ids::FrameSinkId;
+use vz_sinks::Sinks;
+
+/// The sink of each file.
+fn sinks_of(alloc: Global, files: &[ClientFile]) -> Result<Vec<FrameSinkId>, Memory>
+    ensures { IfOk result (λ s. s.items ≡ map (λ (f : File). f.sink) files.now) }
+{
+    let mut sinks = Vec::with_capacity(alloc, files.len())?;
+    for file in files {
+        sinks.push_reserved(file.sink);
+    }
+    Ok(sinks)
+}
+
+impl Support {
+    /// What is kept for the clients of these files, of which nothing was taken. For want of memory,
+    /// and only then, the files come back. Conditions: 1 to `MOST_FILES` files.
+    pub fn open(alloc: Global, files: Vec<ClientFile>) -> Result<Support, Vec<ClientFile>>
+        requires some { 1 ≤ length files.items }
+        requires few { length files.items ≤ MOST_FILES }
+        ensures opens { (p : Plan) → p.files ≡ files.items
+            → IfOk result (λ s. IsSupport p (opening p) s) }
+        ensures back { IfErr result (λ f. f.items ≡ files.items) }
+    {
+        let Ok(list) = sinks_of(alloc, &files) else {
+            return Err(files);
+        };
+        let Ok(sinks) = Sinks::new(&list, alloc) else {
+            return Err(files);
+        };
+        let clients = Clients::open(alloc, files)?;
+        Ok(Support {
+            clients,
+            sinks,
+            tick: 0,
+            root: None,
+            over: false,
+        })
+    }
+}

@@ -1,0 +1,108 @@
+//! Submissions: each is taken by value, and accepted, given back or refused; and what is asked of
+//! the blocks that it lists and of the clients that it depends on.
+ghost use Rattle.std.specs.Prelude.{◌≡◌, ◌≤◌, ◌&&◌, length, IfOk};
+ghost use Rattle.std.specs.List.{list_any};
+ghost use Rattle.vz_ids.specs.declared.LocalSurfaceId.{LocalSurfaceId as Local};
+ghost use Rattle.vz_ids.specs.Ids.{same_sink};
+ghost use Rattle.vz_frame.specs.declared.frame.CompositorFrame.{CompositorFrame as Frame};
+ghost use Rattle.vz_frame.specs.declared.message.Message.TheVariants.{Submit};
+ghost use Rattle.vz_rules.specs.Plan.{Plan};
+ghost use Rattle.vz_rules.specs.World.{World, Client, client_at};
+ghost use Rattle.vz_rules.specs.Kept.{KeepsClients, AreRising};
+ghost use Rattle.vz_rules.specs.declared.entry.Refusal.{Refusal};
+ghost use Rattle.vz_rules.specs.Messages.{refused, accepted, is_unknown, blocks_of};
+ghost use Rattle.vz_support.specs.Supporting.{Supported, IsSupport, IsNext, HasTaken, Sends};
+
+use crate::messages::note;
+use crate::support::Support;
+use std::alloc::Global;
+use vz_base::Memory;
+use vz_frame::{CompositorFrame, List, Listing, Message};
+use vz_ids::{FrameSinkId, LocalSurfaceId};
+use vz_pixels::PixelBlock;
+
+impl Support {
+    /// Takes a submission by value: its surface and its frame. If it is refused, this is all that
+    /// changes. Conditions: the client is there, and this is its next message.
+    pub fn take_submission(&mut self, c: u32) -> (LocalSurfaceId, CompositorFrame)
+        requires some { 1 ≤ c }
+        requires known { c ≤ length self.old.clients }
+        requires next { (local : Local) × (frame : Frame) × IsNext self.old c (Submit local frame) }
+        ensures message { IsNext self.old c (Submit result.0 result.1) }
+        ensures frame { (p : Plan) (w : World) (x : Client) (local : Local) (frame : Frame)
+            → Sends p w c x (Submit local frame) → IsSupport p w self.old
+            → (result.0 ≡ local) × (result.1 ≡ frame) }
+        ensures taken { HasTaken c self.old self.new }
+        ensures refused { (p : Plan) (w : World) (x : Client) (local : Local) (frame : Frame)
+            (r : Refusal) → Sends p w c x (Submit local frame) → IsSupport p w self.old
+            → IsSupport p (refused w x r).world self.new }
+    {
+        let Message::Submit { local, frame } = self.clients.take(c) else {
+            unreachable!()
+        };
+        (local, frame)
+    }
+
+    /// A submission that was taken is accepted: its answer to a begin-frame is noted. Conditions:
+    /// the client is there.
+    pub fn accept(&mut self, c: u32, ack: u32)
+        requires some { 1 ≤ c }
+        requires known { c ≤ length self.old.clients }
+        ensures { (p : Plan) (w : World) (x : Client) (local : Local) (frame : Frame)
+            (before : Supported) → Sends p w c x (Submit local frame) → IsSupport p w before
+            → HasTaken c before self.old → ack ≡ frame.metadata.ack
+            → IsSupport p (accepted w x local frame).world self.new }
+    {
+        note(&mut self.clients, c, self.tick, ack);
+    }
+
+    /// A submission that was taken is the client's next message again. Conditions: the client is
+    /// there, and its submission was taken.
+    pub fn put_back(&mut self, c: u32, local: LocalSurfaceId, frame: CompositorFrame)
+        requires some { 1 ≤ c }
+        requires known { c ≤ length self.old.clients }
+        requires taken { (before : Supported) × HasTaken c before self.old }
+        ensures { (p : Plan) (w : World) (x : Client) (before : Supported)
+            → Sends p w c x (Submit local frame) → IsSupport p w before
+            → HasTaken c before self.old → IsSupport p w self.new }
+    {
+        self.clients.put_back(c, Message::Submit { local, frame });
+    }
+
+    /// Whether a client stored no block of its size for one of some listings. Condition: the client
+    /// is there.
+    pub fn is_unknown(&self, c: u32, listings: &[Listing]) -> bool
+        requires some { 1 ≤ c }
+        requires known { c ≤ length self.now.clients }
+        ensures { (p : Plan) (w : World) (x : Client) (frame : Frame) → AreRising x.resources
+            → IsSupport p w self.now → client_at w c ≡ Some x → frame.resources ≡ listings.now
+            → result ≡ list_any (is_unknown x.resources) frame.resources }
+    {
+        !self.clients.knows_all(c, listings)
+    }
+
+    /// Whether a closed client has this sink, so that nothing is waited for there.
+    pub fn is_gone(&self, sink: &FrameSinkId) -> bool
+        ensures { (p : Plan) (w : World) → KeepsClients w.clients → IsSupport p w self.now
+            → result ≡ list_any (λ (x : Client). x.closed && same_sink x.sink sink.now) w.clients }
+    {
+        self.clients.is_gone(sink)
+    }
+
+    /// The block that each of some listings names, in their order. No pixel is copied. Memory is
+    /// the only error. Condition: the client is there.
+    pub fn blocks(
+        &self,
+        alloc: Global,
+        c: u32,
+        listings: &[Listing],
+    ) -> Result<List<PixelBlock>, Memory>
+        requires some { 1 ≤ c }
+        requires known { c ≤ length self.now.clients }
+        ensures { (p : Plan) (w : World) (x : Client) (frame : Frame)
+            → IsSupport p w self.now → client_at w c ≡ Some x → frame.resources ≡ listings.now
+            → IfOk result (λ l. l ≡ blocks_of x.resources frame) }
+    {
+        self.clients.blocks(alloc, c, listings)
+    }
+}

@@ -1,0 +1,43 @@
+//! Begin-frames, and the end.
+ghost use Rattle.std.specs.Prelude.{◌≡◌, ◌≤◌, true};
+ghost use Rattle.vz_base.specs.declared.limits.TheConstants.{LAST_TICK as last};
+ghost use Rattle.vz_rules.specs.Plan.{Plan};
+ghost use Rattle.vz_rules.specs.World.{World};
+ghost use Rattle.vz_rules.specs.declared.entry.Reply.TheVariants.{Ticked};
+ghost use Rattle.vz_rules.specs.Step.{next_tick, begin_answer};
+ghost use Rattle.vz_support.specs.Supporting.{IsSupport};
+
+use crate::support::Support;
+use vz_base::limits::LAST_TICK;
+
+/// The tick that follows. Condition: it is not beyond the last one.
+fn next_tick(tick: u32) -> u32
+    requires { tick ≤ last }
+    ensures value { result ≡ next_tick tick }
+    ensures bounded { result ≤ last }
+{
+    if tick == LAST_TICK { tick } else { tick + 1 }
+}
+
+impl Support {
+    /// A begin-frame: the tick goes on, and is delivered to each attached client that is not
+    /// closed. It answers the tick.
+    pub fn begin(&mut self) -> u32
+        ensures reply { (p : Plan) (w : World) → IsSupport p w self.old
+            → (begin_answer p w).reply ≡ Ticked result }
+        ensures world { (p : Plan) (w : World) → IsSupport p w self.old
+            → IsSupport p (begin_answer p w).world self.new }
+    {
+        self.tick = next_tick(self.tick);
+        self.sinks.begin(self.tick);
+        self.tick
+    }
+
+    /// It is over: no begin-frame is waited for from now on.
+    pub fn over(&mut self)
+        ensures { (p : Plan) (w : World) → IsSupport p w self.old
+            → IsSupport p (record w { over = true }) self.new }
+    {
+        self.over = true;
+    }
+}
