@@ -1,5 +1,6 @@
 -- What is reached over what is kept is what is reached in the machine's state.
-use Rattle.std.proofs.Common.{◌≡◌, Bool, Option, Some, None, IfSome, IsTrue, List, refl, ap, ◌∙◌, subst, cond}
+use Rattle.std.proofs.Common.{true, false, ℕ, ◌+◌, ◌≤◌, ◌<◌, length, arith, ◌≡◌, Bool, Option, Some, None, IfSome, IsTrue, List, refl, ap, ◌∙◌, subst, cond}
+use Rattle.std.specs.List.{list_any}
 use Rattle.vz_ids.specs.declared.SurfaceId.{SurfaceId}
 use Rattle.vz_ids.specs.declared.SurfaceRange.{SurfaceRange}
 use Rattle.vz_ids.specs.Ids.{same_surface}
@@ -8,7 +9,11 @@ use Rattle.vz_rules.specs.Closure.{IsLeastClosed}
 use Rattle.vz_rules.specs.Scene.{shown}
 use Rattle.vz_rules.specs.Reach.{has_id, naming, reach}
 use Rattle.vz_rules.specs.Kept.{KeepsAlways}
-use Rattle.vz_refs.specs.Referring.{is_set, next_in, starts}
+use Rattle.vz_frame.specs.Frame.{has_repeat}
+use Rattle.vz_marking.proofs.Marking.{fits}
+use Rattle.vz_refs.specs.Referring.{Ranged, Temporary, is_set, next_in, starts}
+use Rattle.vz_refs.proofs.Same.{from_same, self_same}
+use Rattle.vz_refs.proofs.Gathering.{all_of, all_fit, next_inside, starts_inside}
 use Rattle.vz_surfaces.specs.Stored.{Stored, stored_of}
 use Rattle.vz_surfaces.specs.Reading.{stands, shown_in}
 use Rattle.vz_surfaces.proofs.Telling.{tells_exists, tells_shown}
@@ -36,3 +41,12 @@ reaches w v given root ids h live named e f least =
     marked_reached w v.kept named live.kept (shown_in v.store) ids (shows_is w None v h live)
     (subst (λ r. IsLeastClosed same_surface (next_in (shown_in v.store) v.kept.sets) (starts r v.kept.temporary) ids)
     (f ∙ (root_there w v.store given live.store ∙ ap (if_exists w) e)) least)
+
+-- they are no more than what is set, what is temporary, and the root
+pub few_reached : (shows : SurfaceRange → Option SurfaceId) (sets : List Ranged) (root : Option SurfaceId) (kept : List Temporary) (ids : List SurfaceId)
+    → ((x : SurfaceRange) → IfSome (shows x) (λ id. IsTrue (is_set sets id)))
+    → IsLeastClosed same_surface (next_in shows sets) (starts root kept) ids → has_repeat same_surface ids ≡ false → length ids ≤ length sets + length kept + 1
+few_reached shows sets root kept ids set least once =
+    let inside : (x : SurfaceId) → list_any (same_surface x) ids ≡ true → list_any (same_surface x) (all_of sets root kept) ≡ true =
+    least.least (all_of sets root kept) (starts_inside sets root kept) (λ y x e f. next_inside shows sets root kept set y x f) in
+    omega (arith, fits same_surface from_same self_same ids (all_of sets root kept) once inside, all_fit sets root kept (length sets + length kept + 1) (omega arith))

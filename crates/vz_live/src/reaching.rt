@@ -1,8 +1,6 @@
 //! Which surfaces are reached, and which may be destroyed.
-ghost use Rattle.std.specs.Prelude.{◌≡◌, ◌≤◌, ◌<◌, ◌+◌, ◌++◌, [], length, false, Option, None};
+ghost use Rattle.std.specs.Prelude.{◌≡◌, ◌≤◌, ◌<◌, ◌+◌, ◌++◌, [], length, Option, None};
 ghost use Rattle.vz_ids.specs.declared.SurfaceId.{SurfaceId as Id};
-ghost use Rattle.vz_ids.specs.Ids.{same_surface};
-ghost use Rattle.vz_frame.specs.Frame.{has_repeat};
 ghost use Rattle.vz_rules.specs.World.{World};
 ghost use Rattle.vz_rules.specs.Reach.{has_id, naming, reach};
 ghost use Rattle.vz_rules.specs.Kept.{KeepsAlways};
@@ -66,7 +64,8 @@ impl LiveSurfaces {
         requires room { length self.now.kept.sets + length self.now.kept.temporary < out.old.spare }
         ensures reached { (w : World) → KeepsAlways w → AreLive w None self.now → naming w ≡ w
             → root ≡ w.root → (id : Id) → has_id out.new.list id ≡ has_id (reach w) id }
-        ensures once { has_repeat same_surface out.new.list ≡ false }
+        ensures few { length out.new.list
+            ≤ length self.now.kept.sets + length self.now.kept.temporary + 1 }
     {
         let root = if_exists(&self.store, root);
         self.references.reachable(root, &self.store, out);

@@ -1,9 +1,13 @@
 -- Rounds, one after another until nothing is ready.
-use Rattle.std.proofs.Common.{◌≡◌, ℕ, zero, suc, ◌+◌, ◌≤◌, Bool, true, false, not, ◌&&◌, List, [], ◌∷◌, ◌++◌, length, map, filter, drop, refl, ap, sym, ◌∙◌, arith, cond, append_assoc, append-nil}
+use Rattle.std.proofs.Common.{◌≡◌, ℕ, zero, suc, ◌+◌, ◌≤◌, Bool, true, false, not, ◌&&◌, List, [], ◌∷◌, ◌++◌, length, map, filter, drop, refl, ap, sym, ◌∙◌, arith, cond, count_by, append_assoc, append-nil}
 use Rattle.std.specs.List.{list_any}
-use Rattle.vz_rules.specs.World.{World, Submission, is_waiting, is_active, is_on, sub_of}
-use Rattle.vz_rules.specs.Settle.{is_ready, ready, after_round, round, rounds, activated_over, settle, activated_in}
+use Rattle.vz_rules.specs.World.{World, Created, Submission, is_waiting, is_active, is_on, sub_of}
+use Rattle.vz_rules.specs.Settle.{is_ready, ready, after_round, is_before, marked_by, round, rounds, activated_over, settle, activated_in}
 use Rattle.vz_rules.specs.declared.entry.State.TheVariants.{Active, Past}
+use Rattle.vz_rules.proofs.Counts.{count_same}
+use Rattle.vz_surfaces.specs.Stored.{Stored, stored_of}
+use Rattle.vz_surfaces.specs.Reading.{existing_count}
+use Rattle.vz_surfaces.proofs.Telling.{tells_count}
 use Rattle.vz_rules.proofs.Settled.{round_stays, rounds_stay}
 use Rattle.vz_rules.proofs.Activated.{none_ready_after}
 use Rattle.vz_rules.proofs.Kept_follows.{ready_waits}
@@ -99,6 +103,32 @@ both_parts w (s ∷ ss) = by (is_waiting s) (is_ready w s) (ready_waits w s) (bo
 pub ready_or_not : (w : World) → length (ready w) + length (filter (λ s. is_waiting s && not (is_ready w s)) w.subs) ≡ waiting w
 unfolding ready
 ready_or_not w = both_parts w w.subs
+
+-- As many surfaces exist
+
+stands_on : (t : Bool) (c : Created) → not (cond t (record c { marked = true }) c).destroyed ≡ not c.destroyed
+stands_on true c = refl
+stands_on false c = refl
+
+abbrev existing : World → ℕ
+existing w = count_by (λ (c : Created). not c.destroyed) w.surfaces
+
+round_keeps : (w : World) → existing (round w) ≡ existing w
+unfolding round
+round_keeps w =
+    count_same (marked_by w.surfaces (ready w)) (λ (c : Created). not c.destroyed) (λ (c : Created). not c.destroyed) w.surfaces
+    (λ c. stands_on (list_any (is_before w.surfaces c) (ready w)) c)
+
+rounds_keep : (n : ℕ) (w : World) → existing (rounds n w) ≡ existing w
+unfolding rounds
+rounds_keep zero w = refl
+rounds_keep (suc n) w = rounds_keep n (round w) ∙ round_keeps w
+
+-- none comes and none goes by settling
+pub settle_keeps : (w : World) (old new : Stored) → old ≡ stored_of w → new ≡ stored_of (settle w) → existing_count new ≡ existing_count old
+unfolding settle
+settle_keeps w old new e f =
+    ap existing_count f ∙ (tells_count (settle w) ∙ (rounds_keep (length w.subs) w ∙ sym (ap existing_count e ∙ tells_count w)))
 
 -- Lists that grow
 

@@ -2,7 +2,13 @@
 //! are not reached are destroyed.
 #![tactic(auto)]
 
+mod collecting;
+mod index;
+pub mod laws;
+mod lists;
 mod rounds;
 mod settling;
 
+pub use index::Index;
+pub use lists::Lists;
 pub use settling::Settling;

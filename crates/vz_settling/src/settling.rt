@@ -3,6 +3,7 @@ ghost use Rattle.std.specs.Prelude.{◌≡◌, ◌≤◌, ◌+◌, [], length, O
 ghost use Rattle.vz_ids.specs.declared.SurfaceId.{SurfaceId as Id};
 ghost use Rattle.vz_rules.specs.World.{World};
 ghost use Rattle.vz_rules.specs.Settle.{settle, activated_in};
+ghost use Rattle.vz_surfaces.specs.Reading.{existing_count};
 ghost use Rattle.vz_lending.specs.Lent.{resources_out};
 ghost use Rattle.vz_feeding.specs.Noting.{owed_count};
 ghost use Rattle.vz_settling.specs.Settles.{AreSettling, IsToSettle};
@@ -40,6 +41,8 @@ impl Settling {
             → IsToSettle w but self.old activated.old.list → activated.new.list ≡ activated_in w }
         ensures out { resources_out self.new.live.lent ≡ resources_out self.old.live.lent }
         ensures count { owed_count self.new.live.owed.owed ≡ owed_count self.old.live.owed.owed }
+        ensures surfaces { existing_count self.new.live.store
+            ≡ existing_count self.old.live.store }
         ensures sets { length self.new.live.kept.sets ≤ length self.old.live.kept.sets
             + (length activated.old.list + length self.old.waiting.blocked) }
         ensures temporary { length self.new.live.kept.temporary

@@ -22,4 +22,4 @@ pub mod Seeing
 mod Awaited
 mod Marking
 mod Numbering
-mod Listing
+pub mod Listing

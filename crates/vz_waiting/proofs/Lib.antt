@@ -1,6 +1,6 @@
 mod Lists
 pub mod Standing
-mod Unchanged
+pub mod Unchanged
 mod Removing
 mod Meeting
 mod Closing

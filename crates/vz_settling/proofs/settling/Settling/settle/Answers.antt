@@ -1,5 +1,6 @@
 use Rattle.std.proofs.Common.{length, arith, refl, ap, sym, ◌∙◌, subst}
 use Rattle.vz_rules.specs.Settle.{rounds}
+use Rattle.vz_settling.proofs.Rounded.{settle_keeps}
 use Rattle.vz_settling.proofs.Settling_on.{IsSettlingOn, begins, within, all_wait, begins_round, so_long, fits, beside_now, goes_on, ends, ends_told}
 use Rattle.vz_settling.proofs.settling.Settling.settle.Goals as goal
 
@@ -77,3 +78,10 @@ loop-from-preserved c =
       omega (arith, before.5, c.rise_all.ensures.sets, long, risen, so_far),
       omega (arith, before.6, c.rise_all.ensures.temporary),
     )
+
+pub returns-clause-surfaces : goal.returns-clause-surfaces
+returns-clause-surfaces c =
+    let x = c.requires.settles in
+    let on = c.loop-from.invariant.0 x.0 x.1 c.requires.empty x.2 in
+    let end = ends x.0 x.1 c.loop-from.self c.loop-from.from c.loop-from.activated.list c.loop-from.ids.list on (omega (arith, c.loop-from-test.false, ap length c.as_slice.ensures)) in
+    settle_keeps x.0 c.args.self.now.live.store c.loop-from.self.live.store x.2.stands.live.store end.live.store
