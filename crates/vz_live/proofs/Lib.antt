@@ -8,3 +8,4 @@ mod Gone
 mod Given
 mod Released
 mod Landed
+mod Lifted

@@ -6,6 +6,7 @@
 //! every state that they stand for, that they stand for the next one.
 #![tactic(auto)]
 
+mod drawing;
 mod ending;
 mod giving;
 mod going;
