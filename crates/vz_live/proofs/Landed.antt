@@ -23,6 +23,7 @@ use Rattle.vz_feeding.specs.Owing.{Owed, OwedAndRoom, AreOwed}
 use Rattle.vz_feeding.proofs.Owes.{owes_same}
 use Rattle.vz_flight.specs.Flying.{Flown, AreFlown, subs_of}
 use Rattle.vz_flight.specs.Drawn.{IsRosterOf}
+use Rattle.vz_flight.proofs.Staying.{flown_none}
 use Rattle.vz_flight.proofs.Standing.{roster_feeds, roster_fed, roster_feed}
 use Rattle.vz_live.specs.Living.{Live, AreLive}
 use Rattle.vz_live.specs.Landing.{IsFlying, IsLanding}
@@ -57,9 +58,6 @@ none_presented : (drawn : List Sub) (w : World) → (presenting drawn (landed w)
 unfolding feed give_back
 none_presented drawn w = refl
 
-none_flown : (w : World) → w.in_flight ≡ None → AreFlown w None
-none_flown w e = record { drawn = e; listed = λ flown f is there. let no : ◌≡◌ {A = Option (List Flown)} None (Some flown) = is in absurd (cc) }
-
 pub live_presented : (w : World) (drawn : List Sub) (v : Live) (lent : List Lent) (owed : OwedAndRoom) (flight : Option (List Flown)) → flight ≡ None → AreLive w None v
     → AreLent (give_back (landed w)) lent → AreOwed (presenting drawn (landed w)).world owed.owed
     → AreLive (presenting drawn (landed w)).world None (record v { lent = lent; owed = owed; flight = flight })
@@ -70,7 +68,7 @@ live_presented w drawn v lent owed flight none h is_lent is_owed =
     (h.store ∙ sym (stored_presented drawn w)) (lent_fed drawn given lent is_lent) is_owed
     (stays_fed drawn given None v.kept (stays_given (landed w) None v.kept (stays_same w (landed w) None v.kept refl refl refl (λ n. refl) h.kept)))
     (told_stays w done v.damaged tells_exists (stored_presented drawn w) (last_fed drawn given ∙ last_given (landed w)) h.told)
-    (subst (AreFlown done) (sym none) (none_flown done (none_presented drawn w))) refl (omega arith) h
+    (subst (AreFlown done) (sym none) (flown_none done (none_presented drawn w))) refl (omega arith) h
 
 module _ (w : World) (drawn : List Sub) (v : Live) (h : IsFlying w drawn v) (flown roster : List Flown) (e : v.flight ≡ Some flown)
     (is : IsRosterOf flown roster) where

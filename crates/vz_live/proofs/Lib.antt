@@ -9,3 +9,4 @@ mod Given
 mod Released
 mod Landed
 mod Lifted
+mod Drawn

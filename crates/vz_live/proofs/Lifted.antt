@@ -1,5 +1,5 @@
 -- The submissions of a drawn frame hold what they list, one after the other.
-use Rattle.std.proofs.Common.{◌≡◌, ℕ, zero, suc, ◌+◌, ◌≤◌, true, Some, List, [], ◌∷◌, ◌++◌, length, take, take_all, drop, slice_get, refl, ap, sym, ◌∙◌, subst, arith, Contains}
+use Rattle.std.proofs.Common.{◌≡◌, ℕ, zero, suc, ◌+◌, ◌≤◌, true, Some, List, [], ◌∷◌, ◌++◌, length, take, take_all, drop, slice_get, ap, sym, ◌∙◌, subst, arith, Contains}
 use Rattle.vz_ids.specs.declared.Sub.{Sub}
 use Rattle.vz_frame.specs.declared.frame.Listing.{Listing}
 use Rattle.vz_rules.specs.Plan.{Plan}

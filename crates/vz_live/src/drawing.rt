@@ -79,14 +79,15 @@ impl LiveSurfaces {
         ensures out { resources_out self.new.lent ≡ resources_out self.old.lent }
     {
         let flight = fly(alloc, &self.store, root, size)?;
-        let Some(listings) = flight.roster().listings() else {
+        let roster = flight.roster();
+        let Some(listings) = roster.listings() else {
             return Err(Memory);
         };
         self.lending.ready_to_draw(listings)?;
         match self.damage.measure(&self.store, root, size)? {
             None => Ok(Reply::Unchanged),
             Some(damage) => {
-                hold_each(&mut self.lending, flight.roster());
+                hold_each(&mut self.lending, roster);
                 self.flight = Some(flight);
                 Ok(Reply::Drawn(damage))
             }

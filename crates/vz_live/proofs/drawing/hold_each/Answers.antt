@@ -1,7 +1,6 @@
-use Rattle.std.proofs.Common.{Some, List, drop, ◌∙◌, arith, subst, refl}
+use Rattle.std.proofs.Common.{Some, List, ◌∙◌, arith, subst, refl}
 use Rattle.vz_ids.specs.declared.Sub.{Sub}
 use Rattle.vz_lending.specs.Lent.{AreLent}
-use Rattle.vz_flight.specs.Drawn.{listing_count}
 use Rattle.vz_live.proofs.Lifted.{acting, take_every, places_here, places_left, lifts_lender, lifts_next, lifts_more}
 use Rattle.vz_live.proofs.drawing.hold_each.Goals as goal
 
