@@ -1,5 +1,6 @@
 -- A drawing: what is answered, and what hangs on surfaces stands for the state that it leaves.
-use Rattle.std.proofs.Common.{◌≡◌, ℕ, ◌&&◌, Bool, true, false, Option, Some, None, is_some, List, refl, ap, sym, ◌∙◌, subst, arith, cond, Contains}
+use Rattle.std.proofs.Common.{◌≡◌, ℕ, ◌&&◌, Bool, true, false, Option, Some, None}
+use Rattle.std.proofs.Common.{is_some, List, refl, ap, sym, ◌∙◌, subst, arith, cond, Contains}
 use Rattle.std.specs.Option.{option_map}
 use Rattle.vz_geom.specs.declared.Size.{Size}
 use Rattle.vz_geom.specs.Rectangle.{Rectangle, is_empty_rect}
@@ -76,7 +77,8 @@ heavy_answer p w s e = first (too_much (walk_of p.size s)) _ e
 pub reply_of : (p : Plan) (w : World) (r : Reply) → draw_answer p w ≡ says r w → r ≡ (draw_answer p w).reply
 reply_of p w r e = sym (ap (λ (a : Answer). a.reply) e)
 
-pub live_of : (p : Plan) (w : World) (r : Reply) (v : Live) → draw_answer p w ≡ says r w → AreLive w None v → AreLive (draw_answer p w).world None v
+pub live_of : (p : Plan) (w : World) (r : Reply) (v : Live) → draw_answer p w ≡ says r w → AreLive w None v
+    → AreLive (draw_answer p w).world None v
 live_of p w r v e h = subst (λ (a : Answer). AreLive a.world None v) (sym e) h
 
 -- What a drawing leaves
@@ -86,7 +88,8 @@ one_of P true a b first other = first
 one_of P false a b first other = other
 
 drawn_as : (P : World → Type 0) (p : Plan) (w : World)
-    → ((last : Option Aggregation) (flight : Option (List Sub)) → P (record w { last = last; in_flight = flight })) → P (draw_answer p w).world
+    → ((last : Option Aggregation) (flight : Option (List Sub)) → P (record w { last = last; in_flight = flight }))
+    → P (draw_answer p w).world
 unfolding draw_answer scene_answer
 drawn_as P p w h = one_of P (is_some w.in_flight) _ _ (h w.last w.in_flight) (seen (scene_of w))
   where
@@ -182,7 +185,8 @@ module _ (p : Plan) (w : World) (given : Option SurfaceId) (root : SurfaceId) (s
   pub unseen_there : is_some (active_on u.store root) ≡ false → draw_answer p w ≡ says reply.NoRoot w
   unseen_there g = unseen_is p w root size u rooted_there free_there g
 
-  module _ (sees : is_some (active_on u.store root) ≡ true) (o : Option ℕ) (weighs : (s : Size) → IsWeightOf (walked_in s root u.store) o) where
+  module _ (sees : is_some (active_on u.store root) ≡ true) (o : Option ℕ)
+      (weighs : (s : Size) → IsWeightOf (walked_in s root u.store) o) where
     pub heavy_there : is_some o ≡ false → draw_answer p w ≡ says reply.TooMuch w
     heavy_there g = heavy_is p w root size u rooted_there free_there sees (heavy_of (walked_in size root u.store) o (weighs size) g)
 
@@ -205,8 +209,10 @@ module _ (p : Plan) (w : World) (root : SurfaceId) (size : Size) (v : Live) (h :
   damage_is : told_damage size v.damaged.last v.damaged.surfaces root (walked_in size root v.store)
       ≡ drawn_damage p.size w.last (accepted_frames w) root (walk_of p.size (scene_from root w))
   damage_is =
-      (λ i. told_damage (sym h.drawing.sized_as i) (h.drawing.live.told.last i) v.damaged.surfaces root (walked_is p w root size v h.drawing i))
-      ∙ measured_is_drawn w v.damaged.surfaces p.size root h.drawing.keeps.always (tells_last w v.damaged h.drawing.keeps.always h.drawing.live.told)
+      (λ i. told_damage (sym h.drawing.sized_as i) (h.drawing.live.told.last i) v.damaged.surfaces root
+      (walked_is p w root size v h.drawing i))
+      ∙ measured_is_drawn w v.damaged.surfaces p.size root h.drawing.keeps.always
+      (tells_last w v.damaged h.drawing.keeps.always h.drawing.live.told)
 
   pub reply_is : (o : Option Rectangle)
       → o ≡ what_changed v.damaged.last (told_damage size v.damaged.last v.damaged.surfaces root (walked_in size root v.store))
@@ -227,13 +233,15 @@ module _ (p : Plan) (w : World) (root : SurfaceId) (size : Size) (v : Live) (h :
   live_left : (lent : List Lent) (d : Damaged) (flight : Option (List Flown)) → AreLent done lent → AreTold done d → AreFlown done flight
       → AreLive done None (record v { lent = lent; damaged = d; flight = flight })
   live_left lent d flight is_lent is_told is_flown =
-      live_by w done None None v _ (drawn_as (λ (u : World). u.subs ≡ w.subs) p w (λ l f. refl)) (h.drawing.live.store ∙ sym (stored.stays_drawn p w)) is_lent
+      live_by w done None None v _ (drawn_as (λ (u : World). u.subs ≡ w.subs) p w (λ l f. refl))
+      (h.drawing.live.store ∙ sym (stored.stays_drawn p w)) is_lent
       (owed.stays_drawn p w v.owed.owed h.drawing.keeps h.drawing.live.owed)
       (drawn_as (λ (u : World). AreKept u None v.kept) p w (λ l f.
       stays_same w (record w { last = l; in_flight = f }) None v.kept refl refl refl (λ n. refl) h.drawing.live.kept))
       is_told is_flown refl (omega arith) h.drawing.live
 
-  left_alike : (u : World) (lent : List Lent) → u.clients ≡ w.clients → u.surfaces ≡ w.surfaces → u.subs ≡ w.subs → done.in_flight ≡ u.in_flight
+  left_alike : (u : World) (lent : List Lent) → u.clients ≡ w.clients → u.surfaces ≡ w.surfaces → u.subs ≡ w.subs
+      → done.in_flight ≡ u.in_flight
       → AreLent u lent → AreLent done lent
   left_alike u lent clients surfaces subs flight is =
       lent_alike u done lent
@@ -251,7 +259,8 @@ module _ (p : Plan) (w : World) (root : SurfaceId) (size : Size) (v : Live) (h :
       → AreLive done None (record v { lent = lent; damaged = d })
   live_unchanged lent d e is_lent tells last =
       let flown = flown_still p w root h.walks v.flight (sym e) h.drawing.live.flown in
-      live_left lent d v.flight (left_alike w lent refl refl refl (flown.drawn ∙ sym h.drawing.live.flown.drawn) is_lent) (told_is d tells last) flown
+      live_left lent d v.flight (left_alike w lent refl refl refl (flown.drawn ∙ sym h.drawing.live.flown.drawn) is_lent)
+      (told_is d tells last) flown
 
   -- where a frame is drawn
 
@@ -267,14 +276,16 @@ module _ (p : Plan) (w : World) (root : SurfaceId) (size : Size) (v : Live) (h :
         of_plan = h.drawing.of_plan;
         whole = h.drawing.live.whole;
         listed = λ f c.
-            flown_active w (seen_all w h.drawing.keeps.always) p.size root f (subst (λ (l : List Flown). Contains l f) (from_is flown e) (is.only f c));
+            flown_active w (seen_all w h.drawing.keeps.always) p.size root f
+            (subst (λ (l : List Flown). Contains l f) (from_is flown e) (is.only f c));
         before = is.before;
         none_released = none;
         lent = lent_none_drawn w items none_flies lent;
       }
 
   pub live_drawn : (flown roster : List Flown) (lent : List Lent) (d : Damaged) (damage : Rectangle) → flown ≡ flown_from size root v.store
-      → IsRosterOf flown roster → reply.Drawn damage ≡ (draw_answer p w).reply → AreLent (record w { in_flight = Some (subs_of roster) }) lent
+      → IsRosterOf flown roster → reply.Drawn damage ≡ (draw_answer p w).reply
+      → AreLent (record w { in_flight = Some (subs_of roster) }) lent
       → ((id : SurfaceId) → told_on d.surfaces id ≡ option_map with_seen (told_on v.damaged.surfaces id))
       → d.last ≡ Some (without_indices (aggregation_of (scene_in root v.store) (walked_in size root v.store)))
       → AreLive done None (record v { lent = lent; damaged = d; flight = Some flown })

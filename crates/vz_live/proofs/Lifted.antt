@@ -1,5 +1,6 @@
 -- The submissions of a drawn frame hold what they list, one after the other.
-use Rattle.std.proofs.Common.{◌≡◌, ℕ, zero, suc, ◌+◌, ◌≤◌, true, Some, List, [], ◌∷◌, ◌++◌, length, take, take_all, drop, slice_get, ap, sym, ◌∙◌, subst, arith, Contains}
+use Rattle.std.proofs.Common.{◌≡◌, ℕ, zero, suc, ◌+◌, ◌≤◌, true, Some, List, [], ◌∷◌}
+use Rattle.std.proofs.Common.{◌++◌, length, take, take_all, drop, slice_get, ap, sym, ◌∙◌, subst, arith, Contains}
 use Rattle.vz_ids.specs.declared.Sub.{Sub}
 use Rattle.vz_frame.specs.declared.frame.Listing.{Listing}
 use Rattle.vz_rules.specs.Plan.{Plan}
@@ -24,7 +25,8 @@ next_is : (k : ℕ) → suc k ≡ k + 1
 next_is k = omega arith
 
 -- one more of them
-pub take_next : (xs : List Flown) (k : ℕ) (f : Flown) → slice_get xs k ≡ Some f → subs_of (take (k + 1) xs) ≡ subs_of (take k xs) ++ f.0 ∷ []
+pub take_next : (xs : List Flown) (k : ℕ) (f : Flown) → slice_get xs k ≡ Some f
+    → subs_of (take (k + 1) xs) ≡ subs_of (take k xs) ++ f.0 ∷ []
 take_next xs k f e = ap (λ n. subs_of (take n xs)) (sym (next_is k)) ∙ take_from xs k f e
 
 pub take_every : (xs : List Flown) (k : ℕ) → length xs ≤ k → subs_of (take k xs) ≡ subs_of xs
@@ -43,7 +45,8 @@ module _ (p : Plan) (w : World) (roster : List Flown) (first : List Lent) (h : I
     (lent : AreLent (record w { in_flight = Some (subs_of (take k roster)) }) items) (none : NoneReleased items) (sub : Sub)
     (listings : List Listing) (at : slice_get roster k ≡ Some (sub, listings)) where
   -- the submission at a place
-  abbrev pub acting : (s : Submission) × Contains w.subs s × (is_active s ≡ true) × (sub_of s ≡ sub) × (s.submitted.frame.resources ≡ listings)
+  abbrev pub acting : (s : Submission) × Contains w.subs s × (is_active s ≡ true) × (sub_of s ≡ sub)
+      × (s.submitted.frame.resources ≡ listings)
   acting = h.listed (sub, listings) (at_contains roster k (sub, listings) at)
 
   pub lifts_lender : IsLender sub.client items

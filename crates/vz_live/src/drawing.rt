@@ -29,9 +29,9 @@ impl LiveSurfaces {
         &self.store
     }
 
-    /// A drawing of what is on the root, on a display of a size. At Drawn its submissions hold what
-    /// they list until the frame is done; at Drawn and Unchanged what is seen is remembered. Want of
-    /// memory is the only error, and then nothing changes but that there may be more room.
+    /// A drawing of what is on the root, on a display of a size. At Drawn its submissions hold
+    /// what they list until the frame is done; at Drawn and Unchanged what is seen is remembered.
+    /// Want of memory is the only error, and then nothing changes but that there may be more room.
     pub fn draw(
         &mut self,
         alloc: Global,
@@ -64,8 +64,8 @@ impl LiveSurfaces {
         self.show(alloc, &root, size)
     }
 
-    /// A drawing that walks: the drawn frame is made before it is known whether anything changed, as
-    /// what is measured is remembered, and nothing may fail from then on.
+    /// A drawing that walks: the drawn frame is made before it is known whether anything changed,
+    /// as what is measured is remembered, and nothing may fail from then on.
     fn show(&mut self, alloc: Global, root: &SurfaceId, size: Size) -> Result<Reply, Memory>
         requires shows { (p : Plan) × (w : World) × IsShowing p w root.now size self.old }
         ensures reply { (p : Plan) (w : World) → IsShowing p w root.now size self.old
@@ -95,8 +95,8 @@ impl LiveSurfaces {
     }
 }
 
-/// Each submission of the drawn frame holds what it lists once more. Condition: there are places for
-/// all of their listings.
+/// Each submission of the drawn frame holds what it lists once more. Condition: there are places
+/// for all of their listings.
 fn hold_each(lending: &mut Lending, roster: &Roster)
     requires lifts { (p : Plan) × (w : World) × IsLifting p w roster.now lending.old }
     requires room { (client : ℕ) → HasPlaces (listing_count roster.now) client lending.old }

@@ -10,7 +10,8 @@ loop-k-init c = (λ p w h. h.lent, c.requires.lifts, c.requires.room, c.requires
 pub drawn-requires-clause-known : goal.drawn-requires-clause-known
 drawn-requires-clause-known c =
     let i = c.loop-k.invariant in
-    lifts_lender i.1.0 i.1.1 c.args.roster.now c.args.lending.now i.1.2 c.loop-k.lending c.loop-k.k (i.0 i.1.0 i.1.1 i.1.2) i.3 c.get.result.0 c.get.result.1.now c.get.ensures
+    lifts_lender i.1.0 i.1.1 c.args.roster.now c.args.lending.now i.1.2 c.loop-k.lending c.loop-k.k
+    (i.0 i.1.0 i.1.1 i.1.2) i.3 c.get.result.0 c.get.result.1.now c.get.ensures
 
 pub drawn-requires-clause-drawn : goal.drawn-requires-clause-drawn
 drawn-requires-clause-drawn c =
@@ -20,22 +21,27 @@ drawn-requires-clause-drawn c =
       i.1.0,
       i.1.1,
       _,
-      (acting i.1.0 i.1.1 roster c.args.lending.now i.1.2 c.loop-k.lending c.loop-k.k lent i.3 c.get.result.0 c.get.result.1.now c.get.ensures).0,
-      lifts_next i.1.0 i.1.1 roster c.args.lending.now i.1.2 c.loop-k.lending c.loop-k.k lent i.3 c.get.result.0 c.get.result.1.now c.get.ensures,
+      (acting i.1.0 i.1.1 roster c.args.lending.now i.1.2 c.loop-k.lending c.loop-k.k lent i.3 c.get.result.0 c.get.result.1.now
+          c.get.ensures).0,
+      lifts_next i.1.0 i.1.1 roster c.args.lending.now i.1.2 c.loop-k.lending c.loop-k.k lent i.3 c.get.result.0 c.get.result.1.now
+          c.get.ensures,
     )
 
 pub drawn-requires-clause-room : goal.drawn-requires-clause-room
 drawn-requires-clause-room c =
     let i = c.loop-k.invariant in
-    places_here c.args.roster.now c.loop-k.k (c.get.result.0, c.get.result.1.now) c.get.result.0.client c.loop-k.lending c.get.ensures (i.2 c.get.result.0.client)
+    places_here c.args.roster.now c.loop-k.k (c.get.result.0, c.get.result.1.now) c.get.result.0.client c.loop-k.lending c.get.ensures
+    (i.2 c.get.result.0.client)
 
 pub loop-k-preserved : goal.loop-k-preserved
 loop-k-preserved c =
     let i = c.loop-k.invariant in
     let roster = c.args.roster.now in (
       λ p w h.
-          lifts_more p w roster c.args.lending.now h c.loop-k.lending c.loop-k.k (i.0 p w h) i.3 c.get.result.0 c.get.result.1.now c.get.ensures c.drawn.new.self
-          (c.drawn.ensures.lent p w _ _ (lifts_next p w roster c.args.lending.now h c.loop-k.lending c.loop-k.k (i.0 p w h) i.3 c.get.result.0 c.get.result.1.now c.get.ensures)),
+          lifts_more p w roster c.args.lending.now h c.loop-k.lending c.loop-k.k
+          (i.0 p w h) i.3 c.get.result.0 c.get.result.1.now c.get.ensures c.drawn.new.self
+          (c.drawn.ensures.lent p w _ _ (lifts_next p w roster c.args.lending.now h c.loop-k.lending c.loop-k.k
+          (i.0 p w h) i.3 c.get.result.0 c.get.result.1.now c.get.ensures)),
       i.1,
       λ client.
           c.drawn.ensures.places _ client

@@ -10,7 +10,8 @@ use Rattle.vz_live.proofs.drawing.hold_each.Given as goal
 -- those so far hold what they list, and there are places for the others
 abbrev pub invariant-loop-k : goal.invariant-loop-k
 invariant-loop-k l =
-    ((p : Plan) (w : World) → IsLifting p w l.roster l.fn.lending → AreLent (record w { in_flight = Some (subs_of (take l.k l.roster)) }) l.lending)
+    ((p : Plan) (w : World) → IsLifting p w l.roster l.fn.lending
+    → AreLent (record w { in_flight = Some (subs_of (take l.k l.roster)) }) l.lending)
     × ((p : Plan) × (w : World) × IsLifting p w l.roster l.fn.lending)
     × ((client : ℕ) → HasPlaces (listing_count (drop l.k l.roster)) client l.lending)
     × NoneReleased l.lending

@@ -18,18 +18,21 @@ returns-in_default-clause-reply c p w h =
 
 pub returns-in_default-clause-live : goal.returns-in_default-clause-live
 returns-in_default-clause-live c p w h =
-    live_of p w reply.NoRoot _ (rootless_is p w c.args.root c.args.size _ h (sym c.is_flying.ensures ∙ c.if-is_flying.false) c.in_default.is) h.live
+    live_of p w reply.NoRoot _ (rootless_is p w c.args.root c.args.size _ h
+    (sym c.is_flying.ensures ∙ c.if-is_flying.false) c.in_default.is) h.live
 
 pub returns-then-is_none-clause-reply : goal.returns-then-is_none-clause-reply
 returns-then-is_none-clause-reply c p w h =
     reply_of p w reply.NoRoot
-    (unseen_there p w c.args.root c.in-Some.root c.args.size _ _ c.self.view_is c.in-Some.is h (sym c.is_flying.ensures ∙ c.if-is_flying.false)
+    (unseen_there p w c.args.root c.in-Some.root c.args.size _ _ c.self.view_is c.in-Some.is h
+    (sym c.is_flying.ensures ∙ c.if-is_flying.false)
     (ap is_some (sym c.frame_on.ensures) ∙ (c.is_none.ensures ∙ ap not c.if-is_none.true)))
 
 pub returns-then-is_none-clause-live : goal.returns-then-is_none-clause-live
 returns-then-is_none-clause-live c p w h =
     live_of p w reply.NoRoot _
-    (unseen_there p w c.args.root c.in-Some.root c.args.size _ _ c.self.view_is c.in-Some.is h (sym c.is_flying.ensures ∙ c.if-is_flying.false)
+    (unseen_there p w c.args.root c.in-Some.root c.args.size _ _ c.self.view_is c.in-Some.is h
+    (sym c.is_flying.ensures ∙ c.if-is_flying.false)
     (ap is_some (sym c.frame_on.ensures) ∙ (c.is_none.ensures ∙ ap not c.if-is_none.true))) h.live
 
 pub weight-requires-clause-keeps : goal.weight-requires-clause-keeps
@@ -45,14 +48,16 @@ weight-requires-clause-frames c =
 pub returns-then-is_none-2-clause-reply : goal.returns-then-is_none-2-clause-reply
 returns-then-is_none-2-clause-reply c p w h =
     reply_of p w reply.TooMuch
-    (heavy_there p w c.args.root c.in-Some.root c.args.size _ _ c.self.view_is c.in-Some.is h (sym c.is_flying.ensures ∙ c.if-is_flying.false)
+    (heavy_there p w c.args.root c.in-Some.root c.args.size _ _ c.self.view_is c.in-Some.is h
+    (sym c.is_flying.ensures ∙ c.if-is_flying.false)
     (ap is_some (sym c.frame_on.ensures) ∙ (c.is_none.ensures ∙ ap not c.if-is_none.false)) c.weight.result c.weight.ensures
     (c.is_none-2.ensures ∙ ap not c.if-is_none-2.true))
 
 pub returns-then-is_none-2-clause-live : goal.returns-then-is_none-2-clause-live
 returns-then-is_none-2-clause-live c p w h =
     live_of p w reply.TooMuch _
-    (heavy_there p w c.args.root c.in-Some.root c.args.size _ _ c.self.view_is c.in-Some.is h (sym c.is_flying.ensures ∙ c.if-is_flying.false)
+    (heavy_there p w c.args.root c.in-Some.root c.args.size _ _ c.self.view_is c.in-Some.is h
+    (sym c.is_flying.ensures ∙ c.if-is_flying.false)
     (ap is_some (sym c.frame_on.ensures) ∙ (c.is_none.ensures ∙ ap not c.if-is_none.false)) c.weight.result c.weight.ensures
     (c.is_none-2.ensures ∙ ap not c.if-is_none-2.true)) h.live
 
@@ -63,7 +68,8 @@ show-requires c =
       shows = (
         x.0,
         x.1,
-        shows_there x.0 x.1 c.args.root c.in-Some.root c.args.size _ _ c.self.view_is c.in-Some.is x.2 (sym c.is_flying.ensures ∙ c.if-is_flying.false)
+        shows_there x.0 x.1 c.args.root c.in-Some.root c.args.size _ _ c.self.view_is c.in-Some.is x.2
+            (sym c.is_flying.ensures ∙ c.if-is_flying.false)
             (ap is_some (sym c.frame_on.ensures) ∙ (c.is_none.ensures ∙ ap not c.if-is_none.false)) c.weight.result c.weight.ensures
             (c.is_none-2.ensures ∙ ap not c.if-is_none-2.false),
       );
@@ -72,13 +78,15 @@ show-requires c =
 pub returns-clause-reply : goal.returns-clause-reply
 returns-clause-reply c p w h =
     c.show.ensures.reply p w
-    (shows_there p w c.args.root c.in-Some.root c.args.size _ _ c.self.view_is c.in-Some.is h (sym c.is_flying.ensures ∙ c.if-is_flying.false)
+    (shows_there p w c.args.root c.in-Some.root c.args.size _ _ c.self.view_is c.in-Some.is h
+    (sym c.is_flying.ensures ∙ c.if-is_flying.false)
     (ap is_some (sym c.frame_on.ensures) ∙ (c.is_none.ensures ∙ ap not c.if-is_none.false)) c.weight.result c.weight.ensures
     (c.is_none-2.ensures ∙ ap not c.if-is_none-2.false))
 
 pub returns-clause-live : goal.returns-clause-live
 returns-clause-live c p w h =
     c.show.ensures.live p w
-    (shows_there p w c.args.root c.in-Some.root c.args.size _ _ c.self.view_is c.in-Some.is h (sym c.is_flying.ensures ∙ c.if-is_flying.false)
+    (shows_there p w c.args.root c.in-Some.root c.args.size _ _ c.self.view_is c.in-Some.is h
+    (sym c.is_flying.ensures ∙ c.if-is_flying.false)
     (ap is_some (sym c.frame_on.ensures) ∙ (c.is_none.ensures ∙ ap not c.if-is_none.false)) c.weight.result c.weight.ensures
     (c.is_none-2.ensures ∙ ap not c.if-is_none-2.false))

@@ -46,8 +46,9 @@ hold_each-requires-clause-lifts c =
     let h = subst (IsShowing x.0 x.1 c.args.root.now c.args.size) (sym c.self.view_is) x.2 in (
       x.0,
       x.1,
-      lifting x.0 x.1 c.args.root.now c.args.size _ h c.in_ok-flight.flight c.roster-roster.result.now c.ready_to_draw.new.self c.in_ok-flight.ensures.flown
-          c.roster-roster.ensures (c.ready_to_draw.ensures.lent x.1 h.drawing.live.lent) (c.ready_to_draw.ensures.released h.drawing.none_released),
+      lifting x.0 x.1 c.args.root.now c.args.size _ h c.in_ok-flight.flight c.roster-roster.result.now c.ready_to_draw.new.self
+          c.in_ok-flight.ensures.flown c.roster-roster.ensures (c.ready_to_draw.ensures.lent x.1 h.drawing.live.lent)
+          (c.ready_to_draw.ensures.released h.drawing.none_released),
     )
 
 pub hold_each-requires-clause-room : goal.hold_each-requires-clause-room
@@ -81,9 +82,11 @@ pub returns-in-Some-2-clause-live : goal.returns-in-Some-2-clause-live
 returns-in-Some-2-clause-live c p w x =
     let h = subst (IsShowing p w c.args.root.now c.args.size) (sym c.self.view_is) x in
     let roster = c.roster-roster.result.now in
-    let lifts = lifting p w c.args.root.now c.args.size _ h c.in_ok-flight.flight roster c.ready_to_draw.new.self c.in_ok-flight.ensures.flown
-    c.roster-roster.ensures (c.ready_to_draw.ensures.lent w h.drawing.live.lent) (c.ready_to_draw.ensures.released h.drawing.none_released) in
-    live_drawn p w c.args.root.now c.args.size _ h c.in_ok-flight.flight roster c.hold_each.new.lending c.measure.new.self c.in-Some-2.damage
+    let lifts = lifting p w c.args.root.now c.args.size _ h c.in_ok-flight.flight roster c.ready_to_draw.new.self
+    c.in_ok-flight.ensures.flown c.roster-roster.ensures (c.ready_to_draw.ensures.lent w h.drawing.live.lent)
+    (c.ready_to_draw.ensures.released h.drawing.none_released) in
+    live_drawn p w c.args.root.now c.args.size _ h c.in_ok-flight.flight roster c.hold_each.new.lending c.measure.new.self
+    c.in-Some-2.damage
     c.in_ok-flight.ensures.flown c.roster-roster.ensures
     (reply_is p w c.args.root.now c.args.size _ h (Some c.in-Some-2.damage) (sym c.in-Some-2.is ∙ c.in_ok-measure.ensures.damage))
     (c.hold_each.ensures.lent p w lifts) c.in_ok-measure.ensures.told c.in_ok-measure.ensures.last
