@@ -9,7 +9,8 @@ use Rattle.vz_ids.specs.Ids.{same_sub}
 use Rattle.vz_rules.specs.World.{FrameData, Submission, active_frames, has_sub, is_active, sub_of}
 use Rattle.vz_rules.specs.Walk.{Visit, goes_into}
 use Rattle.vz_rules.specs.Kept.{stands_in}
-use Rattle.vz_rules.proofs.Members.{contains_here, contains_there, contains_at, contains_map, map_contains, any_at, any_from, none_at, filter_at, filter_has}
+use Rattle.vz_rules.proofs.Members.{contains_here, contains_there, contains_at, contains_map, map_contains}
+use Rattle.vz_rules.proofs.Members.{any_at, any_from, none_at, filter_at, filter_has}
 use Rattle.vz_rules.proofs.Kept_accepted.{subs_differ}
 use Rattle.vz_surfaces.specs.Stored.{Stored}
 use Rattle.vz_surfaces.specs.Reading.{seen_frames}

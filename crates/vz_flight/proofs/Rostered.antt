@@ -154,7 +154,8 @@ seen_alone st keeps i j c d e =
 pub walk_is_roster : (size : Size) (root : SurfaceId) (st : Stored) → KeepsStored st
     → IsRosterOf (flown_from size root st) (met_in (walked_in size root st))
 walk_is_roster size root st keeps =
-    met_is_roster (seen_frames st) (walked_in size root st) (goes_to_active size (scene_in root st)) (seen_alone st keeps) (seen_apart st keeps)
+    met_is_roster (seen_frames st) (walked_in size root st) (goes_to_active size (scene_in root st)) (seen_alone st keeps)
+    (seen_apart st keeps)
 
 -- The visitor
 

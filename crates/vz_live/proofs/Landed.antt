@@ -23,6 +23,7 @@ use Rattle.vz_feeding.specs.Owing.{Owed, OwedAndRoom, AreOwed}
 use Rattle.vz_feeding.proofs.Owes.{owes_same}
 use Rattle.vz_flight.specs.Flying.{Flown, AreFlown, subs_of}
 use Rattle.vz_flight.specs.Drawn.{IsRosterOf}
+use Rattle.vz_flight.proofs.Staying.{flown_none}
 use Rattle.vz_flight.proofs.Standing.{roster_feeds, roster_fed, roster_feed}
 use Rattle.vz_live.specs.Living.{Live, AreLive}
 use Rattle.vz_live.specs.Landing.{IsFlying, IsLanding}
@@ -32,7 +33,8 @@ some_same : {A : Type 0} {a b : A} → Some a ≡ Some b → a ≡ b
 some_same f = cc
 
 done_by : (w : World) (o : Option (List Sub)) (drawn : List Sub) → o ≡ Some drawn
-    → KeepsAlways (cond (is_some o) (says reply.Shown (record w { in_flight = None })) (says reply.Nothing w)).world → KeepsAlways (landed w)
+    → KeepsAlways (cond (is_some o) (says reply.Shown (record w { in_flight = None })) (says reply.Nothing w)).world
+    → KeepsAlways (landed w)
 done_by w None drawn e h = absurd (cc)
 done_by w (Some d) drawn e h = h
 
@@ -42,7 +44,8 @@ unfolding answer_to done_answer
 always_landed w drawn e h =
     done_by w w.in_flight drawn e (always_answer (record { files = []; size = record { w = pos 1; h = pos 1 } }) w event.Done h)
 
-presented_subs : (drawn : List Sub) (w : World) → (presenting drawn (landed w)).world.subs ≡ map (mark_fed (give_back (landed w)) drawn) w.subs
+presented_subs : (drawn : List Sub) (w : World)
+    → (presenting drawn (landed w)).world.subs ≡ map (mark_fed (give_back (landed w)) drawn) w.subs
 unfolding feed give_back
 presented_subs drawn w = refl
 
@@ -57,10 +60,8 @@ none_presented : (drawn : List Sub) (w : World) → (presenting drawn (landed w)
 unfolding feed give_back
 none_presented drawn w = refl
 
-none_flown : (w : World) → w.in_flight ≡ None → AreFlown w None
-none_flown w e = record { drawn = e; listed = λ flown f is there. let no : ◌≡◌ {A = Option (List Flown)} None (Some flown) = is in absurd (cc) }
-
-pub live_presented : (w : World) (drawn : List Sub) (v : Live) (lent : List Lent) (owed : OwedAndRoom) (flight : Option (List Flown)) → flight ≡ None → AreLive w None v
+pub live_presented : (w : World) (drawn : List Sub) (v : Live) (lent : List Lent) (owed : OwedAndRoom) (flight : Option (List Flown))
+    → flight ≡ None → AreLive w None v
     → AreLent (give_back (landed w)) lent → AreOwed (presenting drawn (landed w)).world owed.owed
     → AreLive (presenting drawn (landed w)).world None (record v { lent = lent; owed = owed; flight = flight })
 live_presented w drawn v lent owed flight none h is_lent is_owed =
@@ -68,9 +69,10 @@ live_presented w drawn v lent owed flight none h is_lent is_owed =
     let done : World = (presenting drawn (landed w)).world in
     live_from w done None None v _ (mark_fed given drawn) (presented_subs drawn w) (feeds_only given drawn)
     (h.store ∙ sym (stored_presented drawn w)) (lent_fed drawn given lent is_lent) is_owed
-    (stays_fed drawn given None v.kept (stays_given (landed w) None v.kept (stays_same w (landed w) None v.kept refl refl refl (λ n. refl) h.kept)))
+    (stays_fed drawn given None v.kept (stays_given (landed w) None v.kept
+    (stays_same w (landed w) None v.kept refl refl refl (λ n. refl) h.kept)))
     (told_stays w done v.damaged tells_exists (stored_presented drawn w) (last_fed drawn given ∙ last_given (landed w)) h.told)
-    (subst (AreFlown done) (sym none) (none_flown done (none_presented drawn w))) refl (omega arith) h
+    (subst (AreFlown done) (sym none) (flown_none done (none_presented drawn w))) refl (omega arith) h
 
 module _ (w : World) (drawn : List Sub) (v : Live) (h : IsFlying w drawn v) (flown roster : List Flown) (e : v.flight ≡ Some flown)
     (is : IsRosterOf flown roster) where
@@ -96,11 +98,13 @@ module _ (w : World) (drawn : List Sub) (v : Live) (h : IsFlying w drawn v) (flo
   rostered = record w { in_flight = Some (subs_of roster) }
 
   pub owed_rostered : AreOwed rostered v.owed.owed
-  owed_rostered = owes_same (feedback_of w []) (feedback_of rostered []) w.subs v.owed.owed (λ s c. roster_feeds w flown roster flown_is is [] s) h.live.owed
+  owed_rostered = owes_same (feedback_of w []) (feedback_of rostered []) w.subs v.owed.owed
+      (λ s c. roster_feeds w flown roster flown_is is [] s) h.live.owed
 
   pub fed_drawn : (before list : List Fed) → list ≡ before ++ fed_in (subs_of roster) (landed w) → list ≡ before ++ fed_in drawn (landed w)
   fed_drawn before list f =
-      f ∙ ap (λ (l : List Fed). before ++ l) (roster_fed (landed w) flown roster is ∙ ap (λ (l : List Sub). fed_in l (landed w)) (sym drawn_is))
+      f ∙ ap (λ (l : List Fed). before ++ l)
+      (roster_fed (landed w) flown roster is ∙ ap (λ (l : List Sub). fed_in l (landed w)) (sym drawn_is))
 
   pub owed_drawn : (f : Owed) → AreOwed (presenting (subs_of roster) (landed w)).world f → AreOwed (presenting drawn (landed w)).world f
   owed_drawn f o =

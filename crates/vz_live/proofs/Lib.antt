@@ -13,3 +13,5 @@ pub mod Reaches
 mod Setting
 mod Released
 mod Landed
+mod Lifted
+mod Drawn

@@ -1,5 +1,6 @@
 -- The submissions of a drawn frame release what they list, one after the other.
-use Rattle.std.proofs.Common.{◌≡◌, ℕ, zero, suc, ◌+◌, ◌≤◌, Some, List, [], ◌∷◌, length, drop, slice_get, ap, sym, ◌∙◌, subst, arith, Contains}
+use Rattle.std.proofs.Common.{◌≡◌, ℕ, zero, suc, ◌+◌, ◌≤◌, Some, List, []}
+use Rattle.std.proofs.Common.{◌∷◌, length, drop, slice_get, ap, sym, ◌∙◌, subst, arith, Contains}
 use Rattle.std.proofs.Math.ListN.{drop_of_length-le}
 use Rattle.vz_ids.specs.declared.Sub.{Sub}
 use Rattle.vz_frame.specs.declared.frame.Listing.{Listing}

@@ -4,3 +4,4 @@ pub mod Changes
 pub mod Arriving
 pub mod Rooting
 pub mod Landing
+pub mod Drawing

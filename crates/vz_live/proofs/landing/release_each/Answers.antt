@@ -7,7 +7,8 @@ use Rattle.vz_live.proofs.landing.release_each.Goals as goal
 pub landed-requires-clause-known : goal.landed-requires-clause-known
 landed-requires-clause-known c =
     let i = c.loop-k.invariant in
-    lands_lender i.1.0 c.args.roster.now c.args.lending.now i.1.1 c.loop-k.lending c.loop-k.k (i.0 i.1.0 i.1.1) c.get.result.0 c.get.result.1.now c.get.ensures
+    lands_lender i.1.0 c.args.roster.now c.args.lending.now i.1.1 c.loop-k.lending c.loop-k.k
+    (i.0 i.1.0 i.1.1) c.get.result.0 c.get.result.1.now c.get.ensures
 
 pub landed-requires-clause-done : goal.landed-requires-clause-done
 landed-requires-clause-done c =
@@ -23,7 +24,8 @@ landed-requires-clause-done c =
 pub loop-k-preserved : goal.loop-k-preserved
 loop-k-preserved c =
     let i = c.loop-k.invariant in (
-      λ w h. c.landed.ensures.lent w _ _ (lands_next w c.args.roster.now c.args.lending.now h c.loop-k.lending c.loop-k.k (i.0 w h) c.get.result.0 c.get.result.1.now c.get.ensures),
+      λ w h. c.landed.ensures.lent w _ _ (lands_next w c.args.roster.now c.args.lending.now h c.loop-k.lending c.loop-k.k
+          (i.0 w h) c.get.result.0 c.get.result.1.now c.get.ensures),
       i.1,
       c.landed.ensures.out ∙ i.2,
     )

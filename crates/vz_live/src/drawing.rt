@@ -1,0 +1,112 @@
+//! A frame is drawn.
+ghost use Rattle.std.specs.Prelude.{◌≡◌, ℕ, None, Some, Option, IfOk, OnOk, OnErr};
+ghost use Rattle.vz_ids.specs.declared.SurfaceId.{SurfaceId as Id};
+ghost use Rattle.vz_rules.specs.Plan.{Plan};
+ghost use Rattle.vz_rules.specs.World.{World};
+ghost use Rattle.vz_rules.specs.Step.{draw_answer};
+ghost use Rattle.vz_lending.specs.Lent.{AreLent, NoneReleased, HasPlaces, resources_out};
+ghost use Rattle.vz_flight.specs.Flying.{subs_of};
+ghost use Rattle.vz_flight.specs.Drawn.{listing_count};
+ghost use Rattle.vz_live.specs.Living.{AreLive};
+ghost use Rattle.vz_live.specs.Drawing.{IsDrawing, IsShowing, IsLifting};
+
+use crate::live::LiveSurfaces;
+use std::alloc::Global;
+use vz_base::Memory;
+use vz_flight::{Roster, fly};
+use vz_geom::Size;
+use vz_ids::SurfaceId;
+use vz_lending::Lending;
+use vz_rules::Reply;
+use vz_surfaces::Store;
+use vz_walk::weight;
+
+impl LiveSurfaces {
+    /// The surfaces and submissions, of which what is drawn is read.
+    pub fn store(&self) -> &Store
+        ensures { result.now ≡ self.now.store }
+    {
+        &self.store
+    }
+
+    /// A drawing of what is on the root, on a display of a size. At Drawn its submissions hold
+    /// what they list until the frame is done; at Drawn and Unchanged what is seen is remembered.
+    /// Want of memory is the only error, and then nothing changes but that there may be more room.
+    pub fn draw(
+        &mut self,
+        alloc: Global,
+        root: Option<SurfaceId>,
+        size: Size,
+    ) -> Result<Reply, Memory>
+        requires draws { (p : Plan) × (w : World) × IsDrawing p w root size self.old }
+        ensures reply { (p : Plan) (w : World) → IsDrawing p w root size self.old
+            → IfOk result (λ r. r ≡ (draw_answer p w).reply) }
+        ensures live { (p : Plan) (w : World) → IsDrawing p w root size self.old
+            → OnOk result (AreLive (draw_answer p w).world None self.new) }
+        ensures kept { (w : World) (but : Option Id) → AreLive w but self.old
+            → OnErr result (AreLive w but self.new) }
+        ensures err { OnErr result (self.new ≡ record self.old { lent = self.new.lent }) }
+        ensures released { NoneReleased self.new.lent }
+        ensures out { resources_out self.new.lent ≡ resources_out self.old.lent }
+    {
+        if self.is_flying() {
+            return Ok(Reply::Busy);
+        }
+        let Some(root) = root else {
+            return Ok(Reply::NoRoot);
+        };
+        if self.store.frame_on(&root).is_none() {
+            return Ok(Reply::NoRoot);
+        }
+        if weight(&self.store, &root).is_none() {
+            return Ok(Reply::TooMuch);
+        }
+        self.show(alloc, &root, size)
+    }
+
+    /// A drawing that walks: the drawn frame is made before it is known whether anything changed,
+    /// as what is measured is remembered, and nothing may fail from then on.
+    fn show(&mut self, alloc: Global, root: &SurfaceId, size: Size) -> Result<Reply, Memory>
+        requires shows { (p : Plan) × (w : World) × IsShowing p w root.now size self.old }
+        ensures reply { (p : Plan) (w : World) → IsShowing p w root.now size self.old
+            → IfOk result (λ r. r ≡ (draw_answer p w).reply) }
+        ensures live { (p : Plan) (w : World) → IsShowing p w root.now size self.old
+            → OnOk result (AreLive (draw_answer p w).world None self.new) }
+        ensures kept { (w : World) (but : Option Id) → AreLive w but self.old
+            → OnErr result (AreLive w but self.new) }
+        ensures err { OnErr result (self.new ≡ record self.old { lent = self.new.lent }) }
+        ensures released { NoneReleased self.new.lent }
+        ensures out { resources_out self.new.lent ≡ resources_out self.old.lent }
+    {
+        let flight = fly(alloc, &self.store, root, size)?;
+        let roster = flight.roster();
+        let Some(listings) = roster.listings() else {
+            return Err(Memory);
+        };
+        self.lending.ready_to_draw(listings)?;
+        match self.damage.measure(&self.store, root, size)? {
+            None => Ok(Reply::Unchanged),
+            Some(damage) => {
+                hold_each(&mut self.lending, roster);
+                self.flight = Some(flight);
+                Ok(Reply::Drawn(damage))
+            }
+        }
+    }
+}
+
+/// Each submission of the drawn frame holds what it lists once more. Condition: there are places
+/// for all of their listings.
+fn hold_each(lending: &mut Lending, roster: &Roster)
+    requires lifts { (p : Plan) × (w : World) × IsLifting p w roster.now lending.old }
+    requires room { (client : ℕ) → HasPlaces (listing_count roster.now) client lending.old }
+    ensures lent { (p : Plan) (w : World) → IsLifting p w roster.now lending.old
+        → AreLent (record w { in_flight = Some (subs_of roster.now) }) lending.new }
+    ensures released { NoneReleased lending.new }
+    ensures out { resources_out lending.new ≡ resources_out lending.old }
+{
+    for k in 0..roster.len() {
+        let (sub, listings) = roster.get(k);
+        lending.drawn(sub.client, listings);
+    }
+}
