@@ -46,6 +46,11 @@ impl LiveSurfaces {
         ensures kept { (w : World) (but : Option Id) → AreLive w but self.old
             → OnErr result (AreLive w but self.new) }
         ensures err { OnErr result (self.new ≡ record self.old { lent = self.new.lent }) }
+        ensures rest { self.new ≡ record self.old {
+          lent = self.new.lent;
+          damaged = self.new.damaged;
+          flight = self.new.flight;
+        } }
         ensures released { NoneReleased self.new.lent }
         ensures out { resources_out self.new.lent ≡ resources_out self.old.lent }
     {
@@ -75,6 +80,11 @@ impl LiveSurfaces {
         ensures kept { (w : World) (but : Option Id) → AreLive w but self.old
             → OnErr result (AreLive w but self.new) }
         ensures err { OnErr result (self.new ≡ record self.old { lent = self.new.lent }) }
+        ensures rest { self.new ≡ record self.old {
+          lent = self.new.lent;
+          damaged = self.new.damaged;
+          flight = self.new.flight;
+        } }
         ensures released { NoneReleased self.new.lent }
         ensures out { resources_out self.new.lent ≡ resources_out self.old.lent }
     {
