@@ -1,5 +1,7 @@
 -- Marked surfaces by client, and which of them are lost.
-use Rattle.std.proofs.Common.{◌≡◌, ℕ, zero, suc, ◌+◌, ◌-◌, ◌≤◌, ◌<◌, ◌==◌, Bool, true, false, not, ◌&&◌, inl, inr, Option, Some, None, List, [], ◌∷◌, ◌++◌, length, map, filter, refl, ap, sym, ◌∙◌, subst, arith, cond, slice_get, Contains, append_assoc, append-nil}
+use Rattle.std.proofs.Common.{◌≡◌, ℕ, zero, suc, ◌+◌, ◌-◌, ◌≤◌, ◌<◌, ◌==◌, Bool, true, false, not, ◌&&◌, inl, inr, Option, Some, None, List}
+use Rattle.std.proofs.Common.{[], ◌∷◌, ◌++◌, length, map, filter, refl, ap, sym, ◌∙◌, subst, arith, cond, slice_get, Contains, append_assoc}
+use Rattle.std.proofs.Common.{append-nil}
 use Rattle.std.specs.Prelude.{nat_le}
 use Rattle.std.specs.List.{flat_map, filter_map, cons_option}
 use Rattle.std.proofs.lemmas.Bool.{and_from, and_parts, eqb-true, eq-eqb, leb-true, leb-false, false_from_ne_true}
@@ -9,7 +11,8 @@ use Rattle.vz_rules.specs.declared.entry.Lost.{Lost}
 use Rattle.vz_rules.specs.World.{World, Client, Created}
 use Rattle.vz_rules.specs.Reach.{has_id, naming, reach, is_lost, lost_in, lost_of, destroyed_in}
 use Rattle.vz_rules.specs.Kept.{KeepsAlways}
-use Rattle.vz_rules.proofs.Members.{contains_here, contains_there, contains_cases, contains_none, contains_at, at_same, at_within, append_contains, filter_at, filter_has, filter_none}
+use Rattle.vz_rules.proofs.Members.{contains_here, contains_there, contains_cases, contains_none, contains_at, at_same, at_within}
+use Rattle.vz_rules.proofs.Members.{append_contains, filter_at, filter_has, filter_none}
 use Rattle.vz_rules.proofs.Kept_facts.{surfaces_apart}
 use Rattle.vz_surfaces.specs.Stored.{stored_of}
 use Rattle.vz_surfaces.specs.Reading.{marked_of, marked_to}
@@ -42,7 +45,8 @@ unfolding marked_to
 marked_are zero w = refl
 marked_are (suc n) w =
     ap (λ l. l ++ marked_of (n + 1) (stored_of w)) (marked_are n w)
-    ∙ (ap (λ l. map (λ (c : Created). c.id) (to (made w) n) ++ l) (tells_marked w (n + 1)) ∙ sym (map-append (λ (c : Created). c.id) (to (made w) n) (made w (n + 1))))
+    ∙ (ap (λ l. map (λ (c : Created). c.id) (to (made w) n) ++ l) (tells_marked w (n + 1))
+    ∙ sym (map-append (λ (c : Created). c.id) (to (made w) n) (made w (n + 1))))
 
 -- Members
 
@@ -78,7 +82,8 @@ to_has g (suc n) i x some few c = by (nat_le i n) refl (λ h. to_has g n i x som
 
 -- No two are of one id
 
-made_client : (w : World) (c : ℕ) (s : Created) → Contains (made w c) s → Contains w.surfaces s × (s.client ≡ c) × (s.marked ≡ true) × (s.destroyed ≡ false)
+made_client : (w : World) (c : ℕ) (s : Created) → Contains (made w c) s
+    → Contains w.surfaces s × (s.client ≡ c) × (s.marked ≡ true) × (s.destroyed ≡ false)
 made_client w c s m =
     let f = filter_at (λ (s : Created). (s.client == c) && s.marked && not s.destroyed) w.surfaces s m in
     let outer = and_parts ((s.client == c) && s.marked) (not s.destroyed) f.1 in
@@ -90,7 +95,8 @@ made_client w c s m =
     stands false e = refl
 
 -- of one that is marked: it was created, is marked, and exists
-pub to_made : (w : World) (n : ℕ) (s : Created) → Contains (to (made w) n) s → Contains w.surfaces s × (s.marked ≡ true) × (s.destroyed ≡ false)
+pub to_made : (w : World) (n : ℕ) (s : Created) → Contains (to (made w) n) s
+    → Contains w.surfaces s × (s.marked ≡ true) × (s.destroyed ≡ false)
 to_made w n s c =
     let at = to_at (made w) n s c in
     let m = made_client w at.0 s at.2 in
@@ -133,12 +139,15 @@ module _ (w : World) (h : KeepsAlways w) where
       filter_has (unreached w) (to (made w) 16) s
       (to_has (made w) 16 s.client s client.0 (omega (arith, client.1, few))
       (filter_has (λ (x : Created). (x.client == s.client) && x.marked && not x.destroyed) w.surfaces s f.0
-      (and_from ((s.client == s.client) && s.marked) (not s.destroyed) (and_from (s.client == s.client) s.marked (eq-eqb s.client s.client refl) inner.0) inner.1))) outer.1
+      (and_from ((s.client == s.client) && s.marked) (not s.destroyed)
+      (and_from (s.client == s.client) s.marked (eq-eqb s.client s.client refl) inner.0) inner.1))) outer.1
 
-pub there_lost : (w : World) (s : Created) → Contains w.surfaces s → s.marked ≡ true → s.destroyed ≡ false → unreached w s ≡ true → Contains (lost_in w) s
+pub there_lost : (w : World) (s : Created) → Contains w.surfaces s → s.marked ≡ true → s.destroyed ≡ false → unreached w s ≡ true
+    → Contains (lost_in w) s
 unfolding lost_in
 there_lost w s c marked stands out =
-    filter_has (is_lost (reach w)) w.surfaces s c (and_from (s.marked && not s.destroyed) (unreached w s) (and_from s.marked (not s.destroyed) marked (ap not stands)) out)
+    filter_has (is_lost (reach w)) w.surfaces s c (and_from (s.marked && not s.destroyed) (unreached w s)
+    (and_from s.marked (not s.destroyed) marked (ap not stands)) out)
 
 pub losing_lost : (w : World) (s : Created) → Contains (losing w) s → Contains (lost_in w) s
 losing_lost w s c =
@@ -165,15 +174,18 @@ told_to : (w : World) (n : ℕ) → map told_of (filter (unreached w) (to (made 
 told_to w zero = refl
 told_to w (suc n) =
     ap (map told_of) (filter_joined (unreached w) (to (made w) n) (made w (n + 1)))
-    ∙ (map-append told_of (filter (unreached w) (to (made w) n)) (filter (unreached w) (made w (n + 1))) ∙ ap (λ l. l ++ told_by w (n + 1)) (told_to w n))
+    ∙ (map-append told_of (filter (unreached w) (to (made w) n)) (filter (unreached w) (made w (n + 1)))
+    ∙ ap (λ l. l ++ told_by w (n + 1)) (told_to w n))
 
 -- one surface of a list, as it is told for a client: with a for being of the client, m for marked, d for destroyed and k for reached
 told_first : (w : World) (a m d k : Bool) (s : Created) (xs zs : List Created) (ys : List Lost) (f : Created → Option Lost)
     → f s ≡ cond a (Some (told_of s)) None → unreached w s ≡ not k → filter_map f xs ≡ map told_of (filter (unreached w) zs)
     → filter_map f (cond ((m && not d) && not k) (s ∷ xs) xs) ≡ map told_of (filter (unreached w) (cond ((a && m) && not d) (s ∷ zs) zs))
 told_first w true true false false s xs zs ys f e g h =
-    ap (λ (o : Option Lost). cons_option o (filter_map f xs)) e ∙ (ap (λ l. told_of s ∷ l) h ∙ ap (λ (t : Bool). map told_of (cond t (s ∷ filter (unreached w) zs) (filter (unreached w) zs))) (sym g))
-told_first w true true false true s xs zs ys f e g h = h ∙ ap (λ (t : Bool). map told_of (cond t (s ∷ filter (unreached w) zs) (filter (unreached w) zs))) (sym g)
+    ap (λ (o : Option Lost). cons_option o (filter_map f xs)) e
+    ∙ (ap (λ l. told_of s ∷ l) h ∙ ap (λ (t : Bool). map told_of (cond t (s ∷ filter (unreached w) zs) (filter (unreached w) zs))) (sym g))
+told_first w true true false true s xs zs ys f e g h = h ∙ ap
+    (λ (t : Bool). map told_of (cond t (s ∷ filter (unreached w) zs) (filter (unreached w) zs))) (sym g)
 told_first w true true true k s xs zs ys f e g h = h
 told_first w true false d k s xs zs ys f e g h = h
 told_first w false true false false s xs zs ys f e g h = ap (λ (o : Option Lost). cons_option o (filter_map f xs)) e ∙ h
@@ -186,7 +198,8 @@ told_of_client : (w : World) (c : ℕ) (ss : List Created)
     ≡ map told_of (filter (unreached w) (filter (λ (s : Created). (s.client == c) && s.marked && not s.destroyed) ss))
 told_of_client w c [] = refl
 told_of_client w c (s ∷ ss) =
-    told_first w (s.client == c) s.marked s.destroyed (has_id (reach w) s.id) s _ _ [] (λ (s : Created). cond (s.client == c) (Some (told_of s)) None) refl refl (told_of_client w c ss)
+    told_first w (s.client == c) s.marked s.destroyed (has_id (reach w) s.id) s _ _ []
+    (λ (s : Created). cond (s.client == c) (Some (told_of s)) None) refl refl (told_of_client w c ss)
 
 lost_told : (w : World) (c : Client) → lost_of (lost_in w) c ≡ told_by w c.number
 unfolding lost_in
@@ -199,7 +212,8 @@ NumberedFrom n cs = (k : ℕ) (c : Client) → slice_get cs k ≡ Some c → c.n
 same_to : {B : Type 0} (g : ℕ → List B) (n m : ℕ) → n ≡ m → to g n ≡ to g m
 same_to g n m e = ap (to g) e
 
-flat_to : (w : World) (n : ℕ) (cs : List Client) → NumberedFrom n cs → to (told_by w) n ++ flat_map (lost_of (lost_in w)) cs ≡ to (told_by w) (length cs + n)
+flat_to : (w : World) (n : ℕ) (cs : List Client) → NumberedFrom n cs
+    → to (told_by w) n ++ flat_map (lost_of (lost_in w)) cs ≡ to (told_by w) (length cs + n)
 flat_to w n [] h = append-nil (to (told_by w) n) ∙ same_to (told_by w) n (0 + n) (omega arith)
 flat_to w n (c ∷ cs) h =
     let number : c.number ≡ n + 1 = omega (arith, h 0 c refl) in
@@ -217,8 +231,10 @@ none_beyond g n (suc k) h =
 
 none_told : (w : World) → KeepsAlways w → (i : ℕ) → length w.clients < i → told_by w i ≡ []
 none_told w h i beyond =
-    ap (λ l. map told_of (filter (unreached w) l)) (filter_none (λ (s : Created). (s.client == i) && s.marked && not s.destroyed) w.surfaces (λ s c.
-    not_of s.marked (not s.destroyed) (false_from_ne_true (s.client == i) (λ e. omega (arith, beyond, eqb-true s.client i e, (client_at w h s c).1)))))
+    ap (λ l. map told_of (filter (unreached w) l)) (filter_none
+    (λ (s : Created). (s.client == i) && s.marked && not s.destroyed) w.surfaces (λ s c.
+    not_of s.marked (not s.destroyed) (false_from_ne_true (s.client == i)
+    (λ e. omega (arith, beyond, eqb-true s.client i e, (client_at w h s c).1)))))
   where
     not_of : {a : Bool} (b d : Bool) → a ≡ false → ((a && b) && d) ≡ false
     not_of b d e = ap (λ t. (t && b) && d) e

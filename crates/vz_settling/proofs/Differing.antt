@@ -1,5 +1,6 @@
 -- Submissions and surfaces of a state that are told apart.
-use Rattle.std.proofs.Common.{◌≡◌, ℕ, zero, suc, Bool, true, false, inl, inr, Some, List, [], ◌∷◌, ◌++◌, filter, refl, cond, slice_get, Contains}
+use Rattle.std.proofs.Common.{◌≡◌, ℕ, zero, suc, Bool, true, false, inl, inr, Some, List, [], ◌∷◌, ◌++◌, filter, refl, cond, slice_get}
+use Rattle.std.proofs.Common.{Contains}
 use Rattle.std.proofs.lemmas.Bool.{false_from_ne_true}
 use Rattle.vz_ids.specs.Ids.{same_sub, same_surface}
 use Rattle.vz_rules.specs.World.{World, Submission, Created, sub_of}
@@ -38,7 +39,8 @@ module _ {A : Type 0} (same : A → A → Bool) where
         | false ↦ rest
       ]
 
-  pub differ_joined : (xs ys : List A) → DifferBy xs → DifferBy ys → ((x y : A) → Contains xs x → Contains ys y → same y x ≡ false) → DifferBy (xs ++ ys)
+  pub differ_joined : (xs ys : List A) → DifferBy xs → DifferBy ys → ((x y : A) → Contains xs x → Contains ys y → same y x ≡ false)
+      → DifferBy (xs ++ ys)
   differ_joined [] ys h k across = k
   differ_joined (x ∷ xs) ys h k across = (
     λ y c. elim (append_contains xs ys y c) [ inl m ↦ h.0 y m | inr m ↦ across x y (contains_here x xs) m ],

@@ -1,5 +1,6 @@
 -- A collection, while surfaces are destroyed one after another.
-use Rattle.std.proofs.Common.{◌≡◌, ◌==◌, ℕ, ◌+◌, ◌<◌, ◌≤◌, Bool, true, false, not, Option, None, List, [], ◌∷◌, ◌++◌, length, map, filter, refl, ap, sym, ◌∙◌, subst, arith, cond, Contains, append_assoc, append-nil, slice_index_or}
+use Rattle.std.proofs.Common.{◌≡◌, ◌==◌, ℕ, ◌+◌, ◌<◌, ◌≤◌, Bool, true, false, not, Option, None, List, [], ◌∷◌, ◌++◌, length, map, filter}
+use Rattle.std.proofs.Common.{refl, ap, sym, ◌∙◌, subst, arith, cond, Contains, append_assoc, append-nil, slice_index_or}
 use Rattle.std.proofs.lemmas.List.{map-append, length-map}
 use Rattle.vz_ids.specs.declared.SurfaceId.{SurfaceId}
 use Rattle.vz_ids.specs.Ids.{same_surface}
@@ -26,7 +27,8 @@ use Rattle.vz_settling.specs.Collects.{IsToCollect, IsDestroying}
 use Rattle.std.proofs.lemmas.Bool.{eqb-true}
 use Rattle.vz_settling.proofs.Rounded.{none_long}
 use Rattle.vz_settling.proofs.Differing.{AreApart}
-use Rattle.vz_settling.proofs.By_client.{to, made, unreached, losing, told_of, marked_are, to_made, to_apart, lost_there, there_lost, losing_lost, told_whole}
+use Rattle.vz_settling.proofs.By_client.{to, made, unreached, losing, told_of, marked_are, to_made, to_apart, lost_there, there_lost}
+use Rattle.vz_settling.proofs.By_client.{losing_lost, told_whole}
 
 -- the marked ones that exist
 abbrev marked_ones : World → List Created
@@ -52,7 +54,8 @@ first_marked w c h p marked s q e =
     let m = contains_at w.surfaces c p in
     ap (λ (x : Created). x.marked) (at_same w.surfaces n.0 m.0 s c n.1 m.1 (surfaces_apart w n.0 m.0 s c h n.1 m.1 e)) ∙ marked
 
-pub begins : (w : World) (marked reached : List SurfaceId) (v : Settling) (old : List Lost) → IsDestroying w marked reached v → IsGoingOn w 0 v old old
+pub begins : (w : World) (marked reached : List SurfaceId) (v : Settling) (old : List Lost) → IsDestroying w marked reached v
+    → IsGoingOn w 0 v old old
 begins w marked reached v old h =
     record {
       done = [];
@@ -69,11 +72,13 @@ begins w marked reached v old h =
     }
 
 -- the one at the place behind those before
-at_place : (done rest : List Created) (c : Created) (d : SurfaceId) → slice_index_or (map (λ (x : Created). x.id) (done ++ c ∷ rest)) (length done) d ≡ c.id
+at_place : (done rest : List Created) (c : Created) (d : SurfaceId)
+    → slice_index_or (map (λ (x : Created). x.id) (done ++ c ∷ rest)) (length done) d ≡ c.id
 at_place [] rest c d = refl
 at_place (x ∷ done) rest c d = at_place done rest c d
 
-none_left : (done : List Created) (k : ℕ) (ids : List SurfaceId) → ids ≡ map (λ (x : Created). x.id) (done ++ []) → length done ≡ k → k < length ids → ⊥
+none_left : (done : List Created) (k : ℕ) (ids : List SurfaceId) → ids ≡ map (λ (x : Created). x.id) (done ++ []) → length done ≡ k
+    → k < length ids → ⊥
 none_left done k ids e many inside =
     omega (arith, inside, many, ap length e, length-map (done ++ []) (λ (x : Created). x.id), ap length (append-nil done))
 
@@ -99,9 +104,11 @@ other_stays c d e = ap (λ (t : Bool). cond t (record d { destroyed = true }) d)
 
 stays_there : (w : World) (c d : Created) → Contains w.surfaces d → same_surface d.id c.id ≡ false → Contains (going c w).surfaces d
 unfolding going
-stays_there w c d p e = subst (λ x. Contains (map (as_one_goes c) w.surfaces) x) (other_stays c d e) (map_contains (as_one_goes c) w.surfaces d p)
+stays_there w c d p e = subst (λ x. Contains (map (as_one_goes c) w.surfaces) x) (other_stays c d e)
+    (map_contains (as_one_goes c) w.surfaces d p)
 
-module _ (w : World) (marked reached : List SurfaceId) (start v : Settling) (k : ℕ) (e : SurfaceId) (old new : List Lost) (h : IsDestroying w marked reached start)
+module _ (w : World) (marked reached : List SurfaceId) (start v : Settling) (k : ℕ) (e : SurfaceId) (old new : List Lost)
+    (h : IsDestroying w marked reached start)
     (inside : k < length marked) (on : IsGoingOn w k v old new) where
   -- the next one
   pub record Next : Type 0 where
@@ -116,7 +123,8 @@ module _ (w : World) (marked reached : List SurfaceId) (start v : Settling) (k :
   next = by on.rest refl
     where
       by : (l : List Created) → on.rest ≡ l → Next
-      by [] f = absurd (none_left on.done k marked (ids_are ∙ ap (map (λ (c : Created). c.id)) (on.all ∙ ap (λ l. on.done ++ l) f)) on.many inside)
+      by [] f = absurd (none_left on.done k marked (ids_are ∙ ap (map (λ (c : Created). c.id)) (on.all ∙ ap (λ l. on.done ++ l) f)) on.many
+          inside)
       by (c ∷ cs) f = record { one = c; more = cs; is = f }
 
   pub its_id : next.one.id ≡ slice_index_or marked k e
@@ -140,7 +148,8 @@ module _ (w : World) (marked reached : List SurfaceId) (start v : Settling) (k :
   reached_is : (t : Bool) → t ≡ has_id reached (slice_index_or marked k e) → unreached w next.one ≡ not t
   reached_is t f = ap not (sym (h.are_reached next.one.id) ∙ (ap (has_id reached) its_id ∙ sym f))
 
-  pub goes : has_id reached (slice_index_or marked k e) ≡ false → v.live.kept.temporary ≡ start.live.kept.temporary → IsGoing on.now next.one (slice_index_or marked k e) v.live
+  pub goes : has_id reached (slice_index_or marked k e) ≡ false → v.live.kept.temporary ≡ start.live.kept.temporary
+      → IsGoing on.now next.one (slice_index_or marked k e) v.live
   goes out same =
       let not_reached = reached_is false (sym out) in
       let lost : Contains (lost_in w) next.one = there_lost w next.one was_made.0 was_made.1 was_made.2 not_reached in
@@ -152,7 +161,8 @@ module _ (w : World) (marked reached : List SurfaceId) (start v : Settling) (k :
         name = its_id;
         exists = was_made.2;
         lasts_not = ap (λ l. has_kept l (slice_index_or marked k e)) same
-            ∙ (ap (has_kept start.live.kept.temporary) (sym its_id) ∙ lost_not_kept w start.live.kept h.named h.stands.live.kept next.one lost);
+            ∙ (ap (has_kept start.live.kept.temporary) (sym its_id)
+            ∙ lost_not_kept w start.live.kept h.named h.stands.live.kept next.one lost);
       }
 
   all_is : to (made w) 16 ≡ (on.done ++ next.one ∷ []) ++ next.more
@@ -164,17 +174,21 @@ module _ (w : World) (marked reached : List SurfaceId) (start v : Settling) (k :
   more_there : (c : Created) → Contains next.more c → Contains on.now.surfaces c × IsMarked on.now c.id
   more_there c m = on.there c (subst (λ l. Contains l c) (sym next.is) (contains_there next.one c next.more m))
 
-  leads_by : (t : Bool) → unreached w next.one ≡ t → all_going (cond t (next.one ∷ filter (unreached w) next.more) (filter (unreached w) next.more)) on.now ≡ all_going (losing w) w
+  leads_by : (t : Bool) → unreached w next.one ≡ t → all_going
+      (cond t (next.one ∷ filter (unreached w) next.more) (filter (unreached w) next.more)) on.now ≡ all_going (losing w) w
   leads_by t f =
       ap (λ (b : Bool). all_going (cond b (next.one ∷ filter (unreached w) next.more) (filter (unreached w) next.more)) on.now) (sym f)
       ∙ (ap (λ l. all_going (filter (unreached w) l) on.now) (sym next.is) ∙ on.leads)
 
-  told_with : (t : Bool) → unreached w next.one ≡ t → map told_of (filter (unreached w) (on.done ++ next.one ∷ [])) ≡ map told_of (filter (unreached w) on.done) ++ cond t (told_of next.one ∷ []) []
+  told_with : (t : Bool) → unreached w next.one ≡ t → map told_of (filter (unreached w) (on.done ++ next.one ∷ [])) ≡ map told_of
+      (filter (unreached w) on.done) ++ cond t (told_of next.one ∷ []) []
   told_with t f =
-      ap (map told_of) (filter_last (unreached w) on.done next.one ∙ ap (λ (b : Bool). filter (unreached w) on.done ++ cond b (next.one ∷ []) []) f)
+      ap (map told_of) (filter_last (unreached w) on.done next.one
+      ∙ ap (λ (b : Bool). filter (unreached w) on.done ++ cond b (next.one ∷ []) []) f)
       ∙ (map-append told_of (filter (unreached w) on.done) (cond t (next.one ∷ []) []) ∙ by t)
     where
-      by : (b : Bool) → map told_of (filter (unreached w) on.done) ++ map told_of (cond b (next.one ∷ []) []) ≡ map told_of (filter (unreached w) on.done) ++ cond b (told_of next.one ∷ []) []
+      by : (b : Bool) → map told_of (filter (unreached w) on.done) ++ map told_of (cond b (next.one ∷ []) []) ≡ map told_of
+          (filter (unreached w) on.done) ++ cond b (told_of next.one ∷ []) []
       by true = refl
       by false = refl
 
@@ -197,8 +211,10 @@ module _ (w : World) (marked reached : List SurfaceId) (start v : Settling) (k :
       }
 
   -- it is not, and goes
-  pub goes_on : has_id reached (slice_index_or marked k e) ≡ false → (u : Settling) (more_told : List Lost) → AreSettling (going next.one on.now) None u
-      → naming (going next.one on.now) ≡ going next.one on.now → more_told ≡ new ++ told_of next.one ∷ [] → IsGoingOn w (k + 1) u old more_told
+  pub goes_on : has_id reached (slice_index_or marked k e) ≡ false → (u : Settling) (more_told : List Lost)
+      → AreSettling (going next.one on.now) None u
+      → naming (going next.one on.now) ≡ going next.one on.now → more_told ≡ new ++ told_of next.one ∷ []
+      → IsGoingOn w (k + 1) u old more_told
   unfolding all_going
   goes_on out u more_told stands named put =
       let lost = reached_is false (sym out) in
@@ -216,14 +232,16 @@ module _ (w : World) (marked reached : List SurfaceId) (start v : Settling) (k :
         apart = both_apart.1;
         leads = leads_by true lost;
         told = put ∙ (ap (λ l. l ++ told_of next.one ∷ []) on.told
-            ∙ (append_assoc old (map told_of (filter (unreached w) on.done)) (told_of next.one ∷ []) ∙ ap (λ l. old ++ l) (sym (told_with true lost))));
+            ∙ (append_assoc old (map told_of (filter (unreached w) on.done)) (told_of next.one ∷ [])
+            ∙ ap (λ l. old ++ l) (sym (told_with true lost))));
       }
 
 -- a collection destroys those that are not reached
 pub cleared : (w : World) → KeepsAlways w → length w.clients ≤ 16 → all_going (losing w) w ≡ clearing w
 cleared w h few = sym (clearing_singly w (losing w) h (losing_lost w) (lost_there w h few))
 
-module _ (w : World) (marked reached : List SurfaceId) (start v : Settling) (k : ℕ) (old new : List Lost) (h : IsDestroying w marked reached start)
+module _ (w : World) (marked reached : List SurfaceId) (start v : Settling) (k : ℕ) (old new : List Lost)
+    (h : IsDestroying w marked reached start)
     (over : length marked ≤ k) (on : IsGoingOn w k v old new) where
   no_rest : on.rest ≡ []
   no_rest = by on.rest refl
@@ -288,13 +306,15 @@ module _ (w : World) (root : Option SurfaceId) (v : Settling) (h : IsToCollect w
   stays_named = subst (λ x. naming x ≡ x) (sym all_stay) h.named
 
   pub none_told : (old : List Lost) → old ≡ old ++ destroyed_in w
-  none_told old = sym (append-nil old) ∙ ap (λ l. old ++ l) (sym (sym (told_whole w h.stands.always h.named h.few) ∙ ap (map told_of) none_lose))
+  none_told old = sym (append-nil old) ∙ ap (λ l. old ++ l) (sym
+      (sym (told_whole w h.stands.always h.named h.few) ∙ ap (map told_of) none_lose))
 
 -- the marked ones, put into an empty list
 pub listed : (first out slice more : List SurfaceId) → out ≡ first ++ more → first ≡ [] → slice ≡ out → slice ≡ more
 listed first out slice more e f g = g ∙ (e ∙ ap (λ l. l ++ more) f)
 
-pub none_listed : (w : World) (v : Settling) (first out slice : List SurfaceId) → AreSettling w None v → out ≡ first ++ marked_to 16 v.live.store → first ≡ [] → slice ≡ out
+pub none_listed : (w : World) (v : Settling) (first out slice : List SurfaceId) → AreSettling w None v
+    → out ≡ first ++ marked_to 16 v.live.store → first ≡ [] → slice ≡ out
     → (length slice == 0) ≡ true → marked_to 16 (stored_of w) ≡ []
 none_listed w v first out slice h e f g none =
     ap (marked_to 16) (sym h.live.store)

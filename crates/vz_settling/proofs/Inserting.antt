@@ -1,5 +1,6 @@
 -- Surfaces are put into a set.
-use Rattle.std.proofs.Common.{◌≡◌, ℕ, ◌+◌, ◌<◌, Bool, true, false, ◌||◌, List, [], ◌∷◌, length, take, slice_index_or, refl, ap, sym, ◌∙◌, subst, Result, Ok, IfOk}
+use Rattle.std.proofs.Common.{◌≡◌, ℕ, ◌+◌, ◌<◌, Bool, true, false, ◌||◌, List, [], ◌∷◌, length, take, slice_index_or, refl, ap, sym, ◌∙◌}
+use Rattle.std.proofs.Common.{subst, Result, Ok, IfOk}
 use Rattle.std.proofs.lemmas.List.Folds.{list_any_more}
 use Rattle.indexmap.specs.IndexSet.{insert_key}
 use Rattle.vz_ids.specs.declared.SurfaceId.{SurfaceId}
@@ -29,4 +30,5 @@ inserted ids k d first old new q inside before put =
     ap (λ l. has_id l q) (put ∙ ap (λ eq. insert_key eq old v) surfaces)
     ∙ (adding_has same_surface from_same self_same (v ∷ []) old q
     ∙ (ap (λ t. t || (same_surface q v || false)) before
-    ∙ (others (has_id (take k ids) q) (has_id first q) (same_surface q v) ∙ ap (λ t. t || has_id first q) (sym (list_any_more (same_surface q) ids k d inside)))))
+    ∙ (others (has_id (take k ids) q) (has_id first q) (same_surface q v)
+    ∙ ap (λ t. t || has_id first q) (sym (list_any_more (same_surface q) ids k d inside)))))

@@ -1,5 +1,6 @@
 -- A round, while its submissions become active one after another.
-use Rattle.std.proofs.Common.{◌≡◌, ℕ, ◌+◌, ◌<◌, ◌≤◌, true, Option, List, [], ◌∷◌, ◌++◌, length, map, slice_index_or, refl, ap, sym, ◌∙◌, subst, arith, Contains, append_assoc, append-nil}
+use Rattle.std.proofs.Common.{◌≡◌, ℕ, ◌+◌, ◌<◌, ◌≤◌, true, Option, List, [], ◌∷◌, ◌++◌, length, map, slice_index_or, refl, ap, sym, ◌∙◌}
+use Rattle.std.proofs.Common.{subst, arith, Contains, append_assoc, append-nil}
 use Rattle.std.proofs.lemmas.List.{map-append, length-map}
 use Rattle.vz_ids.specs.declared.SurfaceId.{SurfaceId}
 use Rattle.vz_ids.specs.declared.Sub.{Sub}
@@ -34,7 +35,8 @@ pub record IsRisingOn (w : World) (but : Option SurfaceId) (k : ℕ) (v : Live) 
   pub leads : all_rising rest now ≡ round w
   pub ids : new ≡ old ++ map surface_of done
 
-pub begins : (w : World) (but : Option SurfaceId) (subs : List Sub) (v : Live) (old : List SurfaceId) → IsRound w but subs v → IsRisingOn w but 0 v old old
+pub begins : (w : World) (but : Option SurfaceId) (subs : List Sub) (v : Live) (old : List SurfaceId) → IsRound w but subs v
+    → IsRisingOn w but 0 v old old
 unfolding ready
 begins w but subs v old h =
     record {
@@ -52,7 +54,8 @@ begins w but subs v old h =
     }
 
 -- the one at the place behind those before
-at_place : (done rest : List Submission) (s : Submission) (d : Sub) → slice_index_or (map sub_of (done ++ s ∷ rest)) (length done) d ≡ sub_of s
+at_place : (done rest : List Submission) (s : Submission) (d : Sub)
+    → slice_index_or (map sub_of (done ++ s ∷ rest)) (length done) d ≡ sub_of s
 at_place [] rest s d = refl
 at_place (x ∷ done) rest s d = at_place done rest s d
 
@@ -64,7 +67,8 @@ one_more : (done : List Submission) (s : Submission) → length (done ++ s ∷ [
 one_more [] s = refl
 one_more (x ∷ done) s = omega (arith, one_more done s)
 
-module _ (w : World) (but : Option SurfaceId) (subs : List Sub) (k : ℕ) (d : Sub) (v : Live) (old new : List SurfaceId) (ready_is : subs ≡ map sub_of (ready w))
+module _ (w : World) (but : Option SurfaceId) (subs : List Sub) (k : ℕ) (d : Sub) (v : Live) (old new : List SurfaceId)
+    (ready_is : subs ≡ map sub_of (ready w))
     (inside : k < length subs) (h : IsRisingOn w but k v old new) where
   -- the next one
   pub record Next : Type 0 where
@@ -83,7 +87,8 @@ module _ (w : World) (but : Option SurfaceId) (subs : List Sub) (k : ℕ) (d : S
   its_name =
       sym (at_place h.done next.more next.one d)
       ∙ (ap (λ l. slice_index_or (map sub_of (h.done ++ l)) (length h.done) d) (sym next.is)
-      ∙ (ap (λ n. slice_index_or (map sub_of (h.done ++ h.rest)) n d) h.many ∙ ap (λ l. slice_index_or l k d) (sym (ready_is ∙ ap (map sub_of) h.all))))
+      ∙ (ap (λ n. slice_index_or (map sub_of (h.done ++ h.rest)) n d) h.many
+      ∙ ap (λ l. slice_index_or l k d) (sym (ready_is ∙ ap (map sub_of) h.all))))
 
   first_waits : Contains h.now.subs next.one × (is_waiting next.one ≡ true)
   first_waits = h.wait next.one (subst (λ l. Contains l next.one) (sym next.is) (contains_here next.one next.more))
@@ -91,7 +96,8 @@ module _ (w : World) (but : Option SurfaceId) (subs : List Sub) (k : ℕ) (d : S
   pub rises : IsRising h.now but next.one (slice_index_or subs k d) v
   rises = record { always = h.always; live = h.live; known = first_waits.0; waits = first_waits.1; name = its_name }
 
-  pub goes_on : (u : Live) (id : SurfaceId) (ids : List SurfaceId) → AreLive (rising next.one h.now) but u → id ≡ next.one.submitted.id → ids ≡ new ++ id ∷ []
+  pub goes_on : (u : Live) (id : SurfaceId) (ids : List SurfaceId) → AreLive (rising next.one h.now) but u → id ≡ next.one.submitted.id
+      → ids ≡ new ++ id ∷ []
       → IsRisingOn w but (k + 1) u old ids
   unfolding all_rising
   goes_on u id ids live is put =
@@ -115,7 +121,8 @@ module _ (w : World) (but : Option SurfaceId) (subs : List Sub) (k : ℕ) (d : S
       }
 
 -- after the last one
-module _ (w : World) (but : Option SurfaceId) (subs : List Sub) (k : ℕ) (v : Live) (old new : List SurfaceId) (ready_is : subs ≡ map sub_of (ready w))
+module _ (w : World) (but : Option SurfaceId) (subs : List Sub) (k : ℕ) (v : Live) (old new : List SurfaceId)
+    (ready_is : subs ≡ map sub_of (ready w))
     (over : length subs ≤ k) (h : IsRisingOn w but k v old new) where
   no_rest : h.rest ≡ []
   no_rest = by h.rest refl
@@ -127,7 +134,15 @@ module _ (w : World) (but : Option SurfaceId) (subs : List Sub) (k : ℕ) (v : L
       by : (l : List Submission) → h.rest ≡ l → h.rest ≡ []
       by [] e = e
       by (s ∷ ss) e =
-          absurd (omega (arith, over, h.many, ap length (ready_is ∙ ap (map sub_of) (h.all ∙ ap (λ l. h.done ++ l) e)), length-map (h.done ++ s ∷ ss) (λ (x : Submission). sub_of x), longer h.done ss s))
+          absurd (omega (
+            arith,
+            over,
+            h.many,
+            ap length (ready_is ∙ ap (map sub_of) (h.all ∙ ap (λ l. h.done ++ l) e)),
+            length-map
+                (h.done ++ s ∷ ss) (λ (x : Submission). sub_of x),
+            longer h.done ss s,
+          ))
 
   pub rounded : AreLive (round w) but v
   unfolding all_rising

@@ -1,5 +1,6 @@
 -- Rounds, one after another until nothing is ready.
-use Rattle.std.proofs.Common.{◌≡◌, ℕ, zero, suc, ◌+◌, ◌≤◌, Bool, true, false, not, ◌&&◌, List, [], ◌∷◌, ◌++◌, length, map, filter, drop, refl, ap, sym, ◌∙◌, arith, cond, count_by, append_assoc, append-nil}
+use Rattle.std.proofs.Common.{◌≡◌, ℕ, zero, suc, ◌+◌, ◌≤◌, Bool, true, false, not, ◌&&◌, List, [], ◌∷◌, ◌++◌, length, map, filter, drop}
+use Rattle.std.proofs.Common.{refl, ap, sym, ◌∙◌, arith, cond, count_by, append_assoc, append-nil}
 use Rattle.std.specs.List.{list_any}
 use Rattle.vz_rules.specs.World.{World, Created, Submission, is_waiting, is_active, is_on, sub_of}
 use Rattle.vz_rules.specs.Settle.{is_ready, ready, after_round, is_before, marked_by, round, rounds, activated_over, settle, activated_in}
@@ -62,7 +63,8 @@ waiting w = length (filter is_waiting w.subs)
 one_step : (f t w : Bool) (s : Submission) (xs ys zs : List Submission) → is_waiting s ≡ w → (f ≡ true → w ≡ true) → (t ≡ true → w ≡ false)
     → length xs + length ys ≡ length zs
     → length (cond (is_waiting (cond f (record s { state = Active; was_active = true }) (cond t (record s { state = Past }) s)))
-    (cond f (record s { state = Active; was_active = true }) (cond t (record s { state = Past }) s) ∷ xs) xs) + length (cond f (s ∷ ys) ys) ≡ length (cond w (s ∷ zs) zs)
+    (cond f (record s { state = Active; was_active = true }) (cond t (record s { state = Past }) s) ∷ xs) xs) + length
+    (cond f (s ∷ ys) ys) ≡ length (cond w (s ∷ zs) zs)
 one_step true t true s xs ys zs e p q h = omega (arith, h)
 one_step true t false s xs ys zs e p q h = let k : false ≡ true = p refl in absurd (cc)
 one_step false true true s xs ys zs e p q h = let k : true ≡ false = q refl in absurd (cc)
@@ -74,7 +76,8 @@ first_of : (a b : Bool) → (a && b) ≡ true → a ≡ true
 first_of true b h = refl
 first_of false b h = absurd (cc)
 
-list_step : (f : Submission → Bool) (activated : List Submission) → ((s : Submission) → f s ≡ true → is_waiting s ≡ true) → (ss : List Submission)
+list_step : (f : Submission → Bool) (activated : List Submission) → ((s : Submission) → f s ≡ true → is_waiting s ≡ true)
+    → (ss : List Submission)
     → length (filter is_waiting (map (after_round f activated) ss)) + length (filter f ss) ≡ length (filter is_waiting ss)
 list_step f activated waits [] = omega arith
 list_step f activated waits (s ∷ ss) =
@@ -87,13 +90,16 @@ unfolding round ready
 fewer_wait w = list_step (is_ready w) (filter (is_ready w) w.subs) (ready_waits w) w.subs
 
 -- those that are ready, and the others
-both_parts : (w : World) (ss : List Submission) → length (filter (is_ready w) ss) + length (filter (λ s. is_waiting s && not (is_ready w s)) ss) ≡ length (filter is_waiting ss)
+both_parts : (w : World) (ss : List Submission) → length (filter (is_ready w) ss) + length
+    (filter (λ s. is_waiting s && not (is_ready w s)) ss) ≡ length (filter is_waiting ss)
 both_parts w [] = refl
 both_parts w (s ∷ ss) = by (is_waiting s) (is_ready w s) (ready_waits w s) (both_parts w ss)
   where
-    by : (a r : Bool) → (r ≡ true → a ≡ true) → length (filter (is_ready w) ss) + length (filter (λ s. is_waiting s && not (is_ready w s)) ss) ≡ length (filter is_waiting ss)
+    by : (a r : Bool) → (r ≡ true → a ≡ true) → length (filter (is_ready w) ss) + length
+        (filter (λ s. is_waiting s && not (is_ready w s)) ss) ≡ length (filter is_waiting ss)
         → length (cond r (s ∷ filter (is_ready w) ss) (filter (is_ready w) ss))
-        + length (cond (a && not r) (s ∷ filter (λ s. is_waiting s && not (is_ready w s)) ss) (filter (λ s. is_waiting s && not (is_ready w s)) ss))
+        + length (cond (a && not r) (s ∷ filter (λ s. is_waiting s && not (is_ready w s)) ss)
+        (filter (λ s. is_waiting s && not (is_ready w s)) ss))
         ≡ length (cond a (s ∷ filter is_waiting ss) (filter is_waiting ss))
     by true true f h = omega (arith, h)
     by true false f h = omega (arith, h)

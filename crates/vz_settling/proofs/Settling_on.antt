@@ -1,5 +1,6 @@
 -- Settling, while rounds follow one another.
-use Rattle.std.proofs.Common.{◌≡◌, ℕ, zero, suc, ◌+◌, ◌≤◌, not, ◌&&◌, Option, List, [], ◌∷◌, ◌++◌, length, map, filter, drop, refl, ap, sym, ◌∙◌, subst, arith}
+use Rattle.std.proofs.Common.{◌≡◌, ℕ, zero, suc, ◌+◌, ◌≤◌, not, ◌&&◌, Option, List, [], ◌∷◌, ◌++◌, length, map, filter, drop, refl, ap, sym}
+use Rattle.std.proofs.Common.{◌∙◌, subst, arith}
 use Rattle.std.proofs.lemmas.List.{length-map}
 use Rattle.vz_ids.specs.declared.SurfaceId.{SurfaceId}
 use Rattle.vz_ids.specs.declared.Sub.{Sub}
@@ -13,10 +14,12 @@ use Rattle.vz_live.specs.Living.{Live, AreLive}
 use Rattle.vz_settling.specs.declared.settling.Settling.{Settling}
 use Rattle.vz_settling.specs.Settles.{AreSettling, IsRound, IsToSettle}
 use Rattle.vz_settling.proofs.Rising_on.{surface_of}
-use Rattle.vz_settling.proofs.Rounded.{round_after, activated_after, settled, all_activated, waiting, fewer_wait, ready_or_not, behind, both_long, none_long}
+use Rattle.vz_settling.proofs.Rounded.{round_after, activated_after, settled, all_activated, waiting, fewer_wait, ready_or_not, behind}
+use Rattle.vz_settling.proofs.Rounded.{both_long, none_long}
 
 -- so many rounds are over, and those that are ready now stand at the end
-pub record IsSettlingOn (w : World) (but : Option SurfaceId) (v : Settling) (from : ℕ) (activated : List Sub) (ids : List SurfaceId) : Type 0 where
+pub record IsSettlingOn (w : World) (but : Option SurfaceId) (v : Settling) (from : ℕ) (activated : List Sub)
+    (ids : List SurfaceId) : Type 0 where
   pub over : ℕ
   pub stands : AreSettling (rounds over w) but v
   pub told : activated ≡ activated_over over w ++ map sub_of (ready (rounds over w))
@@ -24,7 +27,8 @@ pub record IsSettlingOn (w : World) (but : Option SurfaceId) (v : Settling) (fro
   pub beside : from ≡ length ids
   pub fewer : waiting (rounds over w) + from ≡ waiting w
 
-pub begins : (w : World) (but : Option SurfaceId) (v : Settling) (activated : List Sub) (ids : List SurfaceId) → ids ≡ [] → IsToSettle w but v activated
+pub begins : (w : World) (but : Option SurfaceId) (v : Settling) (activated : List Sub) (ids : List SurfaceId) → ids ≡ []
+    → IsToSettle w but v activated
     → IsSettlingOn w but v 0 activated ids
 unfolding rounds activated_over
 begins w but v activated ids none h =
@@ -48,7 +52,8 @@ pub all_wait : (w : World) (but : Option SurfaceId) (v : Settling) (activated : 
     → length activated + length v.waiting.blocked ≡ waiting w
 all_wait w but v activated h = omega (arith, named w activated h.ready, blocked_are w v.waiting h.stands.waiting)
 
-module _ (w : World) (but : Option SurfaceId) (v : Settling) (from : ℕ) (activated : List Sub) (ids : List SurfaceId) (h : IsSettlingOn w but v from activated ids) where
+module _ (w : World) (but : Option SurfaceId) (v : Settling) (from : ℕ) (activated : List Sub) (ids : List SurfaceId)
+    (h : IsSettlingOn w but v from activated ids) where
   abbrev now : World
   now = rounds h.over w
 
@@ -77,7 +82,8 @@ module _ (w : World) (but : Option SurfaceId) (v : Settling) (from : ℕ) (activ
   pub beside_now : (more : List SurfaceId) → more ≡ ids ++ map surface_of (ready now) → drop from more ≡ map surface_of (ready now)
   beside_now more e = behind more ids (map surface_of (ready now)) from e h.beside
 
-  pub goes_on : (live : Live) (waits : Waits) (more : List SurfaceId) (told : List Sub) → AreLive (round now) but live → AreWaiting (round now) waits
+  pub goes_on : (live : Live) (waits : Waits) (more : List SurfaceId) (told : List Sub) → AreLive (round now) but live
+      → AreWaiting (round now) waits
       → more ≡ ids ++ map surface_of (ready now) → told ≡ activated ++ map sub_of (ready (round now))
       → IsSettlingOn w but (record { live = live; waiting = waits }) (length activated) told more
   goes_on live waits more told is_live is_waiting put more_told =
@@ -85,10 +91,21 @@ module _ (w : World) (but : Option SurfaceId) (v : Settling) (from : ℕ) (activ
       let listed : activated ≡ activated_over (suc h.over) w = h.told ∙ sym (activated_after h.over w) in
       record {
         over = suc h.over;
-        stands = subst (λ x. AreSettling x but (record { live = live; waiting = waits })) (sym after) (record { always = always_round now h.stands.always; live = is_live; waiting = is_waiting });
-        told = more_told ∙ (ap (λ l. l ++ map sub_of (ready (round now))) listed ∙ ap (λ x. activated_over (suc h.over) w ++ map sub_of (ready x)) (sym after));
+        stands = subst (λ x. AreSettling x but (record { live = live; waiting = waits })) (sym after)
+            (record { always = always_round now h.stands.always; live = is_live; waiting = is_waiting });
+        told = more_told ∙ (ap (λ l. l ++ map sub_of (ready (round now))) listed
+            ∙ ap (λ x. activated_over (suc h.over) w ++ map sub_of (ready x)) (sym after));
         begun = ap length listed;
-        beside = omega (arith, so_long, named now round_subs are_ready, h.beside, ap length put, both_long ids (map surface_of (ready now)), length-map (ready now) surface_of);
+        beside = omega (
+          arith,
+          so_long,
+          named now round_subs are_ready,
+          h.beside,
+          ap length put,
+          both_long ids
+              (map surface_of (ready now)),
+          length-map (ready now) surface_of,
+        );
         fewer = omega (arith, so_long, named now round_subs are_ready, ap waiting after, fewer_wait now, h.fewer);
       }
 
@@ -101,7 +118,8 @@ module _ (w : World) (but : Option SurfaceId) (v : Settling) (from : ℕ) (activ
 
   pub ends_told : length activated ≤ from → activated ≡ activated_in w
   ends_told over =
-      h.told ∙ (ap (λ l. activated_over h.over w ++ map sub_of l) (none_ready over) ∙ (append_none ∙ all_activated h.over w (none_ready over)))
+      h.told ∙ (ap (λ l. activated_over h.over w ++ map sub_of l) (none_ready over)
+      ∙ (append_none ∙ all_activated h.over w (none_ready over)))
     where
       nothing : (l : List Sub) → l ++ [] ≡ l
       nothing [] = refl

@@ -4,17 +4,22 @@ ghost use Rattle.vz_ids.specs.declared.SurfaceId.{SurfaceId};
 ghost use Rattle.vz_rules.specs.World.{World};
 ghost use Rattle.vz_rules.specs.Settle.{settle};
 ghost use Rattle.vz_rules.specs.Reach.{naming, clearing, collect, destroyed_in};
-ghost use Rattle.vz_live.specs.Living.{AreLive};
 ghost use Rattle.vz_settling.specs.declared.settling.Settling.{Settling};
 ghost use Rattle.vz_settling.specs.Settles.{AreSettling, AreReady};
 
-/// Once it settled, nothing is ready. What waits stands for the state in which what is named now is
-/// named where the surfaces do.
+use vz_live::laws::surfaces_stay;
+use vz_waiting::laws::waiting_ones_stay;
+
+/// Once it settled, nothing is ready. What stands for a state stands for that in which what is named
+/// now is named.
 pub fn settled_ones_stay()
     ensures ready { (w : World) → AreReady (settle w) [] }
     ensures naming { (w : World) (but : Option SurfaceId) (v : Settling) → AreSettling w but v
-        → AreLive (naming w) but v.live → AreSettling (naming w) but v }
-{}
+        → AreSettling (naming w) but v }
+{
+    surfaces_stay();
+    waiting_ones_stay();
+}
 
 /// A step's collection is that of the state in which what is named now is named.
 pub fn named_ones_are_collected()

@@ -1,6 +1,6 @@
 mod Lists
 pub mod Standing
-pub mod Unchanged
+mod Unchanged
 mod Removing
 mod Meeting
 mod Closing

@@ -7,4 +7,5 @@ use Rattle.vz_settling.proofs.index.insert_all.Given as goal
 -- those so far are put in
 abbrev pub invariant-loop-id : goal.invariant-loop-id
 invariant-loop-id l =
-    ((id : SurfaceId) → has_id l.set.keys id ≡ (has_id (take l.id-index l.ids) id || has_id l.fn.set.keys id)) × (spare_of l.fn.set ≤ spare_of l.set + l.id-index)
+    ((id : SurfaceId) → has_id l.set.keys id ≡ (has_id (take l.id-index l.ids) id || has_id l.fn.set.keys id)) ×
+    (spare_of l.fn.set ≤ spare_of l.set + l.id-index)
