@@ -1,5 +1,5 @@
 -- What goes back to clients, and what is temporary: what stands for a state stands for the next one.
-use Rattle.std.proofs.Common.{◌≡◌, ℕ, ◌+◌, Option, Some, None, List, [], map, refl, ap, sym, ◌∙◌, subst, arith, Contains}
+use Rattle.std.proofs.Common.{◌≡◌, ℕ, ◌+◌, ◌≤◌, Option, Some, None, List, [], map, refl, ap, sym, ◌∙◌, subst, arith, Contains, Bool, true, false, ◌∷◌, ◌++◌, length, cond}
 use Rattle.vz_base.specs.declared.limits.TheConstants.{TEMPORARY_TICKS}
 use Rattle.vz_ids.specs.declared.FrameSinkId.{FrameSinkId}
 use Rattle.vz_ids.specs.declared.SurfaceId.{SurfaceId}
@@ -11,7 +11,8 @@ use Rattle.vz_rules.specs.Returns.{give_back, feed, mark_fed}
 use Rattle.vz_rules.specs.Messages.{taking, reclaim, message_answer}
 use Rattle.vz_rules.specs.Step.{begin_answer, next_tick}
 use Rattle.vz_rules.specs.Kept.{KeepsAlways}
-use Rattle.vz_refs.specs.Referring.{Referring, lasting, of_others, keeping}
+use Rattle.std.proofs.lemmas.List.{length-append}
+use Rattle.vz_refs.specs.Referring.{Referring, Ranged, Temporary, is_named_in, lasting, of_others, keeping}
 use Rattle.vz_reaching.specs.Lasting.{AreKept}
 use Rattle.vz_reaching.proofs.Staying.{stays_given, stays_taken}
 use Rattle.vz_reaching.proofs.Feeding_kept.{stays_fed}
@@ -98,3 +99,12 @@ live_kept w c v r id until always new late sets temporary spare h =
   where
     back : id ≡ c.id
     back = sym new.name
+
+-- at most one surface more is kept
+pub keeps_one : (sets : List Ranged) (id : SurfaceId) (until : ℕ) (kept : List Temporary) → length (keeping sets id until kept) ≤ length kept + 1
+unfolding keeping
+keeps_one sets id until kept =
+    elim (is_named_in sets id) as (λ (t : Bool). length (cond t kept (kept ++ record { id = id; until = until } ∷ [])) ≤ length kept + 1) [
+      | true ↦ omega arith
+      | false ↦ omega (arith, length-append kept (record { id = id; until = until } ∷ []))
+    ]

@@ -26,6 +26,7 @@ impl LiveSurfaces {
         ensures live { (w : World) (but : Option Id) → KeepsAlways w → AreLive w but self.old
             → AreLive (give_back w) but self.new }
         ensures released { NoneReleased self.new.lent }
+        ensures out { resources_out self.new.lent ≤ resources_out self.old.lent }
         ensures rest { self.new ≡ record self.old { lent = self.new.lent } }
     {
         self.lending.give_back(out);
@@ -66,6 +67,7 @@ impl LiveSurfaces {
             → AreLive w but self.old → Contains w.clients c → c.number ≡ client
             → AreLive (taking reclaim c w) but self.new }
         ensures released { NoneReleased self.old.lent → NoneReleased self.new.lent }
+        ensures out { resources_out self.new.lent ≡ resources_out self.old.lent }
         ensures rest { self.new ≡ record self.old { lent = self.new.lent } }
     {
         self.lending.reclaim(client, out);

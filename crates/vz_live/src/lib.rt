@@ -7,6 +7,7 @@
 #![tactic(auto)]
 
 mod accepting;
+mod asking;
 mod drawing;
 mod ending;
 mod giving;

@@ -26,6 +26,7 @@ impl LiveSurfaces {
         ensures out { resources_out self.new.lent ≡ resources_out self.old.lent }
         ensures count { owed_count self.new.owed.owed ≡ owed_count self.old.owed.owed }
         ensures sets { length self.new.kept.sets ≤ length self.old.kept.sets + 1 }
+        ensures room { self.old.kept.room ≤ self.new.kept.room }
         ensures temporary { length self.new.kept.temporary ≤ length self.old.kept.temporary }
     {
         let Some(id) = self.store.waits_on(sub) else {

@@ -1,5 +1,5 @@
 //! Temporary surfaces, as ticks begin and clients close.
-ghost use Rattle.std.specs.Prelude.{◌≡◌, ◌<◌, ◌+◌, None, Some, true, false, Option};
+ghost use Rattle.std.specs.Prelude.{◌≡◌, ◌<◌, ◌≤◌, ◌+◌, length, None, Some, true, false, Option};
 ghost use Rattle.std.specs.List.{Contains};
 ghost use Rattle.vz_base.specs.declared.limits.TheConstants.{TEMPORARY_TICKS};
 ghost use Rattle.vz_ids.specs.declared.SurfaceId.{SurfaceId as Id};
@@ -47,6 +47,8 @@ impl LiveSurfaces {
         requires room { 0 < self.old.kept.room }
         ensures live { (w : World) (c : Created) → KeepsAlways w → AreLive w (Some id) self.old
             → IsNew w c id → until ≡ w.tick + TEMPORARY_TICKS → AreLive w None self.new }
+        ensures sets { self.new.kept.sets ≡ self.old.kept.sets }
+        ensures few { length self.new.kept.temporary ≤ length self.old.kept.temporary + 1 }
         ensures rest { self.new ≡ record self.old { kept = self.new.kept } }
     {
         self.references.keep(id, until);

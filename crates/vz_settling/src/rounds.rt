@@ -33,6 +33,7 @@ pub(crate) fn rise_all(live: &mut LiveSurfaces, subs: &[Sub], ids: &mut Room<Sur
     ensures out { resources_out live.new.lent ≡ resources_out live.old.lent }
     ensures count { owed_count live.new.owed.owed ≡ owed_count live.old.owed.owed }
     ensures sets { length live.new.kept.sets ≤ length live.old.kept.sets + length subs.now }
+    ensures kept { live.old.kept.room ≤ live.new.kept.room }
     ensures temporary { length live.new.kept.temporary ≤ length live.old.kept.temporary }
 {
     for sub in subs {

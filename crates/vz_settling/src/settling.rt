@@ -45,6 +45,7 @@ impl Settling {
             ≡ existing_count self.old.live.store }
         ensures sets { length self.new.live.kept.sets ≤ length self.old.live.kept.sets
             + (length activated.old.list + length self.old.waiting.blocked) }
+        ensures kept { self.old.live.kept.room ≤ self.new.live.kept.room }
         ensures temporary { length self.new.live.kept.temporary
             ≤ length self.old.live.kept.temporary }
     {

@@ -10,6 +10,7 @@ loop-sub-init c = (
   refl,
   omega arith,
   omega arith,
+  omega arith,
 )
 
 pub rise-requires : goal.rise-requires
@@ -46,6 +47,7 @@ loop-sub-preserved c =
       c.rise.ensures.count ∙ before.3,
       omega (arith, before.4, c.rise.ensures.sets),
       omega (arith, before.5, c.rise.ensures.temporary),
+      omega (arith, before.6, c.rise.ensures.room),
     )
 
 pub returns-clause-live : goal.returns-clause-live

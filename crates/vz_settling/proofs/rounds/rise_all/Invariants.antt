@@ -16,3 +16,4 @@ invariant-loop-sub l =
     × (owed_count l.live.owed.owed ≡ owed_count l.fn.live.owed.owed)
     × (length l.live.kept.sets ≤ length l.fn.live.kept.sets + l.sub-index)
     × (length l.live.kept.temporary ≤ length l.fn.live.kept.temporary)
+    × (l.fn.live.kept.room ≤ l.live.kept.room)

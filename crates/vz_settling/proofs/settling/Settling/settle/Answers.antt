@@ -14,6 +14,7 @@ loop-from-init c = (
   refl,
   omega arith,
   omega arith,
+  omega arith,
 )
 
 pub since-requires : goal.since-requires
@@ -93,6 +94,7 @@ loop-from-preserved c =
       c.rise_all.ensures.count ∙ before.4,
       omega (arith, before.5, c.rise_all.ensures.sets, long, risen, so_far),
       omega (arith, before.6, c.rise_all.ensures.temporary),
+      omega (arith, before.7, c.rise_all.ensures.kept),
     )
 
 pub returns-clause-surfaces : goal.returns-clause-surfaces

@@ -18,6 +18,7 @@ invariant-loop-from l =
     × (owed_count l.self.live.owed.owed ≡ owed_count l.fn.self.live.owed.owed)
     × (length l.self.live.kept.sets ≤ length l.fn.self.live.kept.sets + l.from)
     × (length l.self.live.kept.temporary ≤ length l.fn.self.live.kept.temporary)
+    × (l.fn.self.live.kept.room ≤ l.self.live.kept.room)
 
 -- the places that are left for the surfaces of rounds
 abbrev pub decreases-loop-from : goal.decreases-loop-from
