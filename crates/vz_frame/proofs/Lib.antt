@@ -1,3 +1,4 @@
+pub mod Ends
 mod Finding
 mod Gaps
 mod Placing

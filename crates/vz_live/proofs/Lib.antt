@@ -6,7 +6,6 @@ mod Kept_quiet
 mod Risen
 mod Gone
 mod Given
-mod Ends
 mod Arrived
 mod Opened
 pub mod Reaches

@@ -1,7 +1,5 @@
 //! A submission is accepted.
 ghost use Rattle.std.specs.Prelude.{◌≡◌, ◌≤◌, ◌+◌, length, OnOk, IfOk, OnErr, IfErr};
-ghost use Rattle.std.specs.Option.{option_copied};
-ghost use Rattle.vz_frame.specs.Frame.{root_pass};
 ghost use Rattle.vz_rules.specs.Plan.{Plan};
 ghost use Rattle.vz_rules.specs.World.{World, Client, sub_of};
 ghost use Rattle.vz_rules.specs.Messages.{accepted, new_submission, id_of};
@@ -15,7 +13,7 @@ ghost use Rattle.vz_live.specs.Arriving.{IsAccepting, HasRoomFor, IsReadier, new
 use crate::ending::{ended_in, listings_of, name_of, wanted_by};
 use crate::live::LiveSurfaces;
 use vz_base::Memory;
-use vz_frame::{CompositorFrame, List, RenderPass};
+use vz_frame::{CompositorFrame, List};
 use vz_geom::Rect;
 use vz_ids::{FrameSinkId, LocalSurfaceId, Sub, SurfaceId};
 use vz_pixels::PixelBlock;
@@ -116,20 +114,12 @@ impl LiveSurfaces {
     }
 }
 
-/// The root pass of a frame.
-#[tactic(auto, using(crate::proofs::Ends::last_first))]
-fn root_pass(frame: &CompositorFrame) -> Option<&RenderPass>
-    ensures { option_copied result ≡ root_pass frame.now }
-{
-    frame.passes.as_slice().last()
-}
-
 /// The damage that a frame says of its root pass, in its own pixels.
 #[tactic(auto, unfolding(vz_geom::specs::Rectangle::with_sides))]
 fn root_damage(frame: &CompositorFrame) -> Rect
     ensures { result ≡ root_damage frame.now }
 {
-    match root_pass(frame) {
+    match frame.root_pass() {
         None => Rect::new(0, 0, 0, 0),
         Some(pass) => pass.damage,
     }

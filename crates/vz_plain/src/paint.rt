@@ -18,7 +18,7 @@ use vz_frame::{Blend, DrawQuad, Material, RenderPass};
 use vz_geom::{Point, Rect};
 use vz_ids::{SurfaceId, SurfaceRange};
 use vz_pixels::Pixel;
-use vz_scene::{ActiveFrames, LEVELS, SubmittedFrame, root_pass};
+use vz_scene::{ActiveFrames, LEVELS, SubmittedFrame};
 
 /// A painter in the frame of a frame, behind the surfaces of a path and with so many
 /// surfaces left.
@@ -48,7 +48,7 @@ impl<'b, 'i, 'a> Model for Painter<'b, 'i, 'a> {
 fn is_inside(submitted: &SubmittedFrame<'_>, point: Point) -> bool
     ensures { result ≡ has (sized (frame_size submitted.now.frame)) point }
 {
-    match root_pass(submitted.frame()) {
+    match submitted.frame().root_pass() {
         None => false,
         Some(root) => {
             (0 <= point.x && point.x < root.output.w())

@@ -1,4 +1,3 @@
-pub mod Ends
 pub mod Stacking
 pub mod Rooting
 pub mod Fitting

@@ -16,7 +16,6 @@ ghost use Rattle.vz_rules.specs.Closure.{adding};
 ghost use Rattle.vz_scene.specs.Limits.{IsInReach};
 
 use crate::aggregation::Aggregation;
-use crate::frame::root_pass;
 use crate::index::Index;
 use crate::key::key_of;
 use crate::place::nothing;
@@ -41,7 +40,7 @@ pub(crate) fn frame_rect(submitted: &SubmittedFrame<'_>) -> Rect
     ensures value { result ≡ sized (frame_size submitted.now.frame) }
     ensures reach { IsInReach result }
 {
-    match root_pass(submitted.frame) {
+    match submitted.frame.root_pass() {
         None => nothing(),
         Some(pass) => at_origin(&pass.output),
     }
@@ -52,7 +51,7 @@ fn root_damage(submitted: &SubmittedFrame<'_>) -> Rect
     ensures value { result ≡ root_damage submitted.now.frame }
     ensures reach { IsInReach result }
 {
-    match root_pass(submitted.frame) {
+    match submitted.frame.root_pass() {
         None => nothing(),
         Some(pass) => pass.damage,
     }

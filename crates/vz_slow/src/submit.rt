@@ -13,7 +13,7 @@ use vz_frame::CompositorFrame;
 use vz_ids::{Sub, SurfaceId};
 use vz_pixels::PixelBlock;
 use vz_rules::{Refusal, Reply};
-use vz_scene::{SubmittedFrame, frame_size};
+use vz_scene::SubmittedFrame;
 use vz_state::{
     Change, Submission, Surface, count_created, count_of_client, count_on, is_last, last_created,
     number_after, replace_all,
@@ -60,7 +60,7 @@ impl<'a> World<'a> {
             return Ok(());
         }
         let number = number_after(count_created(&self.surfaces, c));
-        let size = frame_size(frame);
+        let size = frame.size();
         self.surfaces
             .push(Surface::new(c, number, id, size, self.tick))?;
         Ok(())

@@ -12,7 +12,6 @@ use vz_frame::{CompositorFrame, Listing, check};
 use vz_geom::Size;
 use vz_ids::LocalSurfaceId;
 use vz_rules::Refusal;
-use vz_scene::frame_size;
 
 /// Whether both sides are equal.
 fn is_same_size(a: Size, b: Size) -> bool
@@ -56,8 +55,7 @@ fn has_other_size(last: Option<&Surface>, local: &LocalSurfaceId, frame: &Compos
 {
     match last {
         None => false,
-        Some(surface) => surface.id.local == *local
-            && !is_same_size(surface.size, frame_size(frame)),
+        Some(surface) => surface.id.local == *local && !is_same_size(surface.size, frame.size()),
     }
 }
 

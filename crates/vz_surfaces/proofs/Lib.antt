@@ -10,7 +10,6 @@ mod Naming
 mod Changing
 mod Raising
 mod Destroying
-mod Ends
 mod Holding
 mod Storing
 mod Storing_whole

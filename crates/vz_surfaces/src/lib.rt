@@ -11,7 +11,6 @@ mod marks;
 mod owners;
 mod seen;
 mod showing;
-mod size;
 mod standing;
 mod store;
 mod table;

@@ -21,7 +21,6 @@ use crate::marks::{mark_all, mark_before};
 use crate::owners::Owners;
 use crate::seen::Seen;
 use crate::showing::shown_by;
-use crate::size::frame_size;
 use crate::standing::Standing;
 use crate::table::{Table, sub_of as name_of};
 use crate::told::{Acceptance, Told, note};
@@ -244,7 +243,7 @@ impl Store {
         ) else {
             return Err(frame);
         };
-        let size = frame_size(&frame);
+        let size = frame.size();
         let acceptance = note(
             &mut self.told,
             Acceptance {

@@ -7,5 +7,4 @@ pub mod Seeing
 pub mod Rooting
 pub mod Alike
 pub mod Weighing
-pub mod Ends
 pub mod Sides

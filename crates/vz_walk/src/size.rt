@@ -1,22 +1,13 @@
 //! The size of a frame.
 ghost use Rattle.std.specs.Prelude.{◌≡◌, IsTrue};
-ghost use Rattle.std.specs.Option.{option_copied};
 ghost use Rattle.vz_geom.specs.Rectangle.{sized, meet};
 ghost use Rattle.vz_frame.specs.Fits.{fits_rect};
-ghost use Rattle.vz_frame.specs.Frame.{root_pass, frame_size};
+ghost use Rattle.vz_frame.specs.Frame.{frame_size};
 ghost use Rattle.vz_walk.specs.Limits.{FitsFile, IsInReach};
 
 use crate::place::nothing;
-use vz_frame::{CompositorFrame, RenderPass};
+use vz_frame::CompositorFrame;
 use vz_geom::Rect;
-
-/// The root pass of a frame.
-#[tactic(auto, using(crate::proofs::Ends::last_first))]
-fn root_pass(frame: &CompositorFrame) -> Option<&RenderPass>
-    ensures { option_copied result ≡ root_pass frame.now }
-{
-    frame.passes.as_slice().last()
-}
 
 /// A rectangle of the same sides at the origin. Condition: it is one of a frame that fits.
 fn at_origin(r: &Rect) -> Rect
@@ -31,7 +22,7 @@ pub fn frame_rect(frame: &CompositorFrame) -> Rect
     requires { FitsFile frame.now }
     ensures { result ≡ sized (frame_size frame.now) }
 {
-    match root_pass(frame) {
+    match frame.root_pass() {
         None => nothing(),
         Some(pass) => at_origin(&pass.output),
     }

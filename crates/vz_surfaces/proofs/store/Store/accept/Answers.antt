@@ -69,13 +69,13 @@ invariant_of-self-2 c =
       subst (Stands c.hold-index.new.self c.put.new.self c.set.new.self c.grow.new.groups) (sym (returns-clause-ok c))
           (record {
             kept = accepted_keeps c.args.self.now c.args.c c.args.sink c.args.local c.requires.keeps c.requires.number c.requires.sink c.requires.goes_on c.args.frame c.args.blocks inside.table c.grow.new.table c.open.new.self
-                c.hold-index.new.self inside.waits c.grow.new.waits c.remove.new.self c.put.new.self inside.owners c.set.new.self c.get-owner.result c.counting.result c.is_last-last.result c.frame_size-size.result c.note-acceptance.result
-                c.sub_of-waited.result kept c.in-Ok.ensures.table c.in-Ok.ensures.waits c.frame_size-size.ensures c.get-owner.ensures c.is_last-last.ensures c.note-acceptance.ensures.back
+                c.hold-index.new.self inside.waits c.grow.new.waits c.remove.new.self c.put.new.self inside.owners c.set.new.self c.get-owner.result c.counting.result c.is_last-last.result c.size-size.result c.note-acceptance.result
+                c.sub_of-waited.result kept c.in-Ok.ensures.table c.in-Ok.ensures.waits c.size-size.ensures c.get-owner.ensures c.is_last-last.ensures c.note-acceptance.ensures.back
                 c.open.ensures.surfaces c.open.ensures.len c.hold-index.ensures.surfaces c.hold-index.ensures.len (waited c) c.remove.ensures.none c.remove.ensures.others c.put.ensures c.counting.ensures c.set.ensures;
             groups = accepted_groups c.args.self.now c.args.c c.args.sink c.args.local c.requires.keeps c.requires.number c.requires.sink c.requires.goes_on c.args.frame c.args.blocks inside.owners c.get-owner.result inside.groups c.grow.new.groups
                 c.is_last-last.result kept.owners (subst (KeepsGroups inside.groups) c.self.view_is c.self.invariant.0.groups) c.get-owner.ensures c.is_last-last.ensures c.in-Ok.ensures.chain c.in-Ok.ensures.newest;
             marks = accepted_marks c.args.self.now c.args.c c.args.sink c.args.local c.requires.keeps c.requires.number c.requires.sink c.requires.goes_on c.args.frame c.args.blocks inside.owners c.set.new.self c.is_last-last.result
-                c.frame_size-size.result c.get-owner.result c.counting.result kept.owners (subst (KeepsMarks inside.owners) c.self.view_is c.self.invariant.0.marks) c.get-owner.ensures c.is_last-last.ensures c.counting.ensures c.set.ensures;
+                c.size-size.result c.get-owner.result c.counting.result kept.owners (subst (KeepsMarks inside.owners) c.self.view_is c.self.invariant.0.marks) c.get-owner.ensures c.is_last-last.ensures c.counting.ensures c.set.ensures;
           }),
       subst (KeepsLists c.open-2.new.self) (sym (returns-clause-ok c))
           (accepted_lists c.args.self.now c.args.c c.args.sink c.args.local c.requires.keeps c.requires.number c.requires.sink c.requires.goes_on c.args.frame c.args.blocks inside.owners c.get-owner.result inside.standing c.grow.new.standing c.open-2.new.self
