@@ -1,12 +1,11 @@
 -- A drawing: what is answered, and what hangs on surfaces stands for the state that it leaves.
-use Rattle.std.proofs.Common.{◌≡◌, ℕ, ◌&&◌, Bool, true, false, Option, Some, None}
+use Rattle.std.proofs.Common.{◌≡◌, ℕ, ◌≤◌, ◌&&◌, Bool, true, false, Option, Some, None}
 use Rattle.std.proofs.Common.{is_some, List, refl, ap, sym, ◌∙◌, subst, arith, cond, Contains}
 use Rattle.std.specs.Option.{option_map}
 use Rattle.vz_geom.specs.declared.Size.{Size}
 use Rattle.vz_geom.specs.Rectangle.{Rectangle, is_empty_rect}
 use Rattle.vz_ids.specs.declared.SurfaceId.{SurfaceId}
 use Rattle.vz_ids.specs.declared.Sub.{Sub}
-use Rattle.vz_rules.specs.declared.entry.Reply.{Reply}
 use Rattle.vz_rules.specs.declared.entry.Reply.TheVariants as reply
 use Rattle.vz_rules.specs.Plan.{Plan}
 use Rattle.vz_rules.specs.World.{World, Scene, FrameData, Submission, Aggregation, active_frames, frame_on}
@@ -44,6 +43,7 @@ use Rattle.vz_flight.specs.Drawn.{IsRosterOf, flown_from}
 use Rattle.vz_flight.proofs.Staying.{flown_some}
 use Rattle.vz_flight.proofs.Drawings.{flown_active, flown_drawn, flown_still}
 use Rattle.vz_live.specs.Living.{Live, AreLive, AreWhole}
+use Rattle.vz_live.specs.Landing.{flying_count}
 use Rattle.vz_live.specs.Drawing.{IsDrawing, IsShowing, IsLifting}
 use Rattle.vz_live.proofs.Quiet.{live_by}
 
@@ -73,13 +73,6 @@ heavy_answer p w s e = first (too_much (walk_of p.size s)) _ e
     first : (t : Bool) (a : Answer) → t ≡ true → cond t (says reply.TooMuch w) a ≡ says reply.TooMuch w
     first true a f = refl
     first false a f = absurd (cc)
-
-pub reply_of : (p : Plan) (w : World) (r : Reply) → draw_answer p w ≡ says r w → r ≡ (draw_answer p w).reply
-reply_of p w r e = sym (ap (λ (a : Answer). a.reply) e)
-
-pub live_of : (p : Plan) (w : World) (r : Reply) (v : Live) → draw_answer p w ≡ says r w → AreLive w None v
-    → AreLive (draw_answer p w).world None v
-live_of p w r v e h = subst (λ (a : Answer). AreLive a.world None v) (sym e) h
 
 -- What a drawing leaves
 
@@ -200,6 +193,13 @@ module _ (p : Plan) (w : World) (given : Option SurfaceId) (root : SurfaceId) (s
 module _ (p : Plan) (w : World) (root : SurfaceId) (size : Size) (v : Live) (h : IsShowing p w root size v) where
   abbrev done : World
   done = (draw_answer p w).world
+
+  -- no frame is in flight before it
+  pub flightless : is_some v.flight ≡ false
+  flightless = flown_some w v.flight h.drawing.live.flown ∙ h.walks.free
+
+  pub none_flying : (n : ℕ) → flying_count v.flight ≤ n
+  none_flying n = subst (λ (o : Option (List Flown)). flying_count o ≤ n) (sym (none_some v.flight flightless)) (omega arith)
 
   none_flies : w.in_flight ≡ None
   none_flies = none_some w.in_flight h.walks.free

@@ -13,4 +13,6 @@ mod Setting
 mod Released
 mod Landed
 mod Lifted
-mod Drawn
+pub mod Fewer
+pub mod Asked
+pub mod Drawn

@@ -18,7 +18,8 @@ one_set id ranges old new e = by (is_set old id) (ap length e)
     by true f = omega (arith, f, length-map old (set_one id ranges))
     by false f = omega (arith, f, pushed old (record { id = id; ranges = ranges }))
 
-fewer : {A : Type 0} (p : A → Bool) (xs : List A) → length (filter p xs) ≤ length xs
+-- a filter keeps no more
+pub fewer : {A : Type 0} (p : A → Bool) (xs : List A) → length (filter p xs) ≤ length xs
 fewer p [] = omega arith
 fewer p (x ∷ xs) = by (p x) (fewer p xs)
   where

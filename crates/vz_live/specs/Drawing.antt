@@ -2,14 +2,21 @@
 use Rattle.std.specs.Prelude.{◌≡◌, ℕ, Option, Some, None, List, [], IsTrue, IsFalse, slice_get, take}
 use Rattle.std.specs.List.{Contains}
 use Rattle.vz_geom.specs.declared.Size.{Size}
+use Rattle.vz_geom.specs.Rectangle.{Rectangle}
 use Rattle.vz_ids.specs.declared.SurfaceId.{SurfaceId}
+use Rattle.vz_rules.specs.declared.entry.Reply.{Reply}
+use Rattle.vz_rules.specs.declared.entry.Reply.TheVariants as reply
 use Rattle.vz_rules.specs.Plan.{Plan, IsPlan}
 use Rattle.vz_rules.specs.World.{World, Submission, has_sub, is_active, sub_of}
+use Rattle.vz_rules.specs.Messages.{says}
+use Rattle.vz_rules.specs.Step.{draw_answer}
 use Rattle.vz_rules.specs.Kept.{Keeps, KeepsAlways, KeepsPlan}
-use Rattle.vz_telling.specs.Changing.{Draws}
+use Rattle.vz_telling.specs.Changing.{Draws, drawn_reply}
 use Rattle.vz_lending.specs.Lent.{Lent, AreLent, NoneReleased}
 use Rattle.vz_flight.specs.Flying.{Flown, subs_of}
 use Rattle.vz_live.specs.Living.{Live, AreLive, AreWhole}
+use Rattle.vz_live.specs.declared.looking.Look.{Look}
+use Rattle.vz_live.specs.declared.looking.Look.TheVariants as look
 
 -- between steps, what is on a root is to be drawn on a display of this size, and nothing is released that was not given back
 pub record IsDrawing (p : Plan) (w : World) (root : Option SurfaceId) (size : Size) (v : Live) : Type 0 where
@@ -25,6 +32,17 @@ pub record IsDrawing (p : Plan) (w : World) (root : Option SurfaceId) (size : Si
 pub record IsShowing (p : Plan) (w : World) (root : SurfaceId) (size : Size) (v : Live) : Type 0 where
   pub drawing : IsDrawing p w (Some root) size v
   pub walks : Draws p w root
+
+-- what a look tells of a drawing beforehand: it is answered so and leaves the state, or it walks from this root
+abbrev pub Foretells : Plan → World → Option SurfaceId → Size → Live → Look → Type 0
+Foretells p w root size v look.Busy = draw_answer p w ≡ says reply.Busy w
+Foretells p w root size v look.NoRoot = draw_answer p w ≡ says reply.NoRoot w
+Foretells p w root size v look.TooMuch = draw_answer p w ≡ says reply.TooMuch w
+Foretells p w root size v (look.Seen id) = (root ≡ Some id) × IsShowing p w id size v
+
+-- what a drawing that walks is answered, by what changed
+abbrev pub reply_of : Option Rectangle → Reply
+reply_of changed = drawn_reply changed
 
 -- each of these, with what it lists, is an active submission of a state
 abbrev pub AreActive : World → List Flown → Type 0

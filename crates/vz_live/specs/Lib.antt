@@ -5,3 +5,4 @@ pub mod Arriving
 pub mod Rooting
 pub mod Landing
 pub mod Drawing
+pub mod Asking

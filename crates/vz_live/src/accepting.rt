@@ -7,6 +7,7 @@ ghost use Rattle.vz_rules.specs.Damage.{root_damage};
 ghost use Rattle.vz_lending.specs.Lent.{IsLender, NoneReleased, resources_out};
 ghost use Rattle.vz_feeding.specs.Owing.{waiting_on};
 ghost use Rattle.vz_feeding.specs.Noting.{owed_count};
+ghost use Rattle.vz_surfaces.specs.Reading.{existing_count};
 ghost use Rattle.vz_live.specs.Living.{AreLive};
 ghost use Rattle.vz_live.specs.Arriving.{IsAccepting, HasRoomFor, IsReadier, new_one};
 
@@ -39,6 +40,7 @@ impl LiveSurfaces {
         ensures same { IsReadier self.old self.new }
         ensures live { (w : World) → AreLive w None self.old → AreLive w None self.new }
         ensures released { NoneReleased self.old.lent → NoneReleased self.new.lent }
+        ensures out { resources_out self.new.lent ≡ resources_out self.old.lent }
     {
         let Some(places) = references.checked_add(1) else {
             return Err(Memory);
@@ -87,6 +89,14 @@ impl LiveSurfaces {
             ≤ resources_out self.old.lent + length frame.resources }
         ensures count { OnOk result (owed_count self.new.owed.owed
             ≡ owed_count self.old.owed.owed + 1) }
+        ensures surfaces { existing_count self.new.store ≤ existing_count self.old.store + 1 }
+        ensures rest { self.new ≡ record self.old {
+          store = self.new.store;
+          lent = self.new.lent;
+          owed = self.new.owed;
+          damaged = self.new.damaged;
+          wanted = self.new.wanted;
+        } }
     {
         let id = SurfaceId { sink, local };
         let damage = root_damage(&frame);

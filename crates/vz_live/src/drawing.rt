@@ -1,5 +1,5 @@
 //! A frame is drawn.
-ghost use Rattle.std.specs.Prelude.{◌≡◌, ℕ, None, Some, Option, IfOk, OnOk, OnErr};
+ghost use Rattle.std.specs.Prelude.{◌≡◌, ◌≤◌, ℕ, None, Some, Option, IfOk, OnOk, OnErr};
 ghost use Rattle.vz_ids.specs.declared.SurfaceId.{SurfaceId as Id};
 ghost use Rattle.vz_rules.specs.Plan.{Plan};
 ghost use Rattle.vz_rules.specs.World.{World};
@@ -8,18 +8,19 @@ ghost use Rattle.vz_lending.specs.Lent.{AreLent, NoneReleased, HasPlaces, resour
 ghost use Rattle.vz_flight.specs.Flying.{subs_of};
 ghost use Rattle.vz_flight.specs.Drawn.{listing_count};
 ghost use Rattle.vz_live.specs.Living.{AreLive};
-ghost use Rattle.vz_live.specs.Drawing.{IsDrawing, IsShowing, IsLifting};
+ghost use Rattle.vz_live.specs.Landing.{flying_count};
+ghost use Rattle.vz_live.specs.Drawing.{IsShowing, IsLifting, reply_of};
 
 use crate::live::LiveSurfaces;
 use std::alloc::Global;
 use vz_base::Memory;
 use vz_flight::{Roster, fly};
-use vz_geom::Size;
+use vz_frame::Room;
+use vz_geom::{Rect, Size};
 use vz_ids::SurfaceId;
 use vz_lending::Lending;
-use vz_rules::Reply;
+use vz_rules::Fed;
 use vz_surfaces::Store;
-use vz_walk::weight;
 
 impl LiveSurfaces {
     /// The surfaces and submissions, of which what is drawn is read.
@@ -29,52 +30,24 @@ impl LiveSurfaces {
         &self.store
     }
 
-    /// A drawing of what is on the root, on a display of a size. At Drawn its submissions hold
-    /// what they list until the frame is done; at Drawn and Unchanged what is seen is remembered.
+    /// A drawing that walks, on a display of a size: what changed, and None where nothing did.
+    /// Where something did, the submissions of the drawn frame hold what they list until it is
+    /// done, and `fed` has room for its end. In any case what is seen is remembered. Condition: a
+    /// look told that it walks from this root.
+    ///
     /// Want of memory is the only error, and then nothing changes but that there may be more room.
-    pub fn draw(
+    /// The drawn frame is made before it is known whether anything changed, as what is measured is
+    /// remembered, and nothing may fail from then on.
+    pub fn show(
         &mut self,
         alloc: Global,
-        root: Option<SurfaceId>,
+        root: &SurfaceId,
         size: Size,
-    ) -> Result<Reply, Memory>
-        requires draws { (p : Plan) × (w : World) × IsDrawing p w root size self.old }
-        ensures reply { (p : Plan) (w : World) → IsDrawing p w root size self.old
-            → IfOk result (λ r. r ≡ (draw_answer p w).reply) }
-        ensures live { (p : Plan) (w : World) → IsDrawing p w root size self.old
-            → OnOk result (AreLive (draw_answer p w).world None self.new) }
-        ensures kept { (w : World) (but : Option Id) → AreLive w but self.old
-            → OnErr result (AreLive w but self.new) }
-        ensures err { OnErr result (self.new ≡ record self.old { lent = self.new.lent }) }
-        ensures rest { self.new ≡ record self.old {
-          lent = self.new.lent;
-          damaged = self.new.damaged;
-          flight = self.new.flight;
-        } }
-        ensures released { NoneReleased self.new.lent }
-        ensures out { resources_out self.new.lent ≡ resources_out self.old.lent }
-    {
-        if self.is_flying() {
-            return Ok(Reply::Busy);
-        }
-        let Some(root) = root else {
-            return Ok(Reply::NoRoot);
-        };
-        if self.store.frame_on(&root).is_none() {
-            return Ok(Reply::NoRoot);
-        }
-        if weight(&self.store, &root).is_none() {
-            return Ok(Reply::TooMuch);
-        }
-        self.show(alloc, &root, size)
-    }
-
-    /// A drawing that walks: the drawn frame is made before it is known whether anything changed,
-    /// as what is measured is remembered, and nothing may fail from then on.
-    fn show(&mut self, alloc: Global, root: &SurfaceId, size: Size) -> Result<Reply, Memory>
+        fed: &mut Room<Fed>,
+    ) -> Result<Option<Rect>, Memory>
         requires shows { (p : Plan) × (w : World) × IsShowing p w root.now size self.old }
         ensures reply { (p : Plan) (w : World) → IsShowing p w root.now size self.old
-            → IfOk result (λ r. r ≡ (draw_answer p w).reply) }
+            → IfOk result (λ changed. reply_of changed ≡ (draw_answer p w).reply) }
         ensures live { (p : Plan) (w : World) → IsShowing p w root.now size self.old
             → OnOk result (AreLive (draw_answer p w).world None self.new) }
         ensures kept { (w : World) (but : Option Id) → AreLive w but self.old
@@ -87,19 +60,22 @@ impl LiveSurfaces {
         } }
         ensures released { NoneReleased self.new.lent }
         ensures out { resources_out self.new.lent ≡ resources_out self.old.lent }
+        ensures room { OnOk result (flying_count self.new.flight ≤ fed.new.spare) }
+        ensures list { fed.new.list ≡ fed.old.list }
     {
         let flight = fly(alloc, &self.store, root, size)?;
+        fed.reserve(flight.len())?;
         let roster = flight.roster();
         let Some(listings) = roster.listings() else {
             return Err(Memory);
         };
         self.lending.ready_to_draw(listings)?;
         match self.damage.measure(&self.store, root, size)? {
-            None => Ok(Reply::Unchanged),
+            None => Ok(None),
             Some(damage) => {
                 hold_each(&mut self.lending, roster);
                 self.flight = Some(flight);
-                Ok(Reply::Drawn(damage))
+                Ok(Some(damage))
             }
         }
     }

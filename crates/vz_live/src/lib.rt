@@ -15,9 +15,11 @@ mod going;
 mod landing;
 pub mod laws;
 mod live;
+mod looking;
 mod reaching;
 mod rising;
 mod ticking;
 
 pub use accepting::Accepted;
 pub use live::LiveSurfaces;
+pub use looking::Look;

@@ -10,6 +10,7 @@ ghost use Rattle.vz_rules.specs.Messages.{message_answer};
 ghost use Rattle.vz_rules.specs.Step.{begin_answer, next_tick};
 ghost use Rattle.vz_rules.specs.Kept.{KeepsAlways};
 ghost use Rattle.vz_surfaces.specs.Memory.{HasNumber};
+ghost use Rattle.vz_surfaces.specs.Reading.{existing_count};
 ghost use Rattle.vz_live.specs.Living.{AreLive};
 ghost use Rattle.vz_live.specs.Changes.{IsNew};
 
@@ -22,6 +23,9 @@ impl LiveSurfaces {
         ensures live { (p : Plan) (w : World) (but : Option Id) → KeepsAlways w
             → AreLive w but self.old → tick ≡ next_tick w.tick
             → AreLive (begin_answer p w).world but self.new }
+        ensures sets { self.new.kept.sets ≡ self.old.kept.sets }
+        ensures temporary { length self.new.kept.temporary ≤ length self.old.kept.temporary }
+        ensures room { self.old.kept.room ≤ self.new.kept.room }
         ensures rest { self.new ≡ record self.old { kept = self.new.kept } }
     {
         self.references.tick(tick);
@@ -34,6 +38,10 @@ impl LiveSurfaces {
         ensures live { (w : World) (c : Client) → KeepsAlways w → AreLive w None self.old
             → Contains w.clients c → c.number ≡ client → c.sink ≡ sink
             → AreLive (message_answer w c Close).world None self.new }
+        ensures surfaces { existing_count self.new.store ≡ existing_count self.old.store }
+        ensures sets { self.new.kept.sets ≡ self.old.kept.sets }
+        ensures temporary { length self.new.kept.temporary ≤ length self.old.kept.temporary }
+        ensures room { self.old.kept.room ≤ self.new.kept.room }
         ensures rest { self.new
             ≡ record self.old { store = self.new.store; kept = self.new.kept } }
     {

@@ -1,7 +1,7 @@
 mod Differing
 mod Rising_on
-mod Rounded
-mod Settling_on
+pub mod Rounded
+pub mod Settling_on
 mod By_client
 mod Going_on
 mod Inserting

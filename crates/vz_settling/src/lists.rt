@@ -7,8 +7,8 @@ use vz_base::Memory;
 use vz_frame::Room;
 use vz_ids::SurfaceId;
 
-/// The lists that a collection works with, with room made before: a list that was used is made
-/// anew, and the index keeps its room from one collection to the next.
+/// The lists that a collection works with, with room made before, which they keep from one
+/// collection to the next.
 #[derive(Drop)]
 pub struct Lists {
     /// The marked surfaces that exist.
@@ -19,14 +19,12 @@ pub struct Lists {
     pub index: Index,
 }
 
-/// A list is empty and has room for so many.
-fn make_room(alloc: Global, list: &mut Room<SurfaceId>, n: usize) -> Result<(), Memory>
-    ensures list { OnOk result (list.new.list ≡ []) }
+/// A list is empty and has room for so many. Memory is the only error.
+fn make_room(list: &mut Room<SurfaceId>, n: usize) -> Result<(), Memory>
+    ensures list { list.new.list ≡ [] }
     ensures room { OnOk result (n ≤ list.new.spare) }
 {
-    if !list.as_slice().is_empty() {
-        *list = Room::new(alloc);
-    }
+    list.clear();
     list.reserve(n)
 }
 
@@ -46,7 +44,7 @@ impl Lists {
 
     /// The lists are empty and have room for so many marked and so many reached surfaces. Memory
     /// is the only error.
-    pub fn ready(&mut self, alloc: Global, marked: usize, reached: usize) -> Result<(), Memory>
+    pub fn ready(&mut self, marked: usize, reached: usize) -> Result<(), Memory>
         ensures none_marked { OnOk result (self.new.marked.list ≡ []) }
         ensures none_reached { OnOk result (self.new.reached.list ≡ []) }
         ensures none_found { OnOk result (self.new.index.list ≡ []) }
@@ -54,8 +52,8 @@ impl Lists {
         ensures reached { OnOk result (reached ≤ self.new.reached.spare) }
         ensures found { OnOk result (reached ≤ self.new.index.spare) }
     {
-        make_room(alloc, &mut self.marked, marked)?;
-        make_room(alloc, &mut self.reached, reached)?;
+        make_room(&mut self.marked, marked)?;
+        make_room(&mut self.reached, reached)?;
         self.index.ready(reached)
     }
 }

@@ -1,5 +1,5 @@
-mod Staying
-mod Asking
+pub mod Staying
+pub mod Asking
 mod Taking
 mod Requesting
 mod Ticking

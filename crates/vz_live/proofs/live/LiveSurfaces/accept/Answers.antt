@@ -1,8 +1,11 @@
-use Rattle.std.proofs.Common.{◌+◌, ap, sym, subst, length, arith}
+use Rattle.std.proofs.Common.{◌+◌, ◌≤◌, ap, sym, subst, length, arith}
+use Rattle.vz_surfaces.specs.Reading.{existing_count}
 use Rattle.vz_lending.specs.Lent.{resources_out}
+use Rattle.vz_live.specs.Living.{Live}
 use Rattle.vz_live.specs.Arriving.{IsAccepting, HasRoomFor}
 use Rattle.vz_live.proofs.Staying.{got}
 use Rattle.vz_live.proofs.Arrived.{number_is, keeps_store, good, stands_there, few, sink_is, is_lender, listed_is, replaced_is, is_accepted, room_for, name_is, index_is, next_is, unplaced, few_owed, ended, replaced_name, wants_less, live_accepted}
+use Rattle.vz_live.proofs.Fewer.{one_created}
 use Rattle.vz_live.proofs.live.LiveSurfaces.accept.Goals as goal
 
 pub accept-requires-clause-number : goal.accept-requires-clause-number
@@ -125,3 +128,8 @@ returns-clause-out c =
     let h = subst (IsAccepting x.0 x.1 x.2 c.args.client c.args.sink c.args.local c.args.frame c.args.blocks) (sym c.self.view_is) x.3 in
     let listed = listed_is x.0 x.1 x.2 c.args.client c.args.sink c.args.local c.args.frame c.args.blocks _ h c.accept.new.self _ c.listings_of.result.now c.in-Ok.ensures.ok c.waiting.ensures c.listings_of.ensures in
     omega (arith, c.accepted.ensures.out, ap length listed, ap (λ v. resources_out v.lent) c.self.view_is)
+
+pub returns-clause-surfaces : goal.returns-clause-surfaces
+returns-clause-surfaces c =
+    subst (λ (v : Live). existing_count c.accept.new.self ≤ existing_count v.store + 1) c.self.view_is
+    (one_created c.args.client c.args.sink c.args.local c.args.frame c.args.blocks _ _ c.in-Ok.ensures.ok)

@@ -1,6 +1,6 @@
 use Rattle.std.proofs.Common.{Some, None, sym, subst, ◌∙◌, arith}
 use Rattle.vz_live.specs.Drawing.{IsShowing}
-use Rattle.vz_live.proofs.Drawn.{store_keeps, frames_fit, reply_is, live_unchanged, lifting, live_drawn}
+use Rattle.vz_live.proofs.Drawn.{store_keeps, frames_fit, none_flying, reply_is, live_unchanged, lifting, live_drawn}
 use Rattle.vz_live.proofs.live.LiveSurfaces.show.Goals as goal
 
 pub fly-requires-clause-keeps : goal.fly-requires-clause-keeps
@@ -90,3 +90,12 @@ returns-in-Some-2-clause-live c p w x =
     c.in_ok-flight.ensures.flown c.roster-roster.ensures
     (reply_is p w c.args.root.now c.args.size _ h (Some c.in-Some-2.damage) (sym c.in-Some-2.is ∙ c.in_ok-measure.ensures.damage))
     (c.hold_each.ensures.lent p w lifts) c.in_ok-measure.ensures.told c.in_ok-measure.ensures.last
+
+pub returns-in-None-clause-room : goal.returns-in-None-clause-room
+returns-in-None-clause-room c =
+    let x = c.requires.shows in
+    let h = subst (IsShowing x.0 x.1 c.args.root.now c.args.size) (sym c.self.view_is) x.2 in
+    none_flying x.0 x.1 c.args.root.now c.args.size _ h c.reserve.new.self.spare
+
+pub returns-in-Some-2-clause-room : goal.returns-in-Some-2-clause-room
+returns-in-Some-2-clause-room c = omega (arith, c.len.ensures, c.in_ok-reserve.ensures.ok)
