@@ -1,0 +1,18 @@
+mod Follows
+pub mod Following
+pub mod Managed
+mod Resting
+pub mod Showing
+pub mod Landings
+mod Comings
+mod Opened
+pub mod Depicting
+pub mod Judged
+pub mod Stepped
+pub mod Rooming
+pub mod Own_changes
+pub mod Submits
+pub mod Reading_all
+pub mod Taken_in
+pub mod Arrived_new
+pub mod Carried

@@ -1,0 +1,166 @@
+-- A drawing: what a look is asked, what is answered, and the parts stand for the state that is left.
+use Rattle.std.proofs.Common.{◌≡◌, ◌≤◌, Bool, true, false, Option, None, [], is_some, Result, Ok, Err, refl, ap, sym, ◌∙◌, subst}
+use Rattle.std.specs.Prelude.{OnErr}
+use Rattle.vz_geom.specs.declared.Size.{Size}
+use Rattle.vz_ids.specs.declared.SurfaceId.{SurfaceId}
+use Rattle.vz_frame.specs.Roomy.{Roomy}
+use Rattle.vz_rules.specs.declared.entry.Event.TheVariants as event
+use Rattle.vz_rules.specs.declared.entry.Fed.{Fed}
+use Rattle.vz_rules.specs.declared.entry.Reply.{Reply}
+use Rattle.vz_rules.specs.declared.entry.Reply.TheVariants as reply
+use Rattle.vz_rules.specs.declared.entry.Returned.{Returned}
+use Rattle.vz_rules.specs.Plan.{Plan}
+use Rattle.vz_rules.specs.World.{World}
+use Rattle.vz_rules.specs.Messages.{Answer, says}
+use Rattle.vz_rules.specs.Step.{Outcome, answer_to, draw_answer, step_in}
+use Rattle.vz_rules.specs.Kept.{Keeps, no_effects}
+use Rattle.vz_rules.proofs.Kept_between.{keeps_step}
+use Rattle.vz_rules.proofs.Kept_answers.{keeps_draw}
+use Rattle.vz_rules.proofs.Kept_planned.{plan_step}
+use Rattle.vz_rules.proofs.Kept_sending.{messages_step}
+use Rattle.vz_machine.specs.declared.machine.Step.{Step}
+use Rattle.vz_lending.specs.Lent.{NoneReleased, resources_out}
+use Rattle.vz_waiting.specs.Awaiting.{AreWaiting}
+use Rattle.vz_live.specs.Living.{Live, AreLive}
+use Rattle.vz_live.specs.Landing.{flying_count}
+use Rattle.vz_live.specs.Drawing.{IsDrawing, Foretells}
+use Rattle.vz_live.specs.declared.looking.Look.{Look}
+use Rattle.vz_live.specs.declared.looking.Look.TheVariants as look
+use Rattle.vz_live.proofs.Drawn.{flightless}
+use Rattle.vz_settling.specs.Settles.{AreSettling}
+use Rattle.vz_support.specs.Supporting.{IsSupport}
+use Rattle.vz_manager.specs.Serving.{Served, Serves, IsStepOf}
+use Rattle.vz_manager.specs.Showing.{IsToShow}
+use Rattle.vz_manager.proofs.Following.{quiet_step, step_of}
+
+draw_is : (p : Plan) (w : World) → answer_to p w event.Draw ≡ draw_answer p w
+unfolding answer_to
+draw_is p w = refl
+
+-- nothing follows a drawing
+pub step_drawn : (p : Plan) (w : World) → Keeps w
+    → step_in p w event.Draw ≡ record { reply = (draw_answer p w).reply; effects = no_effects; world = (draw_answer p w).world }
+step_drawn p w h = quiet_step p w event.Draw (draw_answer p w) (draw_is p w) refl (keeps_draw p w h)
+
+world_drawn : (p : Plan) (w : World) → Keeps w → (step_in p w event.Draw).world ≡ (draw_answer p w).world
+world_drawn p w h = ap (λ (o : Outcome). o.world) (step_drawn p w h)
+
+-- a step that is answered so
+pub step_shown : (p : Plan) (w : World) (s : Step) → Keeps w → s.reply ≡ (draw_answer p w).reply → s.effects ≡ no_effects
+    → IsStepOf p w event.Draw s
+step_shown p w s h told follows = step_of p w event.Draw (draw_answer p w) s (draw_is p w) refl (keeps_draw p w h) told follows
+
+-- What a look tells
+
+-- the parts have what a look is asked for
+pub draws_there : (p : Plan) (w : World) (v : Served) → Serves p w v → IsDrawing p w v.support.root v.size v.settling.live
+draws_there p w v h =
+    record {
+      plan = h.plan;
+      keeps = h.keeps;
+      of_plan = h.of_plan;
+      live = h.settling.live;
+      rooted = sym h.support.root;
+      sized_as = sym h.size;
+      none_released = h.released;
+    }
+
+-- where a drawing is answered so and leaves the state, so does the step
+pub step_untouched : (p : Plan) (w : World) (r : Reply) (s : Step) → Keeps w → draw_answer p w ≡ says r w → s.reply ≡ r
+    → s.effects ≡ no_effects → IsStepOf p w event.Draw s
+step_untouched p w r s h e told follows = step_shown p w s h (told ∙ ap (λ (a : Answer). a.reply) (sym e)) follows
+
+pub serves_untouched : (p : Plan) (w : World) (r : Reply) (v : Served) → Serves p w v → draw_answer p w ≡ says r w
+    → Serves p (step_in p w event.Draw).world v
+serves_untouched p w r v h e =
+    subst (λ (u : World). Serves p u v) (sym (world_drawn p w h.keeps ∙ ap (λ (a : Answer). a.world) e)) h
+
+-- What a drawing leaves
+
+-- no frame is in flight before a drawing that walks
+pub none_flying : (p : Plan) (w : World) (v : Served) (root : SurfaceId) → IsToShow p w root v → is_some v.settling.live.flight ≡ false
+none_flying p w v root h = flightless p w root v.size v.settling.live h.shows
+
+abbrev shown : Served → Live → Roomy Returned → Roomy Fed → Served
+shown v live returned fed = record v { settling = record v.settling { live = live }; returned = returned; fed = fed }
+
+-- the parts stand for the state that is left, where there is room for the end of what is drawn
+pub serves_drawn : (p : Plan) (w : World) (v : Served) (live : Live) (returned : Roomy Returned) (fed : Roomy Fed) → Serves p w v
+    → IsSupport p (draw_answer p w).world v.support → AreLive (draw_answer p w).world None live
+    → AreWaiting (draw_answer p w).world v.settling.waiting → NoneReleased live.lent
+    → returned.list ≡ [] → fed.list ≡ [] → resources_out live.lent ≤ returned.spare → flying_count live.flight ≤ fed.spare
+    → Serves p (step_in p w event.Draw).world (shown v live returned fed)
+serves_drawn p w v live returned fed h support stands waiting released none_returned none_fed room places =
+    record {
+      plan = h.plan;
+      keeps = keeps_step p w event.Draw h.keeps.always;
+      of_plan = plan_step p w event.Draw h.plan h.keeps.always h.of_plan;
+      messages = messages_step p w event.Draw h.plan h.keeps.always h.messages;
+      size = h.size;
+      support = subst (λ (u : World). IsSupport p u v.support) (sym (world_drawn p w h.keeps)) support;
+      settling = subst (λ (u : World). AreSettling u None (record v.settling { live = live })) (sym (world_drawn p w h.keeps))
+          (record { always = (keeps_draw p w h.keeps).always; live = stands; waiting = waiting });
+      released = released;
+      lands = record { none_returned = none_returned; none_fed = none_fed; returned = λ flies. room; fed = λ flies. places };
+    }
+
+unlike : {A : Type 0} (t : Bool) → t ≡ false → t ≡ true → A
+unlike true e f = absurd (cc)
+unlike false e f = absurd (cc)
+
+pub on_err : {T E : Type 0} (r : Result T E) (P : Type 0) → P → OnErr r P
+on_err (Ok x) P is = tt
+on_err (Err e) P is = is
+
+-- where memory was wanted: the same state, with no frame in flight as before
+pub serves_still : (p : Plan) (w : World) (v : Served) (live : Live) (returned : Roomy Returned) (fed : Roomy Fed) → Serves p w v
+    → is_some live.flight ≡ false → AreLive w None live → NoneReleased live.lent → returned.list ≡ [] → fed.list ≡ []
+    → Serves p w (shown v live returned fed)
+serves_still p w v live returned fed h none stands released none_returned none_fed =
+    record {
+      plan = h.plan;
+      keeps = h.keeps;
+      of_plan = h.of_plan;
+      messages = h.messages;
+      size = h.size;
+      support = h.support;
+      settling = record { always = h.settling.always; live = stands; waiting = h.settling.waiting };
+      released = released;
+      lands =
+          record {
+            none_returned = none_returned;
+            none_fed = none_fed;
+            returned = λ flies. unlike (is_some live.flight) none flies;
+            fed = λ flies. unlike (is_some live.flight) none flies;
+          };
+    }
+
+-- A look
+
+-- what a look tells, for every state
+abbrev Tells : Option SurfaceId → Live → Look → Type 0
+Tells root v l = (p : Plan) (w : World) (size : Size) → IsDrawing p w root size v → Foretells p w root size v l
+
+-- a look at the root that is kept for the clients
+pub draws_root : (p : Plan) (w : World) (v : Served) (root : Option SurfaceId) → Serves p w v → root ≡ w.root
+    → IsDrawing p w root v.size v.settling.live
+draws_root p w v root h is = subst (λ o. IsDrawing p w o v.size v.settling.live) (h.support.root ∙ sym is) (draws_there p w v h)
+
+-- it saw this root
+pub to_show : (p : Plan) (w : World) (v : Served) (root : Option SurfaceId) (id : SurfaceId) (l : Look) → Serves p w v → root ≡ w.root
+    → Tells root v.settling.live l → l ≡ look.Seen id → IsToShow p w id v
+to_show p w v root id l h is tells seen =
+    record { serves = h; shows = (subst (Foretells p w root v.size v.settling.live) seen (tells p w v.size (draws_root p w v root h is))).1 }
+
+-- it saw that a drawing is answered so, and leaves the state
+pub answered_busy : (p : Plan) (w : World) (v : Served) (root : Option SurfaceId) (l : Look) → Serves p w v → root ≡ w.root
+    → Tells root v.settling.live l → l ≡ look.Busy → draw_answer p w ≡ says reply.Busy w
+answered_busy p w v root l h is tells busy = subst (Foretells p w root v.size v.settling.live) busy (tells p w v.size (draws_root p w v root h is))
+
+pub answered_rootless : (p : Plan) (w : World) (v : Served) (root : Option SurfaceId) (l : Look) → Serves p w v → root ≡ w.root
+    → Tells root v.settling.live l → l ≡ look.NoRoot → draw_answer p w ≡ says reply.NoRoot w
+answered_rootless p w v root l h is tells none = subst (Foretells p w root v.size v.settling.live) none (tells p w v.size (draws_root p w v root h is))
+
+pub answered_heavy : (p : Plan) (w : World) (v : Served) (root : Option SurfaceId) (l : Look) → Serves p w v → root ≡ w.root
+    → Tells root v.settling.live l → l ≡ look.TooMuch → draw_answer p w ≡ says reply.TooMuch w
+answered_heavy p w v root l h is tells heavy = subst (Foretells p w root v.size v.settling.live) heavy (tells p w v.size (draws_root p w v root h is))

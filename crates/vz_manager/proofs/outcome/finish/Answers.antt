@@ -1,0 +1,5 @@
+use Rattle.vz_manager.proofs.Follows.{tells_one}
+use Rattle.vz_manager.proofs.outcome.finish.Goals as goal
+
+pub returns-clause-effects : goal.returns-clause-effects
+returns-clause-effects c w r h = tells_one _ _ _ c.take_effects.ensures (c.follow.ensures.effects w r h)

@@ -1,0 +1,107 @@
+use Rattle.std.proofs.Common.{◌++◌, [], None, ap, sym, ◌∙◌, subst, arith}
+use Rattle.vz_rules.specs.declared.entry.Effects.{Effects}
+use Rattle.vz_rules.specs.Settle.{settle}
+use Rattle.vz_rules.specs.Reach.{naming, clearing, collect, destroyed_in}
+use Rattle.vz_rules.specs.Returns.{give_back, returned_in, fed_in}
+use Rattle.vz_lending.specs.Lent.{NoneReleased, resources_out}
+use Rattle.vz_settling.specs.declared.settling.Settling.{Settling}
+use Rattle.vz_settling.specs.Settles.{AreSettling}
+use Rattle.vz_manager.specs.Followed.{new_id}
+use Rattle.vz_manager.proofs.Follows.{NamesKeep, collects_in, outcome_world, effects_are}
+use Rattle.vz_manager.proofs.outcome.follow.Goals as goal
+
+pub keep-requires : goal.keep-requires
+keep-requires c = record { room = λ n e. omega (arith, c.requires.room.keeps n e, c.settle.ensures.kept) }
+
+pub collect-requires-clause-collects : goal.collect-requires-clause-collects
+collect-requires-clause-collects c =
+    let names : NamesKeep = record {
+      always = c.changes_keep.ensures.naming;
+      live = c.surfaces_stay.ensures.naming;
+      waiting = c.waiting_ones_stay.ensures.naming;
+      again = c.named_ones_are_collected.ensures.named;
+    } in
+    let x = c.requires.follows in (
+      naming (settle x.0),
+      collects_in x.0 c.args.root c.args.new c.args.settling.now c.settle.new.self c.keep.new.settling c.args.following.now names x.1
+          (c.settle.ensures.settled x.0 (new_id c.args.new) x.1.settles) c.keep.ensures.kept,
+    )
+
+pub give_back-requires-clause-stands : goal.give_back-requires-clause-stands
+give_back-requires-clause-stands c =
+    let names : NamesKeep = record {
+      always = c.changes_keep.ensures.naming;
+      live = c.surfaces_stay.ensures.naming;
+      waiting = c.waiting_ones_stay.ensures.naming;
+      again = c.named_ones_are_collected.ensures.named;
+    } in
+    let x = c.requires.follows in
+    let to = collects_in x.0 c.args.root c.args.new c.args.settling.now c.settle.new.self c.keep.new.settling c.args.following.now names x.1
+    (c.settle.ensures.settled x.0 (new_id c.args.new) x.1.settles) c.keep.ensures.kept in
+    let s = c.collect.ensures.cleared (naming (settle x.0)) to in
+    (clearing (naming (settle x.0)), None, s.always, s.live)
+
+pub returns-clause-stands : goal.returns-clause-stands
+returns-clause-stands c w r h =
+    let names : NamesKeep = record {
+      always = c.changes_keep.ensures.naming;
+      live = c.surfaces_stay.ensures.naming;
+      waiting = c.waiting_ones_stay.ensures.naming;
+      again = c.named_ones_are_collected.ensures.named;
+    } in
+    let to = collects_in w c.args.root c.args.new c.args.settling.now c.settle.new.self c.keep.new.settling c.args.following.now names h
+    (c.settle.ensures.settled w (new_id c.args.new) h.settles) c.keep.ensures.kept in
+    let s = subst (λ u. AreSettling u None c.collect.new.self) (sym (c.named_ones_are_collected.ensures.collect (settle w)))
+    (c.collect.ensures.cleared (naming (settle w)) to) in
+    subst (λ u. AreSettling u None (record { live = c.feed.new.self; waiting = c.collect.new.self.waiting })) (sym (outcome_world w r))
+    (record {
+      always = c.changes_keep.ensures.feedback [] (give_back (collect (settle w)))
+          (c.changes_keep.ensures.returns (collect (settle w)) s.always);
+      live = c.feed.ensures.live (give_back (collect (settle w))) None
+          (c.give_back.ensures.live (collect (settle w)) None s.always s.live);
+      waiting = c.waiting_ones_stay.ensures.feedback [] (give_back (collect (settle w))) _
+          (c.waiting_ones_stay.ensures.returns (collect (settle w)) _ s.waiting);
+    })
+
+pub returns-clause-effects : goal.returns-clause-effects
+returns-clause-effects c w r h =
+    let names : NamesKeep = record {
+      always = c.changes_keep.ensures.naming;
+      live = c.surfaces_stay.ensures.naming;
+      waiting = c.waiting_ones_stay.ensures.naming;
+      again = c.named_ones_are_collected.ensures.named;
+    } in
+    let to = collects_in w c.args.root c.args.new c.args.settling.now c.settle.new.self c.keep.new.settling c.args.following.now names h
+    (c.settle.ensures.settled w (new_id c.args.new) h.settles) c.keep.ensures.kept in
+    let s = subst (λ u. AreSettling u None c.collect.new.self) (sym (c.named_ones_are_collected.ensures.collect (settle w)))
+    (c.collect.ensures.cleared (naming (settle w)) to) in
+    let room = c.requires.room in
+    let e = effects_are w r in
+    record {
+      activated = ap (λ (x : Effects). x.activated) e ∙ sym (c.settle.ensures.activated w (new_id c.args.new) h.settles);
+      destroyed = ap (λ (x : Effects). x.destroyed) e
+          ∙ sym (c.collect.ensures.destroyed (naming (settle w)) to
+          ∙ (ap (λ l. l ++ destroyed_in (naming (settle w))) room.none_destroyed
+          ∙ c.named_ones_are_collected.ensures.destroyed (settle w)));
+      returned = ap (λ (x : Effects). x.returned) e
+          ∙ sym (c.give_back.ensures.returned (collect (settle w)) None s.always s.live
+          ∙ ap (λ l. l ++ returned_in (collect (settle w))) room.none_returned);
+      fed = ap (λ (x : Effects). x.fed) e
+          ∙ sym (c.feed.ensures.fed (give_back (collect (settle w))) None
+          (c.give_back.ensures.live (collect (settle w)) None s.always s.live)
+          ∙ ap (λ l. l ++ fed_in [] (give_back (collect (settle w)))) room.none_fed);
+    }
+
+pub returns-clause-released : goal.returns-clause-released
+returns-clause-released c = subst NoneReleased (sym (ap (λ v. v.lent) c.feed.ensures.rest)) c.give_back.ensures.released
+
+pub returns-clause-out : goal.returns-clause-out
+returns-clause-out c =
+    omega (
+      arith,
+      ap (λ v. resources_out v.lent) c.feed.ensures.rest,
+      c.give_back.ensures.out,
+      c.collect.ensures.out,
+      ap (λ (v : Settling). resources_out v.live.lent) c.keep.ensures.rest,
+      c.settle.ensures.out,
+    )

@@ -1,0 +1,76 @@
+use Rattle.std.proofs.Common.{sym, subst, ◌∙◌, ap, arith, refl}
+use Rattle.vz_frame.specs.Roomy.{Roomy}
+use Rattle.vz_rules.specs.declared.entry.Fed.{Fed}
+use Rattle.vz_rules.specs.declared.entry.Returned.{Returned}
+use Rattle.vz_rules.specs.Returns.{give_back, returned_in, fed_in}
+use Rattle.vz_rules.specs.Ends.{landed}
+use Rattle.vz_live.specs.Living.{Live}
+use Rattle.vz_manager.specs.Serving.{Serves}
+use Rattle.vz_manager.proofs.Resting.{appended}
+use Rattle.vz_manager.proofs.Landings.{flying, places_there, step_idle, serves_idle, step_landed}
+use Rattle.vz_manager.proofs.Landings.{support_landed, waiting_landed, serves_landed}
+use Rattle.vz_manager.proofs.parts.Parts.done.Goals as goal
+
+pub returns-then-not-is_flying-clause-step : goal.returns-then-not-is_flying-clause-step
+returns-then-not-is_flying-clause-step c p w old =
+    let h = subst (Serves p w) (sym c.self.view_is) old in
+    step_idle p w _ h c.nothing_follows.result (sym c.is_flying.ensures ∙ c.if-not-is_flying.true) c.nothing_follows.ensures.reply
+    c.nothing_follows.ensures.effects
+
+pub returns-then-not-is_flying-clause-serves : goal.returns-then-not-is_flying-clause-serves
+returns-then-not-is_flying-clause-serves c p w old =
+    let h = subst (Serves p w) (sym c.self.view_is) old in
+    subst (Serves p _) c.self.view_is (serves_idle p w _ h (sym c.is_flying.ensures ∙ c.if-not-is_flying.true))
+
+pub land-requires-clause-lands : goal.land-requires-clause-lands
+land-requires-clause-lands c =
+    let s = c.requires.stands in
+    let h = subst (Serves s.0 s.1) (sym c.self.view_is) s.2 in
+    let f = flying s.0 s.1 _ h (sym c.is_flying.ensures ∙ c.if-not-is_flying.false) in
+    (s.1, f.0, f.1)
+
+pub land-requires-clause-room : goal.land-requires-clause-room
+land-requires-clause-room c =
+    let s = c.requires.stands in
+    let h = subst (Serves s.0 s.1) (sym c.self.view_is) s.2 in
+    omega (
+      arith,
+      h.lands.returned (sym c.is_flying.ensures ∙ c.if-not-is_flying.false),
+      ap (λ (r : Roomy Returned). r.spare) c.replace-returned.ensures.value,
+    )
+
+pub land-requires-clause-places : goal.land-requires-clause-places
+land-requires-clause-places c =
+    let s = c.requires.stands in
+    let h = subst (Serves s.0 s.1) (sym c.self.view_is) s.2 in
+    omega (
+      arith,
+      places_there s.0 s.1 _ h (sym c.is_flying.ensures ∙ c.if-not-is_flying.false),
+      ap (λ (r : Roomy Fed). r.spare) c.replace-fed.ensures.value,
+    )
+
+pub returns-clause-step : goal.returns-clause-step
+returns-clause-step c p w old =
+    let h = subst (Serves p w) (sym c.self.view_is) old in
+    let f = flying p w _ h (sym c.is_flying.ensures ∙ c.if-not-is_flying.false) in
+    step_landed p w c.shown.result f.0 c.land.new.returned.list c.land.new.fed.list h.keeps f.1.flies c.shown.ensures.reply
+    c.shown.ensures.effects
+    (appended _ _ _ (returned_in (landed w)) refl (c.land.ensures.returned w f.0 f.1)
+    (ap (λ (r : Roomy Returned). r.list) c.replace-returned.ensures.value ∙ h.lands.none_returned))
+    (appended _ _ _ (fed_in f.0 (landed w)) refl (c.land.ensures.fed w f.0 f.1)
+    (ap (λ (r : Roomy Fed). r.list) c.replace-fed.ensures.value ∙ h.lands.none_fed))
+
+pub returns-clause-serves : goal.returns-clause-serves
+returns-clause-serves c p w old =
+    let h = subst (Serves p w) (sym c.self.view_is) old in
+    let f = flying p w _ h (sym c.is_flying.ensures ∙ c.if-not-is_flying.false) in
+    let support = support_landed p w f.0 _ f.1.flies (c.support_stays_at_ends.ensures.done p w _ h.support) in
+    let waiting = waiting_landed w f.0 _ f.1.flies (c.waiting_ones_stay.ensures.done w _ h.settling.waiting) in
+    serves_landed p w _ f.0 c.land.new.self _ _ h f.1.flies
+    (c.support_stays_at_ends.ensures.feedback p (give_back (landed w)) f.0 _
+    (c.support_stays_at_ends.ensures.returns p (landed w) _ support))
+    (c.land.ensures.live w f.0 f.1)
+    (c.waiting_ones_stay.ensures.feedback f.0 (give_back (landed w)) _ (c.waiting_ones_stay.ensures.returns (landed w) _ waiting))
+    c.land.ensures.released (ap (λ (v : Live). v.flight) c.land.ensures.rest)
+    (ap (λ (r : Roomy Returned). r.list) c.replace-returned.ensures.after ∙ c.new.ensures)
+    (ap (λ (r : Roomy Fed). r.list) c.replace-fed.ensures.after ∙ c.new-2.ensures)

@@ -1,0 +1,49 @@
+-- The picture of a drawing, made of flat operations.
+use Rattle.std.specs.Prelude.{◌≡◌, true, Option, Some, List}
+use Rattle.std.specs.Option.{option_map}
+use Rattle.vz_geom.specs.declared.Point.{Point}
+use Rattle.vz_geom.specs.declared.Size.{Size}
+use Rattle.vz_geom.specs.Rectangle.{Rectangle, Covers, has, sized}
+use Rattle.vz_geom.specs.Display.{IsDisplaySize}
+use Rattle.vz_pixels.specs.Colour.{black}
+use Rattle.vz_rules.specs.declared.entry.Reply.{Reply}
+use Rattle.vz_rules.specs.Plan.{Plan, IsPlan}
+use Rattle.vz_rules.specs.World.{World, Scene}
+use Rattle.vz_rules.specs.Scene.{scene_of}
+use Rattle.vz_rules.specs.Paint.{full}
+use Rattle.vz_rules.specs.Step.{draw_answer}
+use Rattle.vz_machine.specs.Pictured.{Pictured}
+use Rattle.vz_machine.specs.Stepping.{ShowsDrawn}
+use Rattle.vz_flat.specs.declared.op.Op.{Op}
+use Rattle.vz_flat.specs.Ops.{value}
+
+-- the size of a display, the operations that are drawn on it, and the rectangle that changed
+pub record Flattened : Type 0 where
+  pub size : Size
+  pub ops : List Op
+  pub changed : Rectangle
+
+-- the size is a display's, and what changed is on it
+pub record IsFlattened (f : Flattened) : Type 0 where
+  pub sides : IsDisplaySize f.size
+  pub inside : Covers (sized f.size) f.changed
+
+-- the picture that operations leave on opaque black
+abbrev pub flat_picture : Flattened → Pictured
+flat_picture f = record { size = f.size; colour = λ q. value f.ops q black; changed = f.changed }
+
+-- something can be seen of a state, and at each point of the plan's display the operations leave its colour
+pub record LookLike (p : Plan) (w : World) (ops : List Op) : Type 0 where
+  pub scene : Scene
+  pub seen : scene_of w ≡ Some scene
+  pub colours : (q : Point) → has (sized p.size) q ≡ true → value ops q black ≡ full scene q
+
+-- a drawing of a state, on the plan's display of this size, is answered so
+pub record IsAnswered (p : Plan) (w : World) (size : Size) (reply : Reply) : Type 0 where
+  pub plan : IsPlan p
+  pub sized_as : p.size ≡ size
+  pub reply_is : reply ≡ (draw_answer p w).reply
+
+-- there is a picture exactly where the answer is Drawn: of what can be seen of the state, and what changed is the damage
+abbrev pub IsPainted : Plan → World → Reply → Option Flattened → Type 0
+IsPainted p w reply painted = ShowsDrawn (record { plan = p; world = w }) reply (option_map flat_picture painted)

@@ -1,0 +1,106 @@
+//! What is asked of the machine between steps.
+ghost use Rattle.std.specs.Prelude.{◌≡◌, ◌≤◌, None, length, IfOk};
+ghost use Rattle.vz_rules.specs.Plan.{Plan};
+ghost use Rattle.vz_rules.specs.World.{World, Machine};
+ghost use Rattle.vz_rules.specs.Course.{some_waits};
+ghost use Rattle.vz_rules.specs.Log.{rest_in};
+ghost use Rattle.vz_rules.specs.Kept.{Keeps, KeepsAlways};
+ghost use Rattle.vz_machine.specs.Stepping.{waits_at, idle_at, answered_at, attached_at, listed_at};
+ghost use Rattle.vz_live.specs.Living.{AreLive};
+ghost use Rattle.vz_manager.specs.Serving.{Serves};
+
+use crate::parts::Parts;
+use std::alloc::Global;
+use vz_base::Memory;
+use vz_frame::{List, Room};
+use vz_ids::Sub;
+use vz_live::LiveSurfaces;
+use vz_rules::{Rest, Returned};
+
+/// The references that are out, by client and rising id. Memory is the only error.
+fn held(alloc: Global, live: &LiveSurfaces) -> Result<List<Returned>, Memory>
+    ensures { (w : World) → KeepsAlways w → AreLive w None live.now
+        → IfOk result (λ l. l ≡ (rest_in w).held) }
+{
+    let mut out = Room::new(alloc);
+    live.make_room(0, &mut out)?;
+    live.held(&mut out);
+    Ok(out.into_list())
+}
+
+/// The submissions that await feedback, by client and ordinal. Memory is the only error.
+fn unfed(alloc: Global, live: &LiveSurfaces) -> Result<List<Sub>, Memory>
+    ensures { (w : World) → Keeps w → AreLive w None live.now
+        → IfOk result (λ l. l ≡ (rest_in w).unfed) }
+{
+    let mut out = Room::new(alloc);
+    out.reserve(live.unfed())?;
+    live.subs(&mut out);
+    Ok(out.into_list())
+}
+
+impl Parts {
+    /// Whether a client's next answer would be NotYet. Condition: the client is there.
+    pub(crate) fn waits(&self, c: u32) -> bool
+        requires some { 1 ≤ c }
+        requires known { c ≤ length self.now.support.clients }
+        ensures { (m : Machine) → Serves m.plan m.world self.now → result ≡ waits_at m c }
+    {
+        self.support.waits(c)
+    }
+
+    /// Whether a client is closed, has no message left or waits. Condition: the client is there.
+    pub(crate) fn idle(&self, c: u32) -> bool
+        requires some { 1 ≤ c }
+        requires known { c ≤ length self.now.support.clients }
+        ensures { (m : Machine) → Serves m.plan m.world self.now → result ≡ idle_at m c }
+    {
+        self.support.idle(c)
+    }
+
+    /// Whether a client has answered the tick. Condition: the client is there.
+    pub(crate) fn answered(&self, c: u32) -> bool
+        requires some { 1 ≤ c }
+        requires known { c ≤ length self.now.support.clients }
+        ensures { (m : Machine) → Serves m.plan m.world self.now → result ≡ answered_at m c }
+    {
+        self.support.answered(c)
+    }
+
+    /// Whether the first client's sink reaches a client's. Condition: the client is there.
+    pub(crate) fn attached(&self, c: u32) -> bool
+        requires some { 1 ≤ c }
+        requires known { c ≤ length self.now.support.clients }
+        ensures { (m : Machine) → Serves m.plan m.world self.now → result ≡ attached_at m c }
+    {
+        self.support.attached(c)
+    }
+
+    /// How many resources the next message of a client lists, 0 where it has none or it is no
+    /// submission. Condition: the client is there.
+    pub(crate) fn listed(&self, c: u32) -> u64
+        requires some { 1 ≤ c }
+        requires known { c ≤ length self.now.support.clients }
+        ensures { (m : Machine) → Serves m.plan m.world self.now → result ≡ listed_at m c }
+    {
+        self.support.listed(c)
+    }
+
+    /// Whether some submission waits to become active.
+    pub(crate) fn waiting(&self) -> bool
+        ensures { (p : Plan) (w : World) → Serves p w self.now → result ≡ some_waits w }
+    {
+        0 < self.settling.waiting.count()
+    }
+
+    /// What is still out: references not given back and submissions without feedback. Memory is the
+    /// only error.
+    pub(crate) fn rest(&self, alloc: Global) -> Result<Rest, Memory>
+        ensures { (p : Plan) (w : World) → Serves p w self.now
+            → IfOk result (λ r. r ≡ rest_in w) }
+    {
+        let held = held(alloc, &self.settling.live)?;
+        let unfed = unfed(alloc, &self.settling.live)?;
+        Ok(Rest { held, unfed })
+    }
+}

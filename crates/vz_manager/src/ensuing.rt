@@ -1,0 +1,114 @@
+//! Steps from which something follows, but for submissions.
+ghost use Rattle.std.specs.Prelude.{◌≡◌, ◌≤◌, length, IfOk, OnOk, OnErr};
+ghost use Rattle.vz_ids.specs.declared.LocalSurfaceId.{LocalSurfaceId as Local};
+ghost use Rattle.vz_frame.specs.declared.message.Message.TheVariants.{SetRoot, Close};
+ghost use Rattle.vz_rules.specs.declared.entry.Event.TheVariants as event;
+ghost use Rattle.vz_rules.specs.Plan.{Plan};
+ghost use Rattle.vz_rules.specs.World.{World, Client};
+ghost use Rattle.vz_rules.specs.Step.{step_in};
+ghost use Rattle.vz_support.specs.Supporting.{IsNext};
+ghost use Rattle.vz_manager.specs.Serving.{Serves, IsStepOf, IsSending};
+
+use crate::outcome::finish;
+use crate::parts::Parts;
+use crate::room::ready_to_follow;
+use vz_base::Memory;
+use vz_live::laws::surfaces_stay;
+use vz_machine::Step;
+use vz_rules::Reply;
+use vz_waiting::laws::waiting_ones_stay;
+
+impl Parts {
+    /// A client names the root, whether it exists or not; only the first one may. For want of
+    /// memory, and only then, it answers Memory and nothing changes. Conditions: the client is
+    /// there, this is its next message, and the parts stand for a state.
+    pub(crate) fn set_root(&mut self, c: u32) -> Result<Step, Memory>
+        requires some { 1 ≤ c }
+        requires known { c ≤ length self.old.support.clients }
+        requires next { (local : Local) × IsNext self.old.support c (SetRoot local) }
+        requires stands { (p : Plan) × (w : World) × Serves p w self.old }
+        ensures step { (p : Plan) (w : World) (x : Client) (local : Local) → Serves p w self.old
+            → IsSending p w c x (SetRoot local)
+            → IfOk result (λ s. IsStepOf p w (event.Client c) s) }
+        ensures serves { (p : Plan) (w : World) (x : Client) (local : Local) → Serves p w self.old
+            → IsSending p w c x (SetRoot local)
+            → OnOk result (Serves p (step_in p w (event.Client c)).world self.new) }
+        ensures err { OnErr result (self.new ≡ self.old) }
+    {
+        surfaces_stay();
+        waiting_ones_stay();
+        ready_to_follow(&self.settling, 0, &mut self.following)?;
+        let reply = self.support.set_root(c);
+        let root = self.support.root();
+        Ok(finish(
+            self.alloc,
+            reply,
+            &mut self.settling,
+            root,
+            None,
+            &mut self.following,
+        ))
+    }
+
+    /// A client is closed. For want of memory, and only then, it answers Memory and nothing
+    /// changes. Conditions: the client is there, this is its next message, and the parts stand for
+    /// a state.
+    pub(crate) fn close(&mut self, c: u32) -> Result<Step, Memory>
+        requires some { 1 ≤ c }
+        requires known { c ≤ length self.old.support.clients }
+        requires next { IsNext self.old.support c Close }
+        requires stands { (p : Plan) × (w : World) × Serves p w self.old }
+        ensures step { (p : Plan) (w : World) (x : Client) → Serves p w self.old
+            → IsSending p w c x Close
+            → IfOk result (λ s. IsStepOf p w (event.Client c) s) }
+        ensures serves { (p : Plan) (w : World) (x : Client) → Serves p w self.old
+            → IsSending p w c x Close
+            → OnOk result (Serves p (step_in p w (event.Client c)).world self.new) }
+        ensures err { OnErr result (self.new ≡ self.old) }
+    {
+        ready_to_follow(&self.settling, 0, &mut self.following)?;
+        let sink = self.support.sink(c);
+        self.support.close(c);
+        self.settling.live.close(c, sink);
+        self.settling
+            .waiting
+            .closed(sink, &mut self.following.activated);
+        let root = self.support.root();
+        Ok(finish(
+            self.alloc,
+            Reply::Left,
+            &mut self.settling,
+            root,
+            None,
+            &mut self.following,
+        ))
+    }
+
+    /// A begin-frame: the tick goes on. For want of memory, and only then, it answers Memory and
+    /// nothing changes. Condition: the parts stand for a state.
+    pub(crate) fn begin(&mut self) -> Result<Step, Memory>
+        requires stands { (p : Plan) × (w : World) × Serves p w self.old }
+        ensures step { (p : Plan) (w : World) → Serves p w self.old
+            → IfOk result (λ s. IsStepOf p w event.Begin s) }
+        ensures serves { (p : Plan) (w : World) → Serves p w self.old
+            → OnOk result (Serves p (step_in p w event.Begin).world self.new) }
+        ensures err { OnErr result (self.new ≡ self.old) }
+    {
+        ready_to_follow(&self.settling, 0, &mut self.following)?;
+        let tick = self.support.begin();
+        self.settling.live.tick(tick);
+        self.settling
+            .waiting
+            .ticked(tick, &mut self.following.activated);
+        let root = self.support.root();
+        let reply = Reply::Ticked(tick);
+        Ok(finish(
+            self.alloc,
+            reply,
+            &mut self.settling,
+            root,
+            None,
+            &mut self.following,
+        ))
+    }
+}

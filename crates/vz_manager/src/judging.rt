@@ -1,0 +1,197 @@
+//! What is asked of a client's submission before anything changes: why it is refused, which of its
+//! dependencies are not met, and when it becomes active at the latest.
+ghost use Rattle.std.specs.Prelude.{◌≡◌, ◌≤◌, ◌<◌, ◌+◌, ◌++◌, ◌∷◌, [], not, filter, length, Some};
+ghost use Rattle.vz_base.specs.declared.limits.TheConstants.{GREATEST_DEADLINE, LAST_TICK, MOST_FILES};
+ghost use Rattle.vz_ids.specs.declared.LocalSurfaceId.{LocalSurfaceId as Local};
+ghost use Rattle.vz_ids.specs.Ids.{is_raised};
+ghost use Rattle.vz_frame.specs.declared.frame.CompositorFrame.{CompositorFrame as Frame};
+ghost use Rattle.vz_frame.specs.declared.message.Message.TheVariants.{Submit};
+ghost use Rattle.vz_frame.specs.Frame.{same_size};
+ghost use Rattle.vz_rules.specs.declared.entry.Event.TheVariants as event;
+ghost use Rattle.vz_rules.specs.Plan.{Plan};
+ghost use Rattle.vz_rules.specs.World.{World, Client, client_at, next_message};
+ghost use Rattle.vz_rules.specs.Settle.{is_met};
+ghost use Rattle.vz_rules.specs.Step.{step_in};
+ghost use Rattle.vz_live.specs.Asking.{violates_named, has_other_size_named};
+ghost use Rattle.vz_support.specs.Supporting.{IsNext, IsSupport};
+ghost use Rattle.vz_manager.specs.Serving.{Serves, IsStepOf, IsSending};
+ghost use Rattle.vz_manager.specs.Judging.{shape_refusal, refusal_in, deadline_of, AreAsked};
+
+use crate::parts::Parts;
+use vz_base::limits::DEFAULT_DEADLINE;
+use vz_frame::{CompositorFrame, Message, Room, check};
+use vz_geom::Size;
+use vz_ids::{LocalSurfaceId, SurfaceId};
+use vz_live::LiveSurfaces;
+use vz_machine::Step;
+use vz_rules::Refusal;
+use vz_support::Support;
+
+/// The submission that a client sends next: the local id of its surface, and its frame. Conditions:
+/// the client is there, and a submission is its next message.
+pub(crate) fn submission(support: &Support, c: u32) -> (&LocalSurfaceId, &CompositorFrame)
+    requires some { 1 ≤ c }
+    requires known { c ≤ length support.now.clients }
+    requires next { (local : Local) × (frame : Frame) × IsNext support.now c (Submit local frame) }
+    ensures next { IsNext support.now c (Submit result.0.now result.1.now) }
+    ensures sent { (p : Plan) (w : World) (x : Client) (local : Local) (frame : Frame)
+        → IsSupport p w support.now → client_at w c ≡ Some x
+        → next_message p x ≡ Some (Submit local frame)
+        → (result.0.now ≡ local) × (result.1.now ≡ frame) }
+{
+    let Some(message) = support.next(c) else {
+        unreachable!()
+    };
+    let Message::Submit { local, frame } = message else {
+        unreachable!()
+    };
+    (local, frame)
+}
+
+/// Whether both sides are equal.
+fn is_same_size(a: Size, b: Size) -> bool
+    ensures { result ≡ same_size a b }
+{
+    !(a.w < b.w) && !(b.w < a.w) && !(a.h < b.h) && !(b.h < a.h)
+}
+
+/// Whether no number of the new one is smaller, and one is greater.
+fn is_raised(old: &LocalSurfaceId, new: &LocalSurfaceId) -> bool
+    ensures { result ≡ is_raised old.now new.now }
+{
+    old.parent <= new.parent
+        && old.child <= new.child
+        && (old.parent < new.parent || old.child < new.child)
+}
+
+/// Whether a local id is not the last one and does not go on from it.
+fn violates(last: Option<(LocalSurfaceId, Size)>, local: &LocalSurfaceId) -> bool
+    ensures { result ≡ violates_named last local.now }
+{
+    match last {
+        None => false,
+        Some((last, _)) => last != *local && !is_raised(&last, local),
+    }
+}
+
+/// Whether a local id is the last one, which has another size.
+fn has_other_size(last: Option<(LocalSurfaceId, Size)>, local: &LocalSurfaceId, size: Size) -> bool
+    ensures { result ≡ has_other_size_named last local.now size }
+{
+    match last {
+        None => false,
+        Some((last, then)) => last == *local && !is_same_size(then, size),
+    }
+}
+
+/// Why a frame of a size is refused on a local id, by the local id and the size of the last surface
+/// of its client, if it is.
+fn shape_refusal(
+    last: Option<(LocalSurfaceId, Size)>,
+    local: &LocalSurfaceId,
+    size: Size,
+) -> Option<Refusal>
+    ensures { result ≡ shape_refusal last local.now size }
+{
+    if violates(last, local) {
+        return Some(Refusal::InvariantsViolation);
+    }
+    if has_other_size(last, local, size) {
+        return Some(Refusal::SizeMismatch);
+    }
+    None
+}
+
+/// Why a client's submission is refused, if it is. Conditions: the client is there, and its number
+/// is one of a plan.
+pub(crate) fn refusal(
+    support: &Support,
+    live: &LiveSurfaces,
+    c: u32,
+    local: &LocalSurfaceId,
+    frame: &CompositorFrame,
+) -> Option<Refusal>
+    requires some { 1 ≤ c }
+    requires known { c ≤ length support.now.clients }
+    requires few { c ≤ MOST_FILES }
+    ensures { (p : Plan) (w : World) (x : Client) → AreAsked p w support.now live.now
+        → client_at w c ≡ Some x → result ≡ refusal_in w x local.now frame.now }
+{
+    match check(frame) {
+        Err(rule) => return Some(Refusal::Malformed(rule)),
+        Ok(()) => {}
+    }
+    if support.is_unknown(c, frame.resources.as_slice()) {
+        return Some(Refusal::UnknownResource);
+    }
+    shape_refusal(live.last(c), local, frame.size())
+}
+
+/// Whether a dependency is met: a surface of its group, at it or newer, was active, or the client
+/// of its sink is closed.
+pub(crate) fn is_met(support: &Support, live: &LiveSurfaces, d: &SurfaceId) -> bool
+    ensures { (p : Plan) (w : World) → AreAsked p w support.now live.now → result ≡ is_met w d.now }
+{
+    live.ever_active(d) || support.is_gone(&d.sink)
+}
+
+/// Appends a dependency unless it is met. It takes no memory. Condition: `out` has room for it.
+fn put_lacked(support: &Support, live: &LiveSurfaces, d: &SurfaceId, out: &mut Room<SurfaceId>)
+    requires room { 0 < out.old.spare }
+    ensures list { (p : Plan) (w : World) → AreAsked p w support.now live.now
+        → out.new.list ≡ out.old.list ++ filter (λ x. not (is_met w x)) (d.now ∷ []) }
+    ensures room { out.old.spare ≤ out.new.spare + 1 }
+{
+    if !is_met(support, live, d) {
+        out.put(*d);
+    }
+}
+
+/// Appends the dependencies of a frame that are not met, in their order. It takes no memory.
+/// Condition: `out` has room for all its dependencies.
+pub(crate) fn lacked(
+    support: &Support,
+    live: &LiveSurfaces,
+    frame: &CompositorFrame,
+    out: &mut Room<SurfaceId>,
+)
+    requires room { length frame.now.metadata.dependencies ≤ out.old.spare }
+    ensures list { (p : Plan) (w : World) → AreAsked p w support.now live.now
+        → out.new.list
+        ≡ out.old.list ++ filter (λ d. not (is_met w d)) frame.now.metadata.dependencies }
+{
+    let dependencies = frame.metadata.dependencies.as_slice();
+    for d in dependencies {
+        put_lacked(support, live, d, out);
+    }
+}
+
+/// The tick at which a frame that is submitted at a tick becomes active at the latest. Conditions:
+/// the tick is one of the machine's, and the deadline is one that a frame may ask.
+pub(crate) fn due(tick: u32, frame: &CompositorFrame) -> u32
+    requires early { tick ≤ LAST_TICK }
+    requires soon { deadline_of frame.now ≤ GREATEST_DEADLINE }
+    ensures { result ≡ tick + deadline_of frame.now }
+{
+    tick + u32::from(frame.metadata.deadline.unwrap_or(DEFAULT_DEADLINE))
+}
+
+impl Parts {
+    /// A client's submission is refused for a reason: it is taken, and nothing else changes.
+    /// Conditions: the client is there, and a submission is its next message.
+    pub(crate) fn refuse_submission(&mut self, c: u32, refusal: Refusal) -> Step
+        requires some { 1 ≤ c }
+        requires known { c ≤ length self.old.support.clients }
+        requires next { (local : Local) × (frame : Frame)
+            × IsNext self.old.support c (Submit local frame) }
+        ensures step { (p : Plan) (w : World) (x : Client) (local : Local) (frame : Frame)
+            → Serves p w self.old → IsSending p w c x (Submit local frame)
+            → refusal_in w x local frame ≡ Some refusal → IsStepOf p w (event.Client c) result }
+        ensures serves { (p : Plan) (w : World) (x : Client) (local : Local) (frame : Frame)
+            → Serves p w self.old → IsSending p w c x (Submit local frame)
+            → refusal_in w x local frame ≡ Some refusal
+            → Serves p (step_in p w (event.Client c)).world self.new }
+    {
+        self.refuse(c, refusal)
+    }
+}

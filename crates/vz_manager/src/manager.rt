@@ -1,0 +1,116 @@
+//! The machine that users run, behind the trait of a machine.
+ghost use Rattle.std.specs.Prelude.{◌≡◌, IfOk};
+ghost use Rattle.vz_rules.specs.World.{opening};
+
+use crate::parts::Parts;
+use crate::picture::FlatPicture;
+use std::alloc::Global;
+use std::marker::Model;
+use std::snapshot::Snapshot;
+use vz_base::Memory;
+use vz_ghost::GhostList;
+use vz_machine::{Machine, Step};
+use vz_rules::{Event, Plan, Rest};
+
+/// The display compositor's machine over a plan. Contracts see the plan and the world after the
+/// events that it was told.
+///
+/// A step costs what it touches, and a drawing what is on the display. All room of a step is made
+/// before its first change: for want of memory it answers so, and the world stays.
+#[derive(Drop)]
+pub struct Manager {
+    parts: Parts,
+    plan: Snapshot<Plan>,
+    told: GhostList<Event>,
+}
+
+impl Model for Manager {
+    ghost use Rattle.vz_rules.specs.World.{Machine as State};
+    ghost use Rattle.vz_manager.specs.Serving.{Serves};
+    ghost use Rattle.vz_manager.specs.Managing.{led_to};
+
+    ghost Value = { State };
+
+    ghost view = { λ m. led_to m.plan.value m.told };
+
+    ghost invariant = { λ m. Serves m.plan.value (led_to m.plan.value m.told).world m.parts };
+}
+
+impl Manager {
+    /// The machine in the opening world of a plan. Memory is the only error.
+    pub fn open(alloc: Global, plan: Plan) -> Result<Manager, Memory>
+        ensures { IfOk result (λ m. m ≡ record { plan = plan; world = opening plan }) }
+    {
+        let shown = Snapshot::of(&plan);
+        let parts = Parts::open(alloc, plan)?;
+        Ok(Manager {
+            parts,
+            plan: shown,
+            told: GhostList::new(),
+        })
+    }
+}
+
+impl Machine for Manager {
+    ghost state = { λ m. m };
+
+    type FrameData = FlatPicture;
+
+    fn client(&mut self, _alloc: Global, c: u32) -> Result<Step, Memory> {
+        let step = self.parts.client(c)?;
+        self.told.show(&Event::Client(c));
+        Ok(step)
+    }
+
+    fn begin(&mut self, _alloc: Global) -> Result<Step, Memory> {
+        let step = self.parts.begin()?;
+        self.told.show(&Event::Begin);
+        Ok(step)
+    }
+
+    fn draw(&mut self, _alloc: Global) -> Result<(Step, Option<FlatPicture>), Memory> {
+        let drawn = self.parts.draw()?;
+        self.told.show(&Event::Draw);
+        Ok(drawn)
+    }
+
+    fn done(&mut self) -> Step {
+        let step = self.parts.done();
+        self.told.show(&Event::Done);
+        step
+    }
+
+    fn over(&mut self) -> Step {
+        let step = self.parts.over();
+        self.told.show(&Event::Over);
+        step
+    }
+
+    fn waits(&self, c: u32) -> bool {
+        self.parts.waits(c)
+    }
+
+    fn idle(&self, c: u32) -> bool {
+        self.parts.idle(c)
+    }
+
+    fn answered(&self, c: u32) -> bool {
+        self.parts.answered(c)
+    }
+
+    fn attached(&self, c: u32) -> bool {
+        self.parts.attached(c)
+    }
+
+    fn listed(&self, c: u32) -> u64 {
+        self.parts.listed(c)
+    }
+
+    fn waiting(&self) -> bool {
+        self.parts.waiting()
+    }
+
+    fn rest(&self, alloc: Global) -> Result<Rest, Memory> {
+        self.parts.rest(alloc)
+    }
+}

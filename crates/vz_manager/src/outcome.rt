@@ -1,0 +1,149 @@
+//! What follows a step's own change: submissions become active, surfaces that are not reached are
+//! destroyed, references go back, and feedback is given.
+ghost use Rattle.std.specs.Prelude.{◌≡◌, ◌≤◌, ◌+◌, length, None, []};
+ghost use Rattle.vz_rules.specs.World.{World};
+ghost use Rattle.vz_rules.specs.declared.entry.Reply.{Reply as Answered};
+ghost use Rattle.vz_rules.specs.Messages.{says};
+ghost use Rattle.vz_rules.specs.Step.{outcome_of};
+ghost use Rattle.vz_lending.specs.Lent.{NoneReleased, resources_out};
+ghost use Rattle.vz_settling.specs.Settles.{AreSettling};
+ghost use Rattle.vz_manager.specs.Followed.{IsFollowed, IsKeeping, CanKeep, CanFollow, Tells};
+
+use std::alloc::Global;
+use std::mem;
+use vz_frame::{List, Room};
+use vz_ids::{Sub, SurfaceId};
+use vz_live::laws::surfaces_stay;
+use vz_machine::Step;
+use vz_rules::kept_laws::changes_keep;
+use vz_rules::{Effects, Fed, Lost, Reply, Returned};
+use vz_settling::laws::named_ones_are_collected;
+use vz_settling::{Lists, Settling};
+use vz_waiting::laws::waiting_ones_stay;
+
+/// The lists of what follows a step, and those that are worked with, with room made before.
+#[derive(Drop)]
+pub(crate) struct Following {
+    pub(crate) activated: Room<Sub>,
+    pub(crate) destroyed: Room<Lost>,
+    pub(crate) returned: Room<Returned>,
+    pub(crate) fed: Room<Fed>,
+    pub(crate) ids: Room<SurfaceId>,
+    pub(crate) lists: Lists,
+}
+
+/// A surface that the step created, and the tick up to which it is kept.
+#[derive(Clone, Copy)]
+pub(crate) struct New {
+    pub(crate) id: SurfaceId,
+    pub(crate) until: u32,
+}
+
+/// A new surface, if there is one, is kept for a while.
+fn keep(settling: &mut Settling, new: Option<New>)
+    requires room { CanKeep new settling.old }
+    ensures kept { (w : World) → IsKeeping w new settling.old
+        → AreSettling w None settling.new }
+    ensures rest { settling.new ≡ record settling.old {
+      live = record settling.old.live { kept = settling.new.live.kept };
+    } }
+    ensures few { length settling.new.live.kept.temporary
+        ≤ length settling.old.live.kept.temporary + 1 }
+    ensures sets { settling.new.live.kept.sets ≡ settling.old.live.kept.sets }
+{
+    if let Some(new) = new {
+        settling.live.keep(new.id, new.until);
+    }
+}
+
+/// All that follows a step's own change: `activated` has what is ready. It takes no memory.
+/// Conditions: the root is that of the state, and there is room for all.
+pub(crate) fn follow(
+    settling: &mut Settling,
+    root: Option<SurfaceId>,
+    new: Option<New>,
+    following: &mut Following,
+)
+    requires follows { (w : World) × IsFollowed w root new settling.old following.old }
+    requires room { CanFollow new settling.old following.old }
+    ensures stands { (w : World) (r : Answered) → IsFollowed w root new settling.old following.old
+        → AreSettling (outcome_of [] (says r w)).world None settling.new }
+    ensures effects { (w : World) (r : Answered) → IsFollowed w root new settling.old following.old
+        → Tells (outcome_of [] (says r w)).effects following.new }
+    ensures released { NoneReleased settling.new.live.lent }
+    ensures out { resources_out settling.new.live.lent ≤ resources_out settling.old.live.lent }
+{
+    surfaces_stay();
+    waiting_ones_stay();
+    changes_keep();
+    named_ones_are_collected();
+    settling.settle(&mut following.ids, &mut following.activated);
+    keep(settling, new);
+    settling.collect(root, &mut following.lists, &mut following.destroyed);
+    settling.live.give_back(&mut following.returned);
+    settling.live.feed(&mut following.fed);
+}
+
+/// All that follows a step's own change, and with it what the step answers. It takes no memory.
+/// Conditions: the root is that of the state, and there is room for all.
+pub(crate) fn finish(
+    alloc: Global,
+    reply: Reply,
+    settling: &mut Settling,
+    root: Option<SurfaceId>,
+    new: Option<New>,
+    following: &mut Following,
+) -> Step
+    requires follows { (w : World) × IsFollowed w root new settling.old following.old }
+    requires room { CanFollow new settling.old following.old }
+    ensures stands { (w : World) (r : Answered) → IsFollowed w root new settling.old following.old
+        → AreSettling (outcome_of [] (says r w)).world None settling.new }
+    ensures reply { result.reply ≡ reply }
+    ensures effects { (w : World) (r : Answered) → IsFollowed w root new settling.old following.old
+        → result.effects ≡ (outcome_of [] (says r w)).effects }
+    ensures released { NoneReleased settling.new.live.lent }
+    ensures out { resources_out settling.new.live.lent ≤ resources_out settling.old.live.lent }
+{
+    follow(settling, root, new, following);
+    Step {
+        reply,
+        effects: following.take_effects(alloc),
+    }
+}
+
+/// What a list has, taken out: one that has nothing keeps its room.
+fn take<T>(alloc: Global, list: &mut Room<T>) -> List<T>
+    ensures { result ≡ list.old.list }
+{
+    if list.as_slice().is_empty() {
+        return List::new(alloc);
+    }
+    mem::replace(list, Room::new(alloc)).into_list()
+}
+
+impl Following {
+    /// Empty lists. They take no memory.
+    pub(crate) fn new(alloc: Global) -> Following {
+        Following {
+            activated: Room::new(alloc),
+            destroyed: Room::new(alloc),
+            returned: Room::new(alloc),
+            fed: Room::new(alloc),
+            ids: Room::new(alloc),
+            lists: Lists::new(alloc),
+        }
+    }
+
+    /// What followed, taken out: a list that was used is made anew, and one that has nothing keeps
+    /// its room.
+    pub(crate) fn take_effects(&mut self, alloc: Global) -> Effects
+        ensures { Tells result self.old }
+    {
+        Effects {
+            activated: take(alloc, &mut self.activated),
+            destroyed: take(alloc, &mut self.destroyed),
+            returned: take(alloc, &mut self.returned),
+            fed: take(alloc, &mut self.fed),
+        }
+    }
+}

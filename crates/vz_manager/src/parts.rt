@@ -1,0 +1,37 @@
+//! The parts of the machine.
+use crate::outcome::Following;
+use std::alloc::Global;
+use std::marker::Model;
+use vz_frame::Room;
+use vz_geom::Size;
+use vz_rules::{Fed, Returned};
+use vz_settling::Settling;
+use vz_support::Support;
+
+/// The parts of the machine: what is kept for the clients, the surfaces and the submissions that
+/// wait, the lists for what follows a step, and those for the end of the drawn frame. Contracts see
+/// all but what follows.
+#[derive(Drop)]
+pub(crate) struct Parts {
+    pub(crate) alloc: Global,
+    pub(crate) size: Size,
+    pub(crate) support: Support,
+    pub(crate) settling: Settling,
+    pub(crate) following: Following,
+    pub(crate) returned: Room<Returned>,
+    pub(crate) fed: Room<Fed>,
+}
+
+impl Model for Parts {
+    ghost use Rattle.vz_manager.specs.Serving.{Served};
+
+    ghost Value = { Served };
+
+    ghost view = { λ a. record {
+      size = a.size;
+      support = a.support;
+      settling = a.settling;
+      returned = a.returned;
+      fed = a.fed;
+    } };
+}

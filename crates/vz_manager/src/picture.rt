@@ -1,0 +1,97 @@
+//! The picture of a drawing.
+ghost use Rattle.std.specs.Prelude.{◌≡◌, IfOk};
+ghost use Rattle.vz_rules.specs.Plan.{Plan};
+ghost use Rattle.vz_rules.specs.World.{World};
+ghost use Rattle.vz_telling.specs.Changing.{drawn_reply};
+ghost use Rattle.vz_live.specs.Drawing.{IsShowing};
+ghost use Rattle.vz_manager.specs.Picturing.{LookLike, IsAnswered, IsPainted};
+
+use std::alloc::Global;
+use std::marker::Model;
+use std::sync::ledger::Ledger;
+use vz_base::Memory;
+use vz_buffers::{Buffer, Steps};
+use vz_flat::{Ops, flatten};
+use vz_geom::{Rect, Size};
+use vz_ids::SurfaceId;
+use vz_live::LiveSurfaces;
+use vz_machine::Picture;
+use vz_paint::paint;
+
+/// A picture of a display as operations on opaque black, with the rectangle that changed. A point
+/// gets its colour only where it is painted.
+#[derive(Drop)]
+pub struct FlatPicture {
+    size: Size,
+    ops: Ops,
+    changed: Rect,
+}
+
+impl Model for FlatPicture {
+    ghost use Rattle.vz_manager.specs.Picturing.{Flattened, IsFlattened};
+
+    ghost Value = { Flattened };
+
+    ghost view = { λ p. record { size = p.size; ops = p.ops; changed = p.changed } };
+
+    ghost invariant = { λ p. IsFlattened (record {
+      size = p.size;
+      ops = p.ops;
+      changed = p.changed;
+    }) };
+}
+
+impl Picture for FlatPicture {
+    ghost use Rattle.vz_manager.specs.Picturing.{flat_picture};
+
+    ghost pictured = { flat_picture };
+
+    fn size(&self) -> Size {
+        self.size
+    }
+
+    fn damage(&self) -> Rect {
+        self.changed
+    }
+
+    fn paint<L: Ledger>(
+        &self,
+        alloc: Global,
+        area: Rect,
+        buffer: &mut Buffer,
+        steps: &mut Steps<L>,
+    ) -> Result<(), Memory> {
+        paint(alloc, &self.ops, buffer, area, steps)?;
+        Ok(())
+    }
+}
+
+/// The operations that leave, at each point of a display, what is to be seen from the root. They
+/// are made before the drawing, which once made cannot be taken back. Memory is the only error.
+/// Condition: a drawing walks from there.
+pub(crate) fn operations(
+    alloc: Global,
+    live: &LiveSurfaces,
+    root: &SurfaceId,
+    size: Size,
+) -> Result<Ops, Memory>
+    requires shows { (p : Plan) × (w : World) × IsShowing p w root.now size live.now }
+    ensures look { (p : Plan) (w : World) → IsShowing p w root.now size live.now
+        → IfOk result (λ ops. LookLike p w ops) }
+{
+    let ops = flatten(alloc, live.store(), root, size)?;
+    Ok(ops)
+}
+
+/// The picture of a drawing that walks, where something changed. Condition: this is what the
+/// drawing answers, on a display of this size.
+pub(crate) fn picture_of(size: Size, ops: Ops, changed: Option<Rect>) -> Option<FlatPicture>
+    requires answered { (p : Plan) × (w : World) × IsAnswered p w size (drawn_reply changed) }
+    ensures painted { (p : Plan) (w : World) → IsAnswered p w size (drawn_reply changed)
+        → LookLike p w ops → IsPainted p w (drawn_reply changed) result }
+{
+    match changed {
+        None => None,
+        Some(changed) => Some(FlatPicture { size, ops, changed }),
+    }
+}

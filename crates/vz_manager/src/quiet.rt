@@ -1,0 +1,226 @@
+//! Steps from which nothing follows.
+ghost use Rattle.std.specs.Prelude.{◌≡◌, ◌≤◌, ℕ, Some, length, IfOk, OnOk, OnErr};
+ghost use Rattle.vz_ids.specs.declared.FrameSinkId.{FrameSinkId as Id};
+ghost use Rattle.vz_pixels.specs.Block.{Block};
+ghost use Rattle.vz_frame.specs.declared.message.Message.{Message as Sent};
+ghost use Rattle.vz_frame.specs.declared.message.Message.TheVariants.{DidNotProduce, Hierarchy};
+ghost use Rattle.vz_frame.specs.declared.message.Message.TheVariants.{Await, Reclaim, Upload};
+ghost use Rattle.vz_rules.specs.declared.entry.Event.TheVariants as event;
+ghost use Rattle.vz_rules.specs.Plan.{Plan};
+ghost use Rattle.vz_rules.specs.World.{World, Client, client_at, next_message};
+ghost use Rattle.vz_rules.specs.Step.{step_in};
+ghost use Rattle.vz_rules.specs.Kept.{no_effects};
+ghost use Rattle.vz_support.specs.Supporting.{IsNext, IsSupport};
+ghost use Rattle.vz_manager.specs.Serving.{Serves, IsStepOf, IsSending, HasNone, IsClosed};
+ghost use Rattle.vz_manager.specs.Serving.{IsRefused};
+
+use crate::parts::Parts;
+use std::alloc::Global;
+use vz_base::Memory;
+use vz_frame::{List, Message, Room};
+use vz_live::laws::surfaces_stay;
+use vz_machine::Step;
+use vz_rules::{Effects, Refusal, Reply};
+use vz_support::Support;
+use vz_waiting::laws::waiting_ones_stay;
+
+/// A step that is answered so, and from which nothing follows.
+pub(crate) fn nothing_follows(alloc: Global, reply: Reply) -> Step
+    ensures reply { result.reply ≡ reply }
+    ensures effects { result.effects ≡ no_effects }
+{
+    Step {
+        reply,
+        effects: Effects {
+            activated: List::new(alloc),
+            destroyed: List::new(alloc),
+            returned: List::new(alloc),
+            fed: List::new(alloc),
+        },
+    }
+}
+
+/// The resource of the upload that a client sends next. Conditions: the client is there, and an
+/// upload is its next message.
+fn uploaded(support: &Support, c: u32) -> u32
+    requires some { 1 ≤ c }
+    requires known { c ≤ length support.now.clients }
+    requires next { (id : ℕ) × (block : Block) × IsNext support.now c (Upload id block) }
+    ensures { (p : Plan) (w : World) (x : Client) (id : ℕ) (block : Block)
+        → IsSupport p w support.now → client_at w c ≡ Some x
+        → next_message p x ≡ Some (Upload id block) → result ≡ id }
+{
+    let Some(message) = support.next(c) else {
+        unreachable!()
+    };
+    let Message::Upload { id, block: _ } = message else {
+        unreachable!()
+    };
+    *id
+}
+
+impl Parts {
+    /// A client has no message left: it is told so, and nothing changes.
+    pub(crate) fn no_message(&self) -> Step
+        ensures step { (p : Plan) (w : World) (c : ℕ) (x : Client) → Serves p w self.now
+            → HasNone p w c x → IsStepOf p w (event.Client c) result }
+        ensures serves { (p : Plan) (w : World) (c : ℕ) (x : Client) → Serves p w self.now
+            → HasNone p w c x → Serves p (step_in p w (event.Client c)).world self.now }
+    {
+        nothing_follows(self.alloc, Reply::Refused(Refusal::NoMessage))
+    }
+
+    /// A client's next message is refused for a reason: it is taken, and nothing else changes.
+    /// Conditions: the client is there, and it has a message.
+    pub(crate) fn refuse(&mut self, c: u32, refusal: Refusal) -> Step
+        requires some { 1 ≤ c }
+        requires known { c ≤ length self.old.support.clients }
+        requires next { (m : Sent) × IsNext self.old.support c m }
+        ensures step { (p : Plan) (w : World) (x : Client) (m : Sent) → Serves p w self.old
+            → IsRefused p w c x m refusal → IsStepOf p w (event.Client c) result }
+        ensures serves { (p : Plan) (w : World) (x : Client) (m : Sent) → Serves p w self.old
+            → IsRefused p w c x m refusal
+            → Serves p (step_in p w (event.Client c)).world self.new }
+    {
+        surfaces_stay();
+        waiting_ones_stay();
+        self.support.refuse(c);
+        nothing_follows(self.alloc, Reply::Refused(refusal))
+    }
+
+    /// A closed client's next message is refused. Conditions: the client is there, and it has a
+    /// message.
+    pub(crate) fn refuse_closed(&mut self, c: u32) -> Step
+        requires some { 1 ≤ c }
+        requires known { c ≤ length self.old.support.clients }
+        requires next { (m : Sent) × IsNext self.old.support c m }
+        ensures step { (p : Plan) (w : World) (x : Client) (m : Sent) → Serves p w self.old
+            → IsClosed p w c x m → IsStepOf p w (event.Client c) result }
+        ensures serves { (p : Plan) (w : World) (x : Client) (m : Sent) → Serves p w self.old
+            → IsClosed p w c x m → Serves p (step_in p w (event.Client c)).world self.new }
+    {
+        self.refuse(c, Refusal::AlreadyClosed)
+    }
+
+    /// A client answers a begin-frame without a frame. Conditions: the client is there, and this is
+    /// its next message.
+    pub(crate) fn did_not_produce(&mut self, c: u32) -> Step
+        requires some { 1 ≤ c }
+        requires known { c ≤ length self.old.support.clients }
+        requires next { (n : ℕ) × IsNext self.old.support c (DidNotProduce n) }
+        ensures step { (p : Plan) (w : World) (x : Client) (n : ℕ) → Serves p w self.old
+            → IsSending p w c x (DidNotProduce n) → IsStepOf p w (event.Client c) result }
+        ensures serves { (p : Plan) (w : World) (x : Client) (n : ℕ) → Serves p w self.old
+            → IsSending p w c x (DidNotProduce n)
+            → Serves p (step_in p w (event.Client c)).world self.new }
+    {
+        surfaces_stay();
+        waiting_ones_stay();
+        self.support.did_not_produce(c);
+        nothing_follows(self.alloc, Reply::Noted)
+    }
+
+    /// A client registers a relation, unless it is refused. For want of memory, and only then, it
+    /// answers Memory and nothing changes. Conditions: the client is there, and this is its next
+    /// message.
+    pub(crate) fn hierarchy(&mut self, c: u32) -> Result<Step, Memory>
+        requires some { 1 ≤ c }
+        requires known { c ≤ length self.old.support.clients }
+        requires next { (parent : Id) × (child : Id)
+            × IsNext self.old.support c (Hierarchy parent child) }
+        ensures step { (p : Plan) (w : World) (x : Client) (parent child : Id)
+            → Serves p w self.old → IsSending p w c x (Hierarchy parent child)
+            → IfOk result (λ s. IsStepOf p w (event.Client c) s) }
+        ensures serves { (p : Plan) (w : World) (x : Client) (parent child : Id)
+            → Serves p w self.old → IsSending p w c x (Hierarchy parent child)
+            → OnOk result (Serves p (step_in p w (event.Client c)).world self.new) }
+        ensures err { OnErr result (self.new ≡ self.old) }
+    {
+        surfaces_stay();
+        waiting_ones_stay();
+        let reply = self.support.hierarchy(self.alloc, c)?;
+        Ok(nothing_follows(self.alloc, reply))
+    }
+
+    /// A client takes the begin-frame that stands untaken. Where none does, it is told that it is
+    /// over, or it waits and its message is not taken. Conditions: the client is there, and this is
+    /// its next message.
+    pub(crate) fn await_begin(&mut self, c: u32) -> Step
+        requires some { 1 ≤ c }
+        requires known { c ≤ length self.old.support.clients }
+        requires next { IsNext self.old.support c Await }
+        ensures step { (p : Plan) (w : World) (x : Client) → Serves p w self.old
+            → IsSending p w c x Await → IsStepOf p w (event.Client c) result }
+        ensures serves { (p : Plan) (w : World) (x : Client) → Serves p w self.old
+            → IsSending p w c x Await → Serves p (step_in p w (event.Client c)).world self.new }
+    {
+        surfaces_stay();
+        waiting_ones_stay();
+        let reply = self.support.await_begin(c);
+        nothing_follows(self.alloc, reply)
+    }
+
+    /// A client's block is stored, unless its resource is in use. For want of memory, and only
+    /// then, it answers Memory and nothing changes. Conditions: the client is there, an upload is
+    /// its next message, and the parts stand for a state.
+    pub(crate) fn upload(&mut self, c: u32) -> Result<Step, Memory>
+        requires some { 1 ≤ c }
+        requires known { c ≤ length self.old.support.clients }
+        requires next { (id : ℕ) × (block : Block)
+            × IsNext self.old.support c (Upload id block) }
+        requires stands { (p : Plan) × (w : World) × Serves p w self.old }
+        ensures step { (p : Plan) (w : World) (x : Client) (id : ℕ) (block : Block)
+            → Serves p w self.old → IsSending p w c x (Upload id block)
+            → IfOk result (λ s. IsStepOf p w (event.Client c) s) }
+        ensures serves { (p : Plan) (w : World) (x : Client) (id : ℕ) (block : Block)
+            → Serves p w self.old → IsSending p w c x (Upload id block)
+            → OnOk result (Serves p (step_in p w (event.Client c)).world self.new) }
+        ensures err { OnErr result (self.new ≡ self.old) }
+    {
+        surfaces_stay();
+        waiting_ones_stay();
+        let id = uploaded(&self.support, c);
+        if self.settling.live.in_use(c, id) {
+            return Ok(self.refuse(c, Refusal::InUse));
+        }
+        self.support.upload(c)?;
+        Ok(nothing_follows(self.alloc, Reply::Stored))
+    }
+
+    /// A client takes back its returns. For want of memory, and only then, it answers Memory and
+    /// nothing changes. Conditions: the client is there, this is its next message, and the parts
+    /// stand for a state.
+    pub(crate) fn reclaim(&mut self, c: u32) -> Result<Step, Memory>
+        requires some { 1 ≤ c }
+        requires known { c ≤ length self.old.support.clients }
+        requires next { IsNext self.old.support c Reclaim }
+        requires stands { (p : Plan) × (w : World) × Serves p w self.old }
+        ensures step { (p : Plan) (w : World) (x : Client) → Serves p w self.old
+            → IsSending p w c x Reclaim
+            → IfOk result (λ s. IsStepOf p w (event.Client c) s) }
+        ensures serves { (p : Plan) (w : World) (x : Client) → Serves p w self.old
+            → IsSending p w c x Reclaim
+            → OnOk result (Serves p (step_in p w (event.Client c)).world self.new) }
+        ensures err { OnErr result (self.new ≡ self.old) }
+    {
+        waiting_ones_stay();
+        let mut queue = Room::new(self.alloc);
+        queue.reserve(self.settling.live.queued(c))?;
+        self.settling.live.reclaim(c, &mut queue);
+        self.support.reclaim(c);
+        Ok(nothing_follows(self.alloc, Reply::Reclaimed(queue.into_list())))
+    }
+
+    /// It is over: no begin-frame will be waited for from now on.
+    pub(crate) fn over(&mut self) -> Step
+        ensures step { (p : Plan) (w : World) → Serves p w self.old
+            → IsStepOf p w event.Over result }
+        ensures serves { (p : Plan) (w : World) → Serves p w self.old
+            → Serves p (step_in p w event.Over).world self.new }
+    {
+        surfaces_stay();
+        waiting_ones_stay();
+        self.support.over();
+        nothing_follows(self.alloc, Reply::Ended)
+    }
+}

@@ -1,0 +1,64 @@
+//! Room for what follows a step, made before its first change.
+ghost use Rattle.std.specs.Prelude.{◌≡◌, ◌≤◌, ◌+◌, [], length, OnOk, IfOk};
+ghost use Rattle.vz_rules.specs.World.{World};
+ghost use Rattle.vz_manager.specs.Followed.{IsBetween, HasRoomAfter};
+
+use crate::outcome::Following;
+use vz_base::Memory;
+use vz_feeding::laws::owed_are_known;
+use vz_frame::Room;
+use vz_settling::Settling;
+use vz_waiting::laws::waiting_ones_lack;
+
+/// A list is empty and has room for so many. Memory is the only error.
+fn make_room<T: Drop>(list: &mut Room<T>, n: usize) -> Result<(), Memory>
+    ensures list { list.new.list ≡ [] }
+    ensures room { OnOk result (n ≤ list.new.spare) }
+{
+    list.clear();
+    list.reserve(n)
+}
+
+/// One more, where there is a number for it.
+fn one_more(n: usize) -> Result<usize, Memory>
+    ensures { IfOk result (λ more. more ≡ n + 1) }
+{
+    n.checked_add(1).ok_or(Memory)
+}
+
+/// How many surfaces may be reached, and one more, where so many become active and one is new.
+fn reached(settling: &Settling, risen: usize) -> Result<usize, Memory>
+    ensures { IfOk result (λ n. n ≡ length settling.now.live.kept.sets + risen
+        + length settling.now.live.kept.temporary + 2) }
+{
+    let live = &settling.live;
+    let sets = live.referencing().checked_add(risen).ok_or(Memory)?;
+    let kept = sets.checked_add(live.temporary()).ok_or(Memory)?;
+    kept.checked_add(2).ok_or(Memory)
+}
+
+/// Makes room for what follows a step that accepts one submission, of so many listings and on a new
+/// surface, or fewer. Memory is the only error. Condition: the state is one between steps.
+pub(crate) fn ready_to_follow(
+    settling: &Settling,
+    listings: usize,
+    following: &mut Following,
+) -> Result<(), Memory>
+    requires between { (w : World) × IsBetween w settling.now }
+    ensures room { OnOk result (HasRoomAfter listings settling.now following.new) }
+{
+    waiting_ones_lack();
+    owed_are_known();
+    let risen = one_more(settling.waiting.count())?;
+    let exist = one_more(settling.live.surfaces())?;
+    let owed = one_more(settling.live.unfed())?;
+    let reached = reached(settling, risen)?;
+    make_room(&mut following.activated, risen)?;
+    make_room(&mut following.ids, risen)?;
+    make_room(&mut following.destroyed, exist)?;
+    make_room(&mut following.fed, owed)?;
+    following.returned.clear();
+    settling.live.make_room(listings, &mut following.returned)?;
+    following.lists.ready(exist, reached)?;
+    Ok(())
+}

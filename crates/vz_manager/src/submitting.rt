@@ -1,0 +1,266 @@
+//! A client submits a frame: it is accepted, or refused.
+ghost use Rattle.std.specs.Prelude.{◌≡◌, ◌≤◌, ◌<◌, ◌+◌, [], IsFalse, IfOk, OnOk, OnErr, length};
+ghost use Rattle.vz_ids.specs.declared.LocalSurfaceId.{LocalSurfaceId as Local};
+ghost use Rattle.vz_frame.specs.declared.frame.CompositorFrame.{CompositorFrame as Frame};
+ghost use Rattle.vz_frame.specs.declared.message.Message.TheVariants.{Submit};
+ghost use Rattle.vz_rules.specs.declared.entry.Event.TheVariants as event;
+ghost use Rattle.vz_rules.specs.Plan.{Plan};
+ghost use Rattle.vz_rules.specs.World.{World, Client};
+ghost use Rattle.vz_rules.specs.Settle.{ready};
+ghost use Rattle.vz_rules.specs.Messages.{accepted};
+ghost use Rattle.vz_rules.specs.Step.{step_in};
+ghost use Rattle.vz_rules.specs.Kept.{KeepsAlways};
+ghost use Rattle.vz_surfaces.specs.Reading.{existing_count};
+ghost use Rattle.vz_lending.specs.Lent.{resources_out};
+ghost use Rattle.vz_feeding.specs.Noting.{owed_count};
+ghost use Rattle.vz_waiting.specs.Awaiting.{AreWaiting, Tells, is_among};
+ghost use Rattle.vz_live.specs.Living.{AreLive};
+ghost use Rattle.vz_live.specs.Arriving.{new_one};
+ghost use Rattle.vz_settling.specs.Settles.{AreReady};
+ghost use Rattle.vz_support.specs.Supporting.{IsSupport, IsNext};
+ghost use Rattle.vz_manager.specs.Serving.{Serves, IsStepOf, IsSending};
+ghost use Rattle.vz_manager.specs.Followed.{IsWithin};
+ghost use Rattle.vz_manager.specs.Judging.{refusal_in};
+ghost use Rattle.vz_manager.specs.Submitted.{IsAllowed, IsArriving, IsTakingIn, IsAcceptedAs};
+ghost use Rattle.vz_manager.specs.Submitted.{HasTakenIn};
+
+use crate::arriving::{Coming, make_room, read_submission};
+use crate::judging::{refusal, submission};
+use crate::outcome::finish;
+use crate::parts::Parts;
+use vz_base::Memory;
+use vz_frame::{List, Room};
+use vz_ids::{FrameSinkId, Sub, SurfaceId};
+use vz_live::Accepted;
+use vz_machine::Step;
+use vz_pixels::PixelBlock;
+use vz_rules::{Refusal, Reply};
+use vz_settling::Settling;
+use vz_support::Support;
+use vz_waiting::laws::arrivals_are_new;
+use vz_waiting::{Arrival, Waiting};
+
+/// The submission of a client is taken and accepted. For want of memory, and only then, it is the
+/// client's next message again, and the surfaces stay as they were. Conditions: the client is
+/// there, and its next message is a submission that is not refused, for which there is room.
+fn put_in(
+    support: &mut Support,
+    settling: &mut Settling,
+    c: u32,
+    sink: FrameSinkId,
+    blocks: List<PixelBlock>,
+) -> Result<Accepted, Memory>
+    requires some { 1 ≤ c }
+    requires known { c ≤ length support.old.clients }
+    requires next { (local : Local) × (frame : Frame)
+        × IsNext support.old c (Submit local frame) }
+    requires arrives { (p : Plan) × (w : World) × (x : Client) × (local : Local) × (frame : Frame)
+        × IsArriving p w c x local frame sink blocks support.old settling.old }
+    ensures accepted { (p : Plan) (w : World) (x : Client) (local : Local) (frame : Frame)
+        → IsArriving p w c x local frame sink blocks support.old settling.old
+        → IfOk result (IsAcceptedAs w x local frame) }
+    ensures support { (p : Plan) (w : World) (x : Client) (local : Local) (frame : Frame)
+        → IsArriving p w c x local frame sink blocks support.old settling.old
+        → OnOk result (IsSupport p (accepted w x local frame).world support.new) }
+    ensures live { (p : Plan) (w : World) (x : Client) (local : Local) (frame : Frame)
+        → IsArriving p w c x local frame sink blocks support.old settling.old
+        → OnOk result (AreLive (accepted w x local frame).world (new_one w x local)
+        settling.new.live) }
+    ensures out { (p : Plan) (w : World) (x : Client) (local : Local) (frame : Frame)
+        → IsArriving p w c x local frame sink blocks support.old settling.old
+        → resources_out settling.new.live.lent
+        ≤ resources_out settling.old.live.lent + length frame.resources }
+    ensures count { OnOk result (owed_count settling.new.live.owed.owed
+        ≡ owed_count settling.old.live.owed.owed + 1) }
+    ensures surfaces { existing_count settling.new.live.store
+        ≤ existing_count settling.old.live.store + 1 }
+    ensures kept { settling.new.live.kept ≡ settling.old.live.kept }
+    ensures waiting { settling.new.waiting ≡ settling.old.waiting }
+    ensures back { (p : Plan) (w : World) → KeepsAlways w → IsSupport p w support.old
+        → OnErr result (IsSupport p w support.new) }
+    ensures err { OnErr result (settling.new ≡ settling.old) }
+{
+    let (local, frame) = support.take_submission(c);
+    let ack = frame.metadata.ack;
+    match settling.live.accept(c, sink, local, frame, blocks) {
+        Ok(accepted) => {
+            support.accept(c, ack);
+            Ok(accepted)
+        }
+        Err(frame) => {
+            support.put_back(c, local, frame);
+            Err(Memory)
+        }
+    }
+}
+
+/// A submission that was accepted waits; where it lacks nothing or its deadline has come, it is
+/// ready at once and is put at the end. Conditions: it is none of those that wait, and there is
+/// room for it.
+fn wait(
+    waiting: &mut Waiting,
+    a: Arrival,
+    tick: u32,
+    lacked: &[SurfaceId],
+    activated: &mut Room<Sub>,
+)
+    requires new { IsFalse (is_among waiting.old a.sub) }
+    requires room { length lacked.now < waiting.old.spare }
+    requires place { 0 < activated.old.spare }
+    requires none { activated.old.list ≡ [] }
+    ensures waits { (w : World) (x : Client) (local : Local) (frame : Frame) → KeepsAlways w
+        → AreWaiting w waiting.old → Tells w x local frame a tick lacked.now
+        → AreWaiting (accepted w x local frame).world waiting.new }
+    ensures ready { (w : World) (x : Client) (local : Local) (frame : Frame) → KeepsAlways w
+        → ready w ≡ [] → Tells w x local frame a tick lacked.now
+        → AreReady (accepted w x local frame).world activated.new.list }
+    ensures few { length waiting.new.blocked + length activated.new.list
+        ≤ length waiting.old.blocked + 1 }
+    ensures spare { activated.old.spare ≤ activated.new.spare + length activated.new.list }
+{
+    let sub = a.sub;
+    if waiting.accepted(a, tick, lacked) {
+        activated.put(sub);
+    }
+}
+
+/// The submission of a client is taken and accepted, and waits; where it is ready at once, it is
+/// put at the end. For want of memory, and only then, it is the client's next message again, and
+/// the surfaces stay as they were. Conditions: the client is there, its next message is a
+/// submission that is not refused, of which this was read, and there is room for it.
+fn take_in(
+    support: &mut Support,
+    settling: &mut Settling,
+    c: u32,
+    coming: Coming,
+    activated: &mut Room<Sub>,
+) -> Result<Accepted, Memory>
+    requires some { 1 ≤ c }
+    requires known { c ≤ length support.old.clients }
+    requires next { (local : Local) × (frame : Frame)
+        × IsNext support.old c (Submit local frame) }
+    requires takes { (p : Plan) × (w : World) × (x : Client) × (local : Local) × (frame : Frame)
+        × IsTakingIn p w c x local frame coming support.old settling.old }
+    requires place { 0 < activated.old.spare }
+    requires none { activated.old.list ≡ [] }
+    ensures accepted { (p : Plan) (w : World) (x : Client) (local : Local) (frame : Frame)
+        → IsTakingIn p w c x local frame coming support.old settling.old
+        → IfOk result (IsAcceptedAs w x local frame) }
+    ensures taken { (p : Plan) (w : World) (x : Client) (local : Local) (frame : Frame)
+        → IsTakingIn p w c x local frame coming support.old settling.old
+        → OnOk result
+        (HasTakenIn p w x local frame support.new settling.new activated.new.list) }
+    ensures within { OnOk result (IsWithin coming.listings settling.old settling.new
+        (length activated.new.list)) }
+    ensures spare { OnOk result
+        (activated.old.spare ≤ activated.new.spare + length activated.new.list) }
+    ensures kept { settling.new.live.kept ≡ settling.old.live.kept }
+    ensures back { (p : Plan) (w : World) → KeepsAlways w → IsSupport p w support.old
+        → OnErr result (IsSupport p w support.new) }
+    ensures err { OnErr result (settling.new ≡ settling.old) }
+{
+    arrivals_are_new();
+    let accepted = put_in(support, settling, c, coming.sink, coming.blocks)?;
+    let arrival = Arrival {
+        sub: accepted.sub,
+        due: coming.due,
+        replaced: accepted.replaced,
+    };
+    let tick = support.tick();
+    wait(
+        &mut settling.waiting,
+        arrival,
+        tick,
+        coming.lacked.as_slice(),
+        activated,
+    );
+    Ok(accepted)
+}
+
+impl Parts {
+    /// The submission that a client sends next is accepted. For want of memory, and only then, it
+    /// answers Memory, and the parts stand for what they stood for. Conditions: the client is
+    /// there, and its next message is a submission that is not refused.
+    fn accept(&mut self, c: u32) -> Result<Step, Memory>
+        requires some { 1 ≤ c }
+        requires known { c ≤ length self.old.support.clients }
+        requires next { (local : Local) × (frame : Frame)
+            × IsNext self.old.support c (Submit local frame) }
+        requires stands { (p : Plan) × (w : World) × (x : Client) × (local : Local)
+            × (frame : Frame) × Serves p w self.old × IsAllowed p w c x local frame }
+        ensures step { (p : Plan) (w : World) (x : Client) (local : Local) (frame : Frame)
+            → Serves p w self.old → IsAllowed p w c x local frame
+            → IfOk result (λ s. IsStepOf p w (event.Client c) s) }
+        ensures serves { (p : Plan) (w : World) (x : Client) (local : Local) (frame : Frame)
+            → Serves p w self.old → IsAllowed p w c x local frame
+            → OnOk result (Serves p (step_in p w (event.Client c)).world self.new) }
+        ensures err { (p : Plan) (w : World) → Serves p w self.old
+            → OnErr result (Serves p w self.new) }
+    {
+        let coming = read_submission(self.alloc, &self.support, &self.settling, c)?;
+        make_room(
+            &mut self.settling,
+            &mut self.returned,
+            &mut self.following,
+            c,
+            &coming,
+        )?;
+        let new = coming.new;
+        let activated = &mut self.following.activated;
+        let taken = take_in(&mut self.support, &mut self.settling, c, coming, activated)?;
+        let root = self.support.root();
+        let reply = Reply::Accepted {
+            ordinal: taken.sub.ordinal,
+            index: taken.index,
+        };
+        Ok(finish(
+            self.alloc,
+            reply,
+            &mut self.settling,
+            root,
+            new,
+            &mut self.following,
+        ))
+    }
+
+    /// Why the submission that a client sends next is refused, if it is. Conditions: the client is
+    /// there, its next message is a submission, and the parts stand for a state.
+    fn judge(&self, c: u32) -> Option<Refusal>
+        requires some { 1 ≤ c }
+        requires known { c ≤ length self.now.support.clients }
+        requires next { (local : Local) × (frame : Frame)
+            × IsNext self.now.support c (Submit local frame) }
+        requires stands { (p : Plan) × (w : World) × Serves p w self.now }
+        ensures { (p : Plan) (w : World) (x : Client) (local : Local) (frame : Frame)
+            → Serves p w self.now → IsSending p w c x (Submit local frame)
+            → result ≡ refusal_in w x local frame }
+    {
+        let (local, frame) = submission(&self.support, c);
+        refusal(&self.support, &self.settling.live, c, local, frame)
+    }
+
+    /// A client submits a frame: it is accepted, or refused. For want of memory, and only then, it
+    /// answers Memory, and the parts stand for what they stood for. Conditions: the client is
+    /// there, and a submission is its next message.
+    pub(crate) fn submit(&mut self, c: u32) -> Result<Step, Memory>
+        requires some { 1 ≤ c }
+        requires known { c ≤ length self.old.support.clients }
+        requires next { (local : Local) × (frame : Frame)
+            × IsNext self.old.support c (Submit local frame) }
+        requires stands { (p : Plan) × (w : World) × (x : Client) × (local : Local)
+            × (frame : Frame) × Serves p w self.old × IsSending p w c x (Submit local frame) }
+        ensures step { (p : Plan) (w : World) (x : Client) (local : Local) (frame : Frame)
+            → Serves p w self.old → IsSending p w c x (Submit local frame)
+            → IfOk result (λ s. IsStepOf p w (event.Client c) s) }
+        ensures serves { (p : Plan) (w : World) (x : Client) (local : Local) (frame : Frame)
+            → Serves p w self.old → IsSending p w c x (Submit local frame)
+            → OnOk result (Serves p (step_in p w (event.Client c)).world self.new) }
+        ensures err { (p : Plan) (w : World) → Serves p w self.old
+            → OnErr result (Serves p w self.new) }
+    {
+        match self.judge(c) {
+            Some(refusal) => Ok(self.refuse_submission(c, refusal)),
+            None => self.accept(c),
+        }
+    }
+}
