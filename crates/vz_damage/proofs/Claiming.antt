@@ -20,9 +20,13 @@ use Rattle.vz_rules.specs.Scene.{id_of_frame}
 use Rattle.vz_rules.specs.World.{FrameData, Scene, Aggregation}
 use Rattle.vz_rules.specs.Walk.{Placement, Visit, Quad, Shows, Enters}
 use Rattle.vz_rules.specs.Damage.{shown_range, of_same_range, is_switched, aggregation_of}
+use Rattle.vz_surfaces.specs.Stored.{Stored}
+use Rattle.vz_surfaces.specs.Reading.{seen_frames}
 use Rattle.vz_walk.specs.Meeting.{Meets}
-use Rattle.vz_damage.specs.Told.{Told, told_on, damage_in}
-use Rattle.vz_damage.specs.Measured.{Shown, IsMeasured, told_claims_of, told_claims, told_damage, seen_damage, without_indices, has_root}
+use Rattle.vz_walk.specs.Scenes.{scene_in, walked_in}
+use Rattle.vz_damage.specs.Told.{Told, Damaged, told_on, damage_in}
+use Rattle.vz_damage.specs.Measured.{Shown, IsMeasured, IsMeasureOf, told_claims_of, told_claims, told_damage, what_changed, seen_damage}
+use Rattle.vz_damage.specs.Measured.{without_indices, has_root}
 use Rattle.vz_damage.proofs.Looking.{last_in}
 use Rattle.vz_damage.proofs.Joining.{bound_append, bound_one}
 
@@ -160,12 +164,23 @@ unfolding aggregation_of
 ranges_are told last d rs scene walked h = h.ranges_met
 
 -- the root and the ranges are what is remembered
-pub kept_is : (root : SurfaceId) (active : List FrameData) (rs : Shown) (walked : List Visit)
+kept_is : (root : SurfaceId) (active : List FrameData) (rs : Shown) (walked : List Visit)
     → rs ≡ (aggregation_of (record { root = root; active = active }) walked).ranges
-    → Some (record { root = root; indices = []; ranges = rs }) ≡ Some (without_indices (aggregation_of
+    → ◌≡◌ {A = Aggregation} (record { root = root; indices = []; ranges = rs }) (without_indices (aggregation_of
     (record { root = root; active = active }) walked))
 unfolding aggregation_of
-kept_is root active rs walked e = ap (λ (l : Shown). Some (record { root = root; indices = []; ranges = l })) e
+kept_is root active rs walked e = ap {B = Aggregation} (λ (l : Shown). record { root = root; indices = []; ranges = l }) e
+
+-- what changed, with them, is what is measured
+pub measure_is : (d : Damaged) (st : Stored) (root : SurfaceId) (size : Size) (changed : Option Rectangle) (damage : Rectangle) (rs : Shown)
+    → changed ≡ what_changed d.last damage → damage ≡ told_damage size d.last d.surfaces root (walked_in size root st)
+    → rs ≡ (aggregation_of (scene_in root st) (walked_in size root st)).ranges
+    → IsMeasureOf d st root size (record { changed = changed; kept = record { root = root; indices = []; ranges = rs } })
+measure_is d st root size changed damage rs is walked ranges =
+    record {
+      changed = is ∙ ap (what_changed d.last) walked;
+      kept = kept_is root (seen_frames st) rs (walked_in size root st) ranges;
+    }
 
 -- The visitor
 

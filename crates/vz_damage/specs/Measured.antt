@@ -10,8 +10,10 @@ use Rattle.vz_frame.specs.Frame.{frame_size}
 use Rattle.vz_rules.specs.Closure.{adding}
 use Rattle.vz_rules.specs.World.{FrameData, Aggregation}
 use Rattle.vz_rules.specs.Walk.{Placement, Visit, Quad, Shows, Enters}
-use Rattle.vz_rules.specs.Damage.{shown_range, of_same_range, is_switched}
-use Rattle.vz_damage.specs.Told.{Told, told_on, damage_in}
+use Rattle.vz_rules.specs.Damage.{shown_range, of_same_range, is_switched, aggregation_of}
+use Rattle.vz_surfaces.specs.Stored.{Stored}
+use Rattle.vz_walk.specs.Scenes.{scene_in, walked_in}
+use Rattle.vz_damage.specs.Told.{Told, Damaged, told_on, damage_in}
 
 -- the root and the ranges of an aggregation: its indices stand with what is told of each surface
 abbrev pub without_indices : Aggregation → Aggregation
@@ -54,3 +56,14 @@ pub record IsMeasured (told : List (SurfaceId × Told)) (last : Shown) (damage :
     (visits : List Visit) : Type 0 where
   pub claims : (a : Aggregation) → a.ranges ≡ last → damage ≡ bound (flat_map (told_claims_of told a) visits)
   pub ranges_met : ranges ≡ adding of_same_range [] (filter_map shown_range visits)
+
+-- what a walk measured: what changed, and what is remembered once it is the last aggregation, whose indices stand with what is told
+pub record Measurement : Type 0 where
+  pub changed : Option Rectangle
+  pub kept : Aggregation
+
+-- this is measured of a store from a root, on a display of a size, behind these damages: what changed is the smallest rectangle round the
+-- claims, if anything did, and what is kept is the aggregation
+pub record IsMeasureOf (d : Damaged) (st : Stored) (root : SurfaceId) (size : Size) (m : Measurement) : Type 0 where
+  pub changed : m.changed ≡ what_changed d.last (told_damage size d.last d.surfaces root (walked_in size root st))
+  pub kept : m.kept ≡ without_indices (aggregation_of (scene_in root st) (walked_in size root st))

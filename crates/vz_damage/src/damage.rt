@@ -7,11 +7,12 @@ ghost use Rattle.vz_ids.specs.Ids.{same_surface};
 ghost use Rattle.vz_geom.specs.Display.{IsDisplaySize};
 ghost use Rattle.vz_rules.specs.Damage.{aggregation_of};
 ghost use Rattle.vz_surfaces.specs.Keeping.{KeepsStored, KeepsFrames};
-ghost use Rattle.vz_damage.specs.Measured.{told_damage, what_changed, without_indices, has_root};
+ghost use Rattle.vz_damage.specs.Measured.{told_damage, what_changed, has_root, IsMeasureOf};
 ghost use Rattle.vz_walk.specs.Scenes.{scene_in, walked_in};
 ghost use Rattle.vz_damage.specs.Told.{told_on, next_index, damage_in};
 ghost use Rattle.vz_damage.specs.Told.{with_damage, with_active, with_seen};
 
+use crate::measured::Measured;
 use crate::measurer::{Measurer, damage_of};
 use crate::ranges::Ranges;
 use crate::running::Running;
@@ -222,7 +223,7 @@ impl Damage {
     }
 
     /// The root and the ranges of the last aggregation are these.
-    fn remember(&mut self, root: SurfaceId, ranges: Ranges)
+    fn keep(&mut self, root: SurfaceId, ranges: Ranges)
         ensures { self.new ≡ record self.old {
           last = Some (record { root = root; indices = []; ranges = ranges });
         } }
@@ -231,10 +232,9 @@ impl Damage {
         self.free = mem::replace(&mut self.shown, ranges);
     }
 
-    /// The display is aggregated: the damage of what is drawn from this root, the smallest
-    /// rectangle round the claims, and None exactly where there was an aggregation and it is empty.
-    /// What is drawn is then the last aggregation. For want of memory, and only then, it answers
-    /// Memory and nothing changes.
+    /// What a drawing from this root changes: the smallest rectangle round the claims, and None
+    /// exactly where there was an aggregation and it is empty. With it comes what is remembered of
+    /// the walk, once it is (`remember`); until then nothing changes. Memory is the only error.
     ///
     /// Conditions: what always holds of the store is kept, and its frames fit; the size is a
     /// display's. The walk is as long as the weight, so that a caller asks for that first.
@@ -243,26 +243,34 @@ impl Damage {
         store: &Store,
         root: &SurfaceId,
         size: Size,
-    ) -> Result<Option<Rect>, Memory>
+    ) -> Result<Measured, Memory>
         requires keeps { KeepsStored store.now }
         requires frames { KeepsFrames store.now }
         requires size { IsDisplaySize size }
-        ensures damage { IfOk result (λ o. o ≡ what_changed self.old.last
-            (told_damage size self.old.last self.old.surfaces root.now
-            (walked_in size root.now store.now))) }
-        ensures last { OnOk result (self.new.last ≡ Some (without_indices
-            (aggregation_of (scene_in root.now store.now) (walked_in size root.now store.now)))) }
-        ensures told { (id : Surface) → OnOk result (told_on self.new.surfaces id
-            ≡ option_map with_seen (told_on self.old.surfaces id)) }
-        ensures spare { self.new.spare ≡ self.old.spare }
-        ensures err { OnErr result (self.new ≡ self.old) }
+        ensures measured { IfOk result (λ m. IsMeasureOf self.old store.now root.now size m) }
+        ensures same { self.new ≡ self.old }
     {
         let mut free = mem::replace(&mut self.free, Ranges::new(self.alloc));
         free.clear();
         let (damage, ranges) = self.walked(free, store, root, size)?;
         let changed = self.changed(damage);
+        Ok(Measured {
+            changed,
+            root: *root,
+            ranges,
+        })
+    }
+
+    /// The display is aggregated: what is drawn, or would be if anything had changed, was measured
+    /// so, and is the last aggregation from now on. It takes no memory.
+    pub fn remember(&mut self, measured: Measured)
+        ensures last { self.new.last ≡ Some measured.kept }
+        ensures told { (id : Surface) → told_on self.new.surfaces id
+            ≡ option_map with_seen (told_on self.old.surfaces id) }
+        ensures spare { self.new.spare ≡ self.old.spare }
+    {
+        let Measured { root, ranges, .. } = measured;
         self.aggregated();
-        self.remember(*root, ranges);
-        Ok(changed)
+        self.keep(root, ranges);
     }
 }

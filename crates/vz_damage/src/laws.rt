@@ -25,8 +25,8 @@ pub fn told_damages_are_drawn()
 {}
 
 /// Where each surface with an active frame has what is told of it behind the last aggregation of
-/// the machine's state, what `measure` tells of a store is what a drawing does: the damage, what
-/// is remembered, and what is told from then on.
+/// the machine's state, what `measure` tells of a store is what a drawing does: the damage, and
+/// what `remember` keeps and tells from then on.
 pub fn measured_damages_are_drawn()
     ensures damage { (w : World) (told : List (SurfaceId × Told)) (size : Size) (root : SurfaceId)
         → KeepsAlways w → TellsLast w told

@@ -7,8 +7,10 @@
 
 mod damage;
 pub mod laws;
+mod measured;
 mod measurer;
 mod ranges;
 mod running;
 
 pub use damage::Damage;
+pub use measured::Measured;

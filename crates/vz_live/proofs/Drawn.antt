@@ -1,5 +1,5 @@
 -- A drawing: what is answered, and what hangs on surfaces stands for the state that it leaves.
-use Rattle.std.proofs.Common.{◌≡◌, ℕ, ◌≤◌, ◌&&◌, Bool, true, false, Option, Some, None}
+use Rattle.std.proofs.Common.{◌≡◌, ℕ, ◌&&◌, Bool, true, false, Option, Some, None}
 use Rattle.std.proofs.Common.{is_some, List, refl, ap, sym, ◌∙◌, subst, arith, cond, Contains}
 use Rattle.std.specs.Option.{option_map}
 use Rattle.vz_geom.specs.declared.Size.{Size}
@@ -28,7 +28,7 @@ use Rattle.vz_walk.specs.Scenes.{scene_in, walked_in}
 use Rattle.vz_walk.specs.Weighing.{IsWeightOf}
 use Rattle.vz_damage.specs.Told.{Damaged, told_on, with_seen}
 use Rattle.vz_damage.specs.Accepted.{scene_from}
-use Rattle.vz_damage.specs.Measured.{told_damage, what_changed, without_indices}
+use Rattle.vz_damage.specs.Measured.{Measurement, told_damage, without_indices}
 use Rattle.vz_damage.proofs.Entering.{measured_is_drawn}
 use Rattle.vz_telling.specs.Telling.{AreTold}
 use Rattle.vz_telling.specs.Changing.{drawn_reply}
@@ -43,8 +43,7 @@ use Rattle.vz_flight.specs.Drawn.{IsRosterOf, flown_from}
 use Rattle.vz_flight.proofs.Staying.{flown_some}
 use Rattle.vz_flight.proofs.Drawings.{flown_active, flown_drawn, flown_still}
 use Rattle.vz_live.specs.Living.{Live, AreLive, AreWhole}
-use Rattle.vz_live.specs.Landing.{flying_count}
-use Rattle.vz_live.specs.Drawing.{IsDrawing, IsShowing, IsLifting}
+use Rattle.vz_live.specs.Drawing.{IsDrawing, IsShowing, IsLifting, Measures}
 use Rattle.vz_live.proofs.Quiet.{live_by}
 
 none_some : {A : Type 0} (o : Option A) → is_some o ≡ false → o ≡ None
@@ -198,9 +197,6 @@ module _ (p : Plan) (w : World) (root : SurfaceId) (size : Size) (v : Live) (h :
   pub flightless : is_some v.flight ≡ false
   flightless = flown_some w v.flight h.drawing.live.flown ∙ h.walks.free
 
-  pub none_flying : (n : ℕ) → flying_count v.flight ≤ n
-  none_flying n = subst (λ (o : Option (List Flown)). flying_count o ≤ n) (sym (none_some v.flight flightless)) (omega arith)
-
   none_flies : w.in_flight ≡ None
   none_flies = none_some w.in_flight h.walks.free
 
@@ -214,21 +210,32 @@ module _ (p : Plan) (w : World) (root : SurfaceId) (size : Size) (v : Live) (h :
       ∙ measured_is_drawn w v.damaged.surfaces p.size root h.drawing.keeps.always
       (tells_last w v.damaged h.drawing.keeps.always h.drawing.live.told)
 
-  pub reply_is : (o : Option Rectangle)
-      → o ≡ what_changed v.damaged.last (told_damage size v.damaged.last v.damaged.surfaces root (walked_in size root v.store))
-      → drawn_reply o ≡ (draw_answer p w).reply
-  reply_is o e =
-      ap drawn_reply e ∙ sym (reply_drawn p w root h.walks v.damaged _ h.drawing.live.told damage_is)
+  -- what is measured tells what is answered
+  pub reply_is : (m : Measurement) → Measures root size v m → drawn_reply m.changed ≡ (draw_answer p w).reply
+  reply_is m is =
+      ap drawn_reply is.changed ∙ sym (reply_drawn p w root h.walks v.damaged _ h.drawing.live.told damage_is)
+
+  reply_none : (m : Measurement) → Measures root size v m → m.changed ≡ None → (draw_answer p w).reply ≡ reply.Unchanged
+  reply_none m is e = sym (reply_is m is) ∙ ap drawn_reply e
+
+  reply_some : (m : Measurement) (damage : Rectangle) → Measures root size v m → m.changed ≡ Some damage
+      → (draw_answer p w).reply ≡ reply.Drawn damage
+  reply_some m damage is e = sym (reply_is m is) ∙ ap drawn_reply e
 
   -- what is left
 
-  told_is : (d : Damaged) → ((id : SurfaceId) → told_on d.surfaces id ≡ option_map with_seen (told_on v.damaged.surfaces id))
-      → d.last ≡ Some (without_indices (aggregation_of (scene_in root v.store) (walked_in size root v.store))) → AreTold done d
-  told_is d tells last =
-      told_drawn p w root h.walks v.damaged d h.drawing.live.told tells
-      (last ∙ (λ i.
+  kept_is : without_indices (aggregation_of (scene_in root v.store) (walked_in size root v.store))
+      ≡ without_indices (aggregation_of (scene_from root w) (walk_of p.size (scene_from root w)))
+  kept_is =
+      λ i.
       let scene : Scene = record { root = root; active = frames_are p w root size v h.drawing i } in
-      Some (without_indices (aggregation_of scene (walk_of (sym h.drawing.sized_as i) scene)))))
+      without_indices (aggregation_of scene (walk_of (sym h.drawing.sized_as i) scene))
+
+  told_is : (m : Measurement) (d : Damaged) → Measures root size v m → d.last ≡ Some m.kept
+      → ((id : SurfaceId) → told_on d.surfaces id ≡ option_map with_seen (told_on v.damaged.surfaces id)) → AreTold done d
+  told_is m d is last tells =
+      told_drawn p w root h.walks v.damaged d h.drawing.live.told tells
+      (last ∙ ap (λ (a : Aggregation). Some a) (is.kept ∙ kept_is))
 
   live_left : (lent : List Lent) (d : Damaged) (flight : Option (List Flown)) → AreLent done lent → AreTold done d → AreFlown done flight
       → AreLive done None (record v { lent = lent; damaged = d; flight = flight })
@@ -253,14 +260,14 @@ module _ (p : Plan) (w : World) (root : SurfaceId) (size : Size) (v : Live) (h :
       }) is
 
   -- where nothing changed
-  pub live_unchanged : (lent : List Lent) (d : Damaged) → reply.Unchanged ≡ (draw_answer p w).reply → AreLent w lent
+  pub live_unchanged : (m : Measurement) (d : Damaged) → Measures root size v m → m.changed ≡ None → d.last ≡ Some m.kept
       → ((id : SurfaceId) → told_on d.surfaces id ≡ option_map with_seen (told_on v.damaged.surfaces id))
-      → d.last ≡ Some (without_indices (aggregation_of (scene_in root v.store) (walked_in size root v.store)))
-      → AreLive done None (record v { lent = lent; damaged = d })
-  live_unchanged lent d e is_lent tells last =
-      let flown = flown_still p w root h.walks v.flight (sym e) h.drawing.live.flown in
-      live_left lent d v.flight (left_alike w lent refl refl refl (flown.drawn ∙ sym h.drawing.live.flown.drawn) is_lent)
-      (told_is d tells last) flown
+      → AreLive done None (record v { damaged = d })
+  live_unchanged m d is none last tells =
+      let flown = flown_still p w root h.walks v.flight (reply_none m is none) h.drawing.live.flown in
+      live_left v.lent d v.flight
+      (left_alike w v.lent refl refl refl (flown.drawn ∙ sym h.drawing.live.flown.drawn) h.drawing.live.lent)
+      (told_is m d is last tells) flown
 
   -- where a frame is drawn
 
@@ -283,16 +290,15 @@ module _ (p : Plan) (w : World) (root : SurfaceId) (size : Size) (v : Live) (h :
         lent = lent_none_drawn w items none_flies lent;
       }
 
-  pub live_drawn : (flown roster : List Flown) (lent : List Lent) (d : Damaged) (damage : Rectangle) → flown ≡ flown_from size root v.store
-      → IsRosterOf flown roster → reply.Drawn damage ≡ (draw_answer p w).reply
-      → AreLent (record w { in_flight = Some (subs_of roster) }) lent
+  pub live_drawn : (flown roster : List Flown) (lent : List Lent) (m : Measurement) (d : Damaged) (damage : Rectangle)
+      → flown ≡ flown_from size root v.store → IsRosterOf flown roster → AreLent (record w { in_flight = Some (subs_of roster) }) lent
+      → Measures root size v m → m.changed ≡ Some damage → d.last ≡ Some m.kept
       → ((id : SurfaceId) → told_on d.surfaces id ≡ option_map with_seen (told_on v.damaged.surfaces id))
-      → d.last ≡ Some (without_indices (aggregation_of (scene_in root v.store) (walked_in size root v.store)))
       → AreLive done None (record v { lent = lent; damaged = d; flight = Some flown })
-  live_drawn flown roster lent d damage e is answered is_lent tells last =
+  live_drawn flown roster lent m d damage e names is_lent is some last tells =
       let flies : AreFlown done (Some flown) = subst (λ (l : List Flown). AreFlown done (Some l)) (sym (from_is flown e))
-      (flown_drawn p w root h.walks (seen_all w h.drawing.keeps.always) damage (sym answered)) in
+      (flown_drawn p w root h.walks (seen_all w h.drawing.keeps.always) damage (reply_some m damage is some)) in
       live_left lent d (Some flown)
       (left_alike (record w { in_flight = Some (subs_of flown) }) lent refl refl refl flies.drawn
-      (lent_ordered w (subs_of roster) (subs_of flown) lent is.names is_lent))
-      (told_is d tells last) flies
+      (lent_ordered w (subs_of roster) (subs_of flown) lent names.names is_lent))
+      (told_is m d is last tells) flies

@@ -23,7 +23,7 @@ use Rattle.vz_surfaces.specs.declared.held.Held.{Held}
 use Rattle.vz_surfaces.specs.Stored.{Stored, stored_of, bare_surface, bare_sub, destroying}
 use Rattle.vz_surfaces.specs.Reading.{standing, stands, held_of, active_on, waiting_at}
 use Rattle.vz_surfaces.specs.Keeping.{KeepsStored}
-use Rattle.vz_surfaces.specs.Memory.{waiting_on as stored_waiting}
+use Rattle.vz_surfaces.specs.Memory.{acting_on as stored_acting, waiting_on as stored_waiting}
 use Rattle.vz_surfaces.proofs.Following.{follows_destroyed}
 use Rattle.vz_surfaces.proofs.Telling.{standing_bare, tells_exists}
 use Rattle.vz_surfaces.proofs.Kept_of_world.{keeps_of_world}
@@ -87,6 +87,13 @@ unfolding stored_waiting stored_of
 stored_waits w id =
     ap (option_map (λ (s : Submission). sub_of s)) (find_map (λ s. is_waiting s && is_on id s) bare_sub w.subs (λ x. refl))
     ∙ names_bare (find (λ s. is_waiting s && is_on id s) w.subs)
+
+-- and of what is active there
+pub stored_acts : (w : World) (id : SurfaceId) → stored_acting (stored_of w) id ≡ sub_active_on w id
+unfolding stored_acting stored_of
+stored_acts w id =
+    ap (option_map (λ (s : Submission). sub_of s)) (find_map (λ s. is_active s && is_on id s) bare_sub w.subs (λ x. refl))
+    ∙ names_bare (find (λ s. is_active s && is_on id s) w.subs)
 
 module _ (w : World) (d : Created) (id : SurfaceId) (v : Live) (h : IsGoing w d id v) where
   abbrev there : Submission → Bool
@@ -182,6 +189,9 @@ module _ (w : World) (d : Created) (id : SurfaceId) (v : Live) (h : IsGoing w d 
 
   pub ends_name : (r : Option Sub) → r ≡ stored_waiting v.store id → r ≡ sub_waiting_on w id
   ends_name r e = e ∙ (ap (λ st. stored_waiting st id) h.live.store ∙ stored_waits w id)
+
+  pub acts_name : (r : Option Sub) → r ≡ stored_acting v.store id → r ≡ sub_active_on w id
+  acts_name r e = e ∙ (ap (λ st. stored_acting st id) h.live.store ∙ stored_acts w id)
 
   pub lost_is : (r : Lost) → ((c : Created) → standing id v.store.surfaces ≡ Some c → r ≡ record { client = c.client; surface = c.number }) → r ≡ record { client = d.client; surface = d.number }
   lost_is r f = f (bare_surface d) standing_is

@@ -1,5 +1,5 @@
 -- What is reached over what is kept is what is reached in the machine's state.
-use Rattle.std.proofs.Common.{true, false, ℕ, ◌+◌, ◌≤◌, ◌<◌, length, arith, ◌≡◌, Bool, Option, Some, None, IfSome, IsTrue, List, refl, ap, ◌∙◌, subst, cond}
+use Rattle.std.proofs.Common.{true, false, ◌+◌, ◌≤◌, length, arith, ◌≡◌, Bool, Option, Some, None, IfSome, IsTrue, List, refl, ap, ◌∙◌, subst, cond}
 use Rattle.std.specs.List.{list_any}
 use Rattle.vz_ids.specs.declared.SurfaceId.{SurfaceId}
 use Rattle.vz_ids.specs.declared.SurfaceRange.{SurfaceRange}

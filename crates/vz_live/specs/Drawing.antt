@@ -2,16 +2,15 @@
 use Rattle.std.specs.Prelude.{◌≡◌, ℕ, Option, Some, None, List, [], IsTrue, IsFalse, slice_get, take}
 use Rattle.std.specs.List.{Contains}
 use Rattle.vz_geom.specs.declared.Size.{Size}
-use Rattle.vz_geom.specs.Rectangle.{Rectangle}
 use Rattle.vz_ids.specs.declared.SurfaceId.{SurfaceId}
-use Rattle.vz_rules.specs.declared.entry.Reply.{Reply}
 use Rattle.vz_rules.specs.declared.entry.Reply.TheVariants as reply
 use Rattle.vz_rules.specs.Plan.{Plan, IsPlan}
 use Rattle.vz_rules.specs.World.{World, Submission, has_sub, is_active, sub_of}
 use Rattle.vz_rules.specs.Messages.{says}
 use Rattle.vz_rules.specs.Step.{draw_answer}
 use Rattle.vz_rules.specs.Kept.{Keeps, KeepsAlways, KeepsPlan}
-use Rattle.vz_telling.specs.Changing.{Draws, drawn_reply}
+use Rattle.vz_damage.specs.Measured.{Measurement, IsMeasureOf}
+use Rattle.vz_telling.specs.Changing.{Draws}
 use Rattle.vz_lending.specs.Lent.{Lent, AreLent, NoneReleased}
 use Rattle.vz_flight.specs.Flying.{Flown, subs_of}
 use Rattle.vz_live.specs.Living.{Live, AreLive, AreWhole}
@@ -40,9 +39,9 @@ Foretells p w root size v look.NoRoot = draw_answer p w ≡ says reply.NoRoot w
 Foretells p w root size v look.TooMuch = draw_answer p w ≡ says reply.TooMuch w
 Foretells p w root size v (look.Seen id) = (root ≡ Some id) × IsShowing p w id size v
 
--- what a drawing that walks is answered, by what changed
-abbrev pub reply_of : Option Rectangle → Reply
-reply_of changed = drawn_reply changed
+-- this is measured of the surfaces from a root, on a display of a size, before anything of it is remembered
+abbrev pub Measures : SurfaceId → Size → Live → Measurement → Type 0
+Measures root size v m = IsMeasureOf v.damaged v.store root size m
 
 -- each of these, with what it lists, is an active submission of a state
 abbrev pub AreActive : World → List Flown → Type 0

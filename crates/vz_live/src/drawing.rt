@@ -1,22 +1,26 @@
 //! A frame is drawn.
 ghost use Rattle.std.specs.Prelude.{◌≡◌, ◌≤◌, ℕ, None, Some, Option, IfOk, OnOk, OnErr};
+ghost use Rattle.vz_geom.specs.declared.Size.{Size as DisplaySize};
+ghost use Rattle.vz_geom.specs.Rectangle.{Rectangle};
 ghost use Rattle.vz_ids.specs.declared.SurfaceId.{SurfaceId as Id};
 ghost use Rattle.vz_rules.specs.Plan.{Plan};
 ghost use Rattle.vz_rules.specs.World.{World};
 ghost use Rattle.vz_rules.specs.Step.{draw_answer};
+ghost use Rattle.vz_telling.specs.Changing.{drawn_reply};
 ghost use Rattle.vz_lending.specs.Lent.{AreLent, NoneReleased, HasPlaces, resources_out};
 ghost use Rattle.vz_flight.specs.Flying.{subs_of};
 ghost use Rattle.vz_flight.specs.Drawn.{listing_count};
 ghost use Rattle.vz_live.specs.Living.{AreLive};
 ghost use Rattle.vz_live.specs.Landing.{flying_count};
-ghost use Rattle.vz_live.specs.Drawing.{IsShowing, IsLifting, reply_of};
+ghost use Rattle.vz_live.specs.Drawing.{IsShowing, IsLifting, Measures};
 
 use crate::live::LiveSurfaces;
 use std::alloc::Global;
 use vz_base::Memory;
+use vz_damage::Measured;
 use vz_flight::{Roster, fly};
 use vz_frame::Room;
-use vz_geom::{Rect, Size};
+use vz_geom::Size;
 use vz_ids::SurfaceId;
 use vz_lending::Lending;
 use vz_rules::Fed;
@@ -30,25 +34,51 @@ impl LiveSurfaces {
         &self.store
     }
 
-    /// A drawing that walks, on a display of a size: what changed, and None where nothing did.
-    /// Where something did, the submissions of the drawn frame hold what they list until it is
-    /// done, and `fed` has room for its end. In any case what is seen is remembered. Condition: a
-    /// look told that it walks from this root.
+    /// What a drawing that walks measures, on a display of a size. It tells what the drawing is
+    /// answered, before anything is made for it, and nothing changes in any case. Memory is the
+    /// only error. Condition: a look told that it walks from this root.
     ///
-    /// Want of memory is the only error, and then nothing changes but that there may be more room.
-    /// The drawn frame is made before it is known whether anything changed, as what is measured is
-    /// remembered, and nothing may fail from then on.
+    /// The drawing ends with `leave` where nothing changed, and with `show` where something did.
+    pub fn measure(&mut self, root: &SurfaceId, size: Size) -> Result<Measured, Memory>
+        requires shows { (p : Plan) × (w : World) × IsShowing p w root.now size self.old }
+        ensures reply { (p : Plan) (w : World) → IsShowing p w root.now size self.old
+            → IfOk result (λ m. drawn_reply m.changed ≡ (draw_answer p w).reply) }
+        ensures measured { IfOk result (λ m. Measures root.now size self.old m) }
+        ensures same { self.new ≡ self.old }
+    {
+        let measured = self.damage.measure(&self.store, root, size)?;
+        Ok(measured)
+    }
+
+    /// A drawing that walks ends where nothing changed: what is seen is remembered, and nothing is
+    /// drawn. It takes no memory.
+    pub fn leave(&mut self, measured: Measured)
+        ensures live { (p : Plan) (w : World) (root : Id) (size : DisplaySize)
+            → IsShowing p w root size self.old → Measures root size self.old measured
+            → measured.changed ≡ None → AreLive (draw_answer p w).world None self.new }
+        ensures rest { self.new ≡ record self.old { damaged = self.new.damaged } }
+    {
+        self.damage.remember(measured);
+    }
+
+    /// A drawing that walks ends where something changed: what is seen is remembered, and drawn.
+    /// The submissions of the drawn frame hold what they list until it is done, and `fed` has room
+    /// for its end. Condition: a look told that the drawing walks from this root.
+    ///
+    /// Want of memory is the only error, and then nothing changes but that there may be more room:
+    /// the drawn frame is made before the first change.
     pub fn show(
         &mut self,
         alloc: Global,
         root: &SurfaceId,
         size: Size,
+        measured: Measured,
         fed: &mut Room<Fed>,
-    ) -> Result<Option<Rect>, Memory>
+    ) -> Result<(), Memory>
         requires shows { (p : Plan) × (w : World) × IsShowing p w root.now size self.old }
-        ensures reply { (p : Plan) (w : World) → IsShowing p w root.now size self.old
-            → IfOk result (λ changed. reply_of changed ≡ (draw_answer p w).reply) }
-        ensures live { (p : Plan) (w : World) → IsShowing p w root.now size self.old
+        ensures live { (p : Plan) (w : World) (damage : Rectangle)
+            → IsShowing p w root.now size self.old → Measures root.now size self.old measured
+            → measured.changed ≡ Some damage
             → OnOk result (AreLive (draw_answer p w).world None self.new) }
         ensures kept { (w : World) (but : Option Id) → AreLive w but self.old
             → OnErr result (AreLive w but self.new) }
@@ -70,14 +100,10 @@ impl LiveSurfaces {
             return Err(Memory);
         };
         self.lending.ready_to_draw(listings)?;
-        match self.damage.measure(&self.store, root, size)? {
-            None => Ok(None),
-            Some(damage) => {
-                hold_each(&mut self.lending, roster);
-                self.flight = Some(flight);
-                Ok(Some(damage))
-            }
-        }
+        hold_each(&mut self.lending, roster);
+        self.damage.remember(measured);
+        self.flight = Some(flight);
+        Ok(())
     }
 }
 

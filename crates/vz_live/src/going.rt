@@ -3,7 +3,7 @@ ghost use Rattle.std.specs.Prelude.{◌≡◌, None, Option};
 ghost use Rattle.vz_rules.specs.World.{World, Created};
 ghost use Rattle.vz_rules.specs.Reach.{naming};
 ghost use Rattle.vz_rules.specs.Singly.{going};
-ghost use Rattle.vz_feeding.specs.Owing.{waiting_on};
+ghost use Rattle.vz_feeding.specs.Owing.{active_on, waiting_on};
 ghost use Rattle.vz_lending.specs.Lent.{resources_out};
 ghost use Rattle.vz_feeding.specs.Noting.{owed_count};
 ghost use Rattle.vz_live.specs.Living.{AreLive};
@@ -28,6 +28,8 @@ impl LiveSurfaces {
             → result.lost ≡ record { client = c.client; surface = c.number } }
         ensures waiting { (w : World) (c : Created) → IsGoing w c id.now self.old
             → result.waiting ≡ waiting_on w id.now }
+        ensures active { (w : World) (c : Created) → IsGoing w c id.now self.old
+            → result.active ≡ active_on w id.now }
         ensures temporary { self.new.kept.temporary ≡ self.old.kept.temporary }
         ensures out { resources_out self.new.lent ≡ resources_out self.old.lent }
         ensures count { owed_count self.new.owed.owed ≡ owed_count self.old.owed.owed }

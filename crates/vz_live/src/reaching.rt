@@ -1,6 +1,8 @@
 //! Which surfaces are reached, and which may be destroyed.
-ghost use Rattle.std.specs.Prelude.{◌≡◌, ◌≤◌, ◌<◌, ◌+◌, ◌++◌, [], length, Option, None};
+ghost use Rattle.std.specs.Prelude.{◌≡◌, ◌≤◌, ◌<◌, ◌+◌, ◌++◌, [], length, IsFalse, Option, None};
 ghost use Rattle.vz_ids.specs.declared.SurfaceId.{SurfaceId as Id};
+ghost use Rattle.vz_ids.specs.Ids.{same_surface};
+ghost use Rattle.vz_frame.specs.Frame.{has_repeat};
 ghost use Rattle.vz_rules.specs.World.{World};
 ghost use Rattle.vz_rules.specs.Reach.{has_id, naming, reach};
 ghost use Rattle.vz_rules.specs.Kept.{KeepsAlways};
@@ -64,6 +66,7 @@ impl LiveSurfaces {
         requires room { length self.now.kept.sets + length self.now.kept.temporary < out.old.spare }
         ensures reached { (w : World) → KeepsAlways w → AreLive w None self.now → naming w ≡ w
             → root ≡ w.root → (id : Id) → has_id out.new.list id ≡ has_id (reach w) id }
+        ensures once { IsFalse (has_repeat same_surface out.new.list) }
         ensures few { length out.new.list
             ≤ length self.now.kept.sets + length self.now.kept.temporary + 1 }
     {

@@ -42,6 +42,7 @@ use Rattle.vz_manager.specs.Submitted.{IsAllowed, IsSubmitting, IsComing, IsTaki
 use Rattle.vz_manager.specs.Submitted.{HasRoomToSubmit, StillServe, created_by}
 use Rattle.vz_manager.proofs.Submits.{is_submitting, there, answer}
 use Rattle.vz_manager.proofs.Arrived_new.{created_new}
+use Rattle.vz_manager.proofs.Unlost.{arrived_unlost}
 use Rattle.vz_manager.proofs.Rooming.{can_follow}
 use Rattle.vz_manager.proofs.Stepped.{followed_answer, followed_flight, serves_after}
 
@@ -227,9 +228,9 @@ module _ (p : Plan) (w : World) (c : ℕ) (x : Client) (local : LocalSurfaceId) 
   submits = is_submitting p w c x local frame v h.serves h.allowed
 
   -- what follows may begin
-  pub arrived_follows : (root : Option SurfaceId) → root ≡ after.root
-      → IsFollowed after root coming.new settling (record f { activated = ready })
-  arrived_follows root of_root =
+  pub arrived_follows : (root : Option SurfaceId) (anew : Bool) → root ≡ after.root → anew ≡ is_some coming.new
+      → IsFollowed after root coming.new anew settling (record f { activated = ready })
+  arrived_follows root anew of_root creates =
       record {
         settles = subst (λ o. IsToSettle after o settling ready.list) (sym (ap new_id h.comes.new ∙ created_id w x local)) h.taken.settles;
         of_root = of_root;
@@ -237,6 +238,9 @@ module _ (p : Plan) (w : World) (c : ℕ) (x : Client) (local : LocalSurfaceId) 
         is = λ n e.
             created_new w x local frame n h.serves.keeps.always.clients (there p w c x local frame v.support v.settling submits)
             h.allowed.sends.stays (sym h.comes.new ∙ e);
+        unlost = λ e.
+            arrived_unlost w x local frame v.settling.live.kept settling.live.kept h.serves.keeps h.serves.settling.live.kept
+            h.taken.settles.stands.live.kept h.kept (ap is_some (sym h.comes.new) ∙ (sym creates ∙ e));
       }
 
   -- and there is room for it

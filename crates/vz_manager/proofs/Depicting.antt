@@ -7,7 +7,8 @@ use Rattle.vz_geom.specs.Display.{IsDisplaySize}
 use Rattle.vz_ids.specs.declared.SurfaceId.{SurfaceId}
 use Rattle.vz_pixels.specs.Colour.{Colour, black}
 use Rattle.vz_rules.specs.declared.entry.Event.TheVariants.{Draw}
-use Rattle.vz_rules.specs.declared.entry.Reply.TheVariants.{Drawn}
+use Rattle.vz_rules.specs.declared.entry.Reply.{Reply}
+use Rattle.vz_rules.specs.declared.entry.Reply.TheVariants.{Drawn, Unchanged}
 use Rattle.vz_rules.specs.Plan.{Plan}
 use Rattle.vz_rules.specs.World.{World, Scene, FrameData, Submission, active_frames}
 use Rattle.vz_rules.specs.Paint.{full, picture}
@@ -114,7 +115,7 @@ module _ (p : Plan) (w : World) (size : Size) (damage : Rectangle) (h : IsAnswer
   damage_inside : Covers (sized p.size) damage
   damage_inside = subst (Covers (sized p.size)) (sym said.2) (damage_covered p.size w.last (accepted_frames w) said.0)
 
-  flattened : (ops : List Op) → IsFlattened (record { size = size; ops = ops; changed = damage })
+  pub flattened : (ops : List Op) → IsFlattened (record { size = size; ops = ops; changed = damage })
   flattened ops =
       record {
         sides = subst IsDisplaySize h.sized_as h.plan.sizes;
@@ -128,7 +129,7 @@ module _ (p : Plan) (w : World) (size : Size) (damage : Rectangle) (h : IsAnswer
       same_each (λ q. value ops q black) (full look.scene) (points_of p.size)
       (λ q m. look.colours q (in_display p.size q h.plan.sizes m))
 
-  shows : (ops : List Op) → LookLike p w ops
+  pub shows : (ops : List Op) → LookLike p w ops
       → IsPainted p w (Drawn damage) (Some (record { size = size; ops = ops; changed = damage }))
   shows ops look = (
     look.scene,
@@ -140,18 +141,17 @@ module _ (p : Plan) (w : World) (size : Size) (damage : Rectangle) (h : IsAnswer
     refl,
   )
 
--- Where something changed, and where nothing did
+-- a drawing that walks is answered by what changed
+pub answered_so : (p : Plan) (w : World) (root : SurfaceId) (size : Size) (v : Live) (changed : Option Rectangle) (damage : Rectangle)
+    → IsShowing p w root size v → drawn_reply changed ≡ (draw_answer p w).reply → changed ≡ Some damage
+    → IsAnswered p w size (Drawn damage)
+answered_so p w root size v changed damage h is some =
+    record { plan = h.drawing.plan; sized_as = h.drawing.sized_as; reply_is = ap drawn_reply (sym some) ∙ is }
 
-module _ (p : Plan) (w : World) (size : Size) (changed : Option Rectangle) (h : IsAnswered p w size (drawn_reply changed)) where
-  pub is_flattened : (damage : Rectangle) (ops : List Op) → changed ≡ Some damage
-      → IsFlattened (record { size = size; ops = ops; changed = damage })
-  is_flattened damage ops is = flattened p w size damage (subst (λ o. IsAnswered p w size (drawn_reply o)) is h) ops
+-- a step that is answered so has this picture, and none where nothing changed
+pub painted_so : (p : Plan) (w : World) (r : Reply) (damage : Rectangle) (f : Flattened) → r ≡ Drawn damage
+    → IsPainted p w (Drawn damage) (Some f) → IsPainted p w r (Some f)
+painted_so p w r damage f is painted = subst (λ (x : Reply). IsPainted p w x (Some f)) (sym is) painted
 
-  pub shows_changed : (damage : Rectangle) (ops : List Op) → changed ≡ Some damage → LookLike p w ops
-      → IsPainted p w (drawn_reply changed) (Some (record { size = size; ops = ops; changed = damage }))
-  shows_changed damage ops is look =
-      subst (λ o. IsPainted p w (drawn_reply o) (Some (record { size = size; ops = ops; changed = damage }))) (sym is)
-      (shows p w size damage (subst (λ o. IsAnswered p w size (drawn_reply o)) is h) ops look)
-
-pub shows_unchanged : (p : Plan) (w : World) (changed : Option Rectangle) → changed ≡ None → IsPainted p w (drawn_reply changed) None
-shows_unchanged p w changed is = subst (λ o. IsPainted p w (drawn_reply o) None) (sym is) tt
+pub unpainted : (p : Plan) (w : World) (r : Reply) → r ≡ Unchanged → IsPainted p w r None
+unpainted p w r is = subst (λ (x : Reply). IsPainted p w x None) (sym is) tt

@@ -1,24 +1,31 @@
 -- What follows a step's own change is that of the definitions.
-use Rattle.std.proofs.Common.{◌≡◌, ℕ, zero, suc, ◌+◌, ◌≤◌, Option, None, [], length, refl, ap, sym, ◌∙◌, subst}
+use Rattle.std.proofs.Common.{◌≡◌, ◌==◌, ℕ, zero, suc, ◌+◌, ◌≤◌, Bool, true, false, not, ◌||◌, Option, None, List, [], ◌∷◌, ◌++◌}
+use Rattle.std.proofs.Common.{map, length, append-nil, refl, ap, sym, ◌∙◌, subst, arith}
+use Rattle.std.proofs.lemmas.Bool.{eqb-true}
 use Rattle.vz_base.specs.declared.limits.TheConstants.{MOST_FILES, TEMPORARY_TICKS}
 use Rattle.vz_ids.specs.declared.SurfaceId.{SurfaceId}
+use Rattle.vz_ids.specs.declared.Sub.{Sub}
 use Rattle.vz_rules.specs.declared.entry.Effects.{Effects}
+use Rattle.vz_rules.specs.declared.entry.Lost.{Lost}
 use Rattle.vz_rules.specs.declared.entry.Reply.{Reply}
-use Rattle.vz_rules.specs.World.{World}
-use Rattle.vz_rules.specs.Settle.{round, rounds, settle, activated_in}
-use Rattle.vz_rules.specs.Reach.{naming, collect, destroyed_in}
+use Rattle.vz_rules.specs.World.{World, Submission, sub_of}
+use Rattle.vz_rules.specs.Settle.{ready, round, rounds, settle, activated_in}
+use Rattle.vz_rules.specs.Reach.{naming, lost_in, clearing, collect, destroyed_in}
 use Rattle.vz_rules.specs.Returns.{give_back, returned_in, feed, fed_in}
 use Rattle.vz_rules.specs.Messages.{says}
 use Rattle.vz_rules.specs.Step.{outcome_of}
 use Rattle.vz_rules.specs.Kept.{KeepsAlways}
+use Rattle.vz_rules.proofs.Kept_quiet.{settle_stays, destroyed_none}
+use Rattle.vz_rules.proofs.Kept_collected.{clearing_stays}
 use Rattle.vz_waiting.specs.Awaiting.{Waits, AreWaiting}
 use Rattle.vz_live.specs.Living.{Live, AreLive}
 use Rattle.vz_settling.specs.declared.settling.Settling.{Settling}
 use Rattle.vz_settling.specs.Settles.{AreSettling}
 use Rattle.vz_settling.specs.Collects.{IsToCollect}
+use Rattle.vz_settling.proofs.Rounded.{none_long}
 use Rattle.vz_manager.specs.declared.outcome.Following.{Following}
 use Rattle.vz_manager.specs.declared.outcome.New.{New}
-use Rattle.vz_manager.specs.Followed.{IsFollowed, IsKeeping, Tells, new_id}
+use Rattle.vz_manager.specs.Followed.{IsFollowed, IsKeeping, IsAsked, Tells, new_id}
 
 rounds_clients : (n : ℕ) (w : World) → (rounds n w).clients ≡ w.clients
 unfolding rounds round
@@ -70,30 +77,69 @@ pub record NamesKeep : Type 0 where
   pub waiting : (w : World) (a : Waits) → AreWaiting w a → AreWaiting (naming w) a
   pub again : (w : World) → naming (naming w) ≡ naming w
 
-pub kept_in : (w : World) (root : Option SurfaceId) (new : Option New) (v v1 v2 : Settling) (f : Following) → NamesKeep
-    → IsFollowed w root new v f → AreSettling (settle w) (new_id new) v1
-    → ((u : World) → IsKeeping u new v1 → AreSettling u None v2) → AreSettling (naming (settle w)) None v2
-kept_in w root new v v1 v2 f names h s keeps =
-    keeps (naming (settle w))
-    (record {
-      stands = record {
-        always = names.always (settle w) s.always;
-        live = names.live (settle w) (new_id new) v1.live s.live;
-        waiting = names.waiting (settle w) v1.waiting s.waiting;
-      };
-      is = λ n e. let x = h.is n e in (x.0, x.1, x.2 ∙ ap (λ t. t + TEMPORARY_TICKS) (sym (named_tick w)));
-    })
+none_here : (l : List Sub) (t : Bool) → (length l == 0) ≡ t → not t ≡ false → l ≡ []
+none_here l true e f = none_long l (omega (arith, eqb-true (length l) 0 e))
+none_here l false e f = absurd (cc)
 
-pub collects_in : (w : World) (root : Option SurfaceId) (new : Option New) (v v1 v2 : Settling) (f : Following) → NamesKeep
-    → IsFollowed w root new v f → AreSettling (settle w) (new_id new) v1
-    → ((u : World) → IsKeeping u new v1 → AreSettling u None v2) → IsToCollect (naming (settle w)) root v2
-collects_in w root new v v1 v2 f names h s keeps =
-    record {
-      stands = kept_in w root new v v1 v2 f names h s keeps;
-      named = names.again (settle w);
-      is_root = h.of_root ∙ sym (named_root w);
-      few = subst (λ cs. length cs ≤ MOST_FILES) (sym (named_clients w)) h.few;
-    }
+-- nothing was marked, named or shown anew, and nothing is ready
+none_anew : (anew : Bool) (l : List Sub) → (anew || not (length l == 0)) ≡ false → (anew ≡ false) × (l ≡ [])
+none_anew true l e = absurd (cc)
+none_anew false l e = (refl, none_here l (length l == 0) refl e)
+
+none_named : (l : List Submission) → [] ≡ map sub_of l → l ≡ []
+none_named [] e = refl
+none_named (s ∷ l) e = absurd (cc)
+
+-- the state has settled, and the new surface, if there is one, is kept
+pub record HasKept (w : World) (root : Option SurfaceId) (new : Option New) (anew : Bool) (v v1 v2 : Settling) (f : Following) : Type 0 where
+  pub names : NamesKeep
+  pub follows : IsFollowed w root new anew v f
+  pub settled : AreSettling (settle w) (new_id new) v1
+  pub keeps : (u : World) → IsKeeping u new v1 → AreSettling u None v2
+
+module _ (w : World) (root : Option SurfaceId) (new : Option New) (anew : Bool) (v v1 v2 : Settling) (f : Following)
+    (h : HasKept w root new anew v v1 v2 f) where
+  kept_in : AreSettling (naming (settle w)) None v2
+  kept_in =
+      h.keeps (naming (settle w))
+      (record {
+        stands = record {
+          always = h.names.always (settle w) h.settled.always;
+          live = h.names.live (settle w) (new_id new) v1.live h.settled.live;
+          waiting = h.names.waiting (settle w) v1.waiting h.settled.waiting;
+        };
+        is = λ n e. let x = h.follows.is n e in (x.0, x.1, x.2 ∙ ap (λ t. t + TEMPORARY_TICKS) (sym (named_tick w)));
+      })
+
+  collects_in : IsToCollect (naming (settle w)) root v2
+  collects_in =
+      record {
+        stands = kept_in;
+        named = h.names.again (settle w);
+        is_root = h.follows.of_root ∙ sym (named_root w);
+        few = subst (λ cs. length cs ≤ MOST_FILES) (sym (named_clients w)) h.follows.few;
+      }
+
+  -- it is asked wherever something is lost
+  pub asks_in : (asked : Bool) (ready_now : List Sub) → asked ≡ (anew || not (length ready_now == 0)) → ready_now ≡ f.activated.list
+      → IsAsked (naming (settle w)) root asked v2
+  asks_in asked ready_now is now =
+      record {
+        collects = collects_in;
+        unlost = λ e.
+            let quiet = none_anew anew ready_now (sym is ∙ e) in
+            let rises_not = none_named (ready w) (sym quiet.1 ∙ (now ∙ h.follows.settles.ready)) in
+            ap (λ u. lost_in (naming u)) (settle_stays w rises_not) ∙ h.follows.unlost quiet.0;
+      }
+
+-- Where no collection is asked
+
+module _ (w : World) (root : Option SurfaceId) (asked : Bool) (v : Settling) (h : IsAsked w root asked v) (e : asked ≡ false) where
+  pub stays_uncollected : AreSettling (clearing w) None v
+  stays_uncollected = subst (λ u. AreSettling u None v) (sym (clearing_stays w (h.unlost e))) h.collects.stands
+
+  pub none_told : (old : List Lost) → old ≡ old ++ destroyed_in w
+  none_told old = sym (append-nil old) ∙ ap (λ l. old ++ l) (sym (destroyed_none w h.collects.named (h.unlost e)))
 
 -- one list of effects is told
 pub tells_one : (e g : Effects) (f : Following) → Tells e f → Tells g f → e ≡ g

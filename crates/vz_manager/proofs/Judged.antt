@@ -1,10 +1,13 @@
 -- What is asked of a submission is what the definitions ask, and what it is answered.
-use Rattle.std.proofs.Common.{◌≡◌, ℕ, ◌+◌, ◌<◌, ◌≤◌, Bool, true, false, not, ◌&&◌, Option, Some, None, unwrap_or, List, [], ◌∷◌, ◌++◌}
+use Rattle.std.proofs.Common.{◌≡◌, ℕ, ◌+◌, ◌<◌, ◌≤◌, ℤ, int_lt, int_eq, Bool, true, false, not, ◌&&◌, ◌==◌, Option, Some, None, unwrap_or, List, [], ◌∷◌, ◌++◌}
 use Rattle.std.proofs.Common.{filter, take, length, get_or, refl, ap, sym, ◌∙◌, subst, arith, cond, sum_by}
 use Rattle.std.specs.Prelude.{nat_le}
 use Rattle.std.specs.Option.{option_map}
 use Rattle.std.specs.List.{list_any, list_all}
+use Rattle.std.proofs.Math.Bool.{and_assoc}
 use Rattle.std.proofs.lemmas.Bool.{leb-true}
+use Rattle.std.proofs.lemmas.Bool.Decides.{Decides-int_eq, same_from_decides}
+use Rattle.std.proofs.lemmas.Int.{ints}
 use Rattle.std.proofs.lemmas.List.{append-nil, append_assoc, take_all}
 use Rattle.std.proofs.lemmas.List.Elements.{filter-append}
 use Rattle.std.proofs.lemmas.Grind.{take_at_read}
@@ -12,12 +15,13 @@ use Rattle.vz_base.specs.declared.limits.TheConstants.{GREATEST_DEADLINE, LAST_T
 use Rattle.vz_geom.specs.declared.Size.{Size}
 use Rattle.vz_ids.specs.declared.LocalSurfaceId.{LocalSurfaceId}
 use Rattle.vz_ids.specs.declared.SurfaceId.{SurfaceId}
+use Rattle.vz_ids.specs.Ids.{same_local}
 use Rattle.vz_frame.specs.declared.frame.CompositorFrame.{CompositorFrame}
 use Rattle.vz_frame.specs.declared.message.Message.{Message}
 use Rattle.vz_frame.specs.declared.message.Message.TheVariants.{Submit}
 use Rattle.vz_frame.specs.declared.rules.Rule.{Rule}
 use Rattle.vz_frame.specs.Fits.{is_number, fits_optional, fits_surface, fits_range, fits_listing, fits_pass, fits_local, fits_frame}
-use Rattle.vz_frame.specs.Frame.{first_of, first_broken, frame_size}
+use Rattle.vz_frame.specs.Frame.{first_of, first_broken, frame_size, same_size}
 use Rattle.vz_rules.specs.declared.entry.Event.TheVariants as event
 use Rattle.vz_rules.specs.declared.entry.Refusal.{Refusal}
 use Rattle.vz_rules.specs.declared.entry.Refusal.TheVariants as refusal
@@ -149,6 +153,47 @@ pub submission_accepted : (p : Plan) (w : World) (c : ℕ) (x : Client) (local :
 unfolding submit_answer
 submission_accepted p w c x local frame is e =
     submission_sent p w c x local frame is ∙ ap (λ o. unless_refused w x o (accepted w x local frame)) e
+
+-- Sizes
+
+-- neither number is smaller
+alike : (a b : Bool) (x y : ℤ) → int_lt x y ≡ a → int_lt y x ≡ b → (not a && not b) ≡ true → x ≡ y
+alike false false x y e f h = omega (arith, ints)
+alike false true x y e f h = absurd (cc)
+alike true b x y e f h = absurd (cc)
+
+neither_less : (x : ℤ) → (not (int_lt x x) && not (int_lt x x)) ≡ true
+neither_less x = grind (arith, ints)
+
+-- so they are equal
+same_number : (x y : ℤ) → int_eq x y ≡ (not (int_lt x y) && not (int_lt y x))
+same_number x y =
+    same_from_decides (int_eq x y) (not (int_lt x y) && not (int_lt y x)) (Decides-int_eq x y)
+    (alike (int_lt x y) (int_lt y x) x y refl refl, λ e. subst (λ z. (not (int_lt x z) && not (int_lt z x)) ≡ true) e (neither_less x))
+
+-- sizes are the same where both sides are equal
+pub same_sides : (a b : Size) → (int_eq a.w b.w && int_eq a.h b.h) ≡ same_size a b
+same_sides a b =
+    (λ i. same_number a.w b.w i && same_number a.h b.h i)
+    ∙ sym (and_assoc (not (int_lt a.w b.w) && not (int_lt b.w a.w)) (not (int_lt a.h b.h)) (not (int_lt b.h a.h)))
+
+-- what is asked of a last surface of this local id and size
+module _ (o : Option NameAndSize) (id local : LocalSurfaceId) (old size : Size) (is : o ≡ Some (id, old)) where
+  named_is : has_other_size_named o local size ≡ (same_local id local && not (same_size old size))
+  named_is = ap (λ (x : Option NameAndSize). has_other_size_named x local size) is
+
+  module _ (t : Bool) (e : t ≡ ((id.parent == local.parent) && ((id.child == local.child) && (id.token.0 == local.token.0)))) where
+    tested : t ≡ same_local id local
+    tested = e ∙ sym (and_assoc (id.parent == local.parent) (id.child == local.child) (id.token.0 == local.token.0))
+
+    pub sizes_told : (r : Bool) → t ≡ true → r ≡ not (int_eq old.w size.w && int_eq old.h size.h) → r ≡ has_other_size_named o local size
+    sizes_told r same f =
+        f
+        ∙ (ap not (same_sides old size)
+        ∙ (ap (λ (b : Bool). b && not (same_size old size)) (sym same ∙ tested) ∙ sym named_is))
+
+    pub others_told : t ≡ false → t ≡ has_other_size_named o local size
+    others_told other = other ∙ (ap (λ (b : Bool). b && not (same_size old size)) (sym other ∙ tested) ∙ sym named_is)
 
 -- Refusals
 

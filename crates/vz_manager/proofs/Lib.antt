@@ -10,6 +10,7 @@ pub mod Depicting
 pub mod Judged
 pub mod Stepped
 pub mod Rooming
+pub mod Unlost
 pub mod Own_changes
 pub mod Submits
 pub mod Reading_all

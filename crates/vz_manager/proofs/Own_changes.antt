@@ -15,6 +15,7 @@ use Rattle.vz_rules.specs.declared.entry.Reply.TheVariants as reply
 use Rattle.vz_rules.specs.Plan.{Plan}
 use Rattle.vz_rules.specs.World.{World, Client, client_at, sub_of}
 use Rattle.vz_rules.specs.Settle.{ready}
+use Rattle.vz_rules.specs.Reach.{naming, lost_in}
 use Rattle.vz_rules.specs.Messages.{Answer, took, taking, root_answer, message_answer}
 use Rattle.vz_rules.specs.Step.{answer_to, begin_answer, next_tick, deliver}
 use Rattle.vz_rules.specs.Kept.{KeepsAlways}
@@ -38,6 +39,7 @@ use Rattle.vz_manager.specs.declared.outcome.Following.{Following}
 use Rattle.vz_manager.specs.Followed.{IsFollowed, IsBetween, HasRoomAfter, CanFollow, CanKeep}
 use Rattle.vz_manager.proofs.Resting.{appended}
 use Rattle.vz_manager.proofs.Following.{sent_answer, client_here}
+use Rattle.vz_manager.proofs.Unlost.{always_asked}
 use Rattle.vz_manager.proofs.Rooming.{can_follow, as_many_rise, none_rises}
 
 -- What such a change leaves
@@ -95,10 +97,17 @@ few_clients : (p : Plan) (w : World) (v : Served) → Serves p w v → length w.
 few_clients p w v h = omega (arith, h.of_plan.files.as_many, h.plan.few_files)
 
 -- a step made such a change, of no new surface
-pub is_followed : (p : Plan) (w u : World) (v : Served) (root : Option SurfaceId) (settling : Settling) (f : Following) → Serves p w v
-    → LeavesSubs w u → root ≡ u.root → IsToSettle u None settling f.activated.list → IsFollowed u root None settling f
-is_followed p w u v root settling f h leaves of_root to =
-    record { settles = to; of_root = of_root; few = omega (arith, few_clients p w v h, leaves.clients); is = λ n e. absurd (cc) }
+pub is_followed : (p : Plan) (w u : World) (v : Served) (root : Option SurfaceId) (anew : Bool) (settling : Settling) (f : Following)
+    → Serves p w v → LeavesSubs w u → root ≡ u.root → IsToSettle u None settling f.activated.list
+    → (anew ≡ false → lost_in (naming u) ≡ []) → IsFollowed u root None anew settling f
+is_followed p w u v root anew settling f h leaves of_root to unlost =
+    record {
+      settles = to;
+      of_root = of_root;
+      few = omega (arith, few_clients p w v h, leaves.clients);
+      is = λ n e. absurd (cc);
+      unlost = unlost;
+    }
 
 no_new : (v : Settling) → CanKeep None v
 no_new v n e = absurd (cc)
@@ -140,9 +149,10 @@ rises p w u v root settling activated old h leaves always of_root live waits tol
       };
     }
 
-pub risen_follows : (p : Plan) (w u : World) (v : Served) (root : Option SurfaceId) (settling : Settling) (f : Following)
-    → IsRisen p w u v root settling f.activated.list → IsFollowed u root None settling f
-risen_follows p w u v root settling f h = is_followed p w u v root settling f h.serves h.leaves h.rooted h.settles
+pub risen_follows : (p : Plan) (w u : World) (v : Served) (root : Option SurfaceId) (anew : Bool) (settling : Settling) (f : Following)
+    → IsRisen p w u v root settling f.activated.list → (anew ≡ false → lost_in (naming u) ≡ []) → IsFollowed u root None anew settling f
+risen_follows p w u v root anew settling f h unlost =
+    is_followed p w u v root anew settling f h.serves h.leaves h.rooted h.settles unlost
 
 -- such a change leaves as many surfaces, as much that is out, owed and referenced, and no more that is temporary
 pub record LeavesFewer (old new : Live) : Type 0 where
@@ -185,18 +195,18 @@ pub record IsRooted (p : Plan) (w : World) (x : Client) (local : LocalSurfaceId)
   pub waiting : AreWaiting (root_answer w x local).world v.settling.waiting
 
 pub root_follows : (p : Plan) (w : World) (x : Client) (local : LocalSurfaceId) (v : Served) (root : Option SurfaceId) (f : Following)
-    → IsRooted p w x local v root → f.activated.list ≡ [] → IsFollowed (root_answer w x local).world root None v.settling f
+    → IsRooted p w x local v root → f.activated.list ≡ [] → IsFollowed (root_answer w x local).world root None true v.settling f
 root_follows p w x local v root f h none =
     let u = (root_answer w x local).world in
     let leaves = root_leaves w x local in
     let stands : AreSettling u None v.settling =
     record { always = always_root w x local h.serves.keeps.always; live = h.live; waiting = h.waiting } in
-    is_followed p w u v root v.settling f h.serves leaves h.rooted
+    is_followed p w u v root true v.settling f h.serves leaves h.rooted
     (record {
       stands = stands;
       ready = none
           ∙ none_rises w u v.settling v.settling (between p w v h.serves) leaves.subs (record { stands = stands; ready = refl }) refl;
-    })
+    }) (always_asked u)
 
 -- there is room for what follows, where nothing but the root changed
 pub root_room : (v : Settling) (f : Following) → HasRoomAfter 0 v f → CanFollow None v f

@@ -1,7 +1,9 @@
 -- A drawing: what a look is asked, what is answered, and the parts stand for the state that is left.
-use Rattle.std.proofs.Common.{◌≡◌, ◌≤◌, Bool, true, false, Option, None, [], is_some, Result, Ok, Err, refl, ap, sym, ◌∙◌, subst}
+use Rattle.std.proofs.Common.{◌≡◌, ◌≤◌, Bool, true, false, Option, Some, None, List, [], is_some, Result, Ok, Err}
+use Rattle.std.proofs.Common.{refl, ap, sym, ◌∙◌, subst}
 use Rattle.std.specs.Prelude.{OnErr}
 use Rattle.vz_geom.specs.declared.Size.{Size}
+use Rattle.vz_geom.specs.Rectangle.{Rectangle}
 use Rattle.vz_ids.specs.declared.SurfaceId.{SurfaceId}
 use Rattle.vz_frame.specs.Roomy.{Roomy}
 use Rattle.vz_rules.specs.declared.entry.Event.TheVariants as event
@@ -19,17 +21,19 @@ use Rattle.vz_rules.proofs.Kept_answers.{keeps_draw}
 use Rattle.vz_rules.proofs.Kept_planned.{plan_step}
 use Rattle.vz_rules.proofs.Kept_sending.{messages_step}
 use Rattle.vz_machine.specs.declared.machine.Step.{Step}
-use Rattle.vz_lending.specs.Lent.{NoneReleased, resources_out}
+use Rattle.vz_damage.specs.Measured.{Measurement}
+use Rattle.vz_telling.specs.Changing.{drawn_reply}
+use Rattle.vz_lending.specs.Lent.{Lent, NoneReleased, resources_out}
 use Rattle.vz_waiting.specs.Awaiting.{AreWaiting}
 use Rattle.vz_live.specs.Living.{Live, AreLive}
 use Rattle.vz_live.specs.Landing.{flying_count}
-use Rattle.vz_live.specs.Drawing.{IsDrawing, Foretells}
+use Rattle.vz_live.specs.Drawing.{IsDrawing, IsShowing, Measures, Foretells}
 use Rattle.vz_live.specs.declared.looking.Look.{Look}
 use Rattle.vz_live.specs.declared.looking.Look.TheVariants as look
 use Rattle.vz_live.proofs.Drawn.{flightless}
 use Rattle.vz_settling.specs.Settles.{AreSettling}
 use Rattle.vz_support.specs.Supporting.{IsSupport}
-use Rattle.vz_manager.specs.Serving.{Served, Serves, IsStepOf}
+use Rattle.vz_manager.specs.Serving.{Served, Serves, CanLand, IsStepOf}
 use Rattle.vz_manager.specs.Showing.{IsToShow}
 use Rattle.vz_manager.proofs.Following.{quiet_step, step_of}
 
@@ -75,6 +79,38 @@ pub serves_untouched : (p : Plan) (w : World) (r : Reply) (v : Served) → Serve
 serves_untouched p w r v h e =
     subst (λ (u : World). Serves p u v) (sym (world_drawn p w h.keeps ∙ ap (λ (a : Answer). a.world) e)) h
 
+-- What is measured beforehand
+
+abbrev measured_at : Served → Live → Served
+measured_at v live = record v { settling = record v.settling { live = live } }
+
+-- measuring leaves what stands
+pub serves_measured : (p : Plan) (w : World) (v : Served) (live : Live) → Serves p w v → live ≡ v.settling.live
+    → Serves p w (measured_at v live)
+serves_measured p w v live h same = subst (λ (l : Live). Serves p w (measured_at v l)) (sym same) h
+
+pub shows_measured : (p : Plan) (w : World) (root : SurfaceId) (v : Served) (live : Live) → IsToShow p w root v → live ≡ v.settling.live
+    → IsToShow p w root (measured_at v live)
+shows_measured p w root v live h same = subst (λ (l : Live). IsToShow p w root (measured_at v l)) (sym same) h
+
+pub showing_measured : (p : Plan) (w : World) (root : SurfaceId) (v : Served) (live : Live) → IsToShow p w root v → live ≡ v.settling.live
+    → IsShowing p w root v.size live
+showing_measured p w root v live h same = subst (IsShowing p w root v.size) (sym same) h.shows
+
+pub measures_still : (root : SurfaceId) (size : Size) (old new : Live) (m : Measurement) → Measures root size old m → new ≡ old
+    → Measures root size new m
+measures_still root size old new m h same = subst (λ (l : Live). Measures root size l m) (sym same) h
+
+-- a step that is answered by what changed
+pub step_unchanged : (p : Plan) (w : World) (s : Step) (changed : Option Rectangle) → Keeps w → drawn_reply changed ≡ (draw_answer p w).reply
+    → changed ≡ None → s.reply ≡ reply.Unchanged → s.effects ≡ no_effects → IsStepOf p w event.Draw s
+step_unchanged p w s changed h is none told follows = step_shown p w s h (told ∙ (ap drawn_reply (sym none) ∙ is)) follows
+
+pub step_changed : (p : Plan) (w : World) (s : Step) (changed : Option Rectangle) (damage : Rectangle) → Keeps w
+    → drawn_reply changed ≡ (draw_answer p w).reply → changed ≡ Some damage → s.reply ≡ reply.Drawn damage → s.effects ≡ no_effects
+    → IsStepOf p w event.Draw s
+step_changed p w s changed damage h is some told follows = step_shown p w s h (told ∙ (ap drawn_reply (sym some) ∙ is)) follows
+
 -- What a drawing leaves
 
 -- no frame is in flight before a drawing that walks
@@ -84,13 +120,12 @@ none_flying p w v root h = flightless p w root v.size v.settling.live h.shows
 abbrev shown : Served → Live → Roomy Returned → Roomy Fed → Served
 shown v live returned fed = record v { settling = record v.settling { live = live }; returned = returned; fed = fed }
 
--- the parts stand for the state that is left, where there is room for the end of what is drawn
-pub serves_drawn : (p : Plan) (w : World) (v : Served) (live : Live) (returned : Roomy Returned) (fed : Roomy Fed) → Serves p w v
+-- the parts stand for the state that is left
+serves_left : (p : Plan) (w : World) (v : Served) (live : Live) (returned : Roomy Returned) (fed : Roomy Fed) → Serves p w v
     → IsSupport p (draw_answer p w).world v.support → AreLive (draw_answer p w).world None live
-    → AreWaiting (draw_answer p w).world v.settling.waiting → NoneReleased live.lent
-    → returned.list ≡ [] → fed.list ≡ [] → resources_out live.lent ≤ returned.spare → flying_count live.flight ≤ fed.spare
+    → AreWaiting (draw_answer p w).world v.settling.waiting → NoneReleased live.lent → CanLand (shown v live returned fed)
     → Serves p (step_in p w event.Draw).world (shown v live returned fed)
-serves_drawn p w v live returned fed h support stands waiting released none_returned none_fed room places =
+serves_left p w v live returned fed h support stands waiting released lands =
     record {
       plan = h.plan;
       keeps = keeps_step p w event.Draw h.keeps.always;
@@ -101,12 +136,45 @@ serves_drawn p w v live returned fed h support stands waiting released none_retu
       settling = subst (λ (u : World). AreSettling u None (record v.settling { live = live })) (sym (world_drawn p w h.keeps))
           (record { always = (keeps_draw p w h.keeps).always; live = stands; waiting = waiting });
       released = released;
-      lands = record { none_returned = none_returned; none_fed = none_fed; returned = λ flies. room; fed = λ flies. places };
+      lands = lands;
     }
+
+-- where there is room for the end of what is drawn
+pub serves_drawn : (p : Plan) (w : World) (v : Served) (live : Live) (returned : Roomy Returned) (fed : Roomy Fed) → Serves p w v
+    → IsSupport p (draw_answer p w).world v.support → AreLive (draw_answer p w).world None live
+    → AreWaiting (draw_answer p w).world v.settling.waiting → NoneReleased live.lent
+    → returned.list ≡ [] → fed.list ≡ [] → resources_out live.lent ≤ returned.spare → flying_count live.flight ≤ fed.spare
+    → Serves p (step_in p w event.Draw).world (shown v live returned fed)
+serves_drawn p w v live returned fed h support stands waiting released none_returned none_fed room places =
+    serves_left p w v live returned fed h support stands waiting released
+    (record { none_returned = none_returned; none_fed = none_fed; returned = λ flies. room; fed = λ flies. places })
 
 unlike : {A : Type 0} (t : Bool) → t ≡ false → t ≡ true → A
 unlike true e f = absurd (cc)
 unlike false e f = absurd (cc)
+
+-- where no frame is in flight
+unflown : (v : Served) (live : Live) (returned : Roomy Returned) (fed : Roomy Fed) → is_some live.flight ≡ false → returned.list ≡ []
+    → fed.list ≡ [] → CanLand (shown v live returned fed)
+unflown v live returned fed none none_returned none_fed =
+    record {
+      none_returned = none_returned;
+      none_fed = none_fed;
+      returned = λ flies. unlike (is_some live.flight) none flies;
+      fed = λ flies. unlike (is_some live.flight) none flies;
+    }
+
+-- where nothing changed, and what is seen is remembered alone
+pub serves_unchanged : (p : Plan) (w : World) (root : SurfaceId) (v : Served) (live : Live) → IsToShow p w root v
+    → live ≡ record v.settling.live { damaged = live.damaged }
+    → IsSupport p (draw_answer p w).world v.support → AreLive (draw_answer p w).world None live
+    → AreWaiting (draw_answer p w).world v.settling.waiting
+    → Serves p (step_in p w event.Draw).world (measured_at v live)
+serves_unchanged p w root v live h rest support stands waiting =
+    serves_left p w v live v.returned v.fed h.serves support stands waiting
+    (subst (λ (l : List Lent). NoneReleased l) (sym (ap (λ (l : Live). l.lent) rest)) h.serves.released)
+    (unflown v live v.returned v.fed (ap (λ (l : Live). is_some l.flight) rest ∙ none_flying p w v root h) h.serves.lands.none_returned
+    h.serves.lands.none_fed)
 
 pub on_err : {T E : Type 0} (r : Result T E) (P : Type 0) → P → OnErr r P
 on_err (Ok x) P is = tt
@@ -126,13 +194,7 @@ serves_still p w v live returned fed h none stands released none_returned none_f
       support = h.support;
       settling = record { always = h.settling.always; live = stands; waiting = h.settling.waiting };
       released = released;
-      lands =
-          record {
-            none_returned = none_returned;
-            none_fed = none_fed;
-            returned = λ flies. unlike (is_some live.flight) none flies;
-            fed = λ flies. unlike (is_some live.flight) none flies;
-          };
+      lands = unflown v live returned fed none none_returned none_fed;
     }
 
 -- A look

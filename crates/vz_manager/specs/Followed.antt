@@ -1,12 +1,12 @@
 -- What follows a step's own change, and the room for it.
-use Rattle.std.specs.Prelude.{◌≡◌, ℕ, ◌+◌, ◌<◌, ◌≤◌, Option, Some, None, [], length}
+use Rattle.std.specs.Prelude.{◌≡◌, ℕ, ◌+◌, ◌<◌, ◌≤◌, Bool, IsFalse, Option, Some, None, [], length}
 use Rattle.std.specs.Option.{option_map}
 use Rattle.vz_base.specs.declared.limits.TheConstants.{MOST_FILES, TEMPORARY_TICKS}
 use Rattle.vz_ids.specs.declared.SurfaceId.{SurfaceId}
 use Rattle.vz_rules.specs.declared.entry.Effects.{Effects}
 use Rattle.vz_rules.specs.World.{World, Created}
 use Rattle.vz_rules.specs.Settle.{settle}
-use Rattle.vz_rules.specs.Reach.{naming}
+use Rattle.vz_rules.specs.Reach.{naming, lost_in}
 use Rattle.vz_rules.specs.Kept.{Keeps}
 use Rattle.vz_lending.specs.Lent.{resources_out}
 use Rattle.vz_feeding.specs.Noting.{owed_count}
@@ -14,6 +14,7 @@ use Rattle.vz_surfaces.specs.Reading.{existing_count}
 use Rattle.vz_live.specs.Changes.{IsNew}
 use Rattle.vz_settling.specs.declared.settling.Settling.{Settling}
 use Rattle.vz_settling.specs.Settles.{AreSettling, IsToSettle}
+use Rattle.vz_settling.specs.Collects.{IsToCollect}
 use Rattle.vz_manager.specs.declared.outcome.Following.{Following}
 use Rattle.vz_manager.specs.declared.outcome.New.{New}
 
@@ -30,12 +31,19 @@ pub record IsKeeping (w : World) (new : Option New) (v : Settling) : Type 0 wher
 abbrev pub CanKeep : Option New → Settling → Type 0
 CanKeep new v = (n : New) → new ≡ Some n → 0 < v.live.kept.room
 
--- a step made its own change, and this is ready; a new surface, if there is one, is to be kept once all that follows became active
-pub record IsFollowed (w : World) (root : Option SurfaceId) (new : Option New) (v : Settling) (f : Following) : Type 0 where
+-- a step made its own change, and this is ready; a new surface, if there is one, is to be kept once all that follows became active.
+-- Where the change marked, named and showed nothing anew, nothing is lost by it
+pub record IsFollowed (w : World) (root : Option SurfaceId) (new : Option New) (anew : Bool) (v : Settling) (f : Following) : Type 0 where
   pub settles : IsToSettle w (new_id new) v f.activated.list
   pub of_root : root ≡ w.root
   pub few : length w.clients ≤ MOST_FILES
   pub is : (n : New) → new ≡ Some n → (c : Created) × IsNew (naming (settle w)) c n.id × (n.until ≡ w.tick + TEMPORARY_TICKS)
+  pub unlost : IsFalse anew → lost_in (naming w) ≡ []
+
+-- a collection begins, once what is named now is named; it is asked wherever a surface is lost
+pub record IsAsked (w : World) (root : Option SurfaceId) (asked : Bool) (v : Settling) : Type 0 where
+  pub collects : IsToCollect w root v
+  pub unlost : IsFalse asked → lost_in w ≡ []
 
 -- there is room for all that may follow
 pub record CanFollow (new : Option New) (v : Settling) (f : Following) : Type 0 where

@@ -1,10 +1,12 @@
 //! A frame is drawn.
-ghost use Rattle.std.specs.Prelude.{◌≡◌, IfOk, OnOk, OnErr};
+ghost use Rattle.std.specs.Prelude.{◌≡◌, Some, None, IfOk, OnOk, OnErr};
+ghost use Rattle.vz_geom.specs.Rectangle.{Rectangle};
+ghost use Rattle.vz_ids.specs.declared.SurfaceId.{SurfaceId as Id};
 ghost use Rattle.vz_rules.specs.declared.entry.Event.TheVariants as event;
 ghost use Rattle.vz_rules.specs.Plan.{Plan};
 ghost use Rattle.vz_rules.specs.World.{World};
-ghost use Rattle.vz_rules.specs.Step.{draw_answer, step_in};
-ghost use Rattle.vz_live.specs.Drawing.{reply_of};
+ghost use Rattle.vz_rules.specs.Step.{step_in};
+ghost use Rattle.vz_live.specs.Drawing.{Measures};
 ghost use Rattle.vz_manager.specs.Serving.{Serves, IsStepOf};
 ghost use Rattle.vz_manager.specs.Picturing.{IsPainted};
 ghost use Rattle.vz_manager.specs.Showing.{IsToShow};
@@ -13,23 +15,13 @@ use crate::parts::Parts;
 use crate::picture::{FlatPicture, operations, picture_of};
 use crate::quiet::nothing_follows;
 use vz_base::Memory;
-use vz_geom::Rect;
+use vz_damage::Measured;
 use vz_ids::SurfaceId;
 use vz_live::Look;
 use vz_machine::Step;
 use vz_rules::Reply;
 use vz_support::laws::support_stays_at_ends;
 use vz_waiting::laws::waiting_ones_stay;
-
-/// What a drawing that walks is answered, by what changed.
-fn reply_to(changed: &Option<Rect>) -> Reply
-    ensures { result ≡ reply_of changed.now }
-{
-    match changed {
-        None => Reply::Unchanged,
-        Some(damage) => Reply::Drawn(*damage),
-    }
-}
 
 impl Parts {
     /// A drawing of what is on the root, with its picture where something is drawn. Memory is the
@@ -54,8 +46,9 @@ impl Parts {
         Ok((nothing_follows(self.alloc, reply), None))
     }
 
-    /// A drawing that walks from a root, with its picture where something changed. Its operations
-    /// are made before the first change. Condition: a look told that it walks from there.
+    /// A drawing that walks from a root, with its picture where something changed: where nothing
+    /// did, it is measured alone. All that may want memory is made before the first change.
+    /// Condition: a look told that it walks from there.
     ///
     /// Memory is the only error, and then the parts stand for the same state.
     fn draw_from(&mut self, root: &SurfaceId) -> Result<(Step, Option<FlatPicture>), Memory>
@@ -69,21 +62,40 @@ impl Parts {
         ensures err { (p : Plan) (w : World) → Serves p w self.old
             → OnErr result (Serves p w self.new) }
     {
-        let ops = operations(self.alloc, &self.settling.live, root, self.size)?;
-        let changed = self.show(root)?;
-        let step = nothing_follows(self.alloc, reply_to(&changed));
-        Ok((step, picture_of(self.size, ops, changed)))
+        let size = self.size;
+        let measured = self.settling.live.measure(root, size)?;
+        let Some(damage) = measured.changed() else {
+            self.leave(measured);
+            return Ok((nothing_follows(self.alloc, Reply::Unchanged), None));
+        };
+        let ops = operations(self.alloc, &self.settling.live, root, size)?;
+        self.show(root, measured)?;
+        let step = nothing_follows(self.alloc, Reply::Drawn(damage));
+        Ok((step, Some(picture_of(size, ops, damage))))
     }
 
-    /// A drawing that walks from a root: what changed, and None where nothing did. Room for the end
-    /// of the drawn frame is made. Condition: a look told that it walks from there.
+    /// A drawing that walks ends where nothing changed: what was measured is remembered. It takes
+    /// no memory.
+    fn leave(&mut self, measured: Measured)
+        ensures serves { (p : Plan) (w : World) (root : Id) → IsToShow p w root self.old
+            → Measures root self.old.size self.old.settling.live measured
+            → measured.changed ≡ None → Serves p (step_in p w event.Draw).world self.new }
+    {
+        waiting_ones_stay();
+        support_stays_at_ends();
+        self.settling.live.leave(measured);
+    }
+
+    /// A drawing that walks ends where something changed: what is seen is drawn, and there is room
+    /// for the end of the drawn frame. Condition: a look told that it walks from this root.
     ///
     /// Want of memory is the only error, and then the parts stand for the same state.
-    pub(crate) fn show(&mut self, root: &SurfaceId) -> Result<Option<Rect>, Memory>
+    fn show(&mut self, root: &SurfaceId, measured: Measured) -> Result<(), Memory>
         requires shows { (p : Plan) × (w : World) × IsToShow p w root.now self.old }
-        ensures reply { (p : Plan) (w : World) → IsToShow p w root.now self.old
-            → IfOk result (λ changed. reply_of changed ≡ (draw_answer p w).reply) }
-        ensures serves { (p : Plan) (w : World) → IsToShow p w root.now self.old
+        ensures serves { (p : Plan) (w : World) (damage : Rectangle)
+            → IsToShow p w root.now self.old
+            → Measures root.now self.old.size self.old.settling.live measured
+            → measured.changed ≡ Some damage
             → OnOk result (Serves p (step_in p w event.Draw).world self.new) }
         ensures err { (p : Plan) (w : World) → Serves p w self.old
             → OnErr result (Serves p w self.new) }
@@ -91,10 +103,9 @@ impl Parts {
         waiting_ones_stay();
         support_stays_at_ends();
         self.settling.live.make_room(0, &mut self.returned)?;
-        let changed = self
-            .settling
+        self.settling
             .live
-            .show(self.alloc, root, self.size, &mut self.fed)?;
-        Ok(changed)
+            .show(self.alloc, root, self.size, measured, &mut self.fed)?;
+        Ok(())
     }
 }

@@ -46,6 +46,7 @@ impl Parts {
             &mut self.settling,
             root,
             None,
+            true,
             &mut self.following,
         ))
     }
@@ -80,6 +81,7 @@ impl Parts {
             &mut self.settling,
             root,
             None,
+            true,
             &mut self.following,
         ))
     }
@@ -95,6 +97,7 @@ impl Parts {
         ensures err { OnErr result (self.new ≡ self.old) }
     {
         ready_to_follow(&self.settling, 0, &mut self.following)?;
+        let anew = self.settling.live.temporary() > 0;
         let tick = self.support.begin();
         self.settling.live.tick(tick);
         self.settling
@@ -108,6 +111,7 @@ impl Parts {
             &mut self.settling,
             root,
             None,
+            anew,
             &mut self.following,
         ))
     }

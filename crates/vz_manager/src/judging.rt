@@ -6,7 +6,6 @@ ghost use Rattle.vz_ids.specs.declared.LocalSurfaceId.{LocalSurfaceId as Local};
 ghost use Rattle.vz_ids.specs.Ids.{is_raised};
 ghost use Rattle.vz_frame.specs.declared.frame.CompositorFrame.{CompositorFrame as Frame};
 ghost use Rattle.vz_frame.specs.declared.message.Message.TheVariants.{Submit};
-ghost use Rattle.vz_frame.specs.Frame.{same_size};
 ghost use Rattle.vz_rules.specs.declared.entry.Event.TheVariants as event;
 ghost use Rattle.vz_rules.specs.Plan.{Plan};
 ghost use Rattle.vz_rules.specs.World.{World, Client, client_at, next_message};
@@ -48,13 +47,6 @@ pub(crate) fn submission(support: &Support, c: u32) -> (&LocalSurfaceId, &Compos
     (local, frame)
 }
 
-/// Whether both sides are equal.
-fn is_same_size(a: Size, b: Size) -> bool
-    ensures { result ≡ same_size a b }
-{
-    !(a.w < b.w) && !(b.w < a.w) && !(a.h < b.h) && !(b.h < a.h)
-}
-
 /// Whether no number of the new one is smaller, and one is greater.
 fn is_raised(old: &LocalSurfaceId, new: &LocalSurfaceId) -> bool
     ensures { result ≡ is_raised old.now new.now }
@@ -80,7 +72,7 @@ fn has_other_size(last: Option<(LocalSurfaceId, Size)>, local: &LocalSurfaceId, 
 {
     match last {
         None => false,
-        Some((last, then)) => last == *local && !is_same_size(then, size),
+        Some((last, then)) => last == *local && then != size,
     }
 }
 
@@ -117,9 +109,8 @@ pub(crate) fn refusal(
     ensures { (p : Plan) (w : World) (x : Client) → AreAsked p w support.now live.now
         → client_at w c ≡ Some x → result ≡ refusal_in w x local.now frame.now }
 {
-    match check(frame) {
-        Err(rule) => return Some(Refusal::Malformed(rule)),
-        Ok(()) => {}
+    if let Err(rule) = check(frame) {
+        return Some(Refusal::Malformed(rule));
     }
     if support.is_unknown(c, frame.resources.as_slice()) {
         return Some(Refusal::UnknownResource);

@@ -1,13 +1,17 @@
 //! What follows a step's own change: submissions become active, surfaces that are not reached are
 //! destroyed, references go back, and feedback is given.
-ghost use Rattle.std.specs.Prelude.{◌≡◌, ◌≤◌, ◌+◌, length, None, []};
+ghost use Rattle.std.specs.Prelude.{◌≡◌, ◌==◌, ◌≤◌, ◌+◌, ◌++◌, ◌||◌, not, length, None, []};
 ghost use Rattle.vz_rules.specs.World.{World};
 ghost use Rattle.vz_rules.specs.declared.entry.Reply.{Reply as Answered};
 ghost use Rattle.vz_rules.specs.Messages.{says};
 ghost use Rattle.vz_rules.specs.Step.{outcome_of};
+ghost use Rattle.vz_rules.specs.Reach.{clearing, destroyed_in};
+ghost use Rattle.vz_surfaces.specs.Reading.{existing_count};
 ghost use Rattle.vz_lending.specs.Lent.{NoneReleased, resources_out};
+ghost use Rattle.vz_feeding.specs.Noting.{owed_count};
 ghost use Rattle.vz_settling.specs.Settles.{AreSettling};
-ghost use Rattle.vz_manager.specs.Followed.{IsFollowed, IsKeeping, CanKeep, CanFollow, Tells};
+ghost use Rattle.vz_settling.specs.Collects.{HaveRoom};
+ghost use Rattle.vz_manager.specs.Followed.{IsFollowed, IsKeeping, IsAsked, CanKeep, CanFollow, Tells};
 
 use std::alloc::Global;
 use std::mem;
@@ -56,19 +60,56 @@ fn keep(settling: &mut Settling, new: Option<New>)
     }
 }
 
+/// Whether surfaces may be lost: the step's own change marked, named or showed something anew, or
+/// submissions become active, of which these are ready.
+fn may_lose(anew: bool, ready: &[Sub]) -> bool
+    ensures { result ≡ (anew || not (length ready.now == 0)) }
+{
+    anew || !ready.is_empty()
+}
+
+/// Every marked surface that is not reached is destroyed, and told. Where that is not asked, nothing
+/// is done. Conditions: what is named now is named, there is room for it, and it is asked wherever a
+/// surface is lost.
+fn collect(
+    settling: &mut Settling,
+    root: Option<SurfaceId>,
+    asked: bool,
+    lists: &mut Lists,
+    destroyed: &mut Room<Lost>,
+)
+    requires collects { (w : World) × IsAsked w root asked settling.old }
+    requires lists { HaveRoom settling.old lists.old }
+    requires room { existing_count settling.old.live.store ≤ destroyed.old.spare }
+    ensures cleared { (w : World) → IsAsked w root asked settling.old
+        → AreSettling (clearing w) None settling.new }
+    ensures destroyed { (w : World) → IsAsked w root asked settling.old
+        → destroyed.new.list ≡ destroyed.old.list ++ destroyed_in w }
+    ensures out { resources_out settling.new.live.lent ≡ resources_out settling.old.live.lent }
+    ensures count { owed_count settling.new.live.owed.owed
+        ≡ owed_count settling.old.live.owed.owed }
+{
+    if !asked {
+        return;
+    }
+    settling.collect(root, lists, destroyed);
+}
+
 /// All that follows a step's own change: `activated` has what is ready. It takes no memory.
-/// Conditions: the root is that of the state, and there is room for all.
+/// Conditions: the root is that of the state, there is room for all, and nothing is lost where the
+/// change marked, named and showed nothing anew.
 pub(crate) fn follow(
     settling: &mut Settling,
     root: Option<SurfaceId>,
     new: Option<New>,
+    anew: bool,
     following: &mut Following,
 )
-    requires follows { (w : World) × IsFollowed w root new settling.old following.old }
+    requires follows { (w : World) × IsFollowed w root new anew settling.old following.old }
     requires room { CanFollow new settling.old following.old }
-    ensures stands { (w : World) (r : Answered) → IsFollowed w root new settling.old following.old
+    ensures stands { (w : World) (r : Answered) → IsFollowed w root new anew settling.old following.old
         → AreSettling (outcome_of [] (says r w)).world None settling.new }
-    ensures effects { (w : World) (r : Answered) → IsFollowed w root new settling.old following.old
+    ensures effects { (w : World) (r : Answered) → IsFollowed w root new anew settling.old following.old
         → Tells (outcome_of [] (says r w)).effects following.new }
     ensures released { NoneReleased settling.new.live.lent }
     ensures out { resources_out settling.new.live.lent ≤ resources_out settling.old.live.lent }
@@ -77,34 +118,43 @@ pub(crate) fn follow(
     waiting_ones_stay();
     changes_keep();
     named_ones_are_collected();
+    let asked = may_lose(anew, following.activated.as_slice());
     settling.settle(&mut following.ids, &mut following.activated);
     keep(settling, new);
-    settling.collect(root, &mut following.lists, &mut following.destroyed);
+    collect(
+        settling,
+        root,
+        asked,
+        &mut following.lists,
+        &mut following.destroyed,
+    );
     settling.live.give_back(&mut following.returned);
     settling.live.feed(&mut following.fed);
 }
 
 /// All that follows a step's own change, and with it what the step answers. It takes no memory.
-/// Conditions: the root is that of the state, and there is room for all.
+/// Conditions: the root is that of the state, there is room for all, and nothing is lost where the
+/// change marked, named and showed nothing anew.
 pub(crate) fn finish(
     alloc: Global,
     reply: Reply,
     settling: &mut Settling,
     root: Option<SurfaceId>,
     new: Option<New>,
+    anew: bool,
     following: &mut Following,
 ) -> Step
-    requires follows { (w : World) × IsFollowed w root new settling.old following.old }
+    requires follows { (w : World) × IsFollowed w root new anew settling.old following.old }
     requires room { CanFollow new settling.old following.old }
-    ensures stands { (w : World) (r : Answered) → IsFollowed w root new settling.old following.old
+    ensures stands { (w : World) (r : Answered) → IsFollowed w root new anew settling.old following.old
         → AreSettling (outcome_of [] (says r w)).world None settling.new }
     ensures reply { result.reply ≡ reply }
-    ensures effects { (w : World) (r : Answered) → IsFollowed w root new settling.old following.old
+    ensures effects { (w : World) (r : Answered) → IsFollowed w root new anew settling.old following.old
         → result.effects ≡ (outcome_of [] (says r w)).effects }
     ensures released { NoneReleased settling.new.live.lent }
     ensures out { resources_out settling.new.live.lent ≤ resources_out settling.old.live.lent }
 {
-    follow(settling, root, new, following);
+    follow(settling, root, new, anew, following);
     Step {
         reply,
         effects: following.take_effects(alloc),

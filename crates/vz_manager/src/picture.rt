@@ -1,8 +1,8 @@
 //! The picture of a drawing.
-ghost use Rattle.std.specs.Prelude.{◌≡◌, IfOk};
+ghost use Rattle.std.specs.Prelude.{◌≡◌, Some, IfOk};
+ghost use Rattle.vz_rules.specs.declared.entry.Reply.TheVariants as reply;
 ghost use Rattle.vz_rules.specs.Plan.{Plan};
 ghost use Rattle.vz_rules.specs.World.{World};
-ghost use Rattle.vz_telling.specs.Changing.{drawn_reply};
 ghost use Rattle.vz_live.specs.Drawing.{IsShowing};
 ghost use Rattle.vz_manager.specs.Picturing.{LookLike, IsAnswered, IsPainted};
 
@@ -67,7 +67,7 @@ impl Picture for FlatPicture {
 }
 
 /// The operations that leave, at each point of a display, what is to be seen from the root. They
-/// are made before the drawing, which once made cannot be taken back. Memory is the only error.
+/// are made before the frame is drawn, which cannot be taken back. Memory is the only error.
 /// Condition: a drawing walks from there.
 pub(crate) fn operations(
     alloc: Global,
@@ -83,15 +83,16 @@ pub(crate) fn operations(
     Ok(ops)
 }
 
-/// The picture of a drawing that walks, where something changed. Condition: this is what the
-/// drawing answers, on a display of this size.
-pub(crate) fn picture_of(size: Size, ops: Ops, changed: Option<Rect>) -> Option<FlatPicture>
-    requires answered { (p : Plan) × (w : World) × IsAnswered p w size (drawn_reply changed) }
-    ensures painted { (p : Plan) (w : World) → IsAnswered p w size (drawn_reply changed)
-        → LookLike p w ops → IsPainted p w (drawn_reply changed) result }
+/// The picture of a drawing that walks, where something changed. Condition: with this damage the
+/// drawing is answered, on a display of this size.
+pub(crate) fn picture_of(size: Size, ops: Ops, damage: Rect) -> FlatPicture
+    requires answered { (p : Plan) × (w : World) × IsAnswered p w size (reply.Drawn damage) }
+    ensures painted { (p : Plan) (w : World) → IsAnswered p w size (reply.Drawn damage)
+        → LookLike p w ops → IsPainted p w (reply.Drawn damage) (Some result) }
 {
-    match changed {
-        None => None,
-        Some(changed) => Some(FlatPicture { size, ops, changed }),
+    FlatPicture {
+        size,
+        ops,
+        changed: damage,
     }
 }

@@ -206,6 +206,7 @@ impl Parts {
             &coming,
         )?;
         let new = coming.new;
+        let anew = new.is_some();
         let activated = &mut self.following.activated;
         let taken = take_in(&mut self.support, &mut self.settling, c, coming, activated)?;
         let root = self.support.root();
@@ -219,6 +220,7 @@ impl Parts {
             &mut self.settling,
             root,
             new,
+            anew,
             &mut self.following,
         ))
     }

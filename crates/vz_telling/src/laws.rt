@@ -147,8 +147,8 @@ pub fn damages_tell()
     measured_damages_are_drawn();
 }
 
-/// Where a drawing walks, what `measure` leaves stands for the state that is left; where none does,
-/// what is told stays.
+/// Where a drawing walks, what `remember` leaves stands for the state that is left; where none
+/// does, what is told stays.
 pub fn damages_are_seen()
     ensures drawn { (p : Plan) (w : World) (root : SurfaceId) (old new : Damaged) → KeepsAlways w
         → Draws p w root → AreTold w old

@@ -14,12 +14,12 @@ pub returns-then-is_unknown : goal.returns-then-is_unknown
 returns-then-is_unknown c p w x asks here =
     let told = c.is_unknown.ensures p w x c.args.frame.now (rising_here w c.args.c x asks.always here) asks.support here
     (sym c.as_slice.ensures) in
-    unknown_refused w c.args.c x c.args.local.now c.args.frame.now here c.in-Ok.ensures.kept (sym told ∙ c.if-is_unknown.true)
+    unknown_refused w c.args.c x c.args.local.now c.args.frame.now here c.in_default.ensures.kept (sym told ∙ c.if-is_unknown.true)
 
 pub returns : goal.returns
 returns c p w x asks here =
     let told = c.is_unknown.ensures p w x c.args.frame.now (rising_here w c.args.c x asks.always here) asks.support here
     (sym c.as_slice.ensures) in
-    shape_refused w c.args.c x c.args.local.now c.args.frame.now here _ _ c.in-Ok.ensures.kept (sym told ∙ c.if-is_unknown.false)
+    shape_refused w c.args.c x c.args.local.now c.args.frame.now here _ _ c.in_default.ensures.kept (sym told ∙ c.if-is_unknown.false)
     (c.last.ensures.last w None asks.live)
     (c.shape_refusal.ensures ∙ ap (λ s. shape_refusal c.last.result c.args.local.now s) c.size.ensures)

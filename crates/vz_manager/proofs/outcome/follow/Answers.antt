@@ -7,7 +7,7 @@ use Rattle.vz_lending.specs.Lent.{NoneReleased, resources_out}
 use Rattle.vz_settling.specs.declared.settling.Settling.{Settling}
 use Rattle.vz_settling.specs.Settles.{AreSettling}
 use Rattle.vz_manager.specs.Followed.{new_id}
-use Rattle.vz_manager.proofs.Follows.{NamesKeep, collects_in, outcome_world, effects_are}
+use Rattle.vz_manager.proofs.Follows.{NamesKeep, asks_in, outcome_world, effects_are}
 use Rattle.vz_manager.proofs.outcome.follow.Goals as goal
 
 pub keep-requires : goal.keep-requires
@@ -21,11 +21,15 @@ collect-requires-clause-collects c =
       waiting = c.waiting_ones_stay.ensures.naming;
       again = c.named_ones_are_collected.ensures.named;
     } in
-    let x = c.requires.follows in (
-      naming (settle x.0),
-      collects_in x.0 c.args.root c.args.new c.args.settling.now c.settle.new.self c.keep.new.settling c.args.following.now names x.1
-          (c.settle.ensures.settled x.0 (new_id c.args.new) x.1.settles) c.keep.ensures.kept,
-    )
+    let x = c.requires.follows in
+    let asks = asks_in x.0 c.args.root c.args.new c.args.anew c.args.settling.now c.settle.new.self c.keep.new.settling c.args.following.now
+    (record {
+      names = names;
+      follows = x.1;
+      settled = c.settle.ensures.settled x.0 (new_id c.args.new) x.1.settles;
+      keeps = c.keep.ensures.kept;
+    }) c.may_lose-asked.result c.as_slice.result.now c.may_lose-asked.ensures c.as_slice.ensures in
+    (naming (settle x.0), asks)
 
 pub give_back-requires-clause-stands : goal.give_back-requires-clause-stands
 give_back-requires-clause-stands c =
@@ -36,9 +40,14 @@ give_back-requires-clause-stands c =
       again = c.named_ones_are_collected.ensures.named;
     } in
     let x = c.requires.follows in
-    let to = collects_in x.0 c.args.root c.args.new c.args.settling.now c.settle.new.self c.keep.new.settling c.args.following.now names x.1
-    (c.settle.ensures.settled x.0 (new_id c.args.new) x.1.settles) c.keep.ensures.kept in
-    let s = c.collect.ensures.cleared (naming (settle x.0)) to in
+    let asks = asks_in x.0 c.args.root c.args.new c.args.anew c.args.settling.now c.settle.new.self c.keep.new.settling c.args.following.now
+    (record {
+      names = names;
+      follows = x.1;
+      settled = c.settle.ensures.settled x.0 (new_id c.args.new) x.1.settles;
+      keeps = c.keep.ensures.kept;
+    }) c.may_lose-asked.result c.as_slice.result.now c.may_lose-asked.ensures c.as_slice.ensures in
+    let s = c.collect.ensures.cleared (naming (settle x.0)) asks in
     (clearing (naming (settle x.0)), None, s.always, s.live)
 
 pub returns-clause-stands : goal.returns-clause-stands
@@ -49,11 +58,16 @@ returns-clause-stands c w r h =
       waiting = c.waiting_ones_stay.ensures.naming;
       again = c.named_ones_are_collected.ensures.named;
     } in
-    let to = collects_in w c.args.root c.args.new c.args.settling.now c.settle.new.self c.keep.new.settling c.args.following.now names h
-    (c.settle.ensures.settled w (new_id c.args.new) h.settles) c.keep.ensures.kept in
-    let s = subst (λ u. AreSettling u None c.collect.new.self) (sym (c.named_ones_are_collected.ensures.collect (settle w)))
-    (c.collect.ensures.cleared (naming (settle w)) to) in
-    subst (λ u. AreSettling u None (record { live = c.feed.new.self; waiting = c.collect.new.self.waiting })) (sym (outcome_world w r))
+    let asks = asks_in w c.args.root c.args.new c.args.anew c.args.settling.now c.settle.new.self c.keep.new.settling c.args.following.now
+    (record {
+      names = names;
+      follows = h;
+      settled = c.settle.ensures.settled w (new_id c.args.new) h.settles;
+      keeps = c.keep.ensures.kept;
+    }) c.may_lose-asked.result c.as_slice.result.now c.may_lose-asked.ensures c.as_slice.ensures in
+    let s = subst (λ u. AreSettling u None c.collect.new.settling) (sym (c.named_ones_are_collected.ensures.collect (settle w)))
+    (c.collect.ensures.cleared (naming (settle w)) asks) in
+    subst (λ u. AreSettling u None (record { live = c.feed.new.self; waiting = c.collect.new.settling.waiting })) (sym (outcome_world w r))
     (record {
       always = c.changes_keep.ensures.feedback [] (give_back (collect (settle w)))
           (c.changes_keep.ensures.returns (collect (settle w)) s.always);
@@ -71,16 +85,21 @@ returns-clause-effects c w r h =
       waiting = c.waiting_ones_stay.ensures.naming;
       again = c.named_ones_are_collected.ensures.named;
     } in
-    let to = collects_in w c.args.root c.args.new c.args.settling.now c.settle.new.self c.keep.new.settling c.args.following.now names h
-    (c.settle.ensures.settled w (new_id c.args.new) h.settles) c.keep.ensures.kept in
-    let s = subst (λ u. AreSettling u None c.collect.new.self) (sym (c.named_ones_are_collected.ensures.collect (settle w)))
-    (c.collect.ensures.cleared (naming (settle w)) to) in
+    let asks = asks_in w c.args.root c.args.new c.args.anew c.args.settling.now c.settle.new.self c.keep.new.settling c.args.following.now
+    (record {
+      names = names;
+      follows = h;
+      settled = c.settle.ensures.settled w (new_id c.args.new) h.settles;
+      keeps = c.keep.ensures.kept;
+    }) c.may_lose-asked.result c.as_slice.result.now c.may_lose-asked.ensures c.as_slice.ensures in
+    let s = subst (λ u. AreSettling u None c.collect.new.settling) (sym (c.named_ones_are_collected.ensures.collect (settle w)))
+    (c.collect.ensures.cleared (naming (settle w)) asks) in
     let room = c.requires.room in
     let e = effects_are w r in
     record {
       activated = ap (λ (x : Effects). x.activated) e ∙ sym (c.settle.ensures.activated w (new_id c.args.new) h.settles);
       destroyed = ap (λ (x : Effects). x.destroyed) e
-          ∙ sym (c.collect.ensures.destroyed (naming (settle w)) to
+          ∙ sym (c.collect.ensures.destroyed (naming (settle w)) asks
           ∙ (ap (λ l. l ++ destroyed_in (naming (settle w))) room.none_destroyed
           ∙ c.named_ones_are_collected.ensures.destroyed (settle w)));
       returned = ap (λ (x : Effects). x.returned) e

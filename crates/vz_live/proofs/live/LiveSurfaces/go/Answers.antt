@@ -1,6 +1,6 @@
 use Rattle.std.proofs.Common.{sym, subst}
 use Rattle.vz_live.specs.Changes.{IsGoing}
-use Rattle.vz_live.proofs.Gone.{client_is, none_missing, is_lender, waits_is, acts_is, releases, wants_less, keeps, stands_there, waiting_is, acting_is, ends_name, lost_is, live_gone, named_gone}
+use Rattle.vz_live.proofs.Gone.{client_is, none_missing, is_lender, waits_is, acts_is, releases, wants_less, keeps, stands_there, waiting_is, acting_is, ends_name, acts_name, lost_is, live_gone, named_gone}
 use Rattle.vz_live.proofs.live.LiveSurfaces.go.Goals as goal
 
 pub unreachable-requires : goal.unreachable-requires
@@ -64,3 +64,7 @@ returns-clause-lost c w d x =
 pub returns-clause-waiting : goal.returns-clause-waiting
 returns-clause-waiting c w d x =
     ends_name w d c.args.id.now _ (subst (IsGoing w d c.args.id.now) (sym c.self.view_is) x) c.destroy-2.result.waiting c.destroy-2.ensures.waiting
+
+pub returns-clause-active : goal.returns-clause-active
+returns-clause-active c w d x =
+    acts_name w d c.args.id.now _ (subst (IsGoing w d c.args.id.now) (sym c.self.view_is) x) c.destroy-2.result.active c.destroy-2.ensures.active

@@ -1,4 +1,4 @@
-use Rattle.std.proofs.Common.{◌≤◌, ◌+◌, length, ap, sym, ◌∙◌, subst}
+use Rattle.std.proofs.Common.{◌≤◌, ◌+◌, length, sym, subst}
 use Rattle.vz_live.specs.Living.{AreLive}
 use Rattle.vz_live.proofs.Given.{live_kept, keeps_one}
 use Rattle.vz_live.proofs.live.LiveSurfaces.keep.Goals as goal

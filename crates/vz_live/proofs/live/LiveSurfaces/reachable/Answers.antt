@@ -1,4 +1,4 @@
-use Rattle.std.proofs.Common.{ap, length, ◌+◌, ◌≤◌, sym, subst}
+use Rattle.std.proofs.Common.{length, ◌+◌, ◌≤◌, sym, subst}
 use Rattle.vz_live.specs.Living.{Live, AreLive}
 use Rattle.vz_live.proofs.Reaches.{set_there, reaches, few_reached}
 use Rattle.vz_live.proofs.live.LiveSurfaces.reachable.Goals as goal

@@ -55,8 +55,8 @@ finish-requires-clause-follows c =
     let after = (accepted s.1 s.2 s.3 s.4).world in (
       after,
       arrived_follows s.0 s.1 c.args.c s.2 s.3 s.4 _ c.in_ok-coming.coming c.make_room.new.following c.in_ok-taken.taken
-          c.take_in.new.support c.take_in.new.settling c.take_in.new.activated arrived c.root-root.result
-          (c.root-root.ensures s.0 after arrived.taken.kept),
+          c.take_in.new.support c.take_in.new.settling c.take_in.new.activated arrived c.root-root.result c.is_some-anew.result
+          (c.root-root.ensures s.0 after arrived.taken.kept) c.is_some-anew.ensures,
     )
 
 pub finish-requires-clause-room : goal.finish-requires-clause-room
@@ -87,8 +87,8 @@ returns-clause-step c p w x local frame old allowed =
     c.in_ok-taken.ensures.within c.in_ok-taken.ensures.spare c.take_in.ensures.kept in
     let all = accepted w x local frame in
     let follows = arrived_follows p w c.args.c x local frame _ c.in_ok-coming.coming c.make_room.new.following c.in_ok-taken.taken
-    c.take_in.new.support c.take_in.new.settling c.take_in.new.activated arrived c.root-root.result
-    (c.root-root.ensures p all.world arrived.taken.kept) in
+    c.take_in.new.support c.take_in.new.settling c.take_in.new.activated arrived c.root-root.result c.is_some-anew.result
+    (c.root-root.ensures p all.world arrived.taken.kept) c.is_some-anew.ensures in
     arrived_step p w c.args.c x local frame _ c.in_ok-coming.coming c.make_room.new.following c.in_ok-taken.taken c.take_in.new.support
     c.take_in.new.settling c.take_in.new.activated arrived c.finish.result c.finish.ensures.reply
     (c.finish.ensures.effects all.world all.reply follows)
@@ -106,8 +106,8 @@ returns-clause-serves c p w x local frame old allowed =
     c.in_ok-taken.ensures.within c.in_ok-taken.ensures.spare c.take_in.ensures.kept in
     let all = accepted w x local frame in
     let follows = arrived_follows p w c.args.c x local frame _ c.in_ok-coming.coming c.make_room.new.following c.in_ok-taken.taken
-    c.take_in.new.support c.take_in.new.settling c.take_in.new.activated arrived c.root-root.result
-    (c.root-root.ensures p all.world arrived.taken.kept) in
+    c.take_in.new.support c.take_in.new.settling c.take_in.new.activated arrived c.root-root.result c.is_some-anew.result
+    (c.root-root.ensures p all.world arrived.taken.kept) c.is_some-anew.ensures in
     arrived_serves p w c.args.c x local frame _ c.in_ok-coming.coming c.make_room.new.following c.in_ok-taken.taken c.take_in.new.support
     c.take_in.new.settling c.take_in.new.activated arrived c.finish.new.settling
     (c.finish.ensures.stands all.world all.reply follows) c.finish.ensures.released c.finish.ensures.out

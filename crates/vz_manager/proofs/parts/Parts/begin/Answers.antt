@@ -8,6 +8,7 @@ use Rattle.vz_live.specs.Living.{Live}
 use Rattle.vz_manager.specs.Serving.{Serves}
 use Rattle.vz_manager.proofs.Stepped.{followed_answer, serves_followed}
 use Rattle.vz_manager.proofs.Own_changes.{between, begins, begin_sent, begin_leaves, ticked_room, risen_follows, risen_room}
+use Rattle.vz_manager.proofs.Unlost.{begun_unlost}
 use Rattle.vz_manager.proofs.parts.Parts.begin.Goals as goal
 
 pub ready_to_follow-requires : goal.ready_to_follow-requires
@@ -24,11 +25,13 @@ ticked-requires c =
 pub finish-requires-clause-follows : goal.finish-requires-clause-follows
 finish-requires-clause-follows c =
     let s = c.requires.stands in
-    let h = subst (Serves s.0 s.1) (sym c.self.view_is) s.2 in (
+    let h = subst (Serves s.0 s.1) (sym c.self.view_is) s.2 in
+    let risen = begins s.0 s.1 _ c.begin-tick.result _ _ _ _ _ h c.begin-tick.ensures.reply c.begin-tick.ensures.world c.root-root.ensures
+    c.tick.ensures.live c.ticked.ensures.waits c.ticked.ensures.out c.in_ok-ready_to_follow.ensures.room.none_activated in (
       (begin_answer s.0 s.1).world,
-      risen_follows s.0 s.1 (begin_answer s.0 s.1).world _ _ _ _
-          (begins s.0 s.1 _ c.begin-tick.result _ _ _ _ _ h c.begin-tick.ensures.reply c.begin-tick.ensures.world c.root-root.ensures
-          c.tick.ensures.live c.ticked.ensures.waits c.ticked.ensures.out c.in_ok-ready_to_follow.ensures.room.none_activated),
+      risen_follows s.0 s.1 (begin_answer s.0 s.1).world _ _ _ _ _ risen
+          (begun_unlost s.0 s.1 _ _ _ h.keeps h.settling.live.kept risen.settles.stands.live.kept c.tick.ensures.temporary
+          c.temporary-anew.ensures),
     )
 
 pub finish-requires-clause-room : goal.finish-requires-clause-room
@@ -52,9 +55,10 @@ pub returns-clause-step : goal.returns-clause-step
 returns-clause-step c p w old =
     let h = subst (Serves p w) (sym c.self.view_is) old in
     let u = (begin_answer p w).world in
-    let follows = risen_follows p w u _ _ _ _
-    (begins p w _ c.begin-tick.result _ _ _ _ _ h c.begin-tick.ensures.reply c.begin-tick.ensures.world c.root-root.ensures
-    c.tick.ensures.live c.ticked.ensures.waits c.ticked.ensures.out c.in_ok-ready_to_follow.ensures.room.none_activated) in
+    let risen = begins p w _ c.begin-tick.result _ _ _ _ _ h c.begin-tick.ensures.reply c.begin-tick.ensures.world c.root-root.ensures
+    c.tick.ensures.live c.ticked.ensures.waits c.ticked.ensures.out c.in_ok-ready_to_follow.ensures.room.none_activated in
+    let follows = risen_follows p w u _ _ _ _ _ risen
+    (begun_unlost p w _ _ _ h.keeps h.settling.live.kept risen.settles.stands.live.kept c.tick.ensures.temporary c.temporary-anew.ensures) in
     followed_answer p w event.Begin (begin_answer p w) c.finish.result (begin_sent p w) refl
     (c.finish.ensures.reply ∙ sym (c.begin-tick.ensures.reply p w h.support))
     (c.finish.ensures.effects u (begin_answer p w).reply follows)
@@ -63,9 +67,10 @@ pub returns-clause-serves : goal.returns-clause-serves
 returns-clause-serves c p w old =
     let h = subst (Serves p w) (sym c.self.view_is) old in
     let u = (begin_answer p w).world in
-    let follows = risen_follows p w u _ _ _ _
-    (begins p w _ c.begin-tick.result _ _ _ _ _ h c.begin-tick.ensures.reply c.begin-tick.ensures.world c.root-root.ensures
-    c.tick.ensures.live c.ticked.ensures.waits c.ticked.ensures.out c.in_ok-ready_to_follow.ensures.room.none_activated) in
+    let risen = begins p w _ c.begin-tick.result _ _ _ _ _ h c.begin-tick.ensures.reply c.begin-tick.ensures.world c.root-root.ensures
+    c.tick.ensures.live c.ticked.ensures.waits c.ticked.ensures.out c.in_ok-ready_to_follow.ensures.room.none_activated in
+    let follows = risen_follows p w u _ _ _ _ _ risen
+    (begun_unlost p w _ _ _ h.keeps h.settling.live.kept risen.settles.stands.live.kept c.tick.ensures.temporary c.temporary-anew.ensures) in
     serves_followed p w event.Begin (begin_answer p w) _ _ _ h (begin_sent p w) refl (begin_leaves p w).in_flight
     (c.begin-tick.ensures.world p w h.support)
     (c.finish.ensures.stands u (begin_answer p w).reply follows) c.finish.ensures.released

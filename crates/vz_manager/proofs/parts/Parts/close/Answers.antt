@@ -9,6 +9,7 @@ use Rattle.vz_manager.proofs.Following.{sends_next}
 use Rattle.vz_manager.proofs.Stepped.{followed_answer, serves_followed}
 use Rattle.vz_manager.proofs.Own_changes.{between, sender_there, number_there, closes, close_sent, close_reply, close_leaves}
 use Rattle.vz_manager.proofs.Own_changes.{risen_follows, risen_room}
+use Rattle.vz_manager.proofs.Unlost.{always_asked}
 use Rattle.vz_manager.proofs.parts.Parts.close.Goals as goal
 
 pub ready_to_follow-requires : goal.ready_to_follow-requires
@@ -31,10 +32,10 @@ finish-requires-clause-follows c =
     let x = sender_there s.0 s.1 c.args.self.now c.args.c Close s.2 c.requires.some c.requires.known c.requires.next in
     let u = (message_answer s.1 x.0 Close).world in (
       u,
-      risen_follows s.0 s.1 u _ _ _ _
+      risen_follows s.0 s.1 u _ _ _ _ _
           (closes s.0 s.1 c.args.c x.0 _ c.sink-sink.result _ _ _ _ _ h x.1 c.sink-sink.ensures c.close.ensures
           c.root-root.ensures c.close-2.ensures.live c.closed.ensures.waits c.closed.ensures.out
-          c.in_ok-ready_to_follow.ensures.room.none_activated),
+          c.in_ok-ready_to_follow.ensures.room.none_activated) (always_asked u),
     )
 
 pub finish-requires-clause-room : goal.finish-requires-clause-room
@@ -59,10 +60,10 @@ returns-clause-step c p w x old is =
     let h = subst (Serves p w) (sym c.self.view_is) old in
     let sends = sends_next p w _ c.args.c x Close h is in
     let u = (message_answer w x Close).world in
-    let follows = risen_follows p w u _ _ _ _
+    let follows = risen_follows p w u _ _ _ _ _
     (closes p w c.args.c x _ c.sink-sink.result _ _ _ _ _ h sends c.sink-sink.ensures c.close.ensures
     c.root-root.ensures c.close-2.ensures.live c.closed.ensures.waits c.closed.ensures.out
-    c.in_ok-ready_to_follow.ensures.room.none_activated) in
+    c.in_ok-ready_to_follow.ensures.room.none_activated) (always_asked u) in
     followed_answer p w (event.Client c.args.c) (message_answer w x Close) c.finish.result (close_sent p w c.args.c x is) refl
     (c.finish.ensures.reply ∙ sym (close_reply w x))
     (c.finish.ensures.effects u (message_answer w x Close).reply follows)
@@ -72,10 +73,10 @@ returns-clause-serves c p w x old is =
     let h = subst (Serves p w) (sym c.self.view_is) old in
     let sends = sends_next p w _ c.args.c x Close h is in
     let u = (message_answer w x Close).world in
-    let follows = risen_follows p w u _ _ _ _
+    let follows = risen_follows p w u _ _ _ _ _
     (closes p w c.args.c x _ c.sink-sink.result _ _ _ _ _ h sends c.sink-sink.ensures c.close.ensures
     c.root-root.ensures c.close-2.ensures.live c.closed.ensures.waits c.closed.ensures.out
-    c.in_ok-ready_to_follow.ensures.room.none_activated) in
+    c.in_ok-ready_to_follow.ensures.room.none_activated) (always_asked u) in
     serves_followed p w (event.Client c.args.c) (message_answer w x Close) _ _ _ h (close_sent p w c.args.c x is) refl
     (close_leaves w x).in_flight (c.close.ensures p w x sends h.support)
     (c.finish.ensures.stands u (message_answer w x Close).reply follows) c.finish.ensures.released

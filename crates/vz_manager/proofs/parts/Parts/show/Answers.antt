@@ -1,6 +1,7 @@
 use Rattle.std.proofs.Common.{None, is_some, sym, subst, ◌∙◌, ap, arith}
 use Rattle.vz_live.specs.Living.{Live}
-use Rattle.vz_manager.specs.Serving.{Serves}
+use Rattle.vz_live.specs.Drawing.{Measures}
+use Rattle.vz_manager.specs.Serving.{Served, Serves}
 use Rattle.vz_manager.specs.Showing.{IsToShow}
 use Rattle.vz_manager.proofs.Showing.{none_flying, serves_drawn, on_err, serves_still}
 use Rattle.vz_manager.proofs.parts.Parts.show.Goals as goal
@@ -11,27 +12,23 @@ show-requires c =
     let h = subst (IsToShow x.0 x.1 c.args.root.now) (sym c.self.view_is) x.2 in
     record { shows = (x.0, x.1, h.shows) }
 
-pub returns-in_err-changed-clause-err : goal.returns-in_err-changed-clause-err
-returns-in_err-changed-clause-err c p w old =
+pub returns-in_err-show-clause-err : goal.returns-in_err-show-clause-err
+returns-in_err-show-clause-err c p w old =
     let x = c.requires.shows in
     let now = subst (IsToShow x.0 x.1 c.args.root.now) (sym c.self.view_is) x.2 in
     let h = subst (Serves p w) (sym c.self.view_is) old in
-    on_err c.from_residual-in_err-changed.result _
+    on_err c.from_residual-in_err-show.result _
     (serves_still p w _ c.show.new.self c.make_room.new.out c.show.new.fed h
-    (ap (λ (v : Live). is_some v.flight) c.in_err-changed.ensures.err ∙ none_flying x.0 x.1 _ c.args.root.now now)
-    (c.in_err-changed.ensures.kept w None h.settling.live) c.show.ensures.released
+    (ap (λ (v : Live). is_some v.flight) c.in_err-show.ensures.err ∙ none_flying x.0 x.1 _ c.args.root.now now)
+    (c.in_err-show.ensures.kept w None h.settling.live) c.show.ensures.released
     (c.make_room.ensures.list ∙ h.lands.none_returned) (c.show.ensures.list ∙ h.lands.none_fed))
 
-pub returns-clause-reply : goal.returns-clause-reply
-returns-clause-reply c p w x =
-    let h = subst (IsToShow p w c.args.root.now) (sym c.self.view_is) x in
-    c.in_ok-changed.ensures.reply p w h.shows
-
 pub returns-clause-serves : goal.returns-clause-serves
-returns-clause-serves c p w x =
+returns-clause-serves c p w damage x is some =
     let h = subst (IsToShow p w c.args.root.now) (sym c.self.view_is) x in
+    let m = subst (λ (v : Served). Measures c.args.root.now v.size v.settling.live c.args.measured) (sym c.self.view_is) is in
     serves_drawn p w _ c.show.new.self c.make_room.new.out c.show.new.fed h.serves
-    (c.support_stays_at_ends.ensures.draw p w _ h.serves.support) (c.in_ok-changed.ensures.live p w h.shows)
+    (c.support_stays_at_ends.ensures.draw p w _ h.serves.support) (c.in_ok-show.ensures.live p w damage h.shows m some)
     (c.waiting_ones_stay.ensures.draw p w _ h.serves.settling.waiting) c.show.ensures.released
     (c.make_room.ensures.list ∙ h.serves.lands.none_returned) (c.show.ensures.list ∙ h.serves.lands.none_fed)
-    (omega (arith, c.in_ok-make_room.ensures.ok, c.show.ensures.out)) c.in_ok-changed.ensures.room
+    (omega (arith, c.in_ok-make_room.ensures.ok, c.show.ensures.out)) c.in_ok-show.ensures.room
