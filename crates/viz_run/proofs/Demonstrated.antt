@@ -1,7 +1,11 @@
 -- The plan of the demonstration and its events.
-use Rattle.std.proofs.Common.{◌≡◌, ℕ, zero, suc, ◌≤◌, ◌<◌, All, List, [], ◌∷◌, ◌++◌, length, take, take_all, sym, ap, subst, arith}
+use Rattle.std.proofs.Common.{◌≡◌, ℕ, zero, suc, ◌+◌, ◌≤◌, ◌<◌, All, List, [], ◌∷◌, ◌++◌, length, take, take_all, sym, ap, subst, ◌∙◌, arith}
 use Rattle.std.proofs.lemmas.List.Elements.{All-nil, All-cons}
+use Rattle.vz_base.specs.declared.limits.TheConstants.{DEFAULT_BUFFERS}
+use Rattle.vz_display.specs.Displayed.{upto_most}
 use Rattle.vz_gen.specs.Make.{make}
+use Rattle.vz_rules.specs.Command.{Demo}
+use Rattle.vz_rules.specs.Frames.{painted}
 use Rattle.vz_rules.specs.Plan.{Plan}
 use Rattle.vz_rules.specs.Step.{NamesClient, Legal, LegalFrom}
 use Rattle.vz_rules.specs.declared.entry.Event.{Event}
@@ -10,6 +14,7 @@ use Rattle.vz_rules.specs.declared.entry.Entry.{Entry}
 use Rattle.vz_demo.specs.Planned.{demo_plan}
 use Rattle.viz_run.specs.Demo.{demo_events, four, round, rounds}
 use Rattle.viz_run.specs.Ends.{IsHistory, events_in}
+use Rattle.viz_run.specs.Lines.{drawn_count, return_count, demo_text, end_line}
 
 module _ (n : ℕ) where
   client_named : (c : ℕ) → 0 < c → c ≤ 3 → NamesClient (demo_plan n) (event.Client c)
@@ -49,3 +54,31 @@ none_played p es h empty = (0, record { legal = subst (Legal p) (sym empty) tt; 
 -- one of all events is one of the first of them
 pub all_played : (p : Plan) (es : List Event) (h : List Entry) → IsHistory p es h → (n : ℕ) × IsHistory p (take n es) h
 all_played p es h is = (length es, subst (λ xs. IsHistory p xs h) (sym (take_all (length es) es (omega arith))) is)
+
+-- what is said of this plan and of these events is said of those of the demonstration
+module _ (n : ℕ) (p : Plan) (es : List Event) (plan : p ≡ demo_plan n) (events : es ≡ demo_events n) where
+  pub named_by : All (NamesClient p) es
+  named_by = subst (λ (x : Plan). All (NamesClient x) es) (sym plan) (subst (All (NamesClient (demo_plan n))) (sym events) (events_named n))
+
+  pub history_by : (h : List Entry) → IsHistory p es h → IsHistory (demo_plan n) (demo_events n) h
+  history_by h is = subst (λ (x : Plan). IsHistory x (demo_events n) h) plan (subst (λ (xs : List Event). IsHistory p xs h) events is)
+
+  pub front_by : (h : List Entry) → (k : ℕ) × IsHistory p (take k es) h → (k : ℕ) × IsHistory (demo_plan n) (take k (demo_events n)) h
+  front_by h front = (
+    front.0,
+    subst (λ (x : Plan). IsHistory x (take front.0 (demo_events n)) h) plan
+        (subst (λ (xs : List Event). IsHistory p (take front.0 xs) h) events front.1),
+  )
+
+  pub counted_by : (h : List Entry) (s t : ℕ) → t ≡ s + painted p h DEFAULT_BUFFERS → t ≡ s + painted (demo_plan n) h DEFAULT_BUFFERS
+  counted_by h s t counted = counted ∙ ap (λ (x : Plan). s + painted x h DEFAULT_BUFFERS) plan
+
+  -- the line is that of its history
+  pub line_by :
+      (h told : List Entry) (points : ℕ) (text : List ℕ) → told ≡ h → points ≡ upto_most (painted p h DEFAULT_BUFFERS)
+      → text ≡ demo_text (length told) (drawn_count told) (upto_most (return_count told)) points
+      → text ≡ end_line (Demo n) (demo_plan n) h
+  line_by h told points text same says is =
+      is ∙ ap (λ (xs : List Entry). demo_text (length xs) (drawn_count xs) (upto_most (return_count xs)) points) same
+      ∙ ap (demo_text (length h) (drawn_count h) (upto_most (return_count h)))
+      (says ∙ ap (λ (x : Plan). upto_most (painted x h DEFAULT_BUFFERS)) plan)

@@ -15,3 +15,4 @@ mod Asked_names
 mod Takes
 mod Demonstrated
 mod Run_done
+mod Opened

@@ -22,10 +22,6 @@ use Rattle.viz_run.specs.Inputs.{Inputs, AreRead, AreAccepted, first_some, first
 use Rattle.viz_run.specs.Ran.{counts_of}
 use Rattle.viz_run.specs.Site.{Site}
 
--- what holds of one plan and number of buffers holds of the same
-pub moved : (P : Plan → ℕ → Type 0) (p q : Plan) (m n : ℕ) → p ≡ q → m ≡ n → P p m → P q n
-moved P p q m n plan count holds = subst (λ (k : ℕ). P q k) count (subst (λ (x : Plan). P x m) plan holds)
-
 -- the counts of the files up to behind a place
 pub counts_more :
     (files : List ClientFile) (n : ℕ) (item : ClientFile) (counts more : List ℕ) (count : ℕ) → n < length files → item ≡ get_or files n item

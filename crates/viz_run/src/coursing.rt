@@ -22,19 +22,19 @@ use vz_frame::List;
 use vz_machine::Machine;
 use vz_outputs::{FrameFile, create_outputs, write_log};
 use vz_outside::{Gate, Shelf, ShelfError};
-use vz_rules::{Entry, Plan, Rest};
+use vz_rules::{Entry, Rest};
 use vz_threads::{Course, play_course};
 use vz_words::RunWords;
 
-/// Runs a plan on a machine at its opening, and writes the frames and the log. FRAMES and LOG are
-/// made here, once every file is accepted. `counts` tells how many messages each client has.
+/// Runs a machine that stands at the opening of its plan, and writes the frames and the log.
+/// FRAMES and LOG are made here, once every file is accepted. `counts` tells how many messages each
+/// client has.
 ///
 /// `Failed` is the answer exactly where a fault was counted, `Memory` comes for want of memory.
 /// After both the history is a legal one, and of what it writes a front part stands.
 pub fn play_run<M: Machine + Send + Drop, F: Shelf, G: Gate + Sync, L: Ledger, R>(
     rt: &R,
     machine: M,
-    plan: &Plan,
     counts: &[u64],
     words: &RunWords<'_>,
     shelf: &mut F,
@@ -46,19 +46,21 @@ where
     M::FrameData: Drop + Send,
     R: Threads + Wait + AllocGlobal + Sync,
     requires fits { IsTrue (fits_command (command_of words.now)) }
-    requires opening { M.state machine ≡ record { plan = plan.now; world = opening plan.now } }
-    requires plan { IsPlan plan.now }
-    requires size { plan.now.size ≡ size_of words.now }
-    requires counts { counts.now ≡ message_counts plan.now }
+    requires opening { (M.state machine).world ≡ opening (M.state machine).plan }
+    requires plan { IsPlan (M.state machine).plan }
+    requires size { (M.state machine).plan.size ≡ size_of words.now }
+    requires counts { counts.now ≡ message_counts (M.state machine).plan }
     requires apart { words.now.frames.now ≢ words.now.log.now }
     requires empty { history.old ≡ [] }
-    ensures run { OnOk result (IsRun plan.now words.now.ticks words.now.paced history.new) }
+    ensures run { OnOk result
+        (IsRun (M.state machine).plan words.now.ticks words.now.paced history.new) }
     ensures whole { OnOk result (AreWhole
-        (outputs_for words.now plan.now history.new) (F.shelved shelf.new)) }
-    ensures counted { OnOk result (steps.new
-        ≡ steps.old + painted plan.now history.new (buffer_count words.now.buffers)) }
-    ensures legal { Legal plan.now history.new }
-    ensures begun { OnErr result (AreBegun (outputs_for words.now plan.now history.new)
+        (outputs_for words.now (M.state machine).plan history.new) (F.shelved shelf.new)) }
+    ensures counted { OnOk result (steps.new ≡ steps.old
+        + painted (M.state machine).plan history.new (buffer_count words.now.buffers)) }
+    ensures legal { Legal (M.state machine).plan history.new }
+    ensures begun { OnErr result (AreBegun
+        (outputs_for words.now (M.state machine).plan history.new)
         (F.shelved shelf.old) (F.shelved shelf.new)) }
     ensures others { KeepsAllBut (words.now.frames.now ∷ words.now.log.now ∷ [])
         (F.shelved shelf.old) (F.shelved shelf.new) }
@@ -68,7 +70,6 @@ where
     let rest = show_run(
         rt,
         machine,
-        plan,
         counts,
         words,
         shelf,
@@ -81,13 +82,12 @@ where
     Ok(())
 }
 
-/// Runs a plan on a machine at its opening, writes the frames to an open slot, and answers what is
-/// still out. After an error the history is a legal one, and of the frames that it writes a front
-/// part stands.
+/// Runs a machine that stands at the opening of its plan, writes the frames to an open slot, and
+/// answers what is still out. After an error the history is a legal one, and of the frames that it
+/// writes a front part stands.
 fn show_run<M: Machine + Send + Drop, F: Shelf, G: Gate + Sync, L: Ledger, R>(
     rt: &R,
     machine: M,
-    plan: &Plan,
     counts: &[u64],
     words: &RunWords<'_>,
     shelf: &mut F,
@@ -100,22 +100,23 @@ where
     M::FrameData: Drop + Send,
     R: Threads + Wait + AllocGlobal + Sync,
     requires fits { IsTrue (fits_command (command_of words.now)) }
-    requires opening { M.state machine ≡ record { plan = plan.now; world = opening plan.now } }
-    requires plan { IsPlan plan.now }
-    requires size { plan.now.size ≡ size_of words.now }
-    requires counts { counts.now ≡ message_counts plan.now }
+    requires opening { (M.state machine).world ≡ opening (M.state machine).plan }
+    requires plan { IsPlan (M.state machine).plan }
+    requires size { (M.state machine).plan.size ≡ size_of words.now }
+    requires counts { counts.now ≡ message_counts (M.state machine).plan }
     requires open { (F.shelved shelf.old).mode slot ≡ Some Writing }
     requires empty { history.old ≡ [] }
-    ensures run { OnOk result (IsRun plan.now words.now.ticks words.now.paced history.new) }
-    ensures rest { IfOk result (λ rest. rest ≡ rest_of plan.now history.new) }
+    ensures run { OnOk result
+        (IsRun (M.state machine).plan words.now.ticks words.now.paced history.new) }
+    ensures rest { IfOk result (λ rest. rest ≡ rest_of (M.state machine).plan history.new) }
     ensures frames { OnOk result (Appends
-        (frames_of plan.now history.new (buffer_count words.now.buffers))
+        (frames_of (M.state machine).plan history.new (buffer_count words.now.buffers))
         ((F.shelved shelf.old).name slot) (F.shelved shelf.old) (F.shelved shelf.new)) }
-    ensures counted { OnOk result (steps.new
-        ≡ steps.old + painted plan.now history.new (buffer_count words.now.buffers)) }
-    ensures legal { Legal plan.now history.new }
+    ensures counted { OnOk result (steps.new ≡ steps.old
+        + painted (M.state machine).plan history.new (buffer_count words.now.buffers)) }
+    ensures legal { Legal (M.state machine).plan history.new }
     ensures begun { OnErr result (AppendsFront
-        (frames_of plan.now history.new (buffer_count words.now.buffers))
+        (frames_of (M.state machine).plan history.new (buffer_count words.now.buffers))
         ((F.shelved shelf.old).name slot) (F.shelved shelf.old) (F.shelved shelf.new)) }
     ensures others { KeepsOthers ((F.shelved shelf.old).name slot)
         (F.shelved shelf.old) (F.shelved shelf.new) }

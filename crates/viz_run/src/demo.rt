@@ -1,12 +1,14 @@
 //! `demo`: the files by rule, played and shown, but not written.
-ghost use Rattle.std.specs.Prelude.{◌≡◌, ◌+◌, ◌≤◌, ℕ, [], false, length, take, All, string_bytes};
+ghost use Rattle.std.specs.Prelude.{◌≡◌, ◌+◌, ◌≤◌, ℕ, [], false, take, All, string_bytes};
 ghost use Rattle.std.specs.Prelude.{IfOk, OnOk, OnErr};
-ghost use Rattle.vz_base.specs.declared.limits.TheConstants.{DEFAULT_BUFFERS, MOST_FILES, MOST_ROUNDS};
+ghost use Rattle.vz_base.specs.declared.limits.TheConstants.{DEFAULT_BUFFERS, MOST_ROUNDS};
 ghost use Rattle.vz_display.specs.Displayed.{upto_most};
 ghost use Rattle.vz_player.specs.Played.{painted_by};
 ghost use Rattle.vz_rules.specs.Command.{Demo};
 ghost use Rattle.vz_rules.specs.Frames.{painted};
+ghost use Rattle.vz_rules.specs.Plan.{IsPlan};
 ghost use Rattle.vz_rules.specs.Step.{NamesClient};
+ghost use Rattle.vz_rules.specs.World.{opening};
 ghost use Rattle.vz_demo.specs.Planned.{demo_plan};
 ghost use Rattle.viz_run.specs.Demo.{demo_events};
 ghost use Rattle.viz_run.specs.Ends.{IsHistory};
@@ -22,11 +24,12 @@ use vz_base::limits::DEFAULT_BUFFERS;
 use vz_buffers::Steps;
 use vz_demo::demo_plan;
 use vz_frame::List;
+use vz_geom::Size;
 use vz_machine::Machine;
+use vz_manager::Manager;
 use vz_outside::Gate;
-use vz_plain_machine::PlainMachine;
 use vz_player::Player;
-use vz_rules::{Entry, Event, Plan};
+use vz_rules::{Entry, Event};
 
 /// Plays the files by rule with so many rounds, paints each frame, and answers the line that tells
 /// it. Nothing is read or written. Conditions: 1 to `MOST_ROUNDS` rounds, and an empty history. At
@@ -51,32 +54,40 @@ pub fn demo<G: Gate, L: Ledger>(
 {
     let plan = demo_plan(alloc, rounds)?;
     let events = demo_events(alloc, rounds)?;
-    let painted = play_all(alloc, &plan, &events, gate, steps, history)?;
+    let _ = plan.files();
+    let size = plan.size();
+    let machine = Manager::open(alloc, plan)?;
+    let painted = play_all(alloc, machine, size, &events, gate, steps, history)?;
     Ok(demo_line(alloc, history.as_slice(), painted)?)
 }
 
-/// Plays the events of a plan one after the other and paints each frame, and answers how many points
-/// were painted. At want of memory, the only error, the history has a front part of the events.
-fn play_all<G: Gate, L: Ledger>(
+/// Plays events one after the other on a machine at the opening of its plan, paints each frame,
+/// and answers how many points were painted. `size` is that of the plan's display. At want of
+/// memory, the only error, the history has a front part of the events.
+fn play_all<M: Machine + Drop, G: Gate, L: Ledger>(
     alloc: Global,
-    plan: &Plan,
+    machine: M,
+    size: Size,
     events: &[Event],
     gate: &G,
     steps: &mut Steps<L>,
     history: &mut List<Entry>,
 ) -> Result<u64, Memory>
-    requires files { length plan.now.files ≤ MOST_FILES }
-    requires named { All (NamesClient plan.now) events.now }
-    ensures history { OnOk result (IsHistory plan.now events.now history.new) }
-    ensures painted { IfOk result (λ points.
-        points ≡ upto_most (painted plan.now history.new DEFAULT_BUFFERS)) }
-    ensures counted { OnOk result
-        (steps.new ≡ steps.old + painted plan.now history.new DEFAULT_BUFFERS) }
+where
+    M::FrameData: Drop,
+    requires opening { (M.state machine).world ≡ opening (M.state machine).plan }
+    requires plan { IsPlan (M.state machine).plan }
+    requires size { (M.state machine).plan.size ≡ size }
+    requires named { All (NamesClient (M.state machine).plan) events.now }
+    ensures history { OnOk result (IsHistory (M.state machine).plan events.now history.new) }
+    ensures painted { IfOk result (λ points. points
+        ≡ upto_most (painted (M.state machine).plan history.new DEFAULT_BUFFERS)) }
+    ensures counted { OnOk result (steps.new
+        ≡ steps.old + painted (M.state machine).plan history.new DEFAULT_BUFFERS) }
     ensures front { OnErr result ((n : ℕ)
-        × IsHistory plan.now (take n events.now) history.new) }
+        × IsHistory (M.state machine).plan (take n events.now) history.new) }
 {
-    let machine = PlainMachine::new(alloc, plan);
-    let mut player = Player::new(alloc, machine, plan.size(), DEFAULT_BUFFERS as u32);
+    let mut player = Player::new(alloc, machine, size, DEFAULT_BUFFERS as u32);
     match take_all(alloc, &mut player, events, gate, steps) {
         Ok(()) => {
             let points = player.display().painted();

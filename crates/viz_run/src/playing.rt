@@ -5,27 +5,29 @@ ghost use Rattle.vz_outputs.specs.Written.{AreWhole, AreBegun, KeepsAllBut};
 ghost use Rattle.vz_outside.specs.Shelved.{Writing, KeepsOthers, Appends, AppendsFront, Behaves};
 ghost use Rattle.vz_rules.specs.Frames.{painted};
 ghost use Rattle.vz_rules.specs.Log.{rest_of};
+ghost use Rattle.vz_rules.specs.Plan.{IsPlan};
 ghost use Rattle.vz_rules.specs.Step.{NamesClient};
 ghost use Rattle.vz_rules.specs.World.{opening};
 ghost use Rattle.vz_threads.specs.Courses.{frames_of};
 ghost use Rattle.viz_run.specs.Ends.{IsHistory};
 ghost use Rattle.viz_run.specs.Stepped.{outputs_for};
 
-use crate::step::Given;
 use std::alloc::Global;
 use std::sync::ledger::Ledger;
 use vz_base::limits::DEFAULT_BUFFERS;
 use vz_buffers::Steps;
 use vz_frame::List;
+use vz_geom::Size;
 use vz_machine::Machine;
 use vz_outputs::{FrameFile, create_outputs, play_frames, write_log};
 use vz_outside::{Gate, Shelf, ShelfError};
 use vz_player::Player;
-use vz_rules::{Entry, Rest};
+use vz_rules::{Entry, Event, Rest};
 use vz_words::StepWords;
 
-/// Takes the events on a machine at the opening of the plan, and writes the frames and the log.
-/// FRAMES and LOG are made here, once every input is accepted.
+/// Takes the events on a machine at the opening of its plan, and writes the frames and the log.
+/// FRAMES and LOG are made here, once every input is accepted. `size` is that of the plan's
+/// display.
 ///
 /// `Failed` is the answer exactly where a fault was counted, `Memory` comes for want of memory.
 /// After both, the history is a legal one of a front part of the events, and of what it writes a
@@ -33,8 +35,9 @@ use vz_words::StepWords;
 pub fn play<M: Machine + Drop, F: Shelf, G: Gate, L: Ledger>(
     alloc: Global,
     machine: M,
+    size: Size,
+    events: &[Event],
     words: &StepWords<'_>,
-    given: &Given,
     shelf: &mut F,
     gate: &G,
     steps: &mut Steps<L>,
@@ -42,22 +45,21 @@ pub fn play<M: Machine + Drop, F: Shelf, G: Gate, L: Ledger>(
 ) -> Result<(), ShelfError>
 where
     M::FrameData: Drop,
-    requires opening { M.state machine ≡ record {
-      plan = given.now.plan;
-      world = opening given.now.plan;
-    } }
-    requires named { All (NamesClient given.now.plan) given.now.events.items }
+    requires opening { (M.state machine).world ≡ opening (M.state machine).plan }
+    requires plan { IsPlan (M.state machine).plan }
+    requires size { (M.state machine).plan.size ≡ size }
+    requires named { All (NamesClient (M.state machine).plan) events.now }
     requires apart { words.now.frames.now ≢ words.now.log.now }
     requires empty { history.old ≡ [] }
-    ensures history { OnOk result
-        (IsHistory given.now.plan given.now.events.items history.new) }
+    ensures history { OnOk result (IsHistory (M.state machine).plan events.now history.new) }
     ensures whole { OnOk result (AreWhole
-        (outputs_for words.now given.now.plan history.new) (F.shelved shelf.new)) }
-    ensures counted { OnOk result
-        (steps.new ≡ steps.old + painted given.now.plan history.new DEFAULT_BUFFERS) }
+        (outputs_for words.now (M.state machine).plan history.new) (F.shelved shelf.new)) }
+    ensures counted { OnOk result (steps.new
+        ≡ steps.old + painted (M.state machine).plan history.new DEFAULT_BUFFERS) }
     ensures front { OnErr result ((n : ℕ)
-        × IsHistory given.now.plan (take n given.now.events.items) history.new) }
-    ensures begun { OnErr result (AreBegun (outputs_for words.now given.now.plan history.new)
+        × IsHistory (M.state machine).plan (take n events.now) history.new) }
+    ensures begun { OnErr result (AreBegun
+        (outputs_for words.now (M.state machine).plan history.new)
         (F.shelved shelf.old) (F.shelved shelf.new)) }
     ensures others { KeepsAllBut (words.now.frames.now ∷ words.now.log.now ∷ [])
         (F.shelved shelf.old) (F.shelved shelf.new) }
@@ -67,7 +69,8 @@ where
     let rest = show(
         alloc,
         machine,
-        given,
+        size,
+        events,
         shelf,
         outputs.frames,
         gate,
@@ -78,13 +81,14 @@ where
     Ok(())
 }
 
-/// Takes the events on a machine at the opening of the plan, writes the frames to an open slot, and
-/// answers what is still out. After an error the history is a legal one of a front part of the
+/// Takes the events on a machine at the opening of its plan, writes the frames to an open slot,
+/// and answers what is still out. After an error the history is a legal one of a front part of the
 /// events, and of the frames that it writes a front part stands.
 fn show<M: Machine + Drop, F: Shelf, G: Gate, L: Ledger>(
     alloc: Global,
     machine: M,
-    given: &Given,
+    size: Size,
+    events: &[Event],
     shelf: &mut F,
     slot: u32,
     gate: &G,
@@ -93,33 +97,30 @@ fn show<M: Machine + Drop, F: Shelf, G: Gate, L: Ledger>(
 ) -> Result<Rest, ShelfError>
 where
     M::FrameData: Drop,
-    requires opening { M.state machine ≡ record {
-      plan = given.now.plan;
-      world = opening given.now.plan;
-    } }
-    requires named { All (NamesClient given.now.plan) given.now.events.items }
+    requires opening { (M.state machine).world ≡ opening (M.state machine).plan }
+    requires plan { IsPlan (M.state machine).plan }
+    requires size { (M.state machine).plan.size ≡ size }
+    requires named { All (NamesClient (M.state machine).plan) events.now }
     requires open { (F.shelved shelf.old).mode slot ≡ Some Writing }
-    ensures history { OnOk result
-        (IsHistory given.now.plan given.now.events.items history.new) }
-    ensures rest { IfOk result (λ rest. rest ≡ rest_of given.now.plan history.new) }
-    ensures frames { OnOk result (Appends (frames_of given.now.plan history.new DEFAULT_BUFFERS)
+    ensures history { OnOk result (IsHistory (M.state machine).plan events.now history.new) }
+    ensures rest { IfOk result (λ rest. rest ≡ rest_of (M.state machine).plan history.new) }
+    ensures frames { OnOk result (Appends
+        (frames_of (M.state machine).plan history.new DEFAULT_BUFFERS)
         ((F.shelved shelf.old).name slot) (F.shelved shelf.old) (F.shelved shelf.new)) }
-    ensures counted { OnOk result
-        (steps.new ≡ steps.old + painted given.now.plan history.new DEFAULT_BUFFERS) }
+    ensures counted { OnOk result (steps.new
+        ≡ steps.old + painted (M.state machine).plan history.new DEFAULT_BUFFERS) }
     ensures front { OnErr result ((n : ℕ)
-        × IsHistory given.now.plan (take n given.now.events.items) history.new) }
+        × IsHistory (M.state machine).plan (take n events.now) history.new) }
     ensures begun { OnErr result (AppendsFront
-        (frames_of given.now.plan history.new DEFAULT_BUFFERS)
+        (frames_of (M.state machine).plan history.new DEFAULT_BUFFERS)
         ((F.shelved shelf.old).name slot) (F.shelved shelf.old) (F.shelved shelf.new)) }
     ensures others { KeepsOthers ((F.shelved shelf.old).name slot)
         (F.shelved shelf.old) (F.shelved shelf.new) }
     ensures behaves { Behaves (F.shelved shelf.old) (F.shelved shelf.new) result }
 {
-    let size = given.plan.size();
-    let _ = given.plan.files();
     let mut player = Player::new(alloc, machine, size, DEFAULT_BUFFERS as u32);
     let file = FrameFile { slot, size };
-    match play_frames(alloc, &mut player, &given.events, shelf, file, gate, steps) {
+    match play_frames(alloc, &mut player, events, shelf, file, gate, steps) {
         Ok(()) => {
             let rest = player.rest(alloc);
             *history = player.into_history();

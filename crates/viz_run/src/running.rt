@@ -29,8 +29,8 @@ use vz_base::limits::MOST_FILE_BYTES;
 use vz_buffers::Steps;
 use vz_frame::{ClientFile, List};
 use vz_inputs::{plan_of, read_files};
+use vz_manager::Manager;
 use vz_outside::{Gate, Shelf};
-use vz_plain_machine::PlainMachine;
 use vz_rules::{Entry, Plan};
 use vz_words::RunWords;
 
@@ -67,10 +67,8 @@ where
 {
     let plan = admit(rt, shelf, words)?;
     let counts = message_counts(rt.alloc(), plan.files())?;
-    let machine = PlainMachine::new(rt.alloc(), &plan);
-    play_run(
-        rt, machine, &plan, &counts, words, shelf, gate, steps, history,
-    )?;
+    let machine = Manager::open(rt.alloc(), plan)?;
+    play_run(rt, machine, &counts, words, shelf, gate, steps, history)?;
     Ok(End {
         line: done_line(rt.alloc(), history.as_slice())?,
         status: 0,

@@ -33,16 +33,16 @@ use vz_buffers::Steps;
 use vz_frame::List;
 use vz_geom::Size;
 use vz_inputs::{InputError, events_of, plan_of, read_file, read_files};
+use vz_manager::Manager;
 use vz_outside::{Gate, Shelf};
-use vz_plain_machine::PlainMachine;
 use vz_rules::{Entry, Event, Plan};
 use vz_words::StepWords;
 
 /// What `step` is given: the plan, and the events of the schedule.
 #[derive(Drop)]
-pub struct Given {
-    pub plan: Plan,
-    pub events: Vec<Event>,
+struct Given {
+    plan: Plan,
+    events: Vec<Event>,
 }
 
 /// Takes the events of a schedule, writes the frames and the log, and answers how that ended.
@@ -73,14 +73,16 @@ pub fn step<F: Shelf, G: Gate, L: Ledger, R: Threads + AllocGlobal + Sync>(
         (MissesOne (input_names (command_of words.now)) (F.shelved shelf.old))
         (F.shelved shelf.old) (F.shelved shelf.new) result }
 {
-    let given = admit(rt, shelf, words)?;
-    let _ = given.plan.files();
-    let machine = PlainMachine::new(rt.alloc(), &given.plan);
+    let Given { plan, events } = admit(rt, shelf, words)?;
+    let _ = plan.files();
+    let size = plan.size();
+    let machine = Manager::open(rt.alloc(), plan)?;
     play(
         rt.alloc(),
         machine,
+        size,
+        &events,
         words,
-        &given,
         shelf,
         gate,
         steps,

@@ -17,3 +17,4 @@ pub mod Reading_all
 pub mod Taken_in
 pub mod Arrived_new
 pub mod Carried
+pub mod Crossing

@@ -1,5 +1,5 @@
 -- A change that leaves what reaching goes by: nothing is lost by it, so that no collection has to be asked.
-use Rattle.std.proofs.Common.{◌≡◌, ℕ, ◌≤◌, Bool, true, false, not, ◌&&◌, Option, Some, None, is_some, List, [], ◌∷◌, map, filter_map}
+use Rattle.std.proofs.Common.{◌≡◌, ℕ, ◌≤◌, Bool, true, false, not, ◌&&◌, Option, Some, None, is_some, List, [], map, filter_map}
 use Rattle.std.proofs.Common.{length, refl, ap, sym, ◌∙◌, subst, cond, arith, Contains}
 use Rattle.std.specs.Prelude.{nat_lt}
 use Rattle.std.proofs.lemmas.Bool.{ltb-false}

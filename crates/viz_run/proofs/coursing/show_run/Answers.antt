@@ -1,15 +1,10 @@
-use Rattle.std.proofs.Common.{◌≡◌, ℕ, ◌+◌, ◌≤◌, IfOk, OnOk, OnErr, sym, ap, subst, ◌∙◌}
+use Rattle.std.proofs.Common.{◌≡◌, ℕ, ◌+◌, ◌≤◌, OnOk, OnErr, sym, subst, ◌∙◌}
 use Rattle.vz_base.specs.declared.limits.TheConstants.{MOST_BUFFERS}
 use Rattle.vz_inputs.specs.Read.{texts}
 use Rattle.vz_outside.specs.Shelved.{Appends, AppendsFront}
 use Rattle.vz_rules.specs.Frames.{painted}
-use Rattle.vz_rules.specs.Log.{rest_of}
-use Rattle.vz_rules.specs.Plan.{Plan, IsPlan}
-use Rattle.vz_rules.specs.Step.{Legal}
-use Rattle.vz_rules.specs.World.{Machine, opening}
-use Rattle.vz_threads.specs.Courses.{IsRun, frames_of, message_counts}
+use Rattle.vz_threads.specs.Courses.{frames_of}
 use Rattle.viz_run.proofs.Fitting.{run_buffers_fit, run_sides_fit, run_ticks_fit}
-use Rattle.viz_run.proofs.Run_done.{moved}
 use Rattle.viz_run.proofs.coursing.show_run.Goals as goal
 
 pub size_of-size-requires : goal.size_of-size-requires
@@ -18,11 +13,10 @@ size_of-size-requires g c =
     run_sides_fit w.paced w.buffers w.pipe w.width w.height w.ticks w.frames.now w.log.now (texts w.files.now) c.requires.fits
 
 pub play_course-requires-clause-opening : goal.play_course-requires-clause-opening
-play_course-requires-clause-opening g c =
-    λ _ _. ap (λ (m : Machine). m.world) c.requires.opening ∙ sym (ap (λ (m : Machine). opening m.plan) c.requires.opening)
+play_course-requires-clause-opening g c = λ _ _. c.requires.opening
 
 pub play_course-requires-clause-plan : goal.play_course-requires-clause-plan
-play_course-requires-clause-plan g c = λ _ _. subst IsPlan (sym (ap (λ (m : Machine). m.plan) c.requires.opening)) c.requires.plan
+play_course-requires-clause-plan g c = λ _ _. c.requires.plan
 
 pub play_course-requires-clause-rounds : goal.play_course-requires-clause-rounds
 play_course-requires-clause-rounds g c =
@@ -30,12 +24,10 @@ play_course-requires-clause-rounds g c =
     λ _ _. run_ticks_fit w.paced w.buffers w.pipe w.width w.height w.ticks w.frames.now w.log.now (texts w.files.now) c.requires.fits
 
 pub play_course-requires-clause-counts : goal.play_course-requires-clause-counts
-play_course-requires-clause-counts g c =
-    λ _ _. c.requires.counts ∙ sym (ap (λ (m : Machine). message_counts m.plan) c.requires.opening)
+play_course-requires-clause-counts g c = λ _ _. c.requires.counts
 
 pub play_course-requires-clause-size : goal.play_course-requires-clause-size
-play_course-requires-clause-size g c =
-    λ _ _. ap (λ (m : Machine). m.plan.size) c.requires.opening ∙ (c.requires.size ∙ sym c.size_of-size.ensures.size)
+play_course-requires-clause-size g c = λ _ _. c.requires.size ∙ sym c.size_of-size.ensures.size
 
 pub play_course-requires-clause-from : goal.play_course-requires-clause-from
 play_course-requires-clause-from g c =
@@ -50,35 +42,35 @@ play_course-requires-clause-upto g c =
     (run_buffers_fit w.paced w.buffers w.pipe w.width w.height w.ticks w.frames.now w.log.now (texts w.files.now) c.requires.fits).1
 
 pub returns-clause-run : goal.returns-clause-run
-returns-clause-run g c =
-    let w = c.args.words.now in
-    moved (λ p n. OnOk c.play_course.result (IsRun p w.ticks w.paced c.play_course.new.history)) _ _ _ _
-    (ap (λ (m : Machine). m.plan) c.requires.opening) c.buffer_count.ensures c.play_course.ensures.run
+returns-clause-run g c = c.play_course.ensures.run
 
 pub returns-clause-rest : goal.returns-clause-rest
-returns-clause-rest g c =
-    moved (λ p n. IfOk c.play_course.result (λ rest. rest ≡ rest_of p c.play_course.new.history)) _ _ _ _
-    (ap (λ (m : Machine). m.plan) c.requires.opening) c.buffer_count.ensures c.play_course.ensures.rest
+returns-clause-rest g c = c.play_course.ensures.rest
 
 pub returns-clause-frames : goal.returns-clause-frames
 returns-clause-frames g c =
+    let p = (g.M.Machine.state c.args.machine).plan in
+    let h = c.play_course.new.history in
     let a = g.F.Shelf.shelved c.args.shelf.now in
     let b = g.F.Shelf.shelved c.play_course.new.shelf in
-    moved (λ p n. OnOk c.play_course.result (Appends (frames_of p c.play_course.new.history n) (a.name c.args.slot) a b)) _ _ _ _
-    (ap (λ (m : Machine). m.plan) c.requires.opening) c.buffer_count.ensures c.play_course.ensures.written
+    subst (λ (n : ℕ). OnOk c.play_course.result (Appends (frames_of p h n) (a.name c.args.slot) a b))
+    c.buffer_count.ensures c.play_course.ensures.written
 
 pub returns-clause-counted : goal.returns-clause-counted
 returns-clause-counted g c =
-    moved (λ p n. OnOk c.play_course.result (c.play_course.new.steps ≡ c.args.steps.now + painted p c.play_course.new.history n)) _ _ _ _
-    (ap (λ (m : Machine). m.plan) c.requires.opening) c.buffer_count.ensures c.play_course.ensures.counted
+    let p = (g.M.Machine.state c.args.machine).plan in
+    let h = c.play_course.new.history in
+    subst (λ (n : ℕ). OnOk c.play_course.result (c.play_course.new.steps ≡ c.args.steps.now + painted p h n))
+    c.buffer_count.ensures c.play_course.ensures.counted
 
 pub returns-clause-legal : goal.returns-clause-legal
-returns-clause-legal g c =
-    subst (λ (p : Plan). Legal p c.play_course.new.history) (ap (λ (m : Machine). m.plan) c.requires.opening) c.play_course.ensures.legal
+returns-clause-legal g c = c.play_course.ensures.legal
 
 pub returns-clause-begun : goal.returns-clause-begun
 returns-clause-begun g c =
+    let p = (g.M.Machine.state c.args.machine).plan in
+    let h = c.play_course.new.history in
     let a = g.F.Shelf.shelved c.args.shelf.now in
     let b = g.F.Shelf.shelved c.play_course.new.shelf in
-    moved (λ p n. OnErr c.play_course.result (AppendsFront (frames_of p c.play_course.new.history n) (a.name c.args.slot) a b)) _ _ _ _
-    (ap (λ (m : Machine). m.plan) c.requires.opening) c.buffer_count.ensures c.play_course.ensures.begun
+    subst (λ (n : ℕ). OnErr c.play_course.result (AppendsFront (frames_of p h n) (a.name c.args.slot) a b))
+    c.buffer_count.ensures c.play_course.ensures.begun

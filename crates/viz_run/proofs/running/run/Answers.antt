@@ -1,30 +1,47 @@
-use Rattle.std.proofs.Common.{rules, ◌∙◌, List, refl, ap, inl}
+use denote.Param.Send.{sendable}
+use Rattle.std.proofs.Common.{rules, ◌∙◌, List, refl, sym, ap, inl}
 use Rattle.vz_outside.proofs.Calls.{ran_one, ran_then_ran}
 use Rattle.vz_outside.specs.declared.shelf.ShelfError.TheVariants as shelf_error
 use Rattle.vz_inputs.specs.Read.{texts}
 use Rattle.vz_outputs.proofs.Behaving.{on_err}
+use Rattle.vz_manager.proofs.Crossing.{manager_send}
 use Rattle.viz_run.specs.Commands.{output_names}
 use Rattle.viz_run.specs.Ends.{outputs_of}
-use Rattle.vz_rules.specs.Plan.{Plan}
+use Rattle.vz_rules.specs.Plan.{Plan, IsPlan}
 use Rattle.vz_rules.specs.declared.entry.Entry.{Entry}
+use Rattle.vz_threads.specs.Courses.{message_counts}
 use Rattle.viz_run.specs.Lines.{end_line}
 use Rattle.viz_run.specs.Site.{site}
 use Rattle.viz_run.specs.Ran.{command_of, counts_of}
 use Rattle.viz_run.specs.declared.stop.Stop.TheVariants as stop
 use Rattle.viz_run.proofs.Fitting.{run_buffers_fit, run_names_differ}
 use Rattle.viz_run.proofs.Run_done.{run_does, run_cut}
+use Rattle.viz_run.proofs.Opened.{its_plan, its_world, of_its_plan}
 use Rattle.viz_run.proofs.Stopping.{stops_at, stops_after}
-use Rattle.viz_run.proofs.Stepping.{begun_since, others_since, all_begun, is_none, no_words, no_input, refuses_none, ok_is_none, went_through, holds_at_err, stays_at}
+use Rattle.viz_run.proofs.Stepping.{begun_since, others_since, all_begun}
+use Rattle.viz_run.proofs.Stepping.{is_none, no_words, no_input, refuses_none, ok_is_none, went_through, holds_at_err, stays_at}
 use Rattle.viz_run.proofs.running.run.Goals as goal
 
+pub play_run-requires-send-M : goal.play_run-requires-send-M
+play_run-requires-send-M g c κs within = search (manager_send, sendable) depth 20
+
+pub play_run-requires-clause-opening : goal.play_run-requires-clause-opening
+play_run-requires-clause-opening g c = λ _ _. its_world c.in_ok-machine.machine c.in_ok-plan.plan c.in_ok-machine.ensures
+
 pub play_run-requires-clause-plan : goal.play_run-requires-clause-plan
-play_run-requires-clause-plan g c = λ _ _. c.files.ensures.kept
+play_run-requires-clause-plan g c =
+    λ _ _. of_its_plan c.in_ok-machine.machine c.in_ok-plan.plan c.in_ok-machine.ensures IsPlan c.files.ensures.kept
 
 pub play_run-requires-clause-counts : goal.play_run-requires-clause-counts
-play_run-requires-clause-counts g c = λ _ _. c.deref.ensures.value ∙ (c.in_ok-counts.ensures.counts ∙ ap counts_of c.files.ensures.value)
+play_run-requires-clause-counts g c =
+    let opened = its_plan c.in_ok-machine.machine c.in_ok-plan.plan c.in_ok-machine.ensures in
+    λ _ _. c.deref.ensures.value
+    ∙ (c.in_ok-counts.ensures.counts ∙ (ap counts_of c.files.ensures.value ∙ sym (ap (λ (p : Plan). message_counts p) opened)))
 
 pub play_run-requires-clause-size : goal.play_run-requires-clause-size
-play_run-requires-clause-size g c = λ _ _. ap (λ (p : Plan). p.size) c.in_ok-plan.ensures.accepted.2
+play_run-requires-clause-size g c =
+    let opened = its_plan c.in_ok-machine.machine c.in_ok-plan.plan c.in_ok-machine.ensures in
+    λ _ _. ap (λ (p : Plan). p.size) (opened ∙ c.in_ok-plan.ensures.accepted.2)
 
 pub play_run-requires-clause-apart : goal.play_run-requires-clause-apart
 play_run-requires-clause-apart g c =
@@ -60,6 +77,24 @@ returns-in_err-counts-clause-behaves g c =
     stops_after c.from_residual-in_err-counts.result a _ (went_through c.in_ok-plan.plan a _ c.in_ok-plan.ensures.behaves)
     (is_none c.from_residual-in_err-counts.result stop.Memory stop.Fault (λ same. search rules) c.from_residual-in_err-counts.ensures.1)
 
+pub returns-in_err-machine-clause-unbegun : goal.returns-in_err-machine-clause-unbegun
+returns-in_err-machine-clause-unbegun g c =
+    refuses_none shelf_error.Memory c.from_residual-in_err-machine.result _ c.from_residual-in_err-machine.ensures.1
+
+pub returns-in_err-machine-clause-front : goal.returns-in_err-machine-clause-front
+returns-in_err-machine-clause-front g c =
+    on_err c.from_residual-in_err-machine.result _ (inl (record
+    { history = c.requires.empty; files = c.admit.ensures.files; steps = refl }))
+
+pub returns-in_err-machine-clause-others : goal.returns-in_err-machine-clause-others
+returns-in_err-machine-clause-others g c = λ told name none. c.admit.ensures.files told name
+
+pub returns-in_err-machine-clause-behaves : goal.returns-in_err-machine-clause-behaves
+returns-in_err-machine-clause-behaves g c =
+    let a = g.F.Shelf.shelved c.args.shelf.now in
+    stops_after c.from_residual-in_err-machine.result a _ (went_through c.in_ok-plan.plan a _ c.in_ok-plan.ensures.behaves)
+    (is_none c.from_residual-in_err-machine.result stop.Memory stop.Fault (λ same. search rules) c.from_residual-in_err-machine.ensures.1)
+
 pub returns-in_err-play_run-clause-unbegun : goal.returns-in_err-play_run-clause-unbegun
 returns-in_err-play_run-clause-unbegun g c =
     refuses_none c.in_err-play_run.field-0.0 c.from_residual-in_err-play_run.result _ c.from_residual-in_err-play_run.ensures.1
@@ -72,11 +107,16 @@ returns-in_err-play_run-clause-front g c =
     let w = c.args.words.now in
     let asked = command_of w in
     let got = c.in_ok-plan.ensures.accepted in
-    let p = c.in_ok-plan.plan in
+    let m = c.in_ok-machine.machine in
+    let made = c.in_ok-plan.plan in
+    let makes = its_plan m made c.in_ok-machine.ensures ∙ got.2 in
+    let p = m.plan in
     let h = c.play_run.new.history in
     on_err c.from_residual-in_err-play_run.result _
-    (run_cut w.paced w.buffers w.pipe w.width w.height w.ticks w.frames.now w.log.now (texts w.files.now) got.0 p got.2 h (site a c.args.steps.now) (site d c.play_run.new.steps) got.1
-    c.in_err-play_run.ensures.legal (begun_since (outputs_of asked p h) a b d c.in_ok-plan.ensures.behaves.call c.admit.ensures.files c.in_err-play_run.ensures.begun))
+    (run_cut w.paced w.buffers w.pipe w.width w.height w.ticks w.frames.now w.log.now (texts w.files.now) got.0 p makes h
+    (site a c.args.steps.now) (site d c.play_run.new.steps) got.1
+    c.in_err-play_run.ensures.legal (begun_since (outputs_of asked p h) a b d c.in_ok-plan.ensures.behaves.call c.admit.ensures.files
+    c.in_err-play_run.ensures.begun))
 
 pub returns-in_err-play_run-clause-others : goal.returns-in_err-play_run-clause-others
 returns-in_err-play_run-clause-others g c =
@@ -91,11 +131,13 @@ returns-in_err-play_run-clause-behaves g c =
 
 pub returns-in_err-play_run-clause-words : goal.returns-in_err-play_run-clause-words
 returns-in_err-play_run-clause-words g c =
-    is_none c.from_residual-in_err-play_run.result _ stop.Words (no_words c.in_err-play_run.field-0.0) c.from_residual-in_err-play_run.ensures.1
+    is_none c.from_residual-in_err-play_run.result _ stop.Words (no_words c.in_err-play_run.field-0.0)
+    c.from_residual-in_err-play_run.ensures.1
 
 pub returns-in_err-play_run-clause-input : goal.returns-in_err-play_run-clause-input
 returns-in_err-play_run-clause-input g c x this =
-    absurd (is_none c.from_residual-in_err-play_run.result _ (stop.Input x) (no_input c.in_err-play_run.field-0.0 (stop.Input x) tt) c.from_residual-in_err-play_run.ensures.1 this)
+    absurd (is_none c.from_residual-in_err-play_run.result _ (stop.Input x) (no_input c.in_err-play_run.field-0.0 (stop.Input x) tt)
+    c.from_residual-in_err-play_run.ensures.1 this)
 
 pub returns-in_err-done_line-clause-front : goal.returns-in_err-done_line-clause-front
 returns-in_err-done_line-clause-front g c =
@@ -105,10 +147,14 @@ returns-in_err-done_line-clause-front g c =
     let w = c.args.words.now in
     let asked = command_of w in
     let got = c.in_ok-plan.ensures.accepted in
-    let p = c.in_ok-plan.plan in
+    let m = c.in_ok-machine.machine in
+    let made = c.in_ok-plan.plan in
+    let makes = its_plan m made c.in_ok-machine.ensures ∙ got.2 in
+    let p = m.plan in
     let h = c.play_run.new.history in
     on_err c.from_residual-in_err-done_line.result _
-    (run_cut w.paced w.buffers w.pipe w.width w.height w.ticks w.frames.now w.log.now (texts w.files.now) got.0 p got.2 h (site a c.args.steps.now) (site d c.play_run.new.steps) got.1
+    (run_cut w.paced w.buffers w.pipe w.width w.height w.ticks w.frames.now w.log.now (texts w.files.now) got.0 p makes h
+    (site a c.args.steps.now) (site d c.play_run.new.steps) got.1
     c.in_ok-play_run.ensures.legal (all_begun (outputs_of asked p h) a d c.in_ok-play_run.ensures.whole))
 
 pub returns-in_err-done_line-clause-unbegun : goal.returns-in_err-done_line-clause-unbegun
@@ -125,7 +171,8 @@ returns-in_err-done_line-clause-behaves g c =
     let a = g.F.Shelf.shelved c.args.shelf.now in
     stops_after c.from_residual-in_err-done_line.result a _
     (ran_then_ran a _ _ (went_through c.in_ok-plan.plan a _ c.in_ok-plan.ensures.behaves) (ran_one tt _ _ c.in_ok-play_run.ensures.behaves))
-    (is_none c.from_residual-in_err-done_line.result stop.Memory stop.Fault (λ same. search rules) c.from_residual-in_err-done_line.ensures.1)
+    (is_none c.from_residual-in_err-done_line.result stop.Memory stop.Fault (λ same. search rules)
+    c.from_residual-in_err-done_line.ensures.1)
 
 pub returns-clause-done : goal.returns-clause-done
 returns-clause-done g c =
@@ -134,12 +181,20 @@ returns-clause-done g c =
     let w = c.args.words.now in
     let asked = command_of w in
     let got = c.in_ok-plan.ensures.accepted in
-    let p = c.in_ok-plan.plan in
+    let m = c.in_ok-machine.machine in
+    let made = c.in_ok-plan.plan in
+    let makes = its_plan m made c.in_ok-machine.ensures ∙ got.2 in
+    let p = m.plan in
     let h = c.play_run.new.history in
-    run_does w.paced w.buffers w.pipe w.width w.height w.ticks w.frames.now w.log.now (texts w.files.now) got.0 p got.2 h (site a c.args.steps.now) (site d c.play_run.new.steps) got.1 _ 0
-    c.files.ensures.kept (run_buffers_fit w.paced w.buffers w.pipe w.width w.height w.ticks w.frames.now w.log.now (texts w.files.now) c.requires.fits).0
-    c.in_ok-play_run.ensures.run c.in_ok-play_run.ensures.whole c.in_ok-play_run.ensures.counted
-    (c.in_ok-done_line.ensures ∙ (ap (λ (xs : List Entry). end_line asked p xs) c.as_slice.ensures ∙ ap (λ (x : Plan). end_line asked x h) got.2), refl)
+    run_does w.paced w.buffers w.pipe w.width w.height w.ticks w.frames.now w.log.now (texts w.files.now) got.0 p makes h
+    (site a c.args.steps.now) (site d c.play_run.new.steps) got.1 _ 0
+    (of_its_plan m made c.in_ok-machine.ensures IsPlan c.files.ensures.kept)
+    (run_buffers_fit w.paced w.buffers w.pipe w.width w.height w.ticks w.frames.now w.log.now (texts w.files.now) c.requires.fits).0
+    c.in_ok-play_run.ensures.run c.in_ok-play_run.ensures.whole c.in_ok-play_run.ensures.counted (
+      c.in_ok-done_line.ensures ∙ (ap (λ (xs : List Entry). end_line asked p xs) c.as_slice.ensures ∙ ap (λ (x : Plan). end_line asked x h)
+          makes),
+      refl,
+    )
 
 pub returns-clause-others : goal.returns-clause-others
 returns-clause-others g c =

@@ -1,4 +1,4 @@
-use Rattle.vz_rows.proofs.plain.played.Given as goal
+use Rattle.vz_rows.proofs.running.left_by_fast.Given as goal
 
 -- the ledger is the new one
 abbrev pub ghosts-counted : goal.ghosts-counted

@@ -1,6 +1,6 @@
 use Rattle.std.proofs.Common.{All}
 use Rattle.vz_rules.specs.Step.{NamesClient}
-use Rattle.vz_rows.proofs.plain.events_of.Given as goal
+use Rattle.vz_rows.proofs.plans.events_of.Given as goal
 
 -- the events so far are of the plan
 abbrev pub invariant-loop-byte : goal.invariant-loop-byte
