@@ -1,8 +1,11 @@
-//! What a case's folder holds, and what the plain machine leaves of it.
-ghost use Rattle.std.specs.Prelude.{◌≡◌, ◌≤◌, All, IfOk};
+//! What a case's folder holds, and what each machine leaves of it.
+ghost use Rattle.std.specs.Prelude.{◌≡◌, ◌≤◌, All, IfOk, length};
 ghost use Rattle.std.specs.List.{list_all};
+ghost use Rattle.vz_base.specs.declared.limits.TheConstants.{MOST_BUFFERS, MOST_FILES};
 ghost use Rattle.vz_frame.specs.Fits.{fits_file};
+ghost use Rattle.vz_geom.specs.Display.{IsDisplaySize};
 ghost use Rattle.vz_rules.specs.Step.{NamesClient};
+ghost use Rattle.vz_rules.specs.World.{opening};
 
 use crate::case::Case;
 use crate::compare::Left;
@@ -10,15 +13,16 @@ use crate::wants::memory;
 use anyhow::{Context, Result, bail};
 use std::fs;
 use std::sync::ledger::Ledger;
+use vz_base::limits::MOST_FILES;
 use vz_buffers::Steps;
 use vz_codec::DecodeError;
 use vz_frame::ClientFile;
+use vz_geom::Size;
+use vz_machine::Machine;
+use vz_manager::Manager;
 use vz_plain_machine::PlainMachine;
 use vz_play::{event_of, is_of_plan, play};
 use vz_rules::{Event, Plan};
-
-/// How many clients a plan has at most.
-const MOST_CLIENTS: usize = 16;
 
 /// Reads what a case must leave.
 pub fn results(rt: &HostRuntime, case: &Case<'_>) -> Result<Left> {
@@ -35,13 +39,54 @@ pub fn results_of_plain<L: Ledger>(
     steps: &mut Steps<L>,
 ) -> Result<Left>
     requires from { 1 ≤ buffers }
-    requires upto { buffers ≤ 4 }
+    requires upto { buffers ≤ MOST_BUFFERS }
 {
     let plan = plan_of(rt, case)?;
     let events = events_of(rt, case, &plan)?;
     let _files = plan.files();
     let machine = PlainMachine::new(rt.alloc(), &plan);
-    let played = memory(play(rt.alloc(), machine, plan.size(), &events, buffers, steps))?;
+    Ok(results_on(rt, machine, plan.size(), &events, buffers, steps)?)
+}
+
+/// Runs the fast machine on a case, with so many buffers.
+pub fn results_of_fast<L: Ledger>(
+    rt: &HostRuntime,
+    case: &Case<'_>,
+    buffers: u32,
+    steps: &mut Steps<L>,
+) -> Result<Left>
+    requires from { 1 ≤ buffers }
+    requires upto { buffers ≤ MOST_BUFFERS }
+{
+    let plan = plan_of(rt, case)?;
+    let events = events_of(rt, case, &plan)?;
+    let _files = plan.files();
+    let size = plan.size();
+    let machine = Manager::open(rt.alloc(), plan)?;
+    Ok(results_on(rt, machine, size, &events, buffers, steps)?)
+}
+
+/// Runs a machine at the opening of its plan, whose size this is, through events, with so many
+/// buffers.
+fn results_on<M: Machine + Drop, L: Ledger>(
+    rt: &HostRuntime,
+    machine: M,
+    size: Size,
+    events: &[Event],
+    buffers: u32,
+    steps: &mut Steps<L>,
+) -> Result<Left>
+where
+    M::FrameData: Drop,
+    requires opening { (M.state machine).world ≡ opening (M.state machine).plan }
+    requires files { length (M.state machine).plan.files ≤ MOST_FILES }
+    requires size { (M.state machine).plan.size ≡ size }
+    requires sides { IsDisplaySize size }
+    requires named { All (NamesClient (M.state machine).plan) events.now }
+    requires from { 1 ≤ buffers }
+    requires upto { buffers ≤ MOST_BUFFERS }
+{
+    let played = memory(play(rt.alloc(), machine, size, events, buffers, steps))?;
     let log = memory(vz_journal::write(rt.alloc(), &played.history, &played.rest))?;
     Ok(Left {
         log: log.into_bytes(),
@@ -55,7 +100,7 @@ fn plan_of(rt: &HostRuntime, case: &Case<'_>) -> Result<Plan> {
     for client in 1..=case.clients {
         memory(files.push(client_file(rt, case, client)?))?;
     }
-    if files.is_empty() || files.len() > MOST_CLIENTS || !all_fit(&files) {
+    if files.is_empty() || files.len() > MOST_FILES || !all_fit(&files) {
         bail!("{}: no plan", case.name);
     }
     match Plan::new(files, case.size) {

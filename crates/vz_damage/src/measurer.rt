@@ -33,7 +33,7 @@ fn seen_damage(damage: &Rect, frame: &Seen<'_>, place: &Place) -> Rect
     ensures value { result ≡ seen_damage damage.now frame.now place.now }
     ensures proper { IsRectangle result }
 {
-    let part = inside_frame(&frame.held().frame, damage);
+    let part = inside_frame(frame.held().frame.frame(), damage);
     place.window().intersect(&moved(&part, place.shift()))
 }
 

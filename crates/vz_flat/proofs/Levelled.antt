@@ -2,9 +2,7 @@
 use Rattle.std.proofs.Common.{◌≡◌, ℕ, zero, suc, ◌+◌, ◌≤◌, ◌==◌, Bool, true, false, ◌||◌, Option, Some, None, List, [], ◌∷◌, length, refl, sym, ◌∙◌, arith}
 use Rattle.std.specs.Prelude.{nat_lt}
 use Rattle.std.specs.List.{list_any}
-use Rattle.std.proofs.lemmas.List.Folds.{list_any-append}
 use Rattle.std.proofs.lemmas.Bool.{eqb-true}
-use Rattle.std.proofs.lemmas.Bool.Decides.{nat_tests}
 use Rattle.std.proofs.lemmas.Int.{ints}
 use Rattle.vz_geom.specs.declared.Point.{Point}
 use Rattle.vz_geom.specs.declared.Size.{Size}
@@ -20,9 +18,9 @@ use Rattle.vz_rules.specs.World.{FrameData, Scene, frame_on}
 use Rattle.vz_rules.specs.Scene.{shown_frame}
 use Rattle.vz_rules.specs.Paint.{Embedding, Content, on_path, is_absent, root_painted, content_at, content_laid, embeds, pix, levels}
 use Rattle.vz_rules.specs.Trace.{trace}
-use Rattle.vz_rules.specs.Walk.{Placement, Visit, Enters, is_deep, whole, range_walked, walk, walk_of, weight, too_much}
+use Rattle.vz_rules.specs.Walk.{Placement, Enters, is_deep, whole, range_walked, walk, walk_of, too_much}
 use Rattle.vz_rules.proofs.Traces.{SkipsZero, trace_shown, laid_zero}
-use Rattle.vz_rules.proofs.Same.{same_shows, HasParts, IsSeen, root_same}
+use Rattle.vz_rules.proofs.Same.{same_shows, IsSeen, root_same}
 use Rattle.vz_rules.proofs.Agree.{embeds_skips, laid_same}
 use Rattle.vz_rules.proofs.Geometry.{same_point}
 use Rattle.vz_rules.proofs.Levels.{Shallow, or_first, or_second, shallow_parts, not_deep, choose, walked_shallow}

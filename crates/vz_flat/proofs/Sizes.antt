@@ -1,5 +1,5 @@
 -- The sizes of accepted frames.
-use Rattle.std.proofs.Common.{◌≡◌, subst, sym, arith}
+use Rattle.std.proofs.Common.{◌≡◌, ap, subst, sym, ◌∙◌, arith}
 use Rattle.std.proofs.lemmas.Int.{ints}
 use Rattle.vz_base.specs.declared.limits.TheConstants.{NEWEST_FORMAT}
 use Rattle.vz_geom.specs.Rectangle.{Rectangle, sized}
@@ -12,9 +12,9 @@ use Rattle.vz_surfaces.specs.Reading.{held_of}
 use Rattle.vz_walk.specs.Limits.{FitsFile, IsInReach}
 use Rattle.vz_walk.proofs.Sides.{frame_sides}
 
--- what is held of a whole frame fits
-pub held_fits : (h : Held) (i : FrameData) → h ≡ held_of i → IsWhole i → FitsFile h.frame
-held_fits h i e fine = subst (λ (x : Held). FitsFile x.frame) (sym e) (NEWEST_FORMAT, fine.frame)
+-- the frame of what is held of a whole frame fits
+pub held_fits : (f : CompositorFrame) (h : Held) (i : FrameData) → f ≡ h.frame → h ≡ held_of i → IsWhole i → FitsFile f
+held_fits f h i own e fine = subst FitsFile (sym (own ∙ ap (λ (x : Held). x.frame) e)) (NEWEST_FORMAT, fine.frame)
 
 -- the rectangle of the size of a frame that fits is in reach
 pub size_in_reach : (f : CompositorFrame) (r : Rectangle) → FitsFile f → r ≡ sized (frame_size f) → IsInReach r

@@ -1,8 +1,7 @@
 -- What the steps of flattening ask of each other, and what they append.
-use Rattle.std.proofs.Common.{◌≡◌, ℕ, zero, suc, ◌+◌, ◌-◌, ◌<◌, ◌≤◌, Some, List, [], ◌∷◌, ◌++◌, drop, length, get_or, reverse, refl, ap, sym, ◌∙◌, subst, arith, append_assoc, append-nil, Contains}
-use Rattle.std.specs.List.{All}
-use Rattle.std.proofs.lemmas.List.{drop_more, drop_all, reverse-append, length-append}
-use Rattle.std.proofs.lemmas.List.Elements.{All-pop}
+use Rattle.std.proofs.Common.{◌≡◌, ℕ, zero, suc, ◌+◌, ◌-◌, ◌<◌, ◌≤◌, ◌==◌, Some, List, [], ◌∷◌, ◌++◌, take, drop, length, get_or, reverse, refl, ap, sym, ◌∙◌, subst, arith, append_assoc, append-nil, Contains}
+use Rattle.std.proofs.lemmas.List.{drop_more, drop_all, reverse-append, take_all}
+use Rattle.std.proofs.lemmas.Grind.{take_at_read}
 use Rattle.vz_geom.specs.declared.Point.{Point}
 use Rattle.vz_geom.specs.Rectangle.{minus, corner}
 use Rattle.vz_ids.specs.declared.SurfaceId.{SurfaceId}
@@ -22,27 +21,22 @@ use Rattle.vz_walk.specs.Limits.{HasRoom, IsPassInReach, IsQuadInReach, coordina
 use Rattle.vz_walk.proofs.Rooms.{room_less, room_minus, place_room, drawn_room}
 use Rattle.vz_flat.specs.declared.op.Op.{Op}
 use Rattle.vz_flat.specs.Parts.{seen_flat}
-use Rattle.vz_flat.specs.Flat.{quads_flat, root_flat, flat}
-use Rattle.vz_flat.specs.Whole.{IsPassWhole}
-use Rattle.vz_flat.specs.Flattening.{Stand, ranges_of, material_here, quads_here}
-
--- Passes that are whole
-
-pub split_whole : (i : FrameData) (passes earlier : List RenderPass) (pass : RenderPass) → passes ≡ earlier ++ pass ∷ []
-    → All (IsPassWhole i) passes → All (IsPassWhole i) earlier × IsPassWhole i pass
-split_whole i passes earlier pass e all = All-pop (IsPassWhole i) passes earlier (Some pass) e all
-
-one_longer : (passes earlier : List RenderPass) (pass : RenderPass) → passes ≡ earlier ++ pass ∷ [] → length passes ≡ length earlier + 1
-one_longer passes earlier pass e = ap length e ∙ length-append earlier (pass ∷ [])
+use Rattle.vz_flat.specs.Flat.{FlatRange, quads_flat, root_flat, range_flat, flat}
+use Rattle.vz_flat.specs.Flattening.{Stand, ranges_of, material_here, quads_here, earlier_of}
 
 -- Room
 
-pub group_room : (levels : ℕ) (place inner : Placement) (n k : ℕ) (pass : RenderPass) → k < n → IsPassInReach pass
+pub group_room : (levels : ℕ) (place inner : Placement) (k : ℕ) (pass : RenderPass) → IsPassInReach pass
     → inner ≡ record place { shift = minus place.shift (corner pass.output) }
-    → HasRoom (room_for levels n + coordinates 1) place.shift → HasRoom (room_for levels (k + 1)) inner.shift
-group_room levels place inner n k pass less reach is room =
+    → HasRoom (room_for levels (k + 1) + coordinates 1) place.shift → HasRoom (room_for levels (k + 1)) inner.shift
+group_room levels place inner k pass reach is room =
     place_room (room_for levels (k + 1)) inner (record place { shift = minus place.shift (corner pass.output) }) is
-    (room_minus (room_for levels n + coordinates 1) (room_for levels (k + 1)) place.shift (corner pass.output) room reach.drawn.first (omega (arith, less)))
+    (room_minus (room_for levels (k + 1) + coordinates 1) (room_for levels (k + 1)) place.shift (corner pass.output) room reach.drawn.first (omega arith))
+
+pub name_room : (levels : ℕ) (p : Point) (k at : ℕ) → at < k → HasRoom (room_for levels k + coordinates 1) p
+    → HasRoom (room_for levels (at + 1) + coordinates 1) p
+name_room levels p k at low room =
+    room_less (room_for levels k + coordinates 1) (room_for levels (at + 1) + coordinates 1) p room (omega (arith, low))
 
 pub quad_room : (levels n : ℕ) (place inner : Placement) (pass : RenderPass) (quad : DrawQuad) → inner ≡ place_in place pass quad
     → IsQuadInReach quad
@@ -50,13 +44,11 @@ pub quad_room : (levels n : ℕ) (place inner : Placement) (pass : RenderPass) (
 quad_room levels n place inner pass quad is reach room =
     place_room (room_for levels n + coordinates 1) inner (place_in place pass quad) is (drawn_room levels n place quad room reach)
 
-pub surface_room : (levels : ℕ) (p : Point) (passes earlier : List RenderPass) (root : RenderPass) → passes ≡ earlier ++ root ∷ []
-    → length passes ≤ 16 → (levels ≡ 0 → ⊥)
-    → HasRoom (room_for levels 0) p → HasRoom (room_for (levels - 1) (length earlier + 1)) p
-surface_room zero p passes earlier root e few some room = absurd (some refl)
-surface_room (suc n) p passes earlier root e few some room =
-    let long = one_longer passes earlier root e in
-    room_less (room_for (suc n) 0) (room_for (suc n - 1) (length earlier + 1)) p room (omega (arith, long, few))
+pub surface_room : (levels : ℕ) (p : Point) (count : ℕ) → 0 < count → count ≤ 16 → (levels ≡ 0 → ⊥)
+    → HasRoom (room_for levels 0) p → HasRoom (room_for (levels - 1) (count - 1 + 1)) p
+surface_room zero p count some few deep room = absurd (deep refl)
+surface_room (suc n) p count some few deep room =
+    room_less (room_for (suc n) 0) (room_for (suc n - 1) (count - 1 + 1)) p room (omega (arith, some, few))
 
 -- Frames
 
@@ -104,24 +96,51 @@ one_more s earlier pass place quads k quad first old new some most is so_far e =
     ∙ ap (λ l. first ++ l)
     (sym (quads_more s earlier pass place quad (drop k quads)) ∙ ap (quads_here s earlier pass place) (sym (split_before quads k quad some most is)))))
 
-root_is : (s : Stand) (passes earlier : List RenderPass) (root : RenderPass) (place : Placement) → passes ≡ earlier ++ root ∷ []
-    → quads_here s earlier root place root.quads ≡ root_flat s.seen (ranges_of s) (reverse passes) place
-unfolding root_flat
-root_is s passes earlier root place e =
-    ap (λ l. root_flat s.seen (ranges_of s) l place) (sym (ap reverse e ∙ reverse-append earlier (root ∷ [])))
+-- the root pass, by its place
+turned : (passes : List RenderPass) (k : ℕ) (root : RenderPass) → k + 1 ≡ length passes → root ≡ get_or passes k root
+    → reverse passes ≡ root ∷ reverse (take k passes)
+turned passes k root e here =
+    ap reverse (sym (take_all (k + 1) passes (omega arith)) ∙ (take_at_read passes k root (omega arith)).1)
+    ∙ (reverse-append (take k passes) (get_or passes k root ∷ []) ∙ ap (λ r. r ∷ reverse (take k passes)) (sym here))
 
-pub surface_is : (levels : ℕ) (active : List FrameData) (path : List SurfaceId) (i : FrameData) (id : SurfaceId) (place : Placement) (passes earlier : List RenderPass) (root : RenderPass) (old new : List Op)
-    → (levels ≡ 0 → ⊥) → id ≡ i.id → passes ≡ i.frame.passes → passes ≡ earlier ++ root ∷ []
-    → new ≡ old ++ quads_here (record { active = active; levels = levels - 1; path = id ∷ path; seen = i }) earlier root place root.quads
+root_is : (s : Stand) (k : ℕ) (root : RenderPass) (place : Placement) → k + 1 ≡ length s.seen.frame.passes
+    → root ≡ get_or s.seen.frame.passes k root
+    → quads_here s (earlier_of s k) root place root.quads ≡ root_flat s.seen (ranges_of s) (reverse s.seen.frame.passes) place
+unfolding root_flat
+root_is s k root place e here = sym (ap (λ l. root_flat s.seen (ranges_of s) l place) (turned s.seen.frame.passes k root e here))
+
+pub surface_is : (levels : ℕ) (active : List FrameData) (path : List SurfaceId) (i : FrameData) (id : SurfaceId) (place : Placement)
+    (passes : List RenderPass) (k : ℕ) (root : RenderPass) (old new : List Op) → (levels ≡ 0 → ⊥) → id ≡ i.id → passes ≡ i.frame.passes
+    → k + 1 ≡ length passes → root ≡ get_or passes k root
+    → new ≡ old ++ quads_here (record { active = active; levels = levels - 1; path = id ∷ path; seen = i }) (take k i.frame.passes) root place root.quads
     → new ≡ old ++ flat levels active path i place
 unfolding flat
-surface_is zero active path i id place passes earlier root old new some same own e is = absurd (some refl)
-surface_is (suc n) active path i id place passes earlier root old new some same own e is =
+surface_is zero active path i id place passes k root old new some same own e here is = absurd (some refl)
+surface_is (suc n) active path i id place passes k root old new some same own e here is =
+    let last : k + 1 ≡ length i.frame.passes = e ∙ ap length own in
+    let there : root ≡ get_or i.frame.passes k root = here ∙ ap (λ l. get_or l k root) own in
+    let earlier = take k i.frame.passes in
     is
     ∙ ap (λ l. old ++ l)
     (ap (λ (m : ℕ). quads_here (record { active = active; levels = m; path = id ∷ path; seen = i }) earlier root place root.quads) (one_less n)
     ∙ (ap (λ (x : SurfaceId). quads_here (record { active = active; levels = n; path = x ∷ path; seen = i }) earlier root place root.quads) same
-    ∙ root_is (record { active = active; levels = n; path = i.id ∷ path; seen = i }) i.frame.passes earlier root place (sym own ∙ e)))
+    ∙ root_is (record { active = active; levels = n; path = i.id ∷ path; seen = i }) k root place last there))
   where
     one_less : (n : ℕ) → suc n - 1 ≡ n
     one_less n = omega arith
+
+no_root : (i : FrameData) (ranges : FlatRange) (passes : List RenderPass) (place : Placement) → length passes ≡ 0
+    → root_flat i ranges (reverse passes) place ≡ []
+unfolding root_flat
+no_root i ranges [] place e = refl
+no_root i ranges (p ∷ ps) place e = absurd (omega arith)
+
+-- a frame without passes draws nothing
+pub no_passes : (levels : ℕ) (active : List FrameData) (path : List SurfaceId) (i : FrameData) (place : Placement) (passes : List RenderPass)
+    (ops : List Op) → passes ≡ i.frame.passes → length passes ≡ 0 → ops ≡ ops ++ flat levels active path i place
+unfolding flat
+no_passes zero active path i place passes ops own e = sym (append-nil ops)
+no_passes (suc n) active path i place passes ops own e =
+    sym
+    (ap (λ l. ops ++ l) (no_root i (range_flat (n == 0) (flat n active) active (i.id ∷ path)) i.frame.passes place (sym (ap length own) ∙ e))
+    ∙ append-nil ops)

@@ -1,5 +1,5 @@
 -- Where flattening stands in a scene.
-use Rattle.std.specs.Prelude.{◌==◌, ℕ, List, reverse}
+use Rattle.std.specs.Prelude.{◌==◌, ℕ, Option, Some, None, List, [], take, reverse, slice_get}
 use Rattle.vz_ids.specs.declared.SurfaceId.{SurfaceId}
 use Rattle.vz_frame.specs.declared.frame.RenderPass.{RenderPass}
 use Rattle.vz_frame.specs.declared.frame.DrawQuad.{DrawQuad}
@@ -7,6 +7,7 @@ use Rattle.vz_frame.specs.declared.blend.Blend.{Blend}
 use Rattle.vz_rules.specs.World.{FrameData}
 use Rattle.vz_rules.specs.Walk.{Placement}
 use Rattle.vz_flat.specs.declared.op.Op.{Op}
+use Rattle.vz_flat.specs.Parts.{inner_place}
 use Rattle.vz_flat.specs.Flat.{FlatNamed, FlatRange, FlatContent, material_flat, quads_flat, group_flat, groups_flat, range_flat, flat}
 
 -- a surface whose frame is flattened, behind the surfaces of a path and with so many surfaces left
@@ -39,3 +40,17 @@ quads_here s earlier pass place quads = quads_flat s.seen (passes_in s earlier) 
 -- what a pass draws here as a group, over these
 abbrev pub group_here : Stand → List RenderPass → RenderPass → Blend → ℕ → Placement → List Op
 group_here s earlier pass m o place = group_flat s.seen (passes_in s earlier) (ranges_of s) pass m o place
+
+-- the passes before a place
+abbrev pub earlier_of : Stand → ℕ → List RenderPass
+earlier_of s k = take k s.seen.frame.passes
+
+-- what a pass, if one is given, draws here as a group, over those before a place
+abbrev pub group_in : Stand → ℕ → Blend → ℕ → Placement → Option RenderPass → List Op
+group_in s k m o place None = []
+group_in s k m o place (Some pass) = group_here s (earlier_of s k) pass m o (inner_place pass place)
+
+-- what the pass at a place, if one is given, draws here as a group
+abbrev pub group_at : Stand → Blend → ℕ → Placement → Option ℕ → List Op
+group_at s m o place None = []
+group_at s m o place (Some k) = group_in s k m o place (slice_get s.seen.frame.passes k)

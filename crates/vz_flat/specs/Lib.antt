@@ -6,4 +6,3 @@ pub mod Gutters
 pub mod Flat
 pub mod Whole
 pub mod Flattening
-pub mod Passes

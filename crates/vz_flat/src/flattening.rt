@@ -1,25 +1,25 @@
 //! Surfaces, passes and quads as operations, each appended to one list.
-ghost use Rattle.std.specs.Prelude.{◌≡◌, ◌++◌, ◌+◌, length, OnOk};
-ghost use Rattle.std.specs.List.{All};
+ghost use Rattle.std.specs.Prelude.{◌≡◌, ◌++◌, ◌+◌, ◌<◌, Some, length, slice_get, OnOk};
+ghost use Rattle.vz_frame.specs.declared.frame.RenderPass.{RenderPass as Pass};
+ghost use Rattle.vz_frame.specs.declared.frame.DrawQuad.{DrawQuad as Quad};
 ghost use Rattle.vz_rules.specs.Kept.{IsWhole};
-ghost use Rattle.vz_rules.specs.Paint.{is_straight};
 ghost use Rattle.vz_rules.specs.Walk.{place_in};
 ghost use Rattle.vz_surfaces.specs.Reading.{seen_frames};
 ghost use Rattle.vz_surfaces.specs.Keeping.{KeepsStored, KeepsFrames};
+ghost use Rattle.vz_surfaces.specs.Names.{place_named};
 ghost use Rattle.vz_walk.specs.Limits.{HasRoom, IsPassInReach, coordinates, room_for};
 ghost use Rattle.vz_walk.specs.Walking.{ids};
 ghost use Rattle.vz_flat.specs.Flat.{content_flat, shown_flat, flat};
 ghost use Rattle.vz_flat.specs.Whole.{IsQuadWhole, IsPassWhole};
 ghost use Rattle.vz_flat.specs.Parts.{seen_flat};
-ghost use Rattle.vz_flat.specs.Flattening.{embedded, ranges_of, passes_in};
-ghost use Rattle.vz_flat.specs.Flattening.{material_here, quads_here, group_here};
+ghost use Rattle.vz_flat.specs.Flattening.{embedded, ranges_of, earlier_of};
+ghost use Rattle.vz_flat.specs.Flattening.{material_here, quads_here, group_here, group_at};
 
 use crate::Op;
 use crate::gutter::put_gutter;
-use crate::passes::pass_named;
 use crate::put::put;
-use crate::surface::{present_place, surface_place};
-use crate::tile::put_tile;
+use crate::surface::{is_straight, present_place, surface_place};
+use crate::tile::{block_at, put_tile};
 use std::marker::Model;
 use vz_base::Memory;
 use vz_frame::{Blend, DrawQuad, List, Material, RenderPass};
@@ -58,17 +58,6 @@ impl<'b, 's> Model for Flattener<'b, 's> {
         × IsWhole f.seen.now };
 }
 
-/// Whether a colour is laid as it is: over another, at the full opacity.
-fn is_straight(mode: Blend, opacity: u8) -> bool
-    ensures { result ≡ is_straight mode opacity }
-{
-    match mode {
-        Blend::Over => opacity == 255,
-        Blend::Src => false,
-        Blend::DstIn => false,
-    }
-}
-
 /// Appends what a surface draws, behind the surfaces of a path and with so many surfaces left.
 /// Conditions: what always holds is kept, the surface's frame is whole, and the place has room
 /// for the passes of all surfaces that are left.
@@ -102,84 +91,106 @@ pub(crate) fn surface<'s>(
         path: &behind,
         seen: &*seen,
     };
-    match seen.held().frame.passes.as_slice().split_last() {
-        None => Ok(()),
-        Some((root, earlier)) => {
-            flattener.pass(earlier, root, place, ops)?;
-            Ok(())
-        }
+    let passes = flattener.passes();
+    let count = passes.len();
+    if count == 0 {
+        return Ok(());
     }
+    let last = count - 1;
+    flattener.pass(last, &passes[last], place, ops)?;
+    Ok(())
 }
 
 impl<'b, 's> Flattener<'b, 's> {
-    /// Appends what a pass draws at a place, over the earlier passes. Conditions: the passes are
-    /// whole, and the place has room for them and the surfaces that are left.
+    /// The passes of the surface's frame, which is whole.
+    fn passes(&self) -> &[RenderPass]
+        ensures own { result.now ≡ self.now.seen.frame.passes }
+        ensures whole { IsWhole self.now.seen }
+    {
+        self.seen.held().frame.frame().passes.as_slice()
+    }
+
+    /// The place to which the name in a quad leads, by the places of its pass and of the quad.
+    fn place_named(&self, pass: usize, quad: usize) -> Option<usize>
+        ensures { (p : Pass) (q : Quad) → slice_get self.now.seen.frame.passes pass ≡ Some p
+            → slice_get p.quads quad ≡ Some q → result ≡ place_named self.now.seen.frame pass q }
+    {
+        self.seen.held().frame.place_named(pass, quad)
+    }
+
+    /// Appends what the pass at a place of the frame draws, over the earlier ones. Conditions: it
+    /// is there, it is whole, and the place has room for those up to it and the surfaces that are
+    /// left.
     #[cycle(flatten)]
     fn pass(
         &self,
-        earlier: &[RenderPass],
+        k: usize,
         pass: &RenderPass,
         place: &Place,
         ops: &mut List<Op>,
     ) -> Result<(), Memory>
-        requires earlier { All (IsPassWhole self.now.seen) earlier.now }
+        requires there { slice_get self.now.seen.frame.passes k ≡ Some pass.now }
         requires whole { IsPassWhole self.now.seen pass.now }
-        requires room { HasRoom (room_for self.now.levels (length earlier.now + 1))
-            place.now.shift }
+        requires room { HasRoom (room_for self.now.levels (k + 1)) place.now.shift }
         ensures { OnOk result (ops.new ≡ ops.old
-            ++ quads_here self.now earlier.now pass.now place.now pass.now.quads) }
+            ++ quads_here self.now (earlier_of self.now k) pass.now place.now pass.now.quads) }
     {
         let quads = pass.quads.as_slice();
-        let mut k = quads.len();
-        while k > 0 {
-            k -= 1;
-            self.quad(earlier, pass, &quads[k], place, ops)?;
+        let mut n = quads.len();
+        while n > 0 {
+            n -= 1;
+            let leads_to = self.place_named(k, n);
+            self.quad(k, pass, &quads[n], leads_to, place, ops)?;
         }
         Ok(())
     }
 
-    /// Appends what a quad of a pass draws, where it is seen.
+    /// Appends what a quad of the pass at a place draws, where it is seen. Condition: this is
+    /// where its name leads.
     #[cycle(flatten)]
     fn quad(
         &self,
-        earlier: &[RenderPass],
+        k: usize,
         pass: &RenderPass,
         quad: &DrawQuad,
+        leads_to: Option<usize>,
         place: &Place,
         ops: &mut List<Op>,
     ) -> Result<(), Memory>
-        requires earlier { All (IsPassWhole self.now.seen) earlier.now }
+        requires there { k < length self.now.seen.frame.passes }
         requires reach { IsPassInReach pass.now }
         requires whole { IsQuadWhole self.now.seen quad.now }
-        requires room { HasRoom (room_for self.now.levels (length earlier.now + 1))
-            place.now.shift }
+        requires named { leads_to ≡ place_named self.now.seen.frame k quad.now }
+        requires room { HasRoom (room_for self.now.levels (k + 1)) place.now.shift }
         ensures { OnOk result (ops.new ≡ ops.old
             ++ seen_flat (place_in place.now pass.now quad.now).window
-            (material_here self.now earlier.now quad.now (place_in place.now pass.now quad.now))) }
+            (material_here self.now (earlier_of self.now k) quad.now
+            (place_in place.now pass.now quad.now))) }
     {
         let inner = place.place_in(pass, quad);
         if inner.window().is_empty() {
             return Ok(());
         }
-        self.material(earlier, quad, &inner, ops)?;
+        self.material(k, quad, leads_to, &inner, ops)?;
         Ok(())
     }
 
-    /// Appends what a quad draws at its place.
+    /// Appends what a quad of the pass at a place draws at its own place.
     #[tactic(auto, unfolding(crate::specs::Flat::material_flat))]
     #[cycle(flatten)]
     fn material(
         &self,
-        earlier: &[RenderPass],
+        k: usize,
         quad: &DrawQuad,
+        leads_to: Option<usize>,
         place: &Place,
         ops: &mut List<Op>,
     ) -> Result<(), Memory>
-        requires earlier { All (IsPassWhole self.now.seen) earlier.now }
-        requires room { HasRoom (room_for self.now.levels (length earlier.now) + coordinates 1)
-            place.now.shift }
+        requires there { k < length self.now.seen.frame.passes }
+        requires named { leads_to ≡ place_named self.now.seen.frame k quad.now }
+        requires room { HasRoom (room_for self.now.levels k + coordinates 1) place.now.shift }
         ensures { OnOk result (ops.new
-            ≡ ops.old ++ material_here self.now earlier.now quad.now place.now) }
+            ≡ ops.old ++ material_here self.now (earlier_of self.now k) quad.now place.now) }
     {
         let blend = quad.blend;
         let opacity = quad.opacity;
@@ -197,66 +208,66 @@ impl<'b, 's> Flattener<'b, 's> {
                 )?;
                 Ok(())
             }
-            Material::Tile { resource, tx, ty } => {
-                put_tile(ops, self.seen, resource, tx, ty, blend, opacity, place)?;
+            Material::Tile { tx, ty, .. } => {
+                let blocks = self.seen.held().blocks.as_slice();
+                let block = block_at(blocks, leads_to);
+                put_tile(ops, block, tx, ty, blend, opacity, place)?;
                 Ok(())
             }
             Material::Surface { range, background } => {
                 self.range(&range, background, blend, opacity, place, ops)?;
                 Ok(())
             }
-            Material::Pass(id) => {
-                self.named(earlier, id, blend, opacity, place, ops)?;
-                Ok(())
-            }
+            Material::Pass(_) => match leads_to {
+                None => Ok(()),
+                Some(at) => {
+                    self.named(at, blend, opacity, place, ops)?;
+                    Ok(())
+                }
+            },
         }
     }
 
-    /// Appends what the pass of an id draws as a group, over the earlier ones.
+    /// Appends what the pass at a place of the frame draws as a group. Conditions: it is there,
+    /// and the group's place has room for those up to it and the surfaces that are left.
     #[cycle(flatten)]
     fn named(
         &self,
-        passes: &[RenderPass],
-        id: u32,
+        k: usize,
         mode: Blend,
         opacity: u8,
         place: &Place,
         ops: &mut List<Op>,
     ) -> Result<(), Memory>
-        requires whole { All (IsPassWhole self.now.seen) passes.now }
-        requires room { HasRoom (room_for self.now.levels (length passes.now) + coordinates 1)
+        requires there { k < length self.now.seen.frame.passes }
+        requires room { HasRoom (room_for self.now.levels (k + 1) + coordinates 1)
             place.now.shift }
         ensures { OnOk result (ops.new
-            ≡ ops.old ++ passes_in self.now passes.now id mode opacity place.now) }
+            ≡ ops.old ++ group_at self.now mode opacity place.now (Some k)) }
     {
-        match pass_named(passes, id) {
-            None => Ok(()),
-            Some((pass, earlier)) => {
-                let inner = place.inside(pass);
-                self.group(earlier, pass, mode, opacity, &inner, ops)?;
-                Ok(())
-            }
-        }
+        let pass = &self.passes()[k];
+        let inner = place.inside(pass);
+        self.group(k, pass, mode, opacity, &inner, ops)?;
+        Ok(())
     }
 
-    /// Appends what a pass draws as a group, where it has points.
+    /// Appends what the pass at a place of the frame draws as a group, where it has points.
     #[tactic(auto, unfolding(crate::specs::Flat::group_flat))]
     #[cycle(flatten)]
     fn group(
         &self,
-        earlier: &[RenderPass],
+        k: usize,
         pass: &RenderPass,
         mode: Blend,
         opacity: u8,
         place: &Place,
         ops: &mut List<Op>,
     ) -> Result<(), Memory>
-        requires earlier { All (IsPassWhole self.now.seen) earlier.now }
+        requires there { slice_get self.now.seen.frame.passes k ≡ Some pass.now }
         requires whole { IsPassWhole self.now.seen pass.now }
-        requires room { HasRoom (room_for self.now.levels (length earlier.now + 1))
-            place.now.shift }
-        ensures { OnOk result (ops.new
-            ≡ ops.old ++ group_here self.now earlier.now pass.now mode opacity place.now) }
+        requires room { HasRoom (room_for self.now.levels (k + 1)) place.now.shift }
+        ensures { OnOk result (ops.new ≡ ops.old
+            ++ group_here self.now (earlier_of self.now k) pass.now mode opacity place.now) }
     {
         let output = moved(&pass.output, place.shift());
         let area = place.window().intersect(&output);
@@ -271,7 +282,7 @@ impl<'b, 's> Flattener<'b, 's> {
                 blend: mode,
             },
         )?;
-        self.pass(earlier, pass, place, ops)?;
+        self.pass(k, pass, place, ops)?;
         put(ops, Op::Pop)?;
         Ok(())
     }

@@ -6,7 +6,6 @@ mod gutter;
 pub mod laws;
 mod nesting;
 mod op;
-mod passes;
 mod put;
 mod scene;
 mod surface;

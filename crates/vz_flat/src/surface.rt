@@ -1,10 +1,12 @@
-//! The part of the display in which a surface has points.
+//! The part of the display in which a surface has points, and whether it is laid as it is.
 ghost use Rattle.std.specs.Prelude.{◌≡◌};
 ghost use Rattle.vz_rules.specs.Kept.{IsWhole};
+ghost use Rattle.vz_rules.specs.Paint.{is_straight};
 ghost use Rattle.vz_walk.specs.Limits.{HasRoom};
 ghost use Rattle.vz_flat.specs.Parts.{surface_place};
 ghost use Rattle.vz_flat.specs.Flat.{present_place};
 
+use vz_frame::Blend;
 use vz_ids::SurfaceRange;
 use vz_surfaces::Seen;
 use vz_walk::{Place, frame_rect, moved};
@@ -15,7 +17,7 @@ pub(crate) fn surface_place(seen: &Seen<'_>, place: &Place) -> Place
     requires room { HasRoom 0 place.now.shift }
     ensures { result ≡ surface_place seen.now place.now }
 {
-    let size = frame_rect(&seen.held().frame);
+    let size = frame_rect(seen.held().frame.frame());
     let part = moved(&size, place.shift());
     place.within(&part)
 }
@@ -31,5 +33,16 @@ pub(crate) fn present_place(range: &SurfaceRange, seen: &Seen<'_>, place: &Place
         surface_place(seen, place)
     } else {
         *place
+    }
+}
+
+/// Whether a colour is laid as it is: over another, at the full opacity.
+pub(crate) fn is_straight(mode: Blend, opacity: u8) -> bool
+    ensures { result ≡ is_straight mode opacity }
+{
+    match mode {
+        Blend::Over => opacity == 255,
+        Blend::Src => false,
+        Blend::DstIn => false,
     }
 }

@@ -2,35 +2,17 @@
 ghost use Rattle.std.specs.Prelude.{◌≡◌, ◌++◌, OnOk};
 ghost use Rattle.std.specs.Option.{option_copied};
 ghost use Rattle.vz_geom.specs.Rectangle.{corner, IsNear};
-ghost use Rattle.vz_rules.specs.Paint.{block_of};
+ghost use Rattle.vz_surfaces.specs.Names.{block_at};
 ghost use Rattle.vz_walk.specs.Limits.{HasRoom};
-ghost use Rattle.vz_flat.specs.Tiles.{first_texel, tile_flat};
+ghost use Rattle.vz_flat.specs.Tiles.{first_texel, texels_flat};
 
 use crate::Op;
 use crate::put::put;
 use vz_base::Memory;
-use vz_frame::{Blend, List, Listing};
+use vz_frame::{Blend, List};
 use vz_geom::{Point, Rect};
 use vz_pixels::{Pixel, PixelBlock};
-use vz_surfaces::Seen;
 use vz_walk::Place;
-
-/// The block of a listed resource.
-fn block_of<'a>(id: u32, listings: &[Listing], blocks: &'a [PixelBlock]) -> Option<&'a PixelBlock>
-    ensures { option_copied result ≡ block_of id listings.now blocks.now }
-{
-    let Some((listing, other_listings)) = listings.split_first() else {
-        return None;
-    };
-    let Some((block, others)) = blocks.split_first() else {
-        return None;
-    };
-    if listing.id == id {
-        Some(block)
-    } else {
-        block_of(id, other_listings, others)
-    }
-}
 
 /// The first point of a rectangle.
 fn corner(r: &Rect) -> Point
@@ -55,12 +37,21 @@ fn first_texel(tx: u16, ty: u16, place: &Place) -> Point
     }
 }
 
-/// The operation of a tile whose texel `(tx, ty)` stands at its first point.
-#[tactic(auto, unfolding(crate::specs::Tiles::tile_flat))]
+/// The block at a place, if there is one.
+pub(crate) fn block_at(blocks: &[PixelBlock], place: Option<usize>) -> Option<&PixelBlock>
+    ensures { option_copied result ≡ block_at place blocks.now }
+{
+    match place {
+        None => None,
+        Some(k) => blocks.get(k),
+    }
+}
+
+/// The operation of a tile whose texel `(tx, ty)` stands at its first point, of a block, or of
+/// transparent where there is none.
 pub(crate) fn put_tile(
     ops: &mut List<Op>,
-    seen: &Seen<'_>,
-    id: u32,
+    block: Option<&PixelBlock>,
     tx: u16,
     ty: u16,
     mode: Blend,
@@ -68,11 +59,11 @@ pub(crate) fn put_tile(
     place: &Place,
 ) -> Result<(), Memory>
     requires { HasRoom 0 place.now.shift }
-    ensures { OnOk result (ops.new ≡ ops.old ++ tile_flat seen.now id tx ty mode opacity place.now) }
+    ensures { OnOk result (ops.new ≡ ops.old ++ texels_flat (option_copied block.entry)
+        (first_texel tx ty place.now) mode opacity place.now.window) }
 {
-    let held = seen.held();
     let area = place.window();
-    match block_of(id, held.frame.resources.as_slice(), held.blocks.as_slice()) {
+    match block {
         None => {
             put(
                 ops,

@@ -29,7 +29,7 @@ impl Visitor for Flyer {
 
     fn enters(&mut self, _: u32, frame: &Seen<'_>, _: &Place) -> bool {
         let held = frame.held();
-        let listings = held.frame.resources.as_slice();
+        let listings = held.frame.frame().resources.as_slice();
         self.roster.note(held.sub, listings).is_ok()
     }
 }

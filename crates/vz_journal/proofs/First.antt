@@ -1,8 +1,8 @@
 -- The entry that a text begins with.
-use Rattle.std.proofs.Common.{◌≡◌, ℕ, ◌+◌, ◌-◌, ◌≤◌, List, [], ◌∷◌, ◌++◌, length, drop, Option, Some, None, refl, sym, ap, ◌∙◌, subst, arith}
+use Rattle.std.proofs.Common.{◌≡◌, ℕ, ◌-◌, ◌≤◌, List, [], ◌∷◌, ◌++◌, length, drop, Some, None, refl, sym, ap, ◌∙◌, subst, arith}
 use Rattle.std.proofs.lemmas.List.{length-append}
 use Rattle.vz_rules.specs.declared.entry.Entry.{Entry}
-use Rattle.vz_rules.specs.Log.{entry_text, has_text_entry}
+use Rattle.vz_rules.specs.Log.{entry_text}
 use Rattle.vz_journal.specs.Answers.{IsFirstEntry}
 use Rattle.vz_journal.specs.Reading.{entry_at}
 use Rattle.vz_journal.proofs.Took_lines as took

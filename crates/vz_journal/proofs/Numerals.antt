@@ -14,6 +14,13 @@ digit_bounds b h =
 is_digit_of : (b : ℕ) → 48 ≤ b → b ≤ 57 → is_digit b ≡ true
 is_digit_of b low high = and_from (leb 48 b) (leb b 57) (le-leb 48 b low) (le-leb b 57 high)
 
+-- a number of two digits behind a text, digit by digit
+pub two_digits : (n : ℕ) (old more : List ℕ) → 10 ≤ n → n < 100 → more ≡ old ++ decimal (n / 10) → more ++ decimal (n % 10) ≡ old ++ decimal n
+two_digits n old more some low e =
+    let last : decimal n ≡ decimal (n / 10) ++ decimal (n % 10) =
+    decimal_step n some (omega arith) ∙ ap (λ t. decimal (n / 10) ++ t) (sym (decimal_digit (n % 10) (omega arith))) in
+    ap (λ t. t ++ decimal (n % 10)) e ∙ append_assoc old (decimal (n / 10)) (decimal (n % 10)) ∙ ap (λ t. old ++ t) (sym last)
+
 -- one digit more
 longer : (n b : ℕ) → 0 < n → n ≤ 4294967295 → is_digit b ≡ true → decimal (with_digit n b) ≡ decimal n ++ b ∷ []
 longer n b some low h =

@@ -1,12 +1,14 @@
 //! Writes a history and what is still out as the text of a log.
-ghost use Rattle.std.specs.Prelude.{◌≡◌, [], ◌∷◌, ◌++◌, map, nat_abs, string_bytes, codes};
+ghost use Rattle.std.specs.Prelude.{◌≡◌, ◌<◌, [], ◌∷◌, ◌++◌, map, nat_abs, string_bytes, codes};
 ghost use Rattle.std.specs.Prelude.{IfOk, OnOk};
+ghost use Rattle.std.specs.Fmt.{decimal};
 ghost use Rattle.std.specs.List.{flat_map};
 ghost use Rattle.vz_journal.specs.Appending.{IsAppended};
 ghost use Rattle.vz_rules.specs.Log.{log_text, entry_text, event_text, reply_text, refusal_text};
 ghost use Rattle.vz_rules.specs.Log.{effects_text, activated_text, destroyed_text, returned_text};
 ghost use Rattle.vz_rules.specs.Log.{fed_text, held_text, open_text, rule_number as rule_number_of};
 
+use itoa::Buffer;
 use std::alloc::{AllocError, Global};
 use vz_base::Memory;
 use vz_frame::{List, Rule};
@@ -48,10 +50,50 @@ pub(crate) fn push_entry(out: &mut String, entry: &Entry) -> Result<(), AllocErr
     ensures { OnOk result (IsAppended out.old out.new (entry_text entry.now)) }
 {
     push_event(out, entry.event)?;
-    out.push_str(" ")?;
     push_reply(out, &entry.reply)?;
     push_effects(out, &entry.effects)?;
     out.push_str("\n")
+}
+
+/// A word, and a number behind it. A word that is known at the call is stored there at once.
+#[inline(always)]
+fn push_number(out: &mut String, word: &str, number: u32) -> Result<(), AllocError>
+    ensures { OnOk result (IsAppended out.old out.new (word.now ++ decimal number)) }
+{
+    out.push_str(word)?;
+    push_decimal(out, number)
+}
+
+/// A number in decimal. That of a client, which stands in nearly each line, has two digits at most.
+#[inline(never)]
+fn push_decimal(out: &mut String, number: u32) -> Result<(), AllocError>
+    ensures { OnOk result (IsAppended out.old out.new (decimal number)) }
+{
+    if number < 10 {
+        return push_digit(out, number);
+    }
+    if number < 100 {
+        push_digit(out, number / 10)?;
+        return push_digit(out, number % 10);
+    }
+    push_longer(out, number)
+}
+
+#[tactic(auto, using(std::proofs::lemmas::Fmt::decimal_digit))]
+#[inline(always)]
+fn push_digit(out: &mut String, digit: u32) -> Result<(), AllocError>
+    requires { digit < 10 }
+    ensures { OnOk result (IsAppended out.old out.new (decimal digit)) }
+{
+    out.push(char::from(b'0' + digit as u8))
+}
+
+#[inline(never)]
+fn push_longer(out: &mut String, number: u32) -> Result<(), AllocError>
+    ensures { OnOk result (IsAppended out.old out.new (decimal number)) }
+{
+    let mut digits = Buffer::new();
+    out.push_str(digits.format(number))
 }
 
 #[tactic(auto, unfolding(vz_rules::specs::Log::event_text))]
@@ -59,7 +101,7 @@ fn push_event(out: &mut String, event: Event) -> Result<(), AllocError>
     ensures { OnOk result (IsAppended out.old out.new (event_text event)) }
 {
     match event {
-        Event::Client(client) => write!(out, "c{client}"),
+        Event::Client(client) => push_number(out, "c", client),
         Event::Begin => out.push_str("begin"),
         Event::Draw => out.push_str("draw"),
         Event::Done => out.push_str("done"),
@@ -69,59 +111,70 @@ fn push_event(out: &mut String, event: Event) -> Result<(), AllocError>
 
 #[tactic(auto, unfolding(vz_rules::specs::Log::reply_text))]
 fn push_reply(out: &mut String, reply: &Reply) -> Result<(), AllocError>
-    ensures { OnOk result (IsAppended out.old out.new (reply_text reply.now)) }
+    ensures { OnOk result (IsAppended out.old out.new (32 ∷ reply_text reply.now)) }
 {
     match reply {
-        Reply::Stored => out.push_str("stored"),
-        Reply::Accepted { ordinal, index } => write!(out, "accepted {ordinal} {index}"),
-        Reply::Noted => out.push_str("noted"),
+        Reply::Stored => out.push_str(" stored"),
+        Reply::Accepted { ordinal, index } => push_accepted(out, *ordinal, *index),
+        Reply::Noted => out.push_str(" noted"),
         Reply::Reclaimed(returns) => push_reclaimed(out, returns.as_slice()),
-        Reply::Rooted => out.push_str("rooted"),
-        Reply::Joined => out.push_str("joined"),
-        Reply::Began(number) => write!(out, "began {number}"),
-        Reply::Over => out.push_str("over"),
-        Reply::Left => out.push_str("left"),
+        Reply::Rooted => out.push_str(" rooted"),
+        Reply::Joined => out.push_str(" joined"),
+        Reply::Began(number) => push_number(out, " began ", *number),
+        Reply::Over => out.push_str(" over"),
+        Reply::Left => out.push_str(" left"),
         Reply::Refused(refusal) => push_refused(out, *refusal),
-        Reply::Ticked(number) => write!(out, "ticked {number}"),
+        Reply::Ticked(number) => push_number(out, " ticked ", *number),
         Reply::Drawn(damage) => push_drawn(out, damage),
-        Reply::Unchanged => out.push_str("unchanged"),
-        Reply::NoRoot => out.push_str("noroot"),
-        Reply::TooMuch => out.push_str("toomuch"),
-        Reply::Busy => out.push_str("busy"),
-        Reply::Shown => out.push_str("shown"),
-        Reply::Nothing => out.push_str("nothing"),
-        Reply::Ended => out.push_str("ended"),
+        Reply::Unchanged => out.push_str(" unchanged"),
+        Reply::NoRoot => out.push_str(" noroot"),
+        Reply::TooMuch => out.push_str(" toomuch"),
+        Reply::Busy => out.push_str(" busy"),
+        Reply::Shown => out.push_str(" shown"),
+        Reply::Nothing => out.push_str(" nothing"),
+        Reply::Ended => out.push_str(" ended"),
     }
 }
 
 #[tactic(auto, unfolding(vz_rules::specs::Log::reply_text))]
-fn push_reclaimed(out: &mut String, returns: &[Returned]) -> Result<(), AllocError>
-    ensures { OnOk result (IsAppended out.old out.new (reply_text (Reply.Reclaimed returns.now))) }
+fn push_accepted(out: &mut String, ordinal: u32, index: u32) -> Result<(), AllocError>
+    ensures { OnOk result
+        (IsAppended out.old out.new (32 ∷ reply_text (Reply.Accepted ordinal index))) }
 {
-    out.push_str("reclaimed")?;
+    push_number(out, " accepted ", ordinal)?;
+    push_number(out, " ", index)
+}
+
+#[tactic(auto, unfolding(vz_rules::specs::Log::reply_text))]
+fn push_reclaimed(out: &mut String, returns: &[Returned]) -> Result<(), AllocError>
+    ensures { OnOk result
+        (IsAppended out.old out.new (32 ∷ reply_text (Reply.Reclaimed returns.now))) }
+{
+    out.push_str(" reclaimed")?;
     for back in returns {
-        write!(out, " {}x{}", back.id, back.count)?;
+        push_number(out, " ", back.id)?;
+        push_number(out, "x", back.count)?;
     }
     Ok(())
 }
 
 #[tactic(auto, unfolding(vz_rules::specs::Log::refusal_text, vz_rules::specs::Log::rule_number))]
 fn push_refused(out: &mut String, refusal: Refusal) -> Result<(), AllocError>
-    ensures { OnOk result (IsAppended out.old out.new (codes "refused " ++ refusal_text refusal)) }
+    ensures { OnOk result (IsAppended out.old out.new (codes " refused " ++ refusal_text refusal)) }
 {
     match refusal {
-        Refusal::AlreadyClosed => out.push_str("refused 1"),
-        Refusal::Malformed(rule) => write!(out, "refused 2 {}", rule_number(rule)),
-        Refusal::UnknownResource => out.push_str("refused 3"),
-        Refusal::InvariantsViolation => out.push_str("refused 4"),
-        Refusal::SizeMismatch => out.push_str("refused 5"),
-        Refusal::InUse => out.push_str("refused 6"),
-        Refusal::NotRoot => out.push_str("refused 7"),
-        Refusal::Loop => out.push_str("refused 8"),
-        Refusal::UnknownSink => out.push_str("refused 9"),
-        Refusal::ParentOfOther => out.push_str("refused 10"),
-        Refusal::NotYet => out.push_str("refused 11"),
-        Refusal::NoMessage => out.push_str("refused 12"),
+        Refusal::AlreadyClosed => out.push_str(" refused 1"),
+        Refusal::Malformed(rule) => push_number(out, " refused 2 ", rule_number(rule)),
+        Refusal::UnknownResource => out.push_str(" refused 3"),
+        Refusal::InvariantsViolation => out.push_str(" refused 4"),
+        Refusal::SizeMismatch => out.push_str(" refused 5"),
+        Refusal::InUse => out.push_str(" refused 6"),
+        Refusal::NotRoot => out.push_str(" refused 7"),
+        Refusal::Loop => out.push_str(" refused 8"),
+        Refusal::UnknownSink => out.push_str(" refused 9"),
+        Refusal::ParentOfOther => out.push_str(" refused 10"),
+        Refusal::NotYet => out.push_str(" refused 11"),
+        Refusal::NoMessage => out.push_str(" refused 12"),
     }
 }
 
@@ -146,10 +199,14 @@ fn rule_number(rule: Rule) -> u32
 
 #[tactic(auto, unfolding(vz_rules::specs::Log::reply_text))]
 fn push_drawn(out: &mut String, damage: &Rect) -> Result<(), AllocError>
-    ensures { OnOk result (IsAppended out.old out.new (reply_text (Reply.Drawn damage.now))) }
+    ensures { OnOk result
+        (IsAppended out.old out.new (32 ∷ reply_text (Reply.Drawn damage.now))) }
 {
     let [x, y, w, h] = numbers_of(damage);
-    write!(out, "drawn {x} {y} {w} {h}")
+    push_number(out, " drawn ", x)?;
+    push_number(out, " ", y)?;
+    push_number(out, " ", w)?;
+    push_number(out, " ", h)
 }
 
 /// Its numbers as they are printed, without signs: a drawn damage has none.
@@ -179,7 +236,8 @@ fn push_activated(out: &mut String, subs: &[Sub]) -> Result<(), AllocError>
     ensures { OnOk result (IsAppended out.old out.new (flat_map activated_text subs.now)) }
 {
     for sub in subs {
-        write!(out, " +{}.{}", sub.client, sub.ordinal)?;
+        push_number(out, " +", sub.client)?;
+        push_number(out, ".", sub.ordinal)?;
     }
     Ok(())
 }
@@ -188,7 +246,8 @@ fn push_destroyed(out: &mut String, surfaces: &[Lost]) -> Result<(), AllocError>
     ensures { OnOk result (IsAppended out.old out.new (flat_map destroyed_text surfaces.now)) }
 {
     for lost in surfaces {
-        write!(out, " x{}.{}", lost.client, lost.surface)?;
+        push_number(out, " x", lost.client)?;
+        push_number(out, ".", lost.surface)?;
     }
     Ok(())
 }
@@ -197,7 +256,9 @@ fn push_returned(out: &mut String, returns: &[Returned]) -> Result<(), AllocErro
     ensures { OnOk result (IsAppended out.old out.new (flat_map returned_text returns.now)) }
 {
     for back in returns {
-        write!(out, " <{}.{}x{}", back.client, back.id, back.count)?;
+        push_number(out, " <", back.client)?;
+        push_number(out, ".", back.id)?;
+        push_number(out, "x", back.count)?;
     }
     Ok(())
 }
@@ -206,8 +267,9 @@ fn push_fed(out: &mut String, feedback: &[Fed]) -> Result<(), AllocError>
     ensures { OnOk result (IsAppended out.old out.new (flat_map fed_text feedback.now)) }
 {
     for fed in feedback {
-        let letter = if fed.presented { 'p' } else { 'd' };
-        write!(out, " {letter}{}.{}", fed.sub.client, fed.sub.ordinal)?;
+        let before = if fed.presented { " p" } else { " d" };
+        push_number(out, before, fed.sub.client)?;
+        push_number(out, ".", fed.sub.ordinal)?;
     }
     Ok(())
 }
@@ -216,11 +278,10 @@ fn push_held(out: &mut String, held: &[Returned]) -> Result<(), AllocError>
     ensures { OnOk result (IsAppended out.old out.new (flat_map held_text held.now)) }
 {
     for reference in held {
-        writeln!(
-            out,
-            "held {}.{}x{}",
-            reference.client, reference.id, reference.count
-        )?;
+        push_number(out, "held ", reference.client)?;
+        push_number(out, ".", reference.id)?;
+        push_number(out, "x", reference.count)?;
+        out.push_str("\n")?;
     }
     Ok(())
 }
@@ -229,7 +290,9 @@ fn push_open(out: &mut String, unfed: &[Sub]) -> Result<(), AllocError>
     ensures { OnOk result (IsAppended out.old out.new (flat_map open_text unfed.now)) }
 {
     for sub in unfed {
-        writeln!(out, "open {}.{}", sub.client, sub.ordinal)?;
+        push_number(out, "open ", sub.client)?;
+        push_number(out, ".", sub.ordinal)?;
+        out.push_str("\n")?;
     }
     Ok(())
 }

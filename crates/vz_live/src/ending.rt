@@ -16,7 +16,7 @@ pub(crate) fn listings_of(held: Option<&Held>) -> &[Listing]
 {
     match held {
         None => &[],
-        Some(held) => held.frame.resources.as_slice(),
+        Some(held) => held.frame.frame().resources.as_slice(),
     }
 }
 
@@ -49,7 +49,7 @@ pub(crate) fn wanted_by(held: Option<&Held>) -> usize
 {
     match held {
         None => 0,
-        Some(held) => held.frame.metadata.references.as_slice().len() + 1,
+        Some(held) => held.frame.frame().metadata.references.as_slice().len() + 1,
     }
 }
 

@@ -38,7 +38,7 @@ impl LiveSurfaces {
         let Some(risen) = self.store.waiting(&id) else {
             unreachable!()
         };
-        let ranges = risen.frame.metadata.references.as_slice();
+        let ranges = risen.frame.frame().metadata.references.as_slice();
         self.references.set(id, ranges).unwrap();
         self.wanted -= ranges.len() + 1;
         self.damage.activated(&id);

@@ -22,6 +22,10 @@ pub stands_more : (p : Plan) (told more : List Event) (e : Event) (v : Served) �
 stands_more p told more e v shown h =
     subst (λ w. Serves p w v) (sym (after_more p (opening p) told e) ∙ sym (ap (after p (opening p)) shown)) h
 
+-- what stands for a state stands for it where it is lent
+pub serves_lent : (p : Plan) (w : World) (lent v : Served) → lent ≡ v → Serves p w v → Serves p w lent
+serves_lent p w lent v is = subst (λ (x : Served). Serves p w x) (sym is)
+
 -- the machine goes on by one step
 pub goes_more : (m : Machine) (p : Plan) (told more : List Event) (e : Event) → led_to p told ≡ m → more ≡ told ++ e ∷ [] → Goes m e (led_to p more)
 goes_more m p told more e is shown =

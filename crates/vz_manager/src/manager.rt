@@ -16,10 +16,11 @@ use vz_rules::{Event, Plan, Rest};
 /// events that it was told.
 ///
 /// A step costs what it touches, and a drawing what is on the display. All room of a step is made
-/// before its first change: for want of memory it answers so, and the world stays.
+/// before its first change: for want of memory it answers so, and the world stays. The parts stay
+/// at their place in memory, so that little is copied where the machine goes from hand to hand.
 #[derive(Drop)]
 pub struct Manager {
-    parts: Parts,
+    parts: Box<Parts>,
     plan: Snapshot<Plan>,
     told: GhostList<Event>,
 }
@@ -33,7 +34,7 @@ impl Model for Manager {
 
     ghost view = { λ m. led_to m.plan.value m.told };
 
-    ghost invariant = { λ m. Serves m.plan.value (led_to m.plan.value m.told).world m.parts };
+    ghost invariant = { λ m. Serves m.plan.value (led_to m.plan.value m.told).world m.parts.value };
 }
 
 impl Manager {
@@ -42,7 +43,8 @@ impl Manager {
         ensures { IfOk result (λ m. m ≡ record { plan = plan; world = opening plan }) }
     {
         let shown = Snapshot::of(&plan);
-        let parts = Parts::open(alloc, plan)?;
+        let opened = Parts::open(alloc, plan)?;
+        let parts = Box::new(alloc, opened)?;
         Ok(Manager {
             parts,
             plan: shown,

@@ -98,6 +98,18 @@ wide_is d width shows wide =
     let some = shows.sides.wide in
     omega (arith, ints, some, wide)
 
+-- a piece of this length has room for a row
+pub room_for_row : (d : Displayed) (width height room : ℕ) → ShowsFrame d → nat_abs d.turns.size.w ≡ width → nat_abs d.turns.size.h ≡ height
+    → room ≡ min 65536 (4 * width * height) → 4 * width ≤ room
+room_for_row d width height room shows wide high is =
+    let most = shows.sides.not_too_wide in
+    let least = shows.sides.high in
+    let narrow : 4 * width ≤ 65536 = omega (arith, ints, most, wide) in
+    let some : 1 ≤ height = omega (arith, ints, least, high) in
+    let whole : 1 * (4 * width) ≤ height * (4 * width) = mul-le-mul_right (4 * width) some in
+    let turned : height * (4 * width) ≡ 4 * width * height = grind arith in
+    omega (arith, narrow, whole, turned, is)
+
 -- where a piece has room for a row, and a row is left, at least one is written
 pub some_rows : (room width left count : ℕ) → 0 < width → 4 * width ≤ room → 0 < left → count ≡ min (room / (4 * width)) left → 0 < count
 some_rows room width left count wide some rest is =

@@ -5,7 +5,6 @@ ghost use Rattle.vz_outside.specs.Shelved.{Writing, KeepsOthers, Appends, Append
 ghost use Rattle.vz_rules.specs.Frames.{pixel_bytes};
 ghost use Rattle.vz_outputs.specs.Shown.{ShowsFrame, frame_on, rows_in};
 
-use std::alloc::Global;
 use vz_display::Display;
 use vz_geom::Size;
 use vz_outside::{Shelf, ShelfError, write_all};
@@ -24,11 +23,14 @@ pub struct FrameFile {
 /// each pixel the bytes r, g, b and a. At an error a front part of it was written, maybe none.
 /// Conditions: the slot is open for writing, the display has the size of the frames, and it shows a
 /// frame with a pixel for each point.
+///
+/// The bytes go by way of `piece`, whatever it has. Where it is kept for the next frame of the file,
+/// that one takes no memory.
 pub fn write_frame<F: Shelf>(
-    alloc: Global,
     shelf: &mut F,
     file: FrameFile,
     display: &Display,
+    piece: &mut Vec<u8>,
 ) -> Result<(), ShelfError>
     requires open { (F.shelved shelf.old).mode file.slot ≡ Some Writing }
     requires size { display.now.turns.size ≡ file.size }
@@ -43,9 +45,8 @@ pub fn write_frame<F: Shelf>(
 {
     let width = file.size.w.unsigned_abs() as usize;
     let height = file.size.h.unsigned_abs() as usize;
-    let mut piece = Vec::new(alloc);
     piece.resize(MOST_PIECE_BYTES.min(4 * width * height), 0)?;
-    write_pieces(shelf, file.slot, display, width, height, &mut piece)?;
+    write_pieces(shelf, file.slot, display, width, height, piece)?;
     Ok(())
 }
 

@@ -49,8 +49,10 @@ where
         (F.shelved shelf.old) (F.shelved shelf.new) }
     ensures behaves { Behaves (F.shelved shelf.old) (F.shelved shelf.new) result }
 {
+    // No memory is taken for the piece before the first frame, and none after it.
+    let mut piece = Vec::new(alloc);
     for event in events {
-        play_one(alloc, player, *event, shelf, file, gate, steps)?;
+        play_one(alloc, player, *event, shelf, file, &mut piece, gate, steps)?;
     }
     Ok(())
 }
@@ -62,6 +64,7 @@ fn play_one<M: Machine + Drop, F: Shelf, G: Gate, L: Ledger>(
     event: Event,
     shelf: &mut F,
     file: FrameFile,
+    piece: &mut Vec<u8>,
     gate: &G,
     steps: &mut Steps<L>,
 ) -> Result<(), ShelfError>
@@ -87,6 +90,6 @@ where
     if !player.turn(alloc, gate, event, steps)? {
         return Ok(());
     }
-    write_frame(alloc, shelf, file, player.display())?;
+    write_frame(shelf, file, player.display(), piece)?;
     Ok(())
 }

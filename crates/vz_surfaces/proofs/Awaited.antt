@@ -1,5 +1,6 @@
 -- What waits is found by its surface and by its name.
-use Rattle.std.proofs.Common.{◌≡◌, true, Option, Some, None, find, refl, ap, sym, ◌∙◌, ◌&&◌, Contains}
+use Rattle.std.proofs.Common.{◌≡◌, Bool, true, false, Option, Some, None, is_some, find, refl, ap, sym, ◌∙◌, ◌&&◌, Contains}
+use Rattle.std.proofs.lemmas.Bool.{both_ways}
 use Rattle.std.specs.Option.{option_map}
 use Rattle.vz_ids.specs.declared.SurfaceId.{SurfaceId}
 use Rattle.vz_ids.specs.declared.Sub.{Sub}
@@ -11,7 +12,9 @@ use Rattle.vz_surfaces.specs.declared.waits.Waits.{Waits}
 use Rattle.vz_surfaces.specs.declared.owners.Owners.{Owners}
 use Rattle.vz_surfaces.specs.Stored.{Stored}
 use Rattle.vz_surfaces.specs.Reading.{standing, held_of, waiting_at}
-use Rattle.vz_surfaces.specs.Memory.{look, kept_of, surface_at, waits_on, Keeps}
+use Rattle.vz_surfaces.specs.Memory.{look, kept_of, surface_at, waits_on, is_waiting_in, Keeps}
+use Rattle.vz_surfaces.proofs.Indexed.{named_at}
+use Rattle.vz_surfaces.proofs.Raising.{same_names}
 
 twice : (o : Option Submission) → option_map (λ (s : Submission). held_of s.submitted) o ≡ option_map held_of (option_map (λ (s : Submission). s.submitted) o)
 twice None = refl
@@ -44,3 +47,15 @@ waiting_some t w o st id s h e = some_by st id s (standing id st.surfaces) (e �
 pub waits_there : (t : Table) (w : Waits) (o : Owners) (st : Stored) (sub : Sub) (r : Option SurfaceId) → Keeps t w o st → r ≡ waits_on w sub
     → (x : Submission) → Contains st.subs x → is_waiting x ≡ true → sub_of x ≡ sub → r ≡ Some x.submitted.id
 waits_there t w o st sub r h e x c waits name = e ∙ (ap (waits_on w) (sym name) ∙ h.waits.found x c waits)
+
+-- and it has no other
+pub waits_alone : (t : Table) (w : Waits) (o : Owners) (st : Stored) (sub : Sub) (r : Option SurfaceId) → Keeps t w o st → r ≡ waits_on w sub → is_some r ≡ is_waiting_in st sub
+waits_alone t w o st sub r h e = by (is_some r) (is_waiting_in st sub) refl refl
+  where
+    by : (a b : Bool) → is_some r ≡ a → is_waiting_in st sub ≡ b → a ≡ b
+    by true true f g = refl
+    by false false f g = refl
+    by true false f g = absurd (both_ways (is_waiting_in st sub) g (h.waits.only sub (ap is_some (sym e) ∙ f)))
+    by false true f g =
+        let x = named_at st sub g in
+        absurd (both_ways (is_some r) f (ap is_some (e ∙ (ap (waits_on w) (sym (same_names (sub_of x.0) sub x.3)) ∙ h.waits.found x.0 x.1 x.2))))

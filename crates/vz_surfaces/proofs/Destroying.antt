@@ -16,10 +16,11 @@ use Rattle.vz_surfaces.specs.Reading.{standing, existing_count, held_of}
 use Rattle.vz_surfaces.specs.Keeping.{KeepsStored}
 use Rattle.vz_surfaces.specs.declared.waits.Waits.{Waits}
 use Rattle.vz_surfaces.specs.declared.owners.Owners.{Owners}
-use Rattle.vz_surfaces.specs.Memory.{is_name, waits_on, kept_of, surface_at, FindsWaiting, KeepsOwners, waiting_on}
+use Rattle.vz_surfaces.specs.Memory.{is_name, waits_on, kept_of, surface_at, FindsWaiting, KeepsOwners, waiting_on, is_waiting_in}
 use Rattle.vz_surfaces.proofs.Finding.{find_fixed, find_none}
 use Rattle.vz_surfaces.proofs.Others.{never, no_and, ChangesOn, count_on, other_found, kept_alike, mapped_alike, KeepsKept, surfaces_kept, count_standing}
 use Rattle.vz_surfaces.proofs.Changing.{KeepsCounted, owners_stay, one_goes}
+use Rattle.vz_surfaces.proofs.Indexed.{still_named, waits_behind, names_one}
 use Rattle.vz_surfaces.proofs.Naming.{name_of, one_named}
 
 -- Marks
@@ -62,8 +63,8 @@ marked_owners c st o h =
     (owners_stay o (λ s. s) (mark_of c) st (λ s p. refl) (marks_counted c) h)
 
 pub marked_waits : (c : ℕ) (st : Stored) (w : Waits) → FindsWaiting w st → FindsWaiting w (marking c st)
-unfolding marking
-marked_waits c st w h = record { found = h.found }
+unfolding marking is_waiting_in
+marked_waits c st w h = record { found = h.found; only = h.only }
 
 -- One surface goes
 
@@ -151,7 +152,7 @@ waits_by false false o t e h = absurd (both_ways (is_waiting t) e h)
 
 pub gone_waits : (id : SurfaceId) (st : Stored) (old new : Waits) (sub : Option Sub) → KeepsStored st → FindsWaiting old st → sub ≡ waiting_on st id → (sub ≡ None → new ≡ old)
     → ((s : Sub) → sub ≡ Some s → (q : Sub) → waits_on new q ≡ cond (is_name s q) None (waits_on old q)) → FindsWaiting new (destroying id st)
-unfolding destroying waiting_on
+unfolding destroying waiting_on is_waiting_in
 gone_waits id st old new sub keeps finds is none some =
     record {
       found = λ s p w.
@@ -160,6 +161,9 @@ gone_waits id st old new sub keeps finds is none some =
           let same : t.0 ≡ s = sym ((drops_on id st.subs).others t.0 t.1 parts.1) ∙ t.2 in
           subst (λ (z : Submission). waits_on new (sub_of z) ≡ Some z.submitted.id) same
           (passes t.0 t.1 parts.1 (find (λ s. is_waiting s && is_on id s) st.subs) refl ∙ finds.found t.0 t.1 parts.0);
+      only = λ q e.
+          let left = still_named st id old new sub q keeps finds is none some e in
+          names_one q (map (dropped_at id) st.subs) left.one (waits_behind st id q (dropped_at id) (drops_on id st.subs) left) left.waits left.named;
     }
   where
     passes : (t : Submission) → Contains st.subs t → is_on id t ≡ false → (o : Option Submission) → find (λ s. is_waiting s && is_on id s) st.subs ≡ o → waits_on new (sub_of t) ≡ waits_on old (sub_of t)

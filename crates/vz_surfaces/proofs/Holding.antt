@@ -181,7 +181,7 @@ module _ (st : Stored) (c : ℕ) (sink : FrameSinkId) (local : LocalSurfaceId) (
             count = length_is ∙ (more ∙ (ap (λ l. length l + cond last 0 1) same ∙ (ap (λ n. n + cond last 0 1) h.table.count
                 ∙ (ap (λ (b : Bool). existing_count st + cond b 0 1) that ∙ sym (stored_count st c sink local frame blocks)))));
           };
-          waits = stored_waits st c sink local frame blocks w1 w2 w3 replaced keeps (record { found = λ s p e. ap (lookup (is_name (sub_of s))) names ∙ h.waits.found s p e }) gone none some
+          waits = stored_waits st c sink local frame blocks w1 w2 w3 replaced keeps (record { found = λ s p e. ap (lookup (is_name (sub_of s))) names ∙ h.waits.found s p e; only = λ q e. h.waits.only q (ap (λ l. is_some (lookup (is_name q) l)) (sym names) ∙ e) }) gone none some
               (λ q. put q ∙ ap (λ n. cond (is_name (record { client = c; ordinal = n + 1 }) q) (Some this) (waits_on w2 q)) accepted);
           owners = stored_owners st c sink local frame blocks o0 o1 last size owned number h.owners named fits (is ∙ ap (counting last local size) own) set;
         }

@@ -6,6 +6,7 @@ mod Finding
 mod Keyed
 mod Others
 mod Accepting
+mod Indexed
 mod Naming
 mod Changing
 mod Raising
@@ -22,3 +23,4 @@ mod Awaited
 mod Marking
 mod Numbering
 pub mod Listing
+pub mod Leading

@@ -1,6 +1,7 @@
 -- The waiting submissions that are found, and what is counted of clients, where a submission is accepted.
-use Rattle.std.proofs.Common.{◌≡◌, ℕ, ◌+◌, ◌≤◌, Bool, true, false, ◌&&◌, ◌==◌, inl, inr, Option, Some, None, List, [], ◌∷◌, ◌++◌, map, find, refl, ap, sym, ◌∙◌, arith, cond, subst, Contains, count_by}
+use Rattle.std.proofs.Common.{◌≡◌, ℕ, ◌+◌, ◌≤◌, Bool, true, false, ◌&&◌, ◌==◌, inl, inr, Option, Some, None, List, [], ◌∷◌, ◌++◌, map, find, refl, ap, sym, ◌∙◌, arith, cond, subst, Contains, count_by, is_some}
 use Rattle.std.specs.Option.{option_map}
+use Rattle.std.specs.List.{list_any}
 use Rattle.std.proofs.lemmas.Bool.{and_parts, both_ways, eq-eqb, eqb-true}
 use Rattle.vz_geom.specs.declared.Size.{Size}
 use Rattle.vz_ids.specs.declared.FrameSinkId.{FrameSinkId}
@@ -15,7 +16,7 @@ use Rattle.vz_rules.specs.declared.entry.State.TheVariants.{Dropped}
 use Rattle.vz_rules.specs.World.{Created, FrameData, Submission, is_waiting, is_on, sub_of}
 use Rattle.vz_rules.specs.Messages.{is_last, replace_on}
 use Rattle.vz_rules.specs.Kept.{last_in, is_surface_of, is_by}
-use Rattle.vz_rules.proofs.Members.{contains_map, contains_push, contains_at, at_same, find_at}
+use Rattle.vz_rules.proofs.Members.{contains_map, contains_push, push_contains, push_contains_last, contains_at, at_same, find_at}
 use Rattle.vz_rules.proofs.Counts.{count_push, count_at}
 use Rattle.vz_rules.proofs.Kept_accepted.{subs_differ}
 use Rattle.vz_rules.proofs.Kept_last.{last_push}
@@ -25,12 +26,13 @@ use Rattle.vz_surfaces.specs.Keeping.{KeepsStored}
 use Rattle.vz_surfaces.specs.declared.waits.Waits.{Waits}
 use Rattle.vz_surfaces.specs.declared.owners.Owner.{Owner}
 use Rattle.vz_surfaces.specs.declared.owners.Owners.{Owners}
-use Rattle.vz_surfaces.specs.Memory.{is_name, waits_on, waiting_on, FindsWaiting, owner_at, HasNumber, KeepsOwners, counting, is_named_last}
+use Rattle.vz_surfaces.specs.Memory.{is_name, waits_on, waiting_on, is_waiting_in, FindsWaiting, owner_at, HasNumber, KeepsOwners, counting, is_named_last}
 use Rattle.vz_surfaces.proofs.Keyed.{names}
 use Rattle.vz_surfaces.proofs.Finding.{count_kept}
 use Rattle.vz_surfaces.proofs.Others.{never}
 use Rattle.vz_surfaces.proofs.Following.{self_sub}
 use Rattle.vz_surfaces.proofs.Accepting.{replaces_on}
+use Rattle.vz_surfaces.proofs.Indexed.{still_named, waits_behind, names_one}
 
 -- Names
 
@@ -88,7 +90,7 @@ module _ (st : Stored) (c : ℕ) (sink : FrameSinkId) (local : LocalSurfaceId) (
   pub stored_waits : (old mid new : Waits) (replaced : Option Sub) → KeepsStored st → FindsWaiting old st → replaced ≡ waiting_on st id_here → (replaced ≡ None → mid ≡ old)
       → ((s : Sub) → replaced ≡ Some s → (q : Sub) → waits_on mid q ≡ cond (is_name s q) None (waits_on old q))
       → ((q : Sub) → waits_on new q ≡ cond (is_name data_here.sub q) (Some id_here) (waits_on mid q)) → FindsWaiting new (storing c sink local frame blocks st)
-  unfolding storing
+  unfolding storing is_waiting_in
   stored_waits old mid new replaced keeps finds is none some put =
       record {
         found = λ s p w. elim (contains_push (map (replace_on id_here) st.subs) (waiting_with data_here) s p) [
@@ -103,7 +105,16 @@ module _ (st : Stored) (c : ℕ) (sink : FrameSinkId) (local : LocalSurfaceId) (
               ∙ (ap (λ (b : Bool). cond b (Some id_here) (waits_on mid (sub_of t.0))) (name_of data_here.sub (sub_of t.0) ∙ differs st c t.0 keeps t.1)
               ∙ (passes old mid replaced t.0 keeps is none some t.1 stays.1 ∙ finds.found t.0 t.1 stays.0)))
         ];
+        only = λ q e. by q (is_name data_here.sub q) refl (ap is_some (sym (put q)) ∙ e);
       }
+    where
+      by : (q : Sub) (b : Bool) → is_name data_here.sub q ≡ b → is_some (cond b (Some id_here) (waits_on mid q)) ≡ true
+          → list_any (λ s. is_waiting s && same_sub (sub_of s) q) (map (replace_on id_here) st.subs ++ waiting_with data_here ∷ []) ≡ true
+      by q true e f = names_one q (map (replace_on id_here) st.subs ++ waiting_with data_here ∷ []) (waiting_with data_here) (push_contains_last (map (replace_on id_here) st.subs) (waiting_with data_here)) refl (sym (name_of data_here.sub q) ∙ e)
+      by q false e f =
+          let left = still_named st id_here old mid replaced q keeps finds is none some f in
+          names_one q (map (replace_on id_here) st.subs ++ waiting_with data_here ∷ []) left.one
+          (push_contains (map (replace_on id_here) st.subs) (waiting_with data_here) left.one (waits_behind st id_here q (replace_on id_here) (replaces_on id_here st.subs) left)) left.waits left.named
 
 -- Counts
 

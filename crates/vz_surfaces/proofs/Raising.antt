@@ -20,9 +20,10 @@ use Rattle.vz_surfaces.specs.declared.waits.Waits.{Waits}
 use Rattle.vz_surfaces.specs.declared.owners.Owners.{Owners}
 use Rattle.vz_surfaces.specs.Memory.{is_name, waits_on, held_in, kept_of, surface_at, raised, FindsWaiting, KeepsOwners, is_waiting_in, past_by, acting_on}
 use Rattle.vz_surfaces.proofs.Finding.{find_none, find_alike}
-use Rattle.vz_surfaces.proofs.Others.{never, no_and, and_swap, ChangesOn, count_on, other_found, kept_alike, mapped_alike, KeepsKept, surfaces_kept, count_standing}
+use Rattle.vz_surfaces.proofs.Others.{never, no_and, and_swap, waits_inactive, ChangesOn, count_on, other_found, kept_alike, mapped_alike, KeepsKept, surfaces_kept, count_standing}
 use Rattle.vz_surfaces.proofs.Changing.{KeepsCounted, owners_stay}
 use Rattle.vz_surfaces.proofs.Following.{self_sub}
+use Rattle.vz_surfaces.proofs.Indexed.{apart, named_at, names_one}
 use Rattle.vz_surfaces.proofs.Naming.{name_of, one_named}
 
 -- a submission that waits
@@ -30,7 +31,7 @@ pub record Waits_in (st : Stored) (x : Submission) : Type 0 where
   pub there : Contains st.subs x
   pub waits : is_waiting x ≡ true
 
-same_names : (a b : Sub) → same_sub a b ≡ true → a ≡ b
+pub same_names : (a b : Sub) → same_sub a b ≡ true → a ≡ b
 same_names a b e =
     let both = and_parts (a.client == b.client) (a.ordinal == b.ordinal) e in
     λ i. record { client = eqb-true a.client b.client both.0 i; ordinal = eqb-true a.ordinal b.ordinal both.1 i }
@@ -211,7 +212,7 @@ module _ (st : Stored) (x : Submission) (keeps : KeepsStored st) (in_it : Waits_
   raised_owners o h = owners_stay o up (marked_by st.surfaces (x ∷ [])) st rises_on.submitted (mark_counted x st.surfaces) h
 
   pub raised_waits : (old new : Waits) → FindsWaiting old st → ((q : Sub) → waits_on new q ≡ cond (is_name (sub_of x) q) None (waits_on old q)) → FindsWaiting new (raising x st)
-  unfolding raising
+  unfolding raising is_waiting_in
   raised_waits old new finds put =
       record {
         found = λ s p w.
@@ -222,4 +223,11 @@ module _ (st : Stored) (x : Submission) (keeps : KeepsStored st) (in_it : Waits_
             (put (sub_of t.0)
             ∙ (ap (λ (b : Bool). cond b None (waits_on old (sub_of t.0))) (name_of (sub_of x) (sub_of t.0) ∙ never (same_sub (sub_of x) (sub_of t.0)) (λ e. sym parts.0 ∙ (ap (λ (z : Sub). same_sub (sub_of t.0) z) (same_names (sub_of x) (sub_of t.0) e) ∙ self_sub (sub_of t.0))))
             ∙ finds.found t.0 t.1 (ap is_waiting same ∙ w)));
+        only = λ q e.
+            let parts = apart (is_name (sub_of x) q) (waits_on old q) (ap is_some (sym (put q)) ∙ e) in
+            let t = named_at st q (finds.only q parts.1) in
+            let same : up t.0 ≡ t.0 = stays_by (same_sub (sub_of t.0) (sub_of x)) (is_active t.0 && is_on id_up t.0) t.0
+            (never (same_sub (sub_of t.0) (sub_of x)) (λ f. sym parts.0 ∙ (name_of (sub_of x) q ∙ (ap (λ (z : Sub). same_sub z q) (sym (same_names (sub_of t.0) (sub_of x) f)) ∙ t.3))))
+            (ap (λ (b : Bool). b && is_on id_up t.0) (waits_inactive t.0 t.2)) in
+            names_one q (map up st.subs) t.0 (subst (λ (z : Submission). Contains (map up st.subs) z) same (map_contains up st.subs t.0 t.1)) t.2 t.3;
       }

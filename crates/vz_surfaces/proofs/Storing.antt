@@ -41,14 +41,14 @@ pub stored_none : (ts : List Told) → ts ≡ [] → stored ts ≡ nothing_store
 unfolding stored changed_by
 stored_none ts e = ap (changed_by nothing_stored) e
 
-pub keeps_none : (t : Table) (w : Waits) (o : Owners) (ts : List Told) → ((q : SurfaceId) → look t q ≡ None) → length t.surfaces.entries ≡ 0 → ((q : ℕ) → owner_at o q ≡ no_owner) → ts ≡ []
+pub keeps_none : (t : Table) (w : Waits) (o : Owners) (ts : List Told) → ((q : SurfaceId) → look t q ≡ None) → length t.surfaces.entries ≡ 0 → ((q : Sub) → waits_on w q ≡ None) → ((q : ℕ) → owner_at o q ≡ no_owner) → ts ≡ []
     → Keeps t w o (stored ts)
 unfolding surface_at existing_count last_of nothing_stored
-keeps_none t w o ts none len owners e =
+keeps_none t w o ts none len unnamed owners e =
     subst (Keeps t w o) (sym (stored_none ts e))
     (record {
       table = record { surfaces = λ id. none id; count = len };
-      waits = record { found = λ s c. absurd (contains_none s c) };
+      waits = record { found = λ s c. absurd (contains_none s c); only = λ q f. absurd (both_ways (is_some (waits_on w q)) (ap is_some (unnamed q)) f) };
       owners = record { accepted = λ c h. ap (λ x. x.accepted) (owners c); created = λ c h. ap (λ x. x.created) (owners c); last = λ c h. ap (λ x. x.last) (owners c) };
     })
 

@@ -40,12 +40,12 @@ use Rattle.vz_surfaces.proofs.Storing.{stored_more, stored_none, keeps_none, mar
 
 -- With the groups
 
-pub stands_none : (t : Table) (w : Waits) (o : Owners) (g : Groups) (ts : List Told) → ((q : SurfaceId) → look t q ≡ None) → length t.surfaces.entries ≡ 0 → ((q : ℕ) → owner_at o q ≡ no_owner)
+pub stands_none : (t : Table) (w : Waits) (o : Owners) (g : Groups) (ts : List Told) → ((q : SurfaceId) → look t q ≡ None) → length t.surfaces.entries ≡ 0 → ((q : Sub) → waits_on w q ≡ None) → ((q : ℕ) → owner_at o q ≡ no_owner)
     → ((q : SurfaceId) → group_at g q ≡ None) → ts ≡ [] → Stands t w o g (stored ts)
 unfolding nothing_stored was_reached IsRising
-stands_none t w o g ts none len owners groups e =
+stands_none t w o g ts none len unnamed owners groups e =
     record {
-      kept = keeps_none t w o ts none len owners e;
+      kept = keeps_none t w o ts none len unnamed owners e;
       groups = subst (KeepsGroups g) (sym (stored_none ts e)) (record {
         chain = λ q. ap (λ (x : Option Group). option_map_or (λ (y : Group). y.chain.items) x []) (groups q);
         rising = λ q. subst IsRising (sym (ap (λ (x : Option Group). option_map_or (λ (y : Group). y.chain.items) x []) (groups q))) tt;
@@ -69,7 +69,7 @@ stands_still t0 t1 w0 w1 o g0 g1 st h table waits chain newest =
     record {
       kept = record {
         table = record { surfaces = λ q. ap (lookup (is_key q)) table ∙ h.kept.table.surfaces q; count = ap length table ∙ h.kept.table.count };
-        waits = record { found = λ s p e. ap (lookup (is_name (sub_of s))) waits ∙ h.kept.waits.found s p e };
+        waits = record { found = λ s p e. ap (lookup (is_name (sub_of s))) waits ∙ h.kept.waits.found s p e; only = λ q e. h.kept.waits.only q (ap (λ l. is_some (lookup (is_name q) l)) (sym waits) ∙ e) };
         owners = h.kept.owners;
       };
       groups = groups_alike g0 g1 st chain newest h.groups;

@@ -5,3 +5,4 @@ pub mod Memory
 pub mod Told
 pub mod Chains
 pub mod Numbers
+pub mod Names

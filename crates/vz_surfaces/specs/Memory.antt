@@ -1,5 +1,5 @@
 -- What memory keeps of a store, and what it stands for.
-use Rattle.std.specs.Prelude.{◌≡◌, ℕ, ◌+◌, ◌-◌, ◌≤◌, ◌&&◌, Bool, IsTrue, Option, Some, None, List, length, find, count_by, get_or, nat_le, if◌then◌else◌}
+use Rattle.std.specs.Prelude.{◌≡◌, ℕ, ◌+◌, ◌-◌, ◌≤◌, ◌&&◌, Bool, IsTrue, Option, Some, None, is_some, List, length, find, count_by, get_or, nat_le, if◌then◌else◌}
 use Rattle.std.specs.Option.{option_map}
 use Rattle.std.specs.List.{Contains, list_any}
 use Rattle.std.specs.Map.{lookup}
@@ -76,9 +76,14 @@ is_name = sub_eq.it
 abbrev pub waits_on : Waits → Sub → Option SurfaceId
 waits_on w sub = lookup (is_name sub) w.surfaces.entries
 
--- each submission that waits is found
+-- a submission of this name waits
+unfoldable pub is_waiting_in : Stored → Sub → Bool
+is_waiting_in st sub = list_any (λ s. is_waiting s && same_sub (sub_of s) sub) st.subs
+
+-- each submission that waits is found, and no other name is
 pub record FindsWaiting (w : Waits) (st : Stored) : Type 0 where
   pub found : (s : Submission) → Contains st.subs s → IsTrue (is_waiting s) → waits_on w (sub_of s) ≡ Some s.submitted.id
+  pub only : (sub : Sub) → IsTrue (is_some (waits_on w sub)) → IsTrue (is_waiting_in st sub)
 
 -- nothing was accepted of a client
 abbrev pub no_owner : Owner
@@ -133,10 +138,6 @@ pub record IsSinkOf (c : ℕ) (sink : FrameSinkId) (st : Stored) : Type 0 where
 -- the client and the ordinal of the active submission of a surface, if it has one
 unfoldable pub acting_on : Stored → SurfaceId → Option Sub
 acting_on st id = option_map (λ (s : Submission). sub_of s) (find (λ s. is_active s && is_on id s) st.subs)
-
--- a submission of this name waits
-unfoldable pub is_waiting_in : Stored → Sub → Bool
-is_waiting_in st sub = list_any (λ s. is_waiting s && same_sub (sub_of s) sub) st.subs
 
 -- the one that becomes past where the submission of this name becomes active
 unfoldable pub past_by : Stored → Sub → Option Sub

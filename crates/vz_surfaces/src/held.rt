@@ -1,5 +1,6 @@
 //! What a store keeps of a submission, and what its calls answer.
-use vz_frame::{CompositorFrame, List};
+use crate::named::NamedFrame;
+use vz_frame::List;
 use vz_ids::Sub;
 use vz_pixels::PixelBlock;
 use vz_rules::Lost;
@@ -11,8 +12,8 @@ pub struct Held {
     pub sub: Sub,
     /// Its number among the submissions on its surface, from 1 on.
     pub index: u32,
-    /// Its frame.
-    pub frame: CompositorFrame,
+    /// Its frame, whose names were followed.
+    pub frame: NamedFrame,
     /// The block of each listing of the frame, in their order.
     pub blocks: List<PixelBlock>,
 }

@@ -8,6 +8,7 @@ mod groups;
 mod held;
 pub mod laws;
 mod marks;
+mod named;
 mod owners;
 mod seen;
 mod showing;
@@ -18,5 +19,6 @@ mod told;
 mod waits;
 
 pub use held::{Gone, Held, Taken};
+pub use named::NamedFrame;
 pub use seen::Seen;
 pub use store::Store;

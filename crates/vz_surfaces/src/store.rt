@@ -1,5 +1,5 @@
 //! All surfaces that were ever created, and all submissions that were ever accepted.
-ghost use Rattle.std.specs.Prelude.{◌≡◌, ◌≤◌, ◌<◌, ◌+◌, ◌++◌, ◌∷◌, ◌&&◌, [], ℕ, not, cond, length, Some, None, count_by, false, IsTrue, IfOk, OnOk, OnErr, IfErr};
+ghost use Rattle.std.specs.Prelude.{◌≡◌, ◌≤◌, ◌<◌, ◌+◌, ◌++◌, ◌∷◌, ◌&&◌, [], ℕ, not, cond, length, Some, None, is_some, count_by, false, IsTrue, IfOk, OnOk, OnErr, IfErr};
 ghost use Rattle.std.specs.List.{Contains};
 ghost use Rattle.std.specs.Option.{option_copied, option_map};
 ghost use Rattle.indexmap.specs.IndexMap.{spare as spare_of};
@@ -18,6 +18,7 @@ ghost use Rattle.vz_surfaces.specs.Memory.{HasNumber, IsSinkOf, held_in, waiting
 use crate::groups::Groups;
 use crate::held::{Gone, Held, Taken};
 use crate::marks::{mark_all, mark_before};
+use crate::named::{NamedFrame, places_of};
 use crate::owners::Owners;
 use crate::seen::Seen;
 use crate::showing::shown_by;
@@ -135,8 +136,9 @@ impl Store {
 
     /// The surface on which a submission waits, where it does.
     pub fn waits_on(&self, s: Sub) -> Option<SurfaceId>
-        ensures { (x : Submission) → Contains self.now.subs x → IsTrue (is_waiting x)
+        ensures found { (x : Submission) → Contains self.now.subs x → IsTrue (is_waiting x)
             → sub_of x ≡ s → result ≡ Some x.submitted.id }
+        ensures only { is_some result ≡ is_waiting_in self.now s }
     {
         self.waits.get(&s)
     }
@@ -231,6 +233,9 @@ impl Store {
         let id = SurfaceId { sink, local };
         let owner = self.owners.get(c);
         let last = owner.is_last(&local);
+        let Ok(places) = places_of(self.alloc, &frame) else {
+            return Err(frame);
+        };
         let Ok(()) = grow(
             self.alloc,
             &mut self.table,
@@ -260,9 +265,8 @@ impl Store {
             client: c,
             ordinal: owner.accepted + 1,
         };
-        let (index, replaced) = self
-            .table
-            .hold(&id, sub, acceptance.frame, acceptance.blocks);
+        let frame = NamedFrame::new(acceptance.frame, places);
+        let (index, replaced) = self.table.hold(&id, sub, frame, acceptance.blocks);
         let waited = name_of(&replaced);
         self.waits.remove(waited);
         self.waits.put(sub, id);

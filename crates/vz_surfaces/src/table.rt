@@ -8,11 +8,12 @@ ghost use Rattle.vz_surfaces.specs.Memory.{is_key, look, holding, raised, empty_
 ghost use Rattle.vz_surfaces.specs.Chains.{is_acting};
 
 use crate::held::Held;
+use crate::named::NamedFrame;
 use indexmap::IndexMap;
 use std::alloc::Global;
 use std::mem;
 use vz_base::Memory;
-use vz_frame::{CompositorFrame, List};
+use vz_frame::List;
 use vz_ids::{Sub, SurfaceId};
 use vz_pixels::PixelBlock;
 
@@ -126,7 +127,7 @@ impl Table {
         &mut self,
         id: &SurfaceId,
         sub: Sub,
-        frame: CompositorFrame,
+        frame: NamedFrame,
         blocks: List<PixelBlock>,
     ) -> (u32, Option<Held>)
         requires there { (s : Kept) × (look self.old id.now ≡ Some s) × (s.accepted < u32.MAX) }
@@ -176,7 +177,7 @@ impl Table {
 fn wait(
     surface: &mut Surface,
     sub: Sub,
-    frame: CompositorFrame,
+    frame: NamedFrame,
     blocks: List<PixelBlock>,
 ) -> (u32, Option<Held>)
     requires { surface.old.accepted < u32.MAX }

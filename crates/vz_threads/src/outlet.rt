@@ -32,12 +32,14 @@ pub trait Outlet {
         ensures behaves { Behaves (stands self.old).shelf (stands self.new).shelf result };
 }
 
-/// A display, with the file of a shelf that its frames are written to, and the counter of steps.
+/// A display, with the file of a shelf that its frames are written to, the piece by way of which
+/// their bytes go, and the counter of steps.
 #[derive(Drop)]
 pub struct FrameOutlet<'a, F: Shelf, L: Ledger> {
     pub display: Display,
     pub shelf: &'a mut F,
     pub file: FrameFile,
+    pub piece: Vec<u8>,
     pub steps: &'a mut Steps<L>,
 }
 
@@ -56,7 +58,7 @@ impl<'a, F: Shelf, L: Ledger> Outlet for FrameOutlet<'a, F, L> {
 
     fn show<P: Picture + Drop>(&mut self, alloc: Global, picture: P) -> Result<(), ShelfError> {
         self.display.show(alloc, &picture, self.steps)?;
-        write_frame(alloc, self.shelf, self.file, &self.display)?;
+        write_frame(self.shelf, self.file, &self.display, &mut self.piece)?;
         Ok(())
     }
 }

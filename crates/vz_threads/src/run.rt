@@ -92,6 +92,7 @@ where
         display: Display::new(file.size, course.buffers),
         shelf,
         file,
+        piece: Vec::new(rt.alloc()),
         steps,
     };
     let Ran {
@@ -103,9 +104,11 @@ where
     let FrameOutlet {
         display,
         shelf,
+        piece,
         steps,
         ..
     } = outlet;
+    drop(piece);
     match played {
         Ok(()) => finish_run(
             rt.alloc(),

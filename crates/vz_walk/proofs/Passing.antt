@@ -9,6 +9,8 @@ use Rattle.vz_frame.specs.Frame.{names_pass}
 use Rattle.vz_ids.specs.declared.SurfaceId.{SurfaceId}
 use Rattle.vz_rules.specs.World.{FrameData}
 use Rattle.vz_rules.specs.Walk.{Placement, Visit, WalkRange, groups_walked, root_walked, range_walked, walk}
+use Rattle.vz_surfaces.specs.Names.{pass_place}
+use Rattle.vz_surfaces.proofs.Leading.{place_here, place_over, place_none}
 use Rattle.vz_walk.specs.Walking.{pass_in, group_in, group_at}
 
 turned : (passes : List RenderPass) (k : ℕ) (d : RenderPass) → k < length passes
@@ -50,6 +52,35 @@ pub group_none : (ranges : WalkRange) (passes : List RenderPass) (k id : ℕ) (p
 unfolding groups_walked
 group_none ranges passes zero id place h = refl
 group_none ranges passes (suc k) id place h = absurd (omega arith)
+
+-- one place further on, whether or not the pass there has the id
+groups_further : (ranges : WalkRange) (passes : List RenderPass) (d : RenderPass) (k id : ℕ) (place : Placement) (t : Bool) → k < length passes
+    → groups_walked ranges (reverse (take k passes)) id place ≡ group_at ranges passes place (pass_place id passes k)
+    → names_pass id (get_or passes k d) ≡ t
+    → groups_walked ranges (reverse (take (suc k) passes)) id place ≡ group_at ranges passes place (pass_place id passes (suc k))
+groups_further ranges passes d k id place true h before e =
+    group_found ranges passes (suc k) k id d place (omega arith) h e
+    ∙ ap (group_at ranges passes place) (sym (place_here id passes (suc k) k d (omega arith) h e))
+groups_further ranges passes d k id place false h before e =
+    group_over ranges passes (suc k) k id d place (omega arith) h e
+    ∙ (before
+    ∙ ap (group_at ranges passes place) (sym (place_over id passes (suc k) k d (omega arith) h e)))
+
+-- what is met by a name, where it leads to
+groups_with : (ranges : WalkRange) (passes : List RenderPass) (d : RenderPass) (k id : ℕ) (place : Placement) → k ≤ length passes
+    → groups_walked ranges (reverse (take k passes)) id place ≡ group_at ranges passes place (pass_place id passes k)
+groups_with ranges passes d zero id place h =
+    group_none ranges passes 0 id place (omega arith) ∙ ap (group_at ranges passes place) (place_none id passes 0 (omega arith))
+groups_with ranges passes d (suc k) id place h =
+    groups_further ranges passes d k id place (names_pass id (get_or passes k d)) (omega arith)
+    (groups_with ranges passes d k id place (omega arith)) refl
+
+pub groups_at : (ranges : WalkRange) (passes : List RenderPass) (k id : ℕ) (place : Placement) → k ≤ length passes
+    → groups_walked ranges (reverse (take k passes)) id place ≡ group_at ranges passes place (pass_place id passes k)
+groups_at ranges [] zero id place h =
+    group_none ranges [] 0 id place (omega arith) ∙ ap (group_at ranges [] place) (place_none id [] 0 (omega arith))
+groups_at ranges [] (suc k) id place h = absurd (omega arith)
+groups_at ranges (p ∷ ps) k id place h = groups_with ranges (p ∷ ps) p k id place h
 
 -- with no surface left nothing is walked
 pub no_levels : (n : ℕ) (active : List FrameData) (path : List SurfaceId) (i : FrameData) (place : Placement) → n ≡ 0

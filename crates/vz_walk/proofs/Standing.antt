@@ -1,6 +1,6 @@
 -- What is to be met from where a walk stands.
 use Rattle.std.proofs.Common.{◌≡◌, ℕ, ◌+◌, ◌<◌, Bool, true, false, Option, Some, None, List, [], ◌∷◌, ◌++◌, take, drop, length, get_or}
-use Rattle.std.proofs.Common.{reverse, slice_get, sym, ap, ◌∙◌}
+use Rattle.std.proofs.Common.{slice_get, sym, ap, ◌∙◌, arith}
 use Rattle.std.specs.List.{flat_map}
 use Rattle.std.proofs.lemmas.List.{append-nil, take-append-drop}
 use Rattle.std.proofs.lemmas.Grind.{take_at_read, flat_map-append}
@@ -15,7 +15,10 @@ use Rattle.vz_rules.specs.World.{FrameData}
 use Rattle.vz_rules.specs.Scene.{shown_frame}
 use Rattle.vz_rules.specs.Paint.{on_path}
 use Rattle.vz_rules.specs.Walk.{Placement, Visit, WalkRange, WalkNamed, Quad, Shows, Enters, place_in, quad_walked, pass_walked}
-use Rattle.vz_rules.specs.Walk.{groups_walked, range_walked, walk}
+use Rattle.vz_rules.specs.Walk.{range_walked, walk}
+use Rattle.vz_surfaces.specs.Names.{place_named}
+use Rattle.vz_surfaces.proofs.Leading.{pass_named, place_before}
+use Rattle.vz_walk.proofs.Passing.{groups_at}
 use Rattle.vz_walk.specs.Walking.{Stand, ranges_of, named_of, quad_of, pass_in, pass_of, group_in, group_at, shown_at}
 
 -- Quads of a pass
@@ -49,27 +52,27 @@ pass_is it passes k p quads place e h here own =
     ∙ sym (ap (λ l. pass_in (ranges_of it) it.frame.passes k place (slice_get l k)) (sym e)
     ∙ ap (pass_in (ranges_of it) it.frame.passes k place) (there passes k p h here))
 
--- the pass of an id, as a group
-pub group_is : (it : Stand) (passes : List RenderPass) (before k id : ℕ) (o : Option ℕ) (p : RenderPass) (place inside : Placement)
-    → passes ≡ it.frame.passes
-    → ((ranges : WalkRange) (at_place : Placement) → groups_walked ranges (reverse
-    (take before passes)) id at_place ≡ group_at ranges passes at_place o) → o ≡ Some k → k < length passes → p ≡ get_or passes k p
-    → inside ≡ record place { shift = minus place.shift (corner p.output) } → pass_of it k inside ≡ named_of it before id place
-group_is it passes before k id o p place inside e found is h here at =
+-- the pass at a place, as a group
+pub group_is : (it : Stand) (passes : List RenderPass) (k : ℕ) (p : RenderPass) (place inside : Placement) → passes ≡ it.frame.passes
+    → k < length passes → p ≡ get_or passes k p → inside ≡ record place { shift = minus place.shift (corner p.output) }
+    → pass_of it k inside ≡ group_at (ranges_of it) it.frame.passes place (Some k)
+group_is it passes k p place inside e h here at =
     let ranges = ranges_of it in
-    let some = there passes k p h here in
-    ap (λ l. pass_in ranges l k inside (slice_get l k)) (sym e)
-    ∙ (ap (pass_in ranges passes k inside) some ∙ (ap (λ x. pass_in ranges passes k x (Some p)) at
-    ∙ (ap (group_in ranges passes k place) (sym some) ∙ (ap (group_at ranges passes place) (sym is)
-    ∙ (sym (found ranges place) ∙ ap (λ l. groups_walked ranges (reverse (take before l)) id place) e)))))
+    let own = it.frame.passes in
+    let some : slice_get own k ≡ Some p = ap (λ l. slice_get l k) (sym e) ∙ there passes k p h here in
+    ap (pass_in ranges own k inside) some ∙ (ap (λ x. pass_in ranges own k x (Some p)) at ∙ ap (group_in ranges own k place) (sym some))
 
--- there is none
-pub group_is_none : (it : Stand) (passes : List RenderPass) (before id : ℕ) (o : Option ℕ) (place : Placement) → passes ≡ it.frame.passes
-    → ((ranges : WalkRange) (at_place : Placement) → groups_walked ranges (reverse
-    (take before passes)) id at_place ≡ group_at ranges passes at_place o) → o ≡ None → [] ≡ named_of it before id place
-group_is_none it passes before id o place e found is =
-    ap (group_at (ranges_of it) passes place) (sym is) ∙ (sym (found (ranges_of it) place)
-    ∙ ap (λ l. groups_walked (ranges_of it) (reverse (take before l)) id place) e)
+-- what is met by the name of a pass quad, where it leads to
+pub name_is : (it : Stand) (k id : ℕ) (quad : DrawQuad) (o : Option ℕ) (place : Placement) → k < length it.frame.passes
+    → quad.material ≡ Pass id → o ≡ place_named it.frame k quad → group_at (ranges_of it) it.frame.passes place o ≡ named_of it k id place
+name_is it k id quad o place h m is =
+    ap (group_at (ranges_of it) it.frame.passes place) (is ∙ pass_named it.frame k quad id m)
+    ∙ sym (groups_at (ranges_of it) it.frame.passes k id place (omega arith))
+
+-- it leads to an earlier pass
+pub name_before : (it : Stand) (k at id : ℕ) (quad : DrawQuad) (o : Option ℕ) → quad.material ≡ Pass id
+    → o ≡ place_named it.frame k quad → o ≡ Some at → at < k
+name_before it k at id quad o m is e = place_before id it.frame.passes k at (sym (is ∙ pass_named it.frame k quad id m) ∙ e)
 
 -- Quads
 

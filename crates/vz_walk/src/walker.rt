@@ -1,14 +1,15 @@
 //! The walk over a store, quad by quad, along the definitions.
-ghost use Rattle.std.specs.Prelude.{◌≡◌, ◌≤◌, ◌<◌, ◌+◌, length, reverse, take, IfSome};
+ghost use Rattle.std.specs.Prelude.{◌≡◌, ◌<◌, ◌+◌, length, Some};
 ghost use Rattle.vz_geom.specs.Display.{IsDisplaySize};
-ghost use Rattle.vz_rules.specs.Walk.{Placement, WalkRange, walk, groups_walked};
+ghost use Rattle.vz_rules.specs.Walk.{walk};
 ghost use Rattle.vz_surfaces.specs.Reading.{seen_frames};
 ghost use Rattle.vz_surfaces.specs.Keeping.{KeepsStored, KeepsFrames};
+ghost use Rattle.vz_surfaces.specs.Names.{place_named};
 ghost use Rattle.vz_walk.specs.Limits.{FitsFile, HasRoom, IsPassInReach, IsQuadInReach};
 ghost use Rattle.vz_walk.specs.Limits.{coordinates, room_for};
 ghost use Rattle.vz_walk.specs.Meeting.{Meets};
 ghost use Rattle.vz_walk.specs.Scenes.{walked_in};
-ghost use Rattle.vz_walk.specs.Walking.{ids, ranges_of, named_of, quad_of, pass_of, group_at};
+ghost use Rattle.vz_walk.specs.Walking.{ids, ranges_of, quad_of, pass_of, group_at};
 ghost use Rattle.vz_walk.specs.Walking.{shown_at};
 
 use crate::path::Path;
@@ -16,10 +17,10 @@ use crate::place::Place;
 use crate::visitor::Visitor;
 use std::marker::Model;
 use vz_base::limits::MOST_ON_PATH;
-use vz_frame::{CompositorFrame, DrawQuad, Material, RenderPass};
+use vz_frame::{DrawQuad, Material, RenderPass};
 use vz_geom::Size;
 use vz_ids::{SurfaceId, SurfaceRange};
-use vz_surfaces::{Seen, Store};
+use vz_surfaces::{NamedFrame, Seen, Store};
 
 /// How many surfaces deep the walk goes: one more than is not too much.
 const LEVELS: u32 = MOST_ON_PATH as u32 + 1;
@@ -30,7 +31,7 @@ struct Walker<'b, 's> {
     store: &'b Store,
     levels: u32,
     path: &'b Path<'b>,
-    frame: &'s CompositorFrame,
+    frame: &'s NamedFrame,
 }
 
 impl<'b, 's> Model for Walker<'b, 's> {
@@ -47,24 +48,6 @@ impl<'b, 's> Model for Walker<'b, 's> {
     } };
 
     ghost invariant = { λ w. IsStanding w.store.now w.levels (ids w.path.now) w.frame.now };
-}
-
-/// The pass of an id before a place, the last one.
-fn pass_named(passes: &[RenderPass], before: usize, id: u32) -> Option<usize>
-    requires { before ≤ length passes.now }
-    ensures found { (ranges : WalkRange) (place : Placement)
-        → groups_walked ranges (reverse (take before passes.now)) id place
-        ≡ group_at ranges passes.now place result }
-    ensures before { IfSome result (λ k. k < before) }
-{
-    let mut k = before;
-    while k > 0 {
-        k -= 1;
-        if passes[k].id == id {
-            return Some(k);
-        }
-    }
-    None
 }
 
 /// The walk in a surface, behind the surfaces of a path and with so many surfaces left.
@@ -91,7 +74,7 @@ fn surface<V: Visitor>(
         return true;
     }
     let frame = &seen.held().frame;
-    let count = frame.passes.as_slice().len();
+    let count = frame.frame().passes.as_slice().len();
     if count == 0 {
         return true;
     }
@@ -118,9 +101,11 @@ impl<'b, 's> Walker<'b, 's> {
         ensures { Meets V.has_met V.has_stopped result visitor.old visitor.new
             (pass_of self.now k place.now) }
     {
-        let pass = &self.frame.passes.as_slice()[k];
-        for quad in pass.quads.as_slice() {
-            if !self.quad(k, pass, quad, place, visitor) {
+        let pass = &self.frame.frame().passes.as_slice()[k];
+        let quads = pass.quads.as_slice();
+        for n in 0..quads.len() {
+            let leads_to = self.frame.place_named(k, n);
+            if !self.quad(k, pass, &quads[n], leads_to, place, visitor) {
                 return false;
             }
         }
@@ -128,19 +113,22 @@ impl<'b, 's> Walker<'b, 's> {
     }
 
     /// A quad of the pass at a place, and the walk in what it draws. Conditions: the pass is
-    /// there, it and the quad are in reach, and the place has room as for the pass.
+    /// there, it and the quad are in reach, this is where the quad's name leads, and the place has
+    /// room as for the pass.
     #[cycle(walk)]
     fn quad<V: Visitor>(
         &self,
         k: usize,
         pass: &RenderPass,
         quad: &DrawQuad,
+        leads_to: Option<usize>,
         place: &Place,
         visitor: &mut V,
     ) -> bool
         requires there { k < length self.now.frame.passes }
         requires pass { IsPassInReach pass.now }
         requires quad { IsQuadInReach quad.now }
+        requires named { leads_to ≡ place_named self.now.frame k quad.now }
         requires room { HasRoom (room_for self.now.levels (k + 1)) place.now.shift }
         ensures { Meets V.has_met V.has_stopped result visitor.old visitor.new
             (quad_of self.now k pass.now place.now quad.now) }
@@ -149,7 +137,10 @@ impl<'b, 's> Walker<'b, 's> {
             return false;
         }
         match quad.material {
-            Material::Pass(id) => self.group(k, id, &place.place_in(pass, quad), visitor),
+            Material::Pass(_) => match leads_to {
+                None => true,
+                Some(at) => self.group(at, &place.place_in(pass, quad), visitor),
+            },
             Material::Surface { range, .. } => {
                 self.range(&range, &place.place_in(pass, quad), visitor)
             }
@@ -158,21 +149,18 @@ impl<'b, 's> Walker<'b, 's> {
         }
     }
 
-    /// The walk in the pass of an id before a place, seen as a group. Conditions: there is a pass
-    /// at the place, and the group's place has room for the passes before it and all surfaces
-    /// that are left.
+    /// The walk in the pass at a place of the frame, seen as a group. Conditions: it is there, and
+    /// the group's place has room for it, those before it and all surfaces that are left.
     #[cycle(walk)]
-    fn group<V: Visitor>(&self, before: usize, id: u32, place: &Place, visitor: &mut V) -> bool
-        requires there { before < length self.now.frame.passes }
-        requires room { HasRoom (room_for self.now.levels before + coordinates 1) place.now.shift }
+    fn group<V: Visitor>(&self, k: usize, place: &Place, visitor: &mut V) -> bool
+        requires there { k < length self.now.frame.passes }
+        requires room { HasRoom (room_for self.now.levels (k + 1) + coordinates 1)
+            place.now.shift }
         ensures { Meets V.has_met V.has_stopped result visitor.old visitor.new
-            (named_of self.now before id place.now) }
+            (group_at (ranges_of self.now) self.now.frame.passes place.now (Some k)) }
     {
-        let passes = self.frame.passes.as_slice();
-        match pass_named(passes, before, id) {
-            None => true,
-            Some(k) => self.pass(k, &place.inside(&passes[k]), visitor),
-        }
+        let passes = self.frame.frame().passes.as_slice();
+        self.pass(k, &place.inside(&passes[k]), visitor)
     }
 
     /// A range, and the walk in the surface that it shows, unless that is on the path. Condition:

@@ -1,69 +1,109 @@
-use Rattle.std.proofs.Common.{rules, length, ap, sym, ◌∙◌, subst, arith, ◌++◌, append-nil}
-use Rattle.std.specs.List.{All}
+use Rattle.std.proofs.Common.{rules, ◌<◌, ◌-◌, length, slice_get, ap, sym, refl, ◌∙◌, subst, arith, ◌++◌, append-nil}
+use Rattle.std.proofs.lemmas.Option.{slice_get_read, slice_get_within}
+use Rattle.vz_surfaces.specs.Names.{block_at}
+use Rattle.vz_surfaces.specs.Reading.{seen_frames}
 use Rattle.vz_surfaces.specs.declared.held.Held.{Held}
-use Rattle.vz_flat.specs.Whole.{IsPassWhole}
-use Rattle.vz_flat.specs.Flattening.{ranges_of, group_here}
+use Rattle.vz_walk.specs.Walking.{ids}
+use Rattle.vz_flat.specs.Flattening.{Stand, earlier_of, passes_in, ranges_of, group_here, group_at, group_in}
 use Rattle.vz_flat.proofs.Wholes.{frame_whole}
-use Rattle.vz_flat.proofs.Named.{named_whole, named_shorter, none_drawn, named_drawn}
-use Rattle.vz_flat.proofs.Standing.{split_whole, group_room, quad_room, surface_room, seen_whole, none_yet, one_more, surface_is}
+use Rattle.vz_flat.proofs.Named.{tile_drawn, name_drawn, name_before, pass_there, pass_whole}
+use Rattle.vz_flat.proofs.Standing.{group_room, name_room, no_passes, quad_room, surface_room, seen_whole, none_yet, one_more, surface_is}
 use Rattle.vz_flat.proofs.flattening.+flatten.Goals as goal
-
-pub Flattener::named-group-requires : goal.Flattener::named-group-requires
-Flattener::named-group-requires t c =
-    let is = c.in-Some.ensures in
-    let parts = named_whole c.args.self.now.seen c.args.passes.now c.in-Some.earlier.now c.in-Some.pass.now c.args.id is c.requires.whole in
-    let less = named_shorter c.args.passes.now c.in-Some.earlier.now c.in-Some.pass.now c.args.id is in (
-      search (rules, less),
-      (
-        parts.0,
-        (
-          parts.1,
-          group_room c.args.self.now.levels c.args.place.now c.inside-inner.result (length c.args.passes.now) (length c.in-Some.earlier.now)
-              c.in-Some.pass.now less parts.1.reach c.inside-inner.ensures c.requires.room,
-        ),
-      ),
-    )
 
 pub Flattener::named-inside-inner-requires-clause-pass : goal.Flattener::named-inside-inner-requires-clause-pass
 Flattener::named-inside-inner-requires-clause-pass t c =
-    (named_whole c.args.self.now.seen c.args.passes.now c.in-Some.earlier.now c.in-Some.pass.now c.args.id c.in-Some.ensures c.requires.whole).1.reach
+    let own = c.passes.ensures.own in
+    let within : c.args.k < length c.passes.result.now = subst (λ l. c.args.k < length l) (sym own) c.requires.there in
+    let fine = c.passes.ensures.whole in
+    (pass_whole c.args.self.now.seen c.passes.result.now c.args.k c.index-passes-k.result fine own within c.index-passes-k.is).reach
 
-pub Flattener::named-returns-in-None : goal.Flattener::named-returns-in-None
-Flattener::named-returns-in-None t c =
-    sym (ap (λ l. c.args.ops.now ++ l)
-    (none_drawn c.args.self.now.seen (ranges_of c.args.self.now) c.args.id c.args.mode c.args.opacity c.args.place.now c.args.passes.now c.in-None.ensures)
-    ∙ append-nil c.args.ops.now)
+pub Flattener::named-group-requires : goal.Flattener::named-group-requires
+Flattener::named-group-requires t c =
+    let own = c.passes.ensures.own in
+    let within : c.args.k < length c.passes.result.now = subst (λ l. c.args.k < length l) (sym own) c.requires.there in
+    let fine = c.passes.ensures.whole in
+    let whole = pass_whole c.args.self.now.seen c.passes.result.now c.args.k c.index-passes-k.result fine own within c.index-passes-k.is in
+    let there = pass_there c.args.self.now.seen c.passes.result.now c.args.k c.index-passes-k.result own within c.index-passes-k.is in
+    let room = group_room c.args.self.now.levels c.args.place.now c.inside-inner.result c.args.k c.index-passes-k.result whole.reach c.inside-inner.ensures
+    c.requires.room in
+    search rules
 
-pub Flattener::named-returns-in_ok-group-in-Some : goal.Flattener::named-returns-in_ok-group-in-Some
-Flattener::named-returns-in_ok-group-in-Some t c =
+pub Flattener::named-returns : goal.Flattener::named-returns
+Flattener::named-returns t c =
     let s = c.args.self.now in
-    c.in_ok-group-in-Some.ensures
+    let own = c.passes.ensures.own in
+    let within : c.args.k < length c.passes.result.now = subst (λ l. c.args.k < length l) (sym own) c.requires.there in
+    let there = pass_there s.seen c.passes.result.now c.args.k c.index-passes-k.result own within c.index-passes-k.is in
+    c.in_ok-group.ensures
     ∙ ap (λ l. c.args.ops.now ++ l)
-    (ap (group_here s c.in-Some.earlier.now c.in-Some.pass.now c.args.mode c.args.opacity) c.inside-inner.ensures
-    ∙ sym (named_drawn s.seen (ranges_of s) c.args.id c.args.mode c.args.opacity c.args.place.now c.args.passes.now c.in-Some.earlier.now c.in-Some.pass.now c.in-Some.ensures))
+    (ap (group_here s (earlier_of s c.args.k) c.index-passes-k.result c.args.mode c.args.opacity) c.inside-inner.ensures
+    ∙ ap (group_in s c.args.k c.args.mode c.args.opacity c.args.place.now) (sym there))
 
-pub Flattener::pass-loop-k-init : goal.Flattener::pass-loop-k-init
-Flattener::pass-loop-k-init t c =
-    (omega arith, none_yet c.args.self.now c.args.earlier.now c.args.pass.now c.args.place.now c.as_slice-quads.result.now c.args.ops.now)
+pub Flattener::pass-loop-n-init : goal.Flattener::pass-loop-n-init
+Flattener::pass-loop-n-init t c =
+    (omega arith, none_yet c.args.self.now (earlier_of c.args.self.now c.args.k) c.args.pass.now c.args.place.now c.as_slice-quads.result.now c.args.ops.now)
 
-pub Flattener::pass-loop-k-preserved : goal.Flattener::pass-loop-k-preserved
-Flattener::pass-loop-k-preserved t c =
-    let i = c.loop-k.invariant in
+pub Flattener::pass-loop-n-preserved : goal.Flattener::pass-loop-n-preserved
+Flattener::pass-loop-n-preserved t c =
+    let i = c.loop-n.invariant in
     let low = i.0 in (
       omega (arith, low),
-      one_more c.args.self.now c.args.earlier.now c.args.pass.now c.args.place.now c.as_slice-quads.result.now c.loop-k.k c.index-quads-k.result c.args.ops.now c.loop-k.ops c.quad.new.ops
-          c.loop-k-test.true i.0 c.index-quads-k.is i.1 c.in_ok-quad.ensures,
+      one_more c.args.self.now (earlier_of c.args.self.now c.args.k) c.args.pass.now c.args.place.now c.as_slice-quads.result.now c.loop-n.n c.index-quads-n.result
+          c.args.ops.now c.loop-n.ops c.quad.new.ops
+          c.loop-n-test.true i.0 c.index-quads-n.is i.1 c.in_ok-quad.ensures,
     )
 
+pub Flattener::pass-quad-requires : goal.Flattener::pass-quad-requires
+Flattener::pass-quad-requires t c =
+    let s = c.args.self.now in
+    let there = slice_get_within s.seen.frame.passes c.args.k c.args.pass.now c.requires.there in
+    let most = c.loop-n.invariant.0 in
+    let low : c.loop-n.n - 1 < length c.as_slice-quads.result.now = omega (arith, most, c.loop-n-test.true) in
+    let at_quad = ap (λ l. slice_get l (c.loop-n.n - 1)) (sym c.as_slice-quads.ensures)
+    ∙ slice_get_read c.as_slice-quads.result.now (length c.as_slice-quads.result.now) (c.loop-n.n - 1) c.index-quads-n.result refl low c.index-quads-n.is in
+    let named = c.place_named-leads_to.ensures c.args.pass.now c.index-quads-n.result c.requires.there at_quad in
+    search rules
+
 pub Flattener::quad-material-requires : goal.Flattener::quad-material-requires
-Flattener::quad-material-requires t c = (
-  search rules,
-  (
-    c.requires.earlier,
-    quad_room c.args.self.now.levels
-        (length c.args.earlier.now) c.args.place.now c.place_in-inner.result c.args.pass.now c.args.quad.now c.place_in-inner.ensures c.requires.whole.reach c.requires.room,
-  ),
-)
+Flattener::quad-material-requires t c =
+    let room = quad_room c.args.self.now.levels
+    c.args.k c.args.place.now c.place_in-inner.result c.args.pass.now c.args.quad.now c.place_in-inner.ensures c.requires.whole.reach c.requires.room in
+    search rules
+
+pub Flattener::material-named-requires : goal.Flattener::material-named-requires
+Flattener::material-named-requires t c =
+    let s = c.args.self.now in
+    let low = name_before s c.args.k c.in-Some.at c.in-Pass.field-0 c.args.quad.now c.args.leads_to c.in-Pass.is c.requires.named c.in-Some.is in
+    let there : c.in-Some.at < length s.seen.frame.passes = omega (arith, low, c.requires.there) in
+    let room = name_room s.levels c.args.place.now.shift c.args.k c.in-Some.at low c.requires.room in
+    search rules
+
+pub Flattener::material-returns-in_ok-put_tile-in-Tile : goal.Flattener::material-returns-in_ok-put_tile-in-Tile
+Flattener::material-returns-in_ok-put_tile-in-Tile t c =
+    let s = c.args.self.now in
+    let blocks = c.as_slice-blocks.ensures
+    ∙ (ap (λ (h : Held). h.blocks) c.held.ensures ∙ ap (λ (stand : Stand). stand.seen.blocks) c.self.view_is) in
+    c.in_ok-put_tile-in-Tile.ensures
+    ∙ ap (λ l. c.args.ops.now ++ l)
+    (tile_drawn s.seen (passes_in s (earlier_of s c.args.k)) (ranges_of s) c.args.quad.now c.args.place.now c.args.k _ _ _ c.args.leads_to _ c.in-Tile.is
+    c.requires.named (c.block_at-block.ensures ∙ ap (block_at c.args.leads_to) blocks))
+
+pub Flattener::material-returns-in-None : goal.Flattener::material-returns-in-None
+Flattener::material-returns-in-None t c =
+    let s = c.args.self.now in
+    sym
+    (ap (λ l. c.args.ops.now ++ l)
+    (sym (name_drawn s c.args.k c.in-Pass.field-0 c.args.quad.now c.args.place.now c.args.leads_to c.requires.there c.in-Pass.is c.requires.named)
+    ∙ ap (group_at s c.args.quad.now.blend c.args.quad.now.opacity c.args.place.now) c.in-None.is)
+    ∙ append-nil c.args.ops.now)
+
+pub Flattener::material-returns-in_ok-named-in-Some : goal.Flattener::material-returns-in_ok-named-in-Some
+Flattener::material-returns-in_ok-named-in-Some t c =
+    let s = c.args.self.now in
+    c.in_ok-named-in-Some.ensures
+    ∙ ap (λ l. c.args.ops.now ++ l)
+    (ap (group_at s c.args.quad.now.blend c.args.quad.now.opacity c.args.place.now) (sym c.in-Some.is)
+    ∙ name_drawn s c.args.k c.in-Pass.field-0 c.args.quad.now c.args.place.now c.args.leads_to c.requires.there c.in-Pass.is c.requires.named)
 
 pub Flattener::range-shown-requires : goal.Flattener::range-shown-requires
 Flattener::range-shown-requires t c =
@@ -71,25 +111,26 @@ Flattener::range-shown-requires t c =
 
 pub surface-pass-requires : goal.surface-pass-requires
 surface-pass-requires t c =
-    let own = c.as_slice.ensures ∙ ap (λ (h : Held). h.frame.passes) c.held.ensures in
-    let fine = frame_whole c.args.seen.now c.requires.whole in
-    let parts = split_whole c.args.seen.now c.as_slice.result.now c.in-Some.earlier.now c.in-Some.root.now c.in-Some.ensures.cases.0
-    (subst (All (IsPassWhole c.args.seen.now)) (sym own) fine.passes) in
+    let i = c.args.seen.now in
+    let own = c.passes-passes.ensures.own in
+    let some : 0 < length c.passes-passes.result.now = omega (arith, c.if-count-eq0.false) in
+    let last : length c.passes-passes.result.now - 1 < length c.passes-passes.result.now = omega (arith, some) in
+    let there = pass_there i c.passes-passes.result.now (length c.passes-passes.result.now - 1) c.index-passes-last.result own last c.index-passes-last.is in
+    let whole = pass_whole i c.passes-passes.result.now (length c.passes-passes.result.now - 1) c.index-passes-last.result c.requires.whole own last
+    c.index-passes-last.is in
     let few = ap length own in
-    let most = fine.few in (
-      search rules,
-      (
-        parts.0,
-        (
-          parts.1,
-          surface_room c.args.levels c.args.place.now.shift c.as_slice.result.now c.in-Some.earlier.now c.in-Some.root.now c.in-Some.ensures.cases.0
-              (omega (arith, few, most)) c.if-levels-eq0.false c.requires.room,
-        ),
-      ),
-    )
+    let most = (frame_whole i c.requires.whole).few in
+    let room = surface_room c.args.levels c.args.place.now.shift (length c.passes-passes.result.now) some (omega (arith, few, most)) c.if-levels-eq0.false
+    c.requires.room in
+    search rules
 
-pub surface-returns-in_ok-pass-in-Some : goal.surface-returns-in_ok-pass-in-Some
-surface-returns-in_ok-pass-in-Some t c =
-    surface_is c.args.levels _ _ c.args.seen.now c.id.result c.args.place.now c.as_slice.result.now c.in-Some.earlier.now c.in-Some.root.now c.args.ops.now c.pass.new.ops
-    c.if-levels-eq0.false c.id.ensures
-    (c.as_slice.ensures ∙ ap (λ (h : Held). h.frame.passes) c.held.ensures) c.in-Some.ensures.cases.0 c.in_ok-pass-in-Some.ensures
+pub surface-returns-then-count-eq0 : goal.surface-returns-then-count-eq0
+surface-returns-then-count-eq0 t c =
+    no_passes c.args.levels (seen_frames c.args.store.now) (ids c.args.path.now) c.args.seen.now c.args.place.now c.passes-passes.result.now c.args.ops.now
+    c.passes-passes.ensures.own c.if-count-eq0.true
+
+pub surface-returns : goal.surface-returns
+surface-returns t c =
+    surface_is c.args.levels _ _ c.args.seen.now c.id.result c.args.place.now c.passes-passes.result.now (length c.passes-passes.result.now - 1)
+    c.index-passes-last.result c.args.ops.now c.pass.new.ops
+    c.if-levels-eq0.false c.id.ensures c.passes-passes.ensures.own (omega (arith, c.if-count-eq0.false)) c.index-passes-last.is c.in_ok-pass.ensures

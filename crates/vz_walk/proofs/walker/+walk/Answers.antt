@@ -1,7 +1,9 @@
-use Rattle.std.proofs.Common.{◌≡◌, ◌+◌, ◌-◌, ◌<◌, ◌≤◌, true, false, [], ◌∷◌, ◌++◌, length, slice_get, take, drop, refl, subst, sym, ap}
+use Rattle.std.proofs.Common.{◌≡◌, ◌+◌, ◌-◌, ◌<◌, ◌≤◌, true, false, Some, [], ◌∷◌, ◌++◌, length, slice_get, take, drop, refl, subst, sym, ap}
 use Rattle.std.proofs.Common.{◌∙◌, arith, rules}
 use Rattle.std.specs.List.{flat_map, list_any}
 use Rattle.std.proofs.lemmas.List.{take_all}
+use Rattle.std.proofs.lemmas.Option.{slice_get_read}
+use Rattle.vz_frame.specs.declared.frame.CompositorFrame.{CompositorFrame}
 use Rattle.vz_frame.specs.declared.frame.Material.TheVariants as material
 use Rattle.vz_geom.specs.Rectangle.{minus, corner}
 use Rattle.vz_ids.specs.declared.SurfaceId.{SurfaceId}
@@ -10,13 +12,14 @@ use Rattle.vz_rules.specs.Scene.{shown_frame}
 use Rattle.vz_rules.specs.Paint.{on_path}
 use Rattle.vz_rules.specs.Walk.{Quad, Shows, Enters, range_walked, walk, place_in}
 use Rattle.vz_surfaces.specs.Reading.{seen_frames}
+use Rattle.vz_surfaces.specs.Names.{place_named}
 use Rattle.vz_surfaces.specs.declared.held.Held.{Held}
 use Rattle.vz_walk.specs.Limits.{HasRoom, FitsFile, coordinates, room_for}
-use Rattle.vz_walk.specs.Walking.{Stand, ids, ranges_of, named_of, quad_of, pass_in, shown_at}
+use Rattle.vz_walk.specs.Walking.{Stand, ids, ranges_of, named_of, quad_of, pass_in, group_at, shown_at}
 use Rattle.vz_walk.proofs.Fitting.{pass_at_in_reach, quad_at_in_reach, few_passes}
 use Rattle.vz_walk.proofs.Rooms.{room_less, place_room, drawn_room, room_minus}
 use Rattle.vz_walk.proofs.Meeting.{met_none, met_as, met_some, met_then, met_last}
-use Rattle.vz_walk.proofs.Standing.{quads_next, quads_all, pass_is, group_is, group_is_none, inner_of, quad_is, behind, range_is}
+use Rattle.vz_walk.proofs.Standing.{quads_next, quads_all, pass_is, group_is, name_is, name_before, inner_of, quad_is, behind, range_is}
 use Rattle.vz_walk.proofs.Standing.{again_is, enters_is}
 use Rattle.vz_walk.proofs.Passing.{no_levels, no_passes, root_pass_is}
 use Rattle.vz_walk.proofs.Seeing.{shown_fits}
@@ -33,7 +36,7 @@ surface-returns-then-levels-eq0 g _ c =
 pub surface-returns-then-count-eq0 : goal.surface-returns-then-count-eq0
 surface-returns-then-count-eq0 g _ c =
     let passes : c.as_slice-count.result.now ≡ c.args.seen.now.frame.passes = c.as_slice-count.ensures
-    ∙ ap (λ (h : Held). h.frame.passes) c.held.ensures in
+    ∙ (ap (λ (f : CompositorFrame). f.passes) c.frame.ensures ∙ ap (λ (h : Held). h.frame.passes) c.held.ensures) in
     met_as g.V.Visitor.has_met g.V.Visitor.has_stopped true _ _ _ _
     (no_passes c.args.levels (seen_frames c.args.store.now) (ids c.args.path.now) c.args.seen.now c.args.place.now (sym
     (ap length passes) ∙ c.if-count-eq0.true))
@@ -41,7 +44,7 @@ surface-returns-then-count-eq0 g _ c =
 
 pub surface-pass-requires : goal.surface-pass-requires
 surface-pass-requires g _ c =
-    let own = c.as_slice-count.ensures in
+    let own = c.as_slice-count.ensures ∙ ap (λ (f : CompositorFrame). f.passes) c.frame.ensures in
     let some : 0 < length c.as_slice-count.result.now = omega (arith, c.if-count-eq0.false) in
     let there : length c.as_slice-count.result.now - 1 < length c.held.result.now.frame.passes = subst
     (λ l. length c.as_slice-count.result.now - 1 < length l) own (omega arith) in
@@ -56,7 +59,7 @@ surface-pass-requires g _ c =
 pub surface-returns : goal.surface-returns
 surface-returns g _ c =
     let passes : c.as_slice-count.result.now ≡ c.args.seen.now.frame.passes = c.as_slice-count.ensures
-    ∙ ap (λ (h : Held). h.frame.passes) c.held.ensures in
+    ∙ (ap (λ (f : CompositorFrame). f.passes) c.frame.ensures ∙ ap (λ (h : Held). h.frame.passes) c.held.ensures) in
     met_as g.V.Visitor.has_met g.V.Visitor.has_stopped c.pass.result _ _ _ _
     (ap (λ (x : SurfaceId). pass_in (range_walked (walk (c.args.levels - 1) (seen_frames c.args.store.now))
     (seen_frames c.args.store.now) (x ∷ ids c.args.path.now)) c.held.result.now.frame.passes
@@ -65,24 +68,33 @@ surface-returns g _ c =
     ∙ root_pass_is c.args.levels (seen_frames c.args.store.now)
     (ids c.args.path.now) c.args.seen.now c.args.place.now c.held.result.now.frame.passes (length c.as_slice-count.result.now - 1)
     (ap (λ (h : Held). h.frame.passes) c.held.ensures) (omega (arith, c.if-levels-eq0.false))
-    (let some = c.if-count-eq0.false in let same = ap length c.as_slice-count.ensures in omega arith))
+    (let some = c.if-count-eq0.false in let same = ap length (c.as_slice-count.ensures ∙ ap (λ (f : CompositorFrame). f.passes) c.frame.ensures) in
+    omega arith))
     c.pass.ensures
 
 -- A pass
 
-pub Walker::pass-loop-quad-init : goal.Walker::pass-loop-quad-init
-Walker::pass-loop-quad-init g _ c = met_none g.V.Visitor.has_met g.V.Visitor.has_stopped c.args.visitor.now
+pub Walker::pass-loop-n-init : goal.Walker::pass-loop-n-init
+Walker::pass-loop-n-init g _ c = met_none g.V.Visitor.has_met g.V.Visitor.has_stopped c.args.visitor.now
 
 pub Walker::pass-quad-requires : goal.Walker::pass-quad-requires
 Walker::pass-quad-requires g _ c =
-    let own = c.as_slice.ensures in
+    let low : c.loop-n.n < length c.as_slice-quads.result.now = omega (arith, c.loop-n-test.true) in
+    let own = c.as_slice.ensures ∙ ap (λ (f : CompositorFrame). f.passes) c.frame.ensures in
     let within : c.args.k < length c.as_slice.result.now = subst (λ l. c.args.k < length l) (sym (own
     ∙ ap (λ (i : Stand). i.frame.passes) c.self.view_is)) c.requires.there in
     let pass = pass_at_in_reach c.self.inside.frame.now c.as_slice.result.now c.args.k c.index-as_slice-k.result c.self.invariant.fits
     own within c.index-as_slice-k.is in
-    let quad = quad_at_in_reach c.self.inside.frame.now c.as_slice.result.now c.args.k c.loop-quad.quad-index c.index-as_slice-k.result
-    c.as_slice-quad-items.result.now c.quad-item.result c.self.invariant.fits own within
-    c.index-as_slice-k.is c.as_slice-quad-items.ensures c.loop-quad-test.true c.quad-item.is in
+    let quad = quad_at_in_reach c.self.inside.frame.now c.as_slice.result.now c.args.k c.loop-n.n c.index-as_slice-k.result
+    c.as_slice-quads.result.now c.index-quads-n.result c.self.invariant.fits own within
+    c.index-as_slice-k.is c.as_slice-quads.ensures low c.index-quads-n.is in
+    let at_pass = ap (λ l. slice_get l c.args.k) (sym own)
+    ∙ slice_get_read c.as_slice.result.now (length c.as_slice.result.now) c.args.k c.index-as_slice-k.result refl within c.index-as_slice-k.is in
+    let at_quad = ap (λ l. slice_get l c.loop-n.n) (sym c.as_slice-quads.ensures)
+    ∙ slice_get_read c.as_slice-quads.result.now (length c.as_slice-quads.result.now) c.loop-n.n c.index-quads-n.result refl low
+    c.index-quads-n.is in
+    let named = c.place_named-leads_to.ensures c.index-as_slice-k.result c.index-quads-n.result at_pass at_quad
+    ∙ ap (λ (i : Stand). place_named i.frame c.args.k c.index-quads-n.result) c.self.view_is in
     search rules
 
 pub Walker::pass-returns-then-not-quad : goal.Walker::pass-returns-then-not-quad
@@ -90,43 +102,47 @@ Walker::pass-returns-then-not-quad g _ c =
     let it = c.args.self.now in
     let place = c.args.place.now in
     let f = quad_of it c.args.k c.index-as_slice-k.result place in
-    let quads = c.as_slice-quad-items.result.now in
-    let n = c.loop-quad.quad-index in
-    let own = c.as_slice.ensures ∙ ap (λ (i : Stand). i.frame.passes) c.self.view_is in
+    let quads = c.as_slice-quads.result.now in
+    let n = c.loop-n.n in
+    let low : c.loop-n.n < length c.as_slice-quads.result.now = omega (arith, c.loop-n-test.true) in
+    let own = c.as_slice.ensures ∙ (ap (λ (f : CompositorFrame). f.passes) c.frame.ensures
+    ∙ ap (λ (i : Stand). i.frame.passes) c.self.view_is) in
     let within : c.args.k < length c.as_slice.result.now = subst (λ l. c.args.k < length l) (sym own) c.requires.there in
-    let whole = pass_is it c.as_slice.result.now c.args.k c.index-as_slice-k.result c.as_slice-quad-items.result.now place own within
-    c.index-as_slice-k.is c.as_slice-quad-items.ensures in
+    let whole = pass_is it c.as_slice.result.now c.args.k c.index-as_slice-k.result c.as_slice-quads.result.now place own within
+    c.index-as_slice-k.is c.as_slice-quads.ensures in
     met_as g.V.Visitor.has_met g.V.Visitor.has_stopped false _ _ _ _
-    (quads_all f quads n c.quad-item.result c.loop-quad-test.true c.quad-item.is ∙ whole)
-    (met_some g.V.Visitor.has_met g.V.Visitor.has_stopped c.quad.result _ _ (flat_map f (take n quads) ++ f c.quad-item.result)
+    (quads_all f quads n c.index-quads-n.result low c.index-quads-n.is ∙ whole)
+    (met_some g.V.Visitor.has_met g.V.Visitor.has_stopped c.quad.result _ _ (flat_map f (take n quads) ++ f c.index-quads-n.result)
     (flat_map f (drop (n + 1) quads)) c.if-not-quad.true
     (met_then g.V.Visitor.has_met g.V.Visitor.has_stopped true c.quad.result _ _ _ (flat_map f (take n quads))
-    (f c.quad-item.result) refl c.loop-quad.invariant c.quad.ensures))
+    (f c.index-quads-n.result) refl c.loop-n.invariant c.quad.ensures))
 
-pub Walker::pass-loop-quad-preserved : goal.Walker::pass-loop-quad-preserved
-Walker::pass-loop-quad-preserved g _ c =
+pub Walker::pass-loop-n-preserved : goal.Walker::pass-loop-n-preserved
+Walker::pass-loop-n-preserved g _ c =
     let f = quad_of c.args.self.now c.args.k c.index-as_slice-k.result c.args.place.now in
-    let quads = c.as_slice-quad-items.result.now in
-    let n = c.loop-quad.quad-index in
+    let quads = c.as_slice-quads.result.now in
+    let n = c.loop-n.n in
+    let low : c.loop-n.n < length c.as_slice-quads.result.now = omega (arith, c.loop-n-test.true) in
     met_as g.V.Visitor.has_met g.V.Visitor.has_stopped true _ _ _ _
-    (quads_next f quads n c.quad-item.result c.loop-quad-test.true c.quad-item.is)
+    (quads_next f quads n c.index-quads-n.result low c.index-quads-n.is)
     (met_last g.V.Visitor.has_met g.V.Visitor.has_stopped c.quad.result _ _ (flat_map f
-    (take n quads) ++ f c.quad-item.result) c.if-not-quad.false
+    (take n quads) ++ f c.index-quads-n.result) c.if-not-quad.false
     (met_then g.V.Visitor.has_met g.V.Visitor.has_stopped true c.quad.result _ _ _ (flat_map f (take n quads))
-    (f c.quad-item.result) refl c.loop-quad.invariant c.quad.ensures))
+    (f c.index-quads-n.result) refl c.loop-n.invariant c.quad.ensures))
 
 pub Walker::pass-returns : goal.Walker::pass-returns
 Walker::pass-returns g _ c =
     let it = c.args.self.now in
     let place = c.args.place.now in
     let f = quad_of it c.args.k c.index-as_slice-k.result place in
-    let quads = c.as_slice-quad-items.result.now in
-    let own = c.as_slice.ensures ∙ ap (λ (i : Stand). i.frame.passes) c.self.view_is in
+    let quads = c.as_slice-quads.result.now in
+    let own = c.as_slice.ensures ∙ (ap (λ (f : CompositorFrame). f.passes) c.frame.ensures
+    ∙ ap (λ (i : Stand). i.frame.passes) c.self.view_is) in
     let within : c.args.k < length c.as_slice.result.now = subst (λ l. c.args.k < length l) (sym own) c.requires.there in
-    let whole = pass_is it c.as_slice.result.now c.args.k c.index-as_slice-k.result c.as_slice-quad-items.result.now place own within
-    c.index-as_slice-k.is c.as_slice-quad-items.ensures in
-    met_as g.V.Visitor.has_met g.V.Visitor.has_stopped true _ _ _ _ (ap (flat_map f) (take_all c.loop-quad.quad-index quads (omega
-    (arith, c.loop-quad-test.false))) ∙ whole) c.loop-quad.invariant
+    let whole = pass_is it c.as_slice.result.now c.args.k c.index-as_slice-k.result c.as_slice-quads.result.now place own within
+    c.index-as_slice-k.is c.as_slice-quads.ensures in
+    met_as g.V.Visitor.has_met g.V.Visitor.has_stopped true _ _ _ _ (ap (flat_map f) (take_all c.loop-n.n quads (omega
+    (arith, c.loop-n-test.false))) ∙ whole) c.loop-n.invariant
 
 -- A quad
 
@@ -141,9 +157,13 @@ Walker::quad-returns-then-not-quad g _ c =
 pub Walker::quad-group-requires : goal.Walker::quad-group-requires
 Walker::quad-group-requires g _ c =
     let it = c.args.self.now in
+    let low = name_before it c.args.k c.in-Some.at c.in-Pass.field-0 c.args.quad.now c.args.leads_to c.in-Pass.is c.requires.named c.in-Some.is in
+    let there : c.in-Some.at < length it.frame.passes = omega (arith, low, c.requires.there) in
     let place = place_room (room_for it.levels c.args.k + coordinates 1) c.place_in.result
     (place_in c.args.place.now c.args.pass.now c.args.quad.now) c.place_in.ensures
     (drawn_room it.levels c.args.k c.args.place.now c.args.quad.now c.requires.room c.requires.quad) in
+    let room = room_less (room_for it.levels c.args.k + coordinates 1) (room_for it.levels (c.in-Some.at + 1) + coordinates 1)
+    c.place_in.result.shift place (omega (arith, low)) in
     search rules
 
 pub Walker::quad-range-requires : goal.Walker::quad-range-requires
@@ -156,13 +176,25 @@ Walker::quad-range-requires g _ c =
     (omega arith) in
     search rules
 
-pub Walker::quad-returns-in-Pass : goal.Walker::quad-returns-in-Pass
-Walker::quad-returns-in-Pass g _ c =
+pub Walker::quad-returns-in-None : goal.Walker::quad-returns-in-None
+Walker::quad-returns-in-None g _ c =
     let it = c.args.self.now in
-    let inner = named_of it c.args.k c.in-Pass.id c.place_in.result in
+    let place = place_in c.args.place.now c.args.pass.now c.args.quad.now in
+    met_as g.V.Visitor.has_met g.V.Visitor.has_stopped true _ _ _ _
+    (quad_is it c.args.k c.args.pass.now c.args.place.now c.args.quad.now (material.Pass c.in-Pass.field-0) [] c.in-Pass.is
+    (ap (group_at (ranges_of it) it.frame.passes place) (sym c.in-None.is)
+    ∙ name_is it c.args.k c.in-Pass.field-0 c.args.quad.now c.args.leads_to place c.requires.there c.in-Pass.is c.requires.named))
+    (met_last g.V.Visitor.has_met g.V.Visitor.has_stopped c.quad.result _ _ (Quad ∷ []) c.if-not-quad.false c.quad.ensures)
+
+pub Walker::quad-returns-in-Some : goal.Walker::quad-returns-in-Some
+Walker::quad-returns-in-Some g _ c =
+    let it = c.args.self.now in
+    let inner = group_at (ranges_of it) it.frame.passes c.place_in.result (Some c.in-Some.at) in
     met_as g.V.Visitor.has_met g.V.Visitor.has_stopped c.group.result _ _ _ _
-    (quad_is it c.args.k c.args.pass.now c.args.place.now c.args.quad.now (material.Pass c.in-Pass.id) inner c.in-Pass.is (ap
-    (named_of it c.args.k c.in-Pass.id) c.place_in.ensures))
+    (quad_is it c.args.k c.args.pass.now c.args.place.now c.args.quad.now (material.Pass c.in-Pass.field-0) inner c.in-Pass.is
+    (ap (group_at (ranges_of it) it.frame.passes c.place_in.result) (sym c.in-Some.is)
+    ∙ (name_is it c.args.k c.in-Pass.field-0 c.args.quad.now c.args.leads_to c.place_in.result c.requires.there c.in-Pass.is c.requires.named
+    ∙ ap (named_of it c.args.k c.in-Pass.field-0) c.place_in.ensures)))
     (met_then g.V.Visitor.has_met g.V.Visitor.has_stopped c.quad.result c.group.result _ _ _
     (Quad ∷ []) inner c.if-not-quad.false c.quad.ensures c.group.ensures)
 
@@ -195,52 +227,38 @@ Walker::quad-returns-in-Tile g _ c =
 
 pub Walker::group-inside-requires-clause-pass : goal.Walker::group-inside-requires-clause-pass
 Walker::group-inside-requires-clause-pass g _ c =
-    let own = c.as_slice-passes.ensures in
-    let before = c.in-Some.ensures.before in
-    let within : c.in-Some.k < length c.as_slice-passes.result.now = subst (λ l. c.in-Some.k < length l) (sym (own
-    ∙ ap (λ (i : Stand). i.frame.passes) c.self.view_is)) (omega (arith, before, c.requires.there)) in
-    let pass = pass_at_in_reach c.self.inside.frame.now c.as_slice-passes.result.now c.in-Some.k c.index-passes-k.result
-    c.self.invariant.fits own within c.index-passes-k.is in
-    pass
+    let own = c.as_slice-passes.ensures ∙ ap (λ (f : CompositorFrame). f.passes) c.frame.ensures in
+    let within : c.args.k < length c.as_slice-passes.result.now = subst (λ l. c.args.k < length l) (sym (own
+    ∙ ap (λ (i : Stand). i.frame.passes) c.self.view_is)) c.requires.there in
+    pass_at_in_reach c.self.inside.frame.now c.as_slice-passes.result.now c.args.k c.index-passes-k.result
+    c.self.invariant.fits own within c.index-passes-k.is
 
 pub Walker::group-pass-requires : goal.Walker::group-pass-requires
 Walker::group-pass-requires g _ c =
-    let own = c.as_slice-passes.ensures in
-    let before = c.in-Some.ensures.before in
-    let within : c.in-Some.k < length c.as_slice-passes.result.now = subst (λ l. c.in-Some.k < length l) (sym (own
-    ∙ ap (λ (i : Stand). i.frame.passes) c.self.view_is)) (omega (arith, before, c.requires.there)) in
-    let pass = pass_at_in_reach c.self.inside.frame.now c.as_slice-passes.result.now c.in-Some.k c.index-passes-k.result
+    let own = c.as_slice-passes.ensures ∙ ap (λ (f : CompositorFrame). f.passes) c.frame.ensures in
+    let within : c.args.k < length c.as_slice-passes.result.now = subst (λ l. c.args.k < length l) (sym (own
+    ∙ ap (λ (i : Stand). i.frame.passes) c.self.view_is)) c.requires.there in
+    let pass = pass_at_in_reach c.self.inside.frame.now c.as_slice-passes.result.now c.args.k c.index-passes-k.result
     c.self.invariant.fits own within c.index-passes-k.is in
     let it = c.args.self.now in
     let place = c.args.place.now in
-    let there : c.in-Some.k < length it.frame.passes = omega (arith, before, c.requires.there) in
-    let room : HasRoom (room_for it.levels (c.in-Some.k + 1)) c.inside.result.shift =
-    place_room (room_for it.levels (c.in-Some.k + 1)) c.inside.result (record place {
+    let room : HasRoom (room_for it.levels (c.args.k + 1)) c.inside.result.shift =
+    place_room (room_for it.levels (c.args.k + 1)) c.inside.result (record place {
       shift = minus place.shift
           (corner c.index-passes-k.result.output);
     }) c.inside.ensures
-    (room_minus (room_for it.levels c.args.before + coordinates 1) (room_for it.levels (c.in-Some.k + 1)) place.shift
-    (corner c.index-passes-k.result.output) c.requires.room pass.drawn.first (omega (arith, before))) in
+    (room_minus (room_for it.levels (c.args.k + 1) + coordinates 1) (room_for it.levels (c.args.k + 1)) place.shift
+    (corner c.index-passes-k.result.output) c.requires.room pass.drawn.first (omega arith)) in
     search rules
 
-pub Walker::group-returns-in-None : goal.Walker::group-returns-in-None
-Walker::group-returns-in-None g _ c =
-    met_as g.V.Visitor.has_met g.V.Visitor.has_stopped true _ _ _ _
-    (group_is_none c.args.self.now c.as_slice-passes.result.now c.args.before c.args.id c.pass_named.result c.args.place.now
-    (c.as_slice-passes.ensures ∙ ap (λ (i : Stand). i.frame.passes) c.self.view_is)
-    c.pass_named.ensures.found c.in-None.is)
-    (met_none g.V.Visitor.has_met g.V.Visitor.has_stopped c.args.visitor.now)
-
-pub Walker::group-returns-in-Some : goal.Walker::group-returns-in-Some
-Walker::group-returns-in-Some g _ c =
-    let own = c.as_slice-passes.ensures ∙ ap (λ (i : Stand). i.frame.passes) c.self.view_is in
-    let before = c.in-Some.ensures.before in
-    let within : c.in-Some.k < length c.as_slice-passes.result.now = subst (λ l. c.in-Some.k < length l) (sym own) (omega
-    (arith, before, c.requires.there)) in
+pub Walker::group-returns : goal.Walker::group-returns
+Walker::group-returns g _ c =
+    let own = c.as_slice-passes.ensures ∙ (ap (λ (f : CompositorFrame). f.passes) c.frame.ensures
+    ∙ ap (λ (i : Stand). i.frame.passes) c.self.view_is) in
+    let within : c.args.k < length c.as_slice-passes.result.now = subst (λ l. c.args.k < length l) (sym own) c.requires.there in
     met_as g.V.Visitor.has_met g.V.Visitor.has_stopped c.pass.result _ _ _ _
-    (group_is c.args.self.now c.as_slice-passes.result.now c.args.before c.in-Some.k c.args.id c.pass_named.result
-    c.index-passes-k.result c.args.place.now c.inside.result own
-    c.pass_named.ensures.found c.in-Some.is within c.index-passes-k.is c.inside.ensures)
+    (group_is c.args.self.now c.as_slice-passes.result.now c.args.k c.index-passes-k.result c.args.place.now c.inside.result own within
+    c.index-passes-k.is c.inside.ensures)
     c.pass.ensures
 
 -- A range

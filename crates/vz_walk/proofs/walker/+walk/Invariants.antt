@@ -18,7 +18,7 @@ abbrev pub decreases-Walker::range : goal.decreases-Walker::range
 decreases-Walker::range g l = l.self.now.levels * wide + 2
 
 abbrev pub decreases-Walker::group : goal.decreases-Walker::group
-decreases-Walker::group g l = l.self.now.levels * wide + 8 * l.before + 3
+decreases-Walker::group g l = l.self.now.levels * wide + 8 * l.k + 6
 
 abbrev pub decreases-Walker::quad : goal.decreases-Walker::quad
 decreases-Walker::quad g l = l.self.now.levels * wide + 8 * l.k + 4
@@ -27,7 +27,7 @@ abbrev pub decreases-Walker::pass : goal.decreases-Walker::pass
 decreases-Walker::pass g l = l.self.now.levels * wide + 8 * l.k + 5
 
 -- the quads so far are met
-abbrev pub invariant-Walker::pass-loop-quad : goal.invariant-Walker::pass-loop-quad
-invariant-Walker::pass-loop-quad g l =
+abbrev pub invariant-Walker::pass-loop-n : goal.invariant-Walker::pass-loop-n
+invariant-Walker::pass-loop-n g l =
     Meets g.V.Visitor.has_met g.V.Visitor.has_stopped true l.initial.visitor l.visitor (flat_map (quad_of l.self l.k l.pass l.place)
-    (take l.quad-index l.quad-items))
+    (take l.n l.quads))

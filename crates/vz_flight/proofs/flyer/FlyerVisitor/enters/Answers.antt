@@ -1,4 +1,5 @@
 use Rattle.std.proofs.Common.{List, [], ◌∷◌, ap, sym, ◌∙◌}
+use Rattle.vz_frame.specs.declared.frame.CompositorFrame.{CompositorFrame}
 use Rattle.vz_frame.specs.declared.frame.Listing.{Listing}
 use Rattle.vz_surfaces.specs.declared.held.Held.{Held}
 use Rattle.vz_rules.specs.Closure.{adding}
@@ -16,4 +17,5 @@ returns c =
     meets_one (λ (f : Flyer). f.roster) c.is_ok.result old new (Enters _ c.args.frame.now _)
     (λ e. where_ok c.note.result _ c.note.ensures (sym c.is_ok.ensures.value ∙ e)
     ∙ (ap (λ (l : List Listing). adding same_flown old.roster ((c.held-held.result.now.sub, l) ∷ [])) c.as_slice-listings.ensures
-    ∙ ap (λ (h : Held). adding same_flown old.roster ((h.sub, h.frame.resources) ∷ [])) c.held-held.ensures))
+    ∙ (ap (λ (f : CompositorFrame). adding same_flown old.roster ((c.held-held.result.now.sub, f.resources) ∷ [])) c.frame.ensures
+    ∙ ap (λ (h : Held). adding same_flown old.roster ((h.sub, h.frame.resources) ∷ [])) c.held-held.ensures)))

@@ -1,10 +1,12 @@
-use Rattle.std.proofs.Common.{◌≡◌, ◌+◌, ap, sym, ◌∙◌, subst}
+use Rattle.std.proofs.Common.{◌≡◌, ◌+◌, ap, sym, ◌∙◌, subst, cond}
 use Rattle.std.specs.Option.{option_map}
 use Rattle.vz_surfaces.specs.declared.held.Held.{Held}
 use Rattle.vz_surfaces.specs.Numbers.{KeepsLists}
 use Rattle.vz_surfaces.proofs.Listing.{lists_alike}
 use Rattle.vz_surfaces.specs.Chains.{Stands, KeepsGroups}
-use Rattle.vz_surfaces.specs.Memory.{Keeps, KeepsMarks, look, is_named_last, waiting_on}
+use Rattle.vz_ids.specs.declared.SurfaceId.{SurfaceId}
+use Rattle.vz_frame.specs.declared.frame.CompositorFrame.{CompositorFrame}
+use Rattle.vz_surfaces.specs.Memory.{Keeps, KeepsMarks, look, is_key, holding, is_named_last, waiting_on}
 use Rattle.vz_surfaces.proofs.Holding.{IsHeldAt, open_new, few_before, held_before, accepted_keeps, accepted_groups, accepted_marks, accepted_lists}
 use Rattle.vz_surfaces.proofs.Storing.{stored_more}
 use Rattle.vz_surfaces.proofs.Storing_whole.{stands_still}
@@ -14,7 +16,7 @@ pub open-requires-clause-new : goal.open-requires-clause-new
 open-requires-clause-new c =
     let inside = c.self.inside in
     let kept = subst (Keeps inside.table inside.waits inside.owners) c.self.view_is c.self.invariant.0.kept in
-    open_new c.args.self.now c.args.c c.args.sink c.args.local c.requires.keeps c.requires.number c.requires.sink c.requires.goes_on inside.table c.grow.new.table inside.waits inside.owners c.is_last-last.result kept c.in-Ok.ensures.table
+    open_new c.args.self.now c.args.c c.args.sink c.args.local c.requires.keeps c.requires.number c.requires.sink c.requires.goes_on inside.table c.grow.new.table inside.waits inside.owners c.is_last-last.result kept c.in-Ok-grow.ensures.table
     (c.is_last-last.ensures ∙ ap (λ o. is_named_last o.last c.args.local) c.get-owner.ensures)
 
 pub open-requires-clause-few : goal.open-requires-clause-few
@@ -34,14 +36,14 @@ held c =
     let inside = c.self.inside in
     let kept = subst (Keeps inside.table inside.waits inside.owners) c.self.view_is c.self.invariant.0.kept in
     held_before c.args.self.now c.args.c c.args.sink c.args.local c.requires.keeps c.requires.number c.requires.sink c.requires.goes_on inside.table c.grow.new.table c.open.new.self inside.waits inside.owners c.is_last-last.result c.get-owner.result.created 4294967295
-    kept c.in-Ok.ensures.table (c.is_last-last.ensures ∙ ap (λ o. is_named_last o.last c.args.local) c.get-owner.ensures) c.requires.exists c.requires.few c.open.ensures.surfaces
+    kept c.in-Ok-grow.ensures.table (c.is_last-last.ensures ∙ ap (λ o. is_named_last o.last c.args.local) c.get-owner.ensures) c.requires.exists c.requires.few c.open.ensures.surfaces
 
 held_after : (c : goal.After-set) → IsHeldAt c.args.self.now (record { sink = c.args.sink; local = c.args.local }) (look c.open.new.self (record { sink = c.args.sink; local = c.args.local })) 4294967295
 held_after c =
     let inside = c.self.inside in
     let kept = subst (Keeps inside.table inside.waits inside.owners) c.self.view_is c.self.invariant.0.kept in
     held_before c.args.self.now c.args.c c.args.sink c.args.local c.requires.keeps c.requires.number c.requires.sink c.requires.goes_on inside.table c.grow.new.table c.open.new.self inside.waits inside.owners c.is_last-last.result c.get-owner.result.created 4294967295
-    kept c.in-Ok.ensures.table (c.is_last-last.ensures ∙ ap (λ o. is_named_last o.last c.args.local) c.get-owner.ensures) c.requires.exists c.requires.few c.open.ensures.surfaces
+    kept c.in-Ok-grow.ensures.table (c.is_last-last.ensures ∙ ap (λ o. is_named_last o.last c.args.local) c.get-owner.ensures) c.requires.exists c.requires.few c.open.ensures.surfaces
 
 pub hold-index-requires : goal.hold-index-requires
 hold-index-requires c = let h = held c in record { there = (h.surface, h.is, h.few) }
@@ -57,6 +59,16 @@ returns-clause-index c =
 pub returns-clause-replaced : goal.returns-clause-replaced
 returns-clause-replaced c = let h = held_after c in c.hold-index.ensures.replaced h.surface h.is ∙ h.held
 
+-- what is held is the frame, whose names are followed beside it
+held_so : (c : goal.After-set) → (q : SurfaceId)
+    → look c.hold-index.new.self q
+    ≡ cond (is_key (record { sink = c.args.sink; local = c.args.local }) q)
+    (option_map (holding (record { client = c.args.c; ordinal = c.get-owner.result.accepted + 1 }) c.note-acceptance.result.frame c.note-acceptance.result.blocks) (look c.open.new.self q)) (look c.open.new.self q)
+held_so c q =
+    c.hold-index.ensures.surfaces q
+    ∙ ap (λ (f : CompositorFrame). cond (is_key (record { sink = c.args.sink; local = c.args.local }) q)
+    (option_map (holding (record { client = c.args.c; ordinal = c.get-owner.result.accepted + 1 }) f c.note-acceptance.result.blocks) (look c.open.new.self q)) (look c.open.new.self q)) c.new-frame.ensures
+
 waited : (c : goal.After-set) → c.sub_of-waited.result ≡ waiting_on c.args.self.now (record { sink = c.args.sink; local = c.args.local })
 waited c =
     let h = held_after c in
@@ -70,23 +82,23 @@ invariant_of-self-2 c =
           (record {
             kept = accepted_keeps c.args.self.now c.args.c c.args.sink c.args.local c.requires.keeps c.requires.number c.requires.sink c.requires.goes_on c.args.frame c.args.blocks inside.table c.grow.new.table c.open.new.self
                 c.hold-index.new.self inside.waits c.grow.new.waits c.remove.new.self c.put.new.self inside.owners c.set.new.self c.get-owner.result c.counting.result c.is_last-last.result c.size-size.result c.note-acceptance.result
-                c.sub_of-waited.result kept c.in-Ok.ensures.table c.in-Ok.ensures.waits c.size-size.ensures c.get-owner.ensures c.is_last-last.ensures c.note-acceptance.ensures.back
-                c.open.ensures.surfaces c.open.ensures.len c.hold-index.ensures.surfaces c.hold-index.ensures.len (waited c) c.remove.ensures.none c.remove.ensures.others c.put.ensures c.counting.ensures c.set.ensures;
+                c.sub_of-waited.result kept c.in-Ok-grow.ensures.table c.in-Ok-grow.ensures.waits c.size-size.ensures c.get-owner.ensures c.is_last-last.ensures c.note-acceptance.ensures.back
+                c.open.ensures.surfaces c.open.ensures.len (held_so c) c.hold-index.ensures.len (waited c) c.remove.ensures.none c.remove.ensures.others c.put.ensures c.counting.ensures c.set.ensures;
             groups = accepted_groups c.args.self.now c.args.c c.args.sink c.args.local c.requires.keeps c.requires.number c.requires.sink c.requires.goes_on c.args.frame c.args.blocks inside.owners c.get-owner.result inside.groups c.grow.new.groups
-                c.is_last-last.result kept.owners (subst (KeepsGroups inside.groups) c.self.view_is c.self.invariant.0.groups) c.get-owner.ensures c.is_last-last.ensures c.in-Ok.ensures.chain c.in-Ok.ensures.newest;
+                c.is_last-last.result kept.owners (subst (KeepsGroups inside.groups) c.self.view_is c.self.invariant.0.groups) c.get-owner.ensures c.is_last-last.ensures c.in-Ok-grow.ensures.chain c.in-Ok-grow.ensures.newest;
             marks = accepted_marks c.args.self.now c.args.c c.args.sink c.args.local c.requires.keeps c.requires.number c.requires.sink c.requires.goes_on c.args.frame c.args.blocks inside.owners c.set.new.self c.is_last-last.result
                 c.size-size.result c.get-owner.result c.counting.result kept.owners (subst (KeepsMarks inside.owners) c.self.view_is c.self.invariant.0.marks) c.get-owner.ensures c.is_last-last.ensures c.counting.ensures c.set.ensures;
           }),
       subst (KeepsLists c.open-2.new.self) (sym (returns-clause-ok c))
           (accepted_lists c.args.self.now c.args.c c.args.sink c.args.local c.requires.keeps c.requires.number c.requires.sink c.requires.goes_on c.args.frame c.args.blocks inside.owners c.get-owner.result inside.standing c.grow.new.standing c.open-2.new.self
-          c.is_last-last.result kept.owners (subst (KeepsMarks inside.owners) c.self.view_is c.self.invariant.0.marks) (subst (KeepsLists inside.standing) c.self.view_is c.self.invariant.1) c.get-owner.ensures c.is_last-last.ensures c.in-Ok.ensures.lists c.open-2.ensures),
+          c.is_last-last.result kept.owners (subst (KeepsMarks inside.owners) c.self.view_is c.self.invariant.0.marks) (subst (KeepsLists inside.standing) c.self.view_is c.self.invariant.1) c.get-owner.ensures c.is_last-last.ensures c.in-Ok-grow.ensures.lists c.open-2.ensures),
     )
 
 pub invariant_of-self : goal.invariant_of-self
 invariant_of-self c =
     let inside = c.self.inside in (
-      stands_still inside.table c.grow.new.table inside.waits c.grow.new.waits inside.owners inside.groups c.grow.new.groups _ c.self.invariant.0 c.in_default.ensures.table c.in_default.ensures.waits c.in_default.ensures.err c.in_default.ensures.newest,
-      lists_alike inside.standing c.grow.new.standing _ c.in_default.ensures.lists c.self.invariant.1,
+      stands_still inside.table c.grow.new.table inside.waits c.grow.new.waits inside.owners inside.groups c.grow.new.groups _ c.self.invariant.0 c.in_default-grow.ensures.table c.in_default-grow.ensures.waits c.in_default-grow.ensures.err c.in_default-grow.ensures.newest,
+      lists_alike inside.standing c.grow.new.standing _ c.in_default-grow.ensures.lists c.self.invariant.1,
     )
 
 pub open-requires-2-clause-few : goal.open-requires-2-clause-few

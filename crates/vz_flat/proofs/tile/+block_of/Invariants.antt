@@ -1,5 +1,0 @@
-use Rattle.std.proofs.Common.{length}
-use Rattle.vz_flat.proofs.tile.+block_of.Given as goal
-
-abbrev pub decreases-block_of : goal.decreases-block_of
-decreases-block_of l = length l.listings.now

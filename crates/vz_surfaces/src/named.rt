@@ -1,0 +1,129 @@
+//! Frames whose names were followed once: each pass quad knows the place of its pass, and each
+//! tile that of its listing.
+ghost use Rattle.std.specs.Prelude.{◌≡◌, ◌≤◌, Some, length, slice_get, IfOk};
+ghost use Rattle.vz_frame.specs.declared.frame.RenderPass.{RenderPass as Pass};
+ghost use Rattle.vz_frame.specs.declared.frame.DrawQuad.{DrawQuad as Quad};
+ghost use Rattle.vz_surfaces.specs.Names.{pass_place, listing_place, place_named, places_in};
+ghost use Rattle.vz_surfaces.specs.Names.{AreNamed};
+
+use std::alloc::Global;
+use std::marker::Model;
+use vz_base::Memory;
+use vz_frame::{CompositorFrame, DrawQuad, List, Listing, Material, RenderPass};
+
+/// A frame, with the places to which its names lead. Contracts see the frame alone.
+#[derive(Drop)]
+pub struct NamedFrame {
+    frame: CompositorFrame,
+    places: List<List<Option<usize>>>,
+}
+
+impl Model for NamedFrame {
+    ghost use Rattle.vz_frame.specs.declared.frame.CompositorFrame.{CompositorFrame};
+    ghost use Rattle.vz_surfaces.specs.Names.{AreNamed};
+
+    ghost Value = { CompositorFrame };
+
+    ghost view = { λ f. f.frame };
+
+    ghost invariant = { λ f. AreNamed f.frame f.places };
+}
+
+impl NamedFrame {
+    /// A frame, with the places to which its names lead.
+    pub(crate) fn new(frame: CompositorFrame, places: List<List<Option<usize>>>) -> NamedFrame
+        requires { AreNamed frame places }
+        ensures { result ≡ frame }
+    {
+        NamedFrame { frame, places }
+    }
+
+    /// The frame.
+    pub fn frame(&self) -> &CompositorFrame
+        ensures { result.now ≡ self.now }
+    {
+        &self.frame
+    }
+
+    /// The place to which the name in a quad leads, by the places of its pass and of the quad in
+    /// it: among the passes the place of the last earlier one of a pass quad's id, and among the
+    /// listings that of the first one of a tile's resource. None where there is no such thing. It
+    /// looks nothing up.
+    pub fn place_named(&self, pass: usize, quad: usize) -> Option<usize>
+        ensures { (p : Pass) (q : Quad) → slice_get self.now.passes pass ≡ Some p
+            → slice_get p.quads quad ≡ Some q → result ≡ place_named self.now pass q }
+    {
+        let places = self.places.as_slice().get(pass)?;
+        let place = places.as_slice().get(quad)?;
+        *place
+    }
+}
+
+/// The place of the last pass of an id before a place.
+fn pass_place(passes: &[RenderPass], before: usize, id: u32) -> Option<usize>
+    requires { before ≤ length passes.now }
+    ensures { result ≡ pass_place id passes.now before }
+{
+    let mut k = before;
+    while k > 0 {
+        k -= 1;
+        if passes[k].id == id {
+            return Some(k);
+        }
+    }
+    None
+}
+
+/// The place of the first listing of a resource.
+fn listing_place(listings: &[Listing], id: u32) -> Option<usize>
+    ensures { result ≡ listing_place id listings.now }
+{
+    listings.iter().position(|listing| listing.id == id)
+}
+
+/// The place to which the name in a quad of the pass at a place leads.
+#[tactic(auto, unfolding(crate::specs::Names::place_named))]
+fn place_named(frame: &CompositorFrame, pass: usize, quad: &DrawQuad) -> Option<usize>
+    requires { pass ≤ length frame.now.passes }
+    ensures { result ≡ place_named frame.now pass quad.now }
+{
+    match quad.material {
+        Material::Pass(id) => pass_place(frame.passes.as_slice(), pass, id),
+        Material::Tile { resource, .. } => listing_place(frame.resources.as_slice(), resource),
+        Material::Solid(_) => None,
+        Material::Surface { .. } => None,
+    }
+}
+
+/// The places to which the names in quads of the pass at a place lead.
+fn places_in(
+    alloc: Global,
+    frame: &CompositorFrame,
+    pass: usize,
+    quads: &[DrawQuad],
+) -> Result<List<Option<usize>>, Memory>
+    requires { pass ≤ length frame.now.passes }
+    ensures { IfOk result (λ places. places ≡ places_in frame.now pass quads.now) }
+{
+    let mut places = Vec::with_capacity(alloc, quads.len())?;
+    for quad in quads {
+        places.push(place_named(frame, pass, quad))?;
+    }
+    Ok(List::from_vec(places))
+}
+
+/// The places to which the names in the quads of each pass of a frame lead.
+pub(crate) fn places_of(
+    alloc: Global,
+    frame: &CompositorFrame,
+) -> Result<List<List<Option<usize>>>, Memory>
+    ensures { IfOk result (λ places. AreNamed frame.now places) }
+{
+    let passes = frame.passes.as_slice();
+    let mut places = Vec::with_capacity(alloc, passes.len())?;
+    for k in 0..passes.len() {
+        let of_pass = places_in(alloc, frame, k, passes[k].quads.as_slice())?;
+        places.push(of_pass)?;
+    }
+    Ok(List::from_vec(places))
+}
