@@ -89,6 +89,11 @@ abbrev pub actor_in : Event → ℕ
 actor_in (event.Client c) = c
 actor_in _ = 0
 
+-- an event is a drawing
+abbrev pub is_drawing : Event → Bool
+is_drawing event.Draw = true
+is_drawing _ = false
+
 -- an entry is a step of an actor
 abbrev pub is_step_of : ℕ → Entry → Bool
 is_step_of actor e = actor_in e.event == actor

@@ -4,15 +4,16 @@ ghost use Rattle.vz_base.specs.declared.limits.TheConstants.{MOST_FILES};
 ghost use Rattle.vz_geom.specs.Display.{IsDisplaySize};
 ghost use Rattle.vz_pixels.specs.Colour.{Colour};
 ghost use Rattle.vz_buffers.specs.Canvas.{pixel_count};
+ghost use Rattle.vz_rules.specs.declared.entry.Event.TheVariants as event;
 ghost use Rattle.vz_rules.specs.World.{opening};
 ghost use Rattle.vz_rules.specs.Step.{NamesClient, Legal, world};
 ghost use Rattle.vz_rules.specs.Log.{rest_of};
 ghost use Rattle.vz_display.specs.Displayed.{current, buffer_with, display_at};
-ghost use Rattle.vz_player.specs.Played.{first_played, played_at, played_on, machine_of, display_of, frames_of, painted_by, Writes, StopsAt};
+ghost use Rattle.vz_player.specs.Played.{is_drawing, first_played, played_at, played_on, machine_of, display_of, frames_of, painted_by, Writes, StopsAt};
 
-use crate::actors::{Actors, actor_of};
+use crate::actors::{Actors, actor_of, is_drawing};
 use crate::show::show_some;
-use crate::take::take_gated;
+use crate::take::{draw_gated, take_gated};
 use std::alloc::Global;
 use std::marker::Model;
 use std::sync::ledger::Ledger;
@@ -126,9 +127,51 @@ impl<M: Machine + Drop> Player<M> {
             (steps.new + painted_by self.old ≡ steps.old + painted_by self.new) }
         ensures err { OnErr result (StopsAt self.old event self.new) }
     {
+        if is_drawing(event) {
+            return self.draw(alloc, gate, steps);
+        }
+        self.take_plain(alloc, gate, event)?;
+        Ok(false)
+    }
+
+    // Takes an event that is no drawing.
+    fn take_plain<G: Gate>(&mut self, alloc: Global, gate: &G, event: Event) -> Result<(), Memory>
+        requires going { self.old.stopped ≡ false }
+        requires named { NamesClient self.old.plan event }
+        requires other { is_drawing event ≡ false }
+        ensures taken { OnOk result (self.new ≡ played_on self.old event) }
+        ensures written { OnOk result (Writes self.old self.new false) }
+        ensures counted { OnOk result (painted_by self.old ≡ painted_by self.new) }
+        ensures err { OnErr result (StopsAt self.old event self.new) }
+    {
         self.history.reserve(1)?;
         let turn = self.actors.next_turn(actor_of(event));
-        let (entry, picture) = take_gated(alloc, gate, turn, &mut self.machine, event)?;
+        let plain = take_gated(alloc, gate, turn, &mut self.machine, event)?;
+        self.history.put(plain);
+        Ok(())
+    }
+
+    // Draws, and shows the picture where something is drawn. It stays a function of its own, as the
+    // room for a picture is cleared at its beginning.
+    #[inline(never)]
+    fn draw<G: Gate, L: Ledger>(
+        &mut self,
+        alloc: Global,
+        gate: &G,
+        steps: &mut Steps<L>,
+    ) -> Result<bool, Memory>
+    where
+        M::FrameData: Drop,
+        requires going { self.old.stopped ≡ false }
+        ensures taken { OnOk result (self.new ≡ played_on self.old event.Draw) }
+        ensures written { IfOk result (λ drawn. Writes self.old self.new drawn) }
+        ensures counted { OnOk result
+            (steps.new + painted_by self.old ≡ steps.old + painted_by self.new) }
+        ensures err { OnErr result (StopsAt self.old event.Draw self.new) }
+    {
+        self.history.reserve(1)?;
+        let turn = self.actors.next_turn(actor_of(Event::Draw));
+        let (entry, picture) = draw_gated(alloc, gate, turn, &mut self.machine)?;
         self.history.put(entry);
         self.stopped = true;
         let drawn = show_some(alloc, picture, &mut self.display, steps)?;

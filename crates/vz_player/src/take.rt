@@ -1,8 +1,10 @@
 //! Events taken by a machine.
-ghost use Rattle.std.specs.Prelude.{◌≡◌, IfOk, OnOk, OnErr};
+ghost use Rattle.std.specs.Prelude.{◌≡◌, false, None, IfOk, OnOk, OnErr};
 ghost use Rattle.std.specs.Option.{option_map};
+ghost use Rattle.vz_rules.specs.declared.entry.Event.TheVariants as event;
 ghost use Rattle.vz_rules.specs.Step.{entry_in, NamesClient};
 ghost use Rattle.vz_machine.specs.Stepping.{Goes, ShowsDrawn};
+ghost use Rattle.vz_player.specs.Played.{is_drawing};
 
 use crate::{Turn, gated};
 use std::alloc::Global;
@@ -11,20 +13,20 @@ use vz_machine::{Machine, Step};
 use vz_outside::Gate;
 use vz_rules::{Entry, Event};
 
-/// Takes an event between the two calls of a gate: its entry, and the picture of a drawing. At
-/// want of memory the machine stays. Condition: a client's event is of a client of the plan.
+/// Takes an event that is no drawing, between the two calls of a gate: its entry. At want of memory
+/// the machine stays. Condition: a client's event is of a client of the plan.
 pub fn take_gated<M: Machine, G: Gate>(
     alloc: Global,
     gate: &G,
     turn: Turn,
     machine: &mut M,
     event: Event,
-) -> Result<(Entry, Option<M::FrameData>), Memory>
-    requires { NamesClient (M.state machine.old).plan event }
-    ensures entry { IfOk result (λ r.
-        r.0 ≡ entry_in (M.state machine.old).plan (M.state machine.old).world event) }
-    ensures picture { IfOk result (λ r. ShowsDrawn (M.state machine.old) r.0.reply
-        (option_map M.FrameData.pictured r.1)) }
+) -> Result<Entry, Memory>
+    requires named { NamesClient (M.state machine.old).plan event }
+    requires other { is_drawing event ≡ false }
+    ensures entry { IfOk result (λ e.
+        e ≡ entry_in (M.state machine.old).plan (M.state machine.old).world event) }
+    ensures picture { IfOk result (λ e. ShowsDrawn (M.state machine.old) e.reply None) }
     ensures world { OnOk result (Goes (M.state machine.old) event (M.state machine.new)) }
     ensures err { OnErr result (M.state machine.new ≡ M.state machine.old) }
 {
@@ -33,36 +35,61 @@ pub fn take_gated<M: Machine, G: Gate>(
         turn,
         machine,
         |machine|
-            requires { NamesClient (M.state machine.now).plan event }
+            requires named { NamesClient (M.state machine.now).plan event }
+            requires other { is_drawing event ≡ false }
         { take(alloc, machine, event) },
     )
 }
 
-/// Takes an event: its entry, and the picture of a drawing. At want of memory the machine stays.
-/// Condition: a client's event is of a client of the plan.
-fn take<M: Machine>(
-    alloc: Global,
-    machine: &mut M,
-    event: Event,
-) -> Result<(Entry, Option<M::FrameData>), Memory>
-    requires { NamesClient (M.state machine.old).plan event }
-    ensures entry { IfOk result (λ r.
-        r.0 ≡ entry_in (M.state machine.old).plan (M.state machine.old).world event) }
-    ensures picture { IfOk result (λ r. ShowsDrawn (M.state machine.old) r.0.reply
-        (option_map M.FrameData.pictured r.1)) }
+/// Takes an event that is no drawing: its entry. At want of memory the machine stays. Condition: a
+/// client's event is of a client of the plan.
+fn take<M: Machine>(alloc: Global, machine: &mut M, event: Event) -> Result<Entry, Memory>
+    requires named { NamesClient (M.state machine.old).plan event }
+    requires other { is_drawing event ≡ false }
+    ensures entry { IfOk result (λ e.
+        e ≡ entry_in (M.state machine.old).plan (M.state machine.old).world event) }
+    ensures picture { IfOk result (λ e. ShowsDrawn (M.state machine.old) e.reply None) }
     ensures world { OnOk result (Goes (M.state machine.old) event (M.state machine.new)) }
     ensures err { OnErr result (M.state machine.new ≡ M.state machine.old) }
 {
     match event {
-        Event::Client(client) => Ok((entry_of(event, machine.client(alloc, client)?), None)),
-        Event::Begin => Ok((entry_of(event, machine.begin(alloc)?), None)),
-        Event::Draw => {
-            let (step, picture) = machine.draw(alloc)?;
-            Ok((entry_of(event, step), picture))
-        }
-        Event::Done => Ok((entry_of(event, machine.done()), None)),
-        Event::Over => Ok((entry_of(event, machine.over()), None)),
+        Event::Client(client) => Ok(entry_of(event, machine.client(alloc, client)?)),
+        Event::Begin => Ok(entry_of(event, machine.begin(alloc)?)),
+        Event::Draw => unreachable!(),
+        Event::Done => Ok(entry_of(event, machine.done())),
+        Event::Over => Ok(entry_of(event, machine.over())),
     }
+}
+
+/// Draws between the two calls of a gate: the entry, and the picture. At want of memory the machine
+/// stays.
+pub fn draw_gated<M: Machine, G: Gate>(
+    alloc: Global,
+    gate: &G,
+    turn: Turn,
+    machine: &mut M,
+) -> Result<(Entry, Option<M::FrameData>), Memory>
+    ensures entry { IfOk result (λ r.
+        r.0 ≡ entry_in (M.state machine.old).plan (M.state machine.old).world event.Draw) }
+    ensures picture { IfOk result (λ r. ShowsDrawn (M.state machine.old) r.0.reply
+        (option_map M.FrameData.pictured r.1)) }
+    ensures world { OnOk result (Goes (M.state machine.old) event.Draw (M.state machine.new)) }
+    ensures err { OnErr result (M.state machine.new ≡ M.state machine.old) }
+{
+    gated(gate, turn, machine, |machine| { draw(alloc, machine) })
+}
+
+/// Draws: the entry, and the picture. At want of memory the machine stays.
+fn draw<M: Machine>(alloc: Global, machine: &mut M) -> Result<(Entry, Option<M::FrameData>), Memory>
+    ensures entry { IfOk result (λ r.
+        r.0 ≡ entry_in (M.state machine.old).plan (M.state machine.old).world event.Draw) }
+    ensures picture { IfOk result (λ r. ShowsDrawn (M.state machine.old) r.0.reply
+        (option_map M.FrameData.pictured r.1)) }
+    ensures world { OnOk result (Goes (M.state machine.old) event.Draw (M.state machine.new)) }
+    ensures err { OnErr result (M.state machine.new ≡ M.state machine.old) }
+{
+    let (step, picture) = machine.draw(alloc)?;
+    Ok((entry_of(Event::Draw, step), picture))
 }
 
 /// The entry of an event.

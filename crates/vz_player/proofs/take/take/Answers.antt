@@ -19,10 +19,6 @@ pub returns-in_ok-begin-in-Begin-clause-picture : goal.returns-in_ok-begin-in-Be
 returns-in_ok-begin-in-Begin-clause-picture g c =
     no_picture (g.M.Machine.state c.args.machine.now) event.Begin c.args.event c.in_ok-begin-in-Begin.field-0 c.entry_of-in-Begin.result tt c.in_ok-begin-in-Begin.ensures.answer c.entry_of-in-Begin.ensures
 
-pub returns-in_ok-step-in-Draw-clause-entry : goal.returns-in_ok-step-in-Draw-clause-entry
-returns-in_ok-step-in-Draw-clause-entry g c =
-    entry_is (g.M.Machine.state c.args.machine.now) event.Draw c.args.event c.args.event c.in_ok-step-in-Draw.step c.entry_of-in-Draw.result c.in-Draw.is c.in-Draw.is c.in_ok-step-in-Draw.ensures.answer c.entry_of-in-Draw.ensures
-
 pub returns-in-Done-clause-entry : goal.returns-in-Done-clause-entry
 returns-in-Done-clause-entry g c =
     entry_is (g.M.Machine.state c.args.machine.now) event.Done c.args.event c.args.event c.done.result c.entry_of-in-Done.result c.in-Done.is c.in-Done.is c.done.ensures.answer c.entry_of-in-Done.ensures
