@@ -1,7 +1,8 @@
-/* Refuses the growth whose number the variable GROWTH has: a library that is loaded before the C library. */
+/* Refuses the growth whose number the variable GROWTH has, and says so on standard error: a library that is loaded before the C library. */
 #define _GNU_SOURCE
 #include <dlfcn.h>
 #include <stdlib.h>
+#include <unistd.h>
 
 static int is_refused(void) {
     static long count, refused = -1;
@@ -9,7 +10,9 @@ static int is_refused(void) {
         const char *number = getenv("GROWTH");
         refused = number ? atol(number) : 0;
     }
-    return ++count == refused;
+    if (++count != refused) return 0;
+    if (write(2, "refused\n", 8) != 8) abort();
+    return 1;
 }
 
 void *malloc(size_t n) {
