@@ -1,11 +1,12 @@
 -- Where the names inside a frame lead.
-use Rattle.std.proofs.Common.{◌≡◌, ℕ, zero, suc, ◌+◌, ◌<◌, ◌≤◌, nat_lt, not, inl, inr, Bool, true, false, Option, Some, None, List, [], ◌∷◌, ◌++◌, length, take, get_or, slice_get, refl, sym, ap, ◌∙◌, subst, arith, if◌then◌else◌}
-use Rattle.std.specs.List.{position, position_or_len}
+use Rattle.std.proofs.Common.{◌≡◌, ℕ, zero, suc, ◌+◌, ◌<◌, ◌≤◌, nat_lt, not, inl, inr, Bool, true, false, Option, Some, None, List, [], ◌∷◌, ◌++◌, length, take, get_or, slice_get, refl, sym, ap, ◌∙◌, subst, arith, filter, if◌then◌else◌}
+use Rattle.std.specs.List.{position, position_or_len, last_or, range_with_len}
 use Rattle.std.specs.Option.{option_map}
 use Rattle.std.proofs.lemmas.Bool.{cases_lt, lt-ltb, le-ltb}
 use Rattle.std.proofs.lemmas.Option.{none-some, same_Some, slice_get-map, slice_get-get_or, slice_get_within}
 use Rattle.std.proofs.lemmas.Grind.{take_at_read}
-use Rattle.std.proofs.lemmas.List.{map-append, length-append}
+use Rattle.std.proofs.lemmas.List.{map-append, length-append, append-nil}
+use Rattle.std.proofs.lemmas.List.Elements.{filter-append}
 use Rattle.vz_pixels.specs.Block.{Block}
 use Rattle.vz_frame.specs.declared.frame.CompositorFrame.{CompositorFrame}
 use Rattle.vz_frame.specs.declared.frame.Listing.{Listing}
@@ -14,7 +15,7 @@ use Rattle.vz_frame.specs.declared.frame.DrawQuad.{DrawQuad}
 use Rattle.vz_frame.specs.declared.frame.Material.TheVariants.{Tile, Pass}
 use Rattle.vz_frame.specs.Frame.{lists, names_pass}
 use Rattle.vz_rules.specs.Paint.{block_of}
-use Rattle.vz_surfaces.specs.Names.{has_id_at, pass_place, listing_place, place_named, places_in, AreNamed, block_at}
+use Rattle.vz_surfaces.specs.Names.{has_id_at, places_before, pass_place, listing_place, place_named, places_in, AreNamed, block_at}
 
 -- Listings
 
@@ -37,13 +38,15 @@ position_step false k n =
           ∙ sym (ap (λ (b : Bool). option_map suc (if b then Some k else None)) (le-ltb k n high))
     ]
 
--- what a search by position finds
+-- a search by position finds it
 pub listing_found : (id : ℕ) (listings : List Listing) → position (lists id) listings ≡ listing_place id listings
 unfolding listing_place
-listing_found id [] = refl
-listing_found id (listing ∷ listings) =
-    position_step (lists id listing) (position_or_len (lists id) listings) (length listings)
-    ∙ ap (λ (later : Option ℕ). step (lists id listing) later) (listing_found id listings)
+listing_found id listings = refl
+
+listing_step : (id : ℕ) (listing : Listing) (listings : List Listing)
+    → listing_place id (listing ∷ listings) ≡ step (lists id listing) (listing_place id listings)
+unfolding listing_place
+listing_step id listing listings = position_step (lists id listing) (position_or_len (lists id) listings) (length listings)
 
 -- the block behind the first, by the place behind the first
 block_later : (later : Option ℕ) (block : Block) (blocks : List Block)
@@ -67,7 +70,8 @@ unfolding listing_place
 block_is id [] blocks = refl
 block_is id (listing ∷ listings) [] = no_block (listing_place id (listing ∷ listings))
 block_is id (listing ∷ listings) (block ∷ blocks) =
-    block_step (lists id listing) (listing_place id listings) block blocks (block_of id listings blocks) (block_is id listings blocks)
+    ap (λ (place : Option ℕ). block_at place (block ∷ blocks)) (listing_step id listing listings)
+    ∙ block_step (lists id listing) (listing_place id listings) block blocks (block_of id listings blocks) (block_is id listings blocks)
 
 -- Passes
 
@@ -75,21 +79,47 @@ has_id_is : (id : ℕ) (passes : List RenderPass) (k : ℕ) (d : RenderPass) →
     → has_id_at id passes k ≡ names_pass id (get_or passes k d)
 has_id_is id passes k d h = ap (λ (o : Option RenderPass). elim o [ Some pass ↦ names_pass id pass | None ↦ false ]) (slice_get-get_or passes k d h)
 
--- one place further on: the pass there has the id
+last_more : (o : Option ℕ) (ks : List ℕ) (k : ℕ) → last_or o (ks ++ k ∷ []) ≡ Some k
+last_more o [] k = refl
+last_more o (j ∷ ks) k = last_more (Some j) ks k
+
+last_by : (t : Bool) (ks : List ℕ) (k : ℕ) → last_or None (ks ++ (if t then k ∷ [] else [])) ≡ (if t then Some k else last_or None ks)
+last_by true ks k = last_more None ks k
+last_by false ks k = ap (last_or None) (append-nil ks)
+
+-- one place more
+places_more : (a k : ℕ) → range_with_len a (suc k) ≡ range_with_len a k ++ (a + k) ∷ []
+places_more a zero = let same : a ≡ a + zero = omega arith in ap (λ (n : ℕ). n ∷ []) same
+places_more a (suc k) =
+    let same : (a + 1) + k ≡ a + suc k = omega arith in
+    ap (λ (l : List ℕ). a ∷ l) (places_more (a + 1) k ∙ ap (λ (n : ℕ). range_with_len (a + 1) k ++ n ∷ []) same)
+
+-- one place further on, it is the new one where the pass there has the id, and else that of before
+place_next : (id : ℕ) (passes : List RenderPass) (k : ℕ)
+    → pass_place id passes (suc k) ≡ (if has_id_at id passes k then Some k else pass_place id passes k)
+unfolding pass_place
+place_next id passes k =
+    let same : 0 + k ≡ k = omega arith in
+    ap (λ (ks : List ℕ). last_or None (filter (has_id_at id passes) ks)) (places_more 0 k ∙ ap (λ (n : ℕ). places_before k ++ n ∷ []) same)
+    ∙ (ap (last_or None) (filter-append (has_id_at id passes) (places_before k) (k ∷ []))
+    ∙ last_by (has_id_at id passes k) (filter (has_id_at id passes) (places_before k)) k)
+
+next_by : (id : ℕ) (passes : List RenderPass) (j k : ℕ) (d : RenderPass) (t : Bool) → k + 1 ≡ j → k < length passes
+    → names_pass id (get_or passes k d) ≡ t → pass_place id passes j ≡ (if t then Some k else pass_place id passes k)
+next_by id passes j k d t e h named =
+    (let next : j ≡ suc k = omega (arith, e) in ap (pass_place id passes) next)
+    ∙ (place_next id passes k
+    ∙ ap (λ (b : Bool). if b then Some k else pass_place id passes k) (has_id_is id passes k d h ∙ named))
+
+-- the pass there has the id
 pub place_here : (id : ℕ) (passes : List RenderPass) (j k : ℕ) (d : RenderPass) → k + 1 ≡ j → k < length passes
     → names_pass id (get_or passes k d) ≡ true → pass_place id passes j ≡ Some k
-unfolding pass_place
-place_here id passes j k d e h named =
-    (let next : j ≡ suc k = omega (arith, e) in ap (pass_place id passes) next)
-    ∙ ap (λ (t : Bool). if t then Some k else pass_place id passes k) (has_id_is id passes k d h ∙ named)
+place_here id passes j k d e h named = next_by id passes j k d true e h named
 
 -- or it has another id
 pub place_over : (id : ℕ) (passes : List RenderPass) (j k : ℕ) (d : RenderPass) → k + 1 ≡ j → k < length passes
     → names_pass id (get_or passes k d) ≡ false → pass_place id passes j ≡ pass_place id passes k
-unfolding pass_place
-place_over id passes j k d e h named =
-    (let next : j ≡ suc k = omega (arith, e) in ap (pass_place id passes) next)
-    ∙ ap (λ (t : Bool). if t then Some k else pass_place id passes k) (has_id_is id passes k d h ∙ named)
+place_over id passes j k d e h named = next_by id passes j k d false e h named
 
 -- there is none before the first place
 pub place_none : (id : ℕ) (passes : List RenderPass) (k : ℕ) → k ≤ 0 → None ≡ pass_place id passes k
@@ -103,10 +133,9 @@ before_by false n k later less e = let low = less e in omega arith
 
 -- the pass of a name is an earlier one
 pub place_before : (id : ℕ) (passes : List RenderPass) (n k : ℕ) → pass_place id passes n ≡ Some k → k < n
-unfolding pass_place
-place_before id passes zero k e = absurd (none-some k e)
+place_before id passes zero k e = absurd (none-some k (place_none id passes 0 (omega arith) ∙ e))
 place_before id passes (suc n) k e =
-    before_by (has_id_at id passes n) n k (pass_place id passes n) (place_before id passes n k) e
+    before_by (has_id_at id passes n) n k (pass_place id passes n) (place_before id passes n k) (sym (place_next id passes n) ∙ e)
 
 -- Places of a pass
 

@@ -1,6 +1,6 @@
 -- What the names inside a frame lead to: the pass of a pass quad, the listing of a tile.
-use Rattle.std.specs.Prelude.{◌≡◌, ℕ, zero, suc, Bool, false, Option, Some, None, List, [], ◌∷◌, map, slice_get, if◌then◌else◌}
-use Rattle.std.specs.Option.{option_map}
+use Rattle.std.specs.Prelude.{◌≡◌, ℕ, Bool, false, Option, Some, None, List, map, filter, slice_get}
+use Rattle.std.specs.List.{last_or, position, range_with_len}
 use Rattle.vz_pixels.specs.Block.{Block}
 use Rattle.vz_frame.specs.declared.frame.CompositorFrame.{CompositorFrame}
 use Rattle.vz_frame.specs.declared.frame.Listing.{Listing}
@@ -13,15 +13,17 @@ use Rattle.vz_frame.specs.Frame.{lists, names_pass}
 abbrev pub has_id_at : ℕ → List RenderPass → ℕ → Bool
 has_id_at id passes k = elim (slice_get passes k) [ Some pass ↦ names_pass id pass | None ↦ false ]
 
--- the place of the last pass of an id before a place, if there is one
-unfoldable pub pass_place : ℕ → List RenderPass → ℕ → Option ℕ
-pass_place id passes zero = None
-pass_place id passes (suc k) = if has_id_at id passes k then Some k else pass_place id passes k
+-- the places before a place, in their order
+abbrev pub places_before : ℕ → List ℕ
+places_before k = range_with_len 0 k
 
--- the place of the first listing of a resource, if there is one
+-- the last of the places before a place at which the pass has an id, if there is one
+unfoldable pub pass_place : ℕ → List RenderPass → ℕ → Option ℕ
+pass_place id passes k = last_or None (filter (has_id_at id passes) (places_before k))
+
+-- the first place at which a resource is listed, if there is one
 unfoldable pub listing_place : ℕ → List Listing → Option ℕ
-listing_place id [] = None
-listing_place id (listing ∷ listings) = if lists id listing then Some 0 else option_map suc (listing_place id listings)
+listing_place id listings = position (lists id) listings
 
 -- the place to which the name in a quad of the pass at a place leads, if it has one that leads to something
 unfoldable pub place_named : CompositorFrame → ℕ → DrawQuad → Option ℕ
