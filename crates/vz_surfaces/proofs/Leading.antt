@@ -1,6 +1,6 @@
 -- Where the names inside a frame lead.
 use Rattle.std.proofs.Common.{◌≡◌, ℕ, zero, suc, ◌+◌, ◌<◌, ◌≤◌, nat_lt, not, inl, inr, Bool, true, false, Option, Some, None, List, [], ◌∷◌, ◌++◌, length, take, get_or, slice_get, refl, sym, ap, ◌∙◌, subst, arith, filter, if◌then◌else◌}
-use Rattle.std.specs.List.{position, position_or_len, last_or, range_with_len}
+use Rattle.std.specs.List.{position_or_len, last_or, range_with_len}
 use Rattle.std.specs.Option.{option_map}
 use Rattle.std.proofs.lemmas.Bool.{cases_lt, lt-ltb, le-ltb}
 use Rattle.std.proofs.lemmas.Option.{none-some, same_Some, slice_get-map, slice_get-get_or, slice_get_within}
@@ -37,11 +37,6 @@ position_step false k n =
           ap (λ (b : Bool). if b then Some (1 + k) else None) (le-ltb (1 + k) (suc n) (omega arith))
           ∙ sym (ap (λ (b : Bool). option_map suc (if b then Some k else None)) (le-ltb k n high))
     ]
-
--- a search by position finds it
-pub listing_found : (id : ℕ) (listings : List Listing) → position (lists id) listings ≡ listing_place id listings
-unfolding listing_place
-listing_found id listings = refl
 
 listing_step : (id : ℕ) (listing : Listing) (listings : List Listing)
     → listing_place id (listing ∷ listings) ≡ step (lists id listing) (listing_place id listings)
