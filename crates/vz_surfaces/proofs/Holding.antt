@@ -27,7 +27,7 @@ use Rattle.vz_surfaces.specs.declared.owners.Owners.{Owners}
 use Rattle.vz_surfaces.specs.Stored.{Stored, surface_of, storing}
 use Rattle.vz_surfaces.specs.Reading.{stands, standing, held_of, existing_count, last_of}
 use Rattle.vz_surfaces.specs.Keeping.{KeepsStored}
-use Rattle.vz_surfaces.specs.Memory.{is_key, look, is_name, waits_on, owner_at, HasNumber, IsSinkOf, Keeps, KeepsOwners, KeepsMarks, kept_of, surface_at, holding, empty_surface, counting, is_named_last, held_in, waiting_on}
+use Rattle.vz_surfaces.specs.Memory.{is_key, look, IsKeyed, HasSame, is_name, waits_on, owner_at, HasNumber, IsSinkOf, Keeps, KeepsOwners, KeepsMarks, kept_of, surface_at, holding, empty_surface, counting, is_named_last, held_in, waiting_on}
 use Rattle.vz_surfaces.specs.declared.groups.Groups.{Groups}
 use Rattle.vz_surfaces.specs.Chains.{is_group, chain_at, newest_at, KeepsGroups}
 use Rattle.vz_surfaces.proofs.Grouping.{stored_groups}
@@ -36,6 +36,7 @@ use Rattle.vz_surfaces.specs.declared.standing.Standing.{Standing}
 use Rattle.vz_surfaces.specs.Numbers.{list_at, KeepsLists}
 use Rattle.vz_surfaces.proofs.Listing.{lists_alike, stored_lists}
 use Rattle.vz_surfaces.proofs.Keyed.{keys}
+use Rattle.vz_surfaces.proofs.Lodging.{looks_same}
 use Rattle.vz_surfaces.proofs.Finding.{find_none}
 use Rattle.vz_surfaces.proofs.Others.{no_and}
 use Rattle.vz_surfaces.proofs.Accepting.{is_unknown, is_unused, before_hold, stored_here, stored_apart, stored_count}
@@ -94,10 +95,10 @@ module _ (st : Stored) (c : ℕ) (sink : FrameSinkId) (local : LocalSurfaceId) (
       ap (option_map (kept_of this st.subs))
       (find_none (λ s. same_surface s.id this && not s.destroyed) st.surfaces (λ s p. ap (λ b. b && not s.destroyed) (is_unknown st c sink local keeps of goes e s p)))
 
-  pub open_new : (t0 t1 : Table) (w : Waits) (o : Owners) (last : Bool) → Keeps t0 w o st → t1.surfaces.entries ≡ t0.surfaces.entries → last ≡ is_named_last (owner_at o c).last local
+  pub open_new : (t0 t1 : Table) (w : Waits) (o : Owners) (last : Bool) → Keeps t0 w o st → HasSame t0 t1 → last ≡ is_named_last (owner_at o c).last local
       → last ≡ false → look t1 this ≡ None
   open_new t0 t1 w o last h same at e =
-      ap (lookup (is_key this)) same ∙ (h.table.surfaces this ∙ none_at (sym (last_is o last h.owners at) ∙ e))
+      looks_same t0 t1 same this ∙ (h.table.surfaces this ∙ none_at (sym (last_is o last h.owners at) ∙ e))
 
   pub few_before : (o : Owners) (owner : Owner) (limit : ℕ) → KeepsOwners o st → owner ≡ owner_at o c → count_by (is_by c) st.subs < limit → owner.created < limit
   few_before o owner limit h e few = omega (arith, ap (λ x. x.created) e, h.created c number, keeps.few_created c, few)
@@ -113,7 +114,7 @@ module _ (st : Stored) (c : ℕ) (sink : FrameSinkId) (local : LocalSurfaceId) (
   none_waits unused = find_none (λ s. is_waiting s && is_on this s) st.subs (λ s p. no_and (is_waiting s) (is_on this s) (unused s p))
 
   -- the surface on which the submission waits then
-  pub held_before : (t0 t1 t2 : Table) (w : Waits) (o : Owners) (last : Bool) (created limit : ℕ) → Keeps t0 w o st → t1.surfaces.entries ≡ t0.surfaces.entries
+  pub held_before : (t0 t1 t2 : Table) (w : Waits) (o : Owners) (last : Bool) (created limit : ℕ) → Keeps t0 w o st → HasSame t0 t1
       → last ≡ is_named_last (owner_at o c).last local → (is_that ≡ true → stands st this ≡ true) → count_by (is_by c) st.subs < limit
       → ((q : SurfaceId) → look t2 q ≡ cond (not last && is_key this q) (Some (empty_surface c (created + 1))) (look t1 q)) → IsHeldAt st this (look t2 this) limit
   unfolding surface_at waiting_on
@@ -124,7 +125,7 @@ module _ (st : Stored) (c : ℕ) (sink : FrameSinkId) (local : LocalSurfaceId) (
           let x = stands_one st this (exists (sym e)) in
           record {
             surface = kept_of this st.subs x.0;
-            is = k ∙ (ap (lookup (is_key this)) same ∙ (h.table.surfaces this ∙ ap (option_map (kept_of this st.subs)) x.1));
+            is = k ∙ (looks_same t0 t1 same this ∙ (h.table.surfaces this ∙ ap (option_map (kept_of this st.subs)) x.1));
             accepted = refl;
             few = omega (arith, on_own, few);
             waiting = kept_waiting this st x.0;
@@ -158,28 +159,29 @@ module _ (st : Stored) (c : ℕ) (sink : FrameSinkId) (local : LocalSurfaceId) (
         opened ∙ ap (λ (b : Bool). cond b (Some (empty_surface c (created + 1))) (look t1 q)) (no_and (not last) (is_key this q) (key_of this q ∙ apart))
 
     pub accepted_keeps : (t0 t1 t2 t3 : Table) (w0 w1 w2 w3 : Waits) (o0 o1 : Owners) (owner owned : Owner) (last : Bool) (size : Size) (a : Acceptance) (replaced : Option Sub)
-        → Keeps t0 w0 o0 st → t1.surfaces.entries ≡ t0.surfaces.entries → w1.surfaces.entries ≡ w0.surfaces.entries → size ≡ frame_size frame → owner ≡ owner_at o0 c
+        → Keeps t0 w0 o0 st → HasSame t0 t1 → w1.surfaces.entries ≡ w0.surfaces.entries → size ≡ frame_size frame → owner ≡ owner_at o0 c
         → last ≡ is_named_last owner.last local → a ≡ record { client = c; sink = sink; local = local; frame = frame; blocks = blocks }
-        → ((q : SurfaceId) → look t2 q ≡ cond (not last && is_key this q) (Some (empty_surface c (owner.created + 1))) (look t1 q)) → length t2.surfaces.entries ≡ length t1.surfaces.entries + cond last 0 1
+        → ((q : SurfaceId) → look t2 q ≡ cond (not last && is_key this q) (Some (empty_surface c (owner.created + 1))) (look t1 q)) → length t2.keys.entries ≡ length t1.keys.entries + cond last 0 1
         → ((q : SurfaceId) → look t3 q ≡ cond (is_key this q) (option_map (holding (record { client = c; ordinal = owner.accepted + 1 }) a.frame a.blocks) (look t2 q)) (look t2 q))
-        → length t3.surfaces.entries ≡ length t2.surfaces.entries → replaced ≡ waiting_on st this
+        → length t3.keys.entries ≡ length t2.keys.entries → IsKeyed t3 → replaced ≡ waiting_on st this
         → (replaced ≡ None → w2 ≡ w1) → ((s : Sub) → replaced ≡ Some s → (q : Sub) → waits_on w2 q ≡ cond (is_name s q) None (waits_on w1 q))
         → ((q : Sub) → waits_on w3 q ≡ cond (is_name (record { client = c; ordinal = owner.accepted + 1 }) q) (Some this) (waits_on w2 q))
         → owned ≡ counting last local size owner → ((q : ℕ) → 1 ≤ q → owner_at o1 q ≡ cond (q == c) owned (owner_at o0 q)) → Keeps t3 w3 o1 (storing c sink local frame blocks st)
-    accepted_keeps t0 t1 t2 t3 w0 w1 w2 w3 o0 o1 owner owned last size a replaced h same names fits own at back opened more held length_is gone none some put is set =
+    accepted_keeps t0 t1 t2 t3 w0 w1 w2 w3 o0 o1 owner owned last size a replaced h same names fits own at back opened more held length_is keyed gone none some put is set =
         let accepted : owner.accepted ≡ count_by (is_by c) st.subs = ap (λ x. x.accepted) own ∙ h.owners.accepted c number in
         let created : owner.created ≡ count_by (is_surface_of c) st.surfaces = ap (λ x. x.created) own ∙ h.owners.created c number in
         let named : last ≡ is_named_last (owner_at o0 c).last local = at ∙ ap (λ (x : Owner). is_named_last x.last local) own in
         let that : last ≡ is_that = last_is o0 last h.owners named in
-        let before : (q : SurfaceId) → look t1 q ≡ surface_at st q = λ q. ap (lookup (is_key q)) same ∙ h.table.surfaces q in
+        let before : (q : SurfaceId) → look t1 q ≡ surface_at st q = λ q. looks_same t0 t1 same q ∙ h.table.surfaces q in
         let now : (q : SurfaceId) → look t3 q ≡ cond (is_key this q) (option_map (holding (record { client = c; ordinal = count_by (is_by c) st.subs + 1 }) frame blocks) (look t2 q)) (look t2 q) =
         λ q. held q ∙ ap (λ (x : Acceptance). cond (is_key this q) (option_map (holding (record { client = c; ordinal = owner.accepted + 1 }) x.frame x.blocks) (look t2 q)) (look t2 q)) back
         ∙ ap (λ n. cond (is_key this q) (option_map (holding (record { client = c; ordinal = n + 1 }) frame blocks) (look t2 q)) (look t2 q)) accepted in
         record {
           table = record {
             surfaces = λ q. now q ∙ by q (same_surface this q) refl (look t2 q) refl that created before;
-            count = length_is ∙ (more ∙ (ap (λ l. length l + cond last 0 1) same ∙ (ap (λ n. n + cond last 0 1) h.table.count
+            count = length_is ∙ (more ∙ (ap (λ l. length l + cond last 0 1) same.keys ∙ (ap (λ n. n + cond last 0 1) h.table.count
                 ∙ (ap (λ (b : Bool). existing_count st + cond b 0 1) that ∙ sym (stored_count st c sink local frame blocks)))));
+            keyed = keyed;
           };
           waits = stored_waits st c sink local frame blocks w1 w2 w3 replaced keeps (record { found = λ s p e. ap (lookup (is_name (sub_of s))) names ∙ h.waits.found s p e; only = λ q e. h.waits.only q (ap (λ l. is_some (lookup (is_name q) l)) (sym names) ∙ e) }) gone none some
               (λ q. put q ∙ ap (λ n. cond (is_name (record { client = c; ordinal = n + 1 }) q) (Some this) (waits_on w2 q)) accepted);

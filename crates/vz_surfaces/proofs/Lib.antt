@@ -4,6 +4,7 @@ pub mod Telling
 pub mod Kept_of_world
 mod Finding
 mod Keyed
+mod Lodging
 mod Others
 mod Accepting
 mod Indexed

@@ -21,7 +21,7 @@ use Rattle.vz_surfaces.specs.Stored.{Stored, nothing_stored, raising, activating
 use Rattle.vz_surfaces.specs.Told.{changed, changed_by, stored}
 use Rattle.vz_surfaces.specs.Reading.{stands, standing, held_of, existing_count, last_of, seen_frames, active_on}
 use Rattle.vz_surfaces.specs.Keeping.{KeepsStored}
-use Rattle.vz_surfaces.specs.Memory.{is_key, look, is_name, waits_on, owner_at, no_owner, Keeps, kept_of, surface_at, raised, waiting_on, acting_on, is_waiting_in, past_by}
+use Rattle.vz_surfaces.specs.Memory.{is_key, look, IsKeyed, is_name, waits_on, owner_at, no_owner, Keeps, kept_of, surface_at, raised, waiting_on, acting_on, is_waiting_in, past_by}
 use Rattle.vz_surfaces.proofs.Raising.{waiting_one, Waits_in, activates, past_is, raised_here, raised_apart, raised_count, raised_owners, raised_waits}
 use Rattle.vz_surfaces.proofs.Destroying.{marked_at, marked_count, marked_owners, marked_waits, gone_here, gone_apart, gone_owners, gone_count, gone_waits}
 use Rattle.vz_surfaces.proofs.Holding.{key_of, standing_of, kept_waiting}
@@ -41,13 +41,13 @@ pub stored_none : (ts : List Told) → ts ≡ [] → stored ts ≡ nothing_store
 unfolding stored changed_by
 stored_none ts e = ap (changed_by nothing_stored) e
 
-pub keeps_none : (t : Table) (w : Waits) (o : Owners) (ts : List Told) → ((q : SurfaceId) → look t q ≡ None) → length t.surfaces.entries ≡ 0 → ((q : Sub) → waits_on w q ≡ None) → ((q : ℕ) → owner_at o q ≡ no_owner) → ts ≡ []
+pub keeps_none : (t : Table) (w : Waits) (o : Owners) (ts : List Told) → ((q : SurfaceId) → look t q ≡ None) → length t.keys.entries ≡ 0 → IsKeyed t → ((q : Sub) → waits_on w q ≡ None) → ((q : ℕ) → owner_at o q ≡ no_owner) → ts ≡ []
     → Keeps t w o (stored ts)
 unfolding surface_at existing_count last_of nothing_stored
-keeps_none t w o ts none len unnamed owners e =
+keeps_none t w o ts none len keyed unnamed owners e =
     subst (Keeps t w o) (sym (stored_none ts e))
     (record {
-      table = record { surfaces = λ id. none id; count = len };
+      table = record { surfaces = λ id. none id; count = len; keyed = keyed };
       waits = record { found = λ s c. absurd (contains_none s c); only = λ q f. absurd (both_ways (is_some (waits_on w q)) (ap is_some (unnamed q)) f) };
       owners = record { accepted = λ c h. ap (λ x. x.accepted) (owners c); created = λ c h. ap (λ x. x.created) (owners c); last = λ c h. ap (λ x. x.last) (owners c) };
     })
@@ -123,7 +123,7 @@ marked_keeps t w o ts now st c inv view e =
     let h = subst (Keeps t w o) view inv in
     subst (Keeps t w o) (sym (stored_more ts now (told.MarkedAll c) st e view))
     (record {
-      table = record { surfaces = λ q. h.table.surfaces q ∙ sym (marked_at c st q); count = h.table.count ∙ sym (marked_count c st) };
+      table = record { surfaces = λ q. h.table.surfaces q ∙ sym (marked_at c st q); count = h.table.count ∙ sym (marked_count c st); keyed = h.table.keyed };
       waits = marked_waits c st w h.waits;
       owners = marked_owners c st o h.owners;
     })
@@ -140,8 +140,8 @@ found_waiting t w o ts st sub inv view waits none =
 pub activated_keeps : (t0 t1 : Table) (w0 w1 : Waits) (o : Owners) (ts now : List Told) (st : Stored) (sub : Sub) (id : SurfaceId) → KeepsStored st → Keeps t0 w0 o (stored ts) → stored ts ≡ st
     → is_waiting_in st sub ≡ true → now ≡ ts ++ told.Activated sub ∷ [] → Some id ≡ waits_on w0 sub
     → ((s : Sub) → Some sub ≡ Some s → (q : Sub) → waits_on w1 q ≡ cond (is_name s q) None (waits_on w0 q))
-    → ((q : SurfaceId) → look t1 q ≡ cond (is_key id q) (option_map raised (look t0 q)) (look t0 q)) → length t1.surfaces.entries ≡ length t0.surfaces.entries → Keeps t1 w1 o (stored now)
-activated_keeps t0 t1 w0 w1 o ts now st sub id keeps inv view waits e found gone rose same =
+    → ((q : SurfaceId) → look t1 q ≡ cond (is_key id q) (option_map raised (look t0 q)) (look t0 q)) → length t1.keys.entries ≡ length t0.keys.entries → IsKeyed t1 → Keeps t1 w1 o (stored now)
+activated_keeps t0 t1 w0 w1 o ts now st sub id keeps inv view waits e found gone rose same keyed =
     let h = subst (Keeps t0 w0 o) view inv in
     let x = waiting_one st sub waits in
     let in_it = x.1 in
@@ -151,6 +151,7 @@ activated_keeps t0 t1 w0 w1 o ts now st sub id keeps inv view waits e found gone
       table = record {
         surfaces = λ q. rose q ∙ (ap (λ i. cond (is_key i q) (option_map raised (look t0 q)) (look t0 q)) at ∙ by x.0 in_it h.table.surfaces q (same_surface x.0.submitted.id q) refl);
         count = same ∙ (h.table.count ∙ sym (raised_count st x.0 keeps in_it));
+        keyed = keyed;
       };
       waits = raised_waits st x.0 keeps in_it w0 w1 h.waits (λ q. gone sub refl q ∙ ap (λ s. cond (is_name s q) None (waits_on w0 q)) (sym x.2));
       owners = raised_owners st x.0 keeps in_it o h.owners;
@@ -246,8 +247,8 @@ active_reads st id s r k e = e ∙ (ap (λ (x : Surface). option_map (λ (h : He
 pub destroyed_keeps : (t0 t1 : Table) (w0 w1 : Waits) (o : Owners) (ts now : List Told) (st : Stored) (id : SurfaceId) (s : Surface) (r : Option Sub) → KeepsStored st → Keeps t0 w0 o (stored ts) → stored ts ≡ st
     → now ≡ ts ++ told.Destroyed id ∷ [] → Some s ≡ look t0 id → r ≡ option_map (λ (h : Held). h.sub) s.waiting → (r ≡ None → w1 ≡ w0)
     → ((x : Sub) → r ≡ Some x → (q : Sub) → waits_on w1 q ≡ cond (is_name x q) None (waits_on w0 q))
-    → ((q : SurfaceId) → look t1 q ≡ cond (is_key id q) None (look t0 q)) → ((x : Surface) → look t0 id ≡ Some x → length t1.surfaces.entries + 1 ≡ length t0.surfaces.entries) → Keeps t1 w1 o (stored now)
-destroyed_keeps t0 t1 w0 w1 o ts now st id s r keeps inv view e found is none some goes fewer =
+    → ((q : SurfaceId) → look t1 q ≡ cond (is_key id q) None (look t0 q)) → ((x : Surface) → look t0 id ≡ Some x → length t1.keys.entries + 1 ≡ length t0.keys.entries) → IsKeyed t1 → Keeps t1 w1 o (stored now)
+destroyed_keeps t0 t1 w0 w1 o ts now st id s r keeps inv view e found is none some goes fewer keyed =
     let h = subst (Keeps t0 w0 o) view inv in
     let k = kept_at t0 w0 o ts st id s inv view found in
     subst (Keeps t1 w1 o) (sym (stored_more ts now (told.Destroyed id) st e view))
@@ -255,6 +256,7 @@ destroyed_keeps t0 t1 w0 w1 o ts now st id s r keeps inv view e found is none so
       table = record {
         surfaces = λ q. goes q ∙ by h.table.surfaces q (same_surface id q) refl;
         count = omega (arith, fewer s (sym found), h.table.count, gone_count id st k.surface keeps k.is);
+        keyed = keyed;
       };
       waits = gone_waits id st w0 w1 r keeps h.waits (waiting_reads st id s r k is) none some;
       owners = gone_owners id st o h.owners;

@@ -21,7 +21,7 @@ use Rattle.vz_surfaces.specs.Stored.{Stored, nothing_stored, raising, activating
 use Rattle.vz_surfaces.specs.Told.{stored}
 use Rattle.vz_surfaces.specs.Reading.{standing, was_reached, has_mark}
 use Rattle.vz_surfaces.specs.Keeping.{KeepsStored}
-use Rattle.vz_surfaces.specs.Memory.{is_key, look, is_name, waits_on, owner_at, no_owner, HasNumber, marked_up, Keeps, KeepsOwners, KeepsMarks, kept_of, surface_at, raised, is_waiting_in}
+use Rattle.vz_surfaces.specs.Memory.{is_key, look, IsKeyed, HasSame, is_name, waits_on, owner_at, no_owner, HasNumber, marked_up, Keeps, KeepsOwners, KeepsMarks, kept_of, surface_at, raised, is_waiting_in}
 use Rattle.std.specs.Map.{lookup}
 use Rattle.vz_surfaces.specs.declared.groups.Group.{Group}
 use Rattle.vz_surfaces.specs.declared.groups.Groups.{Groups}
@@ -33,6 +33,7 @@ use Rattle.vz_surfaces.specs.declared.standing.Row.{Row}
 use Rattle.vz_surfaces.specs.declared.standing.Standing.{Standing}
 use Rattle.vz_surfaces.specs.Numbers.{list_in, list_at, Rises, KeepsLists}
 use Rattle.vz_surfaces.proofs.Listing.{raised_lists, gone_lists}
+use Rattle.vz_surfaces.proofs.Lodging.{looks_same, same_keyed}
 use Rattle.vz_surfaces.proofs.Shown.{chain_has}
 use Rattle.vz_surfaces.proofs.Raising.{waiting_one, Waits_in, activates}
 use Rattle.vz_surfaces.proofs.Holding.{standing_of}
@@ -40,12 +41,12 @@ use Rattle.vz_surfaces.proofs.Storing.{stored_more, stored_none, keeps_none, mar
 
 -- With the groups
 
-pub stands_none : (t : Table) (w : Waits) (o : Owners) (g : Groups) (ts : List Told) → ((q : SurfaceId) → look t q ≡ None) → length t.surfaces.entries ≡ 0 → ((q : Sub) → waits_on w q ≡ None) → ((q : ℕ) → owner_at o q ≡ no_owner)
+pub stands_none : (t : Table) (w : Waits) (o : Owners) (g : Groups) (ts : List Told) → ((q : SurfaceId) → look t q ≡ None) → length t.keys.entries ≡ 0 → IsKeyed t → ((q : Sub) → waits_on w q ≡ None) → ((q : ℕ) → owner_at o q ≡ no_owner)
     → ((q : SurfaceId) → group_at g q ≡ None) → ts ≡ [] → Stands t w o g (stored ts)
 unfolding nothing_stored was_reached IsRising
-stands_none t w o g ts none len unnamed owners groups e =
+stands_none t w o g ts none len keyed unnamed owners groups e =
     record {
-      kept = keeps_none t w o ts none len unnamed owners e;
+      kept = keeps_none t w o ts none len keyed unnamed owners e;
       groups = subst (KeepsGroups g) (sym (stored_none ts e)) (record {
         chain = λ q. ap (λ (x : Option Group). option_map_or (λ (y : Group). y.chain.items) x []) (groups q);
         rising = λ q. subst IsRising (sym (ap (λ (x : Option Group). option_map_or (λ (y : Group). y.chain.items) x []) (groups q))) tt;
@@ -63,12 +64,12 @@ stands_none t w o g ts none len unnamed owners groups e =
     no_one : {A : Type 0} {l : LocalSurfaceId} → ◌≡◌ {A = Option LocalSurfaceId} None (Some l) → A
     no_one f = absurd (cc)
 
-pub stands_still : (t0 t1 : Table) (w0 w1 : Waits) (o : Owners) (g0 g1 : Groups) (st : Stored) → Stands t0 w0 o g0 st → t1.surfaces.entries ≡ t0.surfaces.entries → w1.surfaces.entries ≡ w0.surfaces.entries
+pub stands_still : (t0 t1 : Table) (w0 w1 : Waits) (o : Owners) (g0 g1 : Groups) (st : Stored) → Stands t0 w0 o g0 st → HasSame t0 t1 → w1.surfaces.entries ≡ w0.surfaces.entries
     → ((q : SurfaceId) → chain_at g1 q ≡ chain_at g0 q) → ((q : SurfaceId) → newest_at g1 q ≡ newest_at g0 q) → Stands t1 w1 o g1 st
 stands_still t0 t1 w0 w1 o g0 g1 st h table waits chain newest =
     record {
       kept = record {
-        table = record { surfaces = λ q. ap (lookup (is_key q)) table ∙ h.kept.table.surfaces q; count = ap length table ∙ h.kept.table.count };
+        table = record { surfaces = λ q. looks_same t0 t1 table q ∙ h.kept.table.surfaces q; count = ap length table.keys ∙ h.kept.table.count; keyed = same_keyed t0 t1 table h.kept.table.keyed };
         waits = record { found = λ s p e. ap (lookup (is_name (sub_of s))) waits ∙ h.kept.waits.found s p e; only = λ q e. h.kept.waits.only q (ap (λ l. is_some (lookup (is_name q) l)) (sym waits) ∙ e) };
         owners = h.kept.owners;
       };
@@ -158,15 +159,15 @@ mark_there g t w o ts st sub id keeps inv view waits found =
 pub activated_stands : (g0 g1 : Groups) (t0 t1 : Table) (w0 w1 : Waits) (o0 o1 : Owners) (ts now : List Told) (st : Stored) (sub : Sub) (id : SurfaceId) → KeepsStored st → Stands t0 w0 o0 g0 (stored ts) → stored ts ≡ st
     → is_waiting_in st sub ≡ true → now ≡ ts ++ told.Activated sub ∷ [] → Some id ≡ waits_on w0 sub
     → ((s : Sub) → Some sub ≡ Some s → (q : Sub) → waits_on w1 q ≡ cond (is_name s q) None (waits_on w0 q))
-    → ((q : SurfaceId) → look t1 q ≡ cond (is_key id q) (option_map raised (look t0 q)) (look t0 q)) → length t1.surfaces.entries ≡ length t0.surfaces.entries
+    → ((q : SurfaceId) → look t1 q ≡ cond (is_key id q) (option_map raised (look t0 q)) (look t0 q)) → length t1.keys.entries ≡ length t0.keys.entries → IsKeyed t1
     → ((q : SurfaceId) → chain_at g1 q ≡ chain_at g0 q) → ((q : SurfaceId) → newest_at g1 q ≡ cond (is_group id q) (newer_local id.local (newest_at g0 q)) (newest_at g0 q))
     → ((s : Surface) → look t0 id ≡ Some s → (q : ℕ) → 1 ≤ q → owner_at o1 q ≡ cond (q == sub.client) (marked_up (s.number - 1) (owner_at o0 sub.client)) (owner_at o0 q)) → Stands t1 w1 o1 g1 (stored now)
-activated_stands g0 g1 t0 t1 w0 w1 o0 o1 ts now st sub id keeps inv view waits e found gone rose same chain newest marks =
+activated_stands g0 g1 t0 t1 w0 w1 o0 o1 ts now st sub id keeps inv view waits e found gone rose same keyed chain newest marks =
     let up = is_up t0 w0 o0 st sub id keeps (subst (Keeps t0 w0 o0) view inv.kept) waits found in
     let x = up.one in
     let in_it = up.in_it in
     let set : (q : ℕ) → 1 ≤ q → owner_at o1 q ≡ cond (q == sub.client) (marked_up (up.surface.number - 1) (owner_at o0 sub.client)) (owner_at o0 q) = marks (kept_of id st.subs up.surface) up.kept in
-    let kept = activated_keeps t0 t1 w0 w1 o0 ts now st sub id keeps inv.kept view waits e found gone rose same in
+    let kept = activated_keeps t0 t1 w0 w1 o0 ts now st sub id keeps inv.kept view waits e found gone rose same keyed in
     let is : stored now ≡ raising x st = stored_more ts now (told.Activated sub) st e view ∙ (ap (λ s. activating s st) (sym up.named) ∙ activates st x keeps in_it.there) in
     record {
       kept = re_owned t1 w1 o0 o1 (stored now) kept (owners_marked o0 o1 sub.client (up.surface.number - 1) set (stored now) kept.owners);
@@ -181,12 +182,12 @@ activated_stands g0 g1 t0 t1 w0 w1 o0 o1 ts now st sub id keeps inv view waits e
 pub destroyed_stands : (g0 g1 : Groups) (t0 t1 : Table) (w0 w1 : Waits) (o : Owners) (ts now : List Told) (st : Stored) (id : SurfaceId) (s : Surface) (r : Option Sub) → KeepsStored st → Stands t0 w0 o g0 (stored ts) → stored ts ≡ st
     → now ≡ ts ++ told.Destroyed id ∷ [] → Some s ≡ look t0 id → r ≡ option_map (λ (h : Held). h.sub) s.waiting → (r ≡ None → w1 ≡ w0)
     → ((x : Sub) → r ≡ Some x → (q : Sub) → waits_on w1 q ≡ cond (is_name x q) None (waits_on w0 q))
-    → ((q : SurfaceId) → look t1 q ≡ cond (is_key id q) None (look t0 q)) → ((x : Surface) → look t0 id ≡ Some x → length t1.surfaces.entries + 1 ≡ length t0.surfaces.entries)
+    → ((q : SurfaceId) → look t1 q ≡ cond (is_key id q) None (look t0 q)) → ((x : Surface) → look t0 id ≡ Some x → length t1.keys.entries + 1 ≡ length t0.keys.entries) → IsKeyed t1
     → ((q : SurfaceId) → chain_at g1 q ≡ cond (is_group id q) (filter (λ (x : SurfaceId). not (same_surface x id)) (chain_at g0 q)) (chain_at g0 q)) → ((q : SurfaceId) → newest_at g1 q ≡ newest_at g0 q)
     → Stands t1 w1 o g1 (stored now)
-destroyed_stands g0 g1 t0 t1 w0 w1 o ts now st id s r keeps inv view e found is none some goes fewer chain newest =
+destroyed_stands g0 g1 t0 t1 w0 w1 o ts now st id s r keeps inv view e found is none some goes fewer keyed chain newest =
     record {
-      kept = destroyed_keeps t0 t1 w0 w1 o ts now st id s r keeps inv.kept view e found is none some goes fewer;
+      kept = destroyed_keeps t0 t1 w0 w1 o ts now st id s r keeps inv.kept view e found is none some goes fewer keyed;
       groups = subst (KeepsGroups g1) (sym (stored_more ts now (told.Destroyed id) st e view)) (gone_groups id st g0 g1 (subst (KeepsGroups g0) view inv.groups) chain newest);
       marks = subst (KeepsMarks o) (sym (stored_more ts now (told.Destroyed id) st e view)) (gone_marks id st o (subst (KeepsMarks o) view inv.marks));
     }

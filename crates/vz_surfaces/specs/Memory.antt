@@ -1,8 +1,10 @@
 -- What memory keeps of a store, and what it stands for.
-use Rattle.std.specs.Prelude.{◌≡◌, ℕ, ◌+◌, ◌-◌, ◌≤◌, ◌&&◌, Bool, IsTrue, Option, Some, None, is_some, List, length, find, count_by, get_or, nat_le, if◌then◌else◌}
-use Rattle.std.specs.Option.{option_map}
+use Rattle.std.specs.Prelude.{◌≡◌, ℕ, ◌+◌, ◌-◌, ◌≤◌, ◌<◌, ◌&&◌, Bool, true, IsTrue, IsSome, Option, Some, None, is_some, List, length, find, count_by, get_or, nat_le, if◌then◌else◌}
+use Rattle.std.specs.Option.{option_map, option_and_then}
 use Rattle.std.specs.List.{Contains, list_any}
 use Rattle.std.specs.Map.{lookup}
+use Rattle.slab.specs.Slab.{get, HasRoomFor}
+use Rattle.indexmap.specs.IndexMap.{spare}
 use Rattle.vz_geom.specs.declared.Size.{Size}
 use Rattle.vz_ids.specs.declared.FrameSinkId.{FrameSinkId}
 use Rattle.vz_ids.specs.declared.LocalSurfaceId.{LocalSurfaceId}
@@ -28,9 +30,32 @@ use Rattle.vz_surfaces.specs.Reading.{standing, existing_count, held_of, last_of
 abbrev pub is_key : SurfaceId → SurfaceId → Bool
 is_key = surface_eq.it
 
+-- the key of an id, if the table has it
+abbrev pub key_at : Table → SurfaceId → Option ℕ
+key_at t id = lookup (is_key id) t.keys.entries
+
+-- the surface under a key, if there is one
+abbrev pub under : Table → ℕ → Option Surface
+under t key = get t.surfaces key
+
 -- the surface of an id, if the table has it
 abbrev pub look : Table → SurfaceId → Option Surface
-look t id = lookup (is_key id) t.surfaces.entries
+look t id = option_and_then (under t) (key_at t id)
+
+-- there is a surface under each key that an id has, and no two ids have one key
+pub record IsKeyed (t : Table) : Type 0 where
+  pub there : (id : SurfaceId) (key : ℕ) → key_at t id ≡ Some key → IsSome (under t key)
+  pub apart : (a b : SurfaceId) (key : ℕ) → key_at t a ≡ Some key → key_at t b ≡ Some key → is_key a b ≡ true
+
+-- two tables have the same surfaces under the same keys
+pub record HasSame (old new : Table) : Type 0 where
+  pub keys : new.keys.entries ≡ old.keys.entries
+  pub slots : new.surfaces.slots ≡ old.surfaces.slots
+
+-- there is room for one surface more
+pub record HasSpare (t : Table) : Type 0 where
+  pub surfaces : HasRoomFor t.surfaces 1
+  pub keys : 0 < spare t.keys
 
 -- a surface after one more submission waits on it
 abbrev pub holding : Sub → CompositorFrame → List Block → Surface → Surface
@@ -66,7 +91,8 @@ surface_at st id = option_map (kept_of id st.subs) (standing id st.surfaces)
 -- a table has exactly the surfaces that exist
 pub record KeepsTable (t : Table) (st : Stored) : Type 0 where
   pub surfaces : (id : SurfaceId) → look t id ≡ surface_at st id
-  pub count : length t.surfaces.entries ≡ existing_count st
+  pub count : length t.keys.entries ≡ existing_count st
+  pub keyed : IsKeyed t
 
 -- the test of names that the index makes: client and ordinal are equal
 abbrev pub is_name : Sub → Sub → Bool

@@ -13,7 +13,7 @@ ghost use Rattle.vz_surfaces.specs.Reading.{stands, standing, existing_count, la
 ghost use Rattle.vz_surfaces.specs.Keeping.{KeepsStored};
 ghost use Rattle.vz_surfaces.specs.Chains.{is_group, chain_at, newest_at};
 ghost use Rattle.vz_surfaces.specs.Numbers.{list_at, has_room};
-ghost use Rattle.vz_surfaces.specs.Memory.{HasNumber, IsSinkOf, held_in, waiting_on, acting_on, is_waiting_in, past_by};
+ghost use Rattle.vz_surfaces.specs.Memory.{HasNumber, HasSame, HasSpare, IsSinkOf, held_in, waiting_on, acting_on, is_waiting_in, past_by};
 
 use crate::groups::Groups;
 use crate::held::{Gone, Held, Taken};
@@ -352,9 +352,9 @@ fn grow(
     c: u32,
     last: bool,
 ) -> Result<(), Memory>
-    ensures table { table.new.surfaces.entries ≡ table.old.surfaces.entries }
+    ensures table { HasSame table.old table.new }
     ensures waits { waits.new.surfaces.entries ≡ waits.old.surfaces.entries }
-    ensures surfaces { OnOk result (0 < spare_of table.new.surfaces) }
+    ensures surfaces { OnOk result (HasSpare table.new) }
     ensures names { OnOk result (0 < spare_of waits.new.surfaces) }
     ensures chain { (q : Id) → OnOk result (chain_at groups.new q
         ≡ cond (not last && is_group id q) (chain_at groups.old q ++ id ∷ [])

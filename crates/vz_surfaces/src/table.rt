@@ -1,15 +1,15 @@
 //! The surfaces that exist, each found by its id.
 ghost use Rattle.std.specs.Prelude.{◌≡◌, ◌<◌, ◌+◌, ◌&&◌, not, false, Some, None, cond, length, OnOk};
 ghost use Rattle.std.specs.Option.{option_copied, option_map};
-ghost use Rattle.indexmap.specs.IndexMap.{spare as spare_of};
 ghost use Rattle.vz_ids.specs.declared.SurfaceId.{SurfaceId as Id};
 ghost use Rattle.vz_surfaces.specs.declared.table.Surface.{Surface as Kept};
-ghost use Rattle.vz_surfaces.specs.Memory.{is_key, look, holding, raised, empty_surface};
+ghost use Rattle.vz_surfaces.specs.Memory.{is_key, look, IsKeyed, HasSame, HasSpare, holding, raised, empty_surface};
 ghost use Rattle.vz_surfaces.specs.Chains.{is_acting};
 
 use crate::held::Held;
 use crate::named::NamedFrame;
 use indexmap::IndexMap;
+use slab::Slab;
 use std::alloc::Global;
 use std::mem;
 use vz_base::Memory;
@@ -32,44 +32,52 @@ pub(crate) struct Surface {
     pub(crate) active: Option<Held>,
 }
 
-/// The surfaces that exist, by their ids.
+/// The surfaces that exist. Each stays where it is in memory, under a key, until it goes; its key
+/// is found by its id.
 #[derive(Drop)]
 pub(crate) struct Table {
-    surfaces: IndexMap<SurfaceId, Surface>,
+    surfaces: Slab<Surface>,
+    keys: IndexMap<SurfaceId, usize>,
 }
 
 impl Table {
     /// No surface. It takes no memory.
     pub(crate) fn new(alloc: Global) -> Table
         ensures none { (q : Id) → look result q ≡ None }
-        ensures len { length result.surfaces.entries ≡ 0 }
+        ensures len { length result.keys.entries ≡ 0 }
+        ensures keyed { IsKeyed result }
     {
         Table {
-            surfaces: IndexMap::new(alloc),
+            surfaces: Slab::new(alloc),
+            keys: IndexMap::new(alloc),
         }
     }
 
     /// Makes room for one surface more.
     pub(crate) fn reserve(&mut self) -> Result<(), Memory>
-        ensures entries { self.new.surfaces.entries ≡ self.old.surfaces.entries }
-        ensures room { OnOk result (0 < spare_of self.new.surfaces) }
+        ensures same { HasSame self.old self.new }
+        ensures room { OnOk result (HasSpare self.new) }
     {
         self.surfaces.reserve(1)?;
+        self.keys.reserve(1)?;
         Ok(())
     }
 
     /// How many surfaces there are.
     pub(crate) fn len(&self) -> usize
-        ensures { result ≡ length self.now.surfaces.entries }
+        ensures { result ≡ length self.now.keys.entries }
     {
-        self.surfaces.len()
+        self.keys.len()
     }
 
     /// The surface of an id.
     pub(crate) fn get(&self, id: &SurfaceId) -> Option<&Surface>
         ensures { option_copied result ≡ look self.now id.now }
     {
-        self.surfaces.get(id)
+        match self.keys.get(id) {
+            None => None,
+            Some(key) => self.surfaces.get(*key),
+        }
     }
 
     /// Whether the surface of an id is there and has an active submission.
@@ -84,26 +92,31 @@ impl Table {
 
     /// A surface more. Conditions: it is not there, and there is room for one.
     fn put(&mut self, id: SurfaceId, surface: Surface)
+        requires keyed { IsKeyed self.old }
         requires new { look self.old id ≡ None }
-        requires room { 0 < spare_of self.old.surfaces }
+        requires room { HasSpare self.old }
         ensures surfaces { (q : Id) → look self.new q
             ≡ cond (is_key id q) (Some surface) (look self.old q) }
-        ensures len { length self.new.surfaces.entries ≡ length self.old.surfaces.entries + 1 }
+        ensures len { length self.new.keys.entries ≡ length self.old.keys.entries + 1 }
+        ensures keyed { IsKeyed self.new }
     {
-        self.surfaces.insert(id, surface).unwrap();
+        let key = self.surfaces.insert_reserved(surface);
+        self.keys.insert(id, key).unwrap();
     }
 
     /// A new surface of a client that created so many before, unless the id is its last one.
     /// Conditions: where it is not, the surface is not there, and there is room for one; and
     /// there are fewer than can be numbered.
     pub(crate) fn open(&mut self, id: SurfaceId, client: u32, created: u32, last: bool)
+        requires keyed { IsKeyed self.old }
         requires new { last ≡ false → look self.old id ≡ None }
-        requires room { 0 < spare_of self.old.surfaces }
+        requires room { HasSpare self.old }
         requires few { created < u32.MAX }
         ensures surfaces { (q : Id) → look self.new q ≡ cond (not last && is_key id q)
             (Some (empty_surface client (created + 1))) (look self.old q) }
-        ensures len { length self.new.surfaces.entries
-            ≡ length self.old.surfaces.entries + cond last 0 1 }
+        ensures len { length self.new.keys.entries
+            ≡ length self.old.keys.entries + cond last 0 1 }
+        ensures keyed { IsKeyed self.new }
     {
         if last {
             return;
@@ -130,6 +143,7 @@ impl Table {
         frame: NamedFrame,
         blocks: List<PixelBlock>,
     ) -> (u32, Option<Held>)
+        requires keyed { IsKeyed self.old }
         requires there { (s : Kept) × (look self.old id.now ≡ Some s) × (s.accepted < u32.MAX) }
         ensures surfaces { (q : Id) → look self.new q
             ≡ cond (is_key id.now q) (option_map (holding sub frame blocks) (look self.old q))
@@ -137,9 +151,13 @@ impl Table {
         ensures index { (s : Kept) → look self.old id.now ≡ Some s → result.0 ≡ s.accepted + 1 }
         ensures replaced { (s : Kept) → look self.old id.now ≡ Some s
             → result.1 ≡ s.waiting }
-        ensures len { length self.new.surfaces.entries ≡ length self.old.surfaces.entries }
+        ensures len { length self.new.keys.entries ≡ length self.old.keys.entries }
+        ensures keyed { IsKeyed self.new }
     {
-        match self.surfaces.get_mut(id) {
+        let Some(key) = self.keys.get(id) else {
+            unreachable!()
+        };
+        match self.surfaces.get_mut(*key) {
             None => unreachable!(),
             Some(surface) => wait(surface, sub, frame, blocks),
         }
@@ -148,28 +166,38 @@ impl Table {
     /// The submission that waits on a surface becomes its active one. The answer is the one that
     /// was active.
     pub(crate) fn raise(&mut self, id: &SurfaceId) -> Option<Sub>
+        requires { IsKeyed self.old }
         ensures surfaces { (q : Id) → look self.new q
             ≡ cond (is_key id.now q) (option_map raised (look self.old q))
             (look self.old q) }
         ensures past { (s : Kept) → look self.old id.now ≡ Some s
             → result ≡ option_map (λ h. h.sub) s.active }
-        ensures len { length self.new.surfaces.entries ≡ length self.old.surfaces.entries }
+        ensures len { length self.new.keys.entries ≡ length self.old.keys.entries }
+        ensures keyed { IsKeyed self.new }
     {
-        match self.surfaces.get_mut(id) {
-            None => None,
+        let Some(key) = self.keys.get(id) else {
+            return None;
+        };
+        match self.surfaces.get_mut(*key) {
+            None => unreachable!(),
             Some(surface) => rise(surface),
         }
     }
 
     /// A surface goes.
     pub(crate) fn remove(&mut self, id: &SurfaceId) -> Option<Surface>
+        requires { IsKeyed self.old }
         ensures gone { result ≡ look self.old id.now }
         ensures surfaces { (q : Id) → look self.new q
             ≡ cond (is_key id.now q) None (look self.old q) }
         ensures len { (s : Kept) → look self.old id.now ≡ Some s
-            → length self.new.surfaces.entries + 1 ≡ length self.old.surfaces.entries }
+            → length self.new.keys.entries + 1 ≡ length self.old.keys.entries }
+        ensures keyed { IsKeyed self.new }
     {
-        self.surfaces.swap_remove(id)
+        match self.keys.swap_remove(id) {
+            None => None,
+            Some(key) => self.surfaces.try_remove(key),
+        }
     }
 }
 

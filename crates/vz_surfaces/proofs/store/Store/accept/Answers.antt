@@ -7,10 +7,15 @@ use Rattle.vz_surfaces.specs.Chains.{Stands, KeepsGroups}
 use Rattle.vz_ids.specs.declared.SurfaceId.{SurfaceId}
 use Rattle.vz_frame.specs.declared.frame.CompositorFrame.{CompositorFrame}
 use Rattle.vz_surfaces.specs.Memory.{Keeps, KeepsMarks, look, is_key, holding, is_named_last, waiting_on}
+use Rattle.vz_surfaces.proofs.Lodging.{same_keyed}
 use Rattle.vz_surfaces.proofs.Holding.{IsHeldAt, open_new, few_before, held_before, accepted_keeps, accepted_groups, accepted_marks, accepted_lists}
 use Rattle.vz_surfaces.proofs.Storing.{stored_more}
 use Rattle.vz_surfaces.proofs.Storing_whole.{stands_still}
 use Rattle.vz_surfaces.proofs.store.Store.accept.Goals as goal
+
+pub open-requires-clause-keyed : goal.open-requires-clause-keyed
+open-requires-clause-keyed c =
+    same_keyed c.self.inside.table c.grow.new.table c.in-Ok-grow.ensures.table c.self.invariant.0.kept.table.keyed
 
 pub open-requires-clause-new : goal.open-requires-clause-new
 open-requires-clause-new c =
@@ -46,7 +51,7 @@ held_after c =
     kept c.in-Ok-grow.ensures.table (c.is_last-last.ensures ∙ ap (λ o. is_named_last o.last c.args.local) c.get-owner.ensures) c.requires.exists c.requires.few c.open.ensures.surfaces
 
 pub hold-index-requires : goal.hold-index-requires
-hold-index-requires c = let h = held c in record { there = (h.surface, h.is, h.few) }
+hold-index-requires c = let h = held c in record { keyed = c.open.ensures.keyed; there = (h.surface, h.is, h.few) }
 
 pub returns-clause-ok : goal.returns-clause-ok
 returns-clause-ok c =
@@ -83,7 +88,7 @@ invariant_of-self-2 c =
             kept = accepted_keeps c.args.self.now c.args.c c.args.sink c.args.local c.requires.keeps c.requires.number c.requires.sink c.requires.goes_on c.args.frame c.args.blocks inside.table c.grow.new.table c.open.new.self
                 c.hold-index.new.self inside.waits c.grow.new.waits c.remove.new.self c.put.new.self inside.owners c.set.new.self c.get-owner.result c.counting.result c.is_last-last.result c.size-size.result c.note-acceptance.result
                 c.sub_of-waited.result kept c.in-Ok-grow.ensures.table c.in-Ok-grow.ensures.waits c.size-size.ensures c.get-owner.ensures c.is_last-last.ensures c.note-acceptance.ensures.back
-                c.open.ensures.surfaces c.open.ensures.len (held_so c) c.hold-index.ensures.len (waited c) c.remove.ensures.none c.remove.ensures.others c.put.ensures c.counting.ensures c.set.ensures;
+                c.open.ensures.surfaces c.open.ensures.len (held_so c) c.hold-index.ensures.len c.hold-index.ensures.keyed (waited c) c.remove.ensures.none c.remove.ensures.others c.put.ensures c.counting.ensures c.set.ensures;
             groups = accepted_groups c.args.self.now c.args.c c.args.sink c.args.local c.requires.keeps c.requires.number c.requires.sink c.requires.goes_on c.args.frame c.args.blocks inside.owners c.get-owner.result inside.groups c.grow.new.groups
                 c.is_last-last.result kept.owners (subst (KeepsGroups inside.groups) c.self.view_is c.self.invariant.0.groups) c.get-owner.ensures c.is_last-last.ensures c.in-Ok-grow.ensures.chain c.in-Ok-grow.ensures.newest;
             marks = accepted_marks c.args.self.now c.args.c c.args.sink c.args.local c.requires.keeps c.requires.number c.requires.sink c.requires.goes_on c.args.frame c.args.blocks inside.owners c.set.new.self c.is_last-last.result
