@@ -17,8 +17,10 @@ mod Storing
 mod Storing_whole
 mod Ages
 mod Grouping
+mod Linking
 mod Pointing
 mod Shown
+mod Found_links
 pub mod Seeing
 mod Awaited
 mod Marking

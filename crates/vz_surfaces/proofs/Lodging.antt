@@ -14,13 +14,13 @@ use Rattle.vz_surfaces.specs.Memory.{is_key, key_at, under, look, IsKeyed, HasSa
 use Rattle.vz_surfaces.proofs.Keyed.{keys}
 
 -- the test of keys is that of ids
-tested : (a b : SurfaceId) → is_key a b ≡ same_surface a b
+pub tested : (a b : SurfaceId) → is_key a b ≡ same_surface a b
 tested a b = ap (λ f. f a b) keys
 
-same_id : (a b : SurfaceId) → is_key a b ≡ true → a ≡ b
+pub same_id : (a b : SurfaceId) → is_key a b ≡ true → a ≡ b
 same_id a b e = from_same a b (sym (tested a b) ∙ e)
 
-key_from : (a b : SurfaceId) → a ≡ b → is_key a b ≡ true
+pub key_from : (a b : SurfaceId) → a ≡ b → is_key a b ≡ true
 key_from a b e = subst (λ x. is_key a x ≡ true) e (tested a a ∙ self_same a)
 
 some_key : {a b : ℕ} → Some a ≡ Some b → a ≡ b

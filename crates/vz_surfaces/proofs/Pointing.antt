@@ -4,7 +4,9 @@ use Rattle.std.specs.List.Sorted.{IsPartitionedBy, IsPartitionPoint}
 use Rattle.std.proofs.lemmas.Bool.{or_right}
 use Rattle.vz_ids.specs.declared.SurfaceId.{SurfaceId}
 use Rattle.vz_ids.specs.Ids.{same_sink, same_surface, newer, at_least}
-use Rattle.vz_surfaces.specs.Chains.{is_newer_id, IsRising}
+use Rattle.vz_rules.proofs.Facts.{length_map}
+use Rattle.vz_surfaces.specs.declared.groups.Link.{Link}
+use Rattle.vz_surfaces.specs.Chains.{ids_of, is_newer_id, IsRising}
 use Rattle.vz_surfaces.proofs.Ages.{at_least_trans}
 
 -- what stands behind is newer
@@ -34,8 +36,18 @@ rising_parts xs end h i j d l k e = by (order i j l)
         let b = get_or xs i d in
         at_least_trans end a b e (or_right (same_surface a b) (same_sink a.sink b.sink && newer a.local b.local) (rising_at xs i j d h m k))
 
+id_at : (links : List Link) (n : ℕ) (d : Link) → get_or (ids_of links) n d.id ≡ (get_or links n d).id
+id_at [] n d = refl
+id_at (l ∷ links) zero d = refl
+id_at (l ∷ links) (suc n) d = id_at links n d
+
+pub linked_parts : (links : List Link) (end : SurfaceId) → IsRising (ids_of links) → IsPartitionedBy (λ (l : Link). at_least end l.id) links
+linked_parts links end h i j d l k e =
+    ap (at_least end) (sym (id_at links i d))
+    ∙ rising_parts (ids_of links) end h i j d.id l (omega (arith, length_map (λ (x : Link). x.id) links, k)) (ap (at_least end) (id_at links j d) ∙ e)
+
 -- a front part that passes, with nothing behind it that does, is what passes
-pub point_filter : (p : SurfaceId → Bool) (xs : List SurfaceId) (n : ℕ) → n ≤ length xs → IsPartitionPoint (λ (x : SurfaceId). p x ≡ true) (λ (x : SurfaceId). p x ≡ false) xs n → take n xs ≡ filter p xs
+pub point_filter : {A : Type 0} (p : A → Bool) (xs : List A) (n : ℕ) → n ≤ length xs → IsPartitionPoint (λ x. p x ≡ true) (λ x. p x ≡ false) xs n → take n xs ≡ filter p xs
 point_filter p [] zero h point = refl
 point_filter p [] (suc n) h point = absurd (omega (arith, h))
 point_filter p (x ∷ xs) zero h point =

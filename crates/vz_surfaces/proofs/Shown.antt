@@ -17,8 +17,8 @@ use Rattle.vz_surfaces.specs.Reading.{standing, held_of, seen_frames, shown_in}
 use Rattle.vz_surfaces.specs.declared.table.Surface.{Surface}
 use Rattle.vz_surfaces.specs.declared.table.Table.{Table}
 use Rattle.vz_surfaces.specs.declared.groups.Groups.{Groups}
-use Rattle.vz_surfaces.specs.Memory.{kept_of, surface_at, KeepsTable}
-use Rattle.vz_surfaces.specs.Chains.{chain_at, is_acting, is_newer_id, IsRising, KeepsGroups, that_passes, starts_from, last_acting, newest_to, newest_from}
+use Rattle.vz_surfaces.specs.Memory.{look, kept_of, surface_at, KeepsTable}
+use Rattle.vz_surfaces.specs.Chains.{chain_at, is_newer_id, IsRising, KeepsGroups, starts_from}
 use Rattle.vz_surfaces.proofs.Ages.{newer_once, at_least_trans}
 use Rattle.vz_surfaces.proofs.Finding.{find_end}
 use Rattle.vz_surfaces.proofs.Others.{never}
@@ -26,7 +26,21 @@ use Rattle.vz_surfaces.proofs.Grouping.{reach_group, rising_less, same_groups, g
 
 -- The last of a rising list that passes
 
-last_step : (p : SurfaceId → Bool) (x : SurfaceId) (xs : List SurfaceId) → find p (reverse (x ∷ xs)) ≡ or_else (find p (reverse xs)) (cond (p x) (Some x) None)
+-- a surface of the table has an active frame
+abbrev pub is_acting : Table → SurfaceId → Bool
+is_acting t id = option_map_or (λ (s : Surface). is_some s.active) (look t id) false
+
+-- what was found, if it passes
+abbrev pub id_passes : (SurfaceId → Bool) → Option SurfaceId → Option SurfaceId
+id_passes test None = None
+id_passes test (Some id) = cond (test id) (Some id) None
+
+-- the newest surface with an active frame of the group of a start, which is another than the end's
+abbrev pub id_from : Table → Groups → Option SurfaceId → SurfaceId → Option SurfaceId
+id_from t g None end = None
+id_from t g (Some start) end = cond (same_group start end) None (id_passes (λ id. at_least id start) (find (is_acting t) (reverse (chain_at g start))))
+
+pub last_step : {A : Type 0} (p : A → Bool) (x : A) (xs : List A) → find p (reverse (x ∷ xs)) ≡ or_else (find p (reverse xs)) (cond (p x) (Some x) None)
 last_step p x xs = ap (find p) (reverse-append (x ∷ []) xs) ∙ find_end p (reverse xs) x
 
 pub none_last : (p : SurfaceId → Bool) (xs : List SurfaceId) → find p (reverse xs) ≡ None → (y : SurfaceId) → Contains xs y → p y ≡ false
@@ -224,7 +238,7 @@ module _ (t : Table) (g : Groups) (st : Stored) (ht : KeepsTable t st) (hg : Kee
 
   -- the part of a range in the end's group
   in_by : (range : SurfaceRange) (o : Option SurfaceId) → find (is_acting t) (reverse (filter (at_least range.end) (chain_at g range.end))) ≡ o
-      → that_passes (starts_from range.start range.end) o ≡ id_of_frame (newest (filter (in_range range) (seen_frames st)))
+      → id_passes (starts_from range.start range.end) o ≡ id_of_frame (newest (filter (in_range range) (seen_frames st)))
   in_by range None e =
       sym (ap (λ l. id_of_frame (newest l)) (filter_none (in_range range) (seen_frames st) (λ i c. never (in_range range i) (λ f.
       let at = (and_parts (at_least range.end i.id) (from_start range.start range.end i) f).0 in
@@ -255,7 +269,7 @@ module _ (t : Table) (g : Groups) (st : Stored) (ht : KeepsTable t st) (hg : Kee
 
   -- the group of the start
   from_by : (start end : SurfaceId) (o : Option SurfaceId) → find (is_acting t) (reverse (chain_at g start)) ≡ o → same_group start end ≡ false
-      → that_passes (λ id. at_least id start) o ≡ id_of_frame (newest (filter (after_start (Some start) end) (seen_frames st)))
+      → id_passes (λ id. at_least id start) o ≡ id_of_frame (newest (filter (after_start (Some start) end) (seen_frames st)))
   from_by start end None e f =
       sym (ap (λ l. id_of_frame (newest l)) (filter_none (after_start (Some start) end) (seen_frames st) (λ i c. never (after_start (Some start) end i) (λ k.
       let at = (and_parts (not (same_group start end)) (at_least i.id start) k).1 in
@@ -279,12 +293,11 @@ module _ (t : Table) (g : Groups) (st : Stored) (ht : KeepsTable t st) (hg : Kee
           let at = (and_parts (not (same_group start end)) (at_least j.id start) m).1 in
           sym k ∙ at_least_trans x j.id start (old_or x j.id (old j c at)) at))))
 
-  from_all : (s : Option SurfaceId) (end : SurfaceId) → newest_from t g s end ≡ id_of_frame (newest (filter (after_start s end) (seen_frames st)))
-  unfolding last_acting
+  from_all : (s : Option SurfaceId) (end : SurfaceId) → id_from t g s end ≡ id_of_frame (newest (filter (after_start s end) (seen_frames st)))
   from_all None end = sym (ap (λ l. id_of_frame (newest l)) (filter_none (after_start None end) (seen_frames st) (λ i c. refl)))
   from_all (Some start) end = by (same_group start end) refl
     where
-      by : (b : Bool) → same_group start end ≡ b → cond b None (that_passes (λ id. at_least id start) (find (is_acting t) (reverse (chain_at g start)))) ≡ id_of_frame (newest (filter (after_start (Some start) end) (seen_frames st)))
+      by : (b : Bool) → same_group start end ≡ b → cond b None (id_passes (λ id. at_least id start) (find (is_acting t) (reverse (chain_at g start)))) ≡ id_of_frame (newest (filter (after_start (Some start) end) (seen_frames st)))
       by true f = sym (ap (λ l. id_of_frame (newest l)) (filter_none (after_start (Some start) end) (seen_frames st) (λ i c. ap (λ b. not b && at_least i.id start) f)))
       by false f = from_by start end (find (is_acting t) (reverse (chain_at g start))) refl f
 
@@ -293,9 +306,9 @@ module _ (t : Table) (g : Groups) (st : Stored) (ht : KeepsTable t st) (hg : Kee
   either_id (Some i) b = refl
 
   -- what is found is what the range shows
-  pub shows : (range : SurfaceRange) → or_else (that_passes (starts_from range.start range.end) (newest_to t g range.end)) (newest_from t g range.start range.end) ≡ shown_in st range
-  unfolding shown_in shown_frame last_acting
-  shows range =
-      ap (λ o. or_else o (newest_from t g range.start range.end)) (in_by range (find (is_acting t) (reverse (filter (at_least range.end) (chain_at g range.end)))) refl)
+  pub ids_show : (range : SurfaceRange) → or_else (id_passes (starts_from range.start range.end) (find (is_acting t) (reverse (filter (at_least range.end) (chain_at g range.end))))) (id_from t g range.start range.end) ≡ shown_in st range
+  unfolding shown_in shown_frame
+  ids_show range =
+      ap (λ o. or_else o (id_from t g range.start range.end)) (in_by range (find (is_acting t) (reverse (filter (at_least range.end) (chain_at g range.end)))) refl)
       ∙ (ap (or_else (id_of_frame (newest (filter (in_range range) (seen_frames st))))) (from_all range.start range.end)
       ∙ either_id (newest (filter (in_range range) (seen_frames st))) (newest (filter (after_start range.start range.end) (seen_frames st))))

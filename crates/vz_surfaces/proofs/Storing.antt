@@ -1,6 +1,6 @@
 -- What memory keeps is that of the store, at first and over its other changes, and what is read of it.
 use Rattle.std.proofs.Common.{◌≡◌, ℕ, ◌+◌, Bool, true, false, ◌&&◌, Option, Some, None, List, [], ◌∷◌, ◌++◌, map, filter, find, length, refl, ap, sym, ◌∙◌, arith, cond, subst, is_some, Bor}
-use Rattle.std.specs.Option.{option_map, option_copied}
+use Rattle.std.specs.Option.{option_map, option_and_then, option_copied}
 use Rattle.std.proofs.lemmas.Bool.{both_ways, or_left}
 use Rattle.vz_ids.specs.declared.SurfaceId.{SurfaceId}
 use Rattle.vz_ids.specs.declared.Sub.{Sub}
@@ -21,7 +21,8 @@ use Rattle.vz_surfaces.specs.Stored.{Stored, nothing_stored, raising, activating
 use Rattle.vz_surfaces.specs.Told.{changed, changed_by, stored}
 use Rattle.vz_surfaces.specs.Reading.{stands, standing, held_of, existing_count, last_of, seen_frames, active_on}
 use Rattle.vz_surfaces.specs.Keeping.{KeepsStored}
-use Rattle.vz_surfaces.specs.Memory.{is_key, look, IsKeyed, is_name, waits_on, owner_at, no_owner, Keeps, kept_of, surface_at, raised, waiting_on, acting_on, is_waiting_in, past_by}
+use Rattle.vz_surfaces.specs.Memory.{is_key, key_at, under, look, IsKeyed, is_name, waits_on, owner_at, no_owner, Keeps, kept_of, surface_at, raised, waiting_on, acting_on, is_waiting_in, past_by}
+use Rattle.vz_surfaces.specs.Chains.{acting_under}
 use Rattle.vz_surfaces.proofs.Raising.{waiting_one, Waits_in, activates, past_is, raised_here, raised_apart, raised_count, raised_owners, raised_waits}
 use Rattle.vz_surfaces.proofs.Destroying.{marked_at, marked_count, marked_owners, marked_waits, gone_here, gone_apart, gone_owners, gone_count, gone_waits}
 use Rattle.vz_surfaces.proofs.Holding.{key_of, standing_of, kept_waiting}
@@ -112,6 +113,14 @@ active_some t w o st id s h e = by (standing id st.surfaces) refl (e ∙ h.table
     by (Some c) f g =
         ap (λ (z : Surface). z.active) (some_same g)
         ∙ (twice (find (λ s. is_active s && is_on id s) st.subs) ∙ sym (ap (option_map held_of) (seen_on st.surfaces st.subs id true (ap is_some f))))
+
+-- what is active under the key of a surface
+pub acting_reads : (t : Table) (w : Waits) (o : Owners) (st : Stored) (id : SurfaceId) (key : ℕ) → Keeps t w o st → key_at t id ≡ Some key → acting_under t key ≡ option_map held_of (active_on st id)
+acting_reads t w o st id key h e = by (under t key) (ap (option_and_then (under t)) e)
+  where
+    by : (x : Option Surface) → look t id ≡ x → option_and_then (λ (s : Surface). s.active) x ≡ option_map held_of (active_on st id)
+    by None f = active_none t w o st id h (sym f)
+    by (Some s) f = active_some t w o st id s h (sym f)
 
 -- whether there is a borrowed surface
 pub some_read : (o : Option (Bor Surface)) → is_some o ≡ is_some (option_copied o)

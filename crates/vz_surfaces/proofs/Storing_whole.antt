@@ -4,6 +4,7 @@ use Rattle.std.specs.Option.{option_map, option_map_or, option_and_then}
 use Rattle.std.proofs.lemmas.Bool.{or_left, and_parts}
 use Rattle.vz_ids.specs.declared.LocalSurfaceId.{LocalSurfaceId}
 use Rattle.vz_ids.specs.declared.SurfaceId.{SurfaceId}
+use Rattle.vz_ids.specs.declared.SurfaceRange.{SurfaceRange}
 use Rattle.vz_ids.specs.declared.Sub.{Sub}
 use Rattle.vz_ids.specs.Ids.{same_surface}
 use Rattle.vz_rules.specs.World.{Created, Submission, is_waiting, is_active, sub_of}
@@ -19,13 +20,14 @@ use Rattle.vz_surfaces.specs.declared.waits.Waits.{Waits}
 use Rattle.vz_surfaces.specs.declared.owners.Owners.{Owners}
 use Rattle.vz_surfaces.specs.Stored.{Stored, nothing_stored, raising, activating, destroying}
 use Rattle.vz_surfaces.specs.Told.{stored}
-use Rattle.vz_surfaces.specs.Reading.{standing, was_reached, has_mark}
+use Rattle.vz_surfaces.specs.Reading.{standing, was_reached, has_mark, held_of, active_on, shown_in}
 use Rattle.vz_surfaces.specs.Keeping.{KeepsStored}
-use Rattle.vz_surfaces.specs.Memory.{is_key, look, IsKeyed, HasSame, is_name, waits_on, owner_at, no_owner, HasNumber, marked_up, Keeps, KeepsOwners, KeepsMarks, kept_of, surface_at, raised, is_waiting_in}
+use Rattle.vz_surfaces.specs.Memory.{is_key, key_at, look, IsKeyed, HasSame, is_name, waits_on, owner_at, no_owner, HasNumber, marked_up, Keeps, KeepsOwners, KeepsMarks, kept_of, surface_at, raised, is_waiting_in}
 use Rattle.std.specs.Map.{lookup}
+use Rattle.vz_surfaces.specs.declared.groups.Link.{Link}
 use Rattle.vz_surfaces.specs.declared.groups.Group.{Group}
 use Rattle.vz_surfaces.specs.declared.groups.Groups.{Groups}
-use Rattle.vz_surfaces.specs.Chains.{Stands, KeepsGroups, IsRising, is_group, group_at, chain_at, newest_at, reaches, newer_local}
+use Rattle.vz_surfaces.specs.Chains.{Stands, shown_link, acting_under, KeepsGroups, IsRising, is_group, group_at, links_at, ids_of, chain_at, newest_at, reaches, newer_local}
 use Rattle.vz_surfaces.proofs.Grouping.{groups_alike, marked_groups, raised_groups, gone_groups}
 use Rattle.vz_surfaces.proofs.Marking.{owners_marked, marking_marks, raised_marks, gone_marks, own_client, one_surface}
 use Rattle.vz_surfaces.specs.declared.standing.Numbered.{Numbered}
@@ -33,11 +35,13 @@ use Rattle.vz_surfaces.specs.declared.standing.Row.{Row}
 use Rattle.vz_surfaces.specs.declared.standing.Standing.{Standing}
 use Rattle.vz_surfaces.specs.Numbers.{list_in, list_at, Rises, KeepsLists}
 use Rattle.vz_surfaces.proofs.Listing.{raised_lists, gone_lists}
-use Rattle.vz_surfaces.proofs.Lodging.{looks_same, same_keyed}
+use Rattle.vz_surfaces.proofs.Lodging.{keys_same, looks_same, same_keyed}
+use Rattle.vz_surfaces.proofs.Linking.{chain_stays, chain_less, links_same, links_less}
 use Rattle.vz_surfaces.proofs.Shown.{chain_has}
+use Rattle.vz_surfaces.proofs.Found_links.{shows, shown_key}
 use Rattle.vz_surfaces.proofs.Raising.{waiting_one, Waits_in, activates}
 use Rattle.vz_surfaces.proofs.Holding.{standing_of}
-use Rattle.vz_surfaces.proofs.Storing.{stored_more, stored_none, keeps_none, marked_keeps, activated_keeps, IsKeptAt, kept_at, destroyed_keeps}
+use Rattle.vz_surfaces.proofs.Storing.{stored_more, stored_none, acting_reads, keeps_none, marked_keeps, activated_keeps, IsKeptAt, kept_at, destroyed_keeps}
 
 -- With the groups
 
@@ -48,11 +52,12 @@ stands_none t w o g ts none len keyed unnamed owners groups e =
     record {
       kept = keeps_none t w o ts none len keyed unnamed owners e;
       groups = subst (KeepsGroups g) (sym (stored_none ts e)) (record {
-        chain = λ q. ap (λ (x : Option Group). option_map_or (λ (y : Group). y.chain.items) x []) (groups q);
-        rising = λ q. subst IsRising (sym (ap (λ (x : Option Group). option_map_or (λ (y : Group). y.chain.items) x []) (groups q))) tt;
+        chain = λ q. ap ids_of (no_links q);
+        rising = λ q. subst IsRising (sym (ap ids_of (no_links q))) tt;
         reached = λ d. ap (λ (x : Option Group). reaches (option_and_then (λ (y : Group). y.newest) x) d) (groups d);
         made = λ d l f. no_one (sym (ap (λ (x : Option Group). option_and_then (λ (y : Group). y.newest) x) (groups d)) ∙ f);
       });
+      links = record { keys = λ q l c. absurd (contains_none l (subst (λ ls. Contains ls l) (no_links q) c)) };
       marks = subst (KeepsMarks o) (sym (stored_none ts e)) (record {
         clients = λ s p. absurd (contains_none s p);
         numbers = λ s p. absurd (contains_none s p);
@@ -61,19 +66,23 @@ stands_none t w o g ts none len keyed unnamed owners groups e =
       });
     }
   where
+    no_links : (q : SurfaceId) → links_at g q ≡ []
+    no_links q = ap (λ (x : Option Group). option_map_or (λ (y : Group). y.chain.items) x []) (groups q)
+
     no_one : {A : Type 0} {l : LocalSurfaceId} → ◌≡◌ {A = Option LocalSurfaceId} None (Some l) → A
     no_one f = absurd (cc)
 
 pub stands_still : (t0 t1 : Table) (w0 w1 : Waits) (o : Owners) (g0 g1 : Groups) (st : Stored) → Stands t0 w0 o g0 st → HasSame t0 t1 → w1.surfaces.entries ≡ w0.surfaces.entries
-    → ((q : SurfaceId) → chain_at g1 q ≡ chain_at g0 q) → ((q : SurfaceId) → newest_at g1 q ≡ newest_at g0 q) → Stands t1 w1 o g1 st
-stands_still t0 t1 w0 w1 o g0 g1 st h table waits chain newest =
+    → ((q : SurfaceId) → links_at g1 q ≡ links_at g0 q) → ((q : SurfaceId) → newest_at g1 q ≡ newest_at g0 q) → Stands t1 w1 o g1 st
+stands_still t0 t1 w0 w1 o g0 g1 st h table waits links newest =
     record {
       kept = record {
         table = record { surfaces = λ q. looks_same t0 t1 table q ∙ h.kept.table.surfaces q; count = ap length table.keys ∙ h.kept.table.count; keyed = same_keyed t0 t1 table h.kept.table.keyed };
         waits = record { found = λ s p e. ap (lookup (is_name (sub_of s))) waits ∙ h.kept.waits.found s p e; only = λ q e. h.kept.waits.only q (ap (λ l. is_some (lookup (is_name q) l)) (sym waits) ∙ e) };
         owners = h.kept.owners;
       };
-      groups = groups_alike g0 g1 st chain newest h.groups;
+      groups = groups_alike g0 g1 st (chain_stays g0 g1 links) newest h.groups;
+      links = links_same t0 t1 g0 g1 (keys_same t0 t1 table) links h.links;
       marks = h.marks;
     }
 
@@ -87,6 +96,7 @@ marked_stands g t w o0 o1 ts now st c number inv view e set =
     record {
       kept = re_owned t w o0 o1 (stored now) kept (owners_marked o0 o1 c (owner_at o0 c).created set (stored now) kept.owners);
       groups = subst (KeepsGroups g) (sym (stored_more ts now (told.MarkedAll c) st e view)) (marked_groups c st g (subst (KeepsGroups g) view inv.groups));
+      links = inv.links;
       marks = subst (KeepsMarks o1) (sym (stored_more ts now (told.MarkedAll c) st e view)) (marking_marks o0 o1 c st number (subst (KeepsMarks o0) view inv.marks) set);
     }
 
@@ -106,7 +116,7 @@ has_group g t w o ts st sub id keeps inv view waits found =
     some_id f = cc
 
     by : (x : Option Group) → group_at g id ≡ x → Contains (chain_at g id) id → is_some x ≡ true
-    by None e c = absurd (contains_none id (subst (λ (y : Option Group). Contains (option_map_or (λ (z : Group). z.chain.items) y []) id) e c))
+    by None e c = absurd (contains_none id (subst (λ (y : Option Group). Contains (ids_of (option_map_or (λ (z : Group). z.chain.items) y [])) id) e c))
     by (Some x) e c = refl
 
 -- the surface on which a submission waits
@@ -159,21 +169,22 @@ mark_there g t w o ts st sub id keeps inv view waits found =
 pub activated_stands : (g0 g1 : Groups) (t0 t1 : Table) (w0 w1 : Waits) (o0 o1 : Owners) (ts now : List Told) (st : Stored) (sub : Sub) (id : SurfaceId) → KeepsStored st → Stands t0 w0 o0 g0 (stored ts) → stored ts ≡ st
     → is_waiting_in st sub ≡ true → now ≡ ts ++ told.Activated sub ∷ [] → Some id ≡ waits_on w0 sub
     → ((s : Sub) → Some sub ≡ Some s → (q : Sub) → waits_on w1 q ≡ cond (is_name s q) None (waits_on w0 q))
-    → ((q : SurfaceId) → look t1 q ≡ cond (is_key id q) (option_map raised (look t0 q)) (look t0 q)) → length t1.keys.entries ≡ length t0.keys.entries → IsKeyed t1
-    → ((q : SurfaceId) → chain_at g1 q ≡ chain_at g0 q) → ((q : SurfaceId) → newest_at g1 q ≡ cond (is_group id q) (newer_local id.local (newest_at g0 q)) (newest_at g0 q))
+    → ((q : SurfaceId) → look t1 q ≡ cond (is_key id q) (option_map raised (look t0 q)) (look t0 q)) → t1.keys.entries ≡ t0.keys.entries → IsKeyed t1
+    → ((q : SurfaceId) → links_at g1 q ≡ links_at g0 q) → ((q : SurfaceId) → newest_at g1 q ≡ cond (is_group id q) (newer_local id.local (newest_at g0 q)) (newest_at g0 q))
     → ((s : Surface) → look t0 id ≡ Some s → (q : ℕ) → 1 ≤ q → owner_at o1 q ≡ cond (q == sub.client) (marked_up (s.number - 1) (owner_at o0 sub.client)) (owner_at o0 q)) → Stands t1 w1 o1 g1 (stored now)
-activated_stands g0 g1 t0 t1 w0 w1 o0 o1 ts now st sub id keeps inv view waits e found gone rose same keyed chain newest marks =
+activated_stands g0 g1 t0 t1 w0 w1 o0 o1 ts now st sub id keeps inv view waits e found gone rose same keyed links newest marks =
     let up = is_up t0 w0 o0 st sub id keeps (subst (Keeps t0 w0 o0) view inv.kept) waits found in
     let x = up.one in
     let in_it = up.in_it in
     let set : (q : ℕ) → 1 ≤ q → owner_at o1 q ≡ cond (q == sub.client) (marked_up (up.surface.number - 1) (owner_at o0 sub.client)) (owner_at o0 q) = marks (kept_of id st.subs up.surface) up.kept in
-    let kept = activated_keeps t0 t1 w0 w1 o0 ts now st sub id keeps inv.kept view waits e found gone rose same keyed in
+    let kept = activated_keeps t0 t1 w0 w1 o0 ts now st sub id keeps inv.kept view waits e found gone rose (ap length same) keyed in
     let is : stored now ≡ raising x st = stored_more ts now (told.Activated sub) st e view ∙ (ap (λ s. activating s st) (sym up.named) ∙ activates st x keeps in_it.there) in
     record {
       kept = re_owned t1 w1 o0 o1 (stored now) kept (owners_marked o0 o1 sub.client (up.surface.number - 1) set (stored now) kept.owners);
       groups = subst (KeepsGroups g1) (sym is)
-          (raised_groups st x keeps in_it g0 g1 (subst (KeepsGroups g0) view inv.groups) chain
+          (raised_groups st x keeps in_it g0 g1 (subst (KeepsGroups g0) view inv.groups) (chain_stays g0 g1 links)
           (λ q. newest q ∙ ap (λ (i : SurfaceId). cond (is_group i q) (newer_local i.local (newest_at g0 q)) (newest_at g0 q)) up.at));
+      links = links_same t0 t1 g0 g1 (λ q. ap (lookup (is_key q)) same) links inv.links;
       marks = subst (KeepsMarks o1) (sym is)
           (raised_marks st x keeps in_it o0 o1 up.surface up.there up.of_id (subst (KeepsMarks o0) view inv.marks)
           (λ q h. set q h ∙ ap (λ (s : Sub). cond (q == s.client) (marked_up (up.surface.number - 1) (owner_at o0 s.client)) (owner_at o0 q)) (sym up.named)));
@@ -182,13 +193,15 @@ activated_stands g0 g1 t0 t1 w0 w1 o0 o1 ts now st sub id keeps inv view waits e
 pub destroyed_stands : (g0 g1 : Groups) (t0 t1 : Table) (w0 w1 : Waits) (o : Owners) (ts now : List Told) (st : Stored) (id : SurfaceId) (s : Surface) (r : Option Sub) → KeepsStored st → Stands t0 w0 o g0 (stored ts) → stored ts ≡ st
     → now ≡ ts ++ told.Destroyed id ∷ [] → Some s ≡ look t0 id → r ≡ option_map (λ (h : Held). h.sub) s.waiting → (r ≡ None → w1 ≡ w0)
     → ((x : Sub) → r ≡ Some x → (q : Sub) → waits_on w1 q ≡ cond (is_name x q) None (waits_on w0 q))
-    → ((q : SurfaceId) → look t1 q ≡ cond (is_key id q) None (look t0 q)) → ((x : Surface) → look t0 id ≡ Some x → length t1.keys.entries + 1 ≡ length t0.keys.entries) → IsKeyed t1
-    → ((q : SurfaceId) → chain_at g1 q ≡ cond (is_group id q) (filter (λ (x : SurfaceId). not (same_surface x id)) (chain_at g0 q)) (chain_at g0 q)) → ((q : SurfaceId) → newest_at g1 q ≡ newest_at g0 q)
+    → ((q : SurfaceId) → look t1 q ≡ cond (is_key id q) None (look t0 q)) → ((q : SurfaceId) → key_at t1 q ≡ cond (is_key id q) None (key_at t0 q))
+    → ((x : Surface) → look t0 id ≡ Some x → length t1.keys.entries + 1 ≡ length t0.keys.entries) → IsKeyed t1
+    → ((q : SurfaceId) → links_at g1 q ≡ cond (is_group id q) (filter (λ (l : Link). not (same_surface l.id id)) (links_at g0 q)) (links_at g0 q)) → ((q : SurfaceId) → newest_at g1 q ≡ newest_at g0 q)
     → Stands t1 w1 o g1 (stored now)
-destroyed_stands g0 g1 t0 t1 w0 w1 o ts now st id s r keeps inv view e found is none some goes fewer keyed chain newest =
+destroyed_stands g0 g1 t0 t1 w0 w1 o ts now st id s r keeps inv view e found is none some goes keys fewer keyed links newest =
     record {
       kept = destroyed_keeps t0 t1 w0 w1 o ts now st id s r keeps inv.kept view e found is none some goes fewer keyed;
-      groups = subst (KeepsGroups g1) (sym (stored_more ts now (told.Destroyed id) st e view)) (gone_groups id st g0 g1 (subst (KeepsGroups g0) view inv.groups) chain newest);
+      groups = subst (KeepsGroups g1) (sym (stored_more ts now (told.Destroyed id) st e view)) (gone_groups id st g0 g1 (subst (KeepsGroups g0) view inv.groups) (chain_less g0 g1 id links) newest);
+      links = links_less t0 t1 g0 g1 (stored ts) id inv.groups keys links inv.links;
       marks = subst (KeepsMarks o) (sym (stored_more ts now (told.Destroyed id) st e view)) (gone_marks id st o (subst (KeepsMarks o) view inv.marks));
     }
 
@@ -241,3 +254,14 @@ destroyed_lists l0 l1 st id s keeps k h goes =
     let at = from_same k.surface.id id (and_parts (same_surface k.surface.id id) (not k.surface.destroyed) there.1).0 in
     gone_lists id s.client st l0 l1 h
     (λ c p e. ap (λ (x : Created). x.client) (one_surface st c k.surface keeps p there.0 (from_same c.id id e ∙ sym at)) ∙ ap (λ (x : Surface). x.client) (sym k.kept)) goes
+
+-- What a range shows
+
+pub shown_ids : (t : Table) (w : Waits) (o : Owners) (g : Groups) (ts : List Told) (st : Stored) (range : SurfaceRange) → Stands t w o g (stored ts) → stored ts ≡ st
+    → option_map (λ (l : Link). l.id) (shown_link t g range) ≡ shown_in st range
+shown_ids t w o g ts st range inv view = shows t g inv.links st (subst (Keeps t w o) view inv.kept).table (subst (KeepsGroups g) view inv.groups) range
+
+-- and what is active under the key of its link
+pub shown_acts : (t : Table) (w : Waits) (o : Owners) (g : Groups) (ts : List Told) (st : Stored) (range : SurfaceRange) → Stands t w o g (stored ts) → stored ts ≡ st
+    → (l : Link) → Some l ≡ shown_link t g range → acting_under t l.key ≡ option_map held_of (active_on st l.id)
+shown_acts t w o g ts st range inv view l e = acting_reads t w o st l.id l.key (subst (Keeps t w o) view inv.kept) (shown_key t g inv.links range l (sym e))

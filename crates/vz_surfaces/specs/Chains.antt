@@ -1,22 +1,27 @@
 -- The surfaces that exist, by groups.
-use Rattle.std.specs.Prelude.{◌≡◌, true, false, Bool, not, ◌&&◌, ◌||◌, Option, Some, None, is_some, List, [], ◌∷◌, map, filter, find, reverse, if◌then◌else◌}
+use Rattle.std.specs.Prelude.{◌≡◌, ℕ, true, false, Bool, not, ◌&&◌, ◌||◌, Option, Some, None, is_some, List, [], ◌∷◌, map, filter, find, reverse, if◌then◌else◌}
 use Rattle.std.specs.Option.{option_and_then, option_map_or}
 use Rattle.std.specs.List.{Contains}
 use Rattle.std.specs.Map.{lookup}
 use Rattle.vz_ids.specs.declared.LocalSurfaceId.{LocalSurfaceId}
 use Rattle.vz_ids.specs.declared.SurfaceId.{SurfaceId}
+use Rattle.vz_ids.specs.declared.SurfaceRange.{SurfaceRange}
 use Rattle.vz_ids.specs.Ids.{same_sink, same_group, newer, at_least}
 use Rattle.vz_rules.specs.World.{Created, Submission}
+use Rattle.vz_rules.specs.Scene.{or_else}
 use Rattle.vz_surfaces.specs.contracts.groups.GroupKeyPartialEq.TheImpl.{eq-value as group_eq}
 use Rattle.vz_surfaces.specs.declared.groups.GroupKey.{GroupKey}
+use Rattle.vz_surfaces.specs.declared.groups.Link.{Link}
 use Rattle.vz_surfaces.specs.declared.groups.Group.{Group}
 use Rattle.vz_surfaces.specs.declared.groups.Groups.{Groups}
+use Rattle.vz_surfaces.specs.declared.held.Held.{Held}
+use Rattle.vz_surfaces.specs.declared.table.Surface.{Surface}
 use Rattle.vz_surfaces.specs.declared.table.Table.{Table}
 use Rattle.vz_surfaces.specs.Stored.{Stored}
 use Rattle.vz_surfaces.specs.Reading.{was_reached}
 use Rattle.vz_surfaces.specs.declared.waits.Waits.{Waits}
 use Rattle.vz_surfaces.specs.declared.owners.Owners.{Owners}
-use Rattle.vz_surfaces.specs.Memory.{look, Keeps, KeepsMarks}
+use Rattle.vz_surfaces.specs.Memory.{key_at, under, Keeps, KeepsMarks}
 
 -- the group of a surface
 abbrev pub key_of : SurfaceId → GroupKey
@@ -30,9 +35,17 @@ is_group a b = group_eq.it (key_of a) (key_of b)
 abbrev pub group_at : Groups → SurfaceId → Option Group
 group_at g id = lookup (group_eq.it (key_of id)) g.groups.entries
 
+-- the surfaces of a surface's group, with their keys
+abbrev pub links_at : Groups → SurfaceId → List Link
+links_at g id = option_map_or (λ (x : Group). x.chain.items) (group_at g id) []
+
+-- the surfaces of these
+abbrev pub ids_of : List Link → List SurfaceId
+ids_of links = map (λ (l : Link). l.id) links
+
 -- the surfaces of a surface's group
 abbrev pub chain_at : Groups → SurfaceId → List SurfaceId
-chain_at g id = option_map_or (λ (x : Group). x.chain.items) (group_at g id) []
+chain_at g id = ids_of (links_at g id)
 
 -- the newest surface of a surface's group that was ever active
 abbrev pub newest_at : Groups → SurfaceId → Option LocalSurfaceId
@@ -48,9 +61,9 @@ unfoldable pub newer_local : LocalSurfaceId → Option LocalSurfaceId → Option
 newer_local local None = Some local
 newer_local local (Some other) = if newer local other then Some local else Some other
 
--- a surface of the table has an active frame
-abbrev pub is_acting : Table → SurfaceId → Bool
-is_acting t id = option_map_or (λ s. is_some s.active) (look t id) false
+-- the active submission of the surface under a key, if there is one
+abbrev pub acting_under : Table → ℕ → Option Held
+acting_under t key = option_and_then (λ (s : Surface). s.active) (under t key)
 
 -- a surface is a newer one of another's group
 abbrev pub is_newer_id : SurfaceId → SurfaceId → Bool
@@ -69,10 +82,14 @@ pub record KeepsGroups (g : Groups) (st : Stored) : Type 0 where
   pub made : (d : SurfaceId) (local : LocalSurfaceId) → newest_at g d ≡ Some local
       → (s : Submission) × Contains st.subs s × (s.submitted.id ≡ record { sink = d.sink; local = local }) × (local.token.0 ≡ d.local.token.0)
 
+-- each surface of a group is found under its key
+pub record KeepsLinks (t : Table) (g : Groups) : Type 0 where
+  pub keys : (q : SurfaceId) (l : Link) → Contains (links_at g q) l → key_at t l.id ≡ Some l.key
+
 -- what was found, if it passes
-abbrev pub that_passes : (SurfaceId → Bool) → Option SurfaceId → Option SurfaceId
+abbrev pub that_passes : (SurfaceId → Bool) → Option Link → Option Link
 that_passes test None = None
-that_passes test (Some id) = if test id then Some id else None
+that_passes test (Some l) = if test l.id then Some l else None
 
 -- where the start of a range is in the end's group, only what is the start or newer counts
 abbrev pub starts_from : Option SurfaceId → SurfaceId → SurfaceId → Bool
@@ -80,20 +97,25 @@ starts_from None end id = true
 starts_from (Some start) end id = not (same_group start end) || at_least id start
 
 -- the last of some surfaces that has an active frame
-unfoldable pub last_acting : Table → List SurfaceId → Option SurfaceId
-last_acting t ids = find (is_acting t) (reverse ids)
+unfoldable pub last_acting : Table → List Link → Option Link
+last_acting t links = find (λ (l : Link). is_some (acting_under t l.key)) (reverse links)
 
 -- the newest surface of a group with an active frame, at a surface or older
-abbrev pub newest_to : Table → Groups → SurfaceId → Option SurfaceId
-newest_to t g end = last_acting t (filter (at_least end) (chain_at g end))
+abbrev pub newest_to : Table → Groups → SurfaceId → Option Link
+newest_to t g end = last_acting t (filter (λ (l : Link). at_least end l.id) (links_at g end))
 
 -- the newest surface with an active frame of the group of a start, which is another than the end's
-abbrev pub newest_from : Table → Groups → Option SurfaceId → SurfaceId → Option SurfaceId
+abbrev pub newest_from : Table → Groups → Option SurfaceId → SurfaceId → Option Link
 newest_from t g None end = None
-newest_from t g (Some start) end = if same_group start end then None else that_passes (λ id. at_least id start) (last_acting t (chain_at g start))
+newest_from t g (Some start) end = if same_group start end then None else that_passes (λ id. at_least id start) (last_acting t (links_at g start))
+
+-- what a range shows
+abbrev pub shown_link : Table → Groups → SurfaceRange → Option Link
+shown_link t g range = or_else (that_passes (starts_from range.start range.end) (newest_to t g range.end)) (newest_from t g range.start range.end)
 
 -- what memory keeps is that of a store
 pub record Stands (t : Table) (w : Waits) (o : Owners) (g : Groups) (st : Stored) : Type 0 where
   pub kept : Keeps t w o st
   pub groups : KeepsGroups g st
+  pub links : KeepsLinks t g
   pub marks : KeepsMarks o st

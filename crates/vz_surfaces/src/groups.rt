@@ -1,8 +1,10 @@
 //! The surfaces that exist by groups, so that the newest up to one is found soon.
 ghost use Rattle.std.specs.Prelude.{◌≡◌, ◌++◌, ◌∷◌, [], None, Some, cond, not, filter, is_some, IsTrue, OnOk, OnErr};
+ghost use Rattle.std.specs.Option.{option_copied};
 ghost use Rattle.vz_ids.specs.declared.SurfaceId.{SurfaceId as Id};
 ghost use Rattle.vz_ids.specs.Ids.{same_surface, at_least};
-ghost use Rattle.vz_surfaces.specs.Chains.{is_group, key_of, group_at, chain_at, newest_at, reaches, newer_local, IsRising, last_acting, newest_to};
+ghost use Rattle.vz_surfaces.specs.declared.groups.Link.{Link as One};
+ghost use Rattle.vz_surfaces.specs.Chains.{is_group, key_of, group_at, links_at, ids_of, chain_at, newest_at, reaches, newer_local, IsRising, last_acting, newest_to};
 
 use crate::table::Table;
 use indexmap::IndexMap;
@@ -27,11 +29,18 @@ fn key_of(id: &SurfaceId) -> GroupKey
     }
 }
 
+/// A surface of a group, with its key in the table.
+#[derive(Clone, Copy)]
+pub(crate) struct Link {
+    pub(crate) id: SurfaceId,
+    pub(crate) key: usize,
+}
+
 /// The surfaces of a group that exist, each newer than those before it, and the newest surface
 /// that was ever active, whether it exists or not.
 #[derive(Drop)]
 pub(crate) struct Group {
-    chain: Vec<SurfaceId>,
+    chain: Vec<Link>,
     newest: Option<LocalSurfaceId>,
 }
 
@@ -49,11 +58,11 @@ pub(crate) fn is_at_least(id: &SurfaceId, than: &SurfaceId) -> bool
 }
 
 /// Puts a surface at the end.
-fn append(chain: &mut Vec<SurfaceId>, id: SurfaceId) -> Result<(), Memory>
-    ensures ok { OnOk result (chain.new.items ≡ chain.old.items ++ id ∷ []) }
+fn append(chain: &mut Vec<Link>, link: Link) -> Result<(), Memory>
+    ensures ok { OnOk result (chain.new.items ≡ chain.old.items ++ link ∷ []) }
     ensures err { OnErr result (chain.new.items ≡ chain.old.items) }
 {
-    chain.push(id)?;
+    chain.push(link)?;
     Ok(())
 }
 
@@ -68,18 +77,18 @@ impl Groups {
     }
 
     /// A surface more, the newest of its group.
-    pub(crate) fn add(&mut self, alloc: Global, id: SurfaceId) -> Result<(), Memory>
-        ensures chain { (q : Id) → OnOk result (chain_at self.new q
-            ≡ cond (is_group id q) (chain_at self.old q ++ id ∷ []) (chain_at self.old q)) }
-        ensures err { (q : Id) → OnErr result (chain_at self.new q ≡ chain_at self.old q) }
+    pub(crate) fn add(&mut self, alloc: Global, link: Link) -> Result<(), Memory>
+        ensures chain { (q : Id) → OnOk result (links_at self.new q
+            ≡ cond (is_group link.id q) (links_at self.old q ++ link ∷ []) (links_at self.old q)) }
+        ensures err { (q : Id) → OnErr result (links_at self.new q ≡ links_at self.old q) }
         ensures newest { (q : Id) → newest_at self.new q ≡ newest_at self.old q }
     {
-        let key = key_of(&id);
+        let key = key_of(&link.id);
         match self.groups.get_mut(&key) {
-            Some(group) => append(&mut group.chain, id),
+            Some(group) => append(&mut group.chain, link),
             None => {
                 let mut chain = Vec::new(alloc);
-                append(&mut chain, id)?;
+                append(&mut chain, link)?;
                 self.groups.insert(
                     key,
                     Group {
@@ -95,7 +104,7 @@ impl Groups {
     /// A surface was active. Condition: its group is there.
     pub(crate) fn note_active(&mut self, id: &SurfaceId)
         requires { IsTrue (is_some (group_at self.old id.now)) }
-        ensures chain { (q : Id) → chain_at self.new q ≡ chain_at self.old q }
+        ensures chain { (q : Id) → links_at self.new q ≡ links_at self.old q }
         ensures newest { (q : Id) → newest_at self.new q ≡ cond (is_group id.now q)
             (newer_local id.now.local (newest_at self.old q)) (newest_at self.old q) }
     {
@@ -106,9 +115,9 @@ impl Groups {
 
     /// A surface goes.
     pub(crate) fn remove(&mut self, id: &SurfaceId)
-        ensures chain { (q : Id) → chain_at self.new q ≡ cond (is_group id.now q)
-            (filter (λ (x : Id). not (same_surface x id.now)) (chain_at self.old q))
-            (chain_at self.old q) }
+        ensures chain { (q : Id) → links_at self.new q ≡ cond (is_group id.now q)
+            (filter (λ (l : One). not (same_surface l.id id.now)) (links_at self.old q))
+            (links_at self.old q) }
         ensures newest { (q : Id) → newest_at self.new q ≡ newest_at self.old q }
     {
         if let Some(group) = self.groups.get_mut(&key_of(id)) {
@@ -137,9 +146,9 @@ impl Groups {
 
     /// The newest surface of a group with an active frame, at this one or older.
     #[tactic(auto, unfolding(crate::specs::Chains::last_acting))]
-    pub(crate) fn newest_up_to(&self, end: &SurfaceId, table: &Table) -> Option<SurfaceId>
+    pub(crate) fn newest_up_to<'a>(&'a self, end: &SurfaceId, table: &Table) -> Option<&'a Link>
         requires { IsRising (chain_at self.now end.now) }
-        ensures { result ≡ newest_to table.now self.now end.now }
+        ensures { option_copied result ≡ newest_to table.now self.now end.now }
     {
         match self.groups.get(&key_of(end)) {
             None => None,
@@ -149,8 +158,8 @@ impl Groups {
 
     /// The newest surface with an active frame of the group of a surface.
     #[tactic(auto, unfolding(crate::specs::Chains::last_acting))]
-    pub(crate) fn newest(&self, start: &SurfaceId, table: &Table) -> Option<SurfaceId>
-        ensures { result ≡ last_acting table.now (chain_at self.now start.now) }
+    pub(crate) fn newest<'a>(&'a self, start: &SurfaceId, table: &Table) -> Option<&'a Link>
+        ensures { option_copied result ≡ last_acting table.now (links_at self.now start.now) }
     {
         match self.groups.get(&key_of(start)) {
             None => None,
@@ -171,39 +180,39 @@ fn newer_of(newest: Option<LocalSurfaceId>, local: LocalSurfaceId) -> Option<Loc
 }
 
 /// Whether two surfaces are not one.
-fn differs(a: &SurfaceId, b: &SurfaceId) -> bool
-    ensures { result ≡ not (same_surface a.now b.now) }
+fn differs(link: &Link, id: &SurfaceId) -> bool
+    ensures { result ≡ not (same_surface link.now.id id.now) }
 {
-    *a != *b
+    link.id != *id
 }
 
 /// A surface goes from the list.
-fn forget(chain: &mut Vec<SurfaceId>, id: &SurfaceId)
-    ensures { chain.new.items ≡ filter (λ (x : Id). not (same_surface x id.now)) chain.old.items }
+fn forget(chain: &mut Vec<Link>, id: &SurfaceId)
+    ensures { chain.new.items ≡ filter (λ (l : One). not (same_surface l.id id.now)) chain.old.items }
 {
-    chain.retain(|other| differs(other, id));
+    chain.retain(|link| differs(link, id));
 }
 
 /// The surfaces of a chain that are this one or older.
-fn up_to<'a>(chain: &'a [SurfaceId], end: &SurfaceId) -> &'a [SurfaceId]
-    requires { IsRising chain.now }
-    ensures { result.now ≡ filter (at_least end.now) chain.now }
+fn up_to<'a>(chain: &'a [Link], end: &SurfaceId) -> &'a [Link]
+    requires { IsRising (ids_of chain.now) }
+    ensures { result.now ≡ filter (λ (l : One). at_least end.now l.id) chain.now }
 {
-    let count = chain.partition_point(|id| is_at_least(end, id));
+    let count = chain.partition_point(|link| is_at_least(end, &link.id));
     &chain[..count]
 }
 
 /// The last of some surfaces that has an active frame.
 #[tactic(auto, unfolding(crate::specs::Chains::last_acting))]
-fn last_active(ids: &[SurfaceId], table: &Table) -> Option<SurfaceId>
-    ensures { result ≡ last_acting table.now ids.now }
+fn last_active<'a>(chain: &'a [Link], table: &Table) -> Option<&'a Link>
+    ensures { option_copied result ≡ last_acting table.now chain.now }
 {
-    let mut left = ids.len();
+    let mut left = chain.len();
     while left > 0 {
         left -= 1;
-        let id = ids[left];
-        if table.has_active(&id) {
-            return Some(id);
+        let link = &chain[left];
+        if table.has_active(link.key) {
+            return Some(link);
         }
     }
     None

@@ -1,10 +1,10 @@
 //! Which surface a range shows.
 ghost use Rattle.std.specs.Prelude.{◌≡◌};
+ghost use Rattle.std.specs.Option.{option_copied};
 ghost use Rattle.vz_ids.specs.Ids.{same_group};
-ghost use Rattle.vz_rules.specs.Scene.{or_else};
-ghost use Rattle.vz_surfaces.specs.Chains.{IsRising, chain_at, that_passes, starts_from, newest_to, newest_from};
+ghost use Rattle.vz_surfaces.specs.Chains.{IsRising, chain_at, that_passes, starts_from, newest_to, newest_from, shown_link};
 
-use crate::groups::{Groups, is_at_least};
+use crate::groups::{Groups, Link, is_at_least};
 use crate::table::Table;
 use vz_ids::{SurfaceId, SurfaceRange};
 
@@ -20,16 +20,16 @@ fn starts_from(range: &SurfaceRange, id: &SurfaceId) -> bool
 }
 
 /// The newest surface with an active frame in the part of a range that is in the end's group.
-fn newest_in(groups: &Groups, table: &Table, range: &SurfaceRange) -> Option<SurfaceId>
+fn newest_in<'a>(groups: &'a Groups, table: &Table, range: &SurfaceRange) -> Option<&'a Link>
     requires { IsRising (chain_at groups.now range.now.end) }
-    ensures { result ≡ that_passes (starts_from range.now.start range.now.end)
+    ensures { option_copied result ≡ that_passes (starts_from range.now.start range.now.end)
         (newest_to table.now groups.now range.now.end) }
 {
     match groups.newest_up_to(&range.end, table) {
         None => None,
-        Some(id) => {
-            if starts_from(range, &id) {
-                Some(id)
+        Some(link) => {
+            if starts_from(range, &link.id) {
+                Some(link)
             } else {
                 None
             }
@@ -39,8 +39,8 @@ fn newest_in(groups: &Groups, table: &Table, range: &SurfaceRange) -> Option<Sur
 
 /// The newest surface with an active frame of the group of a range's start, where that is another
 /// one than the end's.
-fn newest_from(groups: &Groups, table: &Table, range: &SurfaceRange) -> Option<SurfaceId>
-    ensures { result ≡ newest_from table.now groups.now range.now.start range.now.end }
+fn newest_from<'a>(groups: &'a Groups, table: &Table, range: &SurfaceRange) -> Option<&'a Link>
+    ensures { option_copied result ≡ newest_from table.now groups.now range.now.start range.now.end }
 {
     match range.start {
         None => None,
@@ -50,9 +50,9 @@ fn newest_from(groups: &Groups, table: &Table, range: &SurfaceRange) -> Option<S
             }
             match groups.newest(&start, table) {
                 None => None,
-                Some(id) => {
-                    if is_at_least(&id, &start) {
-                        Some(id)
+                Some(link) => {
+                    if is_at_least(&link.id, &start) {
+                        Some(link)
                     } else {
                         None
                     }
@@ -63,14 +63,16 @@ fn newest_from(groups: &Groups, table: &Table, range: &SurfaceRange) -> Option<S
 }
 
 /// The surface that a range shows.
-pub(crate) fn shown_by(groups: &Groups, table: &Table, range: &SurfaceRange) -> Option<SurfaceId>
+pub(crate) fn shown_by<'a>(
+    groups: &'a Groups,
+    table: &Table,
+    range: &SurfaceRange,
+) -> Option<&'a Link>
     requires { IsRising (chain_at groups.now range.now.end) }
-    ensures { result ≡ or_else (that_passes (starts_from range.now.start range.now.end)
-        (newest_to table.now groups.now range.now.end))
-        (newest_from table.now groups.now range.now.start range.now.end) }
+    ensures { option_copied result ≡ shown_link table.now groups.now range.now }
 {
     match newest_in(groups, table, range) {
-        Some(id) => Some(id),
+        Some(link) => Some(link),
         None => newest_from(groups, table, range),
     }
 }

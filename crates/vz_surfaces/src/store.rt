@@ -11,11 +11,11 @@ ghost use Rattle.vz_rules.specs.Kept.{is_by, last_in};
 ghost use Rattle.vz_surfaces.specs.Stored.{nothing_stored, surface_of, storing, activating, marking, destroying};
 ghost use Rattle.vz_surfaces.specs.Reading.{stands, standing, existing_count, last_of, active_on, waiting_at, seen_frames, held_of, has_mark, marked_to, was_reached};
 ghost use Rattle.vz_surfaces.specs.Keeping.{KeepsStored};
-ghost use Rattle.vz_surfaces.specs.Chains.{is_group, chain_at, newest_at};
+ghost use Rattle.vz_surfaces.specs.Chains.{is_group, links_at, newest_at};
 ghost use Rattle.vz_surfaces.specs.Numbers.{list_at, has_room};
 ghost use Rattle.vz_surfaces.specs.Memory.{HasNumber, HasSame, HasSpare, IsSinkOf, held_in, waiting_on, acting_on, is_waiting_in, past_by};
 
-use crate::groups::Groups;
+use crate::groups::{Groups, Link};
 use crate::held::{Gone, Held, Taken};
 use crate::marks::{mark_all, mark_before};
 use crate::named::{NamedFrame, places_of};
@@ -159,9 +159,12 @@ impl Store {
         requires { KeepsStored self.now }
         ensures { result ≡ shown_frame (seen_frames self.now) range.now }
     {
-        match self.shown(range) {
+        let Some(link) = shown_by(&self.groups, &self.table, range) else {
+            return None;
+        };
+        match self.table.active(link.key) {
             None => None,
-            Some(id) => self.frame_on(&id),
+            Some(held) => Some(Seen::new(link.id, held)),
         }
     }
 
@@ -356,10 +359,11 @@ fn grow(
     ensures waits { waits.new.surfaces.entries ≡ waits.old.surfaces.entries }
     ensures surfaces { OnOk result (HasSpare table.new) }
     ensures names { OnOk result (0 < spare_of waits.new.surfaces) }
-    ensures chain { (q : Id) → OnOk result (chain_at groups.new q
-        ≡ cond (not last && is_group id q) (chain_at groups.old q ++ id ∷ [])
-        (chain_at groups.old q)) }
-    ensures err { (q : Id) → OnErr result (chain_at groups.new q ≡ chain_at groups.old q) }
+    ensures chain { (q : Id) → OnOk result (links_at groups.new q
+        ≡ cond (not last && is_group id q)
+        (links_at groups.old q ++ record { id = id; key = table.new.surfaces.vacant_key } ∷ [])
+        (links_at groups.old q)) }
+    ensures err { (q : Id) → OnErr result (links_at groups.new q ≡ links_at groups.old q) }
     ensures newest { (q : Id) → newest_at groups.new q ≡ newest_at groups.old q }
     ensures lists { (q : ℕ) → list_at standing.new q ≡ list_at standing.old q }
     ensures room { OnOk result (last ≡ false → IsTrue (has_room standing.new c)) }
@@ -370,7 +374,8 @@ fn grow(
         return Ok(());
     }
     standing.reserve(alloc, c)?;
-    groups.add(alloc, id)?;
+    let key = table.next_key();
+    groups.add(alloc, Link { id, key })?;
     Ok(())
 }
 
@@ -381,6 +386,9 @@ impl Shows for Store {
 
     /// The surface that a range shows, among those that exist and have an active submission.
     fn shown(&self, r: &SurfaceRange) -> Option<SurfaceId> {
-        shown_by(&self.groups, &self.table, r)
+        match shown_by(&self.groups, &self.table, r) {
+            None => None,
+            Some(link) => Some(link.id),
+        }
     }
 }

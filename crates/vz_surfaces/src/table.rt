@@ -1,10 +1,10 @@
 //! The surfaces that exist, each found by its id.
-ghost use Rattle.std.specs.Prelude.{◌≡◌, ◌<◌, ◌+◌, ◌&&◌, not, false, Some, None, cond, length, OnOk};
+ghost use Rattle.std.specs.Prelude.{◌≡◌, ◌<◌, ◌+◌, ◌&&◌, not, false, Some, None, cond, is_some, length, OnOk};
 ghost use Rattle.std.specs.Option.{option_copied, option_map};
 ghost use Rattle.vz_ids.specs.declared.SurfaceId.{SurfaceId as Id};
 ghost use Rattle.vz_surfaces.specs.declared.table.Surface.{Surface as Kept};
-ghost use Rattle.vz_surfaces.specs.Memory.{is_key, look, IsKeyed, HasSame, HasSpare, holding, raised, empty_surface};
-ghost use Rattle.vz_surfaces.specs.Chains.{is_acting};
+ghost use Rattle.vz_surfaces.specs.Memory.{is_key, key_at, look, IsKeyed, HasSame, HasSpare, holding, raised, empty_surface};
+ghost use Rattle.vz_surfaces.specs.Chains.{acting_under};
 
 use crate::held::Held;
 use crate::named::NamedFrame;
@@ -80,13 +80,30 @@ impl Table {
         }
     }
 
-    /// Whether the surface of an id is there and has an active submission.
-    pub(crate) fn has_active(&self, id: &SurfaceId) -> bool
-        ensures { result ≡ is_acting self.now id.now }
+    /// The key of the next surface.
+    pub(crate) fn next_key(&self) -> usize
+        ensures { result ≡ self.now.surfaces.vacant_key }
     {
-        match self.get(id) {
+        self.surfaces.vacant_key()
+    }
+
+    /// Whether there is a surface under a key, and it has an active submission.
+    pub(crate) fn has_active(&self, key: usize) -> bool
+        ensures { result ≡ is_some (acting_under self.now key) }
+    {
+        match self.surfaces.get(key) {
             None => false,
             Some(surface) => surface.active.is_some(),
+        }
+    }
+
+    /// The active submission of the surface under a key, if there is one.
+    pub(crate) fn active(&self, key: usize) -> Option<&Held>
+        ensures { option_copied result ≡ acting_under self.now key }
+    {
+        match self.surfaces.get(key) {
+            None => None,
+            Some(surface) => surface.active.as_ref(),
         }
     }
 
@@ -97,6 +114,8 @@ impl Table {
         requires room { HasSpare self.old }
         ensures surfaces { (q : Id) → look self.new q
             ≡ cond (is_key id q) (Some surface) (look self.old q) }
+        ensures keys { (q : Id) → key_at self.new q
+            ≡ cond (is_key id q) (Some self.old.surfaces.vacant_key) (key_at self.old q) }
         ensures len { length self.new.keys.entries ≡ length self.old.keys.entries + 1 }
         ensures keyed { IsKeyed self.new }
     {
@@ -114,6 +133,8 @@ impl Table {
         requires few { created < u32.MAX }
         ensures surfaces { (q : Id) → look self.new q ≡ cond (not last && is_key id q)
             (Some (empty_surface client (created + 1))) (look self.old q) }
+        ensures keys { (q : Id) → key_at self.new q ≡ cond (not last && is_key id q)
+            (Some self.old.surfaces.vacant_key) (key_at self.old q) }
         ensures len { length self.new.keys.entries
             ≡ length self.old.keys.entries + cond last 0 1 }
         ensures keyed { IsKeyed self.new }
@@ -151,7 +172,7 @@ impl Table {
         ensures index { (s : Kept) → look self.old id.now ≡ Some s → result.0 ≡ s.accepted + 1 }
         ensures replaced { (s : Kept) → look self.old id.now ≡ Some s
             → result.1 ≡ s.waiting }
-        ensures len { length self.new.keys.entries ≡ length self.old.keys.entries }
+        ensures keys { self.new.keys.entries ≡ self.old.keys.entries }
         ensures keyed { IsKeyed self.new }
     {
         let Some(key) = self.keys.get(id) else {
@@ -172,7 +193,7 @@ impl Table {
             (look self.old q) }
         ensures past { (s : Kept) → look self.old id.now ≡ Some s
             → result ≡ option_map (λ h. h.sub) s.active }
-        ensures len { length self.new.keys.entries ≡ length self.old.keys.entries }
+        ensures keys { self.new.keys.entries ≡ self.old.keys.entries }
         ensures keyed { IsKeyed self.new }
     {
         let Some(key) = self.keys.get(id) else {
@@ -190,6 +211,8 @@ impl Table {
         ensures gone { result ≡ look self.old id.now }
         ensures surfaces { (q : Id) → look self.new q
             ≡ cond (is_key id.now q) None (look self.old q) }
+        ensures keys { (q : Id) → key_at self.new q
+            ≡ cond (is_key id.now q) None (key_at self.old q) }
         ensures len { (s : Kept) → look self.old id.now ≡ Some s
             → length self.new.keys.entries + 1 ≡ length self.old.keys.entries }
         ensures keyed { IsKeyed self.new }

@@ -31,7 +31,7 @@ pub invariant_of-self : goal.invariant_of-self
 invariant_of-self c =
     let inside = c.self.inside in (
       activated_stands inside.groups c.note_active.new.self inside.table c.raise.new.self inside.waits c.remove.new.self inside.owners c.mark_before.new.owners inside.told c.show.new.self c.args.self.now c.args.s c.in-Some.id c.requires.keeps c.self.invariant.0 c.self.view_is c.requires.waits
-          c.show.ensures c.in-Some.ensures c.remove.ensures.others c.raise.ensures.surfaces c.raise.ensures.len c.raise.ensures.keyed c.note_active.ensures.chain c.note_active.ensures.newest c.mark_before.ensures,
+          c.show.ensures c.in-Some.ensures c.remove.ensures.others c.raise.ensures.surfaces c.raise.ensures.keys c.raise.ensures.keyed c.note_active.ensures.chain c.note_active.ensures.newest c.mark_before.ensures,
       subst (KeepsLists inside.standing) (sym (returns-clause-activated c)) (activated_lists inside.standing c.args.self.now c.args.s c.requires.keeps c.requires.waits (subst (KeepsLists inside.standing) c.self.view_is c.self.invariant.1)),
     )
 

@@ -21,7 +21,7 @@ pub invariant_of-self : goal.invariant_of-self
 invariant_of-self c =
     let inside = c.self.inside in (
       destroyed_stands inside.groups c.remove-3.new.self inside.table c.remove.new.self inside.waits c.remove-2.new.self inside.owners inside.told c.show.new.self c.args.self.now c.args.id.now c.in-Some.surface c.sub_of-waiting.result c.requires.keeps c.self.invariant.0
-          c.self.view_is c.show.ensures c.in-Some.ensures.gone c.sub_of-waiting.ensures c.remove-2.ensures.none c.remove-2.ensures.others c.remove.ensures.surfaces c.remove.ensures.len c.remove.ensures.keyed c.remove-3.ensures.chain c.remove-3.ensures.newest,
+          c.self.view_is c.show.ensures c.in-Some.ensures.gone c.sub_of-waiting.ensures c.remove-2.ensures.none c.remove-2.ensures.others c.remove.ensures.surfaces c.remove.ensures.keys c.remove.ensures.len c.remove.ensures.keyed c.remove-3.ensures.chain c.remove-3.ensures.newest,
       subst (KeepsLists c.remove-4.new.self) (sym (returns-clause-destroyed c)) (destroyed_lists inside.standing c.remove-4.new.self c.args.self.now c.args.id.now c.in-Some.surface c.requires.keeps (kept c)
           (subst (KeepsLists inside.standing) c.self.view_is c.self.invariant.1) c.remove-4.ensures),
     )

@@ -1,12 +1,15 @@
-use Rattle.std.proofs.Common.{◌∙◌, subst}
-use Rattle.vz_surfaces.specs.Memory.{Keeps}
-use Rattle.vz_surfaces.specs.Chains.{KeepsGroups}
-use Rattle.vz_surfaces.proofs.Shown.{shows}
+use Rattle.std.proofs.Common.{ap, ◌∙◌}
+use Rattle.std.specs.Option.{option_map}
+use Rattle.vz_surfaces.specs.declared.groups.Link.{Link}
+use Rattle.vz_surfaces.proofs.Storing_whole.{shown_ids}
 use Rattle.vz_surfaces.proofs.store.StoreShows.shown.Goals as goal
 
-pub returns : goal.returns
-returns c =
+pub returns-in-None : goal.returns-in-None
+returns-in-None c =
     let inside = c.self.inside in
-    let kept = subst (Keeps inside.table inside.waits inside.owners) c.self.view_is c.self.invariant.0.kept in
-    let groups = subst (KeepsGroups inside.groups) c.self.view_is c.self.invariant.0.groups in
-    c.shown_by.ensures ∙ shows inside.table inside.groups c.args.self.now kept.table groups c.args.r.now
+    ap (option_map (λ (l : Link). l.id)) c.in-None.ensures ∙ shown_ids inside.table inside.waits inside.owners inside.groups inside.told c.args.self.now c.args.r.now c.self.invariant.0 c.self.view_is
+
+pub returns-in-Some : goal.returns-in-Some
+returns-in-Some c =
+    let inside = c.self.inside in
+    ap (option_map (λ (l : Link). l.id)) c.in-Some.ensures ∙ shown_ids inside.table inside.waits inside.owners inside.groups inside.told c.args.self.now c.args.r.now c.self.invariant.0 c.self.view_is
