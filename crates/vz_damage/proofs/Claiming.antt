@@ -25,6 +25,7 @@ use Rattle.vz_surfaces.specs.Reading.{seen_frames}
 use Rattle.vz_walk.specs.Meeting.{Meets}
 use Rattle.vz_walk.specs.Scenes.{scene_in, walked_in}
 use Rattle.vz_damage.specs.Told.{Told, Damaged, told_on, damage_in}
+use Rattle.vz_damage.specs.Measured.{Measurement}
 use Rattle.vz_damage.specs.Measured.{Shown, IsMeasured, IsMeasureOf, told_claims_of, told_claims, told_damage, what_changed, seen_damage}
 use Rattle.vz_damage.specs.Measured.{without_indices, has_root}
 use Rattle.vz_damage.proofs.Looking.{last_in}
@@ -172,14 +173,15 @@ unfolding aggregation_of
 kept_is root active rs walked e = ap {B = Aggregation} (λ (l : Shown). record { root = root; indices = []; ranges = l }) e
 
 -- what changed, with them, is what is measured
-pub measure_is : (d : Damaged) (st : Stored) (root : SurfaceId) (size : Size) (changed : Option Rectangle) (damage : Rectangle) (rs : Shown)
-    → changed ≡ what_changed d.last damage → damage ≡ told_damage size d.last d.surfaces root (walked_in size root st)
+pub measure_is : (d : Damaged) (st : Stored) (root : SurfaceId) (size : Size) (m : Measurement) (damage : Rectangle) (rs : Shown)
+    → m.changed ≡ what_changed d.last damage → m.kept ≡ record { root = root; indices = []; ranges = rs }
+    → damage ≡ told_damage size d.last d.surfaces root (walked_in size root st)
     → rs ≡ (aggregation_of (scene_in root st) (walked_in size root st)).ranges
-    → IsMeasureOf d st root size (record { changed = changed; kept = record { root = root; indices = []; ranges = rs } })
-measure_is d st root size changed damage rs is walked ranges =
+    → IsMeasureOf d st root size m
+measure_is d st root size m damage rs changed kept walked ranges =
     record {
-      changed = is ∙ ap (what_changed d.last) walked;
-      kept = kept_is root (seen_frames st) rs (walked_in size root st) ranges;
+      changed = changed ∙ ap (what_changed d.last) walked;
+      kept = kept ∙ kept_is root (seen_frames st) rs (walked_in size root st) ranges;
     }
 
 -- The visitor
@@ -214,14 +216,3 @@ module _ {V A B : Type 0} (told : V → A) (last : V → B) (told_in : A → Lis
     );
     some = λ first before e h. record { front = before ++ x ∷ []; back = []; splits = append-nil (before ++ x ∷ []); there = tt };
   }
-
-  -- all visits of a walk that went to its end
-  pub meets_all : (r : Bool) (old new : V) (walked : List Visit) → r ≡ true → damage old ≡ no_rectangle → ranges old ≡ []
-      → Meets Has Stops r old new walked
-      → IsMeasured (told_in (told old)) (last_of (last old)) (damage new) (ranges new) walked
-  meets_all r old new walked e d rs h =
-      let start : IsMeasured (told_in (told old)) (last_of (last old)) (damage old) (ranges old) [] =
-      subst (λ (x : Rectangle). IsMeasured (told_in (told old)) (last_of (last old)) x (ranges old) []) (sym d)
-      (subst (λ (l : Shown). IsMeasured (told_in (told old)) (last_of (last old)) no_rectangle l []) (sym rs) (met_nothing (told_in
-      (told old)) (last_of (last old)))) in
-      (h.all old [] e (start, refl, refl)).0

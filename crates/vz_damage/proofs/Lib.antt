@@ -4,3 +4,4 @@ pub mod Looking
 pub mod Claiming
 pub mod Ranging
 pub mod Entering
+pub mod Beside

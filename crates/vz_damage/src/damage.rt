@@ -1,14 +1,15 @@
 //! The damages of all surfaces.
 ghost use Rattle.std.specs.Prelude.{◌≡◌, ◌<◌, ◌≤◌, ◌+◌, [], length, Some, None, is_some};
+ghost use Rattle.std.specs.Prelude.{is_none, IfSome};
 ghost use Rattle.std.specs.Prelude.{IsTrue, IsFalse, IsOk, OnOk, IfOk, OnErr};
 ghost use Rattle.std.specs.Option.{option_map};
 ghost use Rattle.vz_ids.specs.declared.SurfaceId.{SurfaceId as Surface};
 ghost use Rattle.vz_ids.specs.Ids.{same_surface};
 ghost use Rattle.vz_geom.specs.Display.{IsDisplaySize};
-ghost use Rattle.vz_rules.specs.Damage.{aggregation_of};
+ghost use Rattle.vz_rules.specs.Walk.{too_much};
 ghost use Rattle.vz_surfaces.specs.Keeping.{KeepsStored, KeepsFrames};
-ghost use Rattle.vz_damage.specs.Measured.{told_damage, what_changed, has_root, IsMeasureOf};
-ghost use Rattle.vz_walk.specs.Scenes.{scene_in, walked_in};
+ghost use Rattle.vz_damage.specs.Measured.{what_changed, has_root, IsMeasureOf};
+ghost use Rattle.vz_walk.specs.Scenes.{walked_in};
 ghost use Rattle.vz_damage.specs.Told.{told_on, next_index, damage_in};
 ghost use Rattle.vz_damage.specs.Told.{with_damage, with_active, with_seen};
 
@@ -24,7 +25,7 @@ use vz_base::Memory;
 use vz_geom::{Rect, Size};
 use vz_ids::SurfaceId;
 use vz_surfaces::Store;
-use vz_walk::{display_rect, walk};
+use vz_walk::{Both, Visitor, Weigher, display_rect, walk};
 
 /// What changed of each surface. Contracts see the damages that were told of it by index, from 1
 /// on, which of its submissions is active, and which one was at the last aggregation; memory has
@@ -180,45 +181,66 @@ impl Damage {
         }
     }
 
-    /// The damage and the ranges of the walk from a root. Conditions: as for `measure`.
-    fn walked(
+    /// What a walk from a root measured, where this is the damage and these are the ranges: nothing
+    /// changed where there was an aggregation and the damage is empty.
+    fn measured(&self, damage: Rect, root: &SurfaceId, ranges: Ranges) -> Measured
+        ensures changed { result.changed ≡ what_changed self.now.last damage }
+        ensures kept { result.kept ≡ record { root = root.now; indices = []; ranges = ranges } }
+    {
+        let changed = if self.root.is_some() && damage.is_empty() {
+            None
+        } else {
+            Some(damage)
+        };
+        Measured {
+            changed,
+            root: *root,
+            ranges,
+        }
+    }
+
+    /// What the walk from a root measures, with what another visitor met on it, and None exactly
+    /// where the walk is too much. Conditions: as for `measure`.
+    fn walked<V: Visitor + Drop>(
         &self,
         free: Ranges,
         store: &Store,
         root: &SurfaceId,
         size: Size,
-    ) -> Result<(Rect, Ranges), Memory>
+        beside: V,
+    ) -> Result<Option<(Measured, V)>, Memory>
         requires keeps { KeepsStored store.now }
         requires frames { KeepsFrames store.now }
         requires size { IsDisplaySize size }
         requires free { free ≡ [] }
-        ensures damage { IfOk result (λ r. r.0
-            ≡ told_damage size self.now.last self.now.surfaces root.now
-            (walked_in size root.now store.now)) }
-        ensures ranges { IfOk result (λ r. r.1 ≡ (aggregation_of (scene_in root.now store.now)
-            (walked_in size root.now store.now)).ranges) }
+        requires starts { V.has_met beside beside [] }
+        ensures heavy { IfOk result (λ o. too_much (walked_in size root.now store.now)
+            ≡ is_none o) }
+        ensures measured { IfOk result (λ o. IfSome o (λ r.
+            IsMeasureOf self.now store.now root.now size r.0)) }
+        ensures beside { IfOk result (λ o. IfSome o (λ r.
+            V.has_met beside r.1 (walked_in size root.now store.now))) }
     {
-        let mut measurer = Measurer::new(&self.surfaces, &self.shown, free);
-        if !walk(store, root, size, &mut measurer) {
+        let measurer = Measurer::new(&self.surfaces, &self.shown, free);
+        let mut visitor = Both::new(Weigher::new(), Both::new(measurer, beside));
+        if !walk(store, root, size, &mut visitor) {
+            if visitor.first_stopped {
+                return Ok(None);
+            }
             return Err(Memory);
         }
+        let Both { second, .. } = visitor;
+        let Both {
+            first: measurer,
+            second: beside,
+            ..
+        } = second;
         let (damage, ranges) = measurer.parts();
         if self.has_root(root) {
-            Ok((damage, ranges))
+            Ok(Some((self.measured(damage, root, ranges), beside)))
         } else {
-            Ok((display_rect(size), ranges))
-        }
-    }
-
-    /// What changed, where this is the damage: nothing where there was an aggregation and it is
-    /// empty.
-    fn changed(&self, damage: Rect) -> Option<Rect>
-        ensures { result ≡ what_changed self.now.last damage }
-    {
-        if self.root.is_some() && damage.is_empty() {
-            None
-        } else {
-            Some(damage)
+            let whole = display_rect(size);
+            Ok(Some((self.measured(whole, root, ranges), beside)))
         }
     }
 
@@ -232,33 +254,37 @@ impl Damage {
         self.free = mem::replace(&mut self.shown, ranges);
     }
 
-    /// What a drawing from this root changes: the smallest rectangle round the claims, and None
-    /// exactly where there was an aggregation and it is empty. With it comes what is remembered of
-    /// the walk, once it is (`remember`); until then nothing changes. Memory is the only error.
+    /// What a drawing from this root changes: the smallest rectangle round the claims, and nothing
+    /// where there was an aggregation and it is empty. With it comes what is remembered of the
+    /// walk, once it is (`remember`); until then nothing changes. None is the answer exactly where
+    /// the walk is too much: it ends at the limit. Memory is the only error.
     ///
+    /// The visitor beside goes along with the walk, and comes back with what it met.
     /// Conditions: what always holds of the store is kept, and its frames fit; the size is a
-    /// display's. The walk is as long as the weight, so that a caller asks for that first.
-    pub fn measure(
+    /// display's; the visitor met nothing yet.
+    pub fn measure<V: Visitor + Drop>(
         &mut self,
         store: &Store,
         root: &SurfaceId,
         size: Size,
-    ) -> Result<Measured, Memory>
+        beside: V,
+    ) -> Result<Option<(Measured, V)>, Memory>
         requires keeps { KeepsStored store.now }
         requires frames { KeepsFrames store.now }
         requires size { IsDisplaySize size }
-        ensures measured { IfOk result (λ m. IsMeasureOf self.old store.now root.now size m) }
+        requires starts { V.has_met beside beside [] }
+        ensures heavy { IfOk result (λ o. too_much (walked_in size root.now store.now)
+            ≡ is_none o) }
+        ensures measured { IfOk result (λ o. IfSome o (λ r.
+            IsMeasureOf self.old store.now root.now size r.0)) }
+        ensures beside { IfOk result (λ o. IfSome o (λ r.
+            V.has_met beside r.1 (walked_in size root.now store.now))) }
         ensures same { self.new ≡ self.old }
     {
         let mut free = mem::replace(&mut self.free, Ranges::new(self.alloc));
         free.clear();
-        let (damage, ranges) = self.walked(free, store, root, size)?;
-        let changed = self.changed(damage);
-        Ok(Measured {
-            changed,
-            root: *root,
-            ranges,
-        })
+        let found = self.walked(free, store, root, size, beside)?;
+        Ok(found)
     }
 
     /// The display is aggregated: what is drawn, or would be if anything had changed, was measured

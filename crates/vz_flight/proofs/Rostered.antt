@@ -169,6 +169,11 @@ met_more before x =
     sym (adding_more [] (filter_map flown_at before) (filter_map flown_at (x ∷ [])))
     ∙ ap (adding same_flown []) (sym (filter_map-append flown_at before (x ∷ [])))
 
+-- nothing is met at first
+pub nothing_met : met_in [] ≡ []
+unfolding met_in
+nothing_met = refl
+
 module _ {V : Type 0} (roster : V → List Flown) where
   abbrev Has : V → V → List Visit → Type 0
   Has first v visits = roster v ≡ met_in visits
@@ -183,12 +188,3 @@ module _ {V : Type 0} (roster : V → List Flown) where
     all = λ first before e h. step e ∙ (ap (λ (l : List Flown). adding same_flown l (filter_map flown_at (x ∷ []))) h ∙ met_more before x);
     some = λ first before e h. record { front = before ++ x ∷ []; back = []; splits = append-nil (before ++ x ∷ []); there = tt };
   }
-
-  nothing_met : met_in [] ≡ []
-  unfolding met_in
-  nothing_met = refl
-
-  -- all visits of a walk that went to its end
-  pub meets_all : (r : Bool) (old new : V) (walked : List Visit) → r ≡ true → roster old ≡ [] → Meets Has Stops r old new walked
-      → roster new ≡ met_in walked
-  meets_all r old new walked e none h = h.all old [] e (none ∙ sym nothing_met)

@@ -1,14 +1,51 @@
 //! The submissions of a walk, as they are met.
+ghost use Rattle.std.specs.Prelude.{◌≡◌, []};
+ghost use Rattle.vz_rules.specs.Walk.{walked_subs};
+ghost use Rattle.vz_surfaces.specs.Keeping.{KeepsStored};
+ghost use Rattle.vz_walk.specs.Scenes.{scene_in, walked_in};
+ghost use Rattle.vz_flight.specs.Flying.{subs_of};
+ghost use Rattle.vz_flight.specs.Drawn.{flown_from, met_in};
+
+use crate::drawing::Drawing;
+use crate::flight::Flight;
 use crate::roster::Roster;
-use vz_geom::Rect;
-use vz_ids::SurfaceRange;
-use vz_surfaces::Seen;
+use std::alloc::Global;
+use vz_geom::{Rect, Size};
+use vz_ids::{SurfaceId, SurfaceRange};
+use vz_surfaces::{Seen, Store};
 use vz_walk::{Place, Visitor};
 
 /// Keeps the submissions into which a walk goes, each once, in the order in which they are met.
 #[derive(Drop)]
-pub(crate) struct Flyer {
-    pub(crate) roster: Roster,
+pub struct Flyer {
+    roster: Roster,
+}
+
+impl Flyer {
+    /// No submission was met. It takes no memory.
+    pub fn new(alloc: Global) -> Flyer
+        ensures { result.roster ≡ met_in [] }
+    {
+        Flyer {
+            roster: Roster::new(alloc),
+        }
+    }
+
+    /// The submissions into which a walk goes, with what they list. Conditions: what always holds of
+    /// the store is kept, and it met all of the walk from the root on a display of this size.
+    pub fn flight(self, store: &Store, root: &SurfaceId, size: Size) -> Flight
+        requires keeps { KeepsStored store.now }
+        requires met { self.roster ≡ met_in (walked_in size root.now store.now) }
+        ensures flown { result ≡ flown_from size root.now store.now }
+        ensures subs { subs_of result
+            ≡ walked_subs (scene_in root.now store.now) (walked_in size root.now store.now) }
+    {
+        let Flyer { roster } = self;
+        Flight {
+            roster,
+            drawing: Drawing::of(store, root, &size),
+        }
+    }
 }
 
 impl Visitor for Flyer {

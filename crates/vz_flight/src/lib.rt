@@ -12,5 +12,6 @@ mod flyer;
 pub mod laws;
 mod roster;
 
-pub use flight::{Flight, fly};
+pub use flight::Flight;
+pub use flyer::Flyer;
 pub use roster::Roster;

@@ -25,7 +25,6 @@ use Rattle.vz_surfaces.proofs.Staying as stored
 use Rattle.vz_surfaces.proofs.Telling.{seen_all, tells_active}
 use Rattle.vz_surfaces.proofs.Kept_of_world.{keeps_of_world}
 use Rattle.vz_walk.specs.Scenes.{scene_in, walked_in}
-use Rattle.vz_walk.specs.Weighing.{IsWeightOf}
 use Rattle.vz_damage.specs.Told.{Damaged, told_on, with_seen}
 use Rattle.vz_damage.specs.Accepted.{scene_from}
 use Rattle.vz_damage.specs.Measured.{Measurement, told_damage, without_indices}
@@ -43,7 +42,7 @@ use Rattle.vz_flight.specs.Drawn.{IsRosterOf, flown_from}
 use Rattle.vz_flight.proofs.Staying.{flown_some}
 use Rattle.vz_flight.proofs.Drawings.{flown_active, flown_drawn, flown_still}
 use Rattle.vz_live.specs.Living.{Live, AreLive, AreWhole}
-use Rattle.vz_live.specs.Drawing.{IsDrawing, IsShowing, IsLifting, Measures}
+use Rattle.vz_live.specs.Drawing.{IsDrawing, IsSeen, IsShowing, IsLifting, Measures}
 use Rattle.vz_live.proofs.Quiet.{live_by}
 
 none_some : {A : Type 0} (o : Option A) → is_some o ≡ false → o ≡ None
@@ -91,16 +90,6 @@ drawn_as P p w h = one_of P (is_some w.in_flight) _ _ (h w.last w.in_flight) (se
         one_of P (too_much (walk_of p.size s)) _ _ (h w.last w.in_flight)
         (one_of P (is_some w.last && is_empty_rect (drawn_damage p.size w.last (accepted_frames w) s.root (walk_of p.size s))) _ _
         (h _ w.in_flight) (h _ _))
-
--- Weights
-
-heavy_of : (visits : List Visit) (o : Option ℕ) → IsWeightOf visits o → is_some o ≡ false → too_much visits ≡ true
-heavy_of visits None h e = h
-heavy_of visits (Some n) h e = absurd (cc)
-
-light_of : (visits : List Visit) (o : Option ℕ) → IsWeightOf visits o → is_some o ≡ true → too_much visits ≡ false
-light_of visits None h e = absurd (cc)
-light_of visits (Some n) h e = h.1
 
 frames_stored : (w : World) → AreWhole w.subs → KeepsFrames (stored_of w)
 unfolding stored_of
@@ -177,15 +166,17 @@ module _ (p : Plan) (w : World) (given : Option SurfaceId) (root : SurfaceId) (s
   pub unseen_there : is_some (active_on u.store root) ≡ false → draw_answer p w ≡ says reply.NoRoot w
   unseen_there g = unseen_is p w root size u rooted_there free_there g
 
-  module _ (sees : is_some (active_on u.store root) ≡ true) (o : Option ℕ)
-      (weighs : (s : Size) → IsWeightOf (walked_in s root u.store) o) where
-    pub heavy_there : is_some o ≡ false → draw_answer p w ≡ says reply.TooMuch w
-    heavy_there g = heavy_is p w root size u rooted_there free_there sees (heavy_of (walked_in size root u.store) o (weighs size) g)
+  pub seen_there : is_some (active_on u.store root) ≡ true → IsSeen p w root size v
+  seen_there g = subst (IsSeen p w root size) e (record { drawing = rooted_there; free = free_there; there = g })
 
-    pub shows_there : is_some o ≡ true → IsShowing p w root size v
-    shows_there g =
-        subst (IsShowing p w root size) e
-        (shows_is p w root size u rooted_there free_there sees (light_of (walked_in size root u.store) o (weighs size) g))
+-- What a walk finds
+
+module _ (p : Plan) (w : World) (root : SurfaceId) (size : Size) (v : Live) (h : IsSeen p w root size v) where
+  pub heavy_there : too_much (walked_in size root v.store) ≡ true → draw_answer p w ≡ says reply.TooMuch w
+  heavy_there g = heavy_is p w root size v h.drawing h.free h.there g
+
+  pub shows_there : too_much (walked_in size root v.store) ≡ false → IsShowing p w root size v
+  shows_there g = shows_is p w root size v h.drawing h.free h.there g
 
 -- A drawing that walks
 

@@ -1,5 +1,5 @@
 -- A frame is drawn: what it shows is held, one submission after the other.
-use Rattle.std.specs.Prelude.{◌≡◌, ℕ, Option, Some, None, List, [], IsTrue, IsFalse, slice_get, take}
+use Rattle.std.specs.Prelude.{◌≡◌, ℕ, Option, Some, None, List, [], IsTrue, IsFalse, is_some, slice_get, take}
 use Rattle.std.specs.List.{Contains}
 use Rattle.vz_geom.specs.declared.Size.{Size}
 use Rattle.vz_ids.specs.declared.SurfaceId.{SurfaceId}
@@ -9,10 +9,12 @@ use Rattle.vz_rules.specs.World.{World, Submission, has_sub, is_active, sub_of}
 use Rattle.vz_rules.specs.Messages.{says}
 use Rattle.vz_rules.specs.Step.{draw_answer}
 use Rattle.vz_rules.specs.Kept.{Keeps, KeepsAlways, KeepsPlan}
+use Rattle.vz_surfaces.specs.Reading.{active_on}
 use Rattle.vz_damage.specs.Measured.{Measurement, IsMeasureOf}
-use Rattle.vz_telling.specs.Changing.{Draws}
+use Rattle.vz_telling.specs.Changing.{Draws, drawn_reply}
 use Rattle.vz_lending.specs.Lent.{Lent, AreLent, NoneReleased}
 use Rattle.vz_flight.specs.Flying.{Flown, subs_of}
+use Rattle.vz_flight.specs.Drawn.{flown_from}
 use Rattle.vz_live.specs.Living.{Live, AreLive, AreWhole}
 use Rattle.vz_live.specs.declared.looking.Look.{Look}
 use Rattle.vz_live.specs.declared.looking.Look.TheVariants as look
@@ -32,16 +34,31 @@ pub record IsShowing (p : Plan) (w : World) (root : SurfaceId) (size : Size) (v 
   pub drawing : IsDrawing p w (Some root) size v
   pub walks : Draws p w root
 
--- what a look tells of a drawing beforehand: it is answered so and leaves the state, or it walks from this root
+-- no frame is in flight, and something is to be seen on this root
+pub record IsSeen (p : Plan) (w : World) (root : SurfaceId) (size : Size) (v : Live) : Type 0 where
+  pub drawing : IsDrawing p w (Some root) size v
+  pub free : IsFalse (is_some v.flight)
+  pub there : IsTrue (is_some (active_on v.store root))
+
+-- what a look tells of a drawing beforehand: it is answered so and leaves the state, or something is to be seen on this root
 abbrev pub Foretells : Plan → World → Option SurfaceId → Size → Live → Look → Type 0
 Foretells p w root size v look.Busy = draw_answer p w ≡ says reply.Busy w
 Foretells p w root size v look.NoRoot = draw_answer p w ≡ says reply.NoRoot w
-Foretells p w root size v look.TooMuch = draw_answer p w ≡ says reply.TooMuch w
-Foretells p w root size v (look.Seen id) = (root ≡ Some id) × IsShowing p w id size v
+Foretells p w root size v (look.Seen id) = (root ≡ Some id) × IsSeen p w id size v
+
+-- what a walk from a root tells of a drawing beforehand: there is too much to be seen, which leaves the state, or the drawing walks and
+-- is answered by what changed
+abbrev pub Finds : Plan → World → SurfaceId → Size → Live → Option (Measurement × List Flown) → Type 0
+Finds p w root size v None = draw_answer p w ≡ says reply.TooMuch w
+Finds p w root size v (Some found) = IsShowing p w root size v × (drawn_reply found.0.changed ≡ (draw_answer p w).reply)
 
 -- this is measured of the surfaces from a root, on a display of a size, before anything of it is remembered
 abbrev pub Measures : SurfaceId → Size → Live → Measurement → Type 0
 Measures root size v m = IsMeasureOf v.damaged v.store root size m
+
+-- these submissions are drawn of the surfaces from a root, with what they list
+abbrev pub Flies : SurfaceId → Size → Live → List Flown → Type 0
+Flies root size v flown = flown ≡ flown_from size root v.store
 
 -- each of these, with what it lists, is an active submission of a state
 abbrev pub AreActive : World → List Flown → Type 0

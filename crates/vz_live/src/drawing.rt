@@ -1,24 +1,25 @@
 //! A frame is drawn.
-ghost use Rattle.std.specs.Prelude.{◌≡◌, ◌≤◌, ℕ, None, Some, Option, IfOk, OnOk, OnErr};
+ghost use Rattle.std.specs.Prelude.{◌≡◌, ◌≤◌, ℕ, None, Some, Option, IfOk, IfSome, OnOk};
+ghost use Rattle.std.specs.Prelude.{OnErr};
 ghost use Rattle.vz_geom.specs.declared.Size.{Size as DisplaySize};
 ghost use Rattle.vz_geom.specs.Rectangle.{Rectangle};
 ghost use Rattle.vz_ids.specs.declared.SurfaceId.{SurfaceId as Id};
 ghost use Rattle.vz_rules.specs.Plan.{Plan};
 ghost use Rattle.vz_rules.specs.World.{World};
 ghost use Rattle.vz_rules.specs.Step.{draw_answer};
-ghost use Rattle.vz_telling.specs.Changing.{drawn_reply};
 ghost use Rattle.vz_lending.specs.Lent.{AreLent, NoneReleased, HasPlaces, resources_out};
 ghost use Rattle.vz_flight.specs.Flying.{subs_of};
 ghost use Rattle.vz_flight.specs.Drawn.{listing_count};
 ghost use Rattle.vz_live.specs.Living.{AreLive};
 ghost use Rattle.vz_live.specs.Landing.{flying_count};
-ghost use Rattle.vz_live.specs.Drawing.{IsShowing, IsLifting, Measures};
+ghost use Rattle.vz_live.specs.Drawing.{IsSeen, IsShowing, IsLifting};
+ghost use Rattle.vz_live.specs.Drawing.{Finds, Measures, Flies};
 
 use crate::live::LiveSurfaces;
 use std::alloc::Global;
 use vz_base::Memory;
 use vz_damage::Measured;
-use vz_flight::{Roster, fly};
+use vz_flight::{Flight, Flyer, Roster};
 use vz_frame::Room;
 use vz_geom::Size;
 use vz_ids::SurfaceId;
@@ -34,20 +35,32 @@ impl LiveSurfaces {
         &self.store
     }
 
-    /// What a drawing that walks measures, on a display of a size. It tells what the drawing is
-    /// answered, before anything is made for it, and nothing changes in any case. Memory is the
-    /// only error. Condition: a look told that it walks from this root.
+    /// What a drawing finds in one walk from its root, on a display of a size: what changed, and the
+    /// submissions that are drawn where something did. None is the answer exactly where there is
+    /// more to be seen than may be drawn. It tells what the drawing is answered, before anything is
+    /// made for it, and nothing changes in any case. Memory is the only error. Condition: a look
+    /// told that something is to be seen on this root.
     ///
     /// The drawing ends with `leave` where nothing changed, and with `show` where something did.
-    pub fn measure(&mut self, root: &SurfaceId, size: Size) -> Result<Measured, Memory>
-        requires shows { (p : Plan) × (w : World) × IsShowing p w root.now size self.old }
-        ensures reply { (p : Plan) (w : World) → IsShowing p w root.now size self.old
-            → IfOk result (λ m. drawn_reply m.changed ≡ (draw_answer p w).reply) }
-        ensures measured { IfOk result (λ m. Measures root.now size self.old m) }
+    pub fn measure(
+        &mut self,
+        alloc: Global,
+        root: &SurfaceId,
+        size: Size,
+    ) -> Result<Option<(Measured, Flight)>, Memory>
+        requires seen { (p : Plan) × (w : World) × IsSeen p w root.now size self.old }
+        ensures finds { (p : Plan) (w : World) → IsSeen p w root.now size self.old
+            → IfOk result (Finds p w root.now size self.old) }
+        ensures measured { IfOk result (λ o. IfSome o (λ f. Measures root.now size self.old f.0)) }
+        ensures flown { IfOk result (λ o. IfSome o (λ f. Flies root.now size self.old f.1)) }
         ensures same { self.new ≡ self.old }
     {
-        let measured = self.damage.measure(&self.store, root, size)?;
-        Ok(measured)
+        let flyer = Flyer::new(alloc);
+        let Some((measured, flyer)) = self.damage.measure(&self.store, root, size, flyer)? else {
+            return Ok(None);
+        };
+        let flight = flyer.flight(&self.store, root, size);
+        Ok(Some((measured, flight)))
     }
 
     /// A drawing that walks ends where nothing changed: what is seen is remembered, and nothing is
@@ -63,22 +76,20 @@ impl LiveSurfaces {
 
     /// A drawing that walks ends where something changed: what is seen is remembered, and drawn.
     /// The submissions of the drawn frame hold what they list until it is done, and `fed` has room
-    /// for its end. Condition: a look told that the drawing walks from this root.
+    /// for its end. Condition: the drawing walks from a root, and found these submissions.
     ///
-    /// Want of memory is the only error, and then nothing changes but that there may be more room:
-    /// the drawn frame is made before the first change.
+    /// Want of memory is the only error, and then nothing changes but that there may be more room.
     pub fn show(
         &mut self,
-        alloc: Global,
-        root: &SurfaceId,
-        size: Size,
         measured: Measured,
+        flight: Flight,
         fed: &mut Room<Fed>,
     ) -> Result<(), Memory>
-        requires shows { (p : Plan) × (w : World) × IsShowing p w root.now size self.old }
-        ensures live { (p : Plan) (w : World) (damage : Rectangle)
-            → IsShowing p w root.now size self.old → Measures root.now size self.old measured
-            → measured.changed ≡ Some damage
+        requires shows { (p : Plan) × (w : World) × (root : Id) × (size : DisplaySize)
+            × IsShowing p w root size self.old × Flies root size self.old flight }
+        ensures live { (p : Plan) (w : World) (root : Id) (size : DisplaySize) (damage : Rectangle)
+            → IsShowing p w root size self.old → Flies root size self.old flight
+            → Measures root size self.old measured → measured.changed ≡ Some damage
             → OnOk result (AreLive (draw_answer p w).world None self.new) }
         ensures kept { (w : World) (but : Option Id) → AreLive w but self.old
             → OnErr result (AreLive w but self.new) }
@@ -93,7 +104,6 @@ impl LiveSurfaces {
         ensures room { OnOk result (flying_count self.new.flight ≤ fed.new.spare) }
         ensures list { fed.new.list ≡ fed.old.list }
     {
-        let flight = fly(alloc, &self.store, root, size)?;
         fed.reserve(flight.len())?;
         let roster = flight.roster();
         let Some(listings) = roster.listings() else {

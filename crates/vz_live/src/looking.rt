@@ -6,23 +6,20 @@ ghost use Rattle.vz_live.specs.Drawing.{IsDrawing, Foretells};
 
 use crate::live::LiveSurfaces;
 use vz_ids::SurfaceId;
-use vz_walk::weight;
 
-/// What a drawing of what is on the root is answered, short of measuring.
+/// What a drawing of what is on the root is answered, short of a walk.
 #[derive(Clone, Copy)]
 pub enum Look {
     /// A frame is drawn that is not done.
     Busy,
     /// There is no root, or nothing is to be seen on it.
     NoRoot,
-    /// There is more to be seen than may be drawn.
-    TooMuch,
-    /// A drawing walks from this root: it is shown whole or unchanged.
+    /// Something is to be seen on this root: a drawing walks from there, if it is not too much.
     Seen(SurfaceId),
 }
 
 impl LiveSurfaces {
-    /// What a drawing of what is on the root is answered, short of measuring, on a display of any
+    /// What a drawing of what is on the root is answered, short of a walk, on a display of any
     /// size. It takes no memory. Condition: the root is that of the state.
     pub fn look(&self, root: Option<SurfaceId>) -> Look
         requires draws { (p : Plan) × (w : World) × (size : Size)
@@ -38,9 +35,6 @@ impl LiveSurfaces {
         };
         if self.store.frame_on(&root).is_none() {
             return Look::NoRoot;
-        }
-        if weight(&self.store, &root).is_none() {
-            return Look::TooMuch;
         }
         Look::Seen(root)
     }

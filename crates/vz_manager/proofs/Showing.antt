@@ -25,16 +25,17 @@ use Rattle.vz_damage.specs.Measured.{Measurement}
 use Rattle.vz_telling.specs.Changing.{drawn_reply}
 use Rattle.vz_lending.specs.Lent.{Lent, NoneReleased, resources_out}
 use Rattle.vz_waiting.specs.Awaiting.{AreWaiting}
+use Rattle.vz_flight.specs.Flying.{Flown}
 use Rattle.vz_live.specs.Living.{Live, AreLive}
 use Rattle.vz_live.specs.Landing.{flying_count}
-use Rattle.vz_live.specs.Drawing.{IsDrawing, IsShowing, Measures, Foretells}
+use Rattle.vz_live.specs.Drawing.{IsDrawing, IsShowing, Measures, Flies, Finds, Foretells}
 use Rattle.vz_live.specs.declared.looking.Look.{Look}
 use Rattle.vz_live.specs.declared.looking.Look.TheVariants as look
 use Rattle.vz_live.proofs.Drawn.{flightless}
 use Rattle.vz_settling.specs.Settles.{AreSettling}
 use Rattle.vz_support.specs.Supporting.{IsSupport}
 use Rattle.vz_manager.specs.Serving.{Served, Serves, CanLand, IsStepOf}
-use Rattle.vz_manager.specs.Showing.{IsToShow}
+use Rattle.vz_manager.specs.Showing.{IsToMeasure, IsToShow}
 use Rattle.vz_manager.proofs.Following.{quiet_step, step_of}
 
 draw_is : (p : Plan) (w : World) → answer_to p w event.Draw ≡ draw_answer p w
@@ -93,13 +94,13 @@ pub shows_measured : (p : Plan) (w : World) (root : SurfaceId) (v : Served) (liv
     → IsToShow p w root (measured_at v live)
 shows_measured p w root v live h same = subst (λ (l : Live). IsToShow p w root (measured_at v l)) (sym same) h
 
-pub showing_measured : (p : Plan) (w : World) (root : SurfaceId) (v : Served) (live : Live) → IsToShow p w root v → live ≡ v.settling.live
-    → IsShowing p w root v.size live
-showing_measured p w root v live h same = subst (IsShowing p w root v.size) (sym same) h.shows
-
 pub measures_still : (root : SurfaceId) (size : Size) (old new : Live) (m : Measurement) → Measures root size old m → new ≡ old
     → Measures root size new m
 measures_still root size old new m h same = subst (λ (l : Live). Measures root size l m) (sym same) h
+
+pub flies_still : (root : SurfaceId) (size : Size) (old new : Live) (flown : List Flown) → Flies root size old flown → new ≡ old
+    → Flies root size new flown
+flies_still root size old new flown h same = subst (λ (l : Live). Flies root size l flown) (sym same) h
 
 -- a step that is answered by what changed
 pub step_unchanged : (p : Plan) (w : World) (s : Step) (changed : Option Rectangle) → Keeps w → drawn_reply changed ≡ (draw_answer p w).reply
@@ -208,11 +209,11 @@ pub draws_root : (p : Plan) (w : World) (v : Served) (root : Option SurfaceId) �
     → IsDrawing p w root v.size v.settling.live
 draws_root p w v root h is = subst (λ o. IsDrawing p w o v.size v.settling.live) (h.support.root ∙ sym is) (draws_there p w v h)
 
--- it saw this root
-pub to_show : (p : Plan) (w : World) (v : Served) (root : Option SurfaceId) (id : SurfaceId) (l : Look) → Serves p w v → root ≡ w.root
-    → Tells root v.settling.live l → l ≡ look.Seen id → IsToShow p w id v
-to_show p w v root id l h is tells seen =
-    record { serves = h; shows = (subst (Foretells p w root v.size v.settling.live) seen (tells p w v.size (draws_root p w v root h is))).1 }
+-- it saw something on this root
+pub to_measure : (p : Plan) (w : World) (v : Served) (root : Option SurfaceId) (id : SurfaceId) (l : Look) → Serves p w v → root ≡ w.root
+    → Tells root v.settling.live l → l ≡ look.Seen id → IsToMeasure p w id v
+to_measure p w v root id l h is tells seen =
+    record { serves = h; seen = (subst (Foretells p w root v.size v.settling.live) seen (tells p w v.size (draws_root p w v root h is))).1 }
 
 -- it saw that a drawing is answered so, and leaves the state
 pub answered_busy : (p : Plan) (w : World) (v : Served) (root : Option SurfaceId) (l : Look) → Serves p w v → root ≡ w.root
@@ -223,6 +224,16 @@ pub answered_rootless : (p : Plan) (w : World) (v : Served) (root : Option Surfa
     → Tells root v.settling.live l → l ≡ look.NoRoot → draw_answer p w ≡ says reply.NoRoot w
 answered_rootless p w v root l h is tells none = subst (Foretells p w root v.size v.settling.live) none (tells p w v.size (draws_root p w v root h is))
 
-pub answered_heavy : (p : Plan) (w : World) (v : Served) (root : Option SurfaceId) (l : Look) → Serves p w v → root ≡ w.root
-    → Tells root v.settling.live l → l ≡ look.TooMuch → draw_answer p w ≡ says reply.TooMuch w
-answered_heavy p w v root l h is tells heavy = subst (Foretells p w root v.size v.settling.live) heavy (tells p w v.size (draws_root p w v root h is))
+-- What a walk finds
+
+-- there is too much to be seen
+pub found_heavy : (p : Plan) (w : World) (root : SurfaceId) (v : Served) (o : Option (Measurement × List Flown))
+    → Finds p w root v.size v.settling.live o → o ≡ None → draw_answer p w ≡ says reply.TooMuch w
+found_heavy p w root v o h none = subst (Finds p w root v.size v.settling.live) none h
+
+-- the drawing walks
+pub found_shows : (p : Plan) (w : World) (root : SurfaceId) (v : Served) (live : Live) (o : Option (Measurement × List Flown))
+    (found : Measurement × List Flown) → IsToMeasure p w root v → Finds p w root v.size v.settling.live o → o ≡ Some found
+    → live ≡ v.settling.live → IsToShow p w root (measured_at v live)
+found_shows p w root v live o found h finds some same =
+    shows_measured p w root v live (record { serves = h.serves; shows = (subst (Finds p w root v.size v.settling.live) some finds).0 }) same

@@ -2,8 +2,13 @@
 use Rattle.vz_ids.specs.declared.SurfaceId.{SurfaceId}
 use Rattle.vz_rules.specs.Plan.{Plan}
 use Rattle.vz_rules.specs.World.{World}
-use Rattle.vz_live.specs.Drawing.{IsShowing}
+use Rattle.vz_live.specs.Drawing.{IsSeen, IsShowing}
 use Rattle.vz_manager.specs.Serving.{Served, Serves}
+
+-- the parts stand for a state, and something is to be seen on this root
+pub record IsToMeasure (p : Plan) (w : World) (root : SurfaceId) (v : Served) : Type 0 where
+  pub serves : Serves p w v
+  pub seen : IsSeen p w root v.size v.settling.live
 
 -- the parts stand for a state, and a drawing walks from this root on the display
 pub record IsToShow (p : Plan) (w : World) (root : SurfaceId) (v : Served) : Type 0 where

@@ -6,16 +6,17 @@ ghost use Rattle.vz_rules.specs.declared.entry.Event.TheVariants as event;
 ghost use Rattle.vz_rules.specs.Plan.{Plan};
 ghost use Rattle.vz_rules.specs.World.{World};
 ghost use Rattle.vz_rules.specs.Step.{step_in};
-ghost use Rattle.vz_live.specs.Drawing.{Measures};
+ghost use Rattle.vz_live.specs.Drawing.{Measures, Flies};
 ghost use Rattle.vz_manager.specs.Serving.{Serves, IsStepOf};
 ghost use Rattle.vz_manager.specs.Picturing.{IsPainted};
-ghost use Rattle.vz_manager.specs.Showing.{IsToShow};
+ghost use Rattle.vz_manager.specs.Showing.{IsToMeasure, IsToShow};
 
 use crate::parts::Parts;
 use crate::picture::{FlatPicture, operations, picture_of};
 use crate::quiet::nothing_follows;
 use vz_base::Memory;
 use vz_damage::Measured;
+use vz_flight::Flight;
 use vz_ids::SurfaceId;
 use vz_live::Look;
 use vz_machine::Step;
@@ -40,19 +41,48 @@ impl Parts {
         let reply = match self.settling.live.look(self.support.root()) {
             Look::Busy => Reply::Busy,
             Look::NoRoot => Reply::NoRoot,
-            Look::TooMuch => Reply::TooMuch,
             Look::Seen(root) => return self.draw_from(&root),
         };
         Ok((nothing_follows(self.alloc, reply), None))
     }
 
-    /// A drawing that walks from a root, with its picture where something changed: where nothing
-    /// did, it is measured alone. All that may want memory is made before the first change.
-    /// Condition: a look told that it walks from there.
+    /// A drawing of what is to be seen on a root, with its picture where something changed. One walk
+    /// tells whether that is too much, what changed and what is drawn. Condition: a look told that
+    /// something is to be seen there.
     ///
     /// Memory is the only error, and then the parts stand for the same state.
     fn draw_from(&mut self, root: &SurfaceId) -> Result<(Step, Option<FlatPicture>), Memory>
+        requires seen { (p : Plan) × (w : World) × IsToMeasure p w root.now self.old }
+        ensures step { (p : Plan) (w : World) → IsToMeasure p w root.now self.old
+            → IfOk result (λ d. IsStepOf p w event.Draw d.0) }
+        ensures picture { (p : Plan) (w : World) → IsToMeasure p w root.now self.old
+            → IfOk result (λ d. IsPainted p w d.0.reply d.1) }
+        ensures serves { (p : Plan) (w : World) → IsToMeasure p w root.now self.old
+            → OnOk result (Serves p (step_in p w event.Draw).world self.new) }
+        ensures err { (p : Plan) (w : World) → Serves p w self.old
+            → OnErr result (Serves p w self.new) }
+    {
+        let size = self.size;
+        let Some((measured, flight)) = self.settling.live.measure(self.alloc, root, size)? else {
+            return Ok((nothing_follows(self.alloc, Reply::TooMuch), None));
+        };
+        self.draw_found(root, measured, flight)
+    }
+
+    /// A drawing that walks from a root, with its picture where something changed: where nothing
+    /// did, what was measured is remembered alone. All that may want memory is made before the first
+    /// change. Condition: this was found of the drawing.
+    ///
+    /// Memory is the only error, and then the parts stand for the same state.
+    fn draw_found(
+        &mut self,
+        root: &SurfaceId,
+        measured: Measured,
+        flight: Flight,
+    ) -> Result<(Step, Option<FlatPicture>), Memory>
         requires shows { (p : Plan) × (w : World) × IsToShow p w root.now self.old }
+        requires measured { Measures root.now self.old.size self.old.settling.live measured }
+        requires flown { Flies root.now self.old.size self.old.settling.live flight }
         ensures step { (p : Plan) (w : World) → IsToShow p w root.now self.old
             → IfOk result (λ d. IsStepOf p w event.Draw d.0) }
         ensures picture { (p : Plan) (w : World) → IsToShow p w root.now self.old
@@ -62,14 +92,13 @@ impl Parts {
         ensures err { (p : Plan) (w : World) → Serves p w self.old
             → OnErr result (Serves p w self.new) }
     {
-        let size = self.size;
-        let measured = self.settling.live.measure(root, size)?;
         let Some(damage) = measured.changed() else {
             self.leave(measured);
             return Ok((nothing_follows(self.alloc, Reply::Unchanged), None));
         };
+        let size = self.size;
         let ops = operations(self.alloc, &self.settling.live, root, size)?;
-        self.show(root, measured)?;
+        self.show(measured, flight)?;
         let step = nothing_follows(self.alloc, Reply::Drawn(damage));
         Ok((step, Some(picture_of(size, ops, damage))))
     }
@@ -87,14 +116,16 @@ impl Parts {
     }
 
     /// A drawing that walks ends where something changed: what is seen is drawn, and there is room
-    /// for the end of the drawn frame. Condition: a look told that it walks from this root.
+    /// for the end of the drawn frame. Condition: the drawing walks from a root, and found these
+    /// submissions.
     ///
     /// Want of memory is the only error, and then the parts stand for the same state.
-    fn show(&mut self, root: &SurfaceId, measured: Measured) -> Result<(), Memory>
-        requires shows { (p : Plan) × (w : World) × IsToShow p w root.now self.old }
-        ensures serves { (p : Plan) (w : World) (damage : Rectangle)
-            → IsToShow p w root.now self.old
-            → Measures root.now self.old.size self.old.settling.live measured
+    fn show(&mut self, measured: Measured, flight: Flight) -> Result<(), Memory>
+        requires shows { (p : Plan) × (w : World) × (root : Id) × IsToShow p w root self.old
+            × Flies root self.old.size self.old.settling.live flight }
+        ensures serves { (p : Plan) (w : World) (root : Id) (damage : Rectangle)
+            → IsToShow p w root self.old → Flies root self.old.size self.old.settling.live flight
+            → Measures root self.old.size self.old.settling.live measured
             → measured.changed ≡ Some damage
             → OnOk result (Serves p (step_in p w event.Draw).world self.new) }
         ensures err { (p : Plan) (w : World) → Serves p w self.old
@@ -103,9 +134,7 @@ impl Parts {
         waiting_ones_stay();
         support_stays_at_ends();
         self.settling.live.make_room(0, &mut self.returned)?;
-        self.settling
-            .live
-            .show(self.alloc, root, self.size, measured, &mut self.fed)?;
+        self.settling.live.show(measured, flight, &mut self.fed)?;
         Ok(())
     }
 }

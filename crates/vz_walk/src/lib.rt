@@ -4,6 +4,7 @@
 //! pass or the surface that a quad draws, unless that surface is on the path.
 #![tactic(auto)]
 
+mod both;
 mod path;
 mod place;
 mod size;
@@ -11,9 +12,10 @@ mod visitor;
 mod walker;
 mod weigher;
 
+pub use both::Both;
 pub use path::Path;
 pub use place::{Place, display_rect, moved, nothing};
 pub use size::{frame_rect, inside_frame};
 pub use visitor::Visitor;
 pub use walker::walk;
-pub use weigher::weight;
+pub use weigher::Weigher;
