@@ -89,10 +89,12 @@ abbrev pub actor_in : Event → ℕ
 actor_in (event.Client c) = c
 actor_in _ = 0
 
--- an event is a drawing
-abbrev pub is_drawing : Event → Bool
-is_drawing event.Draw = true
-is_drawing _ = false
+-- an event is one of the display, and no drawing
+abbrev pub is_plain : Event → Bool
+is_plain event.Begin = true
+is_plain event.Done = true
+is_plain event.Over = true
+is_plain _ = false
 
 -- an entry is a step of an actor
 abbrev pub is_step_of : ℕ → Entry → Bool

@@ -2,7 +2,7 @@
 ghost use Rattle.std.specs.Prelude.{◌≡◌, ℕ, ◌<◌, ◌+◌, ◌++◌, ◌∷◌, replicate, take, drop, get_or};
 ghost use Rattle.std.specs.List.{All};
 ghost use Rattle.vz_rules.specs.declared.entry.Entry.{Entry as OneEntry};
-ghost use Rattle.vz_player.specs.Played.{next_number, actor_in, is_drawing, steps_of};
+ghost use Rattle.vz_player.specs.Played.{next_number, actor_in, steps_of};
 
 use crate::Turn;
 use std::marker::Model;
@@ -72,15 +72,5 @@ pub fn actor_of(event: Event) -> u32
     match event {
         Event::Client(client) => client,
         _ => 0,
-    }
-}
-
-/// Whether an event is a drawing. No other has a picture.
-pub(crate) fn is_drawing(event: Event) -> bool
-    ensures { result ≡ is_drawing event }
-{
-    match event {
-        Event::Draw => true,
-        _ => false,
     }
 }

@@ -1,5 +1,5 @@
 //! The player.
-ghost use Rattle.std.specs.Prelude.{◌≡◌, ◌+◌, ◌≤◌, ◌++◌, ◌∷◌, [], false, length, IfOk, OnOk, OnErr, List as Row};
+ghost use Rattle.std.specs.Prelude.{◌≡◌, ◌+◌, ◌≤◌, ◌++◌, ◌∷◌, [], true, false, length, IfOk, OnOk, OnErr, List as Row};
 ghost use Rattle.vz_base.specs.declared.limits.TheConstants.{MOST_FILES};
 ghost use Rattle.vz_geom.specs.Display.{IsDisplaySize};
 ghost use Rattle.vz_pixels.specs.Colour.{Colour};
@@ -9,11 +9,11 @@ ghost use Rattle.vz_rules.specs.World.{opening};
 ghost use Rattle.vz_rules.specs.Step.{NamesClient, Legal, world};
 ghost use Rattle.vz_rules.specs.Log.{rest_of};
 ghost use Rattle.vz_display.specs.Displayed.{current, buffer_with, display_at};
-ghost use Rattle.vz_player.specs.Played.{is_drawing, first_played, played_at, played_on, machine_of, display_of, frames_of, painted_by, Writes, StopsAt};
+ghost use Rattle.vz_player.specs.Played.{is_plain, first_played, played_at, played_on, machine_of, display_of, frames_of, painted_by, Writes, StopsAt};
 
-use crate::actors::{Actors, actor_of, is_drawing};
+use crate::actors::{Actors, actor_of};
 use crate::show::show_some;
-use crate::take::{draw_gated, take_gated};
+use crate::take::{client_gated, draw_gated, take_gated};
 use std::alloc::Global;
 use std::marker::Model;
 use std::sync::ledger::Ledger;
@@ -127,20 +127,40 @@ impl<M: Machine + Drop> Player<M> {
             (steps.new + painted_by self.old ≡ steps.old + painted_by self.new) }
         ensures err { OnErr result (StopsAt self.old event self.new) }
     {
-        if is_drawing(event) {
-            return self.draw(alloc, gate, steps);
+        match event {
+            Event::Client(client) => self.take_client(alloc, gate, client),
+            Event::Draw => self.draw(alloc, gate, steps),
+            _ => self.take_plain(alloc, gate, event),
         }
-        self.take_plain(alloc, gate, event)?;
+    }
+
+    // Takes a client's event, after which no frame more is written. It has a path of its own, on
+    // which the step goes at once into the history, as most events of a run are of clients.
+    fn take_client<G: Gate>(&mut self, alloc: Global, gate: &G, client: u32) -> Result<bool, Memory>
+        requires going { self.old.stopped ≡ false }
+        requires named { NamesClient self.old.plan (event.Client client) }
+        ensures taken { OnOk result (self.new ≡ played_on self.old (event.Client client)) }
+        ensures written { IfOk result (λ drawn. Writes self.old self.new drawn) }
+        ensures counted { OnOk result (painted_by self.old ≡ painted_by self.new) }
+        ensures err { OnErr result (StopsAt self.old (event.Client client) self.new) }
+    {
+        self.history.reserve(1)?;
+        let turn = self.actors.next_turn(client);
+        let taken = client_gated(alloc, gate, turn, &mut self.machine, client)?;
+        self.history.put(taken);
         Ok(false)
     }
 
-    // Takes an event that is no drawing.
-    fn take_plain<G: Gate>(&mut self, alloc: Global, gate: &G, event: Event) -> Result<(), Memory>
+    // Takes an event of the display that is no drawing, after which no frame more is written. It
+    // stays a function of its own, as the room for the steps of all such events is cleared at its
+    // beginning.
+    #[inline(never)]
+    fn take_plain<G: Gate>(&mut self, alloc: Global, gate: &G, event: Event) -> Result<bool, Memory>
         requires going { self.old.stopped ≡ false }
         requires named { NamesClient self.old.plan event }
-        requires other { is_drawing event ≡ false }
+        requires plain { is_plain event ≡ true }
         ensures taken { OnOk result (self.new ≡ played_on self.old event) }
-        ensures written { OnOk result (Writes self.old self.new false) }
+        ensures written { IfOk result (λ drawn. Writes self.old self.new drawn) }
         ensures counted { OnOk result (painted_by self.old ≡ painted_by self.new) }
         ensures err { OnErr result (StopsAt self.old event self.new) }
     {
@@ -148,7 +168,7 @@ impl<M: Machine + Drop> Player<M> {
         let turn = self.actors.next_turn(actor_of(event));
         let plain = take_gated(alloc, gate, turn, &mut self.machine, event)?;
         self.history.put(plain);
-        Ok(())
+        Ok(false)
     }
 
     // Draws, and shows the picture where something is drawn. It stays a function of its own, as the

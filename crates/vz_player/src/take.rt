@@ -1,10 +1,10 @@
 //! Events taken by a machine.
-ghost use Rattle.std.specs.Prelude.{◌≡◌, false, None, IfOk, OnOk, OnErr};
+ghost use Rattle.std.specs.Prelude.{◌≡◌, true, None, IfOk, OnOk, OnErr};
 ghost use Rattle.std.specs.Option.{option_map};
 ghost use Rattle.vz_rules.specs.declared.entry.Event.TheVariants as event;
 ghost use Rattle.vz_rules.specs.Step.{entry_in, NamesClient};
 ghost use Rattle.vz_machine.specs.Stepping.{Goes, ShowsDrawn};
-ghost use Rattle.vz_player.specs.Played.{is_drawing};
+ghost use Rattle.vz_player.specs.Played.{is_plain};
 
 use crate::{Turn, gated};
 use std::alloc::Global;
@@ -13,8 +13,50 @@ use vz_machine::{Machine, Step};
 use vz_outside::Gate;
 use vz_rules::{Entry, Event};
 
-/// Takes an event that is no drawing, between the two calls of a gate: its entry. At want of memory
-/// the machine stays. Condition: a client's event is of a client of the plan.
+/// Takes a client's event, between the two calls of a gate: its entry. At want of memory the machine
+/// stays. Condition: the client is of the plan.
+pub fn client_gated<M: Machine, G: Gate>(
+    alloc: Global,
+    gate: &G,
+    turn: Turn,
+    machine: &mut M,
+    client: u32,
+) -> Result<Entry, Memory>
+    requires { NamesClient (M.state machine.old).plan (event.Client client) }
+    ensures entry { IfOk result (λ e.
+        e ≡ entry_in (M.state machine.old).plan (M.state machine.old).world (event.Client client)) }
+    ensures picture { IfOk result (λ e. ShowsDrawn (M.state machine.old) e.reply None) }
+    ensures world { OnOk result
+        (Goes (M.state machine.old) (event.Client client) (M.state machine.new)) }
+    ensures err { OnErr result (M.state machine.new ≡ M.state machine.old) }
+{
+    gated(
+        gate,
+        turn,
+        machine,
+        |machine|
+            requires { NamesClient (M.state machine.now).plan (event.Client client) }
+        { take_client(alloc, machine, client) },
+    )
+}
+
+/// Takes a client's event: its entry. At want of memory the machine stays. Condition: the client is
+/// of the plan.
+fn take_client<M: Machine>(alloc: Global, machine: &mut M, client: u32) -> Result<Entry, Memory>
+    requires { NamesClient (M.state machine.old).plan (event.Client client) }
+    ensures entry { IfOk result (λ e.
+        e ≡ entry_in (M.state machine.old).plan (M.state machine.old).world (event.Client client)) }
+    ensures picture { IfOk result (λ e. ShowsDrawn (M.state machine.old) e.reply None) }
+    ensures world { OnOk result
+        (Goes (M.state machine.old) (event.Client client) (M.state machine.new)) }
+    ensures err { OnErr result (M.state machine.new ≡ M.state machine.old) }
+{
+    let step = machine.client(alloc, client)?;
+    Ok(entry_of(Event::Client(client), step))
+}
+
+/// Takes an event of the display that is no drawing, between the two calls of a gate: its entry. At
+/// want of memory the machine stays.
 pub fn take_gated<M: Machine, G: Gate>(
     alloc: Global,
     gate: &G,
@@ -22,8 +64,7 @@ pub fn take_gated<M: Machine, G: Gate>(
     machine: &mut M,
     event: Event,
 ) -> Result<Entry, Memory>
-    requires named { NamesClient (M.state machine.old).plan event }
-    requires other { is_drawing event ≡ false }
+    requires { is_plain event ≡ true }
     ensures entry { IfOk result (λ e.
         e ≡ entry_in (M.state machine.old).plan (M.state machine.old).world event) }
     ensures picture { IfOk result (λ e. ShowsDrawn (M.state machine.old) e.reply None) }
@@ -35,17 +76,14 @@ pub fn take_gated<M: Machine, G: Gate>(
         turn,
         machine,
         |machine|
-            requires named { NamesClient (M.state machine.now).plan event }
-            requires other { is_drawing event ≡ false }
+            requires { is_plain event ≡ true }
         { take(alloc, machine, event) },
     )
 }
 
-/// Takes an event that is no drawing: its entry. At want of memory the machine stays. Condition: a
-/// client's event is of a client of the plan.
+/// Takes an event of the display that is no drawing: its entry. At want of memory the machine stays.
 fn take<M: Machine>(alloc: Global, machine: &mut M, event: Event) -> Result<Entry, Memory>
-    requires named { NamesClient (M.state machine.old).plan event }
-    requires other { is_drawing event ≡ false }
+    requires { is_plain event ≡ true }
     ensures entry { IfOk result (λ e.
         e ≡ entry_in (M.state machine.old).plan (M.state machine.old).world event) }
     ensures picture { IfOk result (λ e. ShowsDrawn (M.state machine.old) e.reply None) }
@@ -53,7 +91,7 @@ fn take<M: Machine>(alloc: Global, machine: &mut M, event: Event) -> Result<Entr
     ensures err { OnErr result (M.state machine.new ≡ M.state machine.old) }
 {
     match event {
-        Event::Client(client) => Ok(entry_of(event, machine.client(alloc, client)?)),
+        Event::Client(_) => unreachable!(),
         Event::Begin => Ok(entry_of(event, machine.begin(alloc)?)),
         Event::Draw => unreachable!(),
         Event::Done => Ok(entry_of(event, machine.done())),

@@ -1,23 +1,14 @@
-use Rattle.std.proofs.Common.{refl}
 use Rattle.vz_rules.specs.declared.entry.Event.TheVariants as event
 use Rattle.vz_player.proofs.Undrawn.{entry_is, no_picture}
 use Rattle.vz_player.proofs.take.take.Goals as goal
 
-pub returns-in_ok-client-in-Client-clause-entry : goal.returns-in_ok-client-in-Client-clause-entry
-returns-in_ok-client-in-Client-clause-entry g c =
-    entry_is (g.M.Machine.state c.args.machine.now) (event.Client c.in-Client.client) c.args.event (event.Client c.in-Client.client) c.in_ok-client-in-Client.field-0 c.entry_of.result c.in-Client.is refl c.in_ok-client-in-Client.ensures.answer c.entry_of.ensures
-
-pub returns-in_ok-client-in-Client-clause-picture : goal.returns-in_ok-client-in-Client-clause-picture
-returns-in_ok-client-in-Client-clause-picture g c =
-    no_picture (g.M.Machine.state c.args.machine.now) (event.Client c.in-Client.client) (event.Client c.in-Client.client) c.in_ok-client-in-Client.field-0 c.entry_of.result tt c.in_ok-client-in-Client.ensures.answer c.entry_of.ensures
-
 pub returns-in_ok-begin-in-Begin-clause-entry : goal.returns-in_ok-begin-in-Begin-clause-entry
 returns-in_ok-begin-in-Begin-clause-entry g c =
-    entry_is (g.M.Machine.state c.args.machine.now) event.Begin c.args.event c.args.event c.in_ok-begin-in-Begin.field-0 c.entry_of-in-Begin.result c.in-Begin.is c.in-Begin.is c.in_ok-begin-in-Begin.ensures.answer c.entry_of-in-Begin.ensures
+    entry_is (g.M.Machine.state c.args.machine.now) event.Begin c.args.event c.args.event c.in_ok-begin-in-Begin.field-0 c.entry_of.result c.in-Begin.is c.in-Begin.is c.in_ok-begin-in-Begin.ensures.answer c.entry_of.ensures
 
 pub returns-in_ok-begin-in-Begin-clause-picture : goal.returns-in_ok-begin-in-Begin-clause-picture
 returns-in_ok-begin-in-Begin-clause-picture g c =
-    no_picture (g.M.Machine.state c.args.machine.now) event.Begin c.args.event c.in_ok-begin-in-Begin.field-0 c.entry_of-in-Begin.result tt c.in_ok-begin-in-Begin.ensures.answer c.entry_of-in-Begin.ensures
+    no_picture (g.M.Machine.state c.args.machine.now) event.Begin c.args.event c.in_ok-begin-in-Begin.field-0 c.entry_of.result tt c.in_ok-begin-in-Begin.ensures.answer c.entry_of.ensures
 
 pub returns-in-Done-clause-entry : goal.returns-in-Done-clause-entry
 returns-in-Done-clause-entry g c =
