@@ -69,6 +69,14 @@ impl Client {
         self.messages.take()
     }
 
+    /// Leaves the next message in its place, as one that was taken. Condition: there is one.
+    pub(crate) fn skip(&mut self)
+        requires { 0 < length self.old.left }
+        ensures { self.new ≡ taking_one self.old }
+    {
+        self.messages.skip();
+    }
+
     /// The last message that was taken is the next one again. Condition: one was taken.
     pub(crate) fn put_back(&mut self, message: Message)
         requires { 0 < self.old.taken }

@@ -122,6 +122,18 @@ impl Clients {
         self.list[(c - 1) as usize].take()
     }
 
+    /// Takes the next message of a client, which stays in its place until the end: for one that has
+    /// nothing to move out, and no memory of its own. Conditions: the client is there, and it has
+    /// one.
+    pub fn skip(&mut self, c: u32)
+        requires some { 1 ≤ c }
+        requires known { c ≤ length self.old }
+        requires left { 0 < length (sender_at self.old c).left }
+        ensures taken { ChangesOne c taking_one self.old self.new }
+    {
+        self.list[(c - 1) as usize].skip();
+    }
+
     /// The message of a client that was taken last is its next one again. Conditions: the client
     /// is there, and one was taken.
     pub fn put_back(&mut self, c: u32, message: Message)

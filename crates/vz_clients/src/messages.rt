@@ -52,6 +52,14 @@ impl Messages {
         message
     }
 
+    /// Leaves the next message in its place, as one that was taken. Condition: there is one.
+    pub(crate) fn skip(&mut self)
+        requires { 0 < length self.old.left }
+        ensures { self.new ≡ record { left = drop 1 self.old.left; taken = self.old.taken + 1 } }
+    {
+        self.taken += 1;
+    }
+
     /// The last message that was taken is the next one again. Condition: one was taken.
     pub(crate) fn put_back(&mut self, message: Message)
         requires { 0 < self.old.taken }

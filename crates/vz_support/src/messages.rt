@@ -53,9 +53,14 @@ impl Support {
             → Sends p w c x (DidNotProduce n) → IsSupport p w self.old
             → IsSupport p (taking (answer_tick w.tick n) x w) self.new }
     {
-        let Message::DidNotProduce(n) = self.clients.take(c) else {
+        let Some(message) = self.clients.next(c) else {
             unreachable!()
         };
+        let Message::DidNotProduce(n) = message else {
+            unreachable!()
+        };
+        let n = *n;
+        self.clients.skip(c);
         note(&mut self.clients, c, self.tick, n);
     }
 
@@ -68,7 +73,7 @@ impl Support {
         ensures { (p : Plan) (w : World) (x : Client) → Sends p w c x Reclaim
             → IsSupport p w self.old → IsSupport p (taking reclaim x w) self.new }
     {
-        self.clients.take(c);
+        self.clients.skip(c);
     }
 
     /// A client's block is stored: it is moved in. For want of memory, and only then, it answers

@@ -119,13 +119,13 @@ impl Support {
             → IsSupport p w self.old → IsSupport p (await_answer w x).world self.new }
     {
         if let Some(n) = self.sinks.take(c) {
-            self.clients.take(c);
+            self.clients.skip(c);
             return Reply::Began(n);
         }
         if !self.over {
             return Reply::Refused(Refusal::NotYet);
         }
-        self.clients.take(c);
+        self.clients.skip(c);
         Reply::Over
     }
 }

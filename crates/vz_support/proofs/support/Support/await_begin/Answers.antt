@@ -9,9 +9,9 @@ returns-in-Some-clause-reply c p w x sends is =
 
 pub returns-in-Some-clause-world : goal.returns-in-Some-clause-world
 returns-in-Some-clause-world c p w x sends is =
-    begins p w _ c.args.c x _ sends (subst (IsSupport p w) (sym c.self.view_is) is) c.in-Some.n c.take-in-Some.new.self c.take.new.self
+    begins p w _ c.args.c x _ sends (subst (IsSupport p w) (sym c.self.view_is) is) c.in-Some.n c.skip.new.self c.take.new.self
     c.in-Some.ensures.value
-    c.take-in-Some.ensures.taken c.take.ensures.first c.take.ensures.seats c.take.ensures.relations
+    c.skip.ensures.taken c.take.ensures.first c.take.ensures.seats c.take.ensures.relations
 
 pub returns-then-not-self-clause-reply : goal.returns-then-not-self-clause-reply
 returns-then-not-self-clause-reply c p w x sends is =
@@ -31,7 +31,7 @@ returns-clause-reply c p w x sends is =
 
 pub returns-clause-world : goal.returns-clause-world
 returns-clause-world c p w x sends is =
-    ends p w _ c.args.c x _ sends (subst (IsSupport p w) (sym c.self.view_is) is) c.take-2.new.self c.take.new.self
-    (sym (none_of c.take.result c.in_default.not-Some) ∙ c.take.ensures.value) c.if-not-self.false c.take-2.ensures.taken
+    ends p w _ c.args.c x _ sends (subst (IsSupport p w) (sym c.self.view_is) is) c.skip-2.new.self c.take.new.self
+    (sym (none_of c.take.result c.in_default.not-Some) ∙ c.take.ensures.value) c.if-not-self.false c.skip-2.ensures.taken
     c.take.ensures.first
     c.take.ensures.seats c.take.ensures.relations

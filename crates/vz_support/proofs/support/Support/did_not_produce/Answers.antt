@@ -1,4 +1,4 @@
-use Rattle.std.proofs.Common.{subst, sym, ◌∙◌}
+use Rattle.std.proofs.Common.{Some, ap, subst, sym, ◌∙◌}
 use Rattle.vz_clients.specs.Sent.{answered_by}
 use Rattle.vz_clients.specs.Changed.{ChangesOne}
 use Rattle.vz_support.specs.Supporting.{IsSupport}
@@ -8,6 +8,6 @@ use Rattle.vz_support.proofs.support.Support.did_not_produce.Goals as goal
 pub returns : goal.returns
 returns c p w x n sends is =
     let kept = subst (IsSupport p w) (sym c.self.view_is) is in
-    let same = same_number c.in-DidNotProduce.n n (c.in-DidNotProduce.ensures.message ∙ sent_is p w _ c.args.c x _ sends kept) in
-    takes_answer p w _ c.args.c x _ sends kept n c.take.new.self c.note.new.clients c.take.ensures.taken
-    (subst (λ k. ChangesOne c.args.c (answered_by c.self.inside.tick k) c.take.new.self c.note.new.clients) same c.note.ensures)
+    let same = same_number c.in-DidNotProduce.n n (ap (λ m. Some m) (sym c.in-DidNotProduce.is) ∙ (c.in-Some.ensures ∙ sent_is p w _ c.args.c x _ sends kept)) in
+    takes_answer p w _ c.args.c x _ sends kept n c.skip.new.self c.note.new.clients c.skip.ensures.taken
+    (subst (λ k. ChangesOne c.args.c (answered_by c.self.inside.tick k) c.skip.new.self c.note.new.clients) same c.note.ensures)
