@@ -66,6 +66,7 @@ frames_cons s xs = by (is_active s)
     by true = refl
     by false = refl
 
+-- the active frames stay
 pub frames_accepted : (id : SurfaceId) (n : Submission) (xs : List Submission) → is_active n ≡ false → active_frames (map (replace_on id) xs ++ n ∷ []) ≡ active_frames xs
 frames_accepted id n [] e = frames_cons n [] ∙ ap (λ t. cond t (n.submitted ∷ []) []) e
 frames_accepted id n (s ∷ xs) e =

@@ -24,7 +24,7 @@ use Rattle.vz_reaching.proofs.Accepting_kept.{same_named, stands_active, replace
 use Rattle.vz_reaching.proofs.Staying.{lasts_by, closed_kept}
 use Rattle.vz_reaching.proofs.Owning.{never}
 
-raises_none : (a : LocalSurfaceId) → is_raised a a ≡ true → ⊥
+pub raises_none : (a : LocalSurfaceId) → is_raised a a ≡ true → ⊥
 raises_none a h =
     let on = and_parts (nat_le a.parent a.parent && nat_le a.child a.child) (nat_lt a.parent a.parent || nat_lt a.child a.child) h in
     elim (or_cases (nat_lt a.parent a.parent) (nat_lt a.child a.child) on.1) [

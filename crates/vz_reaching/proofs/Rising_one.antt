@@ -167,7 +167,7 @@ module _ (w : World) (x : Submission) (h : KeepsAlways w) (there : Contains w.su
   stands_map id (Some c) f = refl
 
   -- the same surfaces exist
-  exists_risen : (id : SurfaceId) → exists (rising x w) id ≡ exists w id
+  pub exists_risen : (id : SurfaceId) → exists (rising x w) id ≡ exists w id
   unfolding rising
   exists_risen id =
       ap is_some (find_map (λ (s : Created). same_surface s.id id && not s.destroyed) (marked_by w.surfaces (x ∷ [])) w.surfaces (λ c. same_one id c (list_any (is_before w.surfaces c) (x ∷ []))))

@@ -5,8 +5,8 @@ use Rattle.vz_ids.specs.declared.SurfaceId.{SurfaceId}
 use Rattle.vz_ids.specs.Ids.{same_surface}
 use Rattle.vz_rules.specs.World.{Submission, is_on, is_active, active_frames, frame_on}
 use Rattle.vz_rules.proofs.Counts.{count_cons}
+use Rattle.vz_reaching.proofs.Rising_one.{active_cons, seen_off}
 use Rattle.vz_telling.proofs.Raised.{damages, as_many}
-use Rattle.vz_telling.proofs.Rising.{active_cons, seen_off}
 
 empty_of : (l : List Rectangle) → length l ≡ 0 → l ≡ []
 empty_of [] e = refl

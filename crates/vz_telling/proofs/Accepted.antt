@@ -17,6 +17,7 @@ use Rattle.vz_rules.proofs.Reached.{from_same, self_same}
 use Rattle.vz_rules.proofs.Members.{contains_map, contains_push, push_contains_last}
 use Rattle.vz_rules.proofs.Counts.{count_none}
 use Rattle.vz_rules.proofs.Kept_submits.{always_accepted}
+use Rattle.vz_reaching.proofs.Accepting_kept.{frames_accepted}
 use Rattle.vz_surfaces.specs.Stored.{stored_of}
 use Rattle.vz_damage.specs.Told.{Told, Damaged, told_on, next_index, with_damage}
 use Rattle.vz_damage.specs.Measured.{without_indices}
@@ -25,7 +26,7 @@ use Rattle.vz_telling.specs.Changing.{IsAllowed}
 use Rattle.vz_telling.proofs.Stored.{count_bare}
 use Rattle.vz_telling.proofs.Raised.{damages, as_many}
 use Rattle.vz_telling.proofs.Absent.{no_damages, no_frame}
-use Rattle.vz_telling.proofs.Arriving.{off_back, unknown, allowed_parts, waits_on, frames_accepted, damages_more, count_more, stands_more}
+use Rattle.vz_telling.proofs.Arriving.{off_back, unknown, allowed_parts, waits_on, damages_more, count_more, stands_more}
 
 abbrev Where : Bool → Told → Option Told
 Where t y = cond t (Some y) None

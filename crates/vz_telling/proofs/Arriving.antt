@@ -1,8 +1,8 @@
 -- A submission is accepted: what is found on surfaces after it.
-use Rattle.std.proofs.Common.{arith, ◌&&◌, ◌||◌, ◌≡◌, ℕ, ◌+◌, Bool, true, false, not, Option, Some, None, List, [], ◌∷◌, ◌++◌, map, filter, find, is_some, count_by, refl, ap, sym, ◌∙◌, cond, nat_lt, nat_le, Contains, inl, inr}
+use Rattle.std.proofs.Common.{◌&&◌, ◌||◌, ◌≡◌, ℕ, ◌+◌, Bool, true, false, not, Option, Some, None, List, [], ◌∷◌, ◌++◌, map, find, is_some, count_by, refl, ap, sym, ◌∙◌, cond, Contains}
 use Rattle.std.specs.List.{list_any}
 use Rattle.std.specs.Option.{option_map}
-use Rattle.std.proofs.lemmas.Bool.{and_parts, or_cases, both_ways, false_from_ne_true, ltb-true}
+use Rattle.std.proofs.lemmas.Bool.{both_ways, false_from_ne_true}
 use Rattle.vz_geom.specs.Rectangle.{Rectangle}
 use Rattle.vz_ids.specs.declared.LocalSurfaceId.{LocalSurfaceId}
 use Rattle.vz_ids.specs.declared.SurfaceId.{SurfaceId}
@@ -13,15 +13,16 @@ use Rattle.vz_rules.specs.declared.entry.Refusal.{Refusal}
 use Rattle.vz_rules.specs.declared.entry.Refusal.TheVariants as refusal
 use Rattle.vz_rules.specs.declared.entry.State.TheVariants.{Dropped}
 use Rattle.vz_rules.specs.Damage.{root_damage}
-use Rattle.vz_rules.specs.World.{World, Client, Created, Resource, Submission, FrameData, is_on, is_waiting, is_active, active_frames, last_created}
+use Rattle.vz_rules.specs.World.{World, Client, Created, Resource, Submission, FrameData, is_on, is_waiting, last_created}
 use Rattle.vz_rules.specs.Messages.{id_of, is_last, is_unknown, violates, has_other_size, replace_on, submit_refusal, first_some, when}
 use Rattle.vz_rules.specs.Kept.{KeepsAlways, stands_in}
 use Rattle.vz_rules.proofs.Reached.{from_same, self_same}
 use Rattle.vz_rules.proofs.Members.{contains_at}
 use Rattle.vz_rules.proofs.Counts.{count_same, count_push}
 use Rattle.vz_rules.proofs.Kept_last.{raised_from_all, one_client}
+use Rattle.vz_reaching.proofs.Accepting_kept.{replaced_same}
+use Rattle.vz_reaching.proofs.New_surfaces.{raises_none}
 use Rattle.vz_telling.proofs.Raised.{damages, damages_cons}
-use Rattle.vz_telling.proofs.Rising.{waits_inactive}
 
 -- Ids
 
@@ -29,14 +30,6 @@ pub off_back : (a b : SurfaceId) → same_surface a b ≡ false → same_surface
 off_back a b off =
     false_from_ne_true (same_surface b a) (λ e.
     both_ways (same_surface a b) off (ap (λ (i : SurfaceId). same_surface i b) (sym (from_same b a e)) ∙ self_same b))
-
-raises_none : (a : LocalSurfaceId) → is_raised a a ≡ true → ⊥
-raises_none a h =
-    let on = and_parts (nat_le a.parent a.parent && nat_le a.child a.child) (nat_lt a.parent a.parent || nat_lt a.child a.child) h in
-    elim (or_cases (nat_lt a.parent a.parent) (nat_lt a.child a.child) on.1) [
-      | inl l ↦ omega (arith, ltb-true a.parent a.parent l)
-      | inr l ↦ omega (arith, ltb-true a.child a.child l)
-    ]
 
 -- no surface that was created has an id that goes on from its client's last one
 pub unknown : (w : World) (c : Client) (local : LocalSurfaceId) (x : Created) → KeepsAlways w → Contains w.clients c
@@ -77,21 +70,6 @@ allowed_parts last resources local frame h =
 
 -- Submissions
 
-pub replaced_same : (id : SurfaceId) (s : Submission) → (replace_on id s).submitted ≡ s.submitted
-replaced_same id s = by (is_waiting s && is_on id s)
-  where
-    by : (t : Bool) → (cond t (record s { state = Dropped }) s).submitted ≡ s.submitted
-    by true = refl
-    by false = refl
-
-replaced_state : (id : SurfaceId) (s : Submission) → is_active (replace_on id s) ≡ is_active s
-replaced_state id s = by (is_waiting s) refl (is_on id s)
-  where
-    by : (a : Bool) → is_waiting s ≡ a → (b : Bool) → is_active (cond (a && b) (record s { state = Dropped }) s) ≡ is_active s
-    by true e true = sym (waits_inactive s e)
-    by true e false = refl
-    by false e b = refl
-
 -- what waits then waited, and is on another surface
 pub waits_on : (id : SurfaceId) (s r : Submission) → replace_on id s ≡ r → is_waiting r ≡ true → (r ≡ s) × (is_on id s ≡ false)
 waits_on id s r e waits = by (is_waiting s) refl (is_on id s) e
@@ -100,25 +78,6 @@ waits_on id s r e waits = by (is_waiting s) refl (is_on id s) e
     by true f true k = absurd (both_ways (is_waiting r) (sym (ap is_waiting k)) waits)
     by true f false k = (sym k, refl)
     by false f b k = absurd (both_ways (is_waiting s) f (ap is_waiting k ∙ waits))
-
-frames_cons : (s : Submission) (xs : List Submission)
-    → active_frames (s ∷ xs) ≡ cond (is_active s) (s.submitted ∷ active_frames xs) (active_frames xs)
-frames_cons s xs = by (is_active s)
-  where
-    by : (t : Bool) → map (λ (x : Submission). x.submitted) (cond t (s ∷ filter is_active xs) (filter is_active xs))
-        ≡ cond t (s.submitted ∷ active_frames xs) (active_frames xs)
-    by true = refl
-    by false = refl
-
--- the active frames stay
-pub frames_accepted : (id : SurfaceId) (n : Submission) (xs : List Submission) → is_active n ≡ false
-    → active_frames (map (replace_on id) xs ++ n ∷ []) ≡ active_frames xs
-frames_accepted id n [] e = frames_cons n [] ∙ ap (λ t. cond t (n.submitted ∷ []) []) e
-frames_accepted id n (s ∷ xs) e =
-    frames_cons (replace_on id s) (map (replace_on id) xs ++ n ∷ [])
-    ∙ (ap (λ l. cond (is_active (replace_on id s)) ((replace_on id s).submitted ∷ l) l) (frames_accepted id n xs e)
-    ∙ (ap (λ t. cond t ((replace_on id s).submitted ∷ active_frames xs) (active_frames xs)) (replaced_state id s)
-    ∙ (ap (λ (i : FrameData). cond (is_active s) (i ∷ active_frames xs) (active_frames xs)) (replaced_same id s) ∙ sym (frames_cons s xs))))
 
 one_more : (t : Bool) (r : Rectangle) (l more : List Rectangle) → cond t (r ∷ (l ++ more)) (l ++ more) ≡ cond t (r ∷ l) l ++ more
 one_more true r l more = refl

@@ -12,11 +12,11 @@ use Rattle.vz_rules.specs.Singly.{as_one_goes, going}
 use Rattle.vz_rules.proofs.Reached.{from_same}
 use Rattle.vz_rules.proofs.Counts.{count_same}
 use Rattle.vz_rules.proofs.Members.{contains_map, any_map, found}
+use Rattle.vz_reaching.proofs.Rising_one.{active_cons, seen_as, seen_off, seen_inactive}
 use Rattle.vz_damage.specs.Told.{Told, Damaged, told_on}
 use Rattle.vz_damage.specs.Measured.{without_indices}
 use Rattle.vz_telling.specs.Telling.{AreTold, AreLatest, AreUnseen, told_in, index_of, index_on}
 use Rattle.vz_telling.proofs.Raised.{damages_same}
-use Rattle.vz_telling.proofs.Rising.{active_cons, seen_as, seen_off, seen_inactive}
 
 abbrev stands_at : SurfaceId → Created → Bool
 stands_at id s = same_surface s.id id && not s.destroyed

@@ -1,5 +1,4 @@
 pub mod Stored
-pub mod Rising
 pub mod Raised
 pub mod Gone
 pub mod Read

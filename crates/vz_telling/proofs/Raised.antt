@@ -12,10 +12,10 @@ use Rattle.vz_rules.specs.Singly.{as_one_rises, rising}
 use Rattle.vz_rules.specs.Kept.{KeepsAlways}
 use Rattle.vz_rules.proofs.Reached.{from_same, self_same}
 use Rattle.vz_rules.proofs.Counts.{count_cons, count_same}
+use Rattle.vz_reaching.proofs.Rising_one.{Rises, IsIt, IsPast, Stays, rises_by, frame_risen, exists_risen, risen_at}
 use Rattle.vz_damage.specs.Told.{Told, Damaged, told_on, with_active}
 use Rattle.vz_damage.specs.Measured.{without_indices}
 use Rattle.vz_telling.specs.Telling.{AreTold, AreLatest, AreUnseen, told_in, index_of, index_on}
-use Rattle.vz_telling.proofs.Rising.{Rises, IsIt, IsPast, Stays, rises_by, frame_risen, exists_risen, risen_at}
 
 abbrev pub damages : SurfaceId → List Submission → List Rectangle
 damages id xs = map (λ (s : Submission). root_damage s.submitted.frame) (filter (is_on id) xs)
