@@ -22,7 +22,7 @@ use crate::surface::{is_straight, present_place, surface_place};
 use crate::tile::{block_at, put_tile};
 use std::marker::Model;
 use vz_base::Memory;
-use vz_frame::{Blend, DrawQuad, List, Material, RenderPass};
+use vz_frame::{Blend, DrawQuad, Material, RenderPass};
 use vz_ids::{SurfaceId, SurfaceRange};
 use vz_pixels::Pixel;
 use vz_surfaces::{Seen, Store};
@@ -69,14 +69,14 @@ pub(crate) fn surface<'s>(
     path: &Path<'_>,
     seen: &Seen<'s>,
     place: &Place,
-    ops: &mut List<Op>,
+    ops: &mut Vec<Op>,
 ) -> Result<(), Memory>
     requires keeps { KeepsStored store.now }
     requires frames { KeepsFrames store.now }
     requires whole { IsWhole seen.now }
     requires room { HasRoom (room_for levels 0) place.now.shift }
-    ensures { OnOk result (ops.new
-        ≡ ops.old ++ flat levels (seen_frames store.now) (ids path.now) seen.now place.now) }
+    ensures { OnOk result (ops.new.items
+        ≡ ops.old.items ++ flat levels (seen_frames store.now) (ids path.now) seen.now place.now) }
 {
     if levels == 0 {
         return Ok(());
@@ -127,12 +127,12 @@ impl<'b, 's> Flattener<'b, 's> {
         k: usize,
         pass: &RenderPass,
         place: &Place,
-        ops: &mut List<Op>,
+        ops: &mut Vec<Op>,
     ) -> Result<(), Memory>
         requires there { slice_get self.now.seen.frame.passes k ≡ Some pass.now }
         requires whole { IsPassWhole self.now.seen pass.now }
         requires room { HasRoom (room_for self.now.levels (k + 1)) place.now.shift }
-        ensures { OnOk result (ops.new ≡ ops.old
+        ensures { OnOk result (ops.new.items ≡ ops.old.items
             ++ quads_here self.now (earlier_of self.now k) pass.now place.now pass.now.quads) }
     {
         let quads = pass.quads.as_slice();
@@ -155,14 +155,14 @@ impl<'b, 's> Flattener<'b, 's> {
         quad: &DrawQuad,
         leads_to: Option<usize>,
         place: &Place,
-        ops: &mut List<Op>,
+        ops: &mut Vec<Op>,
     ) -> Result<(), Memory>
         requires there { k < length self.now.seen.frame.passes }
         requires reach { IsPassInReach pass.now }
         requires whole { IsQuadWhole self.now.seen quad.now }
         requires named { leads_to ≡ place_named self.now.seen.frame k quad.now }
         requires room { HasRoom (room_for self.now.levels (k + 1)) place.now.shift }
-        ensures { OnOk result (ops.new ≡ ops.old
+        ensures { OnOk result (ops.new.items ≡ ops.old.items
             ++ seen_flat (place_in place.now pass.now quad.now).window
             (material_here self.now (earlier_of self.now k) quad.now
             (place_in place.now pass.now quad.now))) }
@@ -184,13 +184,13 @@ impl<'b, 's> Flattener<'b, 's> {
         quad: &DrawQuad,
         leads_to: Option<usize>,
         place: &Place,
-        ops: &mut List<Op>,
+        ops: &mut Vec<Op>,
     ) -> Result<(), Memory>
         requires there { k < length self.now.seen.frame.passes }
         requires named { leads_to ≡ place_named self.now.seen.frame k quad.now }
         requires room { HasRoom (room_for self.now.levels k + coordinates 1) place.now.shift }
-        ensures { OnOk result (ops.new
-            ≡ ops.old ++ material_here self.now (earlier_of self.now k) quad.now place.now) }
+        ensures { OnOk result (ops.new.items
+            ≡ ops.old.items ++ material_here self.now (earlier_of self.now k) quad.now place.now) }
     {
         let blend = quad.blend;
         let opacity = quad.opacity;
@@ -237,13 +237,13 @@ impl<'b, 's> Flattener<'b, 's> {
         mode: Blend,
         opacity: u8,
         place: &Place,
-        ops: &mut List<Op>,
+        ops: &mut Vec<Op>,
     ) -> Result<(), Memory>
         requires there { k < length self.now.seen.frame.passes }
         requires room { HasRoom (room_for self.now.levels (k + 1) + coordinates 1)
             place.now.shift }
-        ensures { OnOk result (ops.new
-            ≡ ops.old ++ group_at self.now mode opacity place.now (Some k)) }
+        ensures { OnOk result (ops.new.items
+            ≡ ops.old.items ++ group_at self.now mode opacity place.now (Some k)) }
     {
         let pass = &self.passes()[k];
         let inner = place.inside(pass);
@@ -261,12 +261,12 @@ impl<'b, 's> Flattener<'b, 's> {
         mode: Blend,
         opacity: u8,
         place: &Place,
-        ops: &mut List<Op>,
+        ops: &mut Vec<Op>,
     ) -> Result<(), Memory>
         requires there { slice_get self.now.seen.frame.passes k ≡ Some pass.now }
         requires whole { IsPassWhole self.now.seen pass.now }
         requires room { HasRoom (room_for self.now.levels (k + 1)) place.now.shift }
-        ensures { OnOk result (ops.new ≡ ops.old
+        ensures { OnOk result (ops.new.items ≡ ops.old.items
             ++ group_here self.now (earlier_of self.now k) pass.now mode opacity place.now) }
     {
         let output = moved(&pass.output, place.shift());
@@ -297,11 +297,11 @@ impl<'b, 's> Flattener<'b, 's> {
         mode: Blend,
         opacity: u8,
         place: &Place,
-        ops: &mut List<Op>,
+        ops: &mut Vec<Op>,
     ) -> Result<(), Memory>
         requires room { HasRoom (room_for self.now.levels 0) place.now.shift }
-        ensures { OnOk result (ops.new
-            ≡ ops.old ++ ranges_of self.now range.now background mode opacity place.now) }
+        ensures { OnOk result (ops.new.items
+            ≡ ops.old.items ++ ranges_of self.now range.now background mode opacity place.now) }
     {
         match self.store.shown_frame(range) {
             None => {
@@ -338,11 +338,11 @@ impl<'b, 's> Flattener<'b, 's> {
         mode: Blend,
         opacity: u8,
         place: &Place,
-        ops: &mut List<Op>,
+        ops: &mut Vec<Op>,
     ) -> Result<(), Memory>
         requires whole { IsWhole seen.now }
         requires room { HasRoom (room_for self.now.levels 0) place.now.shift }
-        ensures { OnOk result (ops.new ≡ ops.old ++ shown_flat (embedded self.now) self.now.path
+        ensures { OnOk result (ops.new.items ≡ ops.old.items ++ shown_flat (embedded self.now) self.now.path
             range.now background mode opacity place.now seen.now) }
     {
         let area = present_place(range, seen, place).window();
@@ -375,11 +375,11 @@ impl<'b, 's> Flattener<'b, 's> {
         seen: &Seen<'s>,
         background: Pixel,
         place: &Place,
-        ops: &mut List<Op>,
+        ops: &mut Vec<Op>,
     ) -> Result<(), Memory>
         requires whole { IsWhole seen.now }
         requires room { HasRoom (room_for self.now.levels 0) place.now.shift }
-        ensures { OnOk result (ops.new ≡ ops.old ++ content_flat (embedded self.now) self.now.path
+        ensures { OnOk result (ops.new.items ≡ ops.old.items ++ content_flat (embedded self.now) self.now.path
             range.now background seen.now place.now) }
     {
         let inner = surface_place(seen, place);

@@ -8,7 +8,7 @@ ghost use Rattle.vz_flat.specs.Parts.{surface_place};
 use crate::Op;
 use crate::put::put;
 use vz_base::Memory;
-use vz_frame::{Blend, List};
+use vz_frame::Blend;
 use vz_geom::Rect;
 use vz_ids::SurfaceRange;
 use vz_pixels::Pixel;
@@ -50,8 +50,8 @@ fn right_of(outer: &Rect, inner: &Rect) -> Rect
 }
 
 /// A colour over what is there, in a part.
-fn fill_part(ops: &mut List<Op>, part: Rect, color: Pixel) -> Result<(), Memory>
-    ensures { OnOk result (ops.new ≡ ops.old ++ part_flat color part) }
+fn fill_part(ops: &mut Vec<Op>, part: Rect, color: Pixel) -> Result<(), Memory>
+    ensures { OnOk result (ops.new.items ≡ ops.old.items ++ part_flat color part) }
 {
     if part.is_empty() {
         return Ok(());
@@ -72,14 +72,14 @@ fn fill_part(ops: &mut List<Op>, part: Rect, color: Pixel) -> Result<(), Memory>
 /// outside it.
 #[tactic(auto, unfolding(crate::specs::Gutters::parts_round))]
 pub(crate) fn fill_round(
-    ops: &mut List<Op>,
+    ops: &mut Vec<Op>,
     outer: &Rect,
     inner: &Rect,
     color: Pixel,
 ) -> Result<(), Memory>
     requires { Covers outer.now inner.now }
     ensures { OnOk result
-        (ops.new ≡ ops.old ++ flat_map (part_flat color) (parts_round outer.now inner.now)) }
+        (ops.new.items ≡ ops.old.items ++ flat_map (part_flat color) (parts_round outer.now inner.now)) }
 {
     // That the edges of both are within the limit is told by the test for points.
     let _ = outer.is_empty();
@@ -103,11 +103,11 @@ pub(crate) fn put_gutter(
     background: Pixel,
     place: &Place,
     inner: &Place,
-    ops: &mut List<Op>,
+    ops: &mut Vec<Op>,
 ) -> Result<(), Memory>
     requires { inner.now ≡ surface_place seen.now place.now }
     ensures { OnOk result
-        (ops.new ≡ ops.old ++ gutter_flat range.now background seen.now place.now) }
+        (ops.new.items ≡ ops.old.items ++ gutter_flat range.now background seen.now place.now) }
 {
     if seen.id() == range.end {
         return Ok(());

@@ -12,6 +12,7 @@ ghost use Rattle.vz_flat.specs.Ops.{value};
 ghost use Rattle.vz_flat.specs.Flat.{scene_flat};
 
 use crate::flattening::surface;
+use crate::put::grow;
 use crate::surface::surface_place;
 use crate::{Op, Ops};
 use std::alloc::Global;
@@ -25,11 +26,11 @@ use vz_walk::{Path, Place};
 
 /// Appends what is drawn of the root, in the part of the display in which it has points.
 #[tactic(auto, unfolding(crate::specs::Flat::scene_flat))]
-fn put_root(store: &Store, root: &SurfaceId, size: Size, ops: &mut List<Op>) -> Result<(), Memory>
+fn put_root(store: &Store, root: &SurfaceId, size: Size, ops: &mut Vec<Op>) -> Result<(), Memory>
     requires size { IsDisplaySize size }
     requires keeps { KeepsStored store.now }
     requires frames { KeepsFrames store.now }
-    ensures { OnOk result (ops.new ≡ ops.old
+    ensures { OnOk result (ops.new.items ≡ ops.old.items
         ++ scene_flat size (record { root = root.now; active = seen_frames store.now })) }
 {
     match store.frame_on(root) {
@@ -61,9 +62,10 @@ pub fn flatten(alloc: Global, store: &Store, root: &SurfaceId, size: Size) -> Re
     ensures painted { (p : Point) → has (sized size) p ≡ true → IfOk result (λ ops. value ops p black
         ≡ full (record { root = root.now; active = seen_frames store.now }) p) }
 {
-    let mut list = List::new(alloc);
-    put_root(store, root, size, &mut list)?;
-    match Ops::of(list) {
+    let mut ops = Vec::new(alloc);
+    grow(&mut ops)?;
+    put_root(store, root, size, &mut ops)?;
+    match Ops::of(List::from_vec(ops)) {
         Ok(ops) => Ok(ops),
         Err(_) => unreachable!(),
     }

@@ -9,7 +9,7 @@ ghost use Rattle.vz_flat.specs.Tiles.{first_texel, texels_flat};
 use crate::Op;
 use crate::put::put;
 use vz_base::Memory;
-use vz_frame::{Blend, List};
+use vz_frame::Blend;
 use vz_geom::{Point, Rect};
 use vz_pixels::{Pixel, PixelBlock};
 use vz_walk::Place;
@@ -50,7 +50,7 @@ pub(crate) fn block_at(blocks: &[PixelBlock], place: Option<usize>) -> Option<&P
 /// The operation of a tile whose texel `(tx, ty)` stands at its first point, of a block, or of
 /// transparent where there is none.
 pub(crate) fn put_tile(
-    ops: &mut List<Op>,
+    ops: &mut Vec<Op>,
     block: Option<&PixelBlock>,
     tx: u16,
     ty: u16,
@@ -59,7 +59,7 @@ pub(crate) fn put_tile(
     place: &Place,
 ) -> Result<(), Memory>
     requires { HasRoom 0 place.now.shift }
-    ensures { OnOk result (ops.new ≡ ops.old ++ texels_flat (option_copied block.entry)
+    ensures { OnOk result (ops.new.items ≡ ops.old.items ++ texels_flat (option_copied block.entry)
         (first_texel tx ty place.now) mode opacity place.now.window) }
 {
     let area = place.window();

@@ -73,11 +73,17 @@ in_area : (area : Rectangle) (i k : ℕ) → k < nat_abs area.h → i < nat_abs 
 in_area area i k low less wide high =
     of_in area (place_in area i k) (record { left = omega (arith, ints); right = omega (arith, ints, less, wide); top = omega (arith, ints); bottom = omega (arith, ints, low, high) })
 
+-- what stands on a ground does in an area what all that is seen there does on black
+pub record StandsOn (area : Rectangle) (chosen rest : List Op) (ground : Colour) : Type 0 where
+  pub same : (p : Point) → has area p ≡ true → value rest p ground ≡ value chosen p black
+  pub whole : is_whole rest ≡ is_whole chosen
+  pub deep : deepest 0 rest ≡ deepest 0 chosen
+
 -- all rows of an area, with the operations that are seen in it
-pub area_painted : (size : Size) (area : Rectangle) (ops chosen : List Op) (height : ℕ) (olds now : List Colour) → IsInside (sized size) area → is_whole ops ≡ true → chosen ≡ seen area 0 ops → height ≡ nat_abs area.h
-    → length olds ≡ pixel_count size → Paints size area (λ p. value chosen p black) 0 height olds now
+pub area_painted : (size : Size) (area : Rectangle) (ops chosen rest : List Op) (ground : Colour) (height : ℕ) (olds now : List Colour) → IsInside (sized size) area → is_whole ops ≡ true → chosen ≡ seen area 0 ops → StandsOn area chosen rest ground
+    → height ≡ nat_abs area.h → length olds ≡ pixel_count size → Paints size area (λ p. value rest p ground) 0 height olds now
     → now ≡ patched area (points_of size) (map (λ p. value ops p black) (points_of size)) olds
-area_painted size area ops chosen height olds now inside whole is tall all paints =
+area_painted size area ops chosen rest ground height olds now inside whole is stands tall all paints =
     let colour = λ (p : Point). value ops p black in
     let news = map colour (points_of size) in
     let high = inside.high in
@@ -89,12 +95,13 @@ area_painted size area ops chosen height olds now inside whole is tall all paint
     let same : 0 + k ≡ k = omega arith in
     let p = place_in area i (0 + k) in
     let there : has area p ≡ true = in_area area i (0 + k) (omega (arith, low, tall)) less wide high in
-    ap (λ l. value l p black) is ∙ seen_same area p there ops black whole)
+    stands.same p there ∙ (ap (λ l. value l p black) is ∙ seen_same area p there ops black whole))
     all
     (rows_begin size area news olds (all_points size colour) all))
 
-pub whole_is : (area : Rectangle) (ops chosen : List Op) → is_whole ops ≡ true → chosen ≡ seen area 0 ops → is_whole chosen ≡ true
-whole_is area ops chosen whole is = ap is_whole is ∙ seen_whole area ops whole
+pub whole_is : (area : Rectangle) (ops chosen rest : List Op) (ground : Colour) → is_whole ops ≡ true → chosen ≡ seen area 0 ops → StandsOn area chosen rest ground → is_whole rest ≡ true
+whole_is area ops chosen rest ground whole is stands = stands.whole ∙ (ap is_whole is ∙ seen_whole area ops whole)
 
-pub room_is : (area : Rectangle) (ops chosen : List Op) (most : ℕ) → chosen ≡ seen area 0 ops → most ≡ deepest 0 ops → deepest 0 chosen ≤ most
-room_is area ops chosen most is deep = subst (λ l. deepest 0 l ≤ most) (sym is) (subst (λ n. deepest 0 (seen area 0 ops) ≤ n) (sym deep) (seen_deepest area ops))
+pub room_is : (area : Rectangle) (ops chosen rest : List Op) (ground : Colour) (most : ℕ) → chosen ≡ seen area 0 ops → StandsOn area chosen rest ground → most ≡ deepest 0 ops → deepest 0 rest ≤ most
+room_is area ops chosen rest ground most is stands deep =
+    subst (λ n. n ≤ most) (sym (stands.deep ∙ ap (deepest 0) is)) (subst (λ n. deepest 0 (seen area 0 ops) ≤ n) (sym deep) (seen_deepest area ops))

@@ -5,7 +5,7 @@ use Rattle.std.specs.List.{list_all}
 use Rattle.std.proofs.lemmas.Bool.{and_parts, ltb-true}
 use Rattle.std.proofs.lemmas.List.{drop_more, get_or-replicate}
 use Rattle.vz_geom.specs.declared.Point.{Point}
-use Rattle.vz_pixels.specs.Colour.{Colour, transparent, black}
+use Rattle.vz_pixels.specs.Colour.{Colour, transparent}
 use Rattle.vz_flat.specs.declared.op.Op.{Op}
 use Rattle.vz_flat.specs.declared.op.Op.TheVariants.{Fill, Blit, Push, Pop}
 use Rattle.vz_flat.specs.declared.op.TheConstants.{MOST_OPEN}
@@ -16,19 +16,19 @@ use Rattle.vz_paint.specs.Row.{right_of}
 use Rattle.vz_paint.specs.Stack.{stack_at, AreRows, MayStand, open_after}
 
 -- after k operations: so many groups are open, and what is left makes of each place its value
-pub record IsDrawn (start : Point) (w : ℕ) (all : List Op) (most k : ℕ) (top : List Colour) (groups : List OpenGroup) (depth : ℕ) : Type 0 where
+pub record IsDrawn (ground : Colour) (start : Point) (w : ℕ) (all : List Op) (most k : ℕ) (top : List Colour) (groups : List OpenGroup) (depth : ℕ) : Type 0 where
   pub long : length top ≡ w
   pub rows : AreRows w groups
   pub count : length groups ≡ most
   pub nested : is_nested depth (drop k all) ≡ true
   pub inside : list_all is_inside (drop k all) ≡ true
   pub room : deepest depth (drop k all) ≤ most
-  pub same : (i : ℕ) → i < w → run (right_of start i) (drop k all) (stack_at start i depth groups) (get_or top i transparent) ≡ value all (right_of start i) black
+  pub same : (i : ℕ) → i < w → run (right_of start i) (drop k all) (stack_at start i depth groups) (get_or top i transparent) ≡ value all (right_of start i) ground
 
-pub begins : (start : Point) (w : ℕ) (all : List Op) (top : List Colour) (groups : List OpenGroup) → is_whole all ≡ true → deepest 0 all ≤ length groups → AreRows w groups → top ≡ replicate w black → length top ≡ w
-    → IsDrawn start w all (length groups) 0 top groups 0
+pub begins : (ground : Colour) (start : Point) (w : ℕ) (all : List Op) (top : List Colour) (groups : List OpenGroup) → is_whole all ≡ true → deepest 0 all ≤ length groups → AreRows w groups → top ≡ replicate w ground → length top ≡ w
+    → IsDrawn ground start w all (length groups) 0 top groups 0
 unfolding is_whole value
-begins start w all top groups whole room rows is long =
+begins ground start w all top groups whole room rows is long =
     let parts = and_parts (is_nested 0 all) (list_all is_inside all) whole in
     record {
       long = long;
@@ -37,7 +37,7 @@ begins start w all top groups whole room rows is long =
       nested = parts.0;
       inside = parts.1;
       room = room;
-      same = λ i low. ap (run (right_of start i) all []) (ap (λ l. get_or l i transparent) is ∙ get_or-replicate w i black transparent low);
+      same = λ i low. ap (run (right_of start i) all []) (ap (λ l. get_or l i transparent) is ∙ get_or-replicate w i ground transparent low);
     }
 
 split : (all : List Op) (k : ℕ) (op : Op) → k < length all → get_or all k op ≡ op → drop k all ≡ op ∷ drop (k + 1) all
@@ -65,7 +65,7 @@ still_room n most (Blit area block tx ty o m) rest e = e
 still_room n most (Push area o m) rest e = e
 still_room n most Pop rest e = omega (arith, e)
 
-module _ (start : Point) (w : ℕ) (all : List Op) (most k : ℕ) (top : List Colour) (groups : List OpenGroup) (depth : ℕ) (is : IsDrawn start w all most k top groups depth) (op : Op) (low : k < length all) (at : get_or all k op ≡ op) where
+module _ (ground : Colour) (start : Point) (w : ℕ) (all : List Op) (most k : ℕ) (top : List Colour) (groups : List OpenGroup) (depth : ℕ) (is : IsDrawn ground start w all most k top groups depth) (op : Op) (low : k < length all) (at : get_or all k op ≡ op) where
   pub inside_next : is_inside op ≡ true
   inside_next =
       let e : list_all is_inside (op ∷ drop (k + 1) all) ≡ true = ap (list_all is_inside) (sym (split all k op low at)) ∙ is.inside in
@@ -86,7 +86,7 @@ module _ (start : Point) (w : ℕ) (all : List Op) (most k : ℕ) (top : List Co
 
   pub next : (now : List Colour) (then_groups : List OpenGroup) (now_open : ℕ) → now_open ≡ open_after depth op → length now ≡ length top → length then_groups ≡ length groups → AreRows (length top) then_groups
       → ((i : ℕ) (rest : List Op) → i < length top → run (right_of start i) (op ∷ rest) (stack_at start i depth groups) (get_or top i transparent) ≡ run (right_of start i) rest (stack_at start i now_open then_groups) (get_or now i transparent))
-      → IsDrawn start w all most (k + 1) now then_groups now_open
+      → IsDrawn ground start w all most (k + 1) now then_groups now_open
   next now then_groups now_open after long count rows drawn =
       let parts = split all k op low at in
       let e : list_all is_inside (op ∷ drop (k + 1) all) ≡ true = ap (list_all is_inside) (sym parts) ∙ is.inside in
@@ -102,8 +102,8 @@ module _ (start : Point) (w : ℕ) (all : List Op) (most k : ℕ) (top : List Co
             ∙ (ap (λ l. run (right_of start i) l (stack_at start i depth groups) (get_or top i transparent)) (sym parts) ∙ is.same i less);
       }
 
-pub ends : (start : Point) (w : ℕ) (all : List Op) (most k : ℕ) (top : List Colour) (groups : List OpenGroup) (depth : ℕ) → IsDrawn start w all most k top groups depth → length all ≤ k
-    → (i : ℕ) → i < w → get_or top i transparent ≡ value all (right_of start i) black
+pub ends : (ground : Colour) (start : Point) (w : ℕ) (all : List Op) (most k : ℕ) (top : List Colour) (groups : List OpenGroup) (depth : ℕ) → IsDrawn ground start w all most k top groups depth → length all ≤ k
+    → (i : ℕ) → i < w → get_or top i transparent ≡ value all (right_of start i) ground
 unfolding run
-ends start w all most k top groups depth is done i low =
+ends ground start w all most k top groups depth is done i low =
     ap (λ l. run (right_of start i) l (stack_at start i depth groups) (get_or top i transparent)) (sym (all_dropped all k done)) ∙ is.same i low

@@ -5,3 +5,5 @@ pub mod Drawing
 pub mod Chosen
 pub mod Painted
 pub mod Banded
+pub mod Grounded
+pub mod Opaque_texels

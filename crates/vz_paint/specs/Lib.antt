@@ -1,3 +1,4 @@
 pub mod Row
 pub mod Stack
 pub mod Choice
+pub mod Ground

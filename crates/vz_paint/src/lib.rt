@@ -2,6 +2,7 @@
 #![tactic(auto)]
 
 mod choice;
+mod ground;
 mod group;
 mod painting;
 mod row;

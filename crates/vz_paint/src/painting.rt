@@ -13,6 +13,7 @@ ghost use Rattle.vz_paint.specs.Row.{place_in};
 ghost use Rattle.vz_paint.specs.Stack.{AreRows};
 
 use crate::choice::choose;
+use crate::ground::{behind, ground_of};
 use crate::group::OpenGroup;
 use crate::row::draw_row;
 use std::alloc::Global;
@@ -37,10 +38,11 @@ fn row_start(area: &Rect, below: u32) -> Point
 }
 
 /// Paints the row of an area that is `below` its first one with a colour for each point, which is
-/// what the operations give it. Conditions: the area is inside, the operations are whole, and
+/// what the operations make of the ground. Conditions: the area is inside, the operations are whole, and
 /// there is a row for each group that they open at once.
 fn paint_row<L: Ledger>(
     ops: &[&Op],
+    ground: Pixel,
     area: &Rect,
     below: u32,
     top: &mut Vec<Pixel>,
@@ -59,7 +61,7 @@ fn paint_row<L: Ledger>(
     ensures size { buffer.new.size ≡ buffer.old.size }
     ensures painted { (colour : Place → Colour)
         → ((i : ℕ) → i < nat_abs area.now.w
-        → value (map (λ r. r.now) ops.now) (place_in area.now i below) black
+        → value (map (λ r. r.now) ops.now) (place_in area.now i below) ground
         ≡ colour (place_in area.now i below))
         → buffer.new.pixels ≡ patched (row_of area.now below) (points_of buffer.old.size)
         (map colour (points_of buffer.old.size)) buffer.old.pixels }
@@ -69,7 +71,7 @@ fn paint_row<L: Ledger>(
     ensures rows { AreRows (length top.old.items) groups.new }
 {
     let start = row_start(area, below);
-    draw_row(ops, start, top, groups);
+    draw_row(ops, ground, start, top, groups);
     buffer.put_span(start.x, start.y, top.as_slice(), steps);
 }
 
@@ -83,6 +85,7 @@ struct Band {
 /// Paints a band of an area row by row. Conditions: those of a row.
 fn paint_band<L: Ledger>(
     ops: &[&Op],
+    ground: Pixel,
     area: &Rect,
     band: Band,
     top: &mut Vec<Pixel>,
@@ -102,7 +105,7 @@ fn paint_band<L: Ledger>(
     ensures canvas { length buffer.new.pixels ≡ pixel_count buffer.old.size }
     ensures painted { (colour : Place → Colour) (olds : List Colour)
         → ((k i : ℕ) → k < band.count → i < nat_abs area.now.w
-        → value (map (λ r. r.now) ops.now) (place_in area.now i (band.from + k)) black
+        → value (map (λ r. r.now) ops.now) (place_in area.now i (band.from + k)) ground
         ≡ colour (place_in area.now i (band.from + k)))
         → length olds ≡ pixel_count buffer.old.size
         → buffer.old.pixels ≡ patched (first_rows area.now band.from) (points_of buffer.old.size)
@@ -115,7 +118,16 @@ fn paint_band<L: Ledger>(
     ensures rows { AreRows (length top.old.items) groups.new }
 {
     for k in 0..band.count {
-        paint_row(ops, area, band.from + k, top, groups, buffer, steps);
+        paint_row(
+            ops,
+            ground,
+            area,
+            band.from + k,
+            top,
+            groups,
+            buffer,
+            steps,
+        );
     }
 }
 
@@ -135,12 +147,29 @@ fn height(area: &Rect) -> u32
     area.h().unsigned_abs()
 }
 
+/// So many groups have places at least, where there is one.
+const FEW_GROUPS: usize = 4;
+
+/// So many operations have places at least, where there is one.
+const FEW_OPS: usize = 16;
+
+/// How many places are made where so many are wanted: at least a few, if any. So most lists are of
+/// one size, and take the memory that the one before them gave back.
+fn places(wanted: usize, few: usize) -> usize
+    ensures { wanted ≤ result }
+{
+    if wanted == 0 || few < wanted {
+        return wanted;
+    }
+    few
+}
+
 /// A row for each of so many groups.
 fn group_rows(alloc: Global, count: u32, width: usize) -> Result<Vec<OpenGroup>, Memory>
     ensures count { IfOk result (λ v. length v.items ≡ count) }
     ensures rows { IfOk result (λ v. AreRows width v.items) }
 {
-    let mut groups = Vec::with_capacity(alloc, count as usize)?;
+    let mut groups = Vec::with_capacity(alloc, places(count as usize, FEW_GROUPS))?;
     for _ in 0..count {
         groups.push_reserved(OpenGroup::new(alloc, width)?);
     }
@@ -170,14 +199,17 @@ fn paint_area<L: Ledger>(
     let mut top = vec![in alloc; Pixel::black(); columns]?;
     let mut groups = group_rows(alloc, ops.deepest(), columns)?;
     let list = ops.as_slice();
-    let mut chosen = Vec::with_capacity(alloc, list.len())?;
+    let mut chosen = Vec::with_capacity(alloc, places(list.len(), FEW_OPS))?;
     choose(list, area, &mut chosen);
+    let shown = chosen.as_slice();
+    let ground = ground_of(shown, area);
     let band = Band {
         from: 0,
         count: height(area),
     };
     paint_band(
-        &chosen,
+        behind(shown, ground.drawn),
+        ground.color,
         area,
         band,
         &mut top,

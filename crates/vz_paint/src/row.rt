@@ -1,7 +1,7 @@
 //! Operations in one row.
 ghost use Rattle.std.specs.Prelude.{◌≡◌, ◌≤◌, ◌<◌, ◌∷◌, ℕ, List, length, map, get_or, replicate, true};
 ghost use Rattle.vz_base.specs.declared.limits.TheConstants.{GREATEST_DISPLAY_SIDE};
-ghost use Rattle.vz_pixels.specs.Colour.{transparent, black};
+ghost use Rattle.vz_pixels.specs.Colour.{transparent};
 ghost use Rattle.vz_flat.specs.declared.op.Op.{Op as Step};
 ghost use Rattle.vz_flat.specs.Ops.{run, value, is_inside, is_whole, deepest};
 ghost use Rattle.vz_paint.specs.Row.{right_of, IsStart};
@@ -82,16 +82,22 @@ fn draw(
     }
 }
 
-/// Makes a row opaque black.
-fn blacken(top: &mut Vec<Pixel>)
-    ensures { top.new.items ≡ replicate (length top.old.items) black }
+/// Makes a row one colour.
+fn level(top: &mut Vec<Pixel>, ground: Pixel)
+    ensures { top.new.items ≡ replicate (length top.old.items) ground }
 {
-    top.fill(Pixel::black());
+    top.fill(ground);
 }
 
-/// Draws operations in a row, on opaque black. Conditions: they are whole, and there is a row for
+/// Draws operations in a row, on one colour. Conditions: they are whole, and there is a row for
 /// each group that they open at once.
-pub(crate) fn draw_row(ops: &[&Op], start: Point, top: &mut Vec<Pixel>, groups: &mut [OpenGroup])
+pub(crate) fn draw_row(
+    ops: &[&Op],
+    ground: Pixel,
+    start: Point,
+    top: &mut Vec<Pixel>,
+    groups: &mut [OpenGroup],
+)
     requires start { IsStart start }
     requires short { length top.old.items ≤ GREATEST_DISPLAY_SIDE }
     requires rows { AreRows (length top.old.items) groups.old }
@@ -101,9 +107,9 @@ pub(crate) fn draw_row(ops: &[&Op], start: Point, top: &mut Vec<Pixel>, groups: 
     ensures count { length groups.new ≡ length groups.old }
     ensures rows { AreRows (length top.old.items) groups.new }
     ensures painted { (i : ℕ) → i < length top.old.items → get_or top.new.items i transparent
-        ≡ value (map (λ r. r.now) ops.now) (right_of start i) black }
+        ≡ value (map (λ r. r.now) ops.now) (right_of start i) ground }
 {
-    blacken(top);
+    level(top, ground);
     let mut depth = 0;
     for op in ops {
         depth = draw(op, start, top, groups, depth);

@@ -1,8 +1,10 @@
 //! Which part of a row an area has, and colours that are laid there.
-ghost use Rattle.std.specs.Prelude.{true, ◌-ℤ◌, ◌+◌, ◌*◌, take, drop, ◌≡◌, ◌≤◌, ◌<◌, ◌<ℤ◌, ◌≤ℤ◌, ◌+ℤ◌, pos, int_le, nat_le, nat_lt, ◌&&◌, ℕ, length, map, get_or, if◌then◌else◌, IsTrue, Some};
+ghost use Rattle.std.specs.Prelude.{true, ◌==◌, ◌-ℤ◌, ◌+◌, ◌*◌, take, drop, ◌≡◌, ◌≤◌, ◌<◌, ◌<ℤ◌, ◌≤ℤ◌, ◌+ℤ◌, pos, int_le, nat_le, nat_lt, ◌&&◌, ℕ, length, map, get_or, if◌then◌else◌, IsTrue, Some};
 ghost use Rattle.vz_base.specs.declared.limits.TheConstants.{GREATEST_DISPLAY_SIDE, GREATEST_BLOCK_SIDE};
 ghost use Rattle.vz_geom.specs.Rectangle.{has, plus, minus, corner};
-ghost use Rattle.vz_pixels.specs.Colour.{transparent};
+ghost use Rattle.vz_pixels.specs.Colour.{transparent, scale};
+ghost use Rattle.std.specs.List.{list_all};
+ghost use Rattle.vz_frame.specs.declared.blend.Blend.TheVariants.{Over};
 ghost use Rattle.vz_frame.specs.Blending.{blend, laid};
 ghost use Rattle.vz_rules.specs.Paint.{texel_of};
 ghost use Rattle.vz_flat.specs.Ops.{is_inside};
@@ -78,6 +80,16 @@ fn mix(row: &mut [Pixel], source: &[Pixel], opacity: u8, mode: Blend)
     }
 }
 
+/// A colour by an opacity: at the full one it is the colour itself.
+pub(crate) fn shade(color: Pixel, opacity: u8) -> Pixel
+    ensures { result ≡ scale color opacity }
+{
+    if opacity == 255 {
+        return color;
+    }
+    color.scale(opacity)
+}
+
 /// Lays one colour, by an opacity, where an area has a point of a row.
 pub(crate) fn fill(
     row: &mut [Pixel],
@@ -95,7 +107,7 @@ pub(crate) fn fill(
         else get_or row.old i transparent) }
 {
     let here = span_of(area, start, row.len());
-    tint(&mut row[here.from..here.to], color.scale(opacity), mode);
+    tint(&mut row[here.from..here.to], shade(color, opacity), mode);
 }
 
 /// Lays each colour of another row, by an opacity, where an area has the point.
@@ -122,6 +134,43 @@ pub(crate) fn lay(
         opacity,
         mode,
     );
+}
+
+/// So many texels are looked at, as it costs less than to mix them.
+const FEW: usize = 16;
+
+/// Whether all colours are opaque.
+fn are_opaque(source: &[Pixel]) -> bool
+    ensures { result ≡ list_all (λ c. c.a == 255) source.now }
+{
+    source.iter().all(|c| c.a() == 255)
+}
+
+/// Whether texels, by an opacity, hide what they are laid on. It is tried of few alone.
+fn do_hide(source: &[Pixel], opacity: u8, mode: Blend) -> bool
+    ensures { result ≡ true
+        → (mode ≡ Over) × (opacity ≡ 255) × (list_all (λ c. c.a == 255) source.now ≡ true) }
+{
+    if opacity != 255 || source.len() > FEW {
+        return false;
+    }
+    match mode {
+        Blend::Over => are_opaque(source),
+        Blend::Src => false,
+        Blend::DstIn => false,
+    }
+}
+
+/// Lays each texel, by an opacity, on the colour at its place: few opaque ones are copied.
+fn print(row: &mut [Pixel], source: &[Pixel], opacity: u8, mode: Blend)
+    requires { length row.old ≡ length source.now }
+    ensures { row.new ≡ zip2 (λ s d. laid mode s opacity d) source.now row.old }
+{
+    if do_hide(source, opacity, mode) {
+        row.copy_from_slice(source);
+        return;
+    }
+    mix(row, source, opacity, mode);
 }
 
 /// A texel of a block.
@@ -207,5 +256,5 @@ pub(crate) fn blit(
     let p = right_of(start, here.from);
     let at = texel_at(block, p, area, tx, ty);
     let source = texels(block, at, here.to - here.from);
-    mix(&mut row[here.from..here.to], source, opacity, mode);
+    print(&mut row[here.from..here.to], source, opacity, mode);
 }

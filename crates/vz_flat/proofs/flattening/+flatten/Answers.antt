@@ -35,13 +35,13 @@ Flattener::named-returns t c =
     let within : c.args.k < length c.passes.result.now = subst (λ l. c.args.k < length l) (sym own) c.requires.there in
     let there = pass_there s.seen c.passes.result.now c.args.k c.index-passes-k.result own within c.index-passes-k.is in
     c.in_ok-group.ensures
-    ∙ ap (λ l. c.args.ops.now ++ l)
+    ∙ ap (λ l. c.args.ops.now.items ++ l)
     (ap (group_here s (earlier_of s c.args.k) c.index-passes-k.result c.args.mode c.args.opacity) c.inside-inner.ensures
     ∙ ap (group_in s c.args.k c.args.mode c.args.opacity c.args.place.now) (sym there))
 
 pub Flattener::pass-loop-n-init : goal.Flattener::pass-loop-n-init
 Flattener::pass-loop-n-init t c =
-    (omega arith, none_yet c.args.self.now (earlier_of c.args.self.now c.args.k) c.args.pass.now c.args.place.now c.as_slice-quads.result.now c.args.ops.now)
+    (omega arith, none_yet c.args.self.now (earlier_of c.args.self.now c.args.k) c.args.pass.now c.args.place.now c.as_slice-quads.result.now c.args.ops.now.items)
 
 pub Flattener::pass-loop-n-preserved : goal.Flattener::pass-loop-n-preserved
 Flattener::pass-loop-n-preserved t c =
@@ -49,7 +49,7 @@ Flattener::pass-loop-n-preserved t c =
     let low = i.0 in (
       omega (arith, low),
       one_more c.args.self.now (earlier_of c.args.self.now c.args.k) c.args.pass.now c.args.place.now c.as_slice-quads.result.now c.loop-n.n c.index-quads-n.result
-          c.args.ops.now c.loop-n.ops c.quad.new.ops
+          c.args.ops.now.items c.loop-n.ops.items c.quad.new.ops.items
           c.loop-n-test.true i.0 c.index-quads-n.is i.1 c.in_ok-quad.ensures,
     )
 
@@ -84,7 +84,7 @@ Flattener::material-returns-in_ok-put_tile-in-Tile t c =
     let blocks = c.as_slice-blocks.ensures
     ∙ (ap (λ (h : Held). h.blocks) c.held.ensures ∙ ap (λ (stand : Stand). stand.seen.blocks) c.self.view_is) in
     c.in_ok-put_tile-in-Tile.ensures
-    ∙ ap (λ l. c.args.ops.now ++ l)
+    ∙ ap (λ l. c.args.ops.now.items ++ l)
     (tile_drawn s.seen (passes_in s (earlier_of s c.args.k)) (ranges_of s) c.args.quad.now c.args.place.now c.args.k _ _ _ c.args.leads_to _ c.in-Tile.is
     c.requires.named (c.block_at-block.ensures ∙ ap (block_at c.args.leads_to) blocks))
 
@@ -92,16 +92,16 @@ pub Flattener::material-returns-in-None : goal.Flattener::material-returns-in-No
 Flattener::material-returns-in-None t c =
     let s = c.args.self.now in
     sym
-    (ap (λ l. c.args.ops.now ++ l)
+    (ap (λ l. c.args.ops.now.items ++ l)
     (sym (name_drawn s c.args.k c.in-Pass.field-0 c.args.quad.now c.args.place.now c.args.leads_to c.requires.there c.in-Pass.is c.requires.named)
     ∙ ap (group_at s c.args.quad.now.blend c.args.quad.now.opacity c.args.place.now) c.in-None.is)
-    ∙ append-nil c.args.ops.now)
+    ∙ append-nil c.args.ops.now.items)
 
 pub Flattener::material-returns-in_ok-named-in-Some : goal.Flattener::material-returns-in_ok-named-in-Some
 Flattener::material-returns-in_ok-named-in-Some t c =
     let s = c.args.self.now in
     c.in_ok-named-in-Some.ensures
-    ∙ ap (λ l. c.args.ops.now ++ l)
+    ∙ ap (λ l. c.args.ops.now.items ++ l)
     (ap (group_at s c.args.quad.now.blend c.args.quad.now.opacity c.args.place.now) (sym c.in-Some.is)
     ∙ name_drawn s c.args.k c.in-Pass.field-0 c.args.quad.now c.args.place.now c.args.leads_to c.requires.there c.in-Pass.is c.requires.named)
 
@@ -126,11 +126,11 @@ surface-pass-requires t c =
 
 pub surface-returns-then-count-eq0 : goal.surface-returns-then-count-eq0
 surface-returns-then-count-eq0 t c =
-    no_passes c.args.levels (seen_frames c.args.store.now) (ids c.args.path.now) c.args.seen.now c.args.place.now c.passes-passes.result.now c.args.ops.now
+    no_passes c.args.levels (seen_frames c.args.store.now) (ids c.args.path.now) c.args.seen.now c.args.place.now c.passes-passes.result.now c.args.ops.now.items
     c.passes-passes.ensures.own c.if-count-eq0.true
 
 pub surface-returns : goal.surface-returns
 surface-returns t c =
     surface_is c.args.levels _ _ c.args.seen.now c.id.result c.args.place.now c.passes-passes.result.now (length c.passes-passes.result.now - 1)
-    c.index-passes-last.result c.args.ops.now c.pass.new.ops
+    c.index-passes-last.result c.args.ops.now.items c.pass.new.ops.items
     c.if-levels-eq0.false c.id.ensures c.passes-passes.ensures.own (omega (arith, c.if-count-eq0.false)) c.index-passes-last.is c.in_ok-pass.ensures

@@ -36,7 +36,7 @@ decreases-Flattener::group l = l.self.now.levels * wide + 8 * l.k + 7
 -- the quads from n on are appended
 abbrev pub invariant-Flattener::pass-loop-n : goal.invariant-Flattener::pass-loop-n
 invariant-Flattener::pass-loop-n l =
-    (l.n ≤ length l.quads) × (l.ops ≡ l.fn.ops ++ quads_here l.self (earlier_of l.self l.k) l.pass l.place (drop l.n l.quads))
+    (l.n ≤ length l.quads) × (l.ops.items ≡ l.fn.ops.items ++ quads_here l.self (earlier_of l.self l.k) l.pass l.place (drop l.n l.quads))
 
 abbrev pub decreases-Flattener::pass-loop-n : goal.decreases-Flattener::pass-loop-n
 decreases-Flattener::pass-loop-n l = l.n

@@ -12,16 +12,16 @@ surface-requires-clause-whole c =
 
 pub returns-then-is_empty : goal.returns-then-is_empty
 returns-then-is_empty c =
-    nothing_drawn c.args.size c.args.store.now c.args.root.now c.args.ops.now c.in-Some.seen c.surface_place-place.result c.whole.result c.window.result
+    nothing_drawn c.args.size c.args.store.now c.args.root.now c.args.ops.now.items c.in-Some.seen c.surface_place-place.result c.whole.result c.window.result
     (sym c.frame_on.ensures ∙ c.in-Some.is)
     c.whole.ensures c.surface_place-place.ensures c.window.ensures (sym c.is_empty.ensures.value ∙ c.if-is_empty.true)
 
 pub returns-in-None : goal.returns-in-None
-returns-in-None c = none_drawn c.args.size c.args.store.now c.args.root.now c.args.ops.now (sym c.frame_on.ensures ∙ c.in-None.is)
+returns-in-None c = none_drawn c.args.size c.args.store.now c.args.root.now c.args.ops.now.items (sym c.frame_on.ensures ∙ c.in-None.is)
 
 pub returns-in_ok-surface-in-Some : goal.returns-in_ok-surface-in-Some
 returns-in_ok-surface-in-Some c =
-    root_drawn c.args.size c.args.store.now c.args.root.now c.args.ops.now c.surface.new.ops c.in-Some.seen c.surface_place-place.result c.whole.result c.window.result
+    root_drawn c.args.size c.args.store.now c.args.root.now c.args.ops.now.items c.surface.new.ops.items c.in-Some.seen c.surface_place-place.result c.whole.result c.window.result
     (sym c.frame_on.ensures ∙ c.in-Some.is)
     c.whole.ensures c.surface_place-place.ensures c.window.ensures
     (sym c.is_empty.ensures.value ∙ c.if-is_empty.false) c.in_ok-surface-in-Some.ensures

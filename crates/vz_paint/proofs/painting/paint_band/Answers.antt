@@ -1,6 +1,6 @@
 use Rattle.std.proofs.Common.{◌≡◌, ◌+◌, ◌∙◌, map, length, nat_abs, subst, sym, ap, Bor}
 use Rattle.vz_geom.specs.declared.Point.{Point}
-use Rattle.vz_pixels.specs.Colour.{Colour, black}
+use Rattle.vz_pixels.specs.Colour.{Colour}
 use Rattle.vz_flat.specs.Ops.{value}
 use Rattle.vz_paint.specs.Stack.{AreRows}
 use Rattle.vz_paint.proofs.Banded.{row_more, row_long, count_more, moved_row}
@@ -12,7 +12,7 @@ loop-k-preserved g c =
     let l = c.loop-k in
     let i = l.invariant in
     let e = c.paint_row.ensures in
-    let v : Point → Colour = λ p. value (map (λ r. r.now) a.ops.now) p black in
+    let v : Point → Colour = λ p. value (map (λ r. r.now) a.ops.now) p a.ground in
     let row = moved_row a.buffer.now.size l.buffer.size a.area.now v (a.band.from + l.k) l.buffer.pixels c.paint_row.new.buffer.pixels i.same e.painted in
     record {
       same = e.size ∙ i.same;

@@ -46,8 +46,8 @@ texels-source-requires-clause-across c =
     let fits = fits_block a.area.now a.block.now (record { x = a.tx.now; y = a.ty.now }) a.start a.opacity a.mode (length a.row.now) here.from here.to c.if-here.false e.most e.exact c.requires.inside in
     across a.area.now a.block.now (record { x = a.tx.now; y = a.ty.now }) a.start c.right_of-p.result here.from here.to c.texel_at-at.result.column fits c.right_of-p.ensures c.texel_at-at.ensures.column
 
-pub mix-requires : goal.mix-requires
-mix-requires c =
+pub print-requires : goal.print-requires
+print-requires c =
     let a = c.args in
     let here = c.span_of-here.result in
     let e = c.span_of-here.ensures in
@@ -67,11 +67,11 @@ returns-clause-each c =
     let fits = fits_block a.area.now a.block.now (record { x = a.tx.now; y = a.ty.now }) a.start a.opacity a.mode (length a.row.now) here.from here.to c.if-here.false e.most e.exact c.requires.inside in
     let low = across a.area.now a.block.now (record { x = a.tx.now; y = a.ty.now }) a.start c.right_of-p.result here.from here.to c.texel_at-at.result.column fits c.right_of-p.ensures c.texel_at-at.ensures.column in
     let there = listed a.block.now c.texel_at-at.result.column c.texel_at-at.result.row (here.to - here.from) c.texels-source.ensures.counted low c.texel_at-at.ensures.inside in
-    mixed a.area.now a.start a.mode a.opacity here.from here.to a.row.now c.texels-source.result.now c.mix.new.row
+    mixed a.area.now a.start a.mode a.opacity here.from here.to a.row.now c.texels-source.result.now c.print.new.row
     (λ i. texel_of (Some a.block.now) (plus (minus (right_of a.start i) (corner a.area.now)) (record { x = a.tx.now; y = a.ty.now })))
     e.ordered e.most e.exact
     (ap length c.texels-source.ensures.value ∙ length_part transparent a.block.now.pixels _ (here.to - here.from) there)
     (λ i least less.
     ap (λ l. get_or l (i - here.from) transparent) c.texels-source.ensures.value
     ∙ texel_same a.area.now a.block.now (record { x = a.tx.now; y = a.ty.now }) a.start c.right_of-p.result here.from here.to c.texel_at-at.result.column c.texel_at-at.result.row fits c.right_of-p.ensures c.texel_at-at.ensures.column c.texel_at-at.ensures.row i least less)
-    c.mix.ensures
+    c.print.ensures
