@@ -5,6 +5,7 @@ pub mod Passing
 pub mod Standing
 pub mod Seeing
 pub mod Rooting
+pub mod Alike
 pub mod Weighing
 pub mod Sides
 pub mod Pairing

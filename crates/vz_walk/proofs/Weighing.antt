@@ -162,3 +162,13 @@ module _ {V : Type 0} (quads : V → ℕ) where
       not_false : (t : Bool) → not t ≡ false → t ≡ true
       not_false true e = refl
       not_false false e = absurd (cc)
+
+  -- the weight of all
+  pub weighs : (old new : V) (all : List Visit) → quads old ≡ 0 → Meets Has Stops true old new all → IsWeighed (quads new) all
+  weighs old new all e h = h.all old [] refl (subst (λ n. IsWeighed n []) (sym e) weighed_none)
+
+  -- too much
+  pub is_heavy : (old new : V) (all : List Visit) → quads old ≡ 0 → Meets Has Stops false old new all → too_much all ≡ true
+  is_heavy old new all e h =
+      let s = h.some old [] refl (subst (λ n. IsWeighed n []) (sym e) weighed_none) in
+      heavy_front s.front s.back all s.splits s.there

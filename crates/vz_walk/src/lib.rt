@@ -18,4 +18,4 @@ pub use place::{Place, display_rect, moved, nothing};
 pub use size::{frame_rect, inside_frame};
 pub use visitor::Visitor;
 pub use walker::walk;
-pub use weigher::Weigher;
+pub use weigher::{Weigher, weight};

@@ -1,12 +1,17 @@
 //! The weight of a walk.
 ghost use Rattle.std.specs.Prelude.{◌≡◌};
+ghost use Rattle.vz_geom.specs.declared.Size.{Size as AnySize};
+ghost use Rattle.vz_surfaces.specs.Keeping.{KeepsStored, KeepsFrames};
+ghost use Rattle.vz_walk.specs.Scenes.{walked_in};
+ghost use Rattle.vz_walk.specs.Weighing.{IsWeightOf};
 
 use crate::place::Place;
 use crate::visitor::Visitor;
+use crate::walker::walk;
 use vz_base::limits::{MOST_ON_PATH, MOST_WEIGHT};
-use vz_geom::Rect;
-use vz_ids::SurfaceRange;
-use vz_surfaces::Seen;
+use vz_geom::{Rect, Size};
+use vz_ids::{SurfaceId, SurfaceRange};
+use vz_surfaces::{Seen, Store};
 
 /// Counts quads, and stops where they or the surfaces of a path are too many: exactly where more
 /// than `MOST_WEIGHT` are met, or a path has more than `MOST_ON_PATH` surfaces.
@@ -45,5 +50,24 @@ impl Visitor for Weigher {
 
     fn enters(&mut self, depth: u32, _: &Seen<'_>, _: &Place) -> bool {
         depth <= MOST_ON_PATH as u32
+    }
+}
+
+/// The weight of what is on the root: how many quads a walk from it meets, with repetition, on a
+/// display of any size. None is the answer exactly where more than `MOST_WEIGHT` are met, or a
+/// path has more than `MOST_ON_PATH` surfaces. It takes no memory. Conditions: what always holds
+/// is kept, and the frames fit.
+///
+/// A drawing asks for it with what changed, in one walk.
+pub fn weight(store: &Store, root: &SurfaceId) -> Option<u32>
+    requires keeps { KeepsStored store.now }
+    requires frames { KeepsFrames store.now }
+    ensures { (size : AnySize) → IsWeightOf (walked_in size root.now store.now) result }
+{
+    let mut weigher = Weigher { quads: 0 };
+    if walk(store, root, Size { w: 1, h: 1 }, &mut weigher) {
+        Some(weigher.quads)
+    } else {
+        None
     }
 }
