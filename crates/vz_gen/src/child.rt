@@ -10,6 +10,9 @@ use vz_frame::{ClientFile, CompositorFrame, DrawQuad, List, Listing, Material, M
 use vz_geom::Rect;
 use vz_pixels::PixelBlock;
 
+/// How many messages a child sends in a round.
+const MESSAGES_IN_A_ROUND: usize = 4;
+
 /// The resource of a round.
 fn resource(r: u32) -> u32
     ensures { result ≡ resource_of r }
@@ -109,7 +112,7 @@ pub fn child_file(alloc: Global, n: u32, k: u32) -> Result<ClientFile, Memory>
     requires client { (2 ≤ k) × (k ≤ 3) }
     ensures { IfOk result (λ f. f ≡ child_file n k) }
 {
-    let mut messages = Vec::new(alloc);
+    let mut messages = Vec::with_capacity(alloc, MESSAGES_IN_A_ROUND * n as usize)?;
     for r in 0..n {
         add_round(alloc, k, r + 1, &mut messages)?;
     }
