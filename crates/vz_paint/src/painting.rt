@@ -118,16 +118,7 @@ fn paint_band<L: Ledger>(
     ensures rows { AreRows (length top.old.items) groups.new }
 {
     for k in 0..band.count {
-        paint_row(
-            ops,
-            ground,
-            area,
-            band.from + k,
-            top,
-            groups,
-            buffer,
-            steps,
-        );
+        paint_row(ops, ground, area, band.from + k, top, groups, buffer, steps);
     }
 }
 
