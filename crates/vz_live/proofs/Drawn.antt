@@ -1,7 +1,8 @@
 -- A drawing: what is answered, and what hangs on surfaces stands for the state that it leaves.
-use Rattle.std.proofs.Common.{◌≡◌, ℕ, ◌&&◌, Bool, true, false, Option, Some, None}
+use Rattle.std.proofs.Common.{◌≡◌, ◌&&◌, Bool, true, false, Option, Some, None}
 use Rattle.std.proofs.Common.{is_some, List, refl, ap, sym, ◌∙◌, subst, arith, cond, Contains}
 use Rattle.std.specs.Option.{option_map}
+use Rattle.std.specs.Prelude.{IfSome}
 use Rattle.vz_geom.specs.declared.Size.{Size}
 use Rattle.vz_geom.specs.Rectangle.{Rectangle, is_empty_rect}
 use Rattle.vz_ids.specs.declared.SurfaceId.{SurfaceId}
@@ -10,7 +11,7 @@ use Rattle.vz_rules.specs.declared.entry.Reply.TheVariants as reply
 use Rattle.vz_rules.specs.Plan.{Plan}
 use Rattle.vz_rules.specs.World.{World, Scene, FrameData, Submission, Aggregation, active_frames, frame_on}
 use Rattle.vz_rules.specs.Scene.{scene_of}
-use Rattle.vz_rules.specs.Walk.{Visit, walk_of, too_much}
+use Rattle.vz_rules.specs.Walk.{walk_of, too_much}
 use Rattle.vz_rules.specs.Damage.{aggregation_of, drawn_damage}
 use Rattle.vz_rules.specs.Messages.{Answer, says}
 use Rattle.vz_rules.specs.Step.{draw_answer, scene_answer, accepted_frames}
@@ -170,6 +171,10 @@ module _ (p : Plan) (w : World) (given : Option SurfaceId) (root : SurfaceId) (s
   seen_there g = subst (IsSeen p w root size) e (record { drawing = rooted_there; free = free_there; there = g })
 
 -- What a walk finds
+
+-- what holds of what is there
+pub there : {A : Type 0} (P : A → Type 0) (o : Option A) (x : A) → o ≡ Some x → IfSome o P → P x
+there P o x e h = subst (λ k. IfSome k P) e h
 
 module _ (p : Plan) (w : World) (root : SurfaceId) (size : Size) (v : Live) (h : IsSeen p w root size v) where
   pub heavy_there : too_much (walked_in size root v.store) ≡ true → draw_answer p w ≡ says reply.TooMuch w

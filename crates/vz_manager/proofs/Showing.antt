@@ -28,7 +28,7 @@ use Rattle.vz_waiting.specs.Awaiting.{AreWaiting}
 use Rattle.vz_flight.specs.Flying.{Flown}
 use Rattle.vz_live.specs.Living.{Live, AreLive}
 use Rattle.vz_live.specs.Landing.{flying_count}
-use Rattle.vz_live.specs.Drawing.{IsDrawing, IsShowing, Measures, Flies, Finds, Foretells}
+use Rattle.vz_live.specs.Drawing.{IsDrawing, Measures, Flies, Finds, Foretells}
 use Rattle.vz_live.specs.declared.looking.Look.{Look}
 use Rattle.vz_live.specs.declared.looking.Look.TheVariants as look
 use Rattle.vz_live.proofs.Drawn.{flightless}
@@ -227,13 +227,13 @@ answered_rootless p w v root l h is tells none = subst (Foretells p w root v.siz
 -- What a walk finds
 
 -- there is too much to be seen
-pub found_heavy : (p : Plan) (w : World) (root : SurfaceId) (v : Served) (o : Option (Measurement × List Flown))
+pub found_heavy : (p : Plan) (w : World) (root : SurfaceId) (v : Served) (o : Option (Measurement × List Flown)) → IsToMeasure p w root v
     → Finds p w root v.size v.settling.live o → o ≡ None → draw_answer p w ≡ says reply.TooMuch w
-found_heavy p w root v o h none = subst (Finds p w root v.size v.settling.live) none h
+found_heavy p w root v o h finds none = subst (Finds p w root v.size v.settling.live) none finds
 
 -- the drawing walks
 pub found_shows : (p : Plan) (w : World) (root : SurfaceId) (v : Served) (live : Live) (o : Option (Measurement × List Flown))
-    (found : Measurement × List Flown) → IsToMeasure p w root v → Finds p w root v.size v.settling.live o → o ≡ Some found
+    (both : Measurement × List Flown) → IsToMeasure p w root v → Finds p w root v.size v.settling.live o → o ≡ Some both
     → live ≡ v.settling.live → IsToShow p w root (measured_at v live)
-found_shows p w root v live o found h finds some same =
+found_shows p w root v live o both h finds some same =
     shows_measured p w root v live (record { serves = h.serves; shows = (subst (Finds p w root v.size v.settling.live) some finds).0 }) same

@@ -18,6 +18,7 @@ mod Storing_whole
 mod Ages
 mod Grouping
 mod Linking
+mod Retaining
 mod Pointing
 mod Shown
 mod Found_links

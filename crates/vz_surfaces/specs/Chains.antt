@@ -35,6 +35,10 @@ is_group a b = group_eq.it (key_of a) (key_of b)
 abbrev pub group_at : Groups → SurfaceId → Option Group
 group_at g id = lookup (group_eq.it (key_of id)) g.groups.entries
 
+-- a link of no surface
+abbrev pub no_link : Link
+no_link = record { id = record { sink = record { client_id = 0; sink_id = 0 }; local = record { parent = 0; child = 0; token = record { 0 = 0 } } }; key = 0 }
+
 -- the surfaces of a surface's group, with their keys
 abbrev pub links_at : Groups → SurfaceId → List Link
 links_at g id = option_map_or (λ (x : Group). x.chain.items) (group_at g id) []

@@ -8,6 +8,7 @@ ghost use Rattle.vz_surfaces.specs.Chains.{is_group, key_of, group_at, links_at,
 
 use crate::table::Table;
 use indexmap::IndexMap;
+use smallvec::SmallVec;
 use std::alloc::Global;
 use vz_base::Memory;
 use vz_ids::{EmbedToken, FrameSinkId, LocalSurfaceId, SurfaceId};
@@ -36,11 +37,38 @@ pub(crate) struct Link {
     pub(crate) key: usize,
 }
 
+impl Default for Link {
+    ghost use Rattle.vz_surfaces.specs.Chains.{no_link};
+
+    ghost is_default = { λ l. l ≡ no_link };
+
+    /// A link of no surface, for the places of a short list that are free.
+    fn default() -> Link {
+        Link {
+            id: SurfaceId {
+                sink: FrameSinkId {
+                    client_id: 0,
+                    sink_id: 0,
+                },
+                local: LocalSurfaceId {
+                    parent: 0,
+                    child: 0,
+                    token: EmbedToken(0),
+                },
+            },
+            key: 0,
+        }
+    }
+}
+
+/// So many surfaces of a group need no memory of their own.
+const FEW: usize = 2;
+
 /// The surfaces of a group that exist, each newer than those before it, and the newest surface
 /// that was ever active, whether it exists or not.
 #[derive(Drop)]
 pub(crate) struct Group {
-    chain: Vec<Link>,
+    chain: SmallVec<Link, FEW>,
     newest: Option<LocalSurfaceId>,
 }
 
@@ -58,7 +86,7 @@ pub(crate) fn is_at_least(id: &SurfaceId, than: &SurfaceId) -> bool
 }
 
 /// Puts a surface at the end.
-fn append(chain: &mut Vec<Link>, link: Link) -> Result<(), Memory>
+fn append(chain: &mut SmallVec<Link, FEW>, link: Link) -> Result<(), Memory>
     ensures ok { OnOk result (chain.new.items ≡ chain.old.items ++ link ∷ []) }
     ensures err { OnErr result (chain.new.items ≡ chain.old.items) }
 {
@@ -87,7 +115,7 @@ impl Groups {
         match self.groups.get_mut(&key) {
             Some(group) => append(&mut group.chain, link),
             None => {
-                let mut chain = Vec::new(alloc);
+                let mut chain = SmallVec::new(alloc);
                 append(&mut chain, link)?;
                 self.groups.insert(
                     key,
@@ -152,7 +180,7 @@ impl Groups {
     {
         match self.groups.get(&key_of(end)) {
             None => None,
-            Some(group) => last_active(up_to(&group.chain, end), table),
+            Some(group) => last_active(up_to(group.chain.as_slice(), end), table),
         }
     }
 
@@ -163,7 +191,7 @@ impl Groups {
     {
         match self.groups.get(&key_of(start)) {
             None => None,
-            Some(group) => last_active(&group.chain, table),
+            Some(group) => last_active(group.chain.as_slice(), table),
         }
     }
 }
@@ -187,7 +215,7 @@ fn differs(link: &Link, id: &SurfaceId) -> bool
 }
 
 /// A surface goes from the list.
-fn forget(chain: &mut Vec<Link>, id: &SurfaceId)
+fn forget(chain: &mut SmallVec<Link, FEW>, id: &SurfaceId)
     ensures { chain.new.items ≡ filter (λ (l : One). not (same_surface l.id id.now)) chain.old.items }
 {
     chain.retain(|link| differs(link, id));

@@ -1,7 +1,7 @@
 use Rattle.std.proofs.Common.{sym, ◌∙◌, subst}
-use Rattle.vz_live.specs.Drawing.{Measures, Flies}
+use Rattle.vz_live.specs.Drawing.{Measures}
 use Rattle.vz_live.proofs.Drawn.{reply_is}
-use Rattle.vz_manager.specs.Serving.{Served, Serves}
+use Rattle.vz_manager.specs.Serving.{Served}
 use Rattle.vz_manager.specs.Showing.{IsToShow}
 use Rattle.vz_manager.proofs.Showing.{on_err, step_unchanged, step_changed}
 use Rattle.vz_manager.proofs.Depicting.{answered_so, painted_so, unpainted}
@@ -19,8 +19,6 @@ returns-in_default-clause-picture c p w old = unpainted p w _ c.nothing_follows.
 
 pub returns-in_default-clause-serves : goal.returns-in_default-clause-serves
 returns-in_default-clause-serves c p w old =
-    let h = subst (IsToShow p w c.args.root.now) (sym c.self.view_is) old in
-    let m = subst (λ (v : Served). Measures c.args.root.now v.size v.settling.live c.args.measured) (sym c.self.view_is) c.requires.measured in
     c.leave.ensures.serves p w c.args.root.now old c.requires.measured (sym c.changed.ensures ∙ c.in_default.is)
 
 pub operations-requires : goal.operations-requires
