@@ -9,9 +9,8 @@ use Rattle.vz_manager.proofs.parts.Parts.draw_found.Goals as goal
 
 pub returns-in_default-clause-step : goal.returns-in_default-clause-step
 returns-in_default-clause-step c p w old =
-    let h = subst (IsToShow p w c.args.root.now) (sym c.self.view_is) old in
-    let m = subst (λ (v : Served). Measures c.args.root.now v.size v.settling.live c.args.measured) (sym c.self.view_is) c.requires.measured in
-    step_unchanged p w _ c.args.measured.changed h.serves.keeps (reply_is p w c.args.root.now _ _ h.shows c.args.measured m)
+    step_unchanged p w _ c.args.measured.changed old.serves.keeps
+    (reply_is p w c.args.root.now _ _ old.shows c.args.measured c.requires.measured)
     (sym c.changed.ensures ∙ c.in_default.is) c.nothing_follows.ensures.reply c.nothing_follows.ensures.effects
 
 pub returns-in_default-clause-picture : goal.returns-in_default-clause-picture
@@ -24,7 +23,7 @@ returns-in_default-clause-serves c p w old =
 pub operations-requires : goal.operations-requires
 operations-requires c =
     let x = c.requires.shows in
-    let h = subst (IsToShow x.0 x.1 c.args.root.now) (sym c.self.view_is) x.2 in
+    let h = subst (IsToShow x.0 x.1 c.args.root.now) (sym c.self-2.view_is) x.2 in
     record { shows = (x.0, x.1, h.shows) }
 
 pub show-requires : goal.show-requires
@@ -38,8 +37,8 @@ returns-in_err-show-clause-err c p w old = on_err c.from_residual-in_err-show.re
 pub picture_of-requires : goal.picture_of-requires
 picture_of-requires c =
     let x = c.requires.shows in
-    let h = subst (IsToShow x.0 x.1 c.args.root.now) (sym c.self.view_is) x.2 in
-    let m = subst (λ (v : Served). Measures c.args.root.now v.size v.settling.live c.args.measured) (sym c.self.view_is) c.requires.measured in
+    let h = subst (IsToShow x.0 x.1 c.args.root.now) (sym c.self-2.view_is) x.2 in
+    let m = subst (λ (v : Served). Measures c.args.root.now v.size v.settling.live c.args.measured) (sym c.self-2.view_is) c.requires.measured in
     record {
       answered = (
         x.0,
@@ -51,16 +50,16 @@ picture_of-requires c =
 
 pub returns-clause-step : goal.returns-clause-step
 returns-clause-step c p w old =
-    let h = subst (IsToShow p w c.args.root.now) (sym c.self.view_is) old in
-    let m = subst (λ (v : Served). Measures c.args.root.now v.size v.settling.live c.args.measured) (sym c.self.view_is) c.requires.measured in
+    let h = subst (IsToShow p w c.args.root.now) (sym c.self-2.view_is) old in
+    let m = subst (λ (v : Served). Measures c.args.root.now v.size v.settling.live c.args.measured) (sym c.self-2.view_is) c.requires.measured in
     step_changed p w _ c.args.measured.changed c.in-Some.damage h.serves.keeps
     (reply_is p w c.args.root.now _ _ h.shows c.args.measured m)
     (sym c.changed.ensures ∙ c.in-Some.is) c.nothing_follows-step.ensures.reply c.nothing_follows-step.ensures.effects
 
 pub returns-clause-picture : goal.returns-clause-picture
 returns-clause-picture c p w old =
-    let h = subst (IsToShow p w c.args.root.now) (sym c.self.view_is) old in
-    let m = subst (λ (v : Served). Measures c.args.root.now v.size v.settling.live c.args.measured) (sym c.self.view_is) c.requires.measured in
+    let h = subst (IsToShow p w c.args.root.now) (sym c.self-2.view_is) old in
+    let m = subst (λ (v : Served). Measures c.args.root.now v.size v.settling.live c.args.measured) (sym c.self-2.view_is) c.requires.measured in
     painted_so p w _ c.in-Some.damage _ c.nothing_follows-step.ensures.reply
     (c.picture_of.ensures.painted p w (answered_so p w c.args.root.now _ _ c.args.measured.changed c.in-Some.damage h.shows
     (reply_is p w c.args.root.now _ _ h.shows c.args.measured m) (sym c.changed.ensures ∙ c.in-Some.is))
