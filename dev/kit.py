@@ -11,12 +11,25 @@ sys.dont_write_bytecode = True
 KIT = Path(subprocess.run(["rt", "doc"], capture_output=True, text=True, check=True).stdout.strip()).parent
 
 
-def _load():
-    loader = importlib.machinery.SourceFileLoader("rtlib", str(KIT / "bin/rtlib.py"))
-    made = importlib.util.module_from_spec(importlib.util.spec_from_loader("rtlib", loader))
-    sys.modules["rtlib"] = made
+def load(name, path):
+    """A program of the kit as a module."""
+    loader = importlib.machinery.SourceFileLoader(name, str(path))
+    made = importlib.util.module_from_spec(importlib.util.spec_from_loader(name, loader))
+    sys.modules[name] = made
     loader.exec_module(made)
     return made
 
 
-rtlib = _load()
+def remember_stamps(crates):
+    """Has the sum of a crate's files and of all below made once, and not once for each path down to it."""
+    stamp, known = crates.stamp, {}
+
+    def once(crate):
+        if crate.folder not in known:
+            known[crate.folder] = stamp(crate)
+        return known[crate.folder]
+
+    crates.stamp = once
+
+
+rtlib = load("rtlib", KIT / "bin/rtlib.py")
