@@ -2,9 +2,10 @@
 use Rattle.std.proofs.Common.{◌≡◌, ℕ, suc, ◌+◌, ◌-◌, ◌<◌, ◌≤◌, Bool, true, false, ◌==◌, Option, Some, None, List, [], ◌∷◌, ◌++◌, length, drop, slice_index_or, option_to_list, nat_le, refl, ap, sym, subst, ◌∙◌, arith, cond}
 use Rattle.std.specs.List.{list_all}
 use Rattle.std.specs.List.Sorted.{IsPermutation, IsNonDecreasing}
+use Rattle.std.proofs.Common.{append-nil}
 use Rattle.std.proofs.lemmas.List.{append_assoc}
 use Rattle.std.proofs.lemmas.Bool.Decides.{nat_tests}
-use Rattle.std.proofs.lemmas.List.Sorted.{sum_by-IsPermutation}
+use Rattle.std.proofs.lemmas.List.Sorted.{sum_by-IsPermutation, IsPermutation-refl}
 use Rattle.vz_rules.specs.World.{World, Client}
 use Rattle.vz_rules.specs.Returns.{returns_of, queue_returns, give_back}
 use Rattle.vz_rules.specs.Kept.{AreRising}
@@ -129,6 +130,12 @@ given_in_order w c h xs ys up are moved order out new after grown is =
       grown ∙ ap (λ l. out ++ l) (returns_are w c h ys sorted up order),
       subst (λ x. AreCounts (give_back w) (queue_returns w c) x []) (sym is) (counts_after w c h ys sorted up order),
     )
+
+-- where nothing was released, nothing goes back
+pub none_given : (w : World) (c : Client) (h : Holding) → AreRising c.resources → AreCounts w c h [] → (out : List Returned)
+    → (out ≡ out ++ returns_of w c) × AreCounts (give_back w) (queue_returns w c) h []
+unfolding is_sorted
+none_given w c h up are out = given_in_order w c h [] [] up are (IsPermutation-refl []) refl out out h (sym (append-nil out)) refl
 
 pub none_less_all : (ids : List ℕ) (h : Holding) → is_rising h.counted ≡ true → Suffice ids h
     → length (release_all ids h).counted ≤ length h.counted

@@ -213,8 +213,9 @@ impl Lender {
     }
 
     /// Gives back what was released: each resource of which no reference is alive any more goes
-    /// back, by rising id, and then nothing is released. It takes no memory. Conditions: so many
-    /// references of each are alive, and `out` has room for all resources of which some is.
+    /// back, by rising id, and then nothing is released. Where nothing was, it looks at nothing
+    /// else. It takes no memory. Conditions: so many references of each are alive, and `out` has
+    /// room for all resources of which some is.
     pub(crate) fn give_back(&mut self, out: &mut Room<Returned>)
         requires suffice { Suffice self.old.released self.old.holding }
         requires room { length self.old.holding.counted ≤ out.old.spare }
@@ -229,6 +230,9 @@ impl Lender {
         ensures spare { self.old.spare ≤ self.new.spare }
         ensures places { self.old.places ≤ self.new.places }
     {
+        if self.released.is_empty() {
+            return;
+        }
         self.released.sort_unstable();
         give_back_all(&self.released, &mut self.holder, out);
         self.alive -= self.released.len();

@@ -204,6 +204,13 @@ front_marked s o st q h hm =
     ap (λ l. map (λ (x : Numbered). x.id) (filter (λ (x : Numbered). nat_le x.number (owner_at o q).marked_to) l)) (h.lists q)
     ∙ marks_front (owner_at o q).marked_to q st.surfaces (λ c p e. hm.marks c p ∙ ap (λ k. nat_le c.number (owner_at o k).marked_to) (eqb-true c.client q e))
 
+-- the numbers of a client's surfaces begin at 1
+pub numbers_begin : (s : Standing) (o : Owners) (st : Stored) (q : ℕ) → KeepsLists s st → KeepsMarks o st → (x : Numbered) → Contains (list_at s q) x → 1 ≤ x.number
+numbers_begin s o st q h hm x c =
+    let m = contains_map numbered_of (filter (λ (y : Created). (y.client == q) && not y.destroyed) st.surfaces) x (subst (λ l. Contains l x) (h.lists q) c) in
+    let f = filter_at (λ (y : Created). (y.client == q) && not y.destroyed) st.surfaces m.0 m.1 in
+    omega (arith, (hm.numbers m.0 f.0).0, ap (λ (y : Numbered). y.number) m.2)
+
 -- How many are marked
 
 marked_few : (q : ℕ) (ss : List Created) → length (filter (λ (s : Created). (s.client == q) && s.marked && not s.destroyed) ss) ≤ count_by (λ (s : Created). (s.client == q) && not s.destroyed) ss

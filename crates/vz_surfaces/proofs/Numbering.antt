@@ -61,3 +61,13 @@ front_filter p (x ∷ xs) zero h point =
 front_filter p (x ∷ xs) (suc n) h point =
     ap (λ l. x ∷ l) (front_filter p xs n (omega (arith, h)) ((λ k d l m. point.0 (suc k) d (omega (arith, l)) (omega (arith, m))), λ k d l m. point.1 (suc k) d (omega (arith, l)) (omega (arith, m))))
     ∙ ap (λ (t : Bool). cond t (x ∷ filter p xs) (filter p xs)) (sym (point.0 0 x (omega arith) (omega arith)))
+
+-- numbers from 1 on: none is up to 0
+pub none_up_to : (xs : List Numbered) (to : ℕ) → ((x : Numbered) → Contains xs x → 1 ≤ x.number) → to ≡ 0 → filter (λ (x : Numbered). nat_le x.number to) xs ≡ []
+none_up_to [] to h e = refl
+none_up_to (x ∷ xs) to h e =
+    ap (λ (t : Bool). cond t (x ∷ filter (λ (y : Numbered). nat_le y.number to) xs) (filter (λ (y : Numbered). nat_le y.number to) xs)) (above x.number to (h x (contains_here x xs)) e)
+    ∙ none_up_to xs to (λ y c. h y (contains_there x y xs c)) e
+  where
+    above : (n k : ℕ) → 1 ≤ n → k ≡ 0 → nat_le n k ≡ false
+    above n k l e = grind (arith, nat_tests)

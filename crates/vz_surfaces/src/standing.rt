@@ -1,5 +1,6 @@
 //! The surfaces of each client that exist, in the order of creation.
 ghost use Rattle.std.specs.Prelude.{◌≡◌, ◌≤◌, ◌<◌, ◌+◌, ◌++◌, ◌∷◌, ◌&&◌, [], ℕ, None, false, cond, not, filter, map, length, nat_le, nat_eq, vec_len, vec_capacity, IsTrue, OnOk};
+ghost use Rattle.std.specs.List.{Contains};
 ghost use Rattle.vz_ids.specs.Ids.{same_surface};
 ghost use Rattle.vz_surfaces.specs.declared.standing.Numbered.{Numbered as One};
 ghost use Rattle.vz_surfaces.specs.Numbers.{list_in, list_at, has_room, Rises};
@@ -109,10 +110,11 @@ impl Standing {
         }
     }
 
-    /// Appends the surfaces of a client up to a number. Conditions: numbers rise, and there is
-    /// room for them.
+    /// Appends the surfaces of a client up to a number; up to 0 there are none. Conditions: numbers
+    /// rise from 1 on, and there is room for them.
     pub(crate) fn put_to(&self, c: u32, to: u32, out: &mut Room<SurfaceId>)
         requires rise { Rises (list_at self.now c) }
+        requires first { (x : One) → Contains (list_at self.now c) x → 1 ≤ x.number }
         requires room { length (filter (λ (x : One). nat_le x.number to) (list_at self.now c))
             ≤ out.old.spare }
         ensures list { out.new.list ≡ out.old.list
@@ -121,6 +123,9 @@ impl Standing {
         ensures spare { out.old.spare ≡ out.new.spare
             + length (filter (λ (x : One). nat_le x.number to) (list_at self.now c)) }
     {
+        if to == 0 {
+            return;
+        }
         if let Some(row) = self.lists.get(&c) {
             put_all(up_to(&row.all, to), out);
         }

@@ -1,4 +1,5 @@
-use Rattle.std.proofs.Common.{rules, ◌≡◌, true, ap, sym, subst, ◌∙◌, length, arith}
+use Rattle.std.proofs.Common.{rules, ◌≡◌, true, [], ap, sym, subst, ◌∙◌, length, arith}
+use Rattle.std.proofs.lemmas.List.{nil_from_length}
 use Rattle.std.proofs.lemmas.List.Sorted.{IsNonDecreasingBy-from_sort, length_permutation}
 use Rattle.std.specs.List.Sorted.{IsPermutation}
 use Rattle.vz_returns.specs.Holding.{is_rising}
@@ -6,8 +7,24 @@ use Rattle.vz_returns.specs.Giving.{AreCounts, is_sorted}
 use Rattle.vz_returns.proofs.All_released.{rising_all}
 use Rattle.vz_lending.specs.Lent.{Suffice, all_alive}
 use Rattle.vz_lending.proofs.Totals.{no_more}
-use Rattle.vz_lending.proofs.Going_back.{fewer_alive, sorted_suffice, never_fall, given_in_order, none_less_all}
+use Rattle.vz_lending.proofs.Going_back.{fewer_alive, sorted_suffice, never_fall, given_in_order, none_given, none_less_all}
 use Rattle.vz_lending.proofs.lender.Lender.give_back.Goals as goal
+
+-- nothing was released: nothing goes back
+pub returns-then-is_empty-clause-given : goal.returns-then-is_empty-clause-given
+returns-then-is_empty-clause-given c = λ w d up are.
+    let h = c.args.self.now.holding in
+    let count : length c.self.inside.released.items ≡ 0 = search rules in
+    let none = nil_from_length c.self.inside.released.items count in
+    let counts : AreCounts w d h [] = subst (AreCounts w d h) (sym (ap (λ v. v.released) c.self.view_is) ∙ none) are in
+    none_given w d h up counts c.args.out.now.list
+
+pub give_back_all-requires-clause-suffice : goal.give_back_all-requires-clause-suffice
+give_back_all-requires-clause-suffice c =
+    let h = c.self.inside.holder.holding in
+    let ids = c.self.inside.released.items in
+    let moved : IsPermutation ids c.deref.result.now = subst (IsPermutation ids) (sym c.deref.ensures.value) c.sort_unstable.ensures.permutation in
+    sorted_suffice ids c.deref.result.now h moved (subst (λ v. Suffice v.released v.holding) (sym c.self.view_is) c.requires.suffice)
 
 pub overflow_sub-self : goal.overflow_sub-self
 overflow_sub-self c =

@@ -3,11 +3,16 @@ use Rattle.vz_surfaces.specs.Stored.{Stored}
 use Rattle.vz_surfaces.specs.Told.{stored}
 use Rattle.vz_surfaces.specs.Reading.{existing_count, marked_to}
 use Rattle.vz_surfaces.specs.declared.owners.Owner.{Owner}
-use Rattle.vz_surfaces.proofs.Listing.{put_fits, put_more, put_left, put_none}
+use Rattle.vz_surfaces.proofs.Listing.{numbers_begin, put_fits, put_more, put_left, put_none}
 use Rattle.vz_surfaces.proofs.store.Store.marked.Goals as goal
 
 pub put_to-requires-clause-rise : goal.put_to-requires-clause-rise
 put_to-requires-clause-rise c = c.self.invariant.1.rise (c.loop-k.k + 1)
+
+pub put_to-requires-clause-first : goal.put_to-requires-clause-first
+put_to-requires-clause-first c =
+    let inside = c.self.inside in
+    numbers_begin inside.standing inside.owners (stored inside.told) (c.loop-k.k + 1) c.self.invariant.1 c.self.invariant.0.marks
 
 pub put_to-requires-clause-room : goal.put_to-requires-clause-room
 put_to-requires-clause-room c =
