@@ -104,7 +104,8 @@ impl Clients {
 
     /// Whether a closed client has this sink.
     pub fn is_gone(&self, sink: &FrameSinkId) -> bool
-        ensures { result ≡ list_any (λ (s : Sender). s.closed && same_sink s.sink sink.now) self.now }
+        ensures { result
+            ≡ list_any (λ (s : Sender). s.closed && same_sink s.sink sink.now) self.now }
     {
         self.list
             .iter()

@@ -42,8 +42,8 @@ pub fn clients_follow()
         → client_at w x.number ≡ Some x → in_use x.resources id ≡ false
         → ChangesOne x.number (λ s. storing_block id block (taking_one s)) old new
         → AreSenders p (upload_answer w x id block).world new }
-    ensures noted { (p : Plan) (w : World) (x : Client) (n : ℕ) (old new : List Sender) → KeepsClients w.clients
-        → AreSenders p w old → client_at w x.number ≡ Some x
+    ensures noted { (p : Plan) (w : World) (x : Client) (n : ℕ) (old new : List Sender)
+        → KeepsClients w.clients → AreSenders p w old → client_at w x.number ≡ Some x
         → ChangesOne x.number (λ s. answered_by w.tick n (taking_one s)) old new
         → AreSenders p (taking (answer_tick w.tick n) x w) new }
     ensures accepted { (p : Plan) (w : World) (x : Client) (local : LocalSurfaceId)
@@ -51,8 +51,8 @@ pub fn clients_follow()
         → AreSenders p w old → client_at w x.number ≡ Some x
         → ChangesOne x.number (λ s. answered_by w.tick frame.metadata.ack (taking_one s)) old new
         → AreSenders p (accepted w x local frame).world new }
-    ensures closed { (p : Plan) (w : World) (x : Client) (old new : List Sender) → KeepsClients w.clients
-        → AreSenders p w old → client_at w x.number ≡ Some x
+    ensures closed { (p : Plan) (w : World) (x : Client) (old new : List Sender)
+        → KeepsClients w.clients → AreSenders p w old → client_at w x.number ≡ Some x
         → ChangesOne x.number (λ s. closing (taking_one s)) old new
         → AreSenders p (message_answer w x Close).world new }
 {}

@@ -69,8 +69,8 @@ impl Damage {
         }
     }
 
-    /// Makes room for at least so many more surfaces. Memory is the only error. Nothing else changes
-    /// in any case, and no room is lost.
+    /// Makes room for at least so many more surfaces. Memory is the only error. Nothing else
+    /// changes in any case, and no room is lost.
     pub fn ready(&mut self, n: usize) -> Result<(), Memory>
         ensures surfaces { self.new.surfaces ≡ self.old.surfaces }
         ensures ok { OnOk result (n ≤ self.new.spare) }
@@ -101,8 +101,8 @@ impl Damage {
     /// The damage of a submission is told, the part of its surface that may differ from the one
     /// before (in its own pixels). For want of memory, and only then, it answers Memory and nothing
     /// changes. Where the surface was told before, or where there is room for one, it answers Ok.
-    /// Condition: the index is one more than the last one that was told of the surface, and 1 for one
-    /// of which nothing is told.
+    /// Condition: the index is one more than the last one that was told of the surface, and 1 for
+    /// one of which nothing is told.
     pub fn accepted(&mut self, id: SurfaceId, index: u32, damage: Rect) -> Result<(), Memory>
         requires { index ≡ next_index (told_on self.old.surfaces id) }
         ensures told { OnOk result (told_on self.new.surfaces id

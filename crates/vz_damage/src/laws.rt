@@ -39,7 +39,8 @@ pub fn measured_damages_are_drawn()
     ensures told { (w : World) (a : Aggregation) (old new : List (SurfaceId × Told)) (size : Size)
         (root : SurfaceId) → KeepsAlways w → TellsActive w a old
         → ((id : SurfaceId) → told_on new id ≡ option_map with_seen (told_on old id))
-        → TellsActive w (aggregation_of (scene_from root w) (walk_of size (scene_from root w))) new }
+        → TellsActive w
+        (aggregation_of (scene_from root w) (walk_of size (scene_from root w))) new }
 {
     stores_tell();
 }

@@ -342,7 +342,8 @@ impl<'b, 's> Flattener<'b, 's> {
     ) -> Result<(), Memory>
         requires whole { IsWhole seen.now }
         requires room { HasRoom (room_for self.now.levels 0) place.now.shift }
-        ensures { OnOk result (ops.new.items ≡ ops.old.items ++ shown_flat (embedded self.now) self.now.path
+        ensures { OnOk result (ops.new.items ≡ ops.old.items
+            ++ shown_flat (embedded self.now) self.now.path
             range.now background mode opacity place.now seen.now) }
     {
         let area = present_place(range, seen, place).window();
@@ -379,7 +380,8 @@ impl<'b, 's> Flattener<'b, 's> {
     ) -> Result<(), Memory>
         requires whole { IsWhole seen.now }
         requires room { HasRoom (room_for self.now.levels 0) place.now.shift }
-        ensures { OnOk result (ops.new.items ≡ ops.old.items ++ content_flat (embedded self.now) self.now.path
+        ensures { OnOk result (ops.new.items ≡ ops.old.items
+            ++ content_flat (embedded self.now) self.now.path
             range.now background seen.now place.now) }
     {
         let inner = surface_place(seen, place);

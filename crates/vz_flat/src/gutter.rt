@@ -78,8 +78,8 @@ pub(crate) fn fill_round(
     color: Pixel,
 ) -> Result<(), Memory>
     requires { Covers outer.now inner.now }
-    ensures { OnOk result
-        (ops.new.items ≡ ops.old.items ++ flat_map (part_flat color) (parts_round outer.now inner.now)) }
+    ensures { OnOk result (ops.new.items ≡ ops.old.items
+        ++ flat_map (part_flat color) (parts_round outer.now inner.now)) }
 {
     // That the edges of both are within the limit is told by the test for points.
     let _ = outer.is_empty();

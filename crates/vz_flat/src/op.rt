@@ -76,8 +76,8 @@ impl Model for Ops {
 }
 
 impl Ops {
-    /// Operations that are listed back to front. The list comes back exactly where they break one of
-    /// the four facts. It takes no memory, and looks at each operation once.
+    /// Operations that are listed back to front. The list comes back exactly where they break one
+    /// of the four facts. It takes no memory, and looks at each operation once.
     pub fn of(list: List<Op>) -> Result<Ops, List<Op>>
         ensures exactly { IsOk result ↔ IsTrue (is_whole list) }
         ensures ok { IfOk result (λ ops. ops ≡ list) }

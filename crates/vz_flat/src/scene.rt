@@ -59,8 +59,8 @@ pub fn flatten(alloc: Global, store: &Store, root: &SurfaceId, size: Size) -> Re
     requires frames { KeepsFrames store.now }
     requires bounded { too_much
         (walk_of size (record { root = root.now; active = seen_frames store.now })) ≡ false }
-    ensures painted { (p : Point) → has (sized size) p ≡ true → IfOk result (λ ops. value ops p black
-        ≡ full (record { root = root.now; active = seen_frames store.now }) p) }
+    ensures painted { (p : Point) → has (sized size) p ≡ true → IfOk result (λ ops.
+        value ops p black ≡ full (record { root = root.now; active = seen_frames store.now }) p) }
 {
     let mut ops = Vec::new(alloc);
     grow(&mut ops)?;

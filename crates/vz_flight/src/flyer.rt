@@ -31,8 +31,8 @@ impl Flyer {
         }
     }
 
-    /// The submissions into which a walk goes, with what they list. Conditions: what always holds of
-    /// the store is kept, and it met all of the walk from the root on a display of this size.
+    /// The submissions into which a walk goes, with what they list. Conditions: what always holds
+    /// of the store is kept, and it met all of the walk from the root on a display of this size.
     pub fn flight(self, store: &Store, root: &SurfaceId, size: Size) -> Flight
         requires keeps { KeepsStored store.now }
         requires met { self.roster ≡ met_in (walked_in size root.now store.now) }

@@ -54,9 +54,9 @@ impl Lending {
     }
 
     /// Makes room for the next submission of a client with so many listings: for the resources that
-    /// it lends, and for the release of their references. Memory is the only error, and where nothing
-    /// is released and there is the room it answers Ok. Nothing else changes in any case, and no
-    /// room is lost.
+    /// it lends, and for the release of their references. Memory is the only error, and where
+    /// nothing is released and there is the room it answers Ok. Nothing else changes in any case,
+    /// and no room is lost.
     pub fn ready(&mut self, client: u32, listings: usize) -> Result<(), Memory>
         requires known { IsLender client self.old }
         ensures room { OnOk result (HasRoom listings client self.new) }

@@ -35,10 +35,10 @@ impl LiveSurfaces {
         &self.store
     }
 
-    /// What a drawing finds in one walk from its root, on a display of a size: what changed, and the
-    /// submissions that are drawn where something did. None is the answer exactly where there is
-    /// more to be seen than may be drawn. It tells what the drawing is answered, before anything is
-    /// made for it, and nothing changes in any case. Memory is the only error. Condition: a look
+    /// What a drawing finds in one walk from its root, on a display of a size: what changed, and
+    /// the submissions that are drawn where something did. None is the answer exactly where there
+    /// is more to be seen than may be drawn. It tells what the drawing is answered, before anything
+    /// is made for it, and nothing changes in any case. Memory is the only error. Condition: a look
     /// told that something is to be seen on this root.
     ///
     /// The drawing ends with `leave` where nothing changed, and with `show` where something did.

@@ -49,8 +49,8 @@ impl LiveSurfaces {
         self.references.sink_gone(sink);
     }
 
-    /// A new surface becomes temporary until a tick, unless something that is set names it. It takes
-    /// no memory. Conditions: there is room for one, and what is named now is named.
+    /// A new surface becomes temporary until a tick, unless something that is set names it. It
+    /// takes no memory. Conditions: there is room for one, and what is named now is named.
     pub fn keep(&mut self, id: SurfaceId, until: u32)
         requires room { 0 < self.old.kept.room }
         ensures live { (w : World) (c : Created) → KeepsAlways w → AreLive w (Some id) self.old

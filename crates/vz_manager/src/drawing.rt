@@ -46,9 +46,9 @@ impl Parts {
         Ok((nothing_follows(self.alloc, reply), None))
     }
 
-    /// A drawing of what is to be seen on a root, with its picture where something changed. One walk
-    /// tells whether that is too much, what changed and what is drawn. Condition: a look told that
-    /// something is to be seen there.
+    /// A drawing of what is to be seen on a root, with its picture where something changed. One
+    /// walk tells whether that is too much, what changed and what is drawn. Condition: a look told
+    /// that something is to be seen there.
     ///
     /// Memory is the only error, and then the parts stand for the same state.
     fn draw_from(&mut self, root: &SurfaceId) -> Result<(Step, Option<FlatPicture>), Memory>
@@ -70,8 +70,8 @@ impl Parts {
     }
 
     /// A drawing that walks from a root, with its picture where something changed: where nothing
-    /// did, what was measured is remembered alone. All that may want memory is made before the first
-    /// change. Condition: this was found of the drawing.
+    /// did, what was measured is remembered alone. All that may want memory is made before the
+    /// first change. Condition: this was found of the drawing.
     ///
     /// Memory is the only error, and then the parts stand for the same state.
     fn draw_found(

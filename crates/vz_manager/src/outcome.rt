@@ -68,9 +68,9 @@ fn may_lose(anew: bool, ready: &[Sub]) -> bool
     anew || !ready.is_empty()
 }
 
-/// Every marked surface that is not reached is destroyed, and told. Where that is not asked, nothing
-/// is done. Conditions: what is named now is named, there is room for it, and it is asked wherever a
-/// surface is lost.
+/// Every marked surface that is not reached is destroyed, and told. Where that is not asked,
+/// nothing is done. Conditions: what is named now is named, there is room for it, and it is asked
+/// wherever a surface is lost.
 fn collect(
     settling: &mut Settling,
     root: Option<SurfaceId>,
@@ -107,9 +107,11 @@ pub(crate) fn follow(
 )
     requires follows { (w : World) × IsFollowed w root new anew settling.old following.old }
     requires room { CanFollow new settling.old following.old }
-    ensures stands { (w : World) (r : Answered) → IsFollowed w root new anew settling.old following.old
+    ensures stands { (w : World) (r : Answered)
+        → IsFollowed w root new anew settling.old following.old
         → AreSettling (outcome_of [] (says r w)).world None settling.new }
-    ensures effects { (w : World) (r : Answered) → IsFollowed w root new anew settling.old following.old
+    ensures effects { (w : World) (r : Answered)
+        → IsFollowed w root new anew settling.old following.old
         → Tells (outcome_of [] (says r w)).effects following.new }
     ensures released { NoneReleased settling.new.live.lent }
     ensures out { resources_out settling.new.live.lent ≤ resources_out settling.old.live.lent }
@@ -146,10 +148,12 @@ pub(crate) fn finish(
 ) -> Step
     requires follows { (w : World) × IsFollowed w root new anew settling.old following.old }
     requires room { CanFollow new settling.old following.old }
-    ensures stands { (w : World) (r : Answered) → IsFollowed w root new anew settling.old following.old
+    ensures stands { (w : World) (r : Answered)
+        → IsFollowed w root new anew settling.old following.old
         → AreSettling (outcome_of [] (says r w)).world None settling.new }
     ensures reply { result.reply ≡ reply }
-    ensures effects { (w : World) (r : Answered) → IsFollowed w root new anew settling.old following.old
+    ensures effects { (w : World) (r : Answered)
+        → IsFollowed w root new anew settling.old following.old
         → result.effects ≡ (outcome_of [] (says r w)).effects }
     ensures released { NoneReleased settling.new.live.lent }
     ensures out { resources_out settling.new.live.lent ≤ resources_out settling.old.live.lent }

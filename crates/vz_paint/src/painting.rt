@@ -38,8 +38,8 @@ fn row_start(area: &Rect, below: u32) -> Point
 }
 
 /// Paints the row of an area that is `below` its first one with a colour for each point, which is
-/// what the operations make of the ground. Conditions: the area is inside, the operations are whole, and
-/// there is a row for each group that they open at once.
+/// what the operations make of the ground. Conditions: the area is inside, the operations are
+/// whole, and there is a row for each group that they open at once.
 fn paint_row<L: Ledger>(
     ops: &[&Op],
     ground: Pixel,

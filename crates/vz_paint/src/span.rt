@@ -218,7 +218,8 @@ fn texels(block: &PixelBlock, at: Texel, count: usize) -> &[Pixel]
     requires across { (at.column + count) ≤ block.now.w }
     requires down { at.row < block.now.h }
     requires small { block.now.h ≤ GREATEST_BLOCK_SIDE }
-    ensures value { result.now ≡ take count (drop (at.row * block.now.w + at.column) block.now.pixels) }
+    ensures value { result.now
+        ≡ take count (drop (at.row * block.now.w + at.column) block.now.pixels) }
     ensures counted { length block.now.pixels ≡ block.now.w * block.now.h }
 {
     let from = at.row * block.w() as usize + at.column;

@@ -77,8 +77,8 @@ pub fn closed_clients_keep_none()
         (record r { temporary = of_others c.sink r.temporary }) }
 {}
 
-/// A submission is accepted: where it creates a surface, this one is to be kept still, when all that
-/// follows became active; where it creates none, nothing changes.
+/// A submission is accepted: where it creates a surface, this one is to be kept still, when all
+/// that follows became active; where it creates none, nothing changes.
 pub fn new_surfaces_follow()
     ensures created { (w : World) (c : Client) (local : LocalSurfaceId) (frame : CompositorFrame)
         (r : Referring) → Keeps w → Contains w.clients c → AreKept w None r
@@ -102,8 +102,8 @@ pub fn new_surfaces_last()
         }) }
 {}
 
-/// A surface is destroyed that is not temporary, where what is named now is named: nothing is set for
-/// it any longer, and what is named now is still named.
+/// A surface is destroyed that is not temporary, where what is named now is named: nothing is set
+/// for it any longer, and what is named now is still named.
 pub fn destroyed_surfaces_go()
     ensures { (w : World) (d : Created) (r : Referring) → naming w ≡ w
         → has_kept r.temporary d.id ≡ false → AreKept w None r
@@ -120,9 +120,9 @@ pub fn shown_ones_are_set()
 {}
 
 /// Where what is named now is named, reaching starts at the root, where it exists, and at what is
-/// temporary: what `References::reachable` answers for them has exactly the surfaces that are reached.
-/// A marked surface that exists is lost exactly where such a list has it not (of each client in the
-/// order of creation), and none that is lost is temporary.
+/// temporary: what `References::reachable` answers for them has exactly the surfaces that are
+/// reached. A marked surface that exists is lost exactly where such a list has it not (of each
+/// client in the order of creation), and none that is lost is temporary.
 pub fn roots_are_reached()
     ensures roots { (w : World) (r : Referring) → naming w ≡ w → AreKept w None r
         → AreRoots w (root_of w) r.temporary }

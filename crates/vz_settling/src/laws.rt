@@ -10,8 +10,8 @@ ghost use Rattle.vz_settling.specs.Settles.{AreSettling, AreReady};
 use vz_live::laws::surfaces_stay;
 use vz_waiting::laws::waiting_ones_stay;
 
-/// Once it settled, nothing is ready. What stands for a state stands for that in which what is named
-/// now is named.
+/// Once it settled, nothing is ready. What stands for a state stands for that in which what is
+/// named now is named.
 pub fn settled_ones_stay()
     ensures ready { (w : World) → AreReady (settle w) [] }
     ensures naming { (w : World) (but : Option SurfaceId) (v : Settling) → AreSettling w but v

@@ -216,7 +216,8 @@ fn differs(link: &Link, id: &SurfaceId) -> bool
 
 /// A surface goes from the list.
 fn forget(chain: &mut SmallVec<Link, FEW>, id: &SurfaceId)
-    ensures { chain.new.items ≡ filter (λ (l : One). not (same_surface l.id id.now)) chain.old.items }
+    ensures { chain.new.items
+        ≡ filter (λ (l : One). not (same_surface l.id id.now)) chain.old.items }
 {
     chain.retain(|link| differs(link, id));
 }

@@ -40,7 +40,8 @@ fn newest_in<'a>(groups: &'a Groups, table: &Table, range: &SurfaceRange) -> Opt
 /// The newest surface with an active frame of the group of a range's start, where that is another
 /// one than the end's.
 fn newest_from<'a>(groups: &'a Groups, table: &Table, range: &SurfaceRange) -> Option<&'a Link>
-    ensures { option_copied result ≡ newest_from table.now groups.now range.now.start range.now.end }
+    ensures { option_copied result
+        ≡ newest_from table.now groups.now range.now.start range.now.end }
 {
     match range.start {
         None => None,

@@ -202,7 +202,8 @@ impl Store {
     /// A submission of a client is accepted on a surface of its sink, which is created where the
     /// local id is not the client's last one. It waits, and the one that waited there is dropped.
     /// The answer is its client and ordinal, its number on the surface, and the one that is
-    /// dropped, moved out. For want of memory, and only then, the frame comes back, and nothing changes.
+    /// dropped, moved out. For want of memory, and only then, the frame comes back, and nothing
+    /// changes.
     ///
     /// Conditions: the number of the client is 1 to 16; what always holds is kept; the sink is
     /// that of all earlier calls for the client and of none for another; the local id is not

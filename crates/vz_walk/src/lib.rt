@@ -1,7 +1,7 @@
 //! The walk over a store, quad by quad, and the places that it comes to.
 //!
-//! The walk starts at the root pass of the root and meets each quad, with repetition. It goes into the
-//! pass or the surface that a quad draws, unless that surface is on the path.
+//! The walk starts at the root pass of the root and meets each quad, with repetition. It goes into
+//! the pass or the surface that a quad draws, unless that surface is on the path.
 #![tactic(auto)]
 
 mod both;

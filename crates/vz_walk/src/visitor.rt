@@ -28,8 +28,8 @@ pub trait Visitor {
         ensures { Meets has_met has_stopped result self.old self.new
             (Shows range.now shown.now seen.now ∷ []) };
 
-    /// The walk goes into a surface: how many surfaces are then on the path, its frame and its place.
-    /// Conditions: the frame fits a message file, and the place is not far out.
+    /// The walk goes into a surface: how many surfaces are then on the path, its frame and its
+    /// place. Conditions: the frame fits a message file, and the place is not far out.
     fn enters(&mut self, depth: u32, frame: &Seen<'_>, place: &Place) -> bool
         requires fits { FitsFile frame.now.frame }
         requires room { HasRoom 0 place.now.shift }
