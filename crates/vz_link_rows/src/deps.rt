@@ -142,26 +142,50 @@ impl Both {
         Ok(())
     }
 
-    /// Those that are freed where surfaces become active, where the two agree.
-    fn activated(&mut self, ids: &[SurfaceId]) -> Result<Option<Room<Sub>>, Memory> {
-        let mut of_part = Room::new(self.alloc);
-        of_part.reserve(self.part.blocked())?;
+    /// Those that the part frees where surfaces become active.
+    fn part_frees(&mut self, ids: &[SurfaceId]) -> Result<Room<Sub>, Memory> {
+        let mut freed = Room::new(self.alloc);
+        freed.reserve(self.part.blocked())?;
         match ids {
-            [id] => self.part.activated(id, &mut of_part),
-            _ => self.part.all_activated(ids, &mut of_part),
+            [id] => self.part.activated(id, &mut freed),
+            _ => self.part.all_activated(ids, &mut freed),
         }
-        let mut of_twin = Vec::new(self.alloc);
-        self.twin.activated(ids, &mut of_twin)?;
+        Ok(freed)
+    }
+
+    /// Those that the twin frees there.
+    fn twin_frees(&mut self, ids: &[SurfaceId]) -> Result<Vec<Sub>, Memory> {
+        let mut freed = Vec::new(self.alloc);
+        self.twin.activated(ids, &mut freed)?;
+        Ok(freed)
+    }
+
+    /// Those that are freed there, where the two agree.
+    fn activated(&mut self, ids: &[SurfaceId]) -> Result<Option<Room<Sub>>, Memory> {
+        let of_part = self.part_frees(ids)?;
+        let of_twin = self.twin_frees(ids)?;
         Ok(self.agreed(of_part, &of_twin))
     }
 
-    /// Those that are freed where a sink is closed, where the two agree.
+    /// Those that the part frees where a sink is closed.
+    fn part_frees_of(&mut self, sink: FrameSinkId) -> Result<Room<Sub>, Memory> {
+        let mut freed = Room::new(self.alloc);
+        freed.reserve(self.part.blocked())?;
+        self.part.sink_gone(sink, &mut freed);
+        Ok(freed)
+    }
+
+    /// Those that the twin frees there.
+    fn twin_frees_of(&mut self, sink: FrameSinkId) -> Result<Vec<Sub>, Memory> {
+        let mut freed = Vec::new(self.alloc);
+        self.twin.sink_gone(sink, &mut freed)?;
+        Ok(freed)
+    }
+
+    /// Those that are freed there, where the two agree.
     fn closed(&mut self, sink: FrameSinkId) -> Result<Option<Room<Sub>>, Memory> {
-        let mut of_part = Room::new(self.alloc);
-        of_part.reserve(self.part.blocked())?;
-        self.part.sink_gone(sink, &mut of_part);
-        let mut of_twin = Vec::new(self.alloc);
-        self.twin.sink_gone(sink, &mut of_twin)?;
+        let of_part = self.part_frees_of(sink)?;
+        let of_twin = self.twin_frees_of(sink)?;
         Ok(self.agreed(of_part, &of_twin))
     }
 
@@ -171,31 +195,49 @@ impl Both {
         if agree { Some(of_part) } else { None }
     }
 
+    /// Whether both free exactly these where surfaces become active.
+    fn frees(&mut self, surfaces: &[Surface], freed: &[u32]) -> Result<bool, Memory> {
+        let ids = ids_of(self.alloc, surfaces)?;
+        let subs = self.activated(&ids)?;
+        Ok(are_freed(subs, freed))
+    }
+
+    /// Whether both free exactly these where a sink is closed.
+    fn frees_of(&mut self, sink: FrameSinkId, freed: &[u32]) -> Result<bool, Memory> {
+        let subs = self.closed(sink)?;
+        Ok(are_freed(subs, freed))
+    }
+
     /// Whether the part and the twin both answer a call as it says.
     fn is_answered(&mut self, call: Call) -> Result<bool, Memory> {
         match call {
-            Block(ordinal, a, b) => {
-                self.block(ordinal, id_of(a), id_of(b))?;
-                Ok(true)
-            }
-            Forget(ordinal) => {
-                self.forget(ordinal);
-                Ok(true)
-            }
-            Active(surfaces, freed) => {
-                let mut ids = Vec::new(self.alloc);
-                for surface in surfaces {
-                    ids.push(id_of(*surface))?;
-                }
-                let subs = self.activated(&ids)?;
-                Ok(are_freed(subs, freed))
-            }
-            Closed(sink_id, freed) => {
-                let subs = self.closed(sink_at(sink_id))?;
-                Ok(are_freed(subs, freed))
+            Block(ordinal, a, b) => self.block(ordinal, id_of(a), id_of(b))?,
+            Forget(ordinal) => self.forget(ordinal),
+            Active(surfaces, freed) => return self.frees(surfaces, freed),
+            Closed(sink_id, freed) => return self.frees_of(sink_at(sink_id), freed),
+        }
+        Ok(true)
+    }
+
+    /// The place of the first call that is not answered as it must be, counted from 0.
+    fn first_other(&mut self, calls: &[Call]) -> Result<Option<usize>, Memory> {
+        for place in 0..calls.len() {
+            let is_answered = self.is_answered(calls[place])?;
+            if !is_answered {
+                return Ok(Some(place));
             }
         }
+        Ok(None)
     }
+}
+
+/// The ids of surfaces.
+fn ids_of(alloc: Global, surfaces: &[Surface]) -> Result<Vec<SurfaceId>, Memory> {
+    let mut ids = Vec::new(alloc);
+    for surface in surfaces {
+        ids.push(id_of(*surface))?;
+    }
+    Ok(ids)
 }
 
 /// Whether submissions were agreed on and have exactly these ordinals.
@@ -214,57 +256,64 @@ fn are_freed(subs: Option<Room<Sub>>, ordinals: &[u32]) -> bool {
     true
 }
 
-/// The place of the first call that is not answered as it must be, counted from 0.
-fn first_other(alloc: Global, calls: &[Call]) -> Result<Option<usize>, Memory> {
-    let mut both = Both::new(alloc);
-    for (place, call) in calls.iter().enumerate() {
-        if !both.is_answered(*call)? {
-            return Ok(Some(place));
-        }
-    }
-    Ok(None)
-}
-
 /// A drawn surface: of few groups, and of few numbers.
 fn drawn(draws: &mut Draws) -> SurfaceId {
     let (sink, token, parent) = (draws.below(4), draws.below(3), draws.below(6));
     id_of((sink, u128::from(token), parent))
 }
 
-/// Whether the part and its twin agree on a drawn call.
-fn agree(both: &mut Both, draws: &mut Draws) -> Result<bool, Memory> {
-    match draws.below(12) {
-        0 => both.forget(draws.below(100)),
-        1 | 2 => return Ok(both.activated(&[drawn(draws)])?.is_some()),
-        3 => {
-            let ids = [drawn(draws), drawn(draws), drawn(draws)];
-            return Ok(both.activated(&ids)?.is_some());
-        }
-        4 => {
-            let sink = sink_at(draws.below(40));
-            return Ok(both.closed(sink)?.is_some());
-        }
-        _ => both.block(draws.below(100), drawn(draws), drawn(draws))?,
+impl Both {
+    /// Whether the two free the same where these become active.
+    fn agree_on(&mut self, ids: &[SurfaceId]) -> Result<bool, Memory> {
+        let freed = self.activated(ids)?;
+        Ok(freed.is_some())
     }
-    Ok(true)
+
+    /// Whether the two free the same where a sink is closed.
+    fn agree_on_sink(&mut self, sink: FrameSinkId) -> Result<bool, Memory> {
+        let freed = self.closed(sink)?;
+        Ok(freed.is_some())
+    }
+
+    /// Makes a drawn call; whether the two agree.
+    fn make(&mut self, draws: &mut Draws) -> Result<bool, Memory> {
+        match draws.below(12) {
+            0 => self.forget(draws.below(100)),
+            1 | 2 => return self.agree_on(&[drawn(draws)]),
+            3 => return self.agree_on(&[drawn(draws), drawn(draws), drawn(draws)]),
+            4 => return self.agree_on_sink(sink_at(draws.below(40))),
+            _ => self.block(draws.below(100), drawn(draws), drawn(draws))?,
+        }
+        Ok(true)
+    }
+
+    /// The place of the first call of a drawn history at which the part and its twin differ.
+    fn first_apart(&mut self, draws: &mut Draws) -> Result<Option<u32>, Memory> {
+        for place in 0..CALLS {
+            let agree = self.make(draws)?;
+            if !agree {
+                return Ok(Some(place));
+            }
+        }
+        Ok(None)
+    }
 }
 
-/// The place of the first call of a drawn history at which the part and its twin differ.
-fn first_apart(alloc: Global, draws: &mut Draws) -> Result<Option<u32>, Memory> {
-    let mut both = Both::new(alloc);
-    for place in 0..CALLS {
-        if !agree(&mut both, draws)? {
-            return Ok(Some(place));
-        }
-    }
-    Ok(None)
+/// Plays a worked history from the start, as `first_other` does.
+fn play_worked(alloc: Global, calls: &[Call]) -> Result<Option<usize>, Memory> {
+    Both::new(alloc).first_other(calls)
+}
+
+/// Plays a drawn history from the start, as `first_apart` does.
+fn play_drawn(alloc: Global, draws: &mut Draws) -> Result<Option<u32>, Memory> {
+    Both::new(alloc).first_apart(draws)
 }
 
 /// Plays all of them and prints a line for each; whether all are as they must be.
 pub(crate) fn play(rt: &HostRuntime) -> Result<bool> {
     let mut well = true;
     for (name, calls) in WORKED {
-        match first_other(rt.alloc(), calls)? {
+        match play_worked(rt.alloc(), calls)? {
             None => println!(rt; "deps {name} same")?,
             Some(place) => {
                 println!(rt; "deps {name} differs at {place}")?;
@@ -274,7 +323,7 @@ pub(crate) fn play(rt: &HostRuntime) -> Result<bool> {
     }
     let mut draws = Draws::new(3);
     for history in 0..DRAWN {
-        match first_apart(rt.alloc(), &mut draws)? {
+        match play_drawn(rt.alloc(), &mut draws)? {
             None => println!(rt; "deps drawn_{history} same")?,
             Some(place) => {
                 println!(rt; "deps drawn_{history} differs at {place}")?;
