@@ -1,6 +1,6 @@
 //! Files that are decoded, tested and encoded again.
 use super::bytes::*;
-use std::alloc::Global;
+use std::alloc::{AllocError, Global};
 use std::test::*;
 use vz_codec::{decode, encode, fits};
 use vz_frame::{ClientFile, List, Message};
@@ -24,7 +24,7 @@ fn worked_file_comes_again(rt: HostRuntime) {
 }
 
 /// A quad of format 2 with this clip, mode and material.
-fn put_quad(bytes: &mut Vec<u8>, clip: &[u8], mode: u8, material: &[u8]) -> Result<(), Fail> {
+fn put_quad(bytes: &mut Vec<u8>, clip: &[u8], mode: u8, material: &[u8]) -> Result<(), AllocError> {
     bytes.extend_from_slice(&FILE[94..134])?;
     bytes.extend_from_slice(clip)?;
     bytes.extend_from_slice(&[200, mode])?;
@@ -36,7 +36,7 @@ fn put_quad(bytes: &mut Vec<u8>, clip: &[u8], mode: u8, material: &[u8]) -> Resu
 const CLIP: [u8; 17] = [1, 0, 0, 0, 0, 0, 0, 0, 0, 4, 0, 0, 0, 2, 0, 0, 0];
 
 /// A frame of format 2 with two passes and each kind of material.
-fn put_frame(bytes: &mut Vec<u8>) -> Result<(), Fail> {
+fn put_frame(bytes: &mut Vec<u8>) -> Result<(), AllocError> {
     bytes.extend_from_slice(&FILE[43..51])?;
     // The deadline 64, a dependency, a range with a start, and two resources.
     bytes.extend_from_slice(&[64, 1])?;
@@ -59,17 +59,30 @@ fn put_frame(bytes: &mut Vec<u8>) -> Result<(), Fail> {
     Ok(())
 }
 
-#[test]
-fn everything_comes_again(rt: HostRuntime) -> Result<(), Fail> {
-    let mut bytes = front(rt.alloc(), 2, 8)?;
-    bytes.extend_from_slice(&[1, 9, 0, 0, 0, 2, 0, 1, 0, 0, 0, 0, 0, 3, 2, 1, 255])?;
+/// An Upload of two texels.
+const UPLOAD: [u8; 17] = [1, 9, 0, 0, 0, 2, 0, 1, 0, 0, 0, 0, 0, 3, 2, 1, 255];
+
+/// A DidNotProduce and a Reclaim.
+const NOTED: [u8; 6] = [3, 7, 0, 0, 0, 4];
+
+/// A Hierarchy, an Await and a Close.
+const JOINED: [u8; 19] = [6, 1, 0, 0, 0, 1, 0, 0, 0, 2, 0, 0, 0, 1, 0, 0, 0, 7, 8];
+
+/// A file of format 2 with each kind of message.
+fn each_kind(alloc: Global) -> Result<Vec<u8>, AllocError> {
+    let mut bytes = front(alloc, 2, 8)?;
+    bytes.extend_from_slice(&UPLOAD)?;
     bytes.extend_from_slice(&FILE[18..43])?;
     put_frame(&mut bytes)?;
-    bytes.extend_from_slice(&[3, 7, 0, 0, 0])?;
-    bytes.push(4)?;
+    bytes.extend_from_slice(&NOTED)?;
     bytes.extend_from_slice(&FILE[ROOT..])?;
-    bytes.extend_from_slice(&[6, 1, 0, 0, 0, 1, 0, 0, 0, 2, 0, 0, 0, 1, 0, 0, 0])?;
-    bytes.extend_from_slice(&[7, 8])?;
+    bytes.extend_from_slice(&JOINED)?;
+    Ok(bytes)
+}
+
+#[test]
+fn everything_comes_again(rt: HostRuntime) -> Result<(), Fail> {
+    let bytes = each_kind(rt.alloc())?;
     assert!(rt; come_again(rt.alloc(), &bytes));
     Ok(())
 }

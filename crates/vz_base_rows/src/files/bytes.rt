@@ -1,7 +1,7 @@
 //! Message files for tests, put together field by field.
 ghost use Rattle.std.specs.Prelude.{◌≤◌};
 
-use std::alloc::Global;
+use std::alloc::{AllocError, Global};
 use std::test::Fail;
 use vz_codec::{DecodeError, FileRule, decode};
 use vz_frame::ClientFile;
@@ -50,14 +50,30 @@ pub fn refusal(alloc: Global, bytes: &[u8]) -> Option<(usize, FileRule)> {
     }
 }
 
-/// Whether bytes spell a file.
-pub fn is_file(alloc: Global, bytes: &[u8]) -> bool {
-    decode(alloc, bytes).is_ok()
+/// Whether bytes that were made spell a file.
+pub fn is_file(alloc: Global, made: Result<Vec<u8>, AllocError>) -> bool {
+    match made {
+        Ok(bytes) => decode(alloc, &bytes).is_ok(),
+        Err(_) => false,
+    }
 }
 
-/// Whether bytes are refused as beyond a limit, at this place.
-pub fn is_beyond(alloc: Global, bytes: &[u8], at: usize) -> bool {
-    refusal(alloc, bytes) == Some((at, FileRule::Limit))
+/// Whether bytes that were made are refused at this place, by this rule.
+pub fn is_refused(
+    alloc: Global,
+    made: Result<Vec<u8>, AllocError>,
+    at: usize,
+    rule: FileRule,
+) -> bool {
+    match made {
+        Ok(bytes) => refusal(alloc, &bytes) == Some((at, rule)),
+        Err(_) => false,
+    }
+}
+
+/// Whether bytes that were made are refused as beyond a limit, at this place.
+pub fn is_beyond(alloc: Global, made: Result<Vec<u8>, AllocError>, at: usize) -> bool {
+    is_refused(alloc, made, at, FileRule::Limit)
 }
 
 /// The file that bytes spell.
@@ -66,7 +82,7 @@ pub fn file_of(alloc: Global, bytes: &[u8]) -> Result<ClientFile, Fail> {
 }
 
 /// The worked file with these bytes in place of those from a place to another.
-pub fn replaced(alloc: Global, from: usize, to: usize, bytes: &[u8]) -> Result<Vec<u8>, Fail>
+pub fn replaced(alloc: Global, from: usize, to: usize, bytes: &[u8]) -> Result<Vec<u8>, AllocError>
     requires from { from ≤ 166 }
     requires to { to ≤ 166 }
 {
@@ -77,14 +93,14 @@ pub fn replaced(alloc: Global, from: usize, to: usize, bytes: &[u8]) -> Result<V
 }
 
 /// The worked file with this number at a place.
-pub fn with_number(alloc: Global, place: usize, number: i32) -> Result<Vec<u8>, Fail>
+pub fn with_number(alloc: Global, place: usize, number: i32) -> Result<Vec<u8>, AllocError>
     requires { place ≤ 162 }
 {
     replaced(alloc, place, place + 4, &number.to_le_bytes())
 }
 
 /// What comes before the messages of a file of this format.
-pub fn front(alloc: Global, format: u8, messages: u32) -> Result<Vec<u8>, Fail> {
+pub fn front(alloc: Global, format: u8, messages: u32) -> Result<Vec<u8>, AllocError> {
     let mut bytes = Vec::from_slice(alloc, &FILE[..4])?;
     bytes.push(format)?;
     bytes.extend_from_slice(&FILE[5..14])?;
@@ -93,7 +109,7 @@ pub fn front(alloc: Global, format: u8, messages: u32) -> Result<Vec<u8>, Fail> 
 }
 
 /// The worked file in format 2, with this mode before the material.
-pub fn with_mode(alloc: Global, mode: u8) -> Result<Vec<u8>, Fail> {
+pub fn with_mode(alloc: Global, mode: u8) -> Result<Vec<u8>, AllocError> {
     let mut bytes = Vec::from_slice(alloc, &FILE[..4])?;
     bytes.push(2)?;
     bytes.extend_from_slice(&FILE[5..MATERIAL])?;
@@ -103,7 +119,7 @@ pub fn with_mode(alloc: Global, mode: u8) -> Result<Vec<u8>, Fail> {
 }
 
 /// A file with one upload, of these sides and texels.
-pub fn upload(alloc: Global, w: u16, h: u16, texels: &[u8]) -> Result<Vec<u8>, Fail> {
+pub fn upload(alloc: Global, w: u16, h: u16, texels: &[u8]) -> Result<Vec<u8>, AllocError> {
     let mut bytes = front(alloc, 1, 1)?;
     bytes.extend_from_slice(&[1, 9, 0, 0, 0])?;
     bytes.extend_from_slice(&w.to_le_bytes())?;
@@ -131,9 +147,10 @@ pub fn no_parts() -> Parts {
     }
 }
 
-/// A file with one submission, whose frame has so many parts, and passes of so many quads each.
-pub fn submission(alloc: Global, parts: &Parts, quads: &[u16]) -> Result<Vec<u8>, Fail> {
-    let passes = u8::try_from(quads.len()).ok().ok_or("few passes")?;
+/// A file with one submission, whose frame has so many parts, and passes of so many quads each, at
+/// most 255 passes.
+pub fn submission(alloc: Global, parts: &Parts, quads: &[u16]) -> Result<Vec<u8>, AllocError> {
+    let passes = u8::try_from(quads.len()).unwrap_or(u8::MAX);
     let mut bytes = front(alloc, 1, 1)?;
     bytes.extend_from_slice(&FILE[MESSAGES..51])?;
     bytes.push(parts.deadline)?;
@@ -148,7 +165,7 @@ pub fn submission(alloc: Global, parts: &Parts, quads: &[u16]) -> Result<Vec<u8>
 }
 
 /// A count of one byte, and so many times these bytes.
-fn put_many(bytes: &mut Vec<u8>, count: u8, value: &[u8]) -> Result<(), Fail> {
+fn put_many(bytes: &mut Vec<u8>, count: u8, value: &[u8]) -> Result<(), AllocError> {
     bytes.push(count)?;
     for _ in 0..count {
         bytes.extend_from_slice(value)?;
@@ -157,7 +174,7 @@ fn put_many(bytes: &mut Vec<u8>, count: u8, value: &[u8]) -> Result<(), Fail> {
 }
 
 /// A pass of so many quads.
-fn put_pass(bytes: &mut Vec<u8>, count: u16) -> Result<(), Fail> {
+fn put_pass(bytes: &mut Vec<u8>, count: u16) -> Result<(), AllocError> {
     bytes.extend_from_slice(&FILE[56..92])?;
     bytes.extend_from_slice(&count.to_le_bytes())?;
     for _ in 0..count {

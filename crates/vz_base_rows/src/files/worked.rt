@@ -3,69 +3,76 @@ use super::bytes::*;
 use std::alloc::Global;
 use std::test::*;
 use vz_codec::{DecodeError, FileRule, decode};
-use vz_frame::{Blend, ClientFile, DrawQuad, Material, Message};
+use vz_frame::{Blend, ClientFile, CompositorFrame, DrawQuad, Material, Message, RenderPass};
 use vz_geom::{Point, Rect};
 use vz_ids::{EmbedToken, FrameSinkId, LocalSurfaceId};
 use vz_pixels::Pixel;
 
-fn red_quad(blend: Blend) -> Result<DrawQuad, Fail> {
-    let red = Pixel::new(255, 0, 0, 255).ok_or("red is premultiplied")?;
-    Ok(DrawQuad {
-        offset: Point { x: 0, y: 0 },
-        area: Rect::new(1, 0, 2, 2),
-        visible: Rect::new(1, 0, 2, 2),
-        clip: None,
-        opacity: 255,
-        blend,
-        material: Material::Solid(red),
-    })
+/// The sink of the worked file.
+const SINK: FrameSinkId = FrameSinkId {
+    client_id: 1,
+    sink_id: 1,
+};
+
+/// The surface of the worked file's frame, which is the root.
+const LOCAL: LocalSurfaceId = LocalSurfaceId {
+    parent: 1,
+    child: 1,
+    token: EmbedToken(1),
+};
+
+/// Whether a quad is the worked file's red one, with this mode.
+fn is_red(quad: &DrawQuad, blend: Blend) -> bool {
+    let Some(red) = Pixel::new(255, 0, 0, 255) else {
+        return false;
+    };
+    *quad
+        == DrawQuad {
+            offset: Point { x: 0, y: 0 },
+            area: Rect::new(1, 0, 2, 2),
+            visible: Rect::new(1, 0, 2, 2),
+            clip: None,
+            opacity: 255,
+            blend,
+            material: Material::Solid(red),
+        }
+}
+
+/// Whether a pass is the worked file's.
+fn is_worked_pass(pass: &RenderPass) -> bool {
+    let display = Rect::new(0, 0, 4, 2);
+    let [quad] = pass.quads.as_slice() else {
+        return false;
+    };
+    pass.id == 1 && pass.output == display && pass.damage == display && is_red(quad, Blend::Over)
+}
+
+/// Whether a frame has one pass, and nothing beside it.
+fn is_pass_alone(frame: &CompositorFrame) -> bool {
+    frame.metadata.dependencies.is_empty()
+        && frame.metadata.references.is_empty()
+        && frame.resources.is_empty()
+        && frame.passes.len() == 1
+}
+
+/// Whether a frame has the token 7, answers no begin-frame and has no deadline.
+fn is_token_7(frame: &CompositorFrame) -> bool {
+    frame.metadata.token == 7 && frame.metadata.ack == 0 && frame.metadata.deadline.is_none()
 }
 
 #[test]
 fn worked_file(rt: HostRuntime) -> Result<(), Fail> {
-    let file = decode(rt.alloc(), &FILE).ok().ok_or("it is a file")?;
+    let file = file_of(rt.alloc(), &FILE)?;
     assert_eq!(rt; file.format, 1);
-    assert!(rt;
-        file.sink
-            == FrameSinkId {
-                client_id: 1,
-                sink_id: 1
-            }
-    );
-    let local = LocalSurfaceId {
-        parent: 1,
-        child: 1,
-        token: EmbedToken(1),
+    assert!(rt; file.sink == SINK);
+    let [Message::Submit { local, frame }, Message::SetRoot(root)] = file.messages.as_slice() else {
+        return Err(Fail::new("not a frame, and then the root"));
     };
-    match file.messages.as_slice() {
-        [
-            Message::Submit {
-                local: first,
-                frame,
-            },
-            Message::SetRoot(root),
-        ] => {
-            assert!(rt; *first == local);
-            assert!(rt; *root == local);
-            assert_eq!(rt; frame.metadata.token, 7);
-            assert_eq!(rt; frame.metadata.ack, 0);
-            assert!(rt; frame.metadata.deadline.is_none());
-            assert!(rt; frame.metadata.dependencies.as_slice().is_empty());
-            assert!(rt; frame.metadata.references.as_slice().is_empty());
-            assert!(rt; frame.resources.as_slice().is_empty());
-            assert_eq!(rt; frame.passes.as_slice().len(), 1);
-            for pass in frame.passes.as_slice() {
-                assert_eq!(rt; pass.id, 1);
-                assert!(rt; pass.output == Rect::new(0, 0, 4, 2));
-                assert!(rt; pass.damage == Rect::new(0, 0, 4, 2));
-                assert_eq!(rt; pass.quads.as_slice().len(), 1);
-                for quad in pass.quads.as_slice() {
-                    assert!(rt; *quad == red_quad(Blend::Over)?);
-                }
-            }
-        }
-        _ => assert!(rt; false, "a frame, and then the root"),
-    }
+    assert!(rt; *local == LOCAL);
+    assert!(rt; *root == LOCAL);
+    assert!(rt; is_token_7(frame));
+    assert!(rt; is_pass_alone(frame));
+    assert!(rt; frame.passes.iter().all(is_worked_pass));
     Ok(())
 }
 
@@ -116,29 +123,32 @@ fn are_all_short(alloc: Global) -> bool {
 }
 
 #[test]
-fn every_byte_is_wanted(rt: HostRuntime) -> Result<(), Fail> {
-    assert!(rt; are_all_short(rt.alloc()));
-    let longer = replaced(rt.alloc(), 166, 166, &[0])?;
-    assert!(rt; refusal(rt.alloc(), &longer) == Some((166, FileRule::Trailing)));
+fn every_byte_is_wanted(rt: HostRuntime) {
+    let alloc = rt.alloc();
+    assert!(rt; are_all_short(alloc));
+    let longer = replaced(alloc, 166, 166, &[0]);
+    assert!(rt; is_refused(alloc, longer, 166, FileRule::Trailing));
 
     // Many messages are told, and none is there.
-    let front = front(rt.alloc(), 1, 4096)?;
-    assert!(rt; refusal(rt.alloc(), &front) == Some((18, FileRule::Short)));
-    Ok(())
+    assert!(rt; is_refused(alloc, front(alloc, 1, 4096), 18, FileRule::Short));
+}
+
+/// Whether the worked file with the mode of this number is read with this mode; none where it is
+/// no file with a quad.
+fn has_mode(alloc: Global, number: u8, blend: Blend) -> Option<bool> {
+    let bytes = with_mode(alloc, number).ok()?;
+    let file = decode(alloc, &bytes).ok()?;
+    let quad = first_quad(&file)?;
+    Some(file.format == 2 && is_red(quad, blend))
 }
 
 #[test]
-fn modes_of_format_2(rt: HostRuntime) -> Result<(), Fail> {
-    for (number, blend) in [(0, Blend::Over), (1, Blend::Src), (2, Blend::DstIn)] {
-        let bytes = with_mode(rt.alloc(), number)?;
-        let file = decode(rt.alloc(), &bytes).ok().ok_or("it is a file")?;
-        assert_eq!(rt; file.format, 2);
-        let quad = first_quad(&file).ok_or("it has a quad")?;
-        assert!(rt; *quad == red_quad(blend)?, "mode {number}");
-    }
-    let bytes = with_mode(rt.alloc(), 3)?;
-    assert!(rt; refusal(rt.alloc(), &bytes) == Some((MATERIAL, FileRule::Tag)));
-    Ok(())
+fn modes_of_format_2(rt: HostRuntime) {
+    let alloc = rt.alloc();
+    assert_eq!(rt; has_mode(alloc, 0, Blend::Over), Some(true));
+    assert_eq!(rt; has_mode(alloc, 1, Blend::Src), Some(true));
+    assert_eq!(rt; has_mode(alloc, 2, Blend::DstIn), Some(true));
+    assert!(rt; is_refused(alloc, with_mode(alloc, 3), MATERIAL, FileRule::Tag));
 }
 
 fn first_quad(file: &ClientFile) -> Option<&DrawQuad> {
@@ -149,24 +159,22 @@ fn first_quad(file: &ClientFile) -> Option<&DrawQuad> {
 }
 
 #[test]
-fn format_2_has_modes(rt: HostRuntime) -> Result<(), Fail> {
+fn format_2_has_modes(rt: HostRuntime) {
     // The tag 1 is read as the mode, and the first byte of the colour as the tag.
     assert!(rt; refuses(rt.alloc(), 4, 2, 137, FileRule::Tag));
-    Ok(())
 }
+
+/// An Upload of two texels, a DidNotProduce, a Reclaim, a Hierarchy, an Await and a Close.
+const SIX_MESSAGES: [u8; 42] = [
+    1, 9, 0, 0, 0, 2, 0, 1, 0, 0, 0, 0, 0, 3, 2, 1, 255, 3, 7, 0, 0, 0, 4, 6, 1, 0, 0, 0, 1, 0, 0,
+    0, 2, 0, 0, 0, 1, 0, 0, 0, 7, 8,
+];
 
 #[test]
 fn every_kind_of_message(rt: HostRuntime) -> Result<(), Fail> {
-    let mut bytes = Vec::from_slice(rt.alloc(), &FILE[..14])?;
-    bytes.extend_from_slice(&[6, 0, 0, 0])?;
-    // A block of two texels.
-    bytes.extend_from_slice(&[1, 9, 0, 0, 0, 2, 0, 1, 0, 0, 0, 0, 0, 3, 2, 1, 255])?;
-    bytes.extend_from_slice(&[3, 7, 0, 0, 0])?;
-    bytes.extend_from_slice(&[4])?;
-    bytes.extend_from_slice(&[6, 1, 0, 0, 0, 1, 0, 0, 0, 2, 0, 0, 0, 1, 0, 0, 0])?;
-    bytes.extend_from_slice(&[7])?;
-    bytes.extend_from_slice(&[8])?;
-    let file = decode(rt.alloc(), &bytes).ok().ok_or("it is a file")?;
+    let mut bytes = front(rt.alloc(), 1, 6)?;
+    bytes.extend_from_slice(&SIX_MESSAGES)?;
+    let file = file_of(rt.alloc(), &bytes)?;
     match file.messages.as_slice() {
         [
             Message::Upload { id, .. },
@@ -192,6 +200,17 @@ fn reads(alloc: Global, error: DecodeError, text: &str) -> Result<bool, Fail> {
     Ok(told.as_str() == text)
 }
 
+/// The first of these rules by which a refusal at byte 3 reads otherwise.
+fn first_other(alloc: Global, texts: &[(FileRule, &str)]) -> Result<Option<FileRule>, Fail> {
+    for (rule, text) in texts {
+        let error = DecodeError::Refused { at: 3, rule: *rule };
+        if !reads(alloc, error, text)? {
+            return Ok(Some(*rule));
+        }
+    }
+    Ok(None)
+}
+
 #[test]
 fn errors_read_aloud(rt: HostRuntime) -> Result<(), Fail> {
     let alloc = rt.alloc();
@@ -204,10 +223,7 @@ fn errors_read_aloud(rt: HostRuntime) -> Result<(), Fail> {
         (FileRule::Colour, "byte 3: a channel exceeds its alpha"),
         (FileRule::Trailing, "byte 3: bytes are left over"),
     ];
-    for (rule, text) in texts {
-        let error = DecodeError::Refused { at: 3, rule };
-        assert!(rt; reads(alloc, error, text)?);
-    }
+    assert_eq!(rt; first_other(alloc, &texts)?, None);
     assert!(rt; reads(alloc, DecodeError::Memory, "memory ran out")?);
     Ok(())
 }

@@ -81,109 +81,138 @@ fn writes_one_frame_shown(rt: HostRuntime) -> Result<(), Fail> {
     Ok(())
 }
 
+/// Whether a history of this entry without effects, with nothing out, is written so.
+fn is_written(alloc: Global, event: Event, reply: Reply, text: &str) -> Result<bool, Fail> {
+    let history = list(alloc, [plain(alloc, event, reply)])?;
+    let written = write(alloc, &history, &nothing_out(alloc))?;
+    Ok(written.as_str() == text)
+}
+
+/// Whether a reply of client 1 is written so.
+fn is_told(alloc: Global, reply: Reply, text: &str) -> Result<bool, Fail> {
+    is_written(alloc, Event::Client(1), reply, text)
+}
+
+/// Whether these references that were reclaimed are written so.
+fn is_reclaimed(alloc: Global, returns: &[Returned], text: &str) -> Result<bool, Fail> {
+    let returns = List::from_vec(Vec::from_slice(alloc, returns)?);
+    is_told(alloc, Reply::Reclaimed(returns), text)
+}
+
 #[test]
-fn writes_each_reply(rt: HostRuntime) -> Result<(), Fail> {
+fn writes_each_reply_to_a_client(rt: HostRuntime) -> Result<(), Fail> {
     let alloc = rt.alloc();
-    let returns = list(alloc, [back(5, 7, 2), back(5, 4294967295, 1)])?;
-    for (event, reply, wanted) in [
-        (Event::Client(1), Reply::Stored, "c1 stored\nend\n"),
-        (
+    let accepted = Reply::Accepted {
+        ordinal: 12,
+        index: 3,
+    };
+    assert!(rt;
+        is_written(
+            alloc,
             Event::Client(16),
-            Reply::Accepted {
-                ordinal: 12,
-                index: 3,
-            },
-            "c16 accepted 12 3\nend\n",
-        ),
-        (Event::Client(2), Reply::Noted, "c2 noted\nend\n"),
-        (
-            Event::Client(5),
-            Reply::Reclaimed(returns),
-            "c5 reclaimed 7x2 4294967295x1\nend\n",
-        ),
-        (
-            Event::Client(3),
-            Reply::Reclaimed(List::new(alloc)),
-            "c3 reclaimed\nend\n",
-        ),
-        (Event::Client(1), Reply::Rooted, "c1 rooted\nend\n"),
-        (Event::Client(1), Reply::Joined, "c1 joined\nend\n"),
-        (Event::Client(1), Reply::Began(0), "c1 began 0\nend\n"),
-        (Event::Client(1), Reply::Over, "c1 over\nend\n"),
-        (Event::Client(1), Reply::Left, "c1 left\nend\n"),
-        (Event::Begin, Reply::Ticked(10), "begin ticked 10\nend\n"),
-        (
-            Event::Draw,
-            Reply::Drawn(Rect::new(5, 6, 10, 20)),
-            "draw drawn 5 6 10 20\nend\n",
-        ),
-        (Event::Draw, Reply::Unchanged, "draw unchanged\nend\n"),
-        (Event::Draw, Reply::NoRoot, "draw noroot\nend\n"),
-        (Event::Draw, Reply::TooMuch, "draw toomuch\nend\n"),
-        (Event::Draw, Reply::Busy, "draw busy\nend\n"),
-        (Event::Done, Reply::Shown, "done shown\nend\n"),
-        (Event::Done, Reply::Nothing, "done nothing\nend\n"),
-        (Event::Over, Reply::Ended, "over ended\nend\n"),
-    ] {
-        let history = list(alloc, [plain(alloc, event, reply)])?;
-        let text = write(alloc, &history, &nothing_out(alloc))?;
-        assert_eq!(rt; text.as_str(), wanted);
-    }
+            accepted,
+            "c16 accepted 12 3\nend\n"
+        )?
+    );
+    assert!(rt; is_told(alloc, Reply::Stored, "c1 stored\nend\n")?);
+    assert!(rt; is_told(alloc, Reply::Noted, "c1 noted\nend\n")?);
+    assert!(rt; is_told(alloc, Reply::Rooted, "c1 rooted\nend\n")?);
+    assert!(rt; is_told(alloc, Reply::Joined, "c1 joined\nend\n")?);
+    assert!(rt; is_told(alloc, Reply::Began(0), "c1 began 0\nend\n")?);
+    assert!(rt; is_told(alloc, Reply::Over, "c1 over\nend\n")?);
+    assert!(rt; is_told(alloc, Reply::Left, "c1 left\nend\n")?);
+    assert!(rt; is_reclaimed(alloc, &[], "c1 reclaimed\nend\n")?);
+    let returns = [back(1, 7, 2), back(1, 4294967295, 1)];
+    assert!(rt; is_reclaimed(alloc, &returns, "c1 reclaimed 7x2 4294967295x1\nend\n")?);
     Ok(())
+}
+
+/// Whether an answer of the display to a Draw is written so.
+fn is_answered(alloc: Global, reply: Reply, text: &str) -> Result<bool, Fail> {
+    is_written(alloc, Event::Draw, reply, text)
+}
+
+#[test]
+fn writes_each_answer_of_the_display(rt: HostRuntime) -> Result<(), Fail> {
+    let alloc = rt.alloc();
+    let drawn = Reply::Drawn(Rect::new(5, 6, 10, 20));
+    assert!(rt; is_answered(alloc, drawn, "draw drawn 5 6 10 20\nend\n")?);
+    assert!(rt; is_answered(alloc, Reply::Unchanged, "draw unchanged\nend\n")?);
+    assert!(rt; is_answered(alloc, Reply::NoRoot, "draw noroot\nend\n")?);
+    assert!(rt; is_answered(alloc, Reply::TooMuch, "draw toomuch\nend\n")?);
+    assert!(rt; is_answered(alloc, Reply::Busy, "draw busy\nend\n")?);
+    assert!(rt;
+        is_written(
+            alloc,
+            Event::Begin,
+            Reply::Ticked(10),
+            "begin ticked 10\nend\n"
+        )?
+    );
+    assert!(rt; is_written(alloc, Event::Done, Reply::Shown, "done shown\nend\n")?);
+    assert!(rt; is_written(alloc, Event::Done, Reply::Nothing, "done nothing\nend\n")?);
+    assert!(rt; is_written(alloc, Event::Over, Reply::Ended, "over ended\nend\n")?);
+    Ok(())
+}
+
+/// The first of these refusals that is written otherwise.
+fn first_other(alloc: Global, texts: &[(Refusal, &str)]) -> Result<Option<Refusal>, Fail> {
+    for (refusal, text) in texts {
+        if !is_told(alloc, Reply::Refused(*refusal), text)? {
+            return Ok(Some(*refusal));
+        }
+    }
+    Ok(None)
 }
 
 #[test]
 fn writes_each_refusal(rt: HostRuntime) -> Result<(), Fail> {
-    let alloc = rt.alloc();
-    for (refusal, wanted) in [
-        (Refusal::AlreadyClosed, "c1 refused 1\nend\n"),
-        (Refusal::Malformed(Rule::NoPass), "c1 refused 2 1\nend\n"),
-        (Refusal::Malformed(Rule::BadRoot), "c1 refused 2 2\nend\n"),
-        (Refusal::Malformed(Rule::PassIds), "c1 refused 2 3\nend\n"),
-        (Refusal::Malformed(Rule::PassOrder), "c1 refused 2 4\nend\n"),
-        (
-            Refusal::Malformed(Rule::VisibleOutside),
-            "c1 refused 2 5\nend\n",
-        ),
-        (
-            Refusal::Malformed(Rule::UnlistedResource),
-            "c1 refused 2 6\nend\n",
-        ),
-        (
-            Refusal::Malformed(Rule::ListedTwice),
-            "c1 refused 2 7\nend\n",
-        ),
-        (
-            Refusal::Malformed(Rule::TileOutside),
-            "c1 refused 2 8\nend\n",
-        ),
-        (Refusal::Malformed(Rule::BadRange), "c1 refused 2 9\nend\n"),
-        (
-            Refusal::Malformed(Rule::BadDependency),
-            "c1 refused 2 10\nend\n",
-        ),
-        (
-            Refusal::Malformed(Rule::DamageOutside),
-            "c1 refused 2 11\nend\n",
-        ),
-        (Refusal::UnknownResource, "c1 refused 3\nend\n"),
-        (Refusal::InvariantsViolation, "c1 refused 4\nend\n"),
-        (Refusal::SizeMismatch, "c1 refused 5\nend\n"),
-        (Refusal::InUse, "c1 refused 6\nend\n"),
-        (Refusal::NotRoot, "c1 refused 7\nend\n"),
-        (Refusal::Loop, "c1 refused 8\nend\n"),
-        (Refusal::UnknownSink, "c1 refused 9\nend\n"),
-        (Refusal::ParentOfOther, "c1 refused 10\nend\n"),
-        (Refusal::NotYet, "c1 refused 11\nend\n"),
-        (Refusal::NoMessage, "c1 refused 12\nend\n"),
-    ] {
-        let history = list(
-            alloc,
-            [plain(alloc, Event::Client(1), Reply::Refused(refusal))],
-        )?;
-        let text = write(alloc, &history, &nothing_out(alloc))?;
-        assert_eq!(rt; text.as_str(), wanted);
-    }
+    let other = first_other(
+        rt.alloc(),
+        &[
+            (Refusal::AlreadyClosed, "c1 refused 1\nend\n"),
+            (Refusal::Malformed(Rule::NoPass), "c1 refused 2 1\nend\n"),
+            (Refusal::Malformed(Rule::BadRoot), "c1 refused 2 2\nend\n"),
+            (Refusal::Malformed(Rule::PassIds), "c1 refused 2 3\nend\n"),
+            (Refusal::Malformed(Rule::PassOrder), "c1 refused 2 4\nend\n"),
+            (
+                Refusal::Malformed(Rule::VisibleOutside),
+                "c1 refused 2 5\nend\n",
+            ),
+            (
+                Refusal::Malformed(Rule::UnlistedResource),
+                "c1 refused 2 6\nend\n",
+            ),
+            (
+                Refusal::Malformed(Rule::ListedTwice),
+                "c1 refused 2 7\nend\n",
+            ),
+            (
+                Refusal::Malformed(Rule::TileOutside),
+                "c1 refused 2 8\nend\n",
+            ),
+            (Refusal::Malformed(Rule::BadRange), "c1 refused 2 9\nend\n"),
+            (
+                Refusal::Malformed(Rule::BadDependency),
+                "c1 refused 2 10\nend\n",
+            ),
+            (
+                Refusal::Malformed(Rule::DamageOutside),
+                "c1 refused 2 11\nend\n",
+            ),
+            (Refusal::UnknownResource, "c1 refused 3\nend\n"),
+            (Refusal::InvariantsViolation, "c1 refused 4\nend\n"),
+            (Refusal::SizeMismatch, "c1 refused 5\nend\n"),
+            (Refusal::InUse, "c1 refused 6\nend\n"),
+            (Refusal::NotRoot, "c1 refused 7\nend\n"),
+            (Refusal::Loop, "c1 refused 8\nend\n"),
+            (Refusal::UnknownSink, "c1 refused 9\nend\n"),
+            (Refusal::ParentOfOther, "c1 refused 10\nend\n"),
+            (Refusal::NotYet, "c1 refused 11\nend\n"),
+            (Refusal::NoMessage, "c1 refused 12\nend\n"),
+        ],
+    )?;
+    assert_eq!(rt; other, None);
     Ok(())
 }
 
