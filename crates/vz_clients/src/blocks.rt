@@ -1,4 +1,4 @@
-//! The blocks that a client stored.
+//! The pixel blocks that a client uploaded.
 ghost use Rattle.std.specs.Prelude.{◌≡◌, ◌++◌, [], Some, None, ◌<◌, nat_eq, IfOk, OnOk};
 ghost use Rattle.std.specs.List.{list_all};
 ghost use Rattle.std.specs.Option.{option_copied, option_to_list};
@@ -11,14 +11,14 @@ use vz_base::Memory;
 use vz_frame::{List, Listing};
 use vz_pixels::PixelBlock;
 
-/// The blocks that a client stored, each under its id.
+/// The pixel blocks that a client uploaded, each under its resource id.
 #[derive(Drop)]
 pub(crate) struct Blocks {
     pub(crate) blocks: IndexMap<u32, PixelBlock>,
 }
 
 impl Blocks {
-    /// None is stored. It takes no memory.
+    /// Creates an empty store. It allocates nothing.
     pub(crate) fn new(alloc: Global) -> Blocks
         ensures { result.blocks.entries ≡ [] }
     {
@@ -27,7 +27,7 @@ impl Blocks {
         }
     }
 
-    /// Makes room for one block more. Memory is the only error.
+    /// Makes room for one more block. The only error is `Memory`, if an allocation fails.
     pub(crate) fn reserve(&mut self) -> Result<(), Memory>
         ensures entries { self.new.blocks.entries ≡ self.old.blocks.entries }
         ensures room { OnOk result (0 < spare_of self.new.blocks) }
@@ -36,7 +36,7 @@ impl Blocks {
         Ok(())
     }
 
-    /// An id names a block from now on. Condition: there is room for one.
+    /// Stores a block under an id, in place of an earlier one. Condition: there is room for one.
     pub(crate) fn put(&mut self, id: u32, block: PixelBlock)
         requires { 0 < spare_of self.old.blocks }
         ensures { self.new.blocks.entries ≡ insert_entry nat_eq self.old.blocks.entries id block }
@@ -51,7 +51,7 @@ impl Blocks {
         self.blocks.get(&id)
     }
 
-    /// Whether a listing has a stored block of its size.
+    /// Whether a block of the listing's size is stored under its id.
     fn knows(&self, listing: &Listing) -> bool
         ensures { result ≡ knows self.now.blocks.entries listing.now }
     {
@@ -63,14 +63,14 @@ impl Blocks {
         }
     }
 
-    /// Whether each of some listings has a stored block of its size.
+    /// Whether a block of its size is stored for each listing.
     pub(crate) fn knows_all(&self, listings: &[Listing]) -> bool
         ensures { result ≡ list_all (knows self.now.blocks.entries) listings.now }
     {
         listings.iter().all(|listing| self.knows(listing))
     }
 
-    /// The block of each of some listings. No pixel is copied.
+    /// The blocks of some listings, in their order. They are shared: no pixel is copied.
     pub(crate) fn listed(
         &self,
         alloc: Global,
@@ -86,7 +86,7 @@ impl Blocks {
     }
 }
 
-/// Puts a block at the end, if there is one. No pixel is copied.
+/// Appends a block, if there is one. It is shared: no pixel is copied.
 fn push_shared(list: &mut Vec<PixelBlock>, block: Option<&PixelBlock>) -> Result<(), Memory>
     ensures { OnOk result
         (list.new.items ≡ list.old.items ++ option_to_list (option_copied block.entry)) }

@@ -40,7 +40,7 @@ impl Model for Client {
 }
 
 impl Client {
-    /// Nothing was taken of a file. It takes no memory.
+    /// Creates a client whose file is untouched. It allocates nothing.
     pub(crate) fn new(alloc: Global, file: ClientFile) -> Client
         ensures { result ≡ opened file }
     {
@@ -53,14 +53,14 @@ impl Client {
         }
     }
 
-    /// The message that is taken next.
+    /// The client's next message, if there is one.
     pub(crate) fn next(&self) -> Option<&Message>
         ensures { option_copied result ≡ first_of self.now.left }
     {
         self.messages.next()
     }
 
-    /// Takes the next message. Condition: there is one.
+    /// Takes the next message out of the file. Condition: there is one.
     pub(crate) fn take(&mut self) -> Message
         requires { 0 < length self.old.left }
         ensures message { Some result ≡ first_of self.old.left }
@@ -69,7 +69,8 @@ impl Client {
         self.messages.take()
     }
 
-    /// Leaves the next message in its place, as one that was taken. Condition: there is one.
+    /// Goes past the next message, which counts as taken but stays in memory. Condition: there is
+    /// one.
     pub(crate) fn skip(&mut self)
         requires { 0 < length self.old.left }
         ensures { self.new ≡ taking_one self.old }
@@ -77,7 +78,7 @@ impl Client {
         self.messages.skip();
     }
 
-    /// The last message that was taken is the next one again. Condition: one was taken.
+    /// Puts the message that was taken last back as the next one. Condition: one was taken.
     pub(crate) fn put_back(&mut self, message: Message)
         requires { 0 < self.old.taken }
         ensures { self.new ≡ giving_back message self.old }
@@ -85,8 +86,8 @@ impl Client {
         self.messages.put_back(message);
     }
 
-    /// Takes the next message, an upload, and stores its block. At want of memory nothing changes.
-    /// Condition: the next message is an upload.
+    /// Takes the next message, an upload, and stores its block. If an allocation fails, nothing
+    /// changes. Condition: the next message is an upload.
     pub(crate) fn store(&mut self) -> Result<(), Memory>
         requires { (id : ℕ) × (block : Block) × (first_of self.old.left ≡ Some (Upload id block)) }
         ensures ok { (id : ℕ) (block : Block) → first_of self.old.left ≡ Some (Upload id block)
@@ -101,14 +102,14 @@ impl Client {
         Ok(())
     }
 
-    /// The client is closed.
+    /// Closes the client.
     pub(crate) fn close(&mut self)
         ensures { self.new ≡ closing self.old }
     {
         self.closed = true;
     }
 
-    /// The client has answered a tick.
+    /// Notes that the client has answered a tick.
     pub(crate) fn answer(&mut self, tick: u32)
         ensures { self.new ≡ answering tick self.old }
     {

@@ -18,7 +18,7 @@ use vz_ids::FrameSinkId;
 use vz_pixels::PixelBlock;
 
 /// The clients of a plan, numbered from 1: the messages that each has still to send, which are
-/// moved out as they are taken, and the blocks that it stored.
+/// moved out as they are taken, and the blocks that it uploaded.
 #[derive(Drop)]
 pub struct Clients {
     list: Vec<Client>,
@@ -34,8 +34,8 @@ impl Model for Clients {
 }
 
 impl Clients {
-    /// The clients of these files, of which nothing was taken. For want of memory, and only then,
-    /// the files come back.
+    /// Creates the clients of these files, one for each, in their order. If an allocation fails,
+    /// the error gives the files back.
     pub fn open(alloc: Global, files: Vec<ClientFile>) -> Result<Clients, Vec<ClientFile>>
         ensures ok { IfOk result (λ clients. clients ≡ map opened files.items) }
         ensures back { IfErr result (λ f. f.items ≡ files.items) }
@@ -56,7 +56,7 @@ impl Clients {
         self.list.len()
     }
 
-    /// The client of a number.
+    /// The client with a number. Condition: it exists.
     fn get(&self, c: u32) -> &Client
         requires some { 1 ≤ c }
         requires known { c ≤ length self.now }
@@ -65,7 +65,7 @@ impl Clients {
         &self.list[(c - 1) as usize]
     }
 
-    /// The sink of a client. Condition: the client is there.
+    /// The sink of a client. Condition: the client exists.
     pub fn sink(&self, c: u32) -> FrameSinkId
         requires some { 1 ≤ c }
         requires known { c ≤ length self.now }
@@ -74,7 +74,8 @@ impl Clients {
         self.get(c).sink
     }
 
-    /// The message that a client sends next, if there is one. Condition: the client is there.
+    /// The message that a client sends next, or None if it has sent all. Condition: the client
+    /// exists.
     pub fn next(&self, c: u32) -> Option<&Message>
         requires some { 1 ≤ c }
         requires known { c ≤ length self.now }
@@ -83,7 +84,7 @@ impl Clients {
         self.get(c).next()
     }
 
-    /// Whether a client is closed. Condition: the client is there.
+    /// Whether a client is closed. Condition: the client exists.
     pub fn is_closed(&self, c: u32) -> bool
         requires some { 1 ≤ c }
         requires known { c ≤ length self.now }
@@ -92,8 +93,8 @@ impl Clients {
         self.get(c).closed
     }
 
-    /// The tick that a client answered last, 0 before it answered one. Condition: the client is
-    /// there.
+    /// The tick that a client answered last, or 0 if it has answered none. Condition: the client
+    /// exists.
     pub fn answered(&self, c: u32) -> u32
         requires some { 1 ≤ c }
         requires known { c ≤ length self.now }
@@ -112,7 +113,7 @@ impl Clients {
             .any(|client| client.closed && client.sink == *sink)
     }
 
-    /// Takes the next message of a client. Conditions: the client is there, and it has one.
+    /// Takes the next message of a client. Conditions: the client exists, and it has a message.
     pub fn take(&mut self, c: u32) -> Message
         requires some { 1 ≤ c }
         requires known { c ≤ length self.old }
@@ -123,9 +124,9 @@ impl Clients {
         self.list[(c - 1) as usize].take()
     }
 
-    /// Takes the next message of a client, which stays in its place until the end: for one that has
-    /// nothing to move out, and no memory of its own. Conditions: the client is there, and it has
-    /// one.
+    /// Goes past the next message of a client, which counts as taken but stays in memory until
+    /// the end. It is meant for a message that has nothing to move out and no memory of its own.
+    /// Conditions: the client exists, and it has a message.
     pub fn skip(&mut self, c: u32)
         requires some { 1 ≤ c }
         requires known { c ≤ length self.old }
@@ -135,8 +136,8 @@ impl Clients {
         self.list[(c - 1) as usize].skip();
     }
 
-    /// The message of a client that was taken last is its next one again. Conditions: the client
-    /// is there, and one was taken.
+    /// Puts the message that was taken last from a client back as its next one. Conditions: the
+    /// client exists, and a message was taken.
     pub fn put_back(&mut self, c: u32, message: Message)
         requires some { 1 ≤ c }
         requires known { c ≤ length self.old }
@@ -146,7 +147,7 @@ impl Clients {
         self.list[(c - 1) as usize].put_back(message);
     }
 
-    /// A client is closed. Condition: the client is there.
+    /// Closes a client. Condition: the client exists.
     pub fn close(&mut self, c: u32)
         requires some { 1 ≤ c }
         requires known { c ≤ length self.old }
@@ -155,7 +156,7 @@ impl Clients {
         self.list[(c - 1) as usize].close();
     }
 
-    /// A client has answered a tick. Condition: the client is there.
+    /// Notes that a client has answered a tick. Condition: the client exists.
     pub fn answer(&mut self, c: u32, tick: u32)
         requires some { 1 ≤ c }
         requires known { c ≤ length self.old }
@@ -164,8 +165,8 @@ impl Clients {
         self.list[(c - 1) as usize].answer(tick);
     }
 
-    /// Whether a client stored, for each of some listings, a block of its size. Condition: the
-    /// client is there.
+    /// Whether a client has stored, for each of some listings, a block of its size. Condition:
+    /// the client exists.
     pub fn knows_all(&self, c: u32, listings: &[Listing]) -> bool
         requires some { 1 ≤ c }
         requires known { c ≤ length self.now }
@@ -174,8 +175,9 @@ impl Clients {
         self.get(c).blocks.knows_all(listings)
     }
 
-    /// The block of each of some listings that a client stored one for, in their order. No pixel
-    /// is copied. Condition: the client is there.
+    /// The blocks that a client stored for these listings, in their order. They are shared: no
+    /// pixel is copied. A listing without a stored block has none in the answer. Condition: the
+    /// client exists.
     pub fn blocks(
         &self,
         alloc: Global,
@@ -189,9 +191,9 @@ impl Clients {
         self.get(c).blocks.listed(alloc, listings)
     }
 
-    /// Takes the next message of a client, an upload, and stores its block. For want of memory,
-    /// and only then, it answers Memory and nothing changes. Conditions: the client is there, and
-    /// its next message is an upload.
+    /// Takes the next message of a client, an upload, and stores its block. It returns `Memory`
+    /// if an allocation fails; then nothing changes. Conditions: the client exists, and its next
+    /// message is an upload.
     pub fn store(&mut self, c: u32) -> Result<(), Memory>
         requires some { 1 ≤ c }
         requires known { c ≤ length self.old }

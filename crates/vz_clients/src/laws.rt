@@ -1,5 +1,5 @@
-//! Laws of clients, each the contract of a function that does nothing: what is kept of them changes
-//! as the machine's state does, and what is read of it is read of that state.
+//! Laws of clients: each is the contract of a function with an empty body. What is kept of
+//! clients changes as the machine's state does, and agrees with that state.
 ghost use Rattle.std.specs.Prelude.{◌≡◌, ℕ, not, ◌&&◌, Some, None, false, true, IsTrue, IsFalse, List, map, length};
 ghost use Rattle.std.specs.List.{list_any, list_all};
 ghost use Rattle.vz_ids.specs.declared.FrameSinkId.{FrameSinkId};
@@ -23,14 +23,15 @@ ghost use Rattle.vz_clients.specs.Sent.{Sender, opened, sender_at, taking_one, c
 ghost use Rattle.vz_clients.specs.Changed.{ChangesOne};
 ghost use Rattle.vz_clients.specs.Sending.{AreSenders};
 
-/// What is kept of clients is that of the opening state where nothing was taken of their files.
+/// Before the first message of any file is taken, what is kept of clients is that of the opening
+/// state.
 pub fn clients_open()
     ensures { (p : Plan) → AreSenders p (opening p) (map opened p.files) }
 {}
 
-/// What is kept of a client changes as the machine's state does where one of its messages is taken:
-/// whatever else the message changes, one is taken of the file; an upload names a block; an answer
-/// to the tick is noted; and the client may be closed.
+/// When a message of a client is taken, what is kept of the client changes as the machine's state
+/// does: one message fewer is left, an upload stores a block, an answer to a tick is noted, and
+/// the client may be closed.
 pub fn clients_follow()
     ensures taken { (p : Plan) (w : World) (x : Client) (old new : List Sender)
         → KeepsClients w.clients → AreSenders p w old
@@ -57,7 +58,7 @@ pub fn clients_follow()
         → AreSenders p (message_answer w x Close).world new }
 {}
 
-/// No other change of the machine's state is one of a client's messages and blocks.
+/// No other change of the machine's state changes a client's messages and blocks.
 pub fn clients_stay()
     ensures rising { (p : Plan) (w : World) (s : Submission) (list : List Sender)
         → AreSenders p w list → AreSenders p (rising s w) list }
@@ -79,8 +80,8 @@ pub fn clients_stay()
         → AreSenders p w list → AreSenders p (done_answer w).world list }
 {}
 
-/// What is read of a client is read of the machine's state: the next message, the sinks of closed
-/// clients, which listings are unknown, and the blocks of listings.
+/// What is read of a client agrees with the machine's state: the next message, the sinks of
+/// closed clients, which listings are unknown, and the blocks of listings.
 pub fn clients_tell()
     ensures next { (p : Plan) (w : World) (x : Client) (list : List Sender)
         → AreSenders p w list → client_at w x.number ≡ Some x

@@ -1,6 +1,7 @@
-//! What clients have still to send, and what each of them stored.
+//! The messages that clients have still to send, and the blocks that each of them uploaded.
 //!
-//! Messages are moved out of the files as they are taken. An upload's block is kept under its id.
+//! Messages are moved out of the files as they are taken. The block of an upload is kept under
+//! its id.
 #![tactic(auto)]
 
 mod blocks;

@@ -7,7 +7,7 @@ use std::marker::Model;
 use std::mem;
 use vz_frame::Message;
 
-/// The messages of a file, of which the first ones were taken.
+/// The messages of a file that are left, and how many were taken.
 #[derive(Drop)]
 pub(crate) struct Messages {
     items: Vec<Message>,
@@ -26,21 +26,21 @@ impl Model for Messages {
 }
 
 impl Messages {
-    /// None of these was taken.
+    /// Creates the list of a file whose messages are all left.
     pub(crate) fn new(items: Vec<Message>) -> Messages
         ensures { result ≡ record { left = items.items; taken = 0 } }
     {
         Messages { items, taken: 0 }
     }
 
-    /// The message that is taken next.
+    /// The next message, if there is one.
     pub(crate) fn next(&self) -> Option<&Message>
         ensures { option_copied result ≡ first_of self.now.left }
     {
         self.items.get(self.taken)
     }
 
-    /// Takes the next message. Condition: there is one.
+    /// Takes the next message out. Condition: there is one.
     pub(crate) fn take(&mut self) -> Message
         requires { 0 < length self.old.left }
         ensures message { Some result ≡ first_of self.old.left }
@@ -52,7 +52,8 @@ impl Messages {
         message
     }
 
-    /// Leaves the next message in its place, as one that was taken. Condition: there is one.
+    /// Goes past the next message, which counts as taken but stays in memory. Condition: there is
+    /// one.
     pub(crate) fn skip(&mut self)
         requires { 0 < length self.old.left }
         ensures { self.new ≡ record { left = drop 1 self.old.left; taken = self.old.taken + 1 } }
@@ -60,7 +61,7 @@ impl Messages {
         self.taken += 1;
     }
 
-    /// The last message that was taken is the next one again. Condition: one was taken.
+    /// Puts the message that was taken last back as the next one. Condition: one was taken.
     pub(crate) fn put_back(&mut self, message: Message)
         requires { 0 < self.old.taken }
         ensures { self.new ≡ record { left = message ∷ self.old.left; taken = self.old.taken - 1 } }

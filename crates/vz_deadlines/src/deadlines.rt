@@ -1,4 +1,4 @@
-//! The submissions that wait until a tick.
+//! The submissions that wait for a deadline.
 ghost use Rattle.std.specs.Prelude.{◌≡◌, ◌≤◌, ◌<◌, ◌+◌, [], ◌∷◌, ◌++◌, length, IsTrue, IsFalse, IsOk, OnOk, OnErr};
 ghost use Rattle.vz_deadlines.specs.Timing.{waits, without, due_at, left_at};
 
@@ -12,13 +12,13 @@ use vz_base::Memory;
 use vz_frame::Room;
 use vz_ids::Sub;
 
-/// The submissions that wait, each until a tick. Contracts see them in the order in which
-/// they were set and, beside them, the room that was made before.
+/// The submissions that wait, each until its deadline, a tick. Contracts see them in the order in
+/// which they were set, and the room that was reserved before.
 ///
-/// Each stands in a slot; the slots are in the order of `set`, and a map tells in which one a
-/// submission stands. A slot that becomes free stays so until there is no other room: then
-/// the others close up, where half of the slots are free, so that this costs no more than the
-/// calls that freed them.
+/// Each is in a slot; the slots are in the order of `set`, and a map has the slot of each
+/// submission. A free slot is not used again until there is no other room. Then, if half of the
+/// slots are free, the others close up, so that this costs no more than the calls that freed
+/// them.
 #[derive(Drop)]
 pub struct Deadlines {
     slots: Slots,
@@ -42,7 +42,7 @@ impl Model for Deadlines {
 }
 
 impl Deadlines {
-    /// None waits. It takes no memory.
+    /// Creates an empty list. It allocates nothing.
     pub fn new(alloc: Global) -> Deadlines
         ensures { result.list ≡ [] }
     {
@@ -54,8 +54,8 @@ impl Deadlines {
         }
     }
 
-    /// Makes room for at least so many more. Memory is the only error. Nothing else changes
-    /// in any case, and no room is lost.
+    /// Makes room for at least `n` more submissions. The only error is `Memory`, if an allocation
+    /// fails. In either case nothing else changes and no room is lost.
     pub fn ready(&mut self, n: usize) -> Result<(), Memory>
         ensures list { self.new.list ≡ self.old.list }
         ensures ok { OnOk result (n ≤ self.new.spare) }
@@ -83,9 +83,9 @@ impl Deadlines {
         Ok(())
     }
 
-    /// A submission waits until a tick. For want of memory, and only then, it answers Memory
-    /// and nothing changes. Where there is room for one it answers Ok; it uses no more of it.
-    /// Condition: the submission does not wait.
+    /// Adds a submission that waits until `tick`. It returns `Memory` if an allocation fails;
+    /// then nothing changes. If there is room for one, it returns Ok and uses up no more than
+    /// that. Condition: the submission does not wait yet.
     pub fn set(&mut self, s: Sub, tick: u32) -> Result<(), Memory>
         requires { IsFalse (waits self.old.list s) }
         ensures list { OnOk result (self.new.list
@@ -102,8 +102,7 @@ impl Deadlines {
         Ok(())
     }
 
-    /// A submission waits no longer. Nothing else changes, and nothing at all where it does
-    /// not wait.
+    /// Removes a submission, which waits no longer. If it did not wait, nothing changes.
     pub fn clear(&mut self, s: Sub)
         ensures list { self.new.list ≡ without s self.old.list }
         ensures gone { IsFalse (waits self.new.list s) }
@@ -120,16 +119,16 @@ impl Deadlines {
         }
     }
 
-    /// How many wait.
+    /// How many submissions wait.
     pub fn waiting(&self) -> usize
         ensures { result ≡ length self.now.list }
     {
         self.waiting
     }
 
-    /// Appends exactly the submissions that are due at a tick, in the order in which they
-    /// were set. They wait no longer. It takes no memory. Condition: `out` has room for all
-    /// that wait.
+    /// Begins a tick: appends to `out` the submissions whose deadline has come, in the order in
+    /// which they were set, and removes them. It allocates nothing. Condition: `out` has room for
+    /// all that wait.
     pub fn begin(&mut self, tick: u32, out: &mut Room<Sub>)
         requires { length self.old.list ≤ out.old.spare }
         ensures out { out.new.list ≡ out.old.list ++ due_at tick self.old.list }

@@ -1,7 +1,7 @@
-//! A submission that waits.
+//! A submission that waits for a deadline.
 use vz_ids::Sub;
 
-/// A submission that waits, and the tick at which it is due.
+/// A submission that waits, and the tick of its deadline.
 #[derive(Clone, Copy)]
 pub(crate) struct Due {
     pub(crate) sub: Sub,

@@ -1,5 +1,5 @@
-//! The deadlines of submissions that wait: at which tick each of them becomes active even if
-//! it lacks a dependency.
+//! The deadlines of submissions that wait: the tick at which each becomes active even if it lacks
+//! a dependency.
 #![tactic(auto)]
 
 mod deadlines;

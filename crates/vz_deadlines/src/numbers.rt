@@ -1,4 +1,4 @@
-//! The map that tells in which slot each submission stands.
+//! The map with the slot of each submission.
 ghost use Rattle.std.specs.Prelude.{◌≡◌, ◌≤◌, Some, None, if◌then◌else◌, IsTrue, IsFalse, IsSome};
 ghost use Rattle.indexmap.specs.IndexMap.{get, spare as spare_of};
 ghost use Rattle.vz_ids.specs.declared.Sub.{Sub};
@@ -10,8 +10,8 @@ use crate::slots::Slots;
 use indexmap::IndexMap;
 use vz_ids::Sub;
 
-/// The map tells the slot of each submission that stands in one. Condition: it tells some
-/// slot for each of them, and none stands twice.
+/// Writes the slot of each submission into the map. Condition: the map has some slot for each of
+/// them, and no submission is in two slots.
 pub(crate) fn number_all(slots: &Slots, places: &mut IndexMap<Sub, usize>)
     requires told { AreTold (get same_sub places.old) slots.now }
     requires distinct { IsTrue (are_distinct (standing slots.now)) }
@@ -26,7 +26,7 @@ pub(crate) fn number_all(slots: &Slots, places: &mut IndexMap<Sub, usize>)
     }
 }
 
-/// The map tells a slot for a submission. Condition: it tells some slot.
+/// Writes the slot of one submission. Condition: the map has some slot for it.
 fn number(places: &mut IndexMap<Sub, usize>, s: Sub, place: usize)
     requires { IsSome (get same_sub places.old s) }
     ensures own { get same_sub places.new s ≡ Some place }
@@ -39,7 +39,7 @@ fn number(places: &mut IndexMap<Sub, usize>, s: Sub, place: usize)
     }
 }
 
-/// The map tells no slots for the submissions in a list, and those that it told for others.
+/// Removes the submissions of a list from the map. The other entries do not change.
 pub(crate) fn forget_all(list: &[Sub], places: &mut IndexMap<Sub, usize>)
     ensures told { (t : Sub) → get same_sub places.new t
         ≡ if has_sub list.now t then None else get same_sub places.old t }

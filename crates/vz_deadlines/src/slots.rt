@@ -1,4 +1,4 @@
-//! Slots in which submissions stand until their tick.
+//! Slots in which submissions wait for their tick.
 ghost use Rattle.std.specs.Prelude.{◌≡◌, ◌≤◌, ◌<◌, ◌+◌, ◌-◌, ◌*◌, ◌^◌, ◌/◌, None, Some, [], ◌++◌, length, map, replicate, slice_get, slice_set, vec_len, vec_capacity, IsTrue, OnOk, OnErr};
 ghost use Rattle.vz_deadlines.specs.Timing.{due_at};
 ghost use Rattle.vz_deadlines.specs.Standing.{standing, stands_at, held_in, left_in, are_unbounded};
@@ -11,18 +11,18 @@ use vz_base::Memory;
 use vz_frame::Room;
 use vz_ids::Sub;
 
-/// So many slots or more are looked at by halves.
+/// From this number of slots on, they are searched by halves.
 const GROUP: usize = 16;
 
-/// A slot in which a submission may stand, and a tick before which none is due of the slots
-/// that it leads.
+/// A slot, which may hold a submission, and a tick before which none of the slots that it leads
+/// is due.
 #[derive(Clone, Copy)]
 pub(crate) struct Slot {
     pub(crate) due: Option<Due>,
     pub(crate) soonest: u32,
 }
 
-/// Slots. Contracts see what stands in each.
+/// The slots. Contracts see what each of them holds.
 #[derive(Drop)]
 pub(crate) struct Slots {
     slots: Vec<Slot>,
@@ -42,7 +42,7 @@ impl Model for Slots {
 }
 
 impl Slots {
-    /// There are none.
+    /// Creates a list without slots.
     pub(crate) fn new(alloc: Global) -> Slots
         ensures { result ≡ [] }
     {
@@ -52,14 +52,14 @@ impl Slots {
         }
     }
 
-    /// How many there are.
+    /// How many slots there are, free or not.
     pub(crate) fn len(&self) -> usize
         ensures { result ≡ length self.now }
     {
         self.slots.len()
     }
 
-    /// So many more are there, and free. Where there is no memory, nothing changes.
+    /// Appends `more` free slots. If an allocation fails, nothing changes.
     pub(crate) fn grow(&mut self, more: usize) -> Result<(), Memory>
         ensures ok { OnOk result (self.new ≡ self.old ++ replicate more None) }
         ensures err { OnErr result (self.new ≡ self.old) }
@@ -71,7 +71,7 @@ impl Slots {
         Ok(())
     }
 
-    /// Those that stand in slots stand in the first ones, in their order.
+    /// Moves the submissions into the first slots, in their order.
     pub(crate) fn close_up(&mut self)
         ensures { self.new ≡ map Some (standing self.old)
             ++ replicate (length self.old - length (standing self.old)) None }
@@ -83,7 +83,7 @@ impl Slots {
         forget_ticks(&mut self.slots);
     }
 
-    /// The submission that stands in a slot. Condition: there is that slot.
+    /// The submission in a slot, if it has one. Condition: the slot exists.
     pub(crate) fn at(&self, place: usize) -> Option<Due>
         requires { place < length self.now }
         ensures { slice_get self.now place ≡ Some result }
@@ -91,7 +91,7 @@ impl Slots {
         self.slots[place].due
     }
 
-    /// Whether a submission stands in a slot.
+    /// Whether a submission is in a slot.
     pub(crate) fn has(&self, place: usize, s: Sub) -> bool
         ensures { result ≡ stands_at self.now place s }
     {
@@ -104,7 +104,7 @@ impl Slots {
         }
     }
 
-    /// A submission stands in a slot from now on. Condition: there is that slot.
+    /// Puts a submission into a slot. Condition: the slot exists.
     pub(crate) fn put(&mut self, place: usize, due: Due)
         requires { place < length self.old }
         ensures slots { self.new ≡ slice_set self.old place (Some due) }
@@ -113,7 +113,7 @@ impl Slots {
         put_in(&mut self.slots, self.levels, place, due);
     }
 
-    /// None stands in a slot from now on. Condition: there is that slot.
+    /// Frees a slot. Condition: the slot exists.
     pub(crate) fn free(&mut self, place: usize)
         requires { place < length self.old }
         ensures { self.new ≡ slice_set self.old place None }
@@ -121,8 +121,8 @@ impl Slots {
         self.slots[place].due = None;
     }
 
-    /// Appends the submissions that are due at a tick, in order, and their slots are free.
-    /// Condition: `out` has room for all that stand in slots.
+    /// Appends the submissions that are due at a tick, in order, and frees their slots.
+    /// Condition: `out` has room for the submissions of all slots.
     pub(crate) fn take_due(&mut self, tick: u32, out: &mut Room<Sub>)
         requires { length (standing self.old) ≤ out.old.spare }
         ensures out { out.new.list ≡ out.old.list ++ due_at tick (standing self.old) }
@@ -133,7 +133,7 @@ impl Slots {
     }
 }
 
-/// On so many levels slots are halved, so that fewer than `GROUP` are left in a part.
+/// How often the slots are halved so that fewer than `GROUP` are left in a part.
 fn levels_of(len: usize) -> u32
     ensures enough { len / 16 < 2 ^ result }
     ensures few { 2 ^ result ≤ 2 * (len / 16) + 1 }
@@ -141,7 +141,7 @@ fn levels_of(len: usize) -> u32
     usize::BITS - (len / GROUP).leading_zeros()
 }
 
-/// Puts so many free slots at the end. Condition: there is room for them.
+/// Appends `more` free slots. Condition: there is room for them.
 fn fill(slots: &mut Vec<Slot>, more: usize)
     requires { vec_len slots.old + more ≤ vec_capacity slots.old }
     ensures { held_in slots.new.items ≡ held_in slots.old.items ++ replicate more None }
@@ -154,7 +154,7 @@ fn fill(slots: &mut Vec<Slot>, more: usize)
     }
 }
 
-/// No slot knows more of those that it leads.
+/// Resets the tick of each slot, which then says nothing of the slots that it leads.
 fn forget_ticks(slots: &mut [Slot])
     ensures held { held_in slots.new ≡ held_in slots.old }
     ensures unbounded { IsTrue (are_unbounded slots.new) }

@@ -1,6 +1,6 @@
-//! Slots in which submissions stand, seen as a tree: the first slot leads all of them, the first
-//! slot of each half of the others leads that half, and so on. A leader knows a tick before
-//! which none of those that it leads is due, so that no half is entered for nothing.
+//! The slots as a tree: the first slot leads all of them, the first slot of each half of the
+//! others leads that half, and so on. A leader knows a tick before which none of those that it
+//! leads is due, so that a half in which nothing is due is not entered.
 ghost use Rattle.std.specs.Prelude.{◌≡◌, ◌≤◌, ◌<◌, ◌+◌, Some, [], ◌∷◌, ◌++◌, length, map, min, slice_set, IsTrue};
 ghost use Rattle.vz_deadlines.specs.Timing.{due_at};
 ghost use Rattle.vz_deadlines.specs.Standing.{standing, held_in, left_in, slot_at, are_from, AreBounded};
@@ -10,7 +10,7 @@ use crate::slots::Slot;
 use vz_frame::Room;
 use vz_ids::Sub;
 
-/// A submission stands in a slot from now on. Condition: there is that slot.
+/// Puts a submission into a slot. Condition: the slot exists.
 pub(crate) fn put_in(slots: &mut [Slot], levels: u32, place: usize, due: Due)
     requires { place < length slots.old }
     ensures held { held_in slots.new ≡ slice_set (held_in slots.old) place (Some due) }
@@ -37,8 +37,8 @@ pub(crate) fn put_in(slots: &mut [Slot], levels: u32, place: usize, due: Due)
     }
 }
 
-/// Appends the submissions that are due at a tick, whose slots are free then, and answers a
-/// tick before which none of the others is due. Condition: `out` has room for all.
+/// Appends the submissions that are due at a tick, frees their slots, and returns a tick before
+/// which none of the others is due. Condition: `out` has room for the submissions of all slots.
 pub(crate) fn take_due(slots: &mut [Slot], levels: u32, tick: u32, out: &mut Room<Sub>) -> u32
     requires bounded { AreBounded levels slots.old }
     requires room { length (standing (held_in slots.old)) ≤ out.old.spare }
@@ -70,7 +70,7 @@ pub(crate) fn take_due(slots: &mut [Slot], levels: u32, tick: u32, out: &mut Roo
     }
 }
 
-/// As `take_due`, for a few slots that are all looked at.
+/// As `take_due`, for a few slots; it looks at each of them.
 fn take_each(slots: &mut [Slot], tick: u32, out: &mut Room<Sub>) -> u32
     requires { length (standing (held_in slots.old)) ≤ out.old.spare }
     ensures out { out.new.list ≡ out.old.list ++ due_at tick (standing (held_in slots.old)) }

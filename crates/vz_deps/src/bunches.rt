@@ -1,4 +1,4 @@
-//! Lacks in bunches, so that those of one bunch are found without a look at the others.
+//! Unmet dependencies, in bunches. Those of one bunch are found without a look at the others.
 ghost use Rattle.std.specs.Prelude.{◌≡◌, ◌≤◌, ◌<◌, ◌+◌, ℕ, Some, None, IsOk, OnOk, OnErr, cond};
 ghost use Rattle.indexmap.specs.IndexMap.{spare as spare_of};
 ghost use Rattle.std.specs.Map.{lookup};
@@ -12,16 +12,16 @@ use std::alloc::Global;
 use vz_base::Memory;
 use vz_ids::{EmbedToken, FrameSinkId};
 
-/// A dependency that is lacked: the number of its submission, and which one it is of those
-/// that the submission lacked when it was blocked.
+/// An unmet dependency: the number of its submission, and its place among the dependencies that
+/// the submission lacked when it was blocked.
 #[derive(Clone, Copy, PartialEq, Eq, Hash)]
 pub(crate) struct Lack {
     pub(crate) order: u64,
     pub(crate) nth: usize,
 }
 
-/// What a bunch is of: the surfaces of a sink with one token. Where the token does not matter
-/// it is the empty one.
+/// The key of a bunch: the surfaces of a sink with one embed token. For a bunch of all surfaces
+/// of a sink, the token is the empty one.
 #[derive(Clone, Copy, PartialEq, Eq, Hash)]
 pub(crate) struct Bunch {
     pub(crate) sink: FrameSinkId,
@@ -35,7 +35,7 @@ pub(crate) struct Seat {
     pub(crate) at: usize,
 }
 
-/// Bunches. In each the seats from 0 up to its size are taken, each by one lack.
+/// The bunches. In each, the seats from 0 up to its size are taken, each by one dependency.
 #[derive(Drop)]
 pub(crate) struct Bunches {
     seats: IndexMap<Seat, Lack>,
@@ -44,7 +44,7 @@ pub(crate) struct Bunches {
 }
 
 impl Bunches {
-    /// None is in a bunch. It takes no memory.
+    /// Creates an empty set of bunches. It allocates nothing.
     pub(crate) fn new(alloc: Global) -> Bunches
         ensures stands { Stands result }
         ensures none { (x : LackOf) → bunch_of result x ≡ None }
@@ -56,7 +56,7 @@ impl Bunches {
         }
     }
 
-    /// Makes room for at least so many more.
+    /// Makes room for at least `n` more dependencies.
     pub(crate) fn reserve(&mut self, n: usize) -> Result<(), Memory>
         ensures seats { self.new.seats.entries ≡ self.old.seats.entries }
         ensures seated { self.new.seated.entries ≡ self.old.seated.entries }
@@ -71,7 +71,7 @@ impl Bunches {
         Ok(())
     }
 
-    /// How many stand in a bunch.
+    /// How many dependencies are in a bunch.
     pub(crate) fn size(&self, bunch: &Bunch) -> usize
         ensures { result ≡ size_in self.now bunch.now }
     {
@@ -81,14 +81,14 @@ impl Bunches {
         }
     }
 
-    /// What sits on a seat.
+    /// The dependency on a seat, if the seat is taken.
     pub(crate) fn get(&self, seat: &Seat) -> Option<Lack>
         ensures { result ≡ seat_in self.now seat.now }
     {
         self.seats.get(seat).copied()
     }
 
-    /// Puts a lack into a bunch. Conditions: it is in none, and there is room for one.
+    /// Puts a dependency into a bunch. Conditions: it is in none, and there is room for one.
     pub(crate) fn put(&mut self, bunch: Bunch, lack: Lack)
         requires stands { Stands self.old }
         requires new { bunch_of self.old lack ≡ None }
@@ -106,8 +106,8 @@ impl Bunches {
         self.sizes.insert(bunch, at + 1).unwrap();
     }
 
-    /// Takes a lack out of its bunch, if it is in one. The last one of the bunch sits down on
-    /// its seat.
+    /// Takes a dependency out of its bunch, if it is in one. The last one of the bunch takes its
+    /// seat.
     pub(crate) fn remove(&mut self, lack: &Lack)
         requires stands { Stands self.old }
         ensures stands { Stands self.new }
@@ -134,7 +134,7 @@ impl Bunches {
     }
 }
 
-/// A bunch has one fewer; its new size is answered. Condition: it has one.
+/// Lowers the size of a bunch by one and returns the new size. Condition: it was not 0.
 fn shrink(sizes: &mut IndexMap<Bunch, usize>, bunch: &Bunch) -> usize
     requires { 0 < sized sizes.old.entries bunch.now }
     ensures size { result + 1 ≡ sized sizes.old.entries bunch.now }
@@ -154,7 +154,7 @@ fn shrink(sizes: &mut IndexMap<Bunch, usize>, bunch: &Bunch) -> usize
     }
 }
 
-/// A lack sits on a seat. Condition: the seat is taken.
+/// Puts another dependency on a seat. Condition: the seat is taken.
 fn sit(seats: &mut IndexMap<Seat, Lack>, seat: &Seat, lack: Lack)
     requires { (x : LackOf) × (lookup (same_seat seat.now) seats.old.entries ≡ Some x) }
     ensures seats { (s : SeatOf) → lookup (same_seat s) seats.new.entries
@@ -166,7 +166,7 @@ fn sit(seats: &mut IndexMap<Seat, Lack>, seat: &Seat, lack: Lack)
     }
 }
 
-/// A lack has another seat. Condition: it has one.
+/// Notes another seat of a dependency. Condition: it has one.
 fn note(seated: &mut IndexMap<Lack, Seat>, lack: &Lack, seat: Seat)
     requires { (s : SeatOf) × (lookup (same_lack lack.now) seated.old.entries ≡ Some s) }
     ensures seated { (x : LackOf) → lookup (same_lack x) seated.new.entries

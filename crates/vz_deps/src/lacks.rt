@@ -1,4 +1,4 @@
-//! What the blocked submissions lack.
+//! The unmet dependencies of the blocked submissions.
 ghost use Rattle.std.specs.Prelude.{◌≡◌, ◌≤◌, ◌<◌, ◌+◌, ◌-◌, ◌++◌, ℕ, Bool, true, false, ◌==◌, cond, nat_eq, Some, None, [], IsOk, OnOk, length, slice_get, vec_len, vec_capacity};
 ghost use Rattle.std.specs.Map.{lookup};
 ghost use Rattle.indexmap.specs.IndexMap.{spare as spare_of};
@@ -23,15 +23,16 @@ pub(crate) struct Count {
     pub(crate) unmet: usize,
 }
 
-/// What is told: a submission on a surface became active, or a sink was closed.
+/// An event that may meet dependencies: a submission on a surface became active, or a sink was
+/// closed.
 #[derive(Clone, Copy)]
 pub(crate) enum Told {
     Active(SurfaceId),
     Closed(FrameSinkId),
 }
 
-/// What the blocked submissions lack: on which surface each lack is, the lacks of each group and
-/// of each sink, how many each submission lacks, and the submissions that lack nothing any more.
+/// The unmet dependencies of the blocked submissions: the surface of each, their bunches by group
+/// and by sink, how many each submission lacks, and the submissions that lack none any more.
 #[derive(Drop)]
 pub(crate) struct Lacks {
     pub(crate) on: IndexMap<Lack, SurfaceId>,
@@ -41,7 +42,7 @@ pub(crate) struct Lacks {
     pub(crate) freed: Vec<u64>,
 }
 
-/// Whether what is told meets a dependency.
+/// Whether an event meets a dependency.
 pub(crate) fn meets(told: &Told, d: &SurfaceId) -> bool
     ensures { result ≡ met_by told.now d.now }
 {
@@ -51,7 +52,7 @@ pub(crate) fn meets(told: &Told, d: &SurfaceId) -> bool
     }
 }
 
-/// Whether a surface is another, or a newer one of its group.
+/// Whether a surface is the other one or a newer one of its group.
 fn is_at_least(id: &SurfaceId, d: &SurfaceId) -> bool
     ensures { result ≡ meets id.now d.now }
 {
@@ -59,7 +60,7 @@ fn is_at_least(id: &SurfaceId, d: &SurfaceId) -> bool
 }
 
 impl Lacks {
-    /// Nothing is lacked. It takes no memory.
+    /// Creates a table without dependencies. It allocates nothing.
     pub(crate) fn new(alloc: Global) -> Lacks
         ensures kept { IsKept result }
         ensures on { (x : LackOf) → on_in result x ≡ None }
@@ -75,7 +76,7 @@ impl Lacks {
         }
     }
 
-    /// Makes room for at least so many more.
+    /// Makes room for at least `n` more.
     pub(crate) fn reserve(&mut self, n: usize) -> Result<(), Memory>
         requires kept { IsKept self.old }
         ensures kept { IsKept self.new }
@@ -90,7 +91,7 @@ impl Lacks {
         done
     }
 
-    /// Makes room.
+    /// Makes room in each of the tables.
     fn grow(&mut self, n: usize) -> Result<(), Memory>
         ensures same { HasSame self.old self.new }
         ensures ok { OnOk result (n ≤ room_of self.new) }
@@ -105,8 +106,8 @@ impl Lacks {
         Ok(())
     }
 
-    /// A submission is blocked by what it lacks. Conditions: its number is new, it lacks
-    /// something, and there is room for one more than it lacks.
+    /// Blocks a submission by its unmet dependencies. Conditions: its number is new, it has an
+    /// unmet dependency, and there is room for one more than it has.
     pub(crate) fn block(&mut self, order: u64, unmet: &[SurfaceId])
         requires kept { IsKept self.old }
         requires new { count_in self.old order ≡ None }
@@ -129,7 +130,7 @@ impl Lacks {
         self.counts.insert(order, count).unwrap();
     }
 
-    /// A submission is blocked no longer. Condition: none lacks nothing.
+    /// Removes a blocked submission. Condition: no submission is noted as free.
     pub(crate) fn forget(&mut self, order: u64)
         requires kept { IsKept self.old }
         requires none { self.old.freed.items ≡ [] }
@@ -147,7 +148,7 @@ impl Lacks {
         }
     }
 
-    /// The bunch that something that is told meets, and how many are in it.
+    /// The bunch in which an event meets dependencies, and its size.
     fn told(&self, told: &Told) -> (Bunch, usize)
         ensures bunch { result.0 ≡ bunch_told told.now }
         ensures size { result.1 ≡ size_in (bunches_for (is_of told.now) self.now) result.0 }
@@ -164,7 +165,7 @@ impl Lacks {
         }
     }
 
-    /// What sits on a seat of such a bunch.
+    /// The dependency on a seat of such a bunch.
     fn sitting(&self, told: &Told, seat: &Seat) -> Option<Lack>
         ensures { result ≡ seat_in (bunches_for (is_of told.now) self.now) seat.now }
     {
@@ -174,8 +175,8 @@ impl Lacks {
         }
     }
 
-    /// Something is told: the lacks that it meets go, and the submissions that lacked nothing
-    /// else are noted.
+    /// Applies an event: removes the dependencies that it meets, and notes the submissions that
+    /// have none left.
     pub(crate) fn tell(&mut self, told: &Told)
         requires kept { IsKept self.old }
         ensures meets { Meets (met_by told.now) self.old self.new }
@@ -191,7 +192,7 @@ impl Lacks {
         }
     }
 
-    /// What sits on a seat goes where something that is told meets it.
+    /// Removes the dependency on a seat if the event meets it.
     fn look(&mut self, told: &Told, seat: &Seat)
         requires kept { IsKept self.old }
         ensures meets { Meets (met_by told.now) self.old self.new }
@@ -206,7 +207,7 @@ impl Lacks {
         }
     }
 
-    /// Whether something that is told meets a lack.
+    /// Whether an event meets this dependency.
     fn is_met(&self, told: &Told, lack: &Lack) -> bool
         ensures yes { result ≡ true → (d : SurfaceOf) × (on_in self.now lack.now ≡ Some d)
             × (met_by told.now d ≡ true) }
@@ -219,7 +220,7 @@ impl Lacks {
         }
     }
 
-    /// A lack goes. Condition: it is one.
+    /// Removes a dependency. Condition: it is in the table.
     fn meet(&mut self, lack: &Lack)
         requires kept { IsKept self.old }
         requires some { (d : SurfaceOf) × (on_in self.old lack.now ≡ Some d) }
@@ -234,7 +235,7 @@ impl Lacks {
     }
 }
 
-/// Makes places for so many beside so many.
+/// Makes places for `n` and `beside` numbers together.
 fn make_places(freed: &mut Vec<u64>, n: usize, beside: usize) -> Result<(), Memory>
     ensures items { freed.new.items ≡ freed.old.items }
     ensures ok { OnOk result (n ≤ vec_capacity freed.new - beside) }
@@ -253,8 +254,8 @@ fn make_places(freed: &mut Vec<u64>, n: usize, beside: usize) -> Result<(), Memo
     }
 }
 
-/// A submission lacks one fewer, and is noted where it was the last. Conditions: it lacks
-/// some, and there is room to note it.
+/// Counts one dependency of a submission less, and notes the submission if it was the last.
+/// Conditions: it has one, and there is room to note it.
 fn count_down(counts: &mut IndexMap<u64, Count>, freed: &mut Vec<u64>, order: u64)
     requires some { (c : CountOf) × (lookup (nat_eq order) counts.old.entries ≡ Some c)
         × (0 < c.unmet) }
@@ -272,7 +273,8 @@ fn count_down(counts: &mut IndexMap<u64, Count>, freed: &mut Vec<u64>, order: u6
     }
 }
 
-/// A submission lacks one fewer. How many it lacks then is answered. Condition: it lacks some.
+/// Counts one dependency of a submission less, and returns how many are left. Condition: it has
+/// one.
 fn lower(counts: &mut IndexMap<u64, Count>, order: u64) -> usize
     requires some { (c : CountOf) × (lookup (nat_eq order) counts.old.entries ≡ Some c)
         × (0 < c.unmet) }

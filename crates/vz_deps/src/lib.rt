@@ -1,4 +1,4 @@
-//! The dependencies of submissions that wait: which surfaces each of them still lacks.
+//! The dependencies of waiting submissions: which surfaces each of them still lacks.
 #![tactic(auto)]
 
 mod bunches;

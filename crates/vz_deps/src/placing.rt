@@ -1,4 +1,5 @@
-//! Lacks are put into their two bunches, and taken out of them.
+//! Each unmet dependency is in two bunches, that of its group and that of its sink: how it is put
+//! in and taken out.
 ghost use Rattle.std.specs.Prelude.{◌≡◌, ◌≤◌, ◌<◌, ◌+◌, ◌==◌, ◌&&◌, nat_lt, true, false, Some, None, cond, length, slice_get};
 ghost use Rattle.std.specs.Map.{lookup};
 ghost use Rattle.indexmap.specs.IndexMap.{spare as spare_of};
@@ -31,8 +32,8 @@ pub(crate) fn sink_of(sink: FrameSinkId) -> Bunch
     }
 }
 
-/// Puts the lacks of a submission into their bunches. Conditions: it has none there, and there
-/// is room for them.
+/// Puts the dependencies of a submission into their bunches. Conditions: it has none there yet,
+/// and there is room for them.
 pub(crate) fn put_all(
     on: &mut IndexMap<Lack, SurfaceId>,
     groups: &mut Bunches,
@@ -58,7 +59,7 @@ pub(crate) fn put_all(
     }
 }
 
-/// Puts a lack into its bunches. Conditions: it is in none, and there is room for one.
+/// Puts a dependency into its bunches. Conditions: it is in none, and there is room for one.
 fn put_one(
     on: &mut IndexMap<Lack, SurfaceId>,
     groups: &mut Bunches,
@@ -83,7 +84,7 @@ fn put_one(
     sinks.put(sink_of(d.sink), lack);
 }
 
-/// Takes the first so many lacks of a submission out of their bunches.
+/// Takes the first `n` dependencies of a submission out of their bunches.
 pub(crate) fn take_all(
     on: &mut IndexMap<Lack, SurfaceId>,
     groups: &mut Bunches,
@@ -104,7 +105,7 @@ pub(crate) fn take_all(
     }
 }
 
-/// Takes a lack out of its bunches, if it is in some.
+/// Takes a dependency out of its bunches, if it is in some.
 fn take_one(
     on: &mut IndexMap<Lack, SurfaceId>,
     groups: &mut Bunches,

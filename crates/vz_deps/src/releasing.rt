@@ -14,7 +14,7 @@ use vz_frame::Room;
 use vz_ids::Sub;
 
 /// Appends the submissions that lack nothing any more, in the order in which they were blocked,
-/// and forgets them. Condition: there is room for all that are blocked.
+/// and removes them. Condition: there is room for all that are blocked.
 pub(crate) fn release(
     subs: &mut IndexMap<u64, Sub>,
     numbers: &mut IndexMap<Sub, u64>,
@@ -46,7 +46,7 @@ pub(crate) fn release(
     lacks.freed.clear();
 }
 
-/// Appends and forgets the submissions of these numbers. Conditions: the numbers do not fall,
+/// Appends and removes the submissions with these numbers. Conditions: the numbers do not fall,
 /// and there is room for all that are blocked.
 fn release_all(
     freed: &[u64],
@@ -77,7 +77,7 @@ fn release_all(
     }
 }
 
-/// Appends and forgets the submission of a number, if it is blocked. Condition: there is room
+/// Appends and removes the submission with a number, if it is blocked. Condition: there is room
 /// for it.
 fn release_one(
     order: u64,

@@ -18,10 +18,12 @@ use vz_base::Memory;
 use vz_frame::Room;
 use vz_ids::{FrameSinkId, Sub, SurfaceId};
 
-/// The submissions that are blocked, each by the dependencies that it lacks. Contracts see
-/// them in the order in which they were blocked and, beside them, the room that was made
-/// before. Each has a number, which rises with each that is blocked, and the lacks stand in
-/// bunches, one for each group of surfaces: what becomes active looks at one bunch alone.
+/// The submissions that are blocked, each by its unmet dependencies. Contracts see them in the
+/// order in which they were blocked, and the room that was reserved before.
+///
+/// Each has a number, which rises with each that is blocked. The dependencies are in bunches, one
+/// for each group of surfaces, so that a surface that becomes active costs a look at one bunch
+/// alone.
 #[derive(Drop)]
 pub struct Tracker {
     subs: IndexMap<u64, Sub>,
@@ -50,7 +52,7 @@ impl Model for Tracker {
 }
 
 impl Tracker {
-    /// None is blocked. It takes no memory.
+    /// Creates a tracker in which nothing is blocked. It allocates nothing.
     pub fn new(alloc: Global) -> Tracker
         ensures { result.list ≡ [] }
     {
@@ -62,8 +64,8 @@ impl Tracker {
         }
     }
 
-    /// Makes room for at least so many submissions and dependencies together. Memory is the
-    /// only error. Nothing else changes in any case, and no room is lost.
+    /// Makes room for at least `n` submissions and dependencies together. The only error is
+    /// `Memory`, if an allocation fails. In either case nothing else changes and no room is lost.
     pub fn ready(&mut self, n: usize) -> Result<(), Memory>
         ensures list { self.new.list ≡ self.old.list }
         ensures ok { OnOk result (n ≤ self.new.spare) }
@@ -75,17 +77,17 @@ impl Tracker {
         done
     }
 
-    /// How many are blocked.
+    /// How many submissions are blocked.
     pub fn blocked(&self) -> usize
         ensures { result ≡ length self.now.list }
     {
         self.subs.len()
     }
 
-    /// Blocks a submission by the dependencies that it lacks. For want of memory, and only
-    /// then, it answers Memory and nothing changes. Where there is room for one and one more
-    /// for each dependency it answers Ok; it uses no more of it. Conditions: the submission is
-    /// not blocked, and it lacks something.
+    /// Blocks a submission by its unmet dependencies. It returns `Memory` if an allocation fails;
+    /// then nothing changes. If there is room for one and one more for each dependency, it
+    /// returns Ok and uses up no more than that. Conditions: the submission is not blocked, and
+    /// `unmet` is not empty.
     pub fn block(&mut self, s: Sub, unmet: &[SurfaceId]) -> Result<(), Memory>
         requires new { IsFalse (is_blocked self.old.list s) }
         requires some { 0 < length unmet.now }
@@ -103,7 +105,7 @@ impl Tracker {
         Ok(())
     }
 
-    /// A submission is blocked no longer. Nothing changes where it is not blocked.
+    /// Removes a submission, which is blocked no longer. If it was not blocked, nothing changes.
     pub fn forget(&mut self, s: Sub)
         ensures list { self.new.list ≡ without s self.old.list }
         ensures gone { IsFalse (is_blocked self.new.list s) }
@@ -112,10 +114,10 @@ impl Tracker {
         forget_sub(&mut self.subs, &mut self.numbers, &mut self.lacks, &s);
     }
 
-    /// A submission on a surface became active: meets the dependencies on its group, at it or
-    /// older, and appends exactly the submissions whose last unmet dependency this meets, in
-    /// the order in which they were blocked. They are blocked no longer. It takes no memory.
-    /// Condition: `out` has room for all that are blocked.
+    /// A submission on surface `id` became active: this meets the dependencies on that surface
+    /// and on older ones of its group. Appends the submissions whose last unmet dependency was
+    /// met by this, in the order in which they were blocked, and removes them. It allocates
+    /// nothing. Condition: `out` has room for all that are blocked.
     pub fn activated(&mut self, id: &SurfaceId, out: &mut Room<Sub>)
         requires { length self.old.list ≤ out.old.spare }
         ensures out { out.new.list ≡ out.old.list ++ freed (meets id.now) self.old.list }
@@ -127,9 +129,9 @@ impl Tracker {
         release(&mut self.subs, &mut self.numbers, &mut self.lacks, out);
     }
 
-    /// Submissions on these surfaces became active in one round: as `activated` for all of
-    /// them at once, so that what is freed comes in the order in which it was blocked, over
-    /// all of them. It takes no memory. Condition: `out` has room for all that are blocked.
+    /// Submissions on these surfaces became active in one round. This does what `activated` does,
+    /// for all of them at once: what is freed is in the order in which it was blocked, over all
+    /// surfaces. It allocates nothing. Condition: `out` has room for all that are blocked.
     pub fn all_activated(&mut self, ids: &[SurfaceId], out: &mut Room<Sub>)
         requires { length self.old.list ≤ out.old.spare }
         ensures out { out.new.list ≡ out.old.list ++ freed (meets_any ids.now) self.old.list }
@@ -142,10 +144,9 @@ impl Tracker {
         release(&mut self.subs, &mut self.numbers, &mut self.lacks, out);
     }
 
-    /// A sink was closed: meets the dependencies on its surfaces, and appends exactly the
-    /// submissions whose last unmet dependency this meets, in the order in which they were
-    /// blocked. They are blocked no longer. It takes no memory. Condition: `out` has room for
-    /// all that are blocked.
+    /// A sink was closed: this meets the dependencies on its surfaces. Appends the submissions
+    /// whose last unmet dependency was met by this, in the order in which they were blocked, and
+    /// removes them. It allocates nothing. Condition: `out` has room for all that are blocked.
     pub fn sink_gone(&mut self, sink: FrameSinkId, out: &mut Room<Sub>)
         requires { length self.old.list ≤ out.old.spare }
         ensures out { out.new.list ≡ out.old.list ++ freed (is_of_sink sink) self.old.list }
@@ -159,7 +160,7 @@ impl Tracker {
     }
 }
 
-/// Makes room for at least so many more.
+/// Makes room for at least `n` more.
 fn make_room(
     subs: &mut IndexMap<u64, Sub>,
     numbers: &mut IndexMap<Sub, u64>,
@@ -188,7 +189,7 @@ fn make_room(
     Ok(())
 }
 
-/// A submission is blocked no longer, if it was.
+/// Removes a submission, if it is blocked.
 fn forget_sub(
     subs: &mut IndexMap<u64, Sub>,
     numbers: &mut IndexMap<Sub, u64>,
@@ -219,7 +220,7 @@ fn forget_sub(
     }
 }
 
-/// Submissions on these surfaces became active.
+/// Applies the events that submissions on these surfaces became active.
 fn tell_all(lacks: &mut Lacks, ids: &[SurfaceId])
     requires kept { IsKept lacks.old }
     ensures meets { Meets (meets_any ids.now) lacks.old lacks.new }

@@ -1,18 +1,18 @@
-//! Feedback that is given at the end of the step.
+//! Feedback to be given at the end of the step.
 ghost use Rattle.std.specs.Prelude.{◌≡◌, ◌≤◌, ◌+◌, ◌++◌, length, map, vec_len, vec_capacity};
 ghost use Rattle.std.specs.List.Sorted.{IsNonDecreasingBy, IsPermutation};
 
 use vz_frame::Room;
 use vz_rules::Fed;
 
-/// Feedback, and the place of its submission in the order of acceptance, from 0 on.
+/// Feedback, and the place of its submission in the order of acceptance, from 0.
 #[derive(Clone, Copy)]
 pub(crate) struct Due {
     pub(crate) place: u64,
     pub(crate) fed: Fed,
 }
 
-/// Puts feedback into the order of acceptance.
+/// Sorts feedback into the order of acceptance.
 pub(crate) fn sort(list: &mut Vec<Due>)
     ensures same { IsPermutation list.old.items list.new.items }
     ensures len { vec_len list.new ≡ vec_len list.old }

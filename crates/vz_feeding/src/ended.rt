@@ -1,19 +1,20 @@
-//! Submissions that end.
+//! Submissions that have ended.
 ghost use Rattle.std.specs.Prelude.{◌≡◌};
 ghost use Rattle.vz_feeding.specs.Noting.{dropped_by};
 
 use vz_ids::Sub;
 
-/// A submission that is past or dropped from now on.
+/// A submission that ends: it was replaced as the active one, or was dropped.
 #[derive(Clone, Copy, Debug, PartialEq, Eq)]
 pub struct Ended {
     /// Its client and ordinal.
     pub sub: Sub,
-    /// Whether it is in the drawn frame, so that it is presented once that is done.
+    /// Whether it is in the drawn frame, so that it gets `presented` when that frame is done.
     pub in_flight: bool,
 }
 
-/// The submission that gets feedback as it ends, if it does.
+/// The submission that gets feedback at once as it ends, or None if it is in the drawn frame or
+/// there is none.
 pub(crate) fn dropped_by(ended: Option<Ended>) -> Option<Sub>
     ensures { result ≡ dropped_by ended }
 {

@@ -27,12 +27,12 @@ use vz_ids::Sub;
 use vz_returns::Feedbacks;
 use vz_rules::Fed;
 
-/// The feedback that is owed: the submissions that await it, each with its place in the order
-/// of acceptance, and what is due at the end of the step. Contracts see what is kept of it
-/// and, beside it, the room that was made before.
+/// The feedback that is owed: the submissions that await it, each with its place in the order of
+/// acceptance, and what is due at the end of the step. Contracts see it, and the room that was
+/// reserved before.
 ///
-/// A submission that ends is told once: from then on its feedback is due, unless it is in
-/// flight.
+/// Each submission is reported once as it ends. Its feedback is due from then on, unless it is in
+/// the drawn frame.
 #[derive(Drop)]
 pub struct Feeding {
     unfed: Feedbacks,
@@ -65,7 +65,7 @@ impl Model for Feeding {
 }
 
 impl Feeding {
-    /// Nothing was accepted. It takes no memory.
+    /// Creates the state before any submission is accepted. It allocates nothing.
     pub fn new(alloc: Global) -> Feeding
         ensures owed { (p : Plan) → AreOwed (opening p) result.owed }
     {
@@ -77,8 +77,8 @@ impl Feeding {
         }
     }
 
-    /// Makes room for at least one submission more. Memory is the only error. Nothing else
-    /// changes in any case, and no room is lost.
+    /// Makes room for at least one more submission. The only error is `Memory`, if an allocation
+    /// fails. In either case nothing else changes and no room is lost.
     pub fn ready(&mut self) -> Result<(), Memory>
         ensures owed { self.new.owed ≡ self.old.owed }
         ensures ok { OnOk result (0 < self.new.spare) }
@@ -91,9 +91,9 @@ impl Feeding {
         Ok(())
     }
 
-    /// A submission is accepted and awaits feedback from now on; the one that waited on its
-    /// surface is replaced and ends. Conditions: there is room for one, the submission does not
-    /// await feedback, and fewer than 2^64 - 1 were accepted.
+    /// Notes that a submission is accepted, which awaits feedback from now on, and that the one
+    /// that waited on its surface is replaced and ends. Conditions: there is room for one, the
+    /// submission does not await feedback yet, and fewer than 2^64 - 1 were accepted.
     pub fn accept(&mut self, sub: Sub, replaced: Option<Ended>)
         requires room { 0 < self.old.spare }
         requires new { place_of self.old.owed sub ≡ None }
@@ -111,8 +111,8 @@ impl Feeding {
         self.add(sub);
     }
 
-    /// A submission becomes active, and the active one of its surface, if there is one, is
-    /// past.
+    /// Notes that a submission becomes active, so that the one that was active on its surface, if
+    /// there was one, ends.
     pub fn activate(&mut self, past: Option<Ended>)
         ensures owed { (w : World) (s : Submission) → KeepsAlways w → AreOwed w self.old.owed
             → Contains w.subs s → is_waiting s ≡ true
@@ -125,8 +125,8 @@ impl Feeding {
         self.note(dropped_by(past), false);
     }
 
-    /// A surface is destroyed, and its waiting and its active submission are dropped, where
-    /// there are such.
+    /// Notes that a surface is destroyed, so that its waiting and its active submission, if there
+    /// are such, are dropped.
     pub fn destroy(&mut self, waiting: Option<Ended>, active: Option<Ended>)
         ensures owed { (w : World) (c : Created) → KeepsAlways w → AreOwed w self.old.owed
             → waiting ≡ option_map (ended_of w) (waiting_on w c.id)
@@ -140,8 +140,8 @@ impl Feeding {
         self.note(dropped_by(active), false);
     }
 
-    /// Appends the feedback that is due, in the order of acceptance, and nothing is due any
-    /// more. It takes no memory. Condition: `out` has room for what is due.
+    /// Appends the feedback that is due, in the order of acceptance; afterwards none is due. It
+    /// allocates nothing. Condition: `out` has room for what is due.
     pub fn feed(&mut self, out: &mut Room<Fed>)
         requires { length self.old.owed.due ≤ out.old.spare }
         ensures fed { (w : World) → AreOwed w self.old.owed
@@ -157,10 +157,10 @@ impl Feeding {
         self.give(out);
     }
 
-    /// The drawn frame is done: the submissions in it are presented, where they await feedback.
-    /// Appends this feedback with what else is due, in the order of acceptance, and nothing is
-    /// due any more. It takes no memory. Condition: `out` has room for what is due and for as
-    /// many as were drawn.
+    /// Notes that the drawn frame is done: the submissions in it that await feedback are
+    /// presented. Appends their feedback with what else is due, in the order of acceptance;
+    /// afterwards none is due. It allocates nothing. Condition: `out` has room for what is due
+    /// and for as many more as were drawn.
     pub fn present(&mut self, drawn: &[Sub], out: &mut Room<Fed>)
         requires { length self.old.owed.due + length drawn.now ≤ out.old.spare }
         ensures fed { (w : World) → AreOwed w self.old.owed → w.in_flight ≡ Some drawn.now
@@ -183,7 +183,7 @@ impl Feeding {
         self.unfed.unfed()
     }
 
-    /// Appends the submissions that await feedback, by client and ordinal. It takes no memory.
+    /// Appends the submissions that await feedback, by client and ordinal. It allocates nothing.
     /// Condition: `out` has room for all.
     pub fn subs(&self, out: &mut Room<Sub>)
         requires { length self.now.owed.unfed ≤ out.old.spare }
@@ -195,7 +195,7 @@ impl Feeding {
         self.unfed.subs(out);
     }
 
-    /// The feedback of a submission, if one is given that awaits it, becomes due.
+    /// Makes the feedback of a submission due, if one is given that awaits it.
     fn note(&mut self, sub: Option<Sub>, presented: bool)
         ensures noted { IsNoted sub presented self.old.owed self.new.owed }
         ensures count { owed_count self.new.owed ≡ owed_count self.old.owed }
@@ -215,7 +215,7 @@ impl Feeding {
         });
     }
 
-    /// The feedback of those of these that await it becomes due: they are presented.
+    /// Makes the feedback of the drawn submissions due that await it: they are presented.
     fn note_all(&mut self, drawn: &[Sub])
         ensures owed { (gets : Submission → Option Feedback) (subs : List Submission)
             → Owes gets subs self.old.owed
@@ -228,8 +228,8 @@ impl Feeding {
         }
     }
 
-    /// Appends what is due, in the order of acceptance, and nothing is due any more. Condition:
-    /// `out` has room for it.
+    /// Appends the feedback that is due, in the order of acceptance; afterwards none is due.
+    /// Condition: `out` has room for it.
     fn give(&mut self, out: &mut Room<Fed>)
         requires { length self.old.owed.due ≤ out.old.spare }
         ensures fed { (gets : Submission → Option Feedback) (subs : List Submission)
@@ -245,8 +245,8 @@ impl Feeding {
         self.due.clear();
     }
 
-    /// One more submission awaits feedback. Conditions: there is room for one, it does not await
-    /// feedback, and fewer than 2^64 - 1 were accepted.
+    /// Adds a submission, which awaits feedback. Conditions: there is room for one, it does not
+    /// await feedback yet, and fewer than 2^64 - 1 were accepted.
     fn add(&mut self, sub: Sub)
         requires room { 0 < self.old.spare }
         requires new { place_of self.old.owed sub ≡ None }

@@ -1,4 +1,4 @@
-//! Laws of feedback that is owed, each the contract of a function that does nothing.
+//! Laws of feedback that is owed: each is the contract of a function with an empty body.
 ghost use Rattle.std.specs.Prelude.{◌≡◌, ◌<◌, ℕ, None, []};
 ghost use Rattle.vz_ids.specs.declared.FrameSinkId.{FrameSinkId};
 ghost use Rattle.vz_ids.specs.declared.LocalSurfaceId.{LocalSurfaceId};
@@ -15,9 +15,9 @@ ghost use Rattle.vz_rules.specs.Step.{begin_answer, draw_answer, answer_to};
 ghost use Rattle.vz_rules.specs.Kept.{Keeps, KeepsAlways, KeepsPlan, KeepsMessages};
 ghost use Rattle.vz_feeding.specs.Owing.{Owed, AreOwed, place_of};
 
-/// What is owed stays the same where no submission is accepted, becomes active or is dropped:
-/// so do all messages but submissions, begin-frames, drawings between steps, the end, and, of
-/// what follows, the noting of names and the returns.
+/// What is owed does not change unless a submission is accepted, becomes active or is dropped. So
+/// it stays the same for all messages but submissions, for begin-frames, for draws between steps,
+/// for the end, and for naming and the return of resources.
 pub fn owed_stay()
     ensures naming { (w : World) (f : Owed) → AreOwed w f → AreOwed (naming w) f }
     ensures returns { (w : World) (f : Owed) → AreOwed w f → AreOwed (give_back w) f }
@@ -42,7 +42,7 @@ pub fn owed_stay()
 {}
 
 /// The next submission of a client does not await feedback yet, fewer than 2^64 - 1 were
-/// accepted, and between steps nothing is due.
+/// accepted, and between steps no feedback is due.
 pub fn owed_are_known()
     ensures new { (w : World) (c : Client) (local : LocalSurfaceId) (frame : CompositorFrame)
         (f : Owed) → KeepsAlways w → AreOwed w f

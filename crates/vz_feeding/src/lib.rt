@@ -1,4 +1,4 @@
-//! Feedback: each accepted submission is told once that it was presented or dropped, in the
+//! Feedback: each accepted submission gets one report, presented or dropped. Reports come in the
 //! order of acceptance over all clients.
 #![tactic(auto)]
 

@@ -1,4 +1,4 @@
-//! Laws of references that clients lent, each the contract of a function that does nothing.
+//! Laws of references that clients lent: each is the contract of a function with an empty body.
 ghost use Rattle.std.specs.Prelude.{◌≡◌, ℕ, Some, None, List, [], IsTrue};
 ghost use Rattle.vz_ids.specs.declared.FrameSinkId.{FrameSinkId};
 ghost use Rattle.vz_ids.specs.declared.LocalSurfaceId.{LocalSurfaceId};
@@ -18,9 +18,9 @@ ghost use Rattle.vz_lending.specs.Lent.{Lent, AreLent, IsLender};
 ghost use Rattle.vz_lending.specs.Listed.{active_listings};
 ghost use Rattle.vz_lending.specs.Quiet.{KeepsReferences, AreAlike};
 
-/// Each client of a state is one that lends. What stands for a state stands for each other one
-/// with the same clients, surfaces, submissions and drawn frame, in whatever order its submissions
-/// are named, and a drawn frame without submissions holds no more than none.
+/// Each client of a state has its record. A record that is right for one state is right for each
+/// other state with the same clients, surfaces, submissions and drawn frame, in whatever order
+/// the submissions are listed. A drawn frame without submissions holds no references.
 pub fn references_are_of_the_state()
     ensures lender { (w : World) (c : Client) (lenders : List Lent) → KeepsAlways w
         → Contains w.clients c → AreLent w lenders → IsLender c.number lenders }
@@ -37,9 +37,9 @@ pub fn references_are_of_the_state()
         → AreLent (record w { in_flight = None }) lenders }
 {}
 
-/// These changes of the machine's state are none for references: naming, feedback, a message that
-/// changes neither the resources nor the queue of its client, an upload, and a submission that
-/// becomes active where the active one of its surface lists nothing or there is none.
+/// These changes of the machine's state leave references as they are: naming, feedback, a message
+/// that changes neither the resources nor the queue of its client, an upload, and a submission
+/// that becomes active if its surface had no active one or the active one lists nothing.
 pub fn references_stay()
     ensures naming { (w : World) (lenders : List Lent) → AreLent w lenders
         → AreLent (naming w) lenders }

@@ -1,4 +1,4 @@
-//! The references that one client lent, and those released since the last giving back.
+//! The references that one client lent, and those released since resources were last given back.
 ghost use Rattle.std.specs.Prelude.{◌≡◌, ◌≤◌, ◌<◌, ◌+◌, [], ◌∷◌, ◌++◌, length, option_to_list, IsTrue, IsFalse, IsOk, OnOk};
 ghost use Rattle.vz_rules.specs.World.{World, Client};
 ghost use Rattle.vz_rules.specs.Returns.{returns_of, queue_returns, give_back};
@@ -15,8 +15,9 @@ use vz_frame::{Listing, Room};
 use vz_returns::Holder;
 use vz_rules::Returned;
 
-/// What a client lent, with the ids of the references that were released since the last giving
-/// back. There is a place for each reference that is alive, so that its release takes no memory.
+/// What a client lent, and the ids of the references released since resources were last given
+/// back. A place is reserved for each reference that is alive, so that its release allocates
+/// nothing.
 #[derive(Drop)]
 pub(crate) struct Lender {
     holder: Holder,
@@ -44,7 +45,7 @@ impl Model for Lender {
 }
 
 impl Lender {
-    /// A client has lent nothing. It takes no memory.
+    /// Creates the record of a client that has lent nothing. It allocates nothing.
     pub(crate) fn new(alloc: Global, client: u32) -> Lender
         ensures client { result.holding.client ≡ client }
         ensures counted { result.holding.counted ≡ [] }
@@ -58,8 +59,8 @@ impl Lender {
         }
     }
 
-    /// Makes places for at least so many more references. Memory is the only error. Nothing else
-    /// changes in any case, and no room is lost.
+    /// Reserves places for at least `n` more references. The only error is `Memory`, if an
+    /// allocation fails. In either case nothing else changes and no room is lost.
     pub(crate) fn make_places(&mut self, n: usize) -> Result<(), Memory>
         ensures holding { self.new.holding ≡ self.old.holding }
         ensures released { self.new.released ≡ self.old.released }
@@ -77,8 +78,8 @@ impl Lender {
         }
     }
 
-    /// Makes room for at least so many more resources, and for a reference of each. Memory is the
-    /// only error. Nothing else changes in any case, and no room is lost.
+    /// Makes room for at least `n` more resources and for a reference of each. The only error is
+    /// `Memory`, if an allocation fails. In either case nothing else changes and no room is lost.
     pub(crate) fn ready(&mut self, n: usize) -> Result<(), Memory>
         ensures holding { self.new.holding ≡ self.old.holding }
         ensures released { self.new.released ≡ self.old.released }
@@ -93,8 +94,8 @@ impl Lender {
         self.make_places(n)
     }
 
-    /// One more reference of a resource is received and alive. Conditions: fewer can be counted
-    /// than were received and are alive, and there is room for one.
+    /// Counts one more reference of a resource as received and as alive. Conditions: both counts
+    /// are below their limit, and there is room for one.
     pub(crate) fn lend(&mut self, id: u32)
         requires countable { IsCountable id self.old.holding }
         requires spare { 0 < self.old.spare }
@@ -108,8 +109,8 @@ impl Lender {
         self.alive += 1;
     }
 
-    /// One more reference of a resource is alive. Conditions: one is, more can be counted, and
-    /// there is a place for one.
+    /// Counts one more reference of a resource as alive. Conditions: one is alive, the count is
+    /// below its limit, and there is a place for one.
     pub(crate) fn hold(&mut self, id: u32)
         requires some { 0 < alive_of id self.old.holding.counted }
         requires countable { IsCountable id self.old.holding }
@@ -123,7 +124,8 @@ impl Lender {
         self.alive += 1;
     }
 
-    /// A reference of a resource is released. Condition: one is alive and not released.
+    /// Notes that a reference of a resource is released. Condition: one is alive and not
+    /// released.
     pub(crate) fn release(&mut self, id: u32)
         requires { Suffice (self.old.released ++ id ∷ []) self.old.holding }
         ensures holding { self.new.holding ≡ self.old.holding }
@@ -134,8 +136,8 @@ impl Lender {
         self.released.push_reserved(id);
     }
 
-    /// Lends each listed resource once more. Conditions: no resource is listed twice, of each one
-    /// more reference can be counted, and there is room for all.
+    /// Lends each listed resource once more. Conditions: no resource is listed twice, each count
+    /// is below its limit, and there is room for all.
     pub(crate) fn lend_all(&mut self, listings: &[Listing])
         requires once { IsFalse (lists_twice listings.now) }
         requires countable { AreCountable (ids_of listings.now) self.old.holding }
@@ -151,8 +153,8 @@ impl Lender {
         }
     }
 
-    /// Holds each listed resource once more. Conditions: no resource is listed twice, of each a
-    /// reference is alive and one more can be counted, and there is a place for each.
+    /// Holds each listed resource once more. Conditions: no resource is listed twice, each has a
+    /// reference that is alive and a count below its limit, and there is a place for each.
     pub(crate) fn hold_all(&mut self, listings: &[Listing])
         requires once { IsFalse (lists_twice listings.now) }
         requires countable { AreCountable (ids_of listings.now) self.old.holding }
@@ -168,7 +170,8 @@ impl Lender {
         }
     }
 
-    /// Releases a reference of each listed resource. Condition: so many are alive and not released.
+    /// Releases a reference of each listed resource. Condition: that many are alive and not
+    /// released.
     pub(crate) fn release_all(&mut self, listings: &[Listing])
         requires { Suffice (self.old.released ++ ids_of listings.now) self.old.holding }
         ensures holding { self.new.holding ≡ self.old.holding }
@@ -181,9 +184,9 @@ impl Lender {
         }
     }
 
-    /// Lends each listed resource once more, and releases a reference of each of others.
-    /// Conditions: no resource is listed twice, of each one more reference can be counted, there is
-    /// room for all, and so many of the others are alive and not released.
+    /// Lends each resource of `listings` once more, and releases a reference of each one of
+    /// `replaced`. Conditions: no resource is listed twice, each count is below its limit, there
+    /// is room for all, and the references to release are alive and not released.
     pub(crate) fn accept(&mut self, listings: &[Listing], replaced: &[Listing])
         requires once { IsFalse (lists_twice listings.now) }
         requires countable { AreCountable (ids_of listings.now) self.old.holding }
@@ -199,8 +202,8 @@ impl Lender {
         self.release_all(replaced);
     }
 
-    /// Releases a reference of each resource that two lists have. Condition: so many are alive and
-    /// not released.
+    /// Releases a reference of each resource in two lists. Condition: that many are alive and not
+    /// released.
     pub(crate) fn drop_all(&mut self, waiting: &[Listing], active: &[Listing])
         requires { Suffice (self.old.released ++ (ids_of waiting.now ++ ids_of active.now))
             self.old.holding }
@@ -212,10 +215,11 @@ impl Lender {
         self.release_all(active);
     }
 
-    /// Gives back what was released: each resource of which no reference is alive any more goes
-    /// back, by rising id, and then nothing is released. Where nothing was, it looks at nothing
-    /// else. It takes no memory. Conditions: so many references of each are alive, and `out` has
-    /// room for all resources of which some is.
+    /// Gives back what was released: each resource that has no reference alive any more is
+    /// returned, by rising id, and appended to `out`. Afterwards no released reference is noted.
+    /// If none was released it looks at nothing else. It allocates nothing. Conditions: the
+    /// released references are alive, and `out` has room for all resources with a reference that
+    /// is alive.
     pub(crate) fn give_back(&mut self, out: &mut Room<Returned>)
         requires suffice { Suffice self.old.released self.old.holding }
         requires room { length self.old.holding.counted ≤ out.old.spare }
@@ -239,8 +243,8 @@ impl Lender {
         self.released.clear();
     }
 
-    /// Appends the queue of returns, and empties it. It takes no memory. Condition: `out` has room
-    /// for all.
+    /// Appends the queue of returned resources to `out` and empties it. It allocates nothing.
+    /// Condition: `out` has room for all.
     pub(crate) fn take(&mut self, out: &mut Room<Returned>)
         requires { length self.old.holding.queue ≤ out.old.spare }
         ensures out { out.new.list ≡ out.old.list ++ self.old.holding.queue }
@@ -253,29 +257,30 @@ impl Lender {
         self.holder.take(out);
     }
 
-    /// How many returns are in the queue.
+    /// How many returned resources are in the queue.
     pub(crate) fn queued(&self) -> usize
         ensures { result ≡ length self.now.holding.queue }
     {
         self.holder.queued()
     }
 
-    /// Of how many resources some reference is alive.
+    /// How many resources have some reference that is alive.
     pub(crate) fn listed(&self) -> usize
         ensures { result ≡ length self.now.holding.counted }
     {
         self.holder.listed()
     }
 
-    /// Whether some reference of a resource was lent that the client has not taken back.
+    /// Whether a resource is in use: a reference of it is alive, or a return of it is in the
+    /// queue.
     pub(crate) fn in_use(&self, id: u32) -> bool
         ensures { result ≡ in_use id self.now.holding }
     {
         self.holder.in_use(id)
     }
 
-    /// Appends each resource of which some reference is alive, by rising id, with all that were
-    /// received. It takes no memory. Condition: `out` has room for all.
+    /// Appends each resource of which some reference is alive, by rising id, with all references
+    /// received as its count. It allocates nothing. Condition: `out` has room for all.
     pub(crate) fn held(&self, out: &mut Room<Returned>)
         requires { length self.now.holding.counted ≤ out.old.spare }
         ensures out { out.new.list ≡ out.old.list ++ held self.now.holding }
@@ -285,8 +290,9 @@ impl Lender {
     }
 }
 
-/// Releases references one after the other, and appends what goes back. It takes no memory.
-/// Conditions: so many of each are alive, and `out` has room for all resources of which some is.
+/// Releases references one after the other, and appends what is returned. It allocates nothing.
+/// Conditions: the references are alive, and `out` has room for all resources with one that is
+/// alive.
 fn give_back_all(ids: &[u32], holder: &mut Holder, out: &mut Room<Returned>)
     requires suffice { Suffice ids.now holder.old.holding }
     requires rising { IsTrue (is_rising holder.old.holding.counted) }
@@ -302,7 +308,8 @@ fn give_back_all(ids: &[u32], holder: &mut Holder, out: &mut Room<Returned>)
     }
 }
 
-/// Releases a reference, and appends what goes back. Conditions: one is alive, and `out` has room.
+/// Releases a reference, and appends what is returned. Conditions: it is alive, and `out` has
+/// room.
 fn give_back_one(id: u32, holder: &mut Holder, out: &mut Room<Returned>)
     requires alive { 0 < alive_of id holder.old.holding.counted }
     requires rising { IsTrue (is_rising holder.old.holding.counted) }

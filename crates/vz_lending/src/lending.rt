@@ -22,9 +22,10 @@ use vz_base::Memory;
 use vz_frame::{Listing, Room};
 use vz_rules::Returned;
 
-/// The references that clients lent, and those released since the last giving back. Contracts
-/// see a record for each client, by number: what it lent, what is released, and the room that was
-/// made before. Only `new`, `ready` and `ready_to_draw` take memory, and `make_room` for its list.
+/// The references that all clients lent, and those released since resources were last given back.
+/// Contracts see a record for each client, by its number: what it lent, what is released, and the
+/// room that was reserved before. Only `new`, `ready`, `ready_to_draw` and (for its list)
+/// `make_room` allocate.
 #[derive(Drop)]
 pub struct Lending {
     lenders: Vec<Lender>,
@@ -40,7 +41,8 @@ impl Model for Lending {
 }
 
 impl Lending {
-    /// Clients of the numbers from 1 to this one have lent nothing. Memory is the only error.
+    /// Creates the records of the clients 1 to `clients`, who have lent nothing. The only error
+    /// is `Memory`, if an allocation fails.
     pub fn new(alloc: Global, clients: u32) -> Result<Lending, Memory>
         ensures lent { IfOk result (λ l. (p : Plan) → length p.files ≡ clients
             → AreLent (opening p) l) }
@@ -53,10 +55,10 @@ impl Lending {
         Ok(Lending { lenders })
     }
 
-    /// Makes room for the next submission of a client with so many listings: for the resources that
-    /// it lends, and for the release of their references. Memory is the only error, and where
-    /// nothing is released and there is the room it answers Ok. Nothing else changes in any case,
-    /// and no room is lost.
+    /// Makes room for the next submission of a client with `listings` listed resources: to lend
+    /// them, and to release their references. The only error is `Memory`, if an allocation fails.
+    /// If no released reference is noted and there is the room, it returns Ok. In either case
+    /// nothing else changes and no room is lost.
     pub fn ready(&mut self, client: u32, listings: usize) -> Result<(), Memory>
         requires known { IsLender client self.old }
         ensures room { OnOk result (HasRoom listings client self.new) }
@@ -70,8 +72,9 @@ impl Lending {
         self.lenders[client as usize - 1].ready(listings)
     }
 
-    /// Makes room for a drawn frame with so many listings in all. Memory is the only error. Nothing
-    /// else changes in any case, and no room is lost.
+    /// Makes room for a drawn frame whose submissions list `listings` resources in all. The only
+    /// error is `Memory`, if an allocation fails. In either case nothing else changes and no room
+    /// is lost.
     pub fn ready_to_draw(&mut self, listings: usize) -> Result<(), Memory>
         ensures room { OnOk result ((client : ℕ) → HasPlaces listings client self.new) }
         ensures same { AreRoomier self.old self.new }
@@ -82,8 +85,8 @@ impl Lending {
         make_places(&mut self.lenders, listings)
     }
 
-    /// Makes room in `out` for a return of each resource of which some reference is alive, and for
-    /// so many more. Memory is the only error, and then nothing changes.
+    /// Makes room in `out` for a return of each resource with a reference that is alive, and for
+    /// `more` others. The only error is `Memory`, if an allocation fails; then nothing changes.
     pub fn make_room(&self, more: usize, out: &mut Room<Returned>) -> Result<(), Memory>
         ensures ok { OnOk result (resources_out self.now + more ≤ out.new.spare) }
         ensures list { out.new.list ≡ out.old.list }
@@ -95,8 +98,8 @@ impl Lending {
         }
     }
 
-    /// Whether an upload of a resource is refused, as a reference of it was lent that the client
-    /// has not taken back.
+    /// Whether an upload of a resource is refused as the resource is in use: a reference of it is
+    /// alive, or a return of it is in the queue.
     pub fn in_use(&self, client: u32, id: u32) -> bool
         requires known { IsLender client self.now }
         ensures { (w : World) (c : Client) → KeepsAlways w → Contains w.clients c
@@ -106,10 +109,10 @@ impl Lending {
         self.lenders[client as usize - 1].in_use(id)
     }
 
-    /// A submission of a client is accepted: each resource that it lists is lent once more, and
-    /// those of the one that it replaces are released; `replaced` is empty where there is none.
-    /// Conditions: a client that is not closed may submit it, nothing is released before it, and
-    /// there is room for its listings.
+    /// Notes that a submission of a client is accepted: each resource that it lists is lent once
+    /// more, and those of the submission that it replaces are released. `replaced` is empty if
+    /// there is no such submission. Conditions: the client is not closed and may submit it, no
+    /// released reference is noted, and there is room for its listings.
     pub fn accepted(&mut self, client: u32, listings: &[Listing], replaced: &[Listing])
         requires known { IsLender client self.old }
         requires accepted { (p : Plan) × (w : World) × (c : Client) × (local : LocalSurfaceId)
@@ -125,8 +128,9 @@ impl Lending {
         self.lenders[client as usize - 1].accept(listings, replaced);
     }
 
-    /// A submission that waits becomes active: the resources of the active one of its surface are
-    /// released. Condition: these are the listings of that one, none where there is none.
+    /// Notes that a waiting submission becomes active: the resources of the submission that was
+    /// active on its surface are released. Condition: `listings` are those of that submission,
+    /// and empty if there is none.
     pub fn past(&mut self, client: u32, listings: &[Listing])
         requires known { IsLender client self.old }
         requires rises { (w : World) × (s : Submission)
@@ -138,8 +142,9 @@ impl Lending {
         self.lenders[client as usize - 1].release_all(listings);
     }
 
-    /// A surface is destroyed: the resources of its waiting and of its active submission are
-    /// released. Condition: these are the listings of the two, none where there is none.
+    /// Notes that a surface is destroyed: the resources of its waiting and of its active
+    /// submission are released. Condition: these are the listings of the two, each empty if there
+    /// is no such submission.
     pub fn dropped(&mut self, client: u32, waiting: &[Listing], active: &[Listing])
         requires known { IsLender client self.old }
         requires goes { (w : World) × (d : Created)
@@ -152,9 +157,9 @@ impl Lending {
         self.lenders[client as usize - 1].drop_all(waiting, active);
     }
 
-    /// An active submission is in a drawn frame: it holds its resources once more. Conditions: it
-    /// is not among those of the frame so far, nothing is released, and there are places for its
-    /// listings.
+    /// Notes that an active submission is in a drawn frame, which holds its resources once more.
+    /// Conditions: it is not in the frame yet, no released reference is noted, and there are
+    /// places for its listings.
     pub fn drawn(&mut self, client: u32, listings: &[Listing])
         requires known { IsLender client self.old }
         requires drawn { (p : Plan) × (w : World) × (before : List Sub) × (s : Submission)
@@ -171,8 +176,8 @@ impl Lending {
         self.lenders[client as usize - 1].hold_all(listings);
     }
 
-    /// The drawn frame is done: the resources of the first submission in it are released, which is
-    /// in it no more. Condition: these are its listings.
+    /// Notes that the drawn frame is done for the first submission in it: that is removed from
+    /// the frame, and its resources are released. Condition: these are its listings.
     pub fn landed(&mut self, client: u32, listings: &[Listing])
         requires known { IsLender client self.old }
         requires done { (w : World) × (s : Submission) × (others : List Sub)
@@ -185,10 +190,10 @@ impl Lending {
         self.lenders[client as usize - 1].release_all(listings);
     }
 
-    /// Gives back what was released: each resource of which no reference is alive any more goes
-    /// back with all that were received, by client and rising id. Conditions: it stands for a state
-    /// in which what always holds is kept, and `out` has room for each resource of which some
-    /// reference was alive.
+    /// Gives back what was released: each resource without a reference that is alive is returned
+    /// with all references received as its count, by client and rising id. Conditions: the
+    /// records are right for a state that keeps the invariants, and `out` has room for each
+    /// resource that had a reference alive.
     pub fn give_back(&mut self, out: &mut Room<Returned>)
         requires stands { (w : World) × KeepsAlways w × AreLent w self.old }
         requires room { resources_out self.old ≤ out.old.spare }
@@ -202,7 +207,7 @@ impl Lending {
         give_back_each(&mut self.lenders, out);
     }
 
-    /// How many returns are in a client's queue.
+    /// How many returned resources are in a client's queue.
     pub fn queued(&self, client: u32) -> usize
         requires known { IsLender client self.now }
         ensures own { (l : Lent) → IsOf client self.now l → result ≡ length l.holding.queue }
@@ -212,7 +217,8 @@ impl Lending {
         self.lenders[client as usize - 1].queued()
     }
 
-    /// Appends the queue of a client, and empties it. Condition: `out` has room for all in it.
+    /// Appends the queue of a client to `out`, oldest first, and empties it. Condition: `out` has
+    /// room for all of it.
     pub fn reclaim(&mut self, client: u32, out: &mut Room<Returned>)
         requires known { IsLender client self.old }
         requires room { (l : Lent) → IsOf client self.old l
@@ -230,7 +236,7 @@ impl Lending {
     }
 
     /// Appends each resource of which some reference is alive, by client and rising id, with all
-    /// that were received. Condition: `out` has room for all.
+    /// references received as its count. Condition: `out` has room for all.
     pub fn held(&self, out: &mut Room<Returned>)
         requires room { resources_out self.now ≤ out.old.spare }
         ensures { (w : World) → KeepsAlways w → AreLent w self.now
@@ -240,7 +246,8 @@ impl Lending {
     }
 }
 
-/// How many resources have some reference that is alive, and so many more, if it can be counted.
+/// How many resources have a reference that is alive, plus `more`, or None if that is too large
+/// to count.
 fn count_out(lenders: &[Lender], more: usize) -> Option<usize>
     ensures { IfSome result (λ n. n ≡ resources_out lenders.now + more) }
 {
@@ -254,7 +261,8 @@ fn count_out(lenders: &[Lender], more: usize) -> Option<usize>
     Some(places)
 }
 
-/// Makes places for so many more references of each client. Memory is the only error.
+/// Reserves places for `n` more references of each client. The only error is `Memory`, if an
+/// allocation fails.
 fn make_places(lenders: &mut [Lender], n: usize) -> Result<(), Memory>
     ensures same { AreRoomier lenders.old lenders.new }
     ensures room { OnOk result ((client : ℕ) → HasPlaces n client lenders.new) }
@@ -265,8 +273,8 @@ fn make_places(lenders: &mut [Lender], n: usize) -> Result<(), Memory>
     Ok(())
 }
 
-/// Gives back what each client's references give. Condition: `out` has room for each resource of
-/// which some reference was alive.
+/// Gives back what each client's released references return. Condition: `out` has room for each
+/// resource that had a reference alive.
 fn give_back_each(lenders: &mut [Lender], out: &mut Room<Returned>)
     requires stands { (w : World) × KeepsAlways w × AreLent w lenders.old }
     requires room { resources_out lenders.old ≤ out.old.spare }
@@ -282,8 +290,8 @@ fn give_back_each(lenders: &mut [Lender], out: &mut Room<Returned>)
     }
 }
 
-/// Appends each client's resources of which some reference is alive. Condition: `out` has room for
-/// all.
+/// Appends each client's resources of which some reference is alive. Condition: `out` has room
+/// for all.
 fn put_held(lenders: &[Lender], out: &mut Room<Returned>)
     requires room { resources_out lenders.now ≤ out.old.spare }
     ensures out { out.new.list

@@ -1,4 +1,4 @@
-//! The references that all clients lent, for the fast machine.
+//! The references that all clients lent, for the incremental machine.
 #![tactic(auto)]
 
 pub mod laws;

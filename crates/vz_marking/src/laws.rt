@@ -1,9 +1,9 @@
-//! The law of marking, the contract of a function that does nothing.
+//! The lemma about marking, as the contract of a function with an empty body.
 ghost use Rattle.std.specs.Prelude.{◌≡◌, Bool, true, List};
 ghost use Rattle.std.specs.List.{list_any};
 ghost use Rattle.vz_rules.specs.Closure.{IsLeastClosed};
 
-/// Two least closed lists have the same members.
+/// Two least closed lists over the same roots and the same relation have the same members.
 pub fn least_lists_agree<A>()
     ensures { (same : A → A → Bool) (next : A → List A) (roots xs ys : List A) (x : A)
         → IsLeastClosed same next roots xs → IsLeastClosed same next roots ys

@@ -1,9 +1,9 @@
-//! The marking of what is reached: how a list in which nothing stands twice grows over what is next
-//! to its members, until it is the least closed list with the roots.
+//! Marking by reachability: a list without duplicates grows by whatever is next to its members,
+//! until it is the least list that contains the roots and is closed under "next".
 //!
-//! It says nothing of surfaces or sinks. Those who mark cite its lemmas: the machine's references,
-//! the relations of sinks, and the plain machine. A change of one of these so proves none of the
-//! others again.
+//! This crate knows nothing of surfaces or sinks. The machine's references, the relations of
+//! sinks and the plain machine all cite its lemmas, so that a change of one of them does not
+//! prove the others again.
 #![tactic(auto)]
 
 pub mod laws;

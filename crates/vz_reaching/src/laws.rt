@@ -1,5 +1,5 @@
-//! Laws of what is kept, each the contract of a function that does nothing: what is set and what is
-//! temporary changes as the machine's state does.
+//! Laws of which surfaces are kept: each is the contract of a function with an empty body. What
+//! is set and what is temporary changes as the machine's state does.
 ghost use Rattle.std.specs.Prelude.{◌≡◌, ℕ, ◌+◌, Bool, not, ◌&&◌, true, false, Option, Some, None, IfSome, IsTrue, IsFalse, List, [], map, filter, ◌==◌};
 ghost use Rattle.std.specs.List.{Contains};
 ghost use Rattle.vz_base.specs.declared.limits.TheConstants.{TEMPORARY_TICKS};
@@ -24,13 +24,14 @@ ghost use Rattle.vz_refs.specs.Referring.{Referring, is_set, setting, removing, 
 ghost use Rattle.vz_refs.specs.Meaning.{AreRoots};
 ghost use Rattle.vz_reaching.specs.Lasting.{has_kept, AreKept, root_of};
 
-/// What is kept is that of the opening state where nothing is set and nothing is temporary.
+/// In the opening state nothing is set and nothing is temporary.
 pub fn nothing_is_kept()
     ensures { (p : Plan) (r : Referring) → r.sets ≡ [] → r.temporary ≡ []
         → AreKept (opening p) None r }
 {}
 
-/// A submission becomes active: its ranges are set, and what they name is temporary no longer.
+/// When a submission becomes active, its ranges are set, and the surfaces that they name are no
+/// longer temporary.
 pub fn ranges_follow()
     ensures { (w : World) (but : Option SurfaceId) (s : Submission) (r : Referring) → KeepsAlways w
         → Contains w.subs s → IsTrue (is_waiting s) → AreKept w but r
@@ -40,8 +41,8 @@ pub fn ranges_follow()
         }) }
 {}
 
-/// These changes of the machine's state are none for what is kept: whatever leaves the submissions,
-/// the surfaces, the tick and which clients are closed.
+/// A change of the machine's state that leaves the submissions, the surfaces, the tick and which
+/// clients are closed as they are changes nothing of what is kept.
 pub fn kept_ones_stay()
     ensures same { (w v : World) (but : Option SurfaceId) (r : Referring) → v.subs ≡ w.subs
         → v.surfaces ≡ w.surfaces → v.tick ≡ w.tick
@@ -56,29 +57,29 @@ pub fn kept_ones_stay()
         → AreKept w but r → AreKept (feed presented w) but r }
 {}
 
-/// What is named now is named: nothing changes of what is kept, and nothing more is named then.
+/// When names are noted, what is kept does not change, and a second time notes nothing more.
 pub fn names_are_noted()
     ensures kept { (w : World) (but : Option SurfaceId) (r : Referring) → AreKept w but r
         → AreKept (naming w) but r }
     ensures again { (w : World) → naming (naming w) ≡ naming w }
 {}
 
-/// A begin-frame ends the temporary surfaces that last no longer than its tick.
+/// A begin-frame ends the temporary surfaces whose last tick is not after its own.
 pub fn ticks_end_some()
     ensures { (p : Plan) (w : World) (but : Option SurfaceId) (r : Referring) → KeepsAlways w
         → AreKept w but r → AreKept (begin_answer p w).world but
         (record r { temporary = lasting (next_tick w.tick) r.temporary }) }
 {}
 
-/// A client is closed: none of its surfaces is temporary any longer.
+/// When a client is closed, none of its surfaces is temporary any longer.
 pub fn closed_clients_keep_none()
     ensures { (w : World) (c : Client) (r : Referring) → KeepsAlways w → Contains w.clients c
         → AreKept w None r → AreKept (message_answer w c Close).world None
         (record r { temporary = of_others c.sink r.temporary }) }
 {}
 
-/// A submission is accepted: where it creates a surface, this one is to be kept still, when all
-/// that follows became active; where it creates none, nothing changes.
+/// If an accepted submission creates a surface, this surface is still to be made temporary, after
+/// all that follows has become active. If it creates none, nothing changes.
 pub fn new_surfaces_follow()
     ensures created { (w : World) (c : Client) (local : LocalSurfaceId) (frame : CompositorFrame)
         (r : Referring) → Keeps w → Contains w.clients c → AreKept w None r
@@ -91,8 +92,8 @@ pub fn new_surfaces_follow()
         → AreKept (accepted w c local frame).world None r }
 {}
 
-/// When all that follows became active, and what is named now is named, a new surface becomes
-/// temporary, unless a range that is set names it.
+/// After all that follows has become active and names are noted, a new surface becomes temporary,
+/// unless a range that is set names it.
 pub fn new_surfaces_last()
     ensures { (w : World) (c : Created) (r : Referring) → KeepsAlways w → naming w ≡ w
         → Contains w.surfaces c → c.born ≡ w.tick → c.destroyed ≡ false
@@ -102,8 +103,8 @@ pub fn new_surfaces_last()
         }) }
 {}
 
-/// A surface is destroyed that is not temporary, where what is named now is named: nothing is set
-/// for it any longer, and what is named now is still named.
+/// After a surface that is not temporary is destroyed, no ranges are set for it. If names were
+/// noted before, they still are.
 pub fn destroyed_surfaces_go()
     ensures { (w : World) (d : Created) (r : Referring) → naming w ≡ w
         → has_kept r.temporary d.id ≡ false → AreKept w None r
@@ -111,7 +112,7 @@ pub fn destroyed_surfaces_go()
         × (naming (going d w) ≡ going d w) }
 {}
 
-/// What a range shows is set: `References::reachable` may be called.
+/// Each surface that a range shows is set, so that `References::reachable` may be called.
 pub fn shown_ones_are_set()
     ensures { (w : World) (but : Option SurfaceId) (r : Referring)
         (shows : SurfaceRange → Option SurfaceId) → ((x : SurfaceRange) → shows x ≡ shown w x)
@@ -119,10 +120,10 @@ pub fn shown_ones_are_set()
         → (x : SurfaceRange) → IfSome (shows x) (λ id. IsTrue (is_set r.sets id)) }
 {}
 
-/// Where what is named now is named, reaching starts at the root, where it exists, and at what is
-/// temporary: what `References::reachable` answers for them has exactly the surfaces that are
-/// reached. A marked surface that exists is lost exactly where such a list has it not (of each
-/// client in the order of creation), and none that is lost is temporary.
+/// After names are noted, marking starts at the root, if it exists, and at the temporary
+/// surfaces. The list that `References::reachable` gives for them has exactly the surfaces that
+/// are reached. A marked surface that exists is lost exactly if it is not in that list (for each
+/// client in the order of creation), and no lost surface is temporary.
 pub fn roots_are_reached()
     ensures roots { (w : World) (r : Referring) → naming w ≡ w → AreKept w None r
         → AreRoots w (root_of w) r.temporary }

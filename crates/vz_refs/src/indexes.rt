@@ -1,4 +1,4 @@
-//! Writes into indexes whose room was made before.
+//! Writes into indexes whose room was reserved before.
 ghost use Rattle.std.specs.Prelude.{◌≡◌, ◌≤◌, if◌then◌else◌};
 ghost use Rattle.std.specs.Option.{option_map};
 ghost use Rattle.indexmap.specs.IndexMap.{get, spare as spare_of};
@@ -9,7 +9,7 @@ use crate::sets::{Edge, Group, Nth};
 use indexmap::IndexMap;
 use std::hash::Hash;
 
-/// Gives a key another value, where it has one.
+/// Replaces the value of a key. If the map does not have the key, nothing changes.
 pub(crate) fn write<K: Copy + Eq + Hash, V: Copy>(map: &mut IndexMap<K, V>, key: K, value: V)
     ensures values { (q : K) → get K.eq map.new q
         ≡ (if K.eq key q then option_map (λ _. value) (get K.eq map.old q) else get K.eq map.old q) }
@@ -20,7 +20,7 @@ pub(crate) fn write<K: Copy + Eq + Hash, V: Copy>(map: &mut IndexMap<K, V>, key:
     }
 }
 
-/// How many are in a group.
+/// How many ranges or surfaces are in a group; 0 if the group is not in the map.
 pub(crate) fn size_of(sizes: &IndexMap<Group, usize>, group: Group) -> usize
     ensures { result ≡ or_zero (get same_key sizes.now group) }
 {
@@ -30,7 +30,7 @@ pub(crate) fn size_of(sizes: &IndexMap<Group, usize>, group: Group) -> usize
     }
 }
 
-/// Notes the place of a range in its group.
+/// Notes at which place of its group a range now is.
 pub(crate) fn move_edge(edges: &mut IndexMap<Nth, Edge>, slot: Nth, at: usize)
     ensures values { (q : Slot) → get same_nth edges.new q
         ≡ (if same_nth slot q then option_map (λ e. record { range = e.range; at = at }) (get same_nth edges.old q) else get same_nth edges.old q) }

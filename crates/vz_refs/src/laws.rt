@@ -1,4 +1,4 @@
-//! Laws of references, each the contract of a function that does nothing.
+//! Laws of references: each is the contract of a function with an empty body.
 ghost use Rattle.std.specs.Prelude.{◌≡◌, Option, List, [], if◌then◌else◌, ◌||◌, ◌&&◌, not};
 ghost use Rattle.vz_ids.specs.declared.SurfaceId.{SurfaceId};
 ghost use Rattle.vz_ids.specs.declared.SurfaceRange.{SurfaceRange};
@@ -10,7 +10,7 @@ ghost use Rattle.vz_rules.specs.Reach.{has_id, reach};
 ghost use Rattle.vz_refs.specs.Referring.{Ranged, Temporary, is_set, ranges_of, setting, removing, next_in, starts};
 ghost use Rattle.vz_refs.specs.Meaning.{AreReferences, AreRoots};
 
-/// What is set for a surface is what was set last, and what is removed is not set.
+/// The ranges of a surface are those that were set last. After a removal it has none.
 pub fn ranges_are_kept()
     ensures set { (sets : List Ranged) (id other : SurfaceId) (ranges : List SurfaceRange)
         → ranges_of (setting id ranges sets) other
@@ -24,8 +24,8 @@ pub fn ranges_are_kept()
         → is_set (removing id sets) other ≡ (not (same_surface id other) && is_set sets other) }
 {}
 
-/// Where the active frames' references are set and reaching starts at the roots, the least
-/// list has the surfaces that are reached.
+/// If the sets are the active frames' references and marking starts at the roots, the least
+/// closed list contains exactly the surfaces that are reached.
 pub fn least_is_reached()
     ensures { (w : World) (sets : List Ranged) (kept : List Temporary) (root : Option SurfaceId) (ids : List SurfaceId)
         → AreReferences w sets → AreRoots w root kept

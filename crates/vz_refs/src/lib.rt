@@ -1,8 +1,9 @@
-//! What keeps surfaces alive: the ranges that active frames reference, and the new surfaces
-//! that are kept for a while until somebody references them.
+//! What keeps surfaces alive: the ranges that active frames reference, and the temporary
+//! references. A new surface has a temporary reference for a while, until an active frame
+//! references it.
 //!
-//! A surface is reached from the root and from the temporary ones, over the surfaces that
-//! the ranges show.
+//! A surface is reached if it is the root or temporary, or if a range of a reached surface shows
+//! it.
 #![tactic(auto)]
 
 mod indexes;

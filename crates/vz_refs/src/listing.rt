@@ -1,4 +1,5 @@
-//! What is set, as clauses see it. It takes no memory.
+//! The ranges that are set, as clauses see them. The type has no data at run time and allocates
+//! nothing.
 ghost use Rattle.std.specs.Prelude.{◌≡◌, []};
 ghost use Rattle.vz_refs.specs.Referring.{removing};
 ghost use Rattle.vz_refs.specs.Indexing.{opening, changing, one_more, but_last};
@@ -7,7 +8,7 @@ use std::marker::Model;
 use std::snapshot::Snapshot;
 use vz_ids::{SurfaceId, SurfaceRange};
 
-/// What was changed, the last first. One link is made at a time, and dropped.
+/// The last change. A link is made for one change at a time and dropped after it.
 #[derive(Drop)]
 pub(crate) enum Changes {
     Nothing,
@@ -17,7 +18,7 @@ pub(crate) enum Changes {
     Removed(SurfaceId, Snapshot<Changes>),
 }
 
-/// The surfaces that are set with their ranges, in the order in which they were set.
+/// The surfaces that have ranges set, in the order in which they were first set.
 #[derive(Drop)]
 pub(crate) struct Listing {
     changes: Snapshot<Changes>,
@@ -34,7 +35,7 @@ impl Model for Listing {
 }
 
 impl Listing {
-    /// Nothing is set.
+    /// A listing in which no surface is set.
     #[tactic(auto, unfolding(crate::specs::Indexing::listed))]
     pub(crate) fn new() -> Listing
         ensures { result ≡ [] }
@@ -44,7 +45,7 @@ impl Listing {
         }
     }
 
-    /// A surface is set.
+    /// The listing after a surface is set without ranges.
     #[tactic(auto, unfolding(crate::specs::Indexing::listed))]
     pub(crate) fn opened(self, id: SurfaceId) -> Listing
         ensures { result ≡ opening id self }
@@ -56,7 +57,7 @@ impl Listing {
         }
     }
 
-    /// A surface has one range more.
+    /// The listing after a surface has one range more, at the end.
     #[tactic(auto, unfolding(crate::specs::Indexing::listed))]
     pub(crate) fn longer(self, id: SurfaceId, range: SurfaceRange) -> Listing
         ensures { result ≡ changing (one_more range) id self }
@@ -68,7 +69,7 @@ impl Listing {
         }
     }
 
-    /// A surface has its last range no more.
+    /// The listing after a surface has lost its last range.
     #[tactic(auto, unfolding(crate::specs::Indexing::listed))]
     pub(crate) fn shorter(self, id: SurfaceId) -> Listing
         ensures { result ≡ changing but_last id self }
@@ -80,7 +81,7 @@ impl Listing {
         }
     }
 
-    /// A surface is not set any more.
+    /// The listing after a surface is removed.
     #[tactic(auto, unfolding(crate::specs::Indexing::listed))]
     pub(crate) fn removed(self, id: SurfaceId) -> Listing
         ensures { result ≡ removing id self }
@@ -92,7 +93,7 @@ impl Listing {
         }
     }
 
-    /// Sets a surface.
+    /// Sets a surface, without ranges so far.
     pub(crate) fn open(&mut self, id: SurfaceId)
         ensures { self.new ≡ opening id self.old }
     {
@@ -100,7 +101,7 @@ impl Listing {
         *self = before.opened(id);
     }
 
-    /// Gives a surface one range more.
+    /// Appends a range to those of a surface.
     pub(crate) fn lengthen(&mut self, id: SurfaceId, range: SurfaceRange)
         ensures { self.new ≡ changing (one_more range) id self.old }
     {
@@ -108,7 +109,7 @@ impl Listing {
         *self = before.longer(id, range);
     }
 
-    /// Takes the last range of a surface away.
+    /// Removes the last range of a surface.
     pub(crate) fn shorten(&mut self, id: SurfaceId)
         ensures { self.new ≡ changing but_last id self.old }
     {
@@ -116,7 +117,7 @@ impl Listing {
         *self = before.shorter(id);
     }
 
-    /// Takes a surface away.
+    /// Removes a surface.
     pub(crate) fn remove(&mut self, id: SurfaceId)
         ensures { self.new ≡ removing id self.old }
     {

@@ -1,5 +1,5 @@
-//! Lists of surfaces in which nothing stands twice. Where a surface stands in the list is noted,
-//! so that it is not looked for.
+//! Lists of surfaces without duplicates. The place of each surface in the list is noted, so that
+//! it is found without a search.
 ghost use Rattle.std.specs.Prelude.{◌≡◌, ◌≤◌, ◌<◌, ◌+◌, [], ◌∷◌, length, map, false, IsFalse, Some, slice_get};
 ghost use Rattle.std.specs.List.{list_any};
 ghost use Rattle.std.specs.Option.{option_map, option_map_or};
@@ -18,7 +18,7 @@ use indexmap::IndexMap;
 use vz_frame::Room;
 use vz_ids::SurfaceId;
 
-/// Whether a surface stands at a place.
+/// Whether the list has a surface at a place.
 fn stands_at(out: &[SurfaceId], place: usize, id: &SurfaceId) -> bool
     ensures { result ≡ option_map_or (same_surface id.now) (slice_get out.now place) false }
 {
@@ -28,7 +28,8 @@ fn stands_at(out: &[SurfaceId], place: usize, id: &SurfaceId) -> bool
     }
 }
 
-/// Whether a surface is out. One without a place is looked for.
+/// Whether the list contains a surface. It searches the list if no place could be noted for the
+/// surface.
 fn is_out(sets: &Sets, id: &SurfaceId, notes: &Option<Notes>, out: &[SurfaceId]) -> bool
     requires { AreNoted (noted sets.now.keys notes.now) out.now }
     ensures { result ≡ list_any (same_surface id.now) out.now }
@@ -39,7 +40,7 @@ fn is_out(sets: &Sets, id: &SurfaceId, notes: &Option<Notes>, out: &[SurfaceId])
     }
 }
 
-/// Appends a surface unless it is there.
+/// Appends a surface unless the list contains it.
 pub(crate) fn add(sets: &Sets, id: SurfaceId, notes: &mut Option<Notes>, out: &mut Room<SurfaceId>)
     requires noted { AreNoted (noted sets.now.keys notes.old) out.old.list }
     requires room { IsFalse (list_any (same_surface id) out.old.list) → 0 < out.old.spare }
@@ -53,7 +54,8 @@ pub(crate) fn add(sets: &Sets, id: SurfaceId, notes: &mut Option<Notes>, out: &m
     }
 }
 
-/// Appends the surfaces where reaching starts, each unless it is there.
+/// Appends the surfaces at which marking starts, each unless the list contains it: the root, if
+/// there is one, and the temporary surfaces.
 pub(crate) fn start(
     sets: &Sets,
     root: Option<SurfaceId>,
@@ -77,7 +79,7 @@ pub(crate) fn start(
     }
 }
 
-/// Appends the temporary surfaces, each unless it is there.
+/// Appends the temporary surfaces, each unless the list contains it.
 fn add_kept(
     sets: &Sets,
     kept: &IndexMap<Name, Kept>,
@@ -104,7 +106,7 @@ fn id_at(kept: &IndexMap<Name, Kept>, at: usize) -> SurfaceId
     kept[at].id
 }
 
-/// Appends what the ranges of a surface show, each unless it is there.
+/// Appends the surfaces that the ranges of a surface show, each unless the list contains it.
 pub(crate) fn follow<S: Shows>(
     sets: &Sets,
     from: SurfaceId,

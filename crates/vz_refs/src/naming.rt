@@ -1,4 +1,5 @@
-//! Which ranges name a surface: those whose end is in its group, at it or newer.
+//! Which ranges name a surface: those whose end is in the surface's group and is the surface
+//! itself or a newer one.
 ghost use Rattle.std.specs.Prelude.{◌≡◌, false};
 ghost use Rattle.std.specs.Option.{option_map_or};
 ghost use Rattle.indexmap.specs.IndexMap.{get};
@@ -17,7 +18,7 @@ pub(crate) fn names(range: &SurfaceRange, id: &SurfaceId) -> bool
     is_same(&range.end, id) || (range.end.sink == id.sink && range.end.local.newer(&id.local))
 }
 
-/// Whether the range that stands at a place of a group names a surface.
+/// Whether the range at a place of a group names a surface.
 pub(crate) fn names_at(
     edges: &IndexMap<Nth, Edge>,
     ends: &IndexMap<Place, Nth>,

@@ -1,4 +1,4 @@
-//! Where it is noted at which places of a list surfaces stand, so that none is looked for there.
+//! Notes of the place of each surface in a list, so that the list is not searched.
 ghost use Rattle.std.specs.Prelude.{◌≡◌};
 ghost use Rattle.vz_refs.specs.Noted.{noted, noted_in, IsNoted};
 
@@ -9,8 +9,8 @@ use indexmap::IndexMap;
 use std::alloc::Global;
 use vz_ids::SurfaceId;
 
-/// A place for each surface that is set, by its index, and one for each temporary surface that
-/// is not set. What was noted for another list has no meaning.
+/// A place for each surface that is set, by its index, and one for each temporary surface that is
+/// not set. A place that was noted for another list means nothing.
 #[derive(Drop)]
 pub(crate) struct Notes {
     pub(crate) places: Vec<usize>,
@@ -18,7 +18,7 @@ pub(crate) struct Notes {
 }
 
 impl Notes {
-    /// There is no place. It takes no memory.
+    /// Notes without places. It allocates nothing.
     pub(crate) fn new(alloc: Global) -> Notes {
         Notes {
             places: Vec::new(alloc),
@@ -26,16 +26,16 @@ impl Notes {
         }
     }
 
-    /// Makes a place for each of so many surfaces that are set. Where there is no memory for it,
-    /// those without a place are looked for.
+    /// Makes a place for each of `n` surfaces that are set. If an allocation fails, the list is
+    /// searched for those without a place.
     pub(crate) fn make_places(&mut self, n: usize) {
         if self.places.len() < n {
             let _ = self.places.resize(n, 0);
         }
     }
 
-    /// Makes room for the places of more than so many temporary surfaces. Where there is no
-    /// memory for it, those without a place are looked for.
+    /// Makes room for the places of more than `n` temporary surfaces. If an allocation fails, the
+    /// list is searched for those without a place.
     pub(crate) fn make_room(&mut self, n: usize) {
         if self.others.capacity() <= n {
             self.others.clear();
@@ -43,8 +43,8 @@ impl Notes {
         }
     }
 
-    /// Gives each temporary surface that is not set a place, where there is room for it. It
-    /// takes no memory.
+    /// Gives each temporary surface that is not set a place, as far as there is room. It
+    /// allocates nothing.
     pub(crate) fn seat(&mut self, sets: &Sets, kept: &IndexMap<Name, Kept>) {
         self.others.clear();
         for one in kept.values() {
@@ -54,7 +54,7 @@ impl Notes {
         }
     }
 
-    /// Notes a place for a surface, where it has one.
+    /// Notes a surface's place in the list, if it has a note.
     fn note(&mut self, sets: &Sets, id: &SurfaceId, place: usize)
         ensures { IsNoted (noted_in sets.now.keys self.old) (noted_in sets.now.keys self.new) id.now place }
     {
@@ -69,7 +69,7 @@ impl Notes {
     }
 }
 
-/// The place that is noted for a surface.
+/// The place that is noted for a surface, if one is.
 pub(crate) fn noted(sets: &Sets, id: &SurfaceId, notes: &Option<Notes>) -> Option<usize>
     ensures { result ≡ noted sets.now.keys notes.now id.now }
 {
@@ -80,7 +80,7 @@ pub(crate) fn noted(sets: &Sets, id: &SurfaceId, notes: &Option<Notes>) -> Optio
     }
 }
 
-/// Notes a place for a surface, where there is one for it.
+/// Notes a surface's place in the list, if there are notes and it has one.
 pub(crate) fn note(sets: &Sets, id: &SurfaceId, notes: &mut Option<Notes>, place: usize)
     ensures { IsNoted (noted sets.now.keys notes.old) (noted sets.now.keys notes.new) id.now place }
 {

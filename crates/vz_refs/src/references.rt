@@ -1,4 +1,4 @@
-//! The references between surfaces.
+//! The references between surfaces: the table that decides what is reachable.
 ghost use Rattle.std.specs.Prelude.{◌≡◌, ◌≤◌, ◌<◌, ◌+◌, [], length, false, IsTrue, IsOk, OnOk, OnErr, IfSome};
 ghost use Rattle.vz_ids.specs.Ids.{same_surface};
 ghost use Rattle.vz_frame.specs.Frame.{has_repeat};
@@ -19,7 +19,7 @@ use vz_base::Memory;
 use vz_frame::Room;
 use vz_ids::{FrameSinkId, SurfaceId, SurfaceRange};
 
-/// What knows which surface a range shows.
+/// A lookup of the surface that a range shows. The store of surfaces implements it.
 pub trait Shows {
     ghost use Rattle.std.specs.Prelude.{Option};
     ghost use Rattle.vz_ids.specs.declared.SurfaceId.{SurfaceId as Id};
@@ -27,14 +27,16 @@ pub trait Shows {
 
     ghost shows: { Self → Range → Option Id };
 
-    /// The surface that a range shows.
+    /// The surface that a range shows, or None if it shows none.
     fn shown(&self, r: &SurfaceRange) -> Option<SurfaceId>
         ensures { result ≡ shows self.now r.now };
 }
 
-/// Which ranges are set for which surfaces, and which surfaces are temporary. Contracts see
-/// both lists and, beside them, the room that was made before. A place for each surface of both is
-/// made beside; in it `reachable` notes where the surface stands among the reached.
+/// The ranges that are set for each surface, and the temporary surfaces.
+///
+/// Contracts see `sets` (in the order of their first `set`), `temporary` (in the order of `keep`)
+/// and the room that was reserved before. The type also has a place for each surface of both, in
+/// which `reachable` notes where the surface is in its list.
 #[derive(Drop)]
 pub struct References {
     sets: Sets,
@@ -56,7 +58,7 @@ impl Model for References {
 }
 
 impl References {
-    /// Nothing is set and nothing is temporary. It takes no memory.
+    /// Creates a table in which nothing is set and nothing is temporary. It allocates nothing.
     pub fn new(alloc: Global) -> References
         ensures sets { result.sets ≡ [] }
         ensures temporary { result.temporary ≡ [] }
@@ -68,8 +70,8 @@ impl References {
         }
     }
 
-    /// Makes room for at least so many surfaces and ranges together. Memory is the only
-    /// error. Nothing else changes in any case, and no room is lost.
+    /// Makes room for at least `n` more surfaces and ranges together. The only error is `Memory`,
+    /// if an allocation fails. In either case nothing else changes and no room is lost.
     pub fn ready(&mut self, n: usize) -> Result<(), Memory>
         ensures sets { self.new.sets ≡ self.old.sets }
         ensures temporary { self.new.temporary ≡ self.old.temporary }
@@ -81,8 +83,8 @@ impl References {
         self.sets.reserve(n)
     }
 
-    /// Makes room for one temporary surface. Memory is the only error. Nothing else changes
-    /// in any case, and no room is lost.
+    /// Makes room for one more temporary surface. The only error is `Memory`, if an allocation
+    /// fails. In either case nothing else changes and no room is lost.
     pub fn reserve(&mut self) -> Result<(), Memory>
         ensures sets { self.new.sets ≡ self.old.sets }
         ensures temporary { self.new.temporary ≡ self.old.temporary }
@@ -96,10 +98,10 @@ impl References {
         Ok(())
     }
 
-    /// Sets the ranges of a surface in the place of those that it had, and ends each
-    /// temporary surface that one of them names. For want of memory, and only then, it
-    /// answers Memory and nothing changes. Where there is room for one and one more for each
-    /// range it answers Ok; it uses no more of it.
+    /// Replaces the ranges of a surface by `ranges`, which may be empty, and ends each temporary
+    /// surface that one of them names. It returns `Memory` if an allocation fails; then nothing
+    /// changes. If there is room for one and one more for each range, it returns Ok and uses up
+    /// no more than that.
     pub fn set(&mut self, id: SurfaceId, ranges: &[SurfaceRange]) -> Result<(), Memory>
         ensures sets { OnOk result (self.new.sets ≡ setting id ranges.now self.old.sets) }
         ensures temporary { OnOk result (self.new.temporary
@@ -119,7 +121,7 @@ impl References {
         Ok(())
     }
 
-    /// Nothing is set for a surface from now on.
+    /// Removes a surface with its ranges. Nothing changes if it is not set.
     pub fn remove(&mut self, id: &SurfaceId)
         ensures sets { self.new.sets ≡ removing id.now self.old.sets }
         ensures temporary { self.new.temporary ≡ self.old.temporary }
@@ -130,8 +132,8 @@ impl References {
         self.sets.forget(*id);
     }
 
-    /// Makes a surface temporary until a tick, unless a range that is set names it. It takes
-    /// no memory. Condition: the room of a `reserve`.
+    /// Makes a surface temporary until the tick `until`, unless a range that is set names it. It
+    /// allocates nothing. Condition: `reserve` was called and its room is unused.
     pub fn keep(&mut self, id: SurfaceId, until: u32)
         requires { 0 < self.old.room }
         ensures sets { self.new.sets ≡ self.old.sets }
@@ -144,7 +146,7 @@ impl References {
         }
     }
 
-    /// Ends the temporary surfaces that last to this tick at most.
+    /// Begins the tick `n`: ends the temporary surfaces whose last tick is `n` or earlier.
     pub fn tick(&mut self, n: u32)
         ensures sets { self.new.sets ≡ self.old.sets }
         ensures temporary { self.new.temporary ≡ lasting n self.old.temporary }
@@ -154,7 +156,7 @@ impl References {
         self.temporary.tick(n);
     }
 
-    /// Ends the temporary surfaces of a sink.
+    /// Ends the temporary surfaces of a sink, as its client was closed.
     pub fn sink_gone(&mut self, sink: FrameSinkId)
         ensures sets { self.new.sets ≡ self.old.sets }
         ensures temporary { self.new.temporary ≡ of_others sink self.old.temporary }
@@ -164,14 +166,14 @@ impl References {
         self.temporary.sink_gone(sink);
     }
 
-    /// Whether ranges are set for a surface.
+    /// Whether a surface is set, with or without ranges.
     pub fn is_set(&self, id: &SurfaceId) -> bool
         ensures { result ≡ is_set self.now.sets id.now }
     {
         self.sets.has(id)
     }
 
-    /// How many surfaces have ranges set.
+    /// How many surfaces are set.
     pub fn surfaces(&self) -> usize
         ensures { result ≡ length self.now.sets }
     {
@@ -185,10 +187,10 @@ impl References {
         self.temporary.len()
     }
 
-    /// Gives the reached surfaces, each once: the root, if there is one, the temporary ones,
-    /// and all that the ranges of reached ones show. It takes no memory. Conditions: `out` is
-    /// empty and has room for one more than the surfaces set and the temporary ones together,
-    /// and only surfaces that are set are shown.
+    /// Appends the reachable surfaces, each once, in no promised order: the root, if there is
+    /// one, the temporary ones, and each surface that a range of a reachable one shows. It
+    /// allocates nothing. Conditions: `out` is empty and has room for one more than the set and
+    /// the temporary surfaces together, and each surface that a range shows is set.
     pub fn reachable<S: Shows>(&self, root: Option<SurfaceId>, s: &S, out: &mut Room<SurfaceId>)
         requires empty { out.old.list ≡ [] }
         requires room { length self.now.sets + length self.now.temporary < out.old.spare }
@@ -206,28 +208,28 @@ impl References {
     }
 }
 
-/// Makes a place for each of so many surfaces that are set.
+/// Makes a place for each of `n` surfaces that are set.
 fn make_places(notes: &mut Cell<Option<Notes>>, n: usize) {
     if let Some(notes) = notes.get_mut() {
         notes.make_places(n);
     }
 }
 
-/// Makes room for the places of more than so many temporary surfaces.
+/// Makes room for the places of more than `n` temporary surfaces.
 fn make_room(notes: &mut Cell<Option<Notes>>, n: usize) {
     if let Some(notes) = notes.get_mut() {
         notes.make_room(n);
     }
 }
 
-/// Gives each temporary surface that is not set a place.
+/// Gives each temporary surface that is not set a place, as far as there is room.
 fn seat(notes: &mut Option<Notes>, sets: &Sets, kept: &IndexMap<Name, Kept>) {
     if let Some(notes) = notes {
         notes.seat(sets, kept);
     }
 }
 
-/// Gives the reached surfaces, as `reachable` does.
+/// Appends the reachable surfaces, as `reachable` does.
 fn reach<S: Shows>(
     sets: &Sets,
     kept: &IndexMap<Name, Kept>,

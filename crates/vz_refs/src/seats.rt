@@ -1,4 +1,4 @@
-//! Temporary surfaces by their names, and where each of them stands in its group.
+//! Temporary surfaces by name, each with its place in its group.
 ghost use Rattle.std.specs.Prelude.{◌≡◌, ◌≤◌, ◌<◌, ◌+◌, ◌-◌, ℕ, Bool, true, false, None, Some, [], cond, not, IsOk, OnOk, IsTrue};
 ghost use Rattle.std.specs.Option.{option_map};
 ghost use Rattle.std.specs.Map.{lookup};
@@ -20,22 +20,22 @@ use std::alloc::Global;
 use vz_base::Memory;
 use vz_ids::{FrameSinkId, SurfaceId, SurfaceRange};
 
-/// The name of a temporary surface: the tick until which it lasts, and a number.
+/// The name of a temporary surface: its last tick, and a number that is used only once.
 #[derive(Clone, Copy, PartialEq, Eq, Hash)]
 pub(crate) struct Name {
     pub(crate) until: u32,
     pub(crate) number: u64,
 }
 
-/// A temporary surface, and where it stands in its group.
+/// A temporary surface, and its place in its group.
 #[derive(Clone, Copy)]
 pub(crate) struct Kept {
     pub(crate) id: SurfaceId,
     pub(crate) at: usize,
 }
 
-/// Temporary surfaces by their names. Those of a group stand one after the other, so that what
-/// a range names is not looked for among all.
+/// Temporary surfaces by name. The places of a group are numbered without gaps, so that the
+/// surfaces that a range names are looked for in one group alone.
 #[derive(Drop)]
 pub(crate) struct Seats {
     pub(crate) kept: IndexMap<Name, Kept>,
@@ -44,7 +44,7 @@ pub(crate) struct Seats {
 }
 
 impl Seats {
-    /// There are none. It takes no memory.
+    /// Creates an empty table. It allocates nothing.
     pub(crate) fn new(alloc: Global) -> Seats
         ensures stands { Stands result }
         ensures none { result.kept.entries ≡ [] }
@@ -56,7 +56,7 @@ impl Seats {
         }
     }
 
-    /// Makes room for one.
+    /// Makes room for one more surface.
     pub(crate) fn reserve(&mut self) -> Result<(), Memory>
         ensures kept { self.new.kept.entries ≡ self.old.kept.entries }
         ensures names { self.new.names.entries ≡ self.old.names.entries }
@@ -71,7 +71,7 @@ impl Seats {
         Ok(())
     }
 
-    /// Keeps a surface under a name. Conditions: nothing has that name, and there is room.
+    /// Adds a surface under a name. Conditions: the name is new, and there is room for it.
     pub(crate) fn put(&mut self, name: Name, id: SurfaceId)
         requires stands { Stands self.old }
         requires new { kept_in self.old name ≡ None }
@@ -89,7 +89,8 @@ impl Seats {
         self.sizes.insert(group, at + 1).unwrap();
     }
 
-    /// Ends what has a name, if anything has it. The last one of its group takes its place.
+    /// Removes the surface of a name, if there is one. The last surface of its group takes its
+    /// place.
     pub(crate) fn take(&mut self, name: &Name)
         requires stands { Stands self.old }
         ensures stands { Stands self.new }
@@ -108,7 +109,7 @@ impl Seats {
         }
     }
 
-    /// Whether a range names what has a name.
+    /// Whether a range names the surface of a name.
     fn is_named(&self, name: &Name, range: &SurfaceRange) -> bool
         ensures yes { result ≡ true → (d : SurfaceOf) → surface_in self.now name.now ≡ Some d
             → named_by range.now name.now d ≡ true }
@@ -121,7 +122,7 @@ impl Seats {
         }
     }
 
-    /// Ends what stands at a place, where a range names it.
+    /// Removes the surface at a place if a range names it.
     fn look(&mut self, range: &SurfaceRange, place: &Place)
         requires stands { Stands self.old }
         ensures ends { Ends (named_by range.now) self.old self.new }
@@ -135,7 +136,7 @@ impl Seats {
         }
     }
 
-    /// Ends those that a range names. It looks at those of one group alone.
+    /// Removes the surfaces that a range names. It looks at one group alone.
     pub(crate) fn end_named(&mut self, range: &SurfaceRange)
         requires stands { Stands self.old }
         ensures ends { Ends (named_by range.now) self.old self.new }
@@ -149,7 +150,8 @@ impl Seats {
         }
     }
 
-    /// Ends those that last until a tick and have one of these numbers.
+    /// Removes the surfaces whose last tick is `until` and whose number is at least `first` and
+    /// less than `next`.
     pub(crate) fn end_until(&mut self, until: u32, first: u64, next: u64)
         requires stands { Stands self.old }
         ensures ends { Ends (is_among until first next) self.old self.new }
@@ -161,7 +163,7 @@ impl Seats {
         }
     }
 
-    /// Ends those of a sink: whole groups.
+    /// Removes the surfaces of a sink, which are whole groups.
     pub(crate) fn end_of(&mut self, sink: FrameSinkId)
         requires stands { Stands self.old }
         ensures ends { Ends (of_sink sink) self.old self.new }
@@ -173,7 +175,7 @@ impl Seats {
     }
 }
 
-/// A group has one fewer; its new size is answered. Condition: it has one.
+/// Lowers the size of a group by one and returns the new size. Condition: it was not 0.
 fn shrink(sizes: &mut IndexMap<Group, usize>, group: &Group) -> usize
     requires { 0 < or_zero (lookup (same_key group.now) sizes.old.entries) }
     ensures size { result + 1 ≡ or_zero (lookup (same_key group.now) sizes.old.entries) }
@@ -193,7 +195,7 @@ fn shrink(sizes: &mut IndexMap<Group, usize>, group: &Group) -> usize
     }
 }
 
-/// What has a name, if anything has it, stands at another place of its group.
+/// Moves the surface of a name, if there is one, to another place of its group.
 fn seat(kept: &mut IndexMap<Name, Kept>, name: &Name, at: usize)
     ensures kept { (n : NameOf) → lookup (same_name n) kept.new.entries
         ≡ cond (same_name name.now n)
@@ -207,7 +209,7 @@ fn seat(kept: &mut IndexMap<Name, Kept>, name: &Name, at: usize)
     }
 }
 
-/// Keeps the surfaces of other sinks.
+/// Keeps only the surfaces of other sinks.
 fn keep_others(kept: &mut IndexMap<Name, Kept>, sink: FrameSinkId)
     ensures kept { (n : NameOf) → lookup (same_name n) kept.new.entries
         ≡ not_of sink (lookup (same_name n) kept.old.entries) }
@@ -221,7 +223,7 @@ fn keep_others(kept: &mut IndexMap<Name, Kept>, sink: FrameSinkId)
     );
 }
 
-/// Keeps the places in groups of other sinks.
+/// Keeps only the places in groups of other sinks.
 fn keep_other_places(names: &mut IndexMap<Place, Name>, sink: FrameSinkId)
     ensures names { (p : PlaceOf) → lookup (same_place p) names.new.entries
         ≡ cond (not (same_sink p.group.sink sink)) (lookup (same_place p) names.old.entries) None }
@@ -235,7 +237,7 @@ fn keep_other_places(names: &mut IndexMap<Place, Name>, sink: FrameSinkId)
     );
 }
 
-/// Keeps the sizes of groups of other sinks.
+/// Keeps only the sizes of groups of other sinks.
 fn keep_other_groups(sizes: &mut IndexMap<Group, usize>, sink: FrameSinkId)
     ensures sizes { (g : GroupOf) → or_zero (lookup (same_key g) sizes.new.entries)
         ≡ cond (not (same_sink g.sink sink)) (or_zero (lookup (same_key g) sizes.old.entries)) 0 }

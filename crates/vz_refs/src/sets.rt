@@ -1,4 +1,4 @@
-//! Which ranges are set for which surfaces, with an index of their ends by group.
+//! The ranges that are set for each surface, with an index of their ends by group.
 ghost use Rattle.std.specs.Prelude.{◌≡◌, ◌≤◌, ◌<◌, ◌+◌, [], ◌++◌, length, map, position, IsTrue, IsOk, OnOk, Some, slice_get};
 ghost use Rattle.vz_ids.specs.Ids.{same_surface};
 ghost use Rattle.vz_refs.specs.Referring.{is_set, ranges_of, set_one, removing, is_named_in};
@@ -13,14 +13,14 @@ use std::marker::Model;
 use vz_base::Memory;
 use vz_ids::{EmbedToken, FrameSinkId, SurfaceId, SurfaceRange};
 
-/// A place among the ranges of a surface.
+/// One of the ranges of a surface, by its place among them.
 #[derive(Clone, Copy, PartialEq, Eq, Hash)]
 pub(crate) struct Nth {
     pub(crate) of: SurfaceId,
     pub(crate) nth: usize,
 }
 
-/// What the surfaces of a group have in common.
+/// A group: the sink and the token that its surfaces share.
 #[derive(Clone, Copy, PartialEq, Eq, Hash)]
 pub(crate) struct Group {
     pub(crate) sink: FrameSinkId,
@@ -34,7 +34,7 @@ pub(crate) struct Place {
     pub(crate) at: usize,
 }
 
-/// A range that is set, and where it stands in the group of its end.
+/// A range that is set, and its place in the group of its end.
 #[derive(Clone, Copy)]
 pub(crate) struct Edge {
     pub(crate) range: SurfaceRange,
@@ -51,9 +51,10 @@ pub(crate) fn group_of(id: &SurfaceId) -> Group
     }
 }
 
-/// The ranges that are set for surfaces. Contracts see them in the order in which they were
-/// set and, beside them, the room that was made before. In each group those whose ends are in
-/// it stand one after the other, so that what names a surface is not looked for among all.
+/// The ranges that are set for surfaces. Contracts see them in the order in which the surfaces
+/// were first set, and the room that was reserved before. The ranges whose end is in a group have
+/// places without gaps there, so that the ranges that name a surface are looked for in one group
+/// alone.
 #[derive(Drop)]
 pub(crate) struct Sets {
     counts: IndexMap<SurfaceId, usize>,
@@ -82,7 +83,7 @@ impl Model for Sets {
 }
 
 impl Sets {
-    /// Nothing is set.
+    /// Creates a table in which no surface is set.
     pub(crate) fn new(alloc: Global) -> Sets
         ensures { result.list ≡ [] }
     {
@@ -95,7 +96,7 @@ impl Sets {
         }
     }
 
-    /// Makes room for at least so many more surfaces and ranges together.
+    /// Makes room for at least `n` more surfaces and ranges together.
     pub(crate) fn reserve(&mut self, n: usize) -> Result<(), Memory>
         ensures list { self.new.list ≡ self.old.list }
         ensures ok { OnOk result (n ≤ self.new.spare) }
@@ -126,7 +127,7 @@ impl Sets {
         }
     }
 
-    /// A range of a surface. Condition: it has so many.
+    /// One range of a surface. Condition: the surface has more than `nth` ranges.
     pub(crate) fn nth(&self, of: SurfaceId, nth: usize) -> SurfaceRange
         requires { nth < length (ranges_of self.now.list of) }
         ensures { slice_get (ranges_of self.now.list of) nth ≡ Some result }
@@ -134,7 +135,7 @@ impl Sets {
         self.edges.get(&Nth { of, nth }).unwrap().range
     }
 
-    /// A surface is set from now on.
+    /// Sets a surface, without ranges so far.
     pub(crate) fn open(&mut self, id: SurfaceId)
         requires { 0 < self.old.spare }
         ensures list { self.new.list ≡ opening id self.old.list }
@@ -146,7 +147,7 @@ impl Sets {
         }
     }
 
-    /// A surface that is set has one range more.
+    /// Appends a range to those of a surface that is set.
     pub(crate) fn append(&mut self, id: SurfaceId, range: SurfaceRange)
         requires set { IsTrue (is_set self.old.list id) }
         requires room { 0 < self.old.spare }
@@ -168,7 +169,7 @@ impl Sets {
         self.listing.lengthen(id, range);
     }
 
-    /// The last range of a surface is not set any more. Condition: it has one.
+    /// Removes the last range of a surface. Condition: it has one.
     pub(crate) fn pop(&mut self, id: SurfaceId)
         requires { 0 < length (ranges_of self.old.list id) }
         ensures list { self.new.list ≡ changing but_last id self.old.list }
@@ -190,7 +191,7 @@ impl Sets {
         self.listing.shorten(id);
     }
 
-    /// A surface is not set any more. Condition: it has no ranges.
+    /// Removes a surface. Condition: it has no ranges.
     pub(crate) fn forget(&mut self, id: SurfaceId)
         requires { ranges_of self.old.list id ≡ [] }
         ensures list { self.new.list ≡ removing id self.old.list }
@@ -200,7 +201,7 @@ impl Sets {
         self.listing.remove(id);
     }
 
-    /// A surface has no ranges from now on.
+    /// Removes all ranges of a surface, which is still set.
     pub(crate) fn clear(&mut self, id: SurfaceId)
         ensures list { self.new.list ≡ map (set_one id []) self.old.list }
         ensures spare { self.old.spare ≤ self.new.spare }
@@ -211,7 +212,7 @@ impl Sets {
         }
     }
 
-    /// A surface that is set has more ranges.
+    /// Appends ranges to those of a surface that is set.
     pub(crate) fn extend(&mut self, id: SurfaceId, ranges: &[SurfaceRange])
         requires set { IsTrue (is_set self.old.list id) }
         requires room { length ranges.now ≤ self.old.spare }

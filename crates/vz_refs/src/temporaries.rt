@@ -1,4 +1,4 @@
-//! The surfaces that are temporary, each until a tick.
+//! The temporary surfaces, each with its last tick.
 ghost use Rattle.std.specs.Prelude.{◌≡◌, ◌≤◌, ◌<◌, ◌+◌, ℕ, [], ◌∷◌, ◌++◌, not, map, filter, length, Some, IsOk, OnOk, nat_lt};
 ghost use Rattle.std.specs.Prelude.{slice_get, cond, None};
 ghost use Rattle.std.specs.Map.{keys_of};
@@ -20,25 +20,26 @@ use vz_base::Memory;
 use vz_ghost::GhostList;
 use vz_ids::{FrameSinkId, SurfaceId, SurfaceRange};
 
-/// The numbers of those that last until a tick: from the first up to the next one.
+/// The numbers of the surfaces with one last tick: from `first` up to, but without, `next`.
 #[derive(Clone, Copy)]
 pub(crate) struct Numbers {
     pub(crate) first: u64,
     pub(crate) next: u64,
 }
 
-/// A surface that was made temporary, under its name.
+/// A temporary surface with its name.
 #[derive(Clone, Copy)]
 pub(crate) struct Named {
     pub(crate) name: Name,
     pub(crate) id: SurfaceId,
 }
 
-/// The temporary surfaces. Contracts see them in the order in which they were kept and, beside
-/// them, the room that was made before. Each has a name, of which none is given twice. What a
-/// range names is looked for in one group alone; those that end at a tick are found by the
-/// numbers that were given until it, so that a tick looks at each tick at which some end, and at
-/// those that end.
+/// The temporary surfaces. Contracts see them in the order in which they were added, and the room
+/// that was reserved before.
+///
+/// Each has a name that is used only once. The surfaces that a range names are looked for in one
+/// group alone. Those that end at a tick are found by the numbers that were given out for it, so
+/// that a tick costs a look at each tick at which some end, and at those that end.
 #[derive(Drop)]
 pub(crate) struct Temporaries {
     seats: Seats,
@@ -64,7 +65,7 @@ impl Model for Temporaries {
 }
 
 impl Temporaries {
-    /// There are none. It takes no memory.
+    /// Creates an empty list. It allocates nothing.
     pub(crate) fn new(alloc: Global) -> Temporaries
         ensures { result.list ≡ [] }
     {
@@ -76,7 +77,7 @@ impl Temporaries {
         }
     }
 
-    /// Makes room for one.
+    /// Makes room for one more surface.
     pub(crate) fn reserve(&mut self) -> Result<(), Memory>
         ensures list { self.new.list ≡ self.old.list }
         ensures ok { OnOk result (0 < self.new.spare) }
@@ -98,7 +99,7 @@ impl Temporaries {
         self.seats.kept.len()
     }
 
-    /// All of them, in no order, by their names.
+    /// All temporary surfaces by name, in no promised order.
     pub(crate) fn all(&self) -> &IndexMap<Name, Kept>
         ensures ids { (x : SurfaceOf)
             → list_any (same_surface x) (map (λ t. t.id) (all_in result.now.entries))
@@ -109,7 +110,7 @@ impl Temporaries {
         &self.seats.kept
     }
 
-    /// A surface is temporary until a tick. Condition: there is room for it.
+    /// Makes a surface temporary until a tick. Condition: there is room for it.
     pub(crate) fn keep(&mut self, id: SurfaceId, until: u32)
         requires { 0 < self.old.spare }
         ensures list { self.new.list ≡ self.old.list ++ record { id = id; until = until } ∷ [] }
@@ -130,7 +131,7 @@ impl Temporaries {
         self.ever.show(&Named { name, id });
     }
 
-    /// Ends those that one of these ranges names.
+    /// Ends the temporary surfaces that one of these ranges names.
     pub(crate) fn end_named(&mut self, ranges: &[SurfaceRange])
         ensures list { self.new.list ≡ unnamed ranges.now self.old.list }
         ensures spare { self.old.spare ≤ self.new.spare }
@@ -140,7 +141,7 @@ impl Temporaries {
         }
     }
 
-    /// Ends those that a range names.
+    /// Ends the temporary surfaces that a range names.
     fn end_one(&mut self, range: &SurfaceRange)
         ensures list { self.new.list ≡ filter (λ t. not (names t.id range.now)) self.old.list }
         ensures spare { self.old.spare ≤ self.new.spare }
@@ -148,7 +149,7 @@ impl Temporaries {
         self.seats.end_named(range);
     }
 
-    /// Ends those that last to a tick at most.
+    /// Ends the temporary surfaces whose last tick is `n` or earlier.
     pub(crate) fn tick(&mut self, n: u32)
         ensures list { self.new.list ≡ lasting n self.old.list }
         ensures spare { self.old.spare ≤ self.new.spare }
@@ -157,7 +158,7 @@ impl Temporaries {
         keep_later(&mut self.numbers, n);
     }
 
-    /// Ends those of a sink.
+    /// Ends the temporary surfaces of a sink.
     pub(crate) fn sink_gone(&mut self, sink: FrameSinkId)
         ensures list { self.new.list ≡ of_others sink self.old.list }
         ensures spare { self.old.spare ≤ self.new.spare }
@@ -166,7 +167,7 @@ impl Temporaries {
     }
 }
 
-/// The numbers until a tick. Where there are none, the next one is behind all that were given.
+/// The numbers for a last tick. If there are none, they begin after all that were given out.
 fn numbers_until(numbers: &IndexMap<u32, Numbers>, until: u32, given: u64) -> Numbers
     ensures { result ≡ numbers_or given (numbers_in numbers.now until) }
 {
@@ -179,7 +180,8 @@ fn numbers_until(numbers: &IndexMap<u32, Numbers>, until: u32, given: u64) -> Nu
     }
 }
 
-/// Ends those that last to a tick at most. Condition: there are numbers for each.
+/// Ends the surfaces whose last tick is `tick` or earlier. Condition: `numbers` covers each
+/// surface.
 fn end_all(seats: &mut Seats, numbers: &IndexMap<u32, Numbers>, tick: u32)
     requires stands { Stands seats.old }
     requires within { AreWithin (surface_in seats.old) (numbers_in numbers.now) }
@@ -191,7 +193,7 @@ fn end_all(seats: &mut Seats, numbers: &IndexMap<u32, Numbers>, tick: u32)
     }
 }
 
-/// Ends those that last until the tick at a place, where a tick has come.
+/// Ends the surfaces of the last tick at a place of `numbers`, if that tick has come.
 fn end_at(seats: &mut Seats, numbers: &IndexMap<u32, Numbers>, at: usize, tick: u32)
     requires stands { Stands seats.old }
     ensures ends { Ends (over_at tick) seats.old seats.new }
@@ -208,7 +210,7 @@ fn end_at(seats: &mut Seats, numbers: &IndexMap<u32, Numbers>, at: usize, tick: 
     }
 }
 
-/// The numbers until later ticks stay.
+/// Keeps only the numbers for later ticks.
 fn keep_later(numbers: &mut IndexMap<u32, Numbers>, tick: u32)
     ensures numbers { (u : ℕ) → numbers_in numbers.new u
         ≡ cond (nat_lt tick u) (numbers_in numbers.old u) None }

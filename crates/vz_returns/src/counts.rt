@@ -1,4 +1,4 @@
-//! How many references of each resource were received and are alive.
+//! How many references of each resource were received and how many are alive.
 ghost use Rattle.std.specs.Prelude.{◌≡◌, ◌≤◌, ◌<◌, ◌+◌, [], ◌++◌, length, IsTrue, IsOk, OnOk, OnErr};
 ghost use Rattle.vz_returns.specs.Holding.{received_of, alive_of, put_in, without, is_rising, first_from, nearer, as_returns};
 ghost use Rattle.vz_returns.specs.Ordered.{counted_of};
@@ -10,15 +10,16 @@ use vz_base::Memory;
 use vz_frame::Room;
 use vz_rules::Returned;
 
-/// The references of a resource: those received since it last went back, and those alive.
+/// The counts of a resource: the references received since it was last returned, and those that
+/// are alive.
 #[derive(Clone, Copy)]
 pub(crate) struct Counts {
     pub(crate) received: u32,
     pub(crate) alive: u32,
 }
 
-/// Counts of resources. Contracts see them by rising ids and, beside them, the room that was
-/// made before.
+/// The counts of resources. Contracts see them by rising id, and the room that was reserved
+/// before.
 #[derive(Drop)]
 pub(crate) struct Table {
     counts: IndexMap<u32, Counts>,
@@ -43,7 +44,7 @@ impl Table {
         }
     }
 
-    /// Makes room for at least so many more.
+    /// Makes room for at least `n` more resources.
     pub(crate) fn reserve(&mut self, n: usize) -> Result<(), Memory>
         ensures list { self.new.list ≡ self.old.list }
         ensures ok { OnOk result (n ≤ self.new.spare) }
@@ -61,7 +62,7 @@ impl Table {
         self.counts.len()
     }
 
-    /// The counts of a resource, and 0 of both where it has none.
+    /// The counts of a resource; both are 0 if it has none.
     pub(crate) fn get(&self, id: u32) -> Counts
         ensures received { result.received ≡ received_of id self.now.list }
         ensures alive { result.alive ≡ alive_of id self.now.list }
@@ -75,7 +76,7 @@ impl Table {
         }
     }
 
-    /// Gives a resource counts. Where there is room for one, it answers Ok.
+    /// Sets the counts of a resource. If there is room for one, it returns Ok.
     pub(crate) fn put(&mut self, id: u32, counts: Counts) -> Result<(), Memory>
         ensures list { OnOk result (self.new.list ≡ put_in (counted_of id counts) self.old.list) }
         ensures err { OnErr result (self.new.list ≡ self.old.list) }
@@ -87,7 +88,7 @@ impl Table {
         Ok(())
     }
 
-    /// Gives a resource other counts. Condition: some reference of it is alive.
+    /// Changes the counts of a resource. Condition: some reference of it is alive.
     pub(crate) fn set(&mut self, id: u32, counts: Counts)
         requires { 0 < alive_of id self.old.list }
         ensures list { self.new.list ≡ put_in (counted_of id counts) self.old.list }
@@ -99,7 +100,7 @@ impl Table {
         }
     }
 
-    /// A resource has no counts any more.
+    /// Removes the counts of a resource.
     pub(crate) fn remove(&mut self, id: u32)
         ensures list { self.new.list ≡ without id self.old.list }
         ensures len { 0 < alive_of id self.old.list
@@ -108,7 +109,8 @@ impl Table {
     {
         self.counts.swap_remove(&id);
     }
-    /// The least id from one on, with the references received.
+    /// The least id that is `from` or greater, with its references received, or None if there is
+    /// no such id.
     fn next_from(&self, from: u64) -> Option<(u32, u32)>
         ensures value { result ≡ first_from from self.now.list }
         ensures rising { IsTrue (is_rising self.now.list) }
@@ -123,7 +125,7 @@ impl Table {
         least
     }
 
-    /// Appends each resource with the references received, by rising id. Condition: `out` has
+    /// Appends each resource with its references received, by rising id. Condition: `out` has
     /// room for all.
     pub(crate) fn put_all(&self, client: u32, out: &mut Room<Returned>)
         requires { length self.now.list ≤ out.old.spare }
@@ -138,7 +140,7 @@ impl Table {
     }
 }
 
-/// Of the least so far and one more id, the lesser one from an id on.
+/// The lesser of the least id so far and one more id; ids less than `from` do not count.
 fn nearer(least: Option<(u32, u32)>, from: u64, id: u32, received: u32) -> Option<(u32, u32)>
     ensures { result ≡ nearer from least id received }
 {

@@ -1,4 +1,4 @@
-//! The submissions that wait for feedback.
+//! The submissions that await feedback.
 ghost use Rattle.std.specs.Prelude.{◌≡◌, ◌≤◌, ◌<◌, ◌+◌, [], ◌++◌, length, IsTrue, IsFalse, IsOk, OnOk, OnErr, IfSome, is_some};
 ghost use Rattle.vz_ids.specs.Ids.{same_sub};
 ghost use Rattle.vz_returns.specs.Feeding.{before, in_order, is_open, place_in, opened, fed};
@@ -9,8 +9,8 @@ use vz_base::Memory;
 use vz_frame::Room;
 use vz_ids::Sub;
 
-/// The submissions that wait for feedback, by client and ordinal. Contracts see their list
-/// and, beside it, the room that was made before. A submission is found by halving.
+/// The submissions that await feedback, by client and ordinal. Contracts see their list, and the
+/// room that was reserved before. A submission is found by binary search.
 #[derive(Drop)]
 pub struct Feedbacks {
     list: Vec<Sub>,
@@ -28,7 +28,7 @@ impl Model for Feedbacks {
 }
 
 impl Feedbacks {
-    /// None waits. It takes no memory.
+    /// Creates an empty list. It allocates nothing.
     pub fn new(alloc: Global) -> Feedbacks
         ensures { result.list ≡ [] }
     {
@@ -37,8 +37,8 @@ impl Feedbacks {
         }
     }
 
-    /// Makes room for at least so many more. Memory is the only error. Nothing else changes
-    /// in any case, and no room is lost.
+    /// Makes room for at least `n` more submissions. The only error is `Memory`, if an allocation
+    /// fails. In either case nothing else changes and no room is lost.
     pub fn ready(&mut self, n: usize) -> Result<(), Memory>
         ensures list { self.new.list ≡ self.old.list }
         ensures ok { OnOk result (n ≤ self.new.spare) }
@@ -50,9 +50,9 @@ impl Feedbacks {
         Ok(())
     }
 
-    /// A submission waits for feedback from now on. For want of memory, and only then, it
-    /// answers Memory and the list stays. Where there is room for one it answers Ok; it uses
-    /// no more of it. Condition: the submission does not wait.
+    /// Adds a submission, which awaits feedback from now on. It returns `Memory` if an allocation
+    /// fails; then the list does not change. If there is room for one, it returns Ok and uses up
+    /// no more than that. Condition: the submission is not in the list.
     pub fn add(&mut self, s: Sub) -> Result<(), Memory>
         requires { IsFalse (is_open self.old.list s) }
         ensures list { OnOk result (self.new.list ≡ opened s self.old.list) }
@@ -65,7 +65,7 @@ impl Feedbacks {
         Ok(())
     }
 
-    /// Whether a submission waited. It waits no longer.
+    /// Removes a submission as it gets its feedback. Returns whether it was in the list.
     pub fn feed(&mut self, s: Sub) -> bool
         ensures value { result ≡ is_open self.old.list s }
         ensures list { self.new.list ≡ fed s self.old.list }
@@ -80,15 +80,15 @@ impl Feedbacks {
         }
     }
 
-    /// How many wait.
+    /// How many submissions await feedback.
     pub fn unfed(&self) -> usize
         ensures { result ≡ length self.now.list }
     {
         self.list.len()
     }
 
-    /// Appends those that wait, by client and ordinal. It takes no memory. Condition: `out`
-    /// has room for all.
+    /// Appends the submissions that await feedback, by client and ordinal. It allocates nothing.
+    /// Condition: `out` has room for all.
     pub fn subs(&self, out: &mut Room<Sub>)
         requires { length self.now.list ≤ out.old.spare }
         ensures list { out.new.list ≡ out.old.list ++ self.now.list }
@@ -105,14 +105,14 @@ fn is_same(a: &Sub, b: &Sub) -> bool
     a == b
 }
 
-/// Whether one comes before another.
+/// Whether one submission comes before another, by client and then by ordinal.
 fn is_before(a: &Sub, b: &Sub) -> bool
     ensures { result ≡ before a.now b.now }
 {
     a.client < b.client || (a.client == b.client && a.ordinal < b.ordinal)
 }
 
-/// How many come before a submission. Condition: they are in their order.
+/// How many submissions of a list come before this one. Condition: the list is in order.
 fn place_in(list: &[Sub], s: &Sub) -> usize
     requires { IsTrue (in_order list.now) }
     ensures value { result ≡ place_in list.now s.now }
@@ -121,7 +121,7 @@ fn place_in(list: &[Sub], s: &Sub) -> usize
     list.partition_point(|t| is_before(t, s))
 }
 
-/// The place of a submission, if it is one of them. Condition: they are in their order.
+/// The place of a submission in a list, if it is there. Condition: the list is in order.
 fn find(list: &[Sub], s: &Sub) -> Option<usize>
     requires { IsTrue (in_order list.now) }
     ensures there { is_some result ≡ is_open list.now s.now }

@@ -1,4 +1,4 @@
-//! The references that a client lent, and what goes back of them.
+//! The references that a client lent, and what is returned to it.
 ghost use Rattle.std.specs.Prelude.{◌≡◌, ◌≤◌, ◌<◌, ◌+◌, [], ◌++◌, length, IsOk, OnOk, OnErr};
 ghost use Rattle.vz_returns.specs.Holding.{MOST_REFERENCES, received_of, alive_of, lent, shared, released, return_at, taken, in_use, held};
 
@@ -10,11 +10,13 @@ use vz_base::Memory;
 use vz_frame::Room;
 use vz_rules::Returned;
 
-/// The references that a client lent: for each resource how many were received since it last
-/// went back and how many are alive, and the returns that the client has not taken. Contracts
-/// see the resources of which some reference is alive, by rising id, the queue and, beside
-/// them, the room that was made before. The place of each return is made when the resource is
-/// lent, so what goes back takes no memory.
+/// The references that a client lent: for each resource how many were received since it was last
+/// returned and how many are alive, and the queue of returned resources that the client has not
+/// reclaimed yet.
+///
+/// Contracts see the resources of which some reference is alive (by rising id), the queue, and
+/// the room that was reserved before. `lend` reserves the place of a resource's return in the
+/// queue, so that the return itself allocates nothing.
 #[derive(Drop)]
 pub struct Holder {
     client: u32,
@@ -37,7 +39,7 @@ impl Model for Holder {
 }
 
 impl Holder {
-    /// A client has lent nothing. It takes no memory.
+    /// Creates the holder of a client that has lent nothing. It allocates nothing.
     pub fn new(alloc: Global, client: u32) -> Holder
         ensures client { result.holding.client ≡ client }
         ensures counted { result.holding.counted ≡ [] }
@@ -50,8 +52,8 @@ impl Holder {
         }
     }
 
-    /// Makes room for at least so many more resources. Memory is the only error. Nothing else
-    /// changes in any case, and no room is lost.
+    /// Makes room for at least `n` more resources. The only error is `Memory`, if an allocation
+    /// fails. In either case nothing else changes and no room is lost.
     pub fn ready(&mut self, n: usize) -> Result<(), Memory>
         ensures holding { self.new.holding ≡ self.old.holding }
         ensures ok { OnOk result (n ≤ self.new.spare) }
@@ -63,11 +65,11 @@ impl Holder {
         Ok(())
     }
 
-    /// One more reference of a resource is received and alive, and the place of its return is
-    /// made. For want of memory, and only then, it answers Memory and nothing changes. Where
-    /// there is room for one it answers Ok; it uses no more of it. Condition: fewer than
-    /// 4,294,967,295 of the resource were received since it last went back, and fewer are
-    /// alive.
+    /// Counts one more reference of a resource as received and as alive, and reserves the place
+    /// of its return. It returns `Memory` if an allocation fails; then nothing changes. If there
+    /// is room for one, it returns Ok and uses up no more than that. Condition: since the
+    /// resource was last returned fewer than 4,294,967,295 references of it were received, and
+    /// fewer than that are alive.
     pub fn lend(&mut self, id: u32) -> Result<(), Memory>
         requires received { received_of id self.old.holding.counted < MOST_REFERENCES }
         requires alive { alive_of id self.old.holding.counted < MOST_REFERENCES }
@@ -89,8 +91,8 @@ impl Holder {
         Ok(())
     }
 
-    /// One more reference of a resource is alive. Condition: some is, and fewer than
-    /// 4,294,967,295 are.
+    /// Counts one more reference of a resource as alive, but not as received. Condition: one at
+    /// least is alive, and fewer than 4,294,967,295 are.
     pub fn hold(&mut self, id: u32)
         requires some { 0 < alive_of id self.old.holding.counted }
         requires alive { alive_of id self.old.holding.counted < MOST_REFERENCES }
@@ -105,9 +107,9 @@ impl Holder {
         self.counts.set(id, more);
     }
 
-    /// One reference fewer of a resource is alive. Where it was the last, all that were
-    /// received go back: their return stands at the end of the queue, and is answered. None
-    /// is answered exactly where another is alive. It takes no memory. Condition: one is
+    /// Counts one reference of a resource less as alive. If it was the last, the resource is
+    /// returned with the count of all references received: this is appended to the queue, and is
+    /// the answer. Otherwise the answer is None. It allocates nothing. Condition: a reference is
     /// alive.
     pub fn release(&mut self, id: u32) -> Option<Returned>
         requires { 0 < alive_of id self.old.holding.counted }
@@ -134,21 +136,21 @@ impl Holder {
         Some(returned)
     }
 
-    /// How many returns are in the queue.
+    /// How many returned resources are in the queue.
     pub fn queued(&self) -> usize
         ensures { result ≡ length self.now.holding.queue }
     {
         self.queue.len()
     }
 
-    /// Of how many resources some reference is alive.
+    /// How many resources have some reference that is alive.
     pub fn listed(&self) -> usize
         ensures { result ≡ length self.now.holding.counted }
     {
         self.counts.len()
     }
 
-    /// How many references of a resource were received since it last went back.
+    /// How many references of a resource were received since it was last returned.
     pub fn received(&self, id: u32) -> u32
         ensures { result ≡ received_of id self.now.holding.counted }
     {
@@ -162,9 +164,9 @@ impl Holder {
         self.counts.get(id).alive
     }
 
-    /// Appends the returns in the order in which they were queued, and empties the queue. It
-    /// takes no memory, and the places of returns that are still to come stay. Condition:
-    /// `out` has room for all in the queue.
+    /// Appends the queue of returned resources to `out`, in the order in which they were
+    /// returned, and empties it. It allocates nothing, and the places of later returns stay
+    /// reserved. Condition: `out` has room for the whole queue.
     pub fn take(&mut self, out: &mut Room<Returned>)
         requires { length self.old.holding.queue ≤ out.old.spare }
         ensures out { out.new.list ≡ out.old.list ++ self.old.holding.queue }
@@ -175,17 +177,17 @@ impl Holder {
         self.queue.take(out);
     }
 
-    /// Whether a reference of a resource was lent that the client has not taken back: one is
-    /// alive, or a return of the resource is in the queue.
+    /// Whether a resource is in use: a reference of it is alive, or a return of it is in the
+    /// queue.
     pub fn in_use(&self, id: u32) -> bool
         ensures { result ≡ in_use id self.now.holding }
     {
         self.counts.get(id).alive > 0 || self.queue.has(id)
     }
 
-    /// Appends each resource of which some reference is alive, by rising id, with all that
-    /// were received as its count. It takes no memory, and the time that it takes grows with
-    /// the square of their number: it is for the end. Condition: `out` has room for all.
+    /// Appends each resource of which some reference is alive, by rising id, with all references
+    /// received as its count. It allocates nothing. Its time grows with the square of the number
+    /// of resources, as it is meant for the end of a run. Condition: `out` has room for all.
     pub fn held(&self, out: &mut Room<Returned>)
         requires { length self.now.holding.counted ≤ out.old.spare }
         ensures out { out.new.list ≡ out.old.list ++ held self.now.holding }

@@ -1,4 +1,4 @@
-//! Laws of feedback and of references, each the contract of a function that does nothing.
+//! Laws of feedback and of references: each is the contract of a function with an empty body.
 ghost use Rattle.std.specs.Prelude.{◌≡◌, ℕ, ◌+◌, ◌-◌, ◌<◌, ◌==◌, not, ◌&&◌, ◌||◌, if◌then◌else◌, List, IsTrue, IsFalse, false, [], ◌∷◌, ◌++◌, map};
 ghost use Rattle.vz_ids.specs.declared.Sub.{Sub};
 ghost use Rattle.vz_ids.specs.Ids.{same_sub};
@@ -10,8 +10,8 @@ ghost use Rattle.vz_returns.specs.Feeding.{in_order, is_open, opened, fed, AreUn
 ghost use Rattle.vz_returns.specs.Holding.{Holding, received_of, alive_of, is_rising, lent, shared, released, is_last, in_use};
 ghost use Rattle.vz_returns.specs.Giving.{are_some, is_sorted, AreCounts, release_all, returns_in};
 
-/// A submission that is opened waits, one that is fed does not, and nothing changes for the
-/// others. Those that wait stay in the order of clients and ordinals.
+/// After `opened` a submission awaits feedback, after `fed` it does not, and the others do not
+/// change. The list stays in the order of clients and ordinals.
 pub fn feedback_is_kept()
     ensures opened { (list : List Sub) (s t : Sub)
         → is_open (opened s list) t ≡ (same_sub s t || is_open list t) }
@@ -23,8 +23,8 @@ pub fn feedback_is_kept()
         → IsTrue (in_order (fed s list)) }
 {}
 
-/// Those that wait stay those of the machine's state that have no feedback, where one more
-/// is accepted and opened and where one gets its feedback.
+/// The list stays that of the submissions without feedback in the machine's state, after one more
+/// is accepted and opened, and after one gets its feedback.
 pub fn unfed_are_those()
     ensures accepted { (subs : List Submission) (list : List Sub) (s : Submission) → s.fed ≡ false
         → AreUnfed subs list → AreUnfed (subs ++ s ∷ []) (opened (sub_of s) list) }
@@ -32,8 +32,8 @@ pub fn unfed_are_those()
         → AreUnfed (map (mark_of f) subs) (fed f list) }
 {}
 
-/// Where one more reference of a resource is lent, one more of it is received and alive, and
-/// nothing changes for the others. The ids stay in order.
+/// After one more reference of a resource is lent, one more of it is received and alive. The
+/// other resources do not change, and the ids stay in order.
 pub fn lending_counts()
     ensures received { (h : Holding) (id j : ℕ) → received_of j (lent id h).counted
         ≡ (if id == j then received_of j h.counted + 1 else received_of j h.counted) }
@@ -45,7 +45,7 @@ pub fn lending_counts()
         → IsTrue (are_some (lent id h).counted) }
 {}
 
-/// Where one more is held, one more is alive, and no more are received.
+/// After one more reference is held, one more is alive, and none more is received.
 pub fn holding_counts()
     ensures received { (h : Holding) (id j : ℕ)
         → received_of j (shared id h).counted ≡ received_of j h.counted }
@@ -57,8 +57,8 @@ pub fn holding_counts()
         → IsTrue (are_some h.counted) → IsTrue (are_some (shared id h).counted) }
 {}
 
-/// Where one is released, one fewer is alive, and all that were received are gone with the
-/// last.
+/// After a reference is released, one fewer is alive. If it was the last, the count of those
+/// received is 0 again.
 pub fn releasing_counts()
     ensures received { (h : Holding) (id j : ℕ) → received_of j (released id h).counted
         ≡ (if id == j then (if is_last j h then 0 else received_of j h.counted)
@@ -71,9 +71,9 @@ pub fn releasing_counts()
         → IsTrue (are_some h.counted) → IsTrue (are_some (released id h).counted) }
 {}
 
-/// Where the counts are those of a client's references once the references in a list are
-/// released, and these are released by rising id, the returns are exactly those that the
-/// machine's state gives back to the client, in their order, and the counts are those of the
+/// Suppose the counts are those of a client's references after the references of a list are
+/// released. If these are then released by rising id, the returned resources are those that the
+/// machine's state gives back to the client, in the same order, and the counts are those of the
 /// client after it.
 pub fn releases_give_back()
     ensures returns { (w : World) (c : Client) (h : Holding) (ids : List ℕ)
@@ -84,7 +84,7 @@ pub fn releases_give_back()
         → AreCounts (give_back w) (queue_returns w c) (release_all ids h) [] }
 {}
 
-/// Where the counts are those of a client's references, a resource is in use exactly where the
+/// If the counts are those of a client's references, a resource is in use exactly if the
 /// machine's state refuses an upload of it.
 pub fn uses_are_refused()
     ensures { (w : World) (c : Client) (h : Holding) (id : ℕ) → AreCounts w c h []

@@ -1,4 +1,4 @@
-//! What goes back to clients: their references, and the feedback of their submissions.
+//! What is returned to clients: their resources, and the feedback for their submissions.
 #![tactic(auto)]
 
 mod counts;

@@ -1,4 +1,4 @@
-//! The returns that a client has not taken.
+//! The returned resources that a client has not reclaimed yet.
 ghost use Rattle.std.specs.Prelude.{◌≡◌, ℕ, ◌≤◌, ◌<◌, ◌+◌, not, ◌&&◌, ◌==◌, nat_eq, [], ◌∷◌, ◌++◌, length, IsOk, OnOk, OnErr};
 ghost use Rattle.std.specs.List.{list_any};
 ghost use Rattle.indexmap.specs.IndexSet.{contains, spare as spare_of};
@@ -10,8 +10,8 @@ use vz_base::Memory;
 use vz_frame::Room;
 use vz_rules::Returned;
 
-/// Returns in the order in which they were put. Contracts see them and, beside them, the room
-/// that was made before. The ids of those in it are kept beside, so that none is looked for.
+/// Returned resources in the order in which they were appended. Contracts see them, and the room
+/// that was reserved before. An index of their ids saves a search.
 #[derive(Drop)]
 pub(crate) struct Queue {
     list: Vec<Returned>,
@@ -37,7 +37,7 @@ impl Model for Queue {
 }
 
 impl Queue {
-    /// None is in it.
+    /// Creates an empty queue.
     pub(crate) fn new(alloc: Global) -> Queue
         ensures { result.list ≡ [] }
     {
@@ -47,7 +47,7 @@ impl Queue {
         }
     }
 
-    /// Makes room for at least so many and so many more.
+    /// Makes room for at least `n` and `more` resources together.
     pub(crate) fn reserve(&mut self, n: usize, more: usize) -> Result<(), Memory>
         ensures list { self.new.list ≡ self.old.list }
         ensures ok { OnOk result (n + more ≤ self.new.spare) }
@@ -64,21 +64,21 @@ impl Queue {
         }
     }
 
-    /// How many are in it.
+    /// How many returned resources are in the queue.
     pub(crate) fn len(&self) -> usize
         ensures { result ≡ length self.now.list }
     {
         self.list.len()
     }
 
-    /// Whether a return of a resource is in it.
+    /// Whether a return of a resource is in the queue.
     pub(crate) fn has(&self, id: u32) -> bool
         ensures { result ≡ list_any (λ r. r.id == id) self.now.list }
     {
         self.ids.contains(&id)
     }
 
-    /// Puts a return at the end, and takes no memory. Condition: there is room for one.
+    /// Appends a returned resource. It allocates nothing. Condition: there is room for one.
     pub(crate) fn put(&mut self, returned: Returned)
         requires { 0 < self.old.spare }
         ensures list { self.new.list ≡ self.old.list ++ returned ∷ [] }
@@ -88,7 +88,7 @@ impl Queue {
         self.list.push_reserved(returned);
     }
 
-    /// Appends all of them, and then none is in it. Condition: `out` has room for all.
+    /// Appends the whole queue to `out` and empties it. Condition: `out` has room for all.
     pub(crate) fn take(&mut self, out: &mut Room<Returned>)
         requires { length self.old.list ≤ out.old.spare }
         ensures out { out.new.list ≡ out.old.list ++ self.old.list }
@@ -113,7 +113,7 @@ fn put_all(list: &[Returned], out: &mut Room<Returned>)
     }
 }
 
-/// Takes the ids of a list out.
+/// Removes the ids of a list from the index.
 fn forget_all(list: &[Returned], ids: &mut IndexSet<u32>)
     ensures others { (id : ℕ) → contains nat_eq ids.new id
         ≡ (not (list_any (λ r. r.id == id) list.now) && contains nat_eq ids.old id) }

@@ -1,4 +1,4 @@
-//! Laws of the hierarchy, each the contract of a function that does nothing.
+//! Laws of the hierarchy: each is the contract of a function with an empty body.
 ghost use Rattle.std.specs.Prelude.{◌≡◌, ℕ, slice_get, true, Some, None, List, map};
 ghost use Rattle.std.specs.Option.{option_and_then};
 ghost use Rattle.vz_ids.specs.declared.FrameSinkId.{FrameSinkId};
@@ -8,7 +8,7 @@ ghost use Rattle.vz_rules.specs.Messages.{hierarchy_refusal};
 ghost use Rattle.vz_rules.specs.Step.{is_attached, deliver};
 ghost use Rattle.vz_sinks.specs.Relating.{refusal_in, refusal_of, attached_in, delivered_to, standing, take_one, close_one, seat_of, seats_from, related_in};
 
-/// A relation is refused exactly as the machine's rules refuse it.
+/// A relation is refused exactly as the machine's rules refuse it, and for the same reason.
 pub fn refusals_are_those()
     ensures { (w : World) (c : Client) (n : ℕ) (first parent child : FrameSinkId)
         → client_at w n ≡ Some c
@@ -16,8 +16,8 @@ pub fn refusals_are_those()
         ≡ option_and_then refusal_of (refusal_in (related_in first w) n parent child) }
 {}
 
-/// The attached clients are those of the machine's state, and a begin-frame is delivered to
-/// the same ones.
+/// The attached clients are those of the machine's state, and a begin-frame is delivered to the
+/// same clients.
 pub fn begin_frames_are_those()
     ensures attached { (p : Plan) (w : World) (c : Client) (n : ℕ) (first : FrameSinkId)
         → first_sink p ≡ Some first → client_at w n ≡ Some c
@@ -35,7 +35,7 @@ pub fn begin_frames_are_those()
         ≡ map (close_one n) (map seat_of w.clients) }
 {}
 
-/// Before the first step the clients stand as they are made of the files' sinks.
+/// Before the first step the clients are those of the files' sinks, numbered from 1.
 pub fn openings_are_those()
     ensures seats { (p : Plan)
         → map seat_of (opening p).clients ≡ seats_from 1 (map (λ f. f.sink) p.files) }

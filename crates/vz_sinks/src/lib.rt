@@ -1,6 +1,6 @@
-//! The hierarchy of sinks: which sink stands under which, and which clients get begin-frames.
+//! The frame sink hierarchy: which sink is a child of which, and which clients get begin-frames.
 //!
-//! A client is attached where the first client's sink reaches its sink over the relations.
+//! A client is attached if the first client's sink reaches its sink over the relations.
 #![tactic(auto)]
 
 pub mod laws;

@@ -17,7 +17,7 @@ pub(crate) fn is_same(a: &FrameSinkId, b: &FrameSinkId) -> bool
     a == b
 }
 
-/// Whether one of them is this sink.
+/// Whether a list contains a sink.
 pub(crate) fn has_sink(sinks: &[FrameSinkId], sink: &FrameSinkId) -> bool
     ensures { result ≡ has_sink sinks.now sink.now }
 {
@@ -29,7 +29,7 @@ pub(crate) fn has_sink(sinks: &[FrameSinkId], sink: &FrameSinkId) -> bool
     false
 }
 
-/// Appends a sink unless it is there.
+/// Appends a sink unless the list contains it.
 fn add(out: &mut Room<FrameSinkId>, sink: FrameSinkId)
     requires { IsFalse (list_any (same_sink sink) out.old.list) → 0 < out.old.spare }
     ensures list { out.new.list ≡ adding same_sink out.old.list (sink ∷ []) }
@@ -40,7 +40,7 @@ fn add(out: &mut Room<FrameSinkId>, sink: FrameSinkId)
     }
 }
 
-/// Appends the children of a sink, each unless it is there.
+/// Appends the children of a sink, each unless the list contains it.
 fn follow(relations: &[(FrameSinkId, FrameSinkId)], from: FrameSinkId, out: &mut Room<FrameSinkId>)
     requires { length (adding same_sink out.old.list (children relations.now from))
         ≤ length out.old.list + out.old.spare }
@@ -54,8 +54,8 @@ fn follow(relations: &[(FrameSinkId, FrameSinkId)], from: FrameSinkId, out: &mut
     }
 }
 
-/// Gives the sinks that a sink reaches, each once. It takes no memory. Conditions: `out` is
-/// empty and has room for one more than the relations.
+/// Appends the sinks that a sink reaches, itself among them, each once. It allocates nothing.
+/// Conditions: `out` is empty and has room for one more than the relations.
 pub(crate) fn put_reached(
     relations: &[(FrameSinkId, FrameSinkId)],
     from: FrameSinkId,

@@ -1,4 +1,4 @@
-//! Why a relation is not registered.
+//! Why a relation is refused.
 ghost use Rattle.std.specs.Prelude.{◌≡◌, Some};
 ghost use Rattle.vz_sinks.specs.declared.refusals.SinkError.TheVariants as error;
 ghost use Rattle.vz_sinks.specs.Relating.{refusal_for};
@@ -7,16 +7,17 @@ use std::error::Error;
 use std::fmt;
 use vz_base::Memory;
 
-/// Why a relation is not registered.
+/// Why a relation is refused. If several reasons hold, the first of `Loop`, `UnknownSink` and
+/// `ParentOfOther` is given.
 #[derive(Clone, Copy, Debug, PartialEq, Eq)]
 pub enum SinkError {
-    /// The child reaches the parent.
+    /// The child already reaches the parent.
     Loop,
-    /// The parent or the child is no client's sink.
+    /// The parent or the child is not the sink of any client.
     UnknownSink,
-    /// The parent is not the client's sink.
+    /// The parent is not the sink of the client that asks.
     ParentOfOther,
-    /// Want of memory.
+    /// An allocation failed.
     Memory,
 }
 
@@ -45,7 +46,7 @@ impl From<Memory> for SinkError {
     }
 }
 
-/// The first reason that holds.
+/// The first reason that holds, or None if the relation is allowed.
 pub(crate) fn refusal_for(is_loop: bool, are_known: bool, is_own: bool) -> Option<SinkError>
     ensures { result ≡ refusal_for is_loop are_known is_own }
 {

@@ -10,8 +10,8 @@ use vz_base::Memory;
 use vz_frame::{List, Room};
 use vz_ids::FrameSinkId;
 
-/// Puts a relation, and gives anew what the first sink reaches. For want of memory nothing
-/// changes.
+/// Adds a relation, and computes again what the first sink reaches. If an allocation fails,
+/// nothing changes.
 pub(crate) fn put_relation(
     relations: &mut Vec<(FrameSinkId, FrameSinkId)>,
     reached: &mut List<FrameSinkId>,
@@ -36,7 +36,7 @@ pub(crate) fn put_relation(
     Ok(())
 }
 
-/// Whether a relation is there.
+/// Whether a relation is registered.
 pub(crate) fn is_related(
     relations: &[(FrameSinkId, FrameSinkId)],
     parent: &FrameSinkId,

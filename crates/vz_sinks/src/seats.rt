@@ -1,4 +1,4 @@
-//! The clients with their sinks, and the begin-frames that stand untaken.
+//! The clients with their sinks, and the begin-frames that are pending.
 ghost use Rattle.std.specs.Prelude.{◌≡◌, ◌≤◌, ◌+◌, ◌==◌, [], length, map, vec_len, vec_capacity};
 ghost use Rattle.vz_rules.specs.Plan.{has_sink};
 ghost use Rattle.vz_sinks.specs.Relating.{seats_from, is_known_in, holds_of, is_own, deliver_to, standing, take_one, close_one};
@@ -7,7 +7,7 @@ use crate::reaching::{has_sink, is_same};
 use vz_base::limits::MOST_FILES;
 use vz_ids::FrameSinkId;
 
-/// A client with its sink.
+/// A client with its sink and its pending begin-frame.
 #[derive(Clone, Copy)]
 pub(crate) struct Seat {
     pub(crate) number: u32,
@@ -16,7 +16,7 @@ pub(crate) struct Seat {
     pub(crate) delivered: Option<u32>,
 }
 
-/// Puts a client for each sink, numbered from 1 on.
+/// Adds a client for each sink, numbered from 1.
 pub(crate) fn put_seats(seats: &mut Vec<Seat>, sinks: &[FrameSinkId])
     requires empty { seats.old.items ≡ [] }
     requires few { length sinks.now ≤ MOST_FILES }
@@ -35,7 +35,7 @@ pub(crate) fn put_seats(seats: &mut Vec<Seat>, sinks: &[FrameSinkId])
     }
 }
 
-/// Whether a sink is that of a client.
+/// Whether some client has this sink.
 pub(crate) fn is_known(seats: &[Seat], sink: &FrameSinkId) -> bool
     ensures { result ≡ is_known_in seats.now sink.now }
 {
@@ -47,14 +47,14 @@ pub(crate) fn is_known(seats: &[Seat], sink: &FrameSinkId) -> bool
     false
 }
 
-/// Whether it is the client of this number.
+/// Whether a seat is that of the client with this number.
 fn is_of(seat: &Seat, c: u32) -> bool
     ensures { result ≡ (seat.now.number == c) }
 {
     seat.number == c
 }
 
-/// Whether a client has this sink.
+/// Whether the client has this sink.
 pub(crate) fn is_own(seats: &[Seat], c: u32, sink: &FrameSinkId) -> bool
     ensures { result ≡ is_own seats.now c sink.now }
 {
@@ -66,7 +66,7 @@ pub(crate) fn is_own(seats: &[Seat], c: u32, sink: &FrameSinkId) -> bool
     false
 }
 
-/// Whether a client's sink is one of these.
+/// Whether the client's sink is among these.
 pub(crate) fn is_attached(seats: &[Seat], reached: &[FrameSinkId], c: u32) -> bool
     ensures { result ≡ holds_of (λ s. has_sink reached.now s.sink) seats.now c }
 {
@@ -78,7 +78,7 @@ pub(crate) fn is_attached(seats: &[Seat], reached: &[FrameSinkId], c: u32) -> bo
     false
 }
 
-/// Delivers a begin-frame to each client whose sink is one of these and that is not closed.
+/// Delivers a begin-frame to each client whose sink is among these and that is not closed.
 pub(crate) fn deliver_to_all(seats: &mut [Seat], reached: &[FrameSinkId], n: u32)
     ensures { seats.new ≡ map (λ s. deliver_to (has_sink reached.now s.sink) n s) seats.old }
 {
@@ -87,7 +87,7 @@ pub(crate) fn deliver_to_all(seats: &mut [Seat], reached: &[FrameSinkId], n: u32
     }
 }
 
-/// Delivers a begin-frame to a client if its sink is one of these and it is not closed.
+/// Delivers a begin-frame to a client if its sink is among these and it is not closed.
 fn deliver(seat: &mut Seat, reached: &[FrameSinkId], n: u32)
     ensures { seat.new ≡ deliver_to (has_sink reached.now seat.old.sink) n seat.old }
 {
@@ -96,7 +96,7 @@ fn deliver(seat: &mut Seat, reached: &[FrameSinkId], n: u32)
     }
 }
 
-/// The begin-frame of a client that stands untaken.
+/// The pending begin-frame of a client, if it has one.
 pub(crate) fn standing(seats: &[Seat], c: u32) -> Option<u32>
     ensures { result ≡ standing seats.now c }
 {
@@ -108,7 +108,7 @@ pub(crate) fn standing(seats: &[Seat], c: u32) -> Option<u32>
     None
 }
 
-/// Takes the begin-frame of a client.
+/// Takes the pending begin-frame of a client.
 pub(crate) fn take_from(seats: &mut [Seat], c: u32)
     ensures { seats.new ≡ map (take_one c) seats.old }
 {
@@ -117,7 +117,7 @@ pub(crate) fn take_from(seats: &mut [Seat], c: u32)
     }
 }
 
-/// Takes a begin-frame if it is that of a client.
+/// Takes the begin-frame of a seat if it is that of the client.
 fn take_one(seat: &mut Seat, c: u32)
     ensures { seat.new ≡ take_one c seat.old }
 {
@@ -135,7 +135,7 @@ pub(crate) fn close_in(seats: &mut [Seat], c: u32)
     }
 }
 
-/// Closes one if it is a client.
+/// Closes a seat if it is that of the client.
 fn close_one(seat: &mut Seat, c: u32)
     ensures { seat.new ≡ close_one c seat.old }
 {

@@ -17,7 +17,7 @@ use vz_base::limits::MOST_FILES;
 use vz_frame::{List, Room};
 use vz_ids::FrameSinkId;
 
-/// The clients' sinks, the relations between sinks, and the begin-frames that stand untaken.
+/// The clients' sinks, the relations between sinks, and the pending begin-frames.
 #[derive(Drop)]
 pub struct Sinks {
     first: FrameSinkId,
@@ -41,8 +41,9 @@ impl Model for Sinks {
 }
 
 impl Sinks {
-    /// The clients of these sinks, numbered from 1 on, without a relation. Memory is the only
-    /// error. Conditions: 1 to `MOST_FILES` sinks.
+    /// Creates the hierarchy of clients with these sinks, numbered from 1, without relations. The
+    /// only error is `Memory`, if an allocation fails. Condition: there are 1 to `MOST_FILES`
+    /// sinks.
     pub fn new(sinks: &[FrameSinkId], alloc: Global) -> Result<Sinks, Memory>
         requires some { 0 < length sinks.now }
         requires few { length sinks.now ≤ MOST_FILES }
@@ -66,9 +67,9 @@ impl Sinks {
         })
     }
 
-    /// Registers a relation that a client asks for; one that is there stays as it is. The
-    /// error is the first reason that holds, or Memory for want of memory, and only then.
-    /// Then nothing changes.
+    /// Registers a relation that client `c` asks for. If it is registered already, nothing
+    /// changes and the answer is Ok. The error is the first reason for a refusal that holds, or
+    /// `Memory` if an allocation fails; then nothing changes.
     pub fn register(
         &mut self,
         by: u32,
@@ -92,7 +93,8 @@ impl Sinks {
         Ok(())
     }
 
-    /// Why a relation is refused, if it is. Memory is the only error.
+    /// Why a relation is refused, or None if it is allowed. The only error is `Memory`, if an
+    /// allocation fails.
     fn refusal(
         &self,
         by: u32,
@@ -111,7 +113,7 @@ impl Sinks {
         Ok(refusal_for(is_loop, are_known, is_own))
     }
 
-    /// Puts a relation unless it is there. For want of memory nothing changes.
+    /// Adds a relation unless it is registered. If an allocation fails, nothing changes.
     fn relate(
         &mut self,
         parent: FrameSinkId,
@@ -137,14 +139,15 @@ impl Sinks {
         )
     }
 
-    /// Whether a client is attached.
+    /// Whether a client is attached, so that begin-frames are delivered to it.
     pub fn attached(&self, c: u32) -> bool
         ensures { result ≡ attached_in self.now c }
     {
         is_attached(&self.seats, self.reached.as_slice(), c)
     }
 
-    /// Delivers a begin-frame to each attached client that is not closed.
+    /// Delivers begin-frame `n` to each client that is attached and not closed. It replaces a
+    /// pending one.
     pub fn begin(&mut self, n: u32)
         ensures first { self.new.first ≡ self.old.first }
         ensures seats { self.new.seats ≡ delivered_to self.old n }
@@ -153,14 +156,15 @@ impl Sinks {
         deliver_to_all(self.seats.as_mut_slice(), self.reached.as_slice(), n);
     }
 
-    /// Whether a begin-frame that was delivered to a client stands untaken.
+    /// Whether a begin-frame of the client is pending.
     pub fn stands(&self, c: u32) -> bool
         ensures { result ≡ is_some (standing self.now.seats c) }
     {
         standing(&self.seats, c).is_some()
     }
 
-    /// Takes the last begin-frame that was delivered to a client, if it stands untaken.
+    /// Takes the pending begin-frame of a client and returns its number, or None if none is
+    /// pending.
     pub fn take(&mut self, c: u32) -> Option<u32>
         ensures value { result ≡ standing self.old.seats c }
         ensures first { self.new.first ≡ self.old.first }
@@ -172,7 +176,7 @@ impl Sinks {
         taken
     }
 
-    /// Closes a client: no begin-frame is delivered to it from now on.
+    /// Closes a client, to which no begin-frame is delivered any more.
     pub fn close(&mut self, c: u32)
         ensures first { self.new.first ≡ self.old.first }
         ensures seats { self.new.seats ≡ map (close_one c) self.old.seats }

@@ -1,4 +1,4 @@
-//! The surfaces that exist by groups, so that the newest up to one is found soon.
+//! The surfaces that exist, by groups, so that the newest one up to a given one is found fast.
 ghost use Rattle.std.specs.Prelude.{◌≡◌, ◌++◌, ◌∷◌, [], None, Some, cond, not, filter, is_some, IsTrue, OnOk, OnErr};
 ghost use Rattle.std.specs.Option.{option_copied};
 ghost use Rattle.vz_ids.specs.declared.SurfaceId.{SurfaceId as Id};
@@ -13,7 +13,7 @@ use std::alloc::Global;
 use vz_base::Memory;
 use vz_ids::{EmbedToken, FrameSinkId, LocalSurfaceId, SurfaceId};
 
-/// A group: a sink with a token.
+/// A group: the surfaces of one sink with one embed token.
 #[derive(Clone, Copy, PartialEq, Eq, Hash)]
 pub(crate) struct GroupKey {
     sink: FrameSinkId,
@@ -42,7 +42,7 @@ impl Default for Link {
 
     ghost is_default = { λ l. l ≡ no_link };
 
-    /// A link of no surface, for the places of a short list that are free.
+    /// A link of no surface, which fills the free places of a short list.
     fn default() -> Link {
         Link {
             id: SurfaceId {
@@ -61,11 +61,11 @@ impl Default for Link {
     }
 }
 
-/// So many surfaces of a group need no memory of their own.
+/// How many surfaces of a group are kept without an allocation of their own.
 const FEW: usize = 2;
 
-/// The surfaces of a group that exist, each newer than those before it, and the newest surface
-/// that was ever active, whether it exists or not.
+/// The surfaces of a group that exist, each newer than those before it, and the newest surface of
+/// the group that was ever active, even if it no longer exists.
 #[derive(Drop)]
 pub(crate) struct Group {
     chain: SmallVec<Link, FEW>,
@@ -78,14 +78,14 @@ pub(crate) struct Groups {
     groups: IndexMap<GroupKey, Group>,
 }
 
-/// Whether a surface is another or a newer one of its group.
+/// Whether a surface is the other one or a newer one of its group.
 pub(crate) fn is_at_least(id: &SurfaceId, than: &SurfaceId) -> bool
     ensures { result ≡ at_least id.now than.now }
 {
     *id == *than || (id.sink == than.sink && id.local.newer(&than.local))
 }
 
-/// Puts a surface at the end.
+/// Appends a surface.
 fn append(chain: &mut SmallVec<Link, FEW>, link: Link) -> Result<(), Memory>
     ensures ok { OnOk result (chain.new.items ≡ chain.old.items ++ link ∷ []) }
     ensures err { OnErr result (chain.new.items ≡ chain.old.items) }
@@ -95,7 +95,7 @@ fn append(chain: &mut SmallVec<Link, FEW>, link: Link) -> Result<(), Memory>
 }
 
 impl Groups {
-    /// No group. It takes no memory.
+    /// Creates an index without groups. It allocates nothing.
     pub(crate) fn new(alloc: Global) -> Groups
         ensures { (q : Id) → group_at result q ≡ None }
     {
@@ -104,7 +104,7 @@ impl Groups {
         }
     }
 
-    /// A surface more, the newest of its group.
+    /// Adds a surface, the newest of its group.
     pub(crate) fn add(&mut self, alloc: Global, link: Link) -> Result<(), Memory>
         ensures chain { (q : Id) → OnOk result (links_at self.new q
             ≡ cond (is_group link.id q) (links_at self.old q ++ link ∷ []) (links_at self.old q)) }
@@ -129,7 +129,7 @@ impl Groups {
         }
     }
 
-    /// A surface was active. Condition: its group is there.
+    /// Notes that a surface became active. Condition: its group is in the index.
     pub(crate) fn note_active(&mut self, id: &SurfaceId)
         requires { IsTrue (is_some (group_at self.old id.now)) }
         ensures chain { (q : Id) → links_at self.new q ≡ links_at self.old q }
@@ -141,7 +141,7 @@ impl Groups {
         }
     }
 
-    /// A surface goes.
+    /// Removes a surface.
     pub(crate) fn remove(&mut self, id: &SurfaceId)
         ensures chain { (q : Id) → links_at self.new q ≡ cond (is_group id.now q)
             (filter (λ (l : One). not (same_surface l.id id.now)) (links_at self.old q))
@@ -153,7 +153,7 @@ impl Groups {
         }
     }
 
-    /// Whether a surface of a group, at this one or newer, was ever active.
+    /// Whether the surface `d`, or a newer one of its group, was ever active.
     pub(crate) fn was_active(&self, d: &SurfaceId) -> bool
         ensures { result ≡ reaches (newest_at self.now d.now) d.now }
     {
@@ -172,7 +172,8 @@ impl Groups {
         }
     }
 
-    /// The newest surface of a group with an active frame, at this one or older.
+    /// The newest surface with an active frame that is `end` or an older one of its group, or
+    /// None.
     #[tactic(auto, unfolding(crate::specs::Chains::last_acting))]
     pub(crate) fn newest_up_to<'a>(&'a self, end: &SurfaceId, table: &Table) -> Option<&'a Link>
         requires { IsRising (chain_at self.now end.now) }
@@ -184,7 +185,7 @@ impl Groups {
         }
     }
 
-    /// The newest surface with an active frame of the group of a surface.
+    /// The newest surface with an active frame in the group of a surface, or None.
     #[tactic(auto, unfolding(crate::specs::Chains::last_acting))]
     pub(crate) fn newest<'a>(&'a self, start: &SurfaceId, table: &Table) -> Option<&'a Link>
         ensures { option_copied result ≡ last_acting table.now (links_at self.now start.now) }
@@ -196,7 +197,7 @@ impl Groups {
     }
 }
 
-/// The newer one of two of a group.
+/// The newer one of two surfaces of a group.
 #[tactic(auto, unfolding(crate::specs::Chains::newer_local))]
 fn newer_of(newest: Option<LocalSurfaceId>, local: LocalSurfaceId) -> Option<LocalSurfaceId>
     ensures { result ≡ newer_local local newest }
@@ -207,14 +208,14 @@ fn newer_of(newest: Option<LocalSurfaceId>, local: LocalSurfaceId) -> Option<Loc
     }
 }
 
-/// Whether two surfaces are not one.
+/// Whether a link is that of another surface.
 fn differs(link: &Link, id: &SurfaceId) -> bool
     ensures { result ≡ not (same_surface link.now.id id.now) }
 {
     link.id != *id
 }
 
-/// A surface goes from the list.
+/// Removes a surface from a list.
 fn forget(chain: &mut SmallVec<Link, FEW>, id: &SurfaceId)
     ensures { chain.new.items
         ≡ filter (λ (l : One). not (same_surface l.id id.now)) chain.old.items }
@@ -222,7 +223,7 @@ fn forget(chain: &mut SmallVec<Link, FEW>, id: &SurfaceId)
     chain.retain(|link| differs(link, id));
 }
 
-/// The surfaces of a chain that are this one or older.
+/// The part of a chain up to a surface: that surface and older ones.
 fn up_to<'a>(chain: &'a [Link], end: &SurfaceId) -> &'a [Link]
     requires { IsRising (ids_of chain.now) }
     ensures { result.now ≡ filter (λ (l : One). at_least end.now l.id) chain.now }
@@ -231,7 +232,7 @@ fn up_to<'a>(chain: &'a [Link], end: &SurfaceId) -> &'a [Link]
     &chain[..count]
 }
 
-/// The last of some surfaces that has an active frame.
+/// The last link of a chain whose surface has an active frame, or None.
 #[tactic(auto, unfolding(crate::specs::Chains::last_acting))]
 fn last_active<'a>(chain: &'a [Link], table: &Table) -> Option<&'a Link>
     ensures { option_copied result ≡ last_acting table.now chain.now }

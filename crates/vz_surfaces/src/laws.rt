@@ -1,5 +1,5 @@
-//! Laws of stores, each the contract of a function that does nothing: what a store stands for
-//! changes as the machine's state does, and what is read of it is read of that state.
+//! Laws of the store: each is the contract of a function with an empty body. What the store means
+//! changes as the machine's state does, and what is read of it agrees with that state.
 ghost use Rattle.std.specs.Prelude.{◌≡◌, ℕ, not, ◌&&◌, ◌||◌, ◌==◌, Some, None, false, List, map, filter, find, count_by};
 ghost use Rattle.std.specs.Option.{option_map};
 ghost use Rattle.std.specs.List.{Contains, list_any};
@@ -26,8 +26,8 @@ ghost use Rattle.vz_surfaces.specs.Stored.{stored_of, nothing_stored, storing, a
 ghost use Rattle.vz_surfaces.specs.Reading.{stands, has_mark, existing_count, marked_of, last_of, seen_frames, active_on, waiting_at, shown_in, was_reached};
 ghost use Rattle.vz_surfaces.specs.Keeping.{KeepsStored, KeepsFrames};
 
-/// A store changes as the machine's state does: where a submission is accepted, where one becomes
-/// active, where a client is closed and where a surface is destroyed.
+/// The store changes as the machine's state does when a submission is accepted or becomes active,
+/// when a client is closed, and when a surface is destroyed.
 pub fn stores_follow()
     ensures opening { (p : Plan) → stored_of (opening p) ≡ nothing_stored }
     ensures accepted { (w : World) (c : Client) (local : LocalSurfaceId) (frame : CompositorFrame)
@@ -41,7 +41,7 @@ pub fn stores_follow()
         → stored_of (going c w) ≡ destroying c.id (stored_of w) }
 {}
 
-/// No other change of the machine's state is one of a store.
+/// No other change of the machine's state changes the store.
 pub fn stores_stay()
     ensures naming { (w : World) → stored_of (naming w) ≡ stored_of w }
     ensures returns { (w : World) → stored_of (give_back w) ≡ stored_of w }
@@ -61,8 +61,8 @@ pub fn stores_stay()
     ensures done { (w : World) → stored_of (done_answer w).world ≡ stored_of w }
 {}
 
-/// What is read of a store is read of the machine's state: the surfaces that exist and their marks,
-/// the last one of a client, what was ever active, and, where what always holds is kept, the
+/// What is read of the store agrees with the machine's state: the surfaces that exist and their
+/// marks, the last surface of a client, what was ever active and, if the invariants hold, the
 /// active frames, what waits and is active on a surface, and what ranges show.
 pub fn stores_tell()
     ensures exists { (w : World) (id : SurfaceId) → stands (stored_of w) id ≡ exists w id }
@@ -89,7 +89,7 @@ pub fn stores_tell()
         → shown_in (stored_of w) range ≡ shown w range }
 {}
 
-/// What always holds of the machine's state always holds of a store.
+/// The invariants of the machine's state hold for the store too.
 pub fn stores_keep()
     ensures always { (w : World) → KeepsAlways w → KeepsStored (stored_of w) }
     ensures frames { (w : World) → KeepsMessages w → KeepsFrames (stored_of w) }

@@ -1,7 +1,8 @@
-//! The surfaces and the submissions of the machine's state.
+//! The surfaces and submissions of the incremental machine.
 //!
-//! A store stands for all surfaces that were ever created and all submissions that were ever
-//! accepted. Memory keeps one waiting and one active frame a surface.
+//! Contracts see a store as all surfaces that were ever created and all submissions that were
+//! ever accepted. In memory it has at most one waiting and one active frame for each surface that
+//! exists.
 #![tactic(auto)]
 
 mod groups;

@@ -1,4 +1,4 @@
-//! Which surfaces are marked.
+//! Which surfaces are marked for destruction.
 ghost use Rattle.std.specs.Prelude.{◌≡◌, ◌≤◌, ◌-◌, ◌==◌, ℕ, Some, cond};
 ghost use Rattle.vz_surfaces.specs.declared.table.Surface.{Surface as Kept};
 ghost use Rattle.vz_surfaces.specs.Memory.{look, owner_at, marked_up, HasNumber};
@@ -7,8 +7,8 @@ use crate::owners::Owners;
 use crate::table::Table;
 use vz_ids::SurfaceId;
 
-/// The surfaces of a client that were created before this one are marked. Conditions: the
-/// client's number is 1 to 16, and the surface is there.
+/// Marks the surfaces of a client that were created before this one. Conditions: the client's
+/// number is 1 to 16, and the surface exists.
 pub(crate) fn mark_before(owners: &mut Owners, table: &Table, c: u32, id: &SurfaceId)
     requires number { HasNumber c }
     requires there { (s : Kept) × (look table.now id.now ≡ Some s) × (1 ≤ s.number) }
@@ -23,7 +23,7 @@ pub(crate) fn mark_before(owners: &mut Owners, table: &Table, c: u32, id: &Surfa
     owners.set(c, owner.marked_up(surface.number - 1));
 }
 
-/// All surfaces of a client are marked. Condition: its number is 1 to 16.
+/// Marks all surfaces of a client. Condition: its number is 1 to 16.
 pub(crate) fn mark_all(owners: &mut Owners, c: u32)
     requires number { HasNumber c }
     ensures { (q : ℕ) → 1 ≤ q → owner_at owners.new q

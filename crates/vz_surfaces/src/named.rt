@@ -1,5 +1,5 @@
-//! Frames whose names were followed once: each pass quad knows the place of its pass, and each
-//! tile that of its listing.
+//! Frames whose names are resolved once: each pass quad knows the place of its pass, and each
+//! tile quad the place of its listed resource.
 ghost use Rattle.std.specs.Prelude.{◌≡◌, ◌≤◌, Some, length, slice_get, IfOk};
 ghost use Rattle.vz_frame.specs.declared.frame.RenderPass.{RenderPass as Pass};
 ghost use Rattle.vz_frame.specs.declared.frame.DrawQuad.{DrawQuad as Quad};
@@ -11,7 +11,7 @@ use std::marker::Model;
 use vz_base::Memory;
 use vz_frame::{CompositorFrame, DrawQuad, List, Listing, Material, RenderPass};
 
-/// A frame, with the places to which its names lead. Contracts see the frame alone.
+/// A frame with its names resolved. Contracts see the frame alone.
 #[derive(Drop)]
 pub struct NamedFrame {
     frame: CompositorFrame,
@@ -30,7 +30,7 @@ impl Model for NamedFrame {
 }
 
 impl NamedFrame {
-    /// A frame, with the places to which its names lead.
+    /// Joins a frame and the places of its names. Condition: the places are right.
     pub(crate) fn new(frame: CompositorFrame, places: List<List<Option<usize>>>) -> NamedFrame
         requires { AreNamed frame places }
         ensures { result ≡ frame }
@@ -45,10 +45,10 @@ impl NamedFrame {
         &self.frame
     }
 
-    /// The place to which the name in a quad leads, by the places of its pass and of the quad in
-    /// it: among the passes the place of the last earlier one of a pass quad's id, and among the
-    /// listings that of the first one of a tile's resource. None where there is no such thing. It
-    /// looks nothing up.
+    /// The place to which the name in a quad leads; `pass` is the place of the quad's pass in the
+    /// frame, `quad` its own in the pass, both from 0. For a pass quad it is the place of the
+    /// last earlier pass with that id, for a tile quad that of the first listing of its resource.
+    /// It is None if there is no such pass or listing. It needs no search.
     pub fn place_named(&self, pass: usize, quad: usize) -> Option<usize>
         ensures { (p : Pass) (q : Quad) → slice_get self.now.passes pass ≡ Some p
             → slice_get p.quads quad ≡ Some q → result ≡ place_named self.now pass q }
@@ -59,7 +59,7 @@ impl NamedFrame {
     }
 }
 
-/// The place of the last pass of an id before a place.
+/// The place of the last pass with an id, among those before a place.
 fn pass_place(passes: &[RenderPass], before: usize, id: u32) -> Option<usize>
     requires { before ≤ length passes.now }
     ensures { result ≡ pass_place id passes.now before }
@@ -81,7 +81,7 @@ fn listing_place(listings: &[Listing], id: u32) -> Option<usize>
     listings.iter().position(|listing| listing.id == id)
 }
 
-/// The place to which the name in a quad of the pass at a place leads.
+/// The place to which the name in a quad leads. The quad is in the pass at a place.
 #[tactic(auto, unfolding(crate::specs::Names::place_named))]
 fn place_named(frame: &CompositorFrame, pass: usize, quad: &DrawQuad) -> Option<usize>
     requires { pass ≤ length frame.now.passes }
@@ -95,7 +95,7 @@ fn place_named(frame: &CompositorFrame, pass: usize, quad: &DrawQuad) -> Option<
     }
 }
 
-/// The places to which the names in quads of the pass at a place lead.
+/// The places to which the names of all quads lead, for the pass at a place.
 fn places_in(
     alloc: Global,
     frame: &CompositorFrame,
@@ -112,7 +112,7 @@ fn places_in(
     Ok(List::from_vec(places))
 }
 
-/// The places to which the names in the quads of each pass of a frame lead.
+/// The places to which the names of all quads lead, for each pass of a frame.
 pub(crate) fn places_of(
     alloc: Global,
     frame: &CompositorFrame,

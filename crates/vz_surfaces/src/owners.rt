@@ -1,12 +1,12 @@
-//! What is counted of each client.
+//! The counts that are kept for each client.
 ghost use Rattle.std.specs.Prelude.{◌≡◌, ◌≤◌, ◌<◌, ◌+◌, ℕ, Some, None, cond, ◌==◌};
 ghost use Rattle.vz_surfaces.specs.Memory.{owner_at, no_owner, counting, is_named_last, marked_up};
 
 use vz_geom::Size;
 use vz_ids::LocalSurfaceId;
 
-/// How many submissions of a client were accepted, how many surfaces it created, the local id and
-/// the size of the last one, and up to which number its surfaces are marked.
+/// For a client: how many submissions were accepted and how many surfaces created, the local id
+/// and the size of the last surface, and up to which number its surfaces are marked.
 #[derive(Clone, Copy)]
 pub(crate) struct Owner {
     pub(crate) accepted: u32,
@@ -16,7 +16,7 @@ pub(crate) struct Owner {
 }
 
 impl Owner {
-    /// Whether a local id is that of the last surface.
+    /// Whether a local id is that of the client's last surface.
     pub(crate) fn is_last(&self, local: &LocalSurfaceId) -> bool
         ensures { result ≡ is_named_last self.now.last local.now }
     {
@@ -26,8 +26,8 @@ impl Owner {
         }
     }
 
-    /// One submission more, on the last surface or on a new one. Condition: there are fewer than
-    /// can be numbered.
+    /// The counts after one more submission, on the last surface or on a new one. Condition: the
+    /// numbers do not overflow.
     pub(crate) fn counting(self, last: bool, local: LocalSurfaceId, size: Size) -> Owner
         requires accepted { self.accepted < u32.MAX }
         requires created { self.created < u32.MAX }
@@ -45,7 +45,7 @@ impl Owner {
         }
     }
 
-    /// Surfaces are marked up to this number.
+    /// The counts after the surfaces are marked up to this number.
     pub(crate) fn marked_up(self, number: u32) -> Owner
         ensures { result ≡ marked_up number self }
     {
@@ -59,14 +59,14 @@ impl Owner {
     }
 }
 
-/// The clients of the numbers 1 to 16.
+/// The counts of the clients 1 to 16.
 #[derive(Drop)]
 pub(crate) struct Owners {
     owners: [Owner; 16],
 }
 
 impl Owners {
-    /// Nothing was accepted.
+    /// The counts before any submission is accepted.
     pub(crate) fn new() -> Owners
         ensures { (q : ℕ) → owner_at result q ≡ no_owner }
     {
@@ -81,7 +81,7 @@ impl Owners {
         }
     }
 
-    /// What is counted of a client. Condition: its number is 1 to 16.
+    /// The counts of a client. Condition: its number is 1 to 16.
     pub(crate) fn get(&self, c: u32) -> Owner
         requires least { 1 ≤ c }
         requires most { c ≤ 16 }
@@ -90,7 +90,7 @@ impl Owners {
         self.owners[(c - 1) as usize]
     }
 
-    /// Something else is counted of a client. Condition: its number is 1 to 16.
+    /// Replaces the counts of a client. Condition: its number is 1 to 16.
     pub(crate) fn set(&mut self, c: u32, owner: Owner)
         requires least { 1 ≤ c }
         requires most { c ≤ 16 }

@@ -1,4 +1,4 @@
-//! Active submissions, as they are seen.
+//! Active submissions with their surfaces.
 ghost use Rattle.std.specs.Prelude.{◌≡◌};
 ghost use Rattle.vz_surfaces.specs.Reading.{held_of, frame_at};
 
@@ -6,7 +6,7 @@ use crate::held::Held;
 use std::marker::Model;
 use vz_ids::SurfaceId;
 
-/// The active submission of a surface that exists, with the surface.
+/// A surface that exists, with its active submission.
 #[derive(Drop)]
 pub struct Seen<'a> {
     id: SurfaceId,
@@ -23,14 +23,14 @@ impl<'a> Model for Seen<'a> {
 }
 
 impl<'a> Seen<'a> {
-    /// What is kept of a submission on a surface.
+    /// Joins a surface and what is kept of its active submission.
     pub(crate) fn new(id: SurfaceId, held: &'a Held) -> Seen<'a>
         ensures { result ≡ frame_at id held.now }
     {
         Seen { id, held }
     }
 
-    /// The surface.
+    /// The id of the surface.
     pub fn id(&self) -> SurfaceId
         ensures { result ≡ self.now.id }
     {

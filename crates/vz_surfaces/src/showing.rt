@@ -8,8 +8,8 @@ use crate::groups::{Groups, Link, is_at_least};
 use crate::table::Table;
 use vz_ids::{SurfaceId, SurfaceRange};
 
-/// Whether a surface of the end's group is at the start of a range or newer, where that is of
-/// this group.
+/// Whether a surface of the end's group is not older than the start of the range. If the start is
+/// in another group or there is none, it is.
 fn starts_from(range: &SurfaceRange, id: &SurfaceId) -> bool
     ensures { result ≡ starts_from range.now.start range.now.end id.now }
 {
@@ -19,7 +19,8 @@ fn starts_from(range: &SurfaceRange, id: &SurfaceId) -> bool
     }
 }
 
-/// The newest surface with an active frame in the part of a range that is in the end's group.
+/// The newest surface with an active frame in the end's group that is not newer than the end and,
+/// if the start is in that group, not older than the start. None if there is none.
 fn newest_in<'a>(groups: &'a Groups, table: &Table, range: &SurfaceRange) -> Option<&'a Link>
     requires { IsRising (chain_at groups.now range.now.end) }
     ensures { option_copied result ≡ that_passes (starts_from range.now.start range.now.end)
@@ -37,8 +38,8 @@ fn newest_in<'a>(groups: &'a Groups, table: &Table, range: &SurfaceRange) -> Opt
     }
 }
 
-/// The newest surface with an active frame of the group of a range's start, where that is another
-/// one than the end's.
+/// If the start of the range is in another group than the end: the newest surface with an active
+/// frame in the start's group that is not older than the start. Otherwise None.
 fn newest_from<'a>(groups: &'a Groups, table: &Table, range: &SurfaceRange) -> Option<&'a Link>
     ensures { option_copied result
         ≡ newest_from table.now groups.now range.now.start range.now.end }
@@ -63,7 +64,7 @@ fn newest_from<'a>(groups: &'a Groups, table: &Table, range: &SurfaceRange) -> O
     }
 }
 
-/// The surface that a range shows.
+/// The surface that a range shows, or None.
 pub(crate) fn shown_by<'a>(
     groups: &'a Groups,
     table: &Table,

@@ -11,7 +11,7 @@ use vz_base::Memory;
 use vz_frame::Room;
 use vz_ids::SurfaceId;
 
-/// A surface with its number among those that its client created.
+/// A surface, with its number among those that its client created.
 #[derive(Clone, Copy)]
 pub(crate) struct Numbered {
     pub(crate) number: u32,
@@ -24,13 +24,13 @@ pub(crate) struct Row {
     all: Vec<Numbered>,
 }
 
-/// The surfaces that exist, by clients.
+/// The surfaces that exist, by client.
 #[derive(Drop)]
 pub(crate) struct Standing {
     lists: IndexMap<u32, Row>,
 }
 
-/// Makes room for one more.
+/// Makes room for one more surface.
 fn spare_one(all: &mut Vec<Numbered>) -> Result<(), Memory>
     ensures items { all.new.items ≡ all.old.items }
     ensures room { OnOk result (vec_len all.new < vec_capacity all.new) }
@@ -40,7 +40,7 @@ fn spare_one(all: &mut Vec<Numbered>) -> Result<(), Memory>
 }
 
 impl Standing {
-    /// No surface. It takes no memory.
+    /// Creates an empty list. It allocates nothing.
     pub(crate) fn new(alloc: Global) -> Standing
         ensures { (q : ℕ) → list_in result q ≡ None }
     {
@@ -49,7 +49,7 @@ impl Standing {
         }
     }
 
-    /// Makes room for one surface more of a client.
+    /// Makes room for one more surface of a client.
     pub(crate) fn reserve(&mut self, alloc: Global, c: u32) -> Result<(), Memory>
         ensures lists { (q : ℕ) → list_at self.new q ≡ list_at self.old q }
         ensures room { OnOk result (IsTrue (has_room self.new c)) }
@@ -65,7 +65,7 @@ impl Standing {
         }
     }
 
-    /// A surface more of a client. Condition: there is room for one.
+    /// Appends a surface of a client. Condition: there is room for one.
     fn put(&mut self, c: u32, one: Numbered)
         requires { IsTrue (has_room self.old c) }
         ensures { (q : ℕ) → list_at self.new q
@@ -77,9 +77,9 @@ impl Standing {
         }
     }
 
-    /// A new surface of a client that created so many before, unless it is its last one.
-    /// Conditions: where it is not, there is room for one; and there are fewer than can be
-    /// numbered.
+    /// Appends a new surface of a client that created `created` before, unless it is the client's
+    /// last one. Conditions: if it is new there is room for one, and its number does not
+    /// overflow.
     pub(crate) fn open(&mut self, c: u32, created: u32, id: SurfaceId, last: bool)
         requires room { last ≡ false → IsTrue (has_room self.old c) }
         requires few { created < u32.MAX }
@@ -99,7 +99,7 @@ impl Standing {
         );
     }
 
-    /// A surface of a client goes.
+    /// Removes a surface of a client.
     pub(crate) fn remove(&mut self, c: u32, id: &SurfaceId)
         ensures { (q : ℕ) → list_at self.new q ≡ cond (nat_eq c q)
             (filter (λ (x : One). not (same_surface x.id id.now)) (list_at self.old q))
@@ -110,8 +110,8 @@ impl Standing {
         }
     }
 
-    /// Appends the surfaces of a client up to a number; up to 0 there are none. Conditions: numbers
-    /// rise from 1 on, and there is room for them.
+    /// Appends the surfaces of a client whose number is `to` or less, in the order of creation;
+    /// for 0 there are none. Conditions: numbers rise from 1, and there is room for the surfaces.
     pub(crate) fn put_to(&self, c: u32, to: u32, out: &mut Room<SurfaceId>)
         requires rise { Rises (list_at self.now c) }
         requires first { (x : One) → Contains (list_at self.now c) x → 1 ≤ x.number }
@@ -132,7 +132,7 @@ impl Standing {
     }
 }
 
-/// Puts a surface at the end. Condition: there is room for it.
+/// Appends a surface. Condition: there is room for it.
 fn append(all: &mut Vec<Numbered>, one: Numbered)
     requires { vec_len all.old < vec_capacity all.old }
     ensures { all.new.items ≡ all.old.items ++ one ∷ [] }
@@ -147,7 +147,7 @@ fn differs(one: &Numbered, id: &SurfaceId) -> bool
     one.id != *id
 }
 
-/// A surface goes from the list.
+/// Removes a surface from a list.
 fn forget(list: &mut Vec<Numbered>, id: &SurfaceId)
     ensures { list.new.items
         ≡ filter (λ (x : One). not (same_surface x.id id.now)) list.old.items }
@@ -155,7 +155,7 @@ fn forget(list: &mut Vec<Numbered>, id: &SurfaceId)
     list.retain(|one| differs(one, id));
 }
 
-/// Those up to a number. Condition: numbers rise.
+/// The part of a list up to a number. Condition: numbers rise.
 fn up_to(list: &[Numbered], to: u32) -> &[Numbered]
     requires { Rises list.now }
     ensures { result.now ≡ filter (λ (x : One). nat_le x.number to) list.now }

@@ -1,4 +1,4 @@
-//! All surfaces that were ever created, and all submissions that were ever accepted.
+//! The store of surfaces and submissions.
 ghost use Rattle.std.specs.Prelude.{◌≡◌, ◌≤◌, ◌<◌, ◌+◌, ◌++◌, ◌∷◌, ◌&&◌, [], ℕ, not, cond, length, Some, None, is_some, count_by, false, IsTrue, IfOk, OnOk, OnErr, IfErr};
 ghost use Rattle.std.specs.List.{Contains};
 ghost use Rattle.std.specs.Option.{option_copied, option_map};
@@ -38,7 +38,8 @@ use vz_refs::Shows;
 use vz_rules::Lost;
 
 /// The surfaces and submissions of the machine's state. Contracts see all that were ever created
-/// and accepted; memory keeps one waiting and one active frame a surface that exists.
+/// and accepted. In memory there are at most one waiting and one active frame for each surface
+/// that exists.
 #[derive(Drop)]
 pub struct Store {
     alloc: Global,
@@ -65,7 +66,7 @@ impl Model for Store {
 }
 
 impl Store {
-    /// No surface was created. It takes no memory.
+    /// Creates an empty store. It allocates nothing.
     pub fn new(alloc: Global) -> Store
         ensures { result ≡ nothing_stored }
     {
@@ -80,8 +81,8 @@ impl Store {
         }
     }
 
-    /// The local id and the size of the last surface that a client created. Condition: its number
-    /// is 1 to 16.
+    /// The local id and the size of the last surface that a client created, or None if it created
+    /// none. Condition: the client's number is 1 to 16.
     pub fn last(&self, c: u32) -> Option<(LocalSurfaceId, Size)>
         requires { HasNumber c }
         ensures { result ≡ last_of c self.now }
@@ -96,8 +97,7 @@ impl Store {
         self.table.get(id).is_some()
     }
 
-    /// The number of the client that created the surface of an id, None exactly where there is no
-    /// such surface.
+    /// The number of the client that created a surface, or None if the surface does not exist.
     pub fn client(&self, id: &SurfaceId) -> Option<u32>
         ensures { result ≡ option_map (λ c. c.client) (standing id.now self.now.surfaces) }
     {
@@ -114,7 +114,7 @@ impl Store {
         self.table.len()
     }
 
-    /// The active submission of a surface that exists, None exactly where there is none.
+    /// The active submission of a surface, or None if the surface does not exist or has none.
     pub fn active(&self, id: &SurfaceId) -> Option<&Held>
         ensures { option_copied result ≡ option_map held_of (active_on self.now id.now) }
     {
@@ -124,7 +124,7 @@ impl Store {
         }
     }
 
-    /// The submission that waits on a surface that exists, None exactly where there is none.
+    /// The submission that waits on a surface, or None if the surface does not exist or has none.
     pub fn waiting(&self, id: &SurfaceId) -> Option<&Held>
         ensures { option_copied result ≡ option_map held_of (waiting_at self.now id.now) }
     {
@@ -134,7 +134,7 @@ impl Store {
         }
     }
 
-    /// The surface on which a submission waits, where it does.
+    /// The surface on which a submission waits, or None if it does not wait.
     pub fn waits_on(&self, s: Sub) -> Option<SurfaceId>
         ensures found { (x : Submission) → Contains self.now.subs x → IsTrue (is_waiting x)
             → sub_of x ≡ s → result ≡ Some x.submitted.id }
@@ -143,7 +143,8 @@ impl Store {
         self.waits.get(&s)
     }
 
-    /// The active submission of a surface that exists, as it is seen.
+    /// The active submission of a surface, with the surface, or None if the surface does not
+    /// exist or has none.
     pub fn frame_on(&self, id: &SurfaceId) -> Option<Seen<'_>>
         ensures { result ≡ active_on self.now id.now }
     {
@@ -153,8 +154,8 @@ impl Store {
         }
     }
 
-    /// The active submission of the surface that a range shows. Condition: what always holds is
-    /// kept.
+    /// The active submission of the surface that a range shows, or None if it shows none.
+    /// Condition: the store keeps its invariants.
     pub fn shown_frame(&self, range: &SurfaceRange) -> Option<Seen<'_>>
         requires { KeepsStored self.now }
         ensures { result ≡ shown_frame (seen_frames self.now) range.now }
@@ -168,7 +169,7 @@ impl Store {
         }
     }
 
-    /// Whether the surface of an id exists and is marked.
+    /// Whether a surface exists and is marked for destruction.
     pub fn is_marked(&self, id: &SurfaceId) -> bool
         ensures { result ≡ has_mark self.now id.now }
     {
@@ -178,8 +179,8 @@ impl Store {
         }
     }
 
-    /// Appends the marked surfaces that exist, by client and in the order of creation. Condition:
-    /// `out` has room for as many surfaces as exist.
+    /// Appends the marked surfaces that exist, by client and then in the order of creation.
+    /// Condition: `out` has room for as many surfaces as exist.
     pub fn marked(&self, out: &mut Room<SurfaceId>)
         requires { existing_count self.now ≤ out.old.spare }
         ensures list { out.new.list ≡ out.old.list ++ marked_to 16 self.now }
@@ -191,7 +192,7 @@ impl Store {
         }
     }
 
-    /// Whether some submission on a surface of a group, at this one or newer, was ever active.
+    /// Whether the surface `d`, or a newer one of its group, ever had an active submission.
     /// Surfaces that were destroyed count too.
     pub fn ever_active(&self, d: &SurfaceId) -> bool
         ensures { result ≡ was_reached self.now d.now }
@@ -199,15 +200,14 @@ impl Store {
         self.groups.was_active(d)
     }
 
-    /// A submission of a client is accepted on a surface of its sink, which is created where the
-    /// local id is not the client's last one. It waits, and the one that waited there is dropped.
-    /// The answer is its client and ordinal, its number on the surface, and the one that is
-    /// dropped, moved out. For want of memory, and only then, the frame comes back, and nothing
-    /// changes.
+    /// Accepts a submission of client `c` on a surface of its sink. If `local` is not the
+    /// client's last local id, this creates the surface. The submission waits, and one that
+    /// already waited there is dropped. `blocks` has the pixel block of each listed resource. If
+    /// an allocation fails, the error gives the frame back and nothing changes.
     ///
-    /// Conditions: the number of the client is 1 to 16; what always holds is kept; the sink is
-    /// that of all earlier calls for the client and of none for another; the local id is not
-    /// refused; where it is the client's last one, that surface exists; and fewer than
+    /// Conditions: the client's number is 1 to 16; the store keeps its invariants; `sink` is that
+    /// of all earlier calls for the client, and of none for another; the local id is allowed
+    /// after the client's last one; if it is that last one, the surface exists; and fewer than
     /// 4,294,967,295 submissions of the client were accepted.
     pub fn accept(
         &mut self,
@@ -282,10 +282,10 @@ impl Store {
         })
     }
 
-    /// A submission that waits becomes active, and the earlier surfaces of its client are marked.
-    /// The answer is the active one of its surface, which is past now. It takes no memory.
+    /// Makes a waiting submission active and marks the earlier surfaces of its client. Returns
+    /// the submission that was active on the surface until now, or None. It allocates nothing.
     ///
-    /// Conditions: it waits, and what always holds is kept.
+    /// Conditions: it waits, and the store keeps its invariants.
     pub fn activate(&mut self, s: Sub) -> Option<Sub>
         requires keeps { KeepsStored self.old }
         requires waits { IsTrue (is_waiting_in self.old s) }
@@ -303,7 +303,8 @@ impl Store {
         self.table.raise(&id)
     }
 
-    /// All surfaces of a client are marked. It takes no memory. Condition: its number is 1 to 16.
+    /// Marks all surfaces of a client, as it is closed. It allocates nothing. Condition: the
+    /// client's number is 1 to 16.
     pub fn mark_all(&mut self, c: u32)
         requires { HasNumber c }
         ensures { self.new ≡ marking c self.old }
@@ -313,8 +314,8 @@ impl Store {
         mark_all(&mut self.owners, c);
     }
 
-    /// A surface that exists is destroyed: its waiting and its active submission end, and are
-    /// answered. It takes no memory. Conditions: it exists, and what always holds is kept.
+    /// Destroys a surface and returns it with its waiting and its active submission, which end.
+    /// It allocates nothing. Conditions: the surface exists, and the store keeps its invariants.
     pub fn destroy(&mut self, id: &SurfaceId) -> Gone
         requires keeps { KeepsStored self.old }
         requires exists { IsTrue (stands self.old id.now) }
@@ -344,8 +345,9 @@ impl Store {
     }
 }
 
-/// Makes room for one surface and one waiting submission more, and puts the surface into its
-/// group, unless it is the last one of its client. Where it answers Memory, groups stay.
+/// Makes room for one more surface and one more waiting submission, and puts the surface into its
+/// group, unless it is the last one of its client. If it returns `Memory`, the groups do not
+/// change.
 fn grow(
     alloc: Global,
     table: &mut Table,

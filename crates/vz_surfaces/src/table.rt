@@ -26,14 +26,14 @@ pub(crate) struct Surface {
     pub(crate) number: u32,
     /// How many submissions were accepted on it.
     pub(crate) accepted: u32,
-    /// The submission that waits.
+    /// Its waiting submission, or None.
     pub(crate) waiting: Option<Held>,
-    /// The active submission.
+    /// Its active submission, or None.
     pub(crate) active: Option<Held>,
 }
 
-/// The surfaces that exist. Each stays where it is in memory, under a key, until it goes; its key
-/// is found by its id.
+/// The surfaces that exist. Each stays at its place in memory, under a key, until it is removed.
+/// Its key is found by its id.
 #[derive(Drop)]
 pub(crate) struct Table {
     surfaces: Slab<Surface>,
@@ -41,7 +41,7 @@ pub(crate) struct Table {
 }
 
 impl Table {
-    /// No surface. It takes no memory.
+    /// Creates an empty table. It allocates nothing.
     pub(crate) fn new(alloc: Global) -> Table
         ensures none { (q : Id) → look result q ≡ None }
         ensures len { length result.keys.entries ≡ 0 }
@@ -53,7 +53,7 @@ impl Table {
         }
     }
 
-    /// Makes room for one surface more.
+    /// Makes room for one more surface.
     pub(crate) fn reserve(&mut self) -> Result<(), Memory>
         ensures same { HasSame self.old self.new }
         ensures room { OnOk result (HasSpare self.new) }
@@ -80,14 +80,14 @@ impl Table {
         }
     }
 
-    /// The key of the next surface.
+    /// The key that the next surface will get.
     pub(crate) fn next_key(&self) -> usize
         ensures { result ≡ self.now.surfaces.vacant_key }
     {
         self.surfaces.vacant_key()
     }
 
-    /// Whether there is a surface under a key, and it has an active submission.
+    /// Whether there is a surface under a key that has an active submission.
     pub(crate) fn has_active(&self, key: usize) -> bool
         ensures { result ≡ is_some (acting_under self.now key) }
     {
@@ -107,7 +107,7 @@ impl Table {
         }
     }
 
-    /// A surface more. Conditions: it is not there, and there is room for one.
+    /// Adds a surface. Conditions: it is not in the table, and there is room for one.
     fn put(&mut self, id: SurfaceId, surface: Surface)
         requires keyed { IsKeyed self.old }
         requires new { look self.old id ≡ None }
@@ -123,9 +123,9 @@ impl Table {
         self.keys.insert(id, key).unwrap();
     }
 
-    /// A new surface of a client that created so many before, unless the id is its last one.
-    /// Conditions: where it is not, the surface is not there, and there is room for one; and
-    /// there are fewer than can be numbered.
+    /// Adds a new surface of a client that created `created` before, unless it is the client's
+    /// last one. Conditions: if it is new, it is not in the table and there is room for one; and
+    /// its number does not overflow.
     pub(crate) fn open(&mut self, id: SurfaceId, client: u32, created: u32, last: bool)
         requires keyed { IsKeyed self.old }
         requires new { last ≡ false → look self.old id ≡ None }
@@ -154,9 +154,9 @@ impl Table {
         );
     }
 
-    /// A submission waits on a surface, instead of the one that waited. The answer is its number
-    /// on the surface, and the one that waited. Conditions: the surface is there, and has fewer
-    /// submissions than can be numbered.
+    /// Makes a submission wait on a surface, in place of the one that waited. Returns its number
+    /// on the surface, and the one that waited, if one did. Conditions: the surface is in the
+    /// table, and the number does not overflow.
     pub(crate) fn hold(
         &mut self,
         id: &SurfaceId,
@@ -184,8 +184,8 @@ impl Table {
         }
     }
 
-    /// The submission that waits on a surface becomes its active one. The answer is the one that
-    /// was active.
+    /// Makes the submission that waits on a surface its active one. Returns the one that was
+    /// active, if there was one.
     pub(crate) fn raise(&mut self, id: &SurfaceId) -> Option<Sub>
         requires { IsKeyed self.old }
         ensures surfaces { (q : Id) → look self.new q
@@ -205,7 +205,7 @@ impl Table {
         }
     }
 
-    /// A surface goes.
+    /// Removes a surface and returns it, if it was in the table.
     pub(crate) fn remove(&mut self, id: &SurfaceId) -> Option<Surface>
         requires { IsKeyed self.old }
         ensures gone { result ≡ look self.old id.now }
@@ -224,7 +224,7 @@ impl Table {
     }
 }
 
-/// A submission waits on a surface, instead of the one that waited.
+/// Makes a submission wait on a surface, in place of the one that waited.
 fn wait(
     surface: &mut Surface,
     sub: Sub,
@@ -248,7 +248,7 @@ fn wait(
     (index, replaced)
 }
 
-/// The submission that waits becomes the active one.
+/// Makes the submission that waits the active one.
 fn rise(surface: &mut Surface) -> Option<Sub>
     ensures surface { surface.new ≡ raised surface.old }
     ensures past { result ≡ option_map (λ h. h.sub) surface.old.active }
@@ -258,7 +258,7 @@ fn rise(surface: &mut Surface) -> Option<Sub>
     sub_of(&past)
 }
 
-/// The client and ordinal of what is kept, if something is.
+/// The client and ordinal of a submission, if there is one.
 pub(crate) fn sub_of(held: &Option<Held>) -> Option<Sub>
     ensures { result ≡ option_map (λ h. h.sub) held.now }
 {

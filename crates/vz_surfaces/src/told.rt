@@ -1,4 +1,4 @@
-//! What proofs alone remember of a store: all changes that it was told of.
+//! The history of a store, which only proofs see: every change that was made to it.
 ghost use Rattle.std.specs.Prelude.{◌≡◌, ◌++◌, ◌∷◌, []};
 ghost use Rattle.vz_surfaces.specs.declared.told.Told.TheVariants.{Accepted};
 
@@ -26,7 +26,7 @@ pub(crate) enum Told {
     Destroyed(SurfaceId),
 }
 
-/// Notes a submission that is accepted, and gives it back.
+/// Adds an accepted submission to the history, and gives it back.
 pub(crate) fn note(told: &mut GhostList<Told>, acceptance: Acceptance) -> Acceptance
     ensures told { told.new ≡ told.old ++ Accepted acceptance ∷ [] }
     ensures back { result ≡ acceptance }

@@ -1,4 +1,4 @@
-//! On which surface each submission waits.
+//! The surface on which each submission waits.
 ghost use Rattle.std.specs.Prelude.{◌≡◌, ◌≤◌, ◌<◌, Some, None, cond, OnOk};
 ghost use Rattle.indexmap.specs.IndexMap.{spare as spare_of};
 ghost use Rattle.vz_ids.specs.declared.Sub.{Sub as Name};
@@ -16,7 +16,7 @@ pub(crate) struct Waits {
 }
 
 impl Waits {
-    /// None waits. It takes no memory.
+    /// Creates an empty map. It allocates nothing.
     pub(crate) fn new(alloc: Global) -> Waits
         ensures { (q : Name) → waits_on result q ≡ None }
     {
@@ -25,7 +25,7 @@ impl Waits {
         }
     }
 
-    /// Makes room for one more.
+    /// Makes room for one more submission.
     pub(crate) fn reserve(&mut self) -> Result<(), Memory>
         ensures entries { self.new.surfaces.entries ≡ self.old.surfaces.entries }
         ensures room { OnOk result (0 < spare_of self.new.surfaces) }
@@ -34,14 +34,14 @@ impl Waits {
         Ok(())
     }
 
-    /// The surface on which a submission waits.
+    /// The surface on which a submission waits, or None.
     pub(crate) fn get(&self, sub: &Sub) -> Option<SurfaceId>
         ensures { result ≡ waits_on self.now sub.now }
     {
         self.surfaces.get(sub).copied()
     }
 
-    /// A submission waits. Condition: there is room for one.
+    /// Adds a submission that waits. Condition: there is room for one.
     pub(crate) fn put(&mut self, sub: Sub, id: SurfaceId)
         requires { 0 < spare_of self.old.surfaces }
         ensures { (q : Name) → waits_on self.new q
@@ -50,7 +50,7 @@ impl Waits {
         self.surfaces.insert(sub, id).unwrap();
     }
 
-    /// A submission, if there is one, waits no longer.
+    /// Removes a submission, if one is given.
     pub(crate) fn remove(&mut self, sub: Option<Sub>)
         ensures none { sub ≡ None → self.new ≡ self.old }
         ensures others { (s : Name) → sub ≡ Some s → (q : Name)

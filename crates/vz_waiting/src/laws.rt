@@ -1,4 +1,4 @@
-//! Laws of the submissions that wait, each the contract of a function that does nothing.
+//! Laws of the submissions that wait: each is the contract of a function with an empty body.
 ghost use Rattle.std.specs.Prelude.{◌≡◌, ℕ, true, length, List, IsTrue, IsFalse};
 ghost use Rattle.std.specs.List.{Contains};
 ghost use Rattle.vz_ids.specs.declared.FrameSinkId.{FrameSinkId};
@@ -19,9 +19,9 @@ ghost use Rattle.vz_rules.specs.Step.{draw_answer, done_answer};
 ghost use Rattle.vz_rules.specs.Kept.{KeepsAlways};
 ghost use Rattle.vz_waiting.specs.Awaiting.{Waits, AreWaiting, is_among};
 
-/// No other change of the machine's state changes which submissions wait: a message that closes
-/// no client, as it changes neither a client's sink nor whether it is closed, names, returns,
-/// feedback, drawings and the end.
+/// No other change of the machine's state changes which submissions wait. Messages that close no
+/// client change neither a client's sink nor whether it is closed. Naming, the return of
+/// resources, feedback, draws and the end do not change it either.
 pub fn waiting_ones_stay()
     ensures taken { (w : World) (f : Client → Client) (c : Client) (a : Waits)
         → ((x : Client) → (f x).closed ≡ x.closed) → ((x : Client) → (f x).sink ≡ x.sink)
@@ -51,13 +51,13 @@ pub fn waiting_ones_stay()
         → AreWaiting w a → AreWaiting (record w { over = true }) a }
 {}
 
-/// Each of those that wait lacks something, so that room for as many as wait is enough for every
+/// Each waiting submission lacks something, so that room for as many as wait is enough for every
 /// call.
 pub fn waiting_ones_lack()
     ensures { (w : World) (a : Waits) → AreWaiting w a → length a.blocked ≡ length a.due }
 {}
 
-/// A client's new submission is none of those that wait.
+/// A client's new submission is not among those that wait.
 pub fn arrivals_are_new()
     ensures { (w : World) (c : Client) (local : LocalSurfaceId) (frame : CompositorFrame)
         (a : Waits) → KeepsAlways w → AreWaiting w a

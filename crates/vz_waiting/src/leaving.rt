@@ -1,4 +1,4 @@
-//! Submissions that wait no longer.
+//! Submissions that stop waiting.
 ghost use Rattle.std.specs.Prelude.{◌≡◌, ◌≤◌, option_to_list};
 ghost use Rattle.vz_waiting.specs.Leaving.{blocked_without, due_without};
 
@@ -6,7 +6,7 @@ use vz_deadlines::Deadlines;
 use vz_deps::Tracker;
 use vz_ids::Sub;
 
-/// These submissions are blocked no longer.
+/// Removes these submissions from the blocked ones.
 pub(crate) fn forget_all(tracker: &mut Tracker, subs: &[Sub])
     ensures list { tracker.new.list ≡ blocked_without subs.now tracker.old.list }
     ensures spare { tracker.old.spare ≤ tracker.new.spare }
@@ -16,7 +16,7 @@ pub(crate) fn forget_all(tracker: &mut Tracker, subs: &[Sub])
     }
 }
 
-/// These submissions have no deadline any more.
+/// Removes the deadlines of these submissions.
 pub(crate) fn clear_all(deadlines: &mut Deadlines, subs: &[Sub])
     ensures list { deadlines.new.list ≡ due_without subs.now deadlines.old.list }
     ensures spare { deadlines.old.spare ≤ deadlines.new.spare }
@@ -26,7 +26,7 @@ pub(crate) fn clear_all(deadlines: &mut Deadlines, subs: &[Sub])
     }
 }
 
-/// A submission, if it is one, waits no longer.
+/// Removes a submission, if one is given, so that it waits no longer.
 pub(crate) fn drop_one(tracker: &mut Tracker, deadlines: &mut Deadlines, sub: Option<Sub>)
     ensures blocked { tracker.new.list ≡ blocked_without (option_to_list sub) tracker.old.list }
     ensures due { deadlines.new.list ≡ due_without (option_to_list sub) deadlines.old.list }

@@ -1,5 +1,4 @@
-//! The submissions that wait to become active: by the dependencies that they lack, and by their
-//! deadlines.
+//! The submissions that wait to become active: for their dependencies, and until their deadlines.
 #![tactic(auto)]
 
 mod arrival;

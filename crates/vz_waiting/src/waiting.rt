@@ -25,12 +25,12 @@ use vz_frame::Room;
 use vz_ids::{FrameSinkId, Sub, SurfaceId};
 
 /// The submissions that wait to become active, each until its dependencies are met or its
-/// deadline comes. Contracts see what each of them lacks, their deadlines and, beside these, the
-/// room that was made before.
+/// deadline comes. Contracts see what each of them lacks, their deadlines, and the room that was
+/// reserved before.
 ///
-/// Its calls are the changes of the machine's state that such submissions depend on; `laws` says
-/// that they depend on no other one. What becomes active is told, and waits no longer. But for
-/// `ready` no call takes memory.
+/// Each call is a change of the machine's state that such submissions depend on; `laws` says that
+/// they depend on no other. A submission that becomes active is appended to `out` (`accepted`
+/// returns true for it) and no longer waits. Only `ready` allocates.
 #[derive(Drop)]
 pub struct Waiting {
     tracker: Tracker,
@@ -51,7 +51,7 @@ impl Model for Waiting {
 }
 
 impl Waiting {
-    /// None waits. It takes no memory.
+    /// Creates the state in which no submission waits. It allocates nothing.
     pub fn new(alloc: Global) -> Waiting
         ensures { (p : Plan) → AreWaiting (opening p) result }
     {
@@ -61,8 +61,9 @@ impl Waiting {
         }
     }
 
-    /// Makes room for one more submission that lacks so many dependencies or fewer. Memory is
-    /// the only error. Nothing else changes in any case, and no room is lost.
+    /// Makes room for one more submission with `lacked` unmet dependencies or fewer. The only
+    /// error is `Memory`, if an allocation fails. In either case nothing else changes and no room
+    /// is lost.
     pub fn ready(&mut self, lacked: usize) -> Result<(), Memory>
         ensures blocked { self.new.blocked ≡ self.old.blocked }
         ensures due { self.new.due ≡ self.old.due }
@@ -78,7 +79,7 @@ impl Waiting {
         Ok(())
     }
 
-    /// How many wait.
+    /// How many submissions wait.
     pub fn count(&self) -> usize
         ensures count { result ≡ length self.now.due }
         ensures some { (w : World) → ready w ≡ [] → AreWaiting w self.now
@@ -87,9 +88,9 @@ impl Waiting {
         self.deadlines.waiting()
     }
 
-    /// A submission that lacks these dependencies is accepted at a tick, and the one that waited
-    /// on its surface is dropped. Answers whether it becomes active at once; else it waits.
-    /// Conditions: it is not one of those that wait, and there is room for it.
+    /// A submission with these unmet dependencies is accepted at a tick, and the one that was
+    /// waiting on its surface is dropped. Returns true if the submission becomes active at once;
+    /// otherwise it waits. Conditions: it does not wait already, and there is room for it.
     pub fn accepted(&mut self, a: Arrival, tick: u32, lacked: &[SurfaceId]) -> bool
         requires new { IsFalse (is_among self.old a.sub) }
         requires room { length lacked.now < self.old.spare }
@@ -110,8 +111,8 @@ impl Waiting {
         false
     }
 
-    /// A begin-frame of a tick: appends exactly the submissions that become active then, in the
-    /// order of acceptance. Condition: `out` has room for all that wait.
+    /// A begin-frame with this tick: appends the submissions that become active by it, in the
+    /// order of acceptance, and removes them. Condition: `out` has room for all that wait.
     pub fn ticked(&mut self, tick: u32, out: &mut Room<Sub>)
         requires { length self.old.due ≤ out.old.spare }
         ensures waits { (w : World) (p : Plan) → KeepsAlways w → ready w ≡ []
@@ -127,8 +128,9 @@ impl Waiting {
         forget_all(&mut self.tracker, &out.as_slice()[before..]);
     }
 
-    /// The client of a sink is closed: appends exactly the submissions that become active by it,
-    /// in the order of acceptance. Condition: `out` has room for all that lack something.
+    /// The client of a sink is closed: appends the submissions that become active by it, in the
+    /// order of acceptance, and removes them. Condition: `out` has room for all that lack
+    /// something.
     pub fn closed(&mut self, sink: FrameSinkId, out: &mut Room<Sub>)
         requires { length self.old.blocked ≤ out.old.spare }
         ensures waits { (w : World) (c : Client) → KeepsAlways w → Contains w.clients c
@@ -145,9 +147,9 @@ impl Waiting {
         clear_all(&mut self.deadlines, &out.as_slice()[before..]);
     }
 
-    /// A round in which submissions on these surfaces become active: appends exactly those that
-    /// become active in the next round, in the order of acceptance. Condition: `out` has room for
-    /// all that lack something.
+    /// Submissions on these surfaces become active in one round: appends the submissions that
+    /// become active in the next round, in the order of acceptance, and removes them. Condition:
+    /// `out` has room for all that lack something.
     pub fn activated(&mut self, ids: &[SurfaceId], out: &mut Room<Sub>)
         requires { length self.old.blocked ≤ out.old.spare }
         ensures waits { (w : World) → KeepsAlways w → AreWaiting w self.old
@@ -163,7 +165,7 @@ impl Waiting {
         clear_all(&mut self.deadlines, &out.as_slice()[before..]);
     }
 
-    /// A surface is destroyed, and the submission that waited on it, if one did, is dropped.
+    /// A surface is destroyed, and the submission that was waiting on it, if any, is dropped.
     pub fn dropped(&mut self, sub: Option<Sub>)
         ensures waits { (w : World) (c : Created) → KeepsAlways w → AreWaiting w self.old
             → sub ≡ waiting_on w c.id → AreWaiting (going c w) self.new }
