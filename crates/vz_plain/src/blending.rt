@@ -1,11 +1,11 @@
-//! How a colour is laid on another.
+//! How a colour is blended with another.
 ghost use Rattle.std.specs.Prelude.{◌≡◌};
 ghost use Rattle.vz_frame.specs.Blending.{blend, laid};
 
 use vz_frame::Blend;
 use vz_pixels::Pixel;
 
-/// A colour laid on another by a mode: over it, in its place, or as a mask of it.
+/// The result of a blend mode: the colour over the one below, in its place, or as a mask of it.
 #[tactic(auto, unfolding(vz_frame::specs::Blending::blend))]
 fn blend(mode: Blend, colour: Pixel, under: Pixel) -> Pixel
     ensures { result ≡ blend mode colour under }
@@ -17,7 +17,7 @@ fn blend(mode: Blend, colour: Pixel, under: Pixel) -> Pixel
     }
 }
 
-/// A colour scaled by an opacity and then laid on another by a mode.
+/// The result of a colour that is scaled by an opacity and then blended by a mode.
 #[tactic(auto, unfolding(vz_frame::specs::Blending::laid))]
 pub(crate) fn laid(mode: Blend, colour: Pixel, opacity: u8, under: Pixel) -> Pixel
     ensures { result ≡ laid mode colour opacity under }

@@ -1,7 +1,7 @@
 //! The plain painter: the colour at each point of the display, by the definitions.
 //!
-//! Each function is the definition of the same name over the frames of a scene. It takes no
-//! memory but for a picture: the path through surfaces stands on the stack.
+//! Each function is the definition of the same name over the frames of a scene. Only a whole
+//! picture allocates; the path through surfaces is on the call stack.
 #![tactic(auto)]
 
 mod blending;

@@ -20,8 +20,7 @@ use vz_ids::{SurfaceId, SurfaceRange};
 use vz_pixels::Pixel;
 use vz_scene::{ActiveFrames, LEVELS, SubmittedFrame};
 
-/// A painter in the frame of a frame, behind the surfaces of a path and with so many
-/// surfaces left.
+/// A painter inside one frame, with the surfaces on the path and how many more it may have.
 #[derive(Drop)]
 struct Painter<'b, 'i, 'a> {
     active: &'b ActiveFrames<'i, 'a>,
@@ -57,7 +56,8 @@ fn is_inside(submitted: &SubmittedFrame<'_>, point: Point) -> bool
     }
 }
 
-/// Whether the content is absent: outside the size of the range's end.
+/// Whether the shown surface has no content at a point: it is the end of the range, and the point
+/// is outside its size.
 #[tactic(auto, unfolding(vz_rules::specs::Paint::is_absent))]
 fn is_absent(range: &SurfaceRange, submitted: &SubmittedFrame<'_>, point: Point) -> bool
     ensures { result ≡ is_absent range.now submitted.now point }
@@ -65,7 +65,7 @@ fn is_absent(range: &SurfaceRange, submitted: &SubmittedFrame<'_>, point: Point)
     !is_inside(submitted, point) && submitted.id() == range.end
 }
 
-/// Whether a colour is laid as it is: over another, at the full opacity.
+/// Whether a colour is drawn directly: with the mode over and full opacity.
 fn is_straight(mode: Blend, opacity: u8) -> bool
     ensures { result ≡ is_straight mode opacity }
 {
@@ -76,7 +76,7 @@ fn is_straight(mode: Blend, opacity: u8) -> bool
     }
 }
 
-/// Whether the clip has a point, or there is none.
+/// Whether the clip contains a point, or there is no clip.
 fn is_in_clip(clip: &Option<Rect>, point: Point) -> bool
     ensures { result ≡ in_clip clip.now point }
 {
@@ -86,7 +86,7 @@ fn is_in_clip(clip: &Option<Rect>, point: Point) -> bool
     }
 }
 
-/// The point counted from the first point of a quad's rectangle, where the quad covers it.
+/// The point relative to the top left point of a quad's rectangle, if the quad covers it.
 #[tactic(auto, unfolding(vz_rules::specs::Paint::covers))]
 fn point_of(pass: &RenderPass, quad: &DrawQuad, point: Point) -> Option<Point>
     ensures { MatchOption result (covers pass.now quad.now point ≡ false)
@@ -102,8 +102,8 @@ fn point_of(pass: &RenderPass, quad: &DrawQuad, point: Point) -> Option<Point>
     }
 }
 
-/// What a surface leaves at its point on the colour under it, behind the surfaces of a path
-/// and with so many surfaces left.
+/// What a surface leaves at a point of its own, on the colour below it, with the surfaces on the
+/// path and how many more it may have.
 #[tactic(auto, unfolding(vz_rules::specs::Paint::pix, vz_rules::specs::Paint::root_painted))]
 #[cycle(paint)]
 pub(crate) fn pix<'a>(
@@ -136,7 +136,7 @@ pub(crate) fn pix<'a>(
 }
 
 impl<'b, 'i, 'a> Painter<'b, 'i, 'a> {
-    /// A pass at a point on the colour under it, over the earlier passes.
+    /// What a pass leaves at a point, on the colour below it. `earlier` has the passes before it.
     #[tactic(auto, unfolding(vz_rules::specs::Paint::pass_painted, vz_rules::specs::Paint::quads_painted))]
     #[cycle(paint)]
     fn pass(&self, earlier: &[RenderPass], pass: &RenderPass, point: Point, under: Pixel) -> Pixel
@@ -152,8 +152,8 @@ impl<'b, 'i, 'a> Painter<'b, 'i, 'a> {
         colour
     }
 
-    /// A quad at a point of its pass on the colour under it, which stays where the quad does
-    /// not cover the point.
+    /// What a quad leaves at a point of its pass, on the colour below it. If the quad does not
+    /// cover the point, the colour does not change.
     #[cycle(paint)]
     fn quad(
         &self,
@@ -174,8 +174,9 @@ impl<'b, 'i, 'a> Painter<'b, 'i, 'a> {
         }
     }
 
-    /// A quad that covers a point of its pass, on the colour under it. Conditions: the local
-    /// point is counted from the first point of the quad's rectangle, and close.
+    /// What a quad leaves that covers a point of its pass, on the colour below it. Conditions:
+    /// the local point is relative to the top left point of the quad's rectangle, and is close to
+    /// it.
     #[tactic(auto, unfolding(vz_rules::specs::Paint::material_painted))]
     #[cycle(paint)]
     fn material(
@@ -205,7 +206,7 @@ impl<'b, 'i, 'a> Painter<'b, 'i, 'a> {
         }
     }
 
-    /// What the pass of an id does, over the earlier ones. Condition: the point is close.
+    /// What an earlier pass with an id leaves. Condition: the point is close.
     #[tactic(auto, unfolding(vz_rules::specs::Paint::groups))]
     #[cycle(paint)]
     fn named(
@@ -233,8 +234,8 @@ impl<'b, 'i, 'a> Painter<'b, 'i, 'a> {
         }
     }
 
-    /// A pass as a group: painted on transparent, scaled and laid, and nothing outside its
-    /// output.
+    /// What a pass leaves as a group: it is painted on transparent, scaled by the opacity and
+    /// then blended. Outside its output it leaves nothing.
     #[tactic(auto, unfolding(vz_rules::specs::Paint::group_laid))]
     #[cycle(paint)]
     fn group(
@@ -256,7 +257,7 @@ impl<'b, 'i, 'a> Painter<'b, 'i, 'a> {
         }
     }
 
-    /// What a range does: nothing where the surface that it shows is on the path.
+    /// What the surface that a range shows leaves; nothing if that surface is on the path.
     #[tactic(auto, unfolding(vz_rules::specs::Paint::embeds))]
     #[cycle(paint)]
     fn range(
@@ -282,7 +283,8 @@ impl<'b, 'i, 'a> Painter<'b, 'i, 'a> {
         }
     }
 
-    /// The content of a shown surface: straight, or on transparent, scaled and laid.
+    /// What the content of a shown surface leaves: it is drawn directly, or painted on
+    /// transparent, scaled and blended.
     #[tactic(auto, unfolding(vz_rules::specs::Paint::content_laid))]
     #[cycle(paint)]
     fn shown(
@@ -305,8 +307,8 @@ impl<'b, 'i, 'a> Painter<'b, 'i, 'a> {
         }
     }
 
-    /// The content of a shown surface at a point: its root pass inside its size, and outside
-    /// the background.
+    /// The content of a shown surface at a point: its root pass inside its size, and the
+    /// background colour outside.
     #[tactic(auto, unfolding(vz_rules::specs::Paint::content_at))]
     #[cycle(paint)]
     fn content(
@@ -326,7 +328,7 @@ impl<'b, 'i, 'a> Painter<'b, 'i, 'a> {
     }
 }
 
-/// The colour at a point of the display, black where nothing can be seen.
+/// The colour at a point of the display; black if nothing can be seen there.
 #[tactic(auto, unfolding(vz_rules::specs::Paint::full, vz_rules::specs::Paint::levels))]
 pub(crate) fn full(active: &ActiveFrames<'_, '_>, root: &SurfaceId, point: Point) -> Pixel
     ensures { result ≡ full (record { root = root.now; active = active.now }) point }

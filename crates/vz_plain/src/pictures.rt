@@ -16,7 +16,7 @@ use vz_ids::SurfaceId;
 use vz_pixels::Pixel;
 use vz_scene::{ActiveFrames, SubmittedFrame};
 
-/// The point of a column and a row. Condition: both are a display's.
+/// The point in a column and a row. Condition: both are within the limits of a display.
 fn point_at(x: u32, y: u32) -> Point
     requires across { x ≤ GREATEST_DISPLAY_SIDE }
     requires down { y ≤ GREATEST_DISPLAY_SIDE }
@@ -28,7 +28,7 @@ fn point_at(x: u32, y: u32) -> Point
     }
 }
 
-/// The colour at a point of the display, black where there is no root.
+/// The colour at a point of the display; black if there is no root.
 fn colour_at(active: &ActiveFrames<'_, '_>, root: &Option<SurfaceId>, p: Point) -> Pixel
     ensures { result ≡ colour_of active.now root.now p }
 {
@@ -38,8 +38,7 @@ fn colour_at(active: &ActiveFrames<'_, '_>, root: &Option<SurfaceId>, p: Point) 
     }
 }
 
-/// The colours of a row are put behind others, from the first column on. Condition: it is a
-/// row of a display.
+/// Appends the colours of a row, from column 0. Condition: it is a row of a display.
 pub(crate) fn row(
     active: &ActiveFrames<'_, '_>,
     root: &Option<SurfaceId>,
@@ -58,7 +57,7 @@ pub(crate) fn row(
     Ok(())
 }
 
-/// The colours of all points, row by row. Condition: the size is a display's.
+/// The colours of all points, row by row from the top. Condition: the size is that of a display.
 #[tactic(auto, unfolding(vz_geom::specs::Rectangle::points_of))]
 fn rows(
     alloc: Global,
@@ -78,8 +77,8 @@ fn rows(
     Ok(colours)
 }
 
-/// The picture of what can be seen of active frames and a root, all black where nothing can
-/// be. Condition: the size is a display's.
+/// The picture of these active frames and root, row by row from the top; all black if nothing can
+/// be seen. Condition: the size is that of a display.
 pub fn picture(
     alloc: Global,
     active: &[SubmittedFrame<'_>],

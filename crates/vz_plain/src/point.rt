@@ -1,4 +1,4 @@
-//! Points of passes, quads and surfaces. No sum leaves the range of its numbers.
+//! Points of passes, quads and surfaces. No sum overflows.
 ghost use Rattle.std.specs.Prelude.{◌≡◌, ◌-ℤ◌, FitsSigned, SomeIff, MatchOption, true, false};
 ghost use Rattle.std.specs.Int.{w32};
 ghost use Rattle.vz_geom.specs.Rectangle.{has, plus, minus, corner, IsNear};
@@ -6,7 +6,7 @@ ghost use Rattle.vz_plain.specs.Points.{IsClose};
 
 use vz_geom::{Point, Rect};
 
-/// A point moved back by an offset, where the numbers have 32 bits.
+/// A point moved back by an offset, or None if that does not fit 32 bits.
 fn moved_back(point: Point, by: Point) -> Option<Point>
     ensures { SomeIff result (FitsSigned w32 (point.x -ℤ by.x) × FitsSigned w32 (point.y -ℤ by.y))
         (minus point by) }
@@ -20,7 +20,7 @@ fn moved_back(point: Point, by: Point) -> Option<Point>
     }
 }
 
-/// The point moved back by an offset, where a rectangle has it.
+/// The point moved back by an offset, if the rectangle contains it.
 pub(crate) fn found_in(r: &Rect, q: Point, by: Point) -> Option<Point>
     ensures { MatchOption result (has r.now (minus q by) ≡ false)
         (λ p. (has r.now (minus q by) ≡ true) × (p ≡ minus q by) × IsNear p) }
@@ -32,7 +32,7 @@ pub(crate) fn found_in(r: &Rect, q: Point, by: Point) -> Option<Point>
     }
 }
 
-/// The first point of a rectangle. That it is near is told by the test for points.
+/// The top left point of a rectangle. The test for points shows that it is near.
 fn corner(r: &Rect) -> Point
     ensures value { result ≡ corner r.now }
     ensures near { IsNear result }
@@ -41,7 +41,7 @@ fn corner(r: &Rect) -> Point
     Point { x: r.x(), y: r.y() }
 }
 
-/// A point counted from the first point of a rectangle. Condition: it is near.
+/// A point relative to the top left point of a rectangle. Condition: it is near.
 pub(crate) fn from_corner(p: Point, r: &Rect) -> Point
     requires { IsNear p }
     ensures value { result ≡ minus p (corner r.now) }
@@ -54,7 +54,7 @@ pub(crate) fn from_corner(p: Point, r: &Rect) -> Point
     }
 }
 
-/// A point of a rectangle that is counted from its first point. Condition: it is close.
+/// The point of a rectangle from one relative to its top left point. Condition: it is close.
 pub(crate) fn in_rectangle(p: Point, r: &Rect) -> Point
     requires { IsClose p }
     ensures { result ≡ plus p (corner r.now) }

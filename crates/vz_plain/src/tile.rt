@@ -10,7 +10,7 @@ use vz_geom::Point;
 use vz_pixels::{Pixel, PixelBlock};
 use vz_scene::SubmittedFrame;
 
-/// The block of a listed resource.
+/// The pixel block of a listed resource.
 fn block_of<'a>(id: u32, listings: &[Listing], blocks: &[&'a PixelBlock]) -> Option<&'a PixelBlock>
     ensures { option_copied result ≡ block_of id listings.now (map (λ b. b.now) blocks.now) }
 {
@@ -27,7 +27,7 @@ fn block_of<'a>(id: u32, listings: &[Listing], blocks: &[&'a PixelBlock]) -> Opt
     }
 }
 
-/// The pixel at a place, transparent where there is none.
+/// The pixel at a place, or transparent if there is none.
 fn pixel_at(pixels: &[Pixel], k: usize) -> Pixel
     ensures { result ≡ get_or pixels.now k transparent }
 {
@@ -38,7 +38,7 @@ fn pixel_at(pixels: &[Pixel], k: usize) -> Pixel
     }
 }
 
-/// The colour of a block at a point, transparent outside it.
+/// The colour of a block at a point, or transparent outside the block.
 #[tactic(auto, unfolding(vz_pixels::specs::Block::texel))]
 fn texel_of(block: Option<&PixelBlock>, p: Point) -> Pixel
     ensures { result ≡ texel_of (option_copied block.entry) p }
@@ -58,8 +58,8 @@ fn texel_of(block: Option<&PixelBlock>, p: Point) -> Pixel
     }
 }
 
-/// The colour of a tile whose texel (tx, ty) stands at the first point. Condition: the point
-/// is close.
+/// The colour of a tile whose texel (tx, ty) is at the top left point. Condition: the point is
+/// close.
 #[tactic(auto, unfolding(vz_rules::specs::Paint::tile_colour))]
 pub(crate) fn tile_colour(
     submitted: &SubmittedFrame<'_>,

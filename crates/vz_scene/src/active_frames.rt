@@ -1,4 +1,4 @@
-//! The active frames by groups, so that what a range shows is found soon.
+//! The active frames by groups, so that the frame that a range shows is found fast.
 ghost use Rattle.std.specs.Prelude.{◌≡◌, ◌++◌, ◌∷◌, [], cond, filter, None, IfOk, OnOk};
 ghost use Rattle.std.specs.BTreeMap.{get};
 ghost use Rattle.std.specs.Ordering.{is_eq};
@@ -19,9 +19,9 @@ use std::collections::BTreeMap;
 use std::marker::Model;
 use vz_ids::{SurfaceId, SurfaceRange};
 
-/// The active frames, in the order of acceptance, and beside it by groups. A range is looked up
-/// in its group by halving where each frame is newer than the one before it, as those of a
-/// client are, and else among all.
+/// The active frames in the order of acceptance, and an index of them by group. A group is
+/// searched by halves if each of its frames is newer than the one before it, as it is for those
+/// that a client made. Otherwise all frames are looked at.
 #[derive(Drop)]
 pub struct ActiveFrames<'b, 'a> {
     all: &'b [SubmittedFrame<'a>],
@@ -40,7 +40,7 @@ impl<'b, 'a> Model for ActiveFrames<'b, 'a> {
     ghost invariant = { λ i. HasGroups i.groups i.all.now };
 }
 
-/// The frames of a group are taken out, none where it has none.
+/// Takes the frames of a group out of the index. They are none if the group is not there.
 fn take_group<'b, 'a>(
     alloc: Global,
     groups: &mut BTreeMap<GroupKey, Group<'b, 'a>>,
@@ -56,7 +56,7 @@ fn take_group<'b, 'a>(
     }
 }
 
-/// A frame is added to its group.
+/// Adds a frame to its group.
 fn add<'b, 'a>(
     alloc: Global,
     groups: &mut BTreeMap<GroupKey, Group<'b, 'a>>,
@@ -87,7 +87,7 @@ fn groups_of<'b, 'a>(
     Ok(groups)
 }
 
-/// What was found, if it is on this surface.
+/// The frame that was found, if it is on this surface.
 fn only_on<'b, 'a>(
     found: Option<&'b SubmittedFrame<'a>>,
     id: &SurfaceId,
@@ -107,7 +107,7 @@ fn only_on<'b, 'a>(
     }
 }
 
-/// What was found, if it is on a surface of the range's own group.
+/// The frame that was found, if it is on a surface of the range's own group.
 fn only_in<'b, 'a>(
     found: Option<&'b SubmittedFrame<'a>>,
     range: &SurfaceRange,
@@ -126,7 +126,8 @@ fn only_in<'b, 'a>(
     }
 }
 
-/// What was found, if it is on a surface of the group of the range's start, which is another one.
+/// The frame that was found, if it is on a surface of the group of the range's start and that is
+/// another group.
 fn only_after<'b, 'a>(
     found: Option<&'b SubmittedFrame<'a>>,
     range: &SurfaceRange,
@@ -147,7 +148,7 @@ fn only_after<'b, 'a>(
 }
 
 impl<'b, 'a> ActiveFrames<'b, 'a> {
-    /// These frames.
+    /// Makes the index of these frames, which are in the order of acceptance.
     pub fn new(
         alloc: Global,
         all: &'b [SubmittedFrame<'a>],
@@ -158,14 +159,14 @@ impl<'b, 'a> ActiveFrames<'b, 'a> {
         Ok(ActiveFrames { all, groups })
     }
 
-    /// All of them, in order.
+    /// All frames, in the order of acceptance.
     pub fn as_slice(&self) -> &'b [SubmittedFrame<'a>]
         ensures { result.now ≡ self.now }
     {
         self.all
     }
 
-    /// The frame on a surface.
+    /// The frame on a surface, or None if the surface has no active frame.
     pub fn frame_on(&self, id: &SurfaceId) -> Option<&'b SubmittedFrame<'a>>
         ensures { option_copied result ≡ frame_on id.now self.now }
     {
@@ -181,7 +182,7 @@ impl<'b, 'a> ActiveFrames<'b, 'a> {
         }
     }
 
-    /// The newest frame of the range's own group.
+    /// The newest frame that is in the range and in the group of its end, or None.
     fn newest_in(&self, range: &SurfaceRange) -> Option<&'b SubmittedFrame<'a>>
         ensures { option_copied result ≡ newest (filter (in_range range.now) self.now) }
     {
@@ -197,7 +198,7 @@ impl<'b, 'a> ActiveFrames<'b, 'a> {
         }
     }
 
-    /// The newest frame of the group of the range's start.
+    /// The newest frame in the group of the range's start, if that is another group, or None.
     fn newest_after(&self, range: &SurfaceRange) -> Option<&'b SubmittedFrame<'a>>
         ensures { option_copied result
             ≡ newest (filter (after_start range.now.start range.now.end) self.now) }
@@ -217,7 +218,7 @@ impl<'b, 'a> ActiveFrames<'b, 'a> {
         }
     }
 
-    /// The frame of the surface that a range shows.
+    /// The frame of the surface that a range shows, or None if it shows none.
     #[tactic(auto, unfolding(vz_rules::specs::Scene::shown_frame))]
     pub fn shown_frame(&self, range: &SurfaceRange) -> Option<&'b SubmittedFrame<'a>>
         ensures { option_copied result ≡ shown_frame self.now range.now }

@@ -1,12 +1,12 @@
-//! What is remembered of an aggregation.
+//! What the machine remembers of an aggregation.
 ghost use Rattle.std.specs.Prelude.{◌≡◌, IfOk};
 
 use std::alloc::{AllocError, Global};
 use std::marker::Model;
 use vz_ids::{SurfaceId, SurfaceRange};
 
-/// What is remembered of the last aggregation: the root, the number of each frame that was
-/// active, and what each range that the walk met showed.
+/// What the machine remembers of the last aggregation: the root, the number of each frame that
+/// was active, and the surface that each range shown in the walk led to.
 #[derive(Drop)]
 pub struct Aggregation {
     pub(crate) root: SurfaceId,
@@ -23,7 +23,7 @@ impl Model for Aggregation {
 }
 
 impl Aggregation {
-    /// The same one.
+    /// Makes a copy.
     pub fn copy(&self, alloc: Global) -> Result<Aggregation, AllocError>
         ensures { IfOk result (λ a. a ≡ self.now) }
     {

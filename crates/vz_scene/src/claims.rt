@@ -1,4 +1,4 @@
-//! The claims of a drawing: where something may have changed.
+//! The claims of a draw: the places where something may have changed.
 ghost use Rattle.std.specs.Prelude.{◌≡◌, ◌++◌, IfOk, OnOk};
 ghost use Rattle.std.specs.List.{flat_map};
 ghost use Rattle.std.specs.Option.{option_to_list};
@@ -20,8 +20,8 @@ use std::collections::BTreeMap;
 use vz_geom::{Rect, Size};
 use vz_ids::SurfaceId;
 
-/// The damage on a frame's surface since the last aggregation. It is looked for once for each
-/// frame. Condition: what is known is right.
+/// The damage on a frame's surface since the last aggregation. It is computed once for each
+/// frame. Condition: the damages that are already known are right.
 fn known_damage(
     last: &Index<'_>,
     accepted: &[SubmittedFrame<'_>],
@@ -42,8 +42,8 @@ fn known_damage(
     Ok(damage)
 }
 
-/// The part of a damage on a frame's surface that is seen at a place. Condition: it is the one
-/// since the last aggregation.
+/// The part of a surface's damage that is seen at a place. Condition: it is the damage since the
+/// last aggregation.
 fn seen_damage(damage: &Rect, submitted: &SubmittedFrame<'_>, place: &Place) -> Rect
     requires { IsInReach damage.now }
     ensures { result ≡ seen_damage damage.now submitted.now place.now }
@@ -53,7 +53,7 @@ fn seen_damage(damage: &Rect, submitted: &SubmittedFrame<'_>, place: &Place) -> 
     window.intersect(&moved(damage, place.shift))
 }
 
-/// What a visit claims, if anything. Condition: what is known is right.
+/// What one visit of the walk claims, if anything. Condition: the known damages are right.
 #[tactic(auto, unfolding(vz_rules::specs::Damage::claims_of, vz_rules::specs::Damage::damage_at))]
 fn claim_of(
     last: &Index<'_>,
@@ -86,7 +86,7 @@ fn claim_of(
     }
 }
 
-/// A claim is added, if there is one.
+/// Appends a claim, if there is one.
 fn add_claim(all: &mut Vec<Rect>, claim: Option<Rect>) -> Result<(), AllocError>
     ensures { OnOk result (all.new.items ≡ all.old.items ++ option_to_list claim) }
 {
@@ -99,7 +99,7 @@ fn add_claim(all: &mut Vec<Rect>, claim: Option<Rect>) -> Result<(), AllocError>
     }
 }
 
-/// What visits claim.
+/// What all visits claim.
 fn all_claims(
     alloc: Global,
     last: &Aggregation,
@@ -118,8 +118,8 @@ fn all_claims(
     Ok(all)
 }
 
-/// The claims of a walk: the whole display where nothing is remembered, or another root.
-/// Condition: the size is a display's.
+/// The claims of a walk. The whole display is claimed if there was no aggregation before or it
+/// had another root. Condition: the size is that of a display.
 #[tactic(auto, unfolding(vz_rules::specs::Damage::claims))]
 fn claims(
     alloc: Global,
@@ -144,7 +144,8 @@ fn claims(
     }
 }
 
-/// The smallest rectangle round the claims. Condition: the size is a display's.
+/// The damage of a draw: the smallest rectangle around all claims. Condition: the size is that of
+/// a display.
 #[tactic(auto, unfolding(vz_rules::specs::Damage::drawn_damage))]
 pub fn drawn_damage(
     alloc: Global,

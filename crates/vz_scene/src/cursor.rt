@@ -1,4 +1,4 @@
-//! Cursors of the walk: quads that are still to be walked.
+//! Cursors of the walk: the quads that are still to be visited.
 ghost use Rattle.std.specs.Prelude.{◌≡◌, ◌≤◌, ◌<◌, ◌^◌, length, List, ◌+◌, ◌++◌, ◌∷◌, []};
 ghost use Rattle.std.specs.Prelude.{false, take, reverse, IsSome, IfSome, IfOk, OnOk, MatchOption};
 ghost use Rattle.std.specs.Arc.{arc_value};
@@ -20,9 +20,9 @@ use std::sync::Arc;
 use vz_frame::{DrawQuad, Material, RenderPass};
 use vz_ids::{SurfaceId, SurfaceRange};
 
-/// Quads that are still to be walked: in the pass at a place of a submitted frame, from a quad
-/// on, behind the surfaces of a path and with so many surfaces left. The place has room for
-/// all passes that may still be gone into.
+/// The quads of a pass that are still to be visited, from one quad on. It knows the submitted
+/// frame, the place of the pass in it, the surfaces on the path, and how many more surfaces the
+/// path may have. The place has room for all passes that the walk may still enter.
 #[derive(Drop)]
 pub(crate) struct Cursor<'b, 'a> {
     levels: u32,
@@ -51,7 +51,7 @@ impl<'b, 'a> Model for Cursor<'b, 'a> {
     ghost invariant = { λ c. IsBounded c.levels c.submitted.now c.pass c.place };
 }
 
-/// The pass of an id before a place, the last one.
+/// The last pass with an id among those before a place.
 fn pass_of(passes: &[RenderPass], before: usize, id: u32) -> Option<usize>
     requires { before ≤ length passes.now }
     ensures found { (ranges : WalkRange) (place : Placement)
@@ -69,7 +69,7 @@ fn pass_of(passes: &[RenderPass], before: usize, id: u32) -> Option<usize>
     None
 }
 
-/// A path with a surface in front.
+/// A path with one more surface in front.
 fn behind(
     alloc: Global,
     id: SurfaceId,
@@ -93,8 +93,8 @@ fn is_on_path(path: &[SurfaceId], submitted: &SubmittedFrame<'_>) -> bool
     path.iter().any(|id| submitted.id == *id)
 }
 
-/// What is to be walked in a surface, behind the surfaces of a path and with so many left.
-/// Condition: the place has room for the passes of all of them.
+/// The cursor for the root pass of a surface, with the surfaces on the path and how many more it
+/// may have. Condition: the place has room for the passes of all of them.
 pub(crate) fn enter<'b, 'a>(
     alloc: Global,
     levels: u32,
@@ -144,7 +144,7 @@ impl<'b, 'a> Cursor<'b, 'a> {
         }
     }
 
-    /// The cursor goes on to the next quad. Condition: there are numbers left.
+    /// Moves to the next quad. Condition: the count does not overflow.
     pub(crate) fn go_on(&mut self)
         requires { self.old.quad + 1 < 2 ^ 64 }
         ensures { self.new ≡ next_cursor self.old }
@@ -152,8 +152,8 @@ impl<'b, 'a> Cursor<'b, 'a> {
         self.quad += 1;
     }
 
-    /// The place of what a quad of its pass draws: it has room for the earlier passes and all
-    /// surfaces that are left. Conditions: the pass and the quad are in reach.
+    /// The place of what a quad of this pass draws, with room for the earlier passes and all
+    /// surfaces that are left. Conditions: the pass and the quad are within the limits.
     fn place_of(&self, pass: &RenderPass, quad: &DrawQuad) -> Place
         requires pass { IsPassInReach pass.now }
         requires quad { IsQuadInReach quad.now }
@@ -163,8 +163,8 @@ impl<'b, 'a> Cursor<'b, 'a> {
         self.place.place_in(pass, quad)
     }
 
-    /// What is to be walked in a pass of an id before the cursor's, seen as a group from a place.
-    /// Condition: the place has room for the earlier passes and all surfaces that are left.
+    /// The cursor for an earlier pass with an id, drawn as a group at a place. Condition: the
+    /// place has room for the earlier passes and all surfaces that are left.
     fn group(&self, id: u32, place: &Place) -> Result<Option<Cursor<'b, 'a>>, AllocError>
         requires { HasRoom (room_for self.now.levels self.now.pass + coordinates 1) place.now.shift }
         ensures { (active : List FrameData)
@@ -187,8 +187,8 @@ impl<'b, 'a> Cursor<'b, 'a> {
         }
     }
 
-    /// A range is met. The answer is what is to be walked in the surface that it shows.
-    /// Condition: the place has room for all surfaces that are left.
+    /// Visits a range, and returns the cursor for the surface that it shows. Condition: the place
+    /// has room for all surfaces that are left.
     fn range(
         &self,
         alloc: Global,
@@ -217,8 +217,8 @@ impl<'b, 'a> Cursor<'b, 'a> {
         }
     }
 
-    /// A quad is met. The answer is what is to be walked in what it draws. Conditions: it was not
-    /// too much before, and the pass and the quad are in reach.
+    /// Visits a quad, and returns the cursor for what it draws. Conditions: the limit was not
+    /// passed before, and the pass and the quad are within the limits.
     pub(crate) fn quad(
         &self,
         alloc: Global,

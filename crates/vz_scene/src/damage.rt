@@ -1,4 +1,4 @@
-//! The damage on a surface since the last aggregation, and what is remembered for the next.
+//! The damage on a surface since the last aggregation, and what is remembered for the next one.
 ghost use Rattle.std.specs.Prelude.{◌≡◌, map, filter, [], false, IsTrue, IfOk};
 ghost use Rattle.vz_frame.specs.Fits.{fits_rect};
 ghost use Rattle.std.specs.List.{list_any, filter_map};
@@ -26,7 +26,7 @@ use std::collections::BTreeSet;
 use vz_geom::Rect;
 use vz_ids::{Sub, SurfaceId, SurfaceRange};
 
-/// A rectangle of the same sides at the origin. Condition: it is one of a frame that fits.
+/// A rectangle of this size at the origin. Condition: it is one of a frame that fits a file.
 fn at_origin(r: &Rect) -> Rect
     requires { IsTrue (fits_rect r.now) }
     ensures value { result ≡ sized (record { w = r.now.w; h = r.now.h }) }
@@ -35,7 +35,7 @@ fn at_origin(r: &Rect) -> Rect
     Rect::new(0, 0, r.w(), r.h())
 }
 
-/// The rectangle of the size of a submitted frame.
+/// The rectangle of the size of a submitted frame, at the origin.
 pub(crate) fn frame_rect(submitted: &SubmittedFrame<'_>) -> Rect
     ensures value { result ≡ sized (frame_size submitted.now.frame) }
     ensures reach { IsInReach result }
@@ -57,7 +57,7 @@ fn root_damage(submitted: &SubmittedFrame<'_>) -> Rect
     }
 }
 
-/// The smallest rectangle round some.
+/// The smallest rectangle around all of these.
 #[tactic(auto, using(std::proofs::lemmas::List::drop_all), unfolding(vz_geom::specs::Rectangle::bound))]
 pub(crate) fn bound(rects: &[Rect]) -> Rect
     ensures { result ≡ bound rects.now }
@@ -72,8 +72,8 @@ pub(crate) fn bound(rects: &[Rect]) -> Rect
 }
 
 impl<'a> SubmittedFrame<'a> {
-    /// Whether it is on the surface of another with a number above the first and up to that of
-    /// the other.
+    /// Whether a submission is on the surface of another, and its number there is greater than
+    /// `from` and not greater than that of the other.
     fn is_between(&self, from: u32, other: &SubmittedFrame<'_>) -> bool
         ensures { result ≡ is_between from other.now self.now }
     {
@@ -81,7 +81,7 @@ impl<'a> SubmittedFrame<'a> {
     }
 }
 
-/// The rectangle round the damages on a frame's surface since the last aggregation.
+/// The smallest rectangle around the damages on a frame's surface since the last aggregation.
 #[tactic(auto, unfolding(vz_rules::specs::Damage::damage_since))]
 pub(crate) fn damage_since(
     last: &Index<'_>,
@@ -105,7 +105,7 @@ pub(crate) fn damage_since(
 }
 
 impl<'b, 'a> Visit<'b, 'a> {
-    /// The submission on the surface that the walk goes into, if it does.
+    /// The submission on the surface that this visit enters, if it enters one.
     fn entered(&self) -> Option<Sub>
         ensures { (i : FrameData)
             → goes_into i self.now ≡ option_map_or (same_sub i.sub) result false }
@@ -117,7 +117,7 @@ impl<'b, 'a> Visit<'b, 'a> {
         }
     }
 
-    /// A range that the walk met, and the surface that it showed.
+    /// The range that this visit met, and the surface that the range showed.
     fn shown_range(&self) -> Option<(SurfaceRange, Option<SurfaceId>)>
         ensures { result ≡ shown_range self.now }
     {
@@ -132,7 +132,7 @@ impl<'b, 'a> Visit<'b, 'a> {
     }
 }
 
-/// The submissions on the surfaces that the walk goes into.
+/// The submissions on the surfaces that the walk enters.
 fn entered_subs(alloc: Global, visits: &[Visit<'_, '_>]) -> Result<BTreeSet<Sub>, AllocError>
     ensures { IfOk result
         (λ s. (i : FrameData) → contains by_sub s i.sub ≡ list_any (goes_into i) visits.now) }
@@ -147,7 +147,7 @@ fn entered_subs(alloc: Global, visits: &[Visit<'_, '_>]) -> Result<BTreeSet<Sub>
     Ok(subs)
 }
 
-/// Those of some frames that a set has.
+/// The frames that are in a set.
 fn subs_in(
     alloc: Global,
     active: &[SubmittedFrame<'_>],
@@ -164,7 +164,7 @@ fn subs_in(
         .collect(alloc)
 }
 
-/// The active submissions of the surfaces walked, each once.
+/// The active submissions of the surfaces walked, each once, in the order of acceptance.
 pub fn walked_subs(
     alloc: Global,
     active: &[SubmittedFrame<'_>],
@@ -178,7 +178,7 @@ pub fn walked_subs(
     Ok(subs_in(alloc, active, &entered)?)
 }
 
-/// Each range once, with what it showed first.
+/// Each range once, with the surface that it showed first.
 fn each_once(
     alloc: Global,
     pairs: &[(SurfaceRange, Option<SurfaceId>)],
@@ -196,7 +196,7 @@ fn each_once(
     Ok(once)
 }
 
-/// The ranges that the walk met, and what they showed.
+/// The ranges that the walk met, each with the surface that it showed.
 fn shown_ranges(
     alloc: Global,
     visits: &[Visit<'_, '_>],
@@ -209,7 +209,7 @@ fn shown_ranges(
         .collect(alloc)
 }
 
-/// The number of each frame.
+/// The number of each active frame among those of its surface.
 fn indices(
     alloc: Global,
     active: &[SubmittedFrame<'_>],
@@ -222,7 +222,7 @@ fn indices(
         .collect(alloc)
 }
 
-/// What is remembered of a scene and the walk through it.
+/// What is remembered of a scene and the walk through it, for the next aggregation.
 #[tactic(auto, unfolding(vz_rules::specs::Damage::aggregation_of))]
 pub fn remember(
     alloc: Global,

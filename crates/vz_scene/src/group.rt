@@ -1,4 +1,4 @@
-//! Frames of one group, of which the newest up to a surface is found soon.
+//! The frames of one group. The newest one up to a surface is found fast.
 ghost use Rattle.std.specs.Prelude.{◌≡◌, ◌++◌, ◌∷◌, [], ◌≤◌, length, true, false, IsTrue, OnOk};
 ghost use Rattle.std.specs.Option.{option_copied};
 ghost use Rattle.std.specs.List.Sorted.{IsPartitionPoint};
@@ -11,7 +11,7 @@ use std::alloc::{AllocError, Global};
 use std::marker::Model;
 use vz_ids::SurfaceId;
 
-/// Frames of one group, and whether each is on a newer surface than the one before it.
+/// The frames of one group, and whether each is on a newer surface than the one before it.
 #[derive(Drop)]
 pub(crate) struct Group<'b, 'a> {
     active: Vec<&'b SubmittedFrame<'a>>,
@@ -30,7 +30,7 @@ impl<'b, 'a> Model for Group<'b, 'a> {
     ghost invariant = { λ g. g.is_chain ≡ true → IsChain (map (λ i. i.now) g.active.items) };
 }
 
-/// Whether a frame is on a newer surface of another's group.
+/// Whether a frame is on a newer surface than the other one, in the same group.
 fn is_newer(submitted: &SubmittedFrame<'_>, other: &SubmittedFrame<'_>) -> bool
     ensures { result ≡ is_newer submitted.now other.now }
 {
@@ -38,7 +38,7 @@ fn is_newer(submitted: &SubmittedFrame<'_>, other: &SubmittedFrame<'_>) -> bool
 }
 
 impl<'b, 'a> Group<'b, 'a> {
-    /// No frame.
+    /// Creates a group without frames.
     pub(crate) fn new(alloc: Global) -> Group<'b, 'a>
         ensures { result ≡ [] }
     {
@@ -48,7 +48,7 @@ impl<'b, 'a> Group<'b, 'a> {
         }
     }
 
-    /// Whether this is a chain, also with a frame more at the end.
+    /// Whether the group is still a chain after this frame is appended.
     fn goes_on(&self, submitted: &SubmittedFrame<'_>) -> bool
         ensures { IsTrue result → IsChain (self.now ++ submitted.now ∷ []) }
     {
@@ -59,7 +59,7 @@ impl<'b, 'a> Group<'b, 'a> {
             }
     }
 
-    /// A frame is added at the end.
+    /// Appends a frame.
     pub(crate) fn add(&mut self, submitted: &'b SubmittedFrame<'a>) -> Result<(), AllocError>
         ensures { OnOk result (self.new ≡ self.old ++ submitted.now ∷ []) }
     {
@@ -76,7 +76,7 @@ impl<'b, 'a> Group<'b, 'a> {
         self.is_chain
     }
 
-    /// How many frames are up to a surface. Condition: this is a chain.
+    /// How many frames are on this surface or on an older one. Condition: the group is a chain.
     fn count_up_to(&self, end: &SurfaceId) -> usize
         requires { IsChain self.now }
         ensures bound { result ≤ length self.now }
@@ -87,7 +87,8 @@ impl<'b, 'a> Group<'b, 'a> {
             .partition_point(|submitted| is_at_least(end, &submitted.id))
     }
 
-    /// The frame on a surface, or else on the next older one. Condition: this is a chain.
+    /// The frame on a surface or, if there is none, on the next older one. Condition: the group
+    /// is a chain.
     pub(crate) fn newest_up_to(&self, end: &SurfaceId) -> Option<&'b SubmittedFrame<'a>>
         requires { IsChain self.now }
         ensures { FindsNewest (λ (i : FrameData). at_least end.now i.id) self.now
@@ -100,7 +101,7 @@ impl<'b, 'a> Group<'b, 'a> {
         Some(self.active[count - 1])
     }
 
-    /// The newest frame. Condition: this is a chain.
+    /// The newest frame. Condition: the group is a chain.
     pub(crate) fn newest(&self) -> Option<&'b SubmittedFrame<'a>>
         requires { IsChain self.now }
         ensures { FindsNewest (λ _. true) self.now (option_copied result) }

@@ -1,4 +1,4 @@
-//! The last aggregation with its surfaces and ranges in order, so that each is found soon.
+//! The last aggregation, with its surfaces and ranges sorted, so that each is found fast.
 ghost use Rattle.std.specs.Prelude.{◌≡◌, IfOk};
 ghost use Rattle.std.specs.Option.{option_copied};
 ghost use Rattle.vz_rules.specs.Damage.{index_in, shows_other, is_switched};
@@ -12,7 +12,8 @@ use std::collections::BTreeMap;
 use std::marker::Model;
 use vz_ids::{SurfaceId, SurfaceRange};
 
-/// The last aggregation, with the number of each surface and what each range showed by order.
+/// The last aggregation, with sorted maps of the number of each surface and of what each range
+/// showed.
 #[derive(Drop)]
 pub(crate) struct Index<'l> {
     last: &'l Aggregation,
@@ -31,7 +32,7 @@ impl<'l> Model for Index<'l> {
     ghost invariant = { λ i. HasNumbers i.numbers i.last.now.indices × HasShown i.shown i.last.now.ranges };
 }
 
-/// The number of each surface.
+/// The number of each surface's frame.
 fn numbers_of(
     alloc: Global,
     pairs: &[(SurfaceId, u32)],
@@ -65,7 +66,7 @@ fn shown_of(
     Ok(shown)
 }
 
-/// Whether a range showed nothing, or another surface than now.
+/// Whether a range showed nothing before, or another surface than now.
 fn shows_other(before: Option<SurfaceId>, now: Option<&SubmittedFrame<'_>>) -> bool
     ensures { result ≡ shows_other before (option_copied now.entry) }
 {
@@ -79,7 +80,7 @@ fn shows_other(before: Option<SurfaceId>, now: Option<&SubmittedFrame<'_>>) -> b
 }
 
 impl<'l> Index<'l> {
-    /// An aggregation in order.
+    /// Makes the sorted maps of an aggregation.
     pub(crate) fn new(alloc: Global, last: &'l Aggregation) -> Result<Index<'l>, AllocError>
         ensures { IfOk result (λ i. i ≡ last.now) }
     {
@@ -90,7 +91,8 @@ impl<'l> Index<'l> {
         })
     }
 
-    /// The number of the frame of a surface that was active, 0 where there was none.
+    /// The number of the frame that was active on this surface at the last aggregation, or 0 if
+    /// none was.
     pub(crate) fn index_in(&self, submitted: &SubmittedFrame<'_>) -> u32
         ensures { result ≡ index_in self.now submitted.now }
     {
@@ -100,7 +102,8 @@ impl<'l> Index<'l> {
         }
     }
 
-    /// Whether a range was not met, or showed nothing or another surface than now.
+    /// Whether a range was not met in the last aggregation, or showed nothing or another surface
+    /// than now.
     pub(crate) fn is_switched(&self, range: &SurfaceRange, now: Option<&SubmittedFrame<'_>>) -> bool
         ensures { result ≡ is_switched self.now range.now (option_copied now.entry) }
     {

@@ -1,4 +1,4 @@
-//! Ranges, groups and frames in an order, so that one is found among many.
+//! Sort keys for ranges, groups and frames.
 ghost use Rattle.std.specs.Prelude.{◌≡◌};
 ghost use Rattle.vz_scene.specs.Groups.{group_of};
 ghost use Rattle.vz_scene.specs.Order.{key_of, frame_key};
@@ -6,7 +6,7 @@ ghost use Rattle.vz_scene.specs.Order.{key_of, frame_key};
 use crate::submitted::SubmittedFrame;
 use vz_ids::{EmbedToken, FrameSinkId, SurfaceId, SurfaceRange};
 
-/// A range, by its start and its end.
+/// The key of a range: its start and its end.
 #[derive(Clone, Copy, Debug, PartialEq, Eq, PartialOrd, Ord)]
 pub(crate) struct RangeKey {
     start: Option<SurfaceId>,
@@ -23,7 +23,7 @@ pub(crate) fn key_of(range: &SurfaceRange) -> RangeKey
     }
 }
 
-/// A group of surfaces, by its sink and its token.
+/// The key of a group of surfaces: its sink and its token.
 #[derive(Clone, Copy, Debug, PartialEq, Eq, PartialOrd, Ord)]
 pub(crate) struct GroupKey {
     sink: FrameSinkId,
@@ -40,7 +40,7 @@ pub(crate) fn group_of(id: &SurfaceId) -> GroupKey
     }
 }
 
-/// A frame, by its surface and its number among those of the surface.
+/// The key of a frame: its surface and its number among the frames of that surface.
 #[derive(Clone, Copy, Debug, PartialEq, Eq, PartialOrd, Ord)]
 pub(crate) struct FrameKey {
     id: SurfaceId,

@@ -1,9 +1,10 @@
-//! What can be seen at a moment, and the walk through it.
+//! What can be seen at one moment, and the walk through it.
 //!
-//! A scene is the root and the frames that are active. The walk goes through it quad by quad,
-//! and stops where it meets too much. What changed since the last aggregation is claimed along
-//! the walk. Each call answers what the definitions of `vz_rules` say. The active frames stand by
-//! groups, and what an aggregation remembers in order, so that each is found soon among many.
+//! A scene is the root surface and the active frames. The walk goes through it quad by quad, and
+//! stops if it passes the limit on weight or depth. Along the walk it claims what changed since
+//! the last aggregation. Each call returns what the definitions of `vz_rules` say. The active
+//! frames are kept by group and an aggregation is kept sorted, so that each item is found fast
+//! among many.
 #![tactic(auto)]
 
 mod active_frames;

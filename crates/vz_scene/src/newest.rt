@@ -1,4 +1,5 @@
-//! The newest of some surfaces, so that it is found soon whether one is another or a newer one.
+//! The newest of some surfaces, so that it is found fast whether one of them is a given surface
+//! or a newer one of its group.
 ghost use Rattle.std.specs.Prelude.{◌≡◌, ◌||◌, ◌++◌, ◌∷◌, [], IfOk, OnOk, OnErr};
 ghost use Rattle.std.specs.Option.{option_copied};
 ghost use Rattle.vz_ids.specs.declared.SurfaceId.{SurfaceId as Surface};
@@ -12,8 +13,8 @@ use std::collections::BTreeMap;
 use std::marker::Model;
 use vz_ids::SurfaceId;
 
-/// Some surfaces, and the newest of them: one of each group, and beside it those that are
-/// neither newer nor older than it. A client's surfaces of one group are never such.
+/// Some surfaces, and the newest of them: one of each group, and in a list those that are neither
+/// newer nor older than it. A client's surfaces of one group never need that list.
 #[derive(Drop)]
 pub struct Newest {
     all: Vec<SurfaceId>,
@@ -33,7 +34,7 @@ impl Model for Newest {
     ghost invariant = { λ n. AreNewest n.groups n.others.items n.all.items };
 }
 
-/// A surface more is among the newest, where none of them is it or a newer one.
+/// Notes a surface as one of the newest, unless it or a newer one is noted already.
 fn put(
     groups: &mut BTreeMap<GroupKey, SurfaceId>,
     others: &mut Vec<SurfaceId>,
@@ -65,7 +66,7 @@ fn put(
 }
 
 impl Newest {
-    /// No surface.
+    /// Creates an empty set.
     pub fn new(alloc: Global) -> Newest
         ensures { result ≡ [] }
     {
@@ -76,14 +77,14 @@ impl Newest {
         }
     }
 
-    /// Whether one of them is this surface or a newer one of its group.
+    /// Whether one of the surfaces is `d` or a newer one of its group.
     pub fn has(&self, d: &SurfaceId) -> bool
         ensures { result ≡ is_reached self.now d.now }
     {
         is_at_least_in(self.groups.get(&group_of(d)), d) || is_one_at_least(&self.others, d)
     }
 
-    /// A surface more.
+    /// Adds a surface. The only error is a failed allocation.
     pub fn add(&mut self, id: &SurfaceId) -> Result<(), AllocError>
         ensures { OnOk result (self.new ≡ self.old ++ id.now ∷ []) }
     {
@@ -93,7 +94,7 @@ impl Newest {
         Ok(())
     }
 
-    /// These surfaces.
+    /// Makes the set of these surfaces. The only error is a failed allocation.
     pub fn of(alloc: Global, ids: &[SurfaceId]) -> Result<Newest, AllocError>
         ensures { IfOk result (λ n. n ≡ ids.now) }
     {
@@ -105,7 +106,7 @@ impl Newest {
     }
 }
 
-/// Whether there is a surface, and it is another or a newer one of its group.
+/// Whether a surface is given that is `d` or a newer one of its group.
 fn is_at_least_in(newest: Option<&SurfaceId>, d: &SurfaceId) -> bool
     ensures { result ≡ is_at_least_in (option_copied newest.entry) d.now }
 {
@@ -115,7 +116,7 @@ fn is_at_least_in(newest: Option<&SurfaceId>, d: &SurfaceId) -> bool
     }
 }
 
-/// Whether one of some surfaces is another or a newer one of its group.
+/// Whether one of these surfaces is `d` or a newer one of its group.
 fn is_one_at_least(ids: &[SurfaceId], d: &SurfaceId) -> bool
     ensures { result ≡ is_reached ids.now d.now }
 {

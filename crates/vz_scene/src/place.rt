@@ -1,4 +1,4 @@
-//! Where the walk stands on the display.
+//! Where the walk is on the display.
 ghost use Rattle.std.specs.Prelude.{◌≡◌};
 ghost use Rattle.vz_geom.specs.Rectangle.{plus, minus, corner, moved, sized, no_rectangle};
 ghost use Rattle.vz_geom.specs.Rectangle.{IsOffset};
@@ -11,8 +11,8 @@ use std::marker::Model;
 use vz_frame::{DrawQuad, RenderPass};
 use vz_geom::{Point, Rect, Size};
 
-/// Where a pass or a surface stands: what moves a point of it to the display, within 52,000,000
-/// either way, and the part of the display that the path leaves.
+/// Where a pass or a surface is on the display: the offset from its points to display pixels,
+/// within 52,000,000 either way, and the part of the display that the clips on the path leave.
 #[derive(Clone, Copy)]
 pub(crate) struct Place {
     pub(crate) shift: Point,
@@ -32,7 +32,7 @@ impl Model for Place {
     ghost inverse = { λ p. record { shift = p.shift; window = p.window } };
 }
 
-/// The rectangle without a point.
+/// The empty rectangle.
 #[tactic(auto, unfolding(vz_geom::specs::Rectangle::with_sides))]
 pub(crate) fn nothing() -> Rect
     ensures { result ≡ no_rectangle }
@@ -40,7 +40,7 @@ pub(crate) fn nothing() -> Rect
     Rect::new(0, 0, 0, 0)
 }
 
-/// The rectangle of the display. Condition: the size is a display's.
+/// The rectangle of the display. Condition: the size is that of a display.
 pub(crate) fn display_rect(size: Size) -> Rect
     requires { IsDisplaySize size }
     ensures { result ≡ sized size }
@@ -48,7 +48,7 @@ pub(crate) fn display_rect(size: Size) -> Rect
     Rect::new(0, 0, size.w, size.h)
 }
 
-/// The place of the root on the display. Condition: the size is a display's.
+/// The place of the root on the display. Condition: the size is that of a display.
 pub(crate) fn whole(size: Size) -> Place
     requires { IsDisplaySize size }
     ensures { result ≡ whole size }
@@ -71,14 +71,15 @@ fn plus(p: Point, by: Point) -> Point
     }
 }
 
-/// The first point of a rectangle.
+/// The top left point of a rectangle.
 fn corner(r: &Rect) -> Point
     ensures { result ≡ corner r.now }
 {
     Point { x: r.x(), y: r.y() }
 }
 
-/// A rectangle moved by an offset. Conditions: it is in reach, and so is the offset.
+/// A rectangle moved by an offset. Conditions: the rectangle and the offset are within the
+/// limits.
 pub(crate) fn moved(r: &Rect, by: Point) -> Rect
     requires reach { IsInReach r.now }
     requires room { HasRoom 0 by }
@@ -87,8 +88,8 @@ pub(crate) fn moved(r: &Rect, by: Point) -> Rect
     r.translate(by)
 }
 
-/// A rectangle inside the clip, where there is one. Conditions: the clip is in reach, and so
-/// is the offset by which it is moved.
+/// The part of a rectangle inside the clip, if there is a clip. Conditions: the clip and the
+/// offset by which it is moved are within the limits.
 fn cut(clip: &Option<Rect>, shift: Point, r: Rect) -> Rect
     requires reach { IsClipInReach clip.now }
     requires room { HasRoom 0 shift }
@@ -101,8 +102,8 @@ fn cut(clip: &Option<Rect>, shift: Point, r: Rect) -> Rect
 }
 
 impl Place {
-    /// The part of the display in which a quad is seen. Conditions: the pass and the quad are in
-    /// reach, and the place has room for the quad's offset.
+    /// The part of the display in which a quad is visible. Conditions: the pass and the quad are
+    /// within the limits, and the place has room for the quad's offset.
     #[tactic(auto, unfolding(vz_rules::specs::Walk::seen_part))]
     pub(crate) fn seen_part(&self, pass: &RenderPass, quad: &DrawQuad) -> Rect
         requires pass { IsPassInReach pass.now }
@@ -117,8 +118,8 @@ impl Place {
         window.intersect(&part)
     }
 
-    /// The place of what a quad draws. Conditions: the pass and the quad are in reach, and the
-    /// place has room for the quad's offset and the first point of its rectangle.
+    /// The place of what a quad draws. Conditions: the pass and the quad are within the limits,
+    /// and the place has room for the quad's offset and the top left point of its rectangle.
     pub(crate) fn place_in(&self, pass: &RenderPass, quad: &DrawQuad) -> Place
         requires pass { IsPassInReach pass.now }
         requires quad { IsQuadInReach quad.now }
@@ -132,8 +133,8 @@ impl Place {
         }
     }
 
-    /// The place counted from the first point of a pass. Conditions: the pass is in reach, and
-    /// the place has room for its first point.
+    /// The place of the top left point of a pass. Conditions: the pass is within the limits, and
+    /// the place has room for that point.
     pub(crate) fn inside(&self, pass: &RenderPass) -> Place
         requires pass { IsPassInReach pass.now }
         requires room { HasRoom (coordinates 1) self.now.shift }

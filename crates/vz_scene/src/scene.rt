@@ -1,4 +1,4 @@
-//! Frames that are on a surface or in a range, found by looking at each.
+//! A linear search for frames on a surface or in a range.
 ghost use Rattle.std.specs.Prelude.{◌≡◌, filter};
 ghost use Rattle.std.specs.Option.{option_copied};
 ghost use Rattle.vz_ids.specs.Ids.{same_surface};
@@ -9,7 +9,7 @@ use crate::submitted::{SubmittedFrame, is_at_least};
 use vz_ids::{SurfaceId, SurfaceRange};
 
 impl<'a> SubmittedFrame<'a> {
-    /// Whether it is on a surface of the range's own group.
+    /// Whether the frame is in the range and in the group of its end.
     pub(crate) fn is_in(&self, range: &SurfaceRange) -> bool
         ensures { result ≡ in_range range.now self.now }
     {
@@ -20,7 +20,8 @@ impl<'a> SubmittedFrame<'a> {
             }
     }
 
-    /// Whether it is on a surface of the group of the range's start, which is another one.
+    /// Whether the frame is in the group of the range's start, and that is another group than the
+    /// end's.
     pub(crate) fn is_after(&self, range: &SurfaceRange) -> bool
         ensures { result ≡ after_start range.now.start range.now.end self.now }
     {
@@ -38,7 +39,7 @@ impl<'a> SubmittedFrame<'a> {
     }
 }
 
-/// The frame on a surface.
+/// The frame on a surface, if there is one.
 pub(crate) fn frame_on<'b, 'a>(
     active: &'b [SubmittedFrame<'a>],
     id: &SurfaceId,
@@ -48,7 +49,7 @@ pub(crate) fn frame_on<'b, 'a>(
     active.iter().find(|submitted| submitted.is_of(id))
 }
 
-/// The newer of a frame and another of its group, if there is one.
+/// The newer one of a frame and another of its group, if there is another.
 fn newer_of<'b, 'a>(
     submitted: &'b SubmittedFrame<'a>,
     best: Option<&'b SubmittedFrame<'a>>,
@@ -67,7 +68,7 @@ fn newer_of<'b, 'a>(
     }
 }
 
-/// The newest frame of the range's own group.
+/// The newest frame that is in the range and in the group of its end.
 pub(crate) fn newest_in<'b, 'a>(
     active: &'b [SubmittedFrame<'a>],
     range: &SurfaceRange,
@@ -86,7 +87,7 @@ pub(crate) fn newest_in<'b, 'a>(
     best
 }
 
-/// The newest frame of the group of the range's start.
+/// The newest frame in the group of the range's start, if that is another group than the end's.
 pub(crate) fn newest_after<'b, 'a>(
     active: &'b [SubmittedFrame<'a>],
     range: &SurfaceRange,

@@ -10,8 +10,8 @@ use vz_frame::CompositorFrame;
 use vz_ids::{Sub, SurfaceId};
 use vz_pixels::PixelBlock;
 
-/// What a submission was accepted with. Its frame and blocks stay in the plan, and the list of
-/// blocks is shared by reference count. The frame fits a message file.
+/// An accepted frame with what came with it. The frame and the pixel blocks stay in the plan, and
+/// the list of blocks is shared by reference count. The frame fits a message file.
 #[derive(Drop)]
 pub struct SubmittedFrame<'a> {
     pub(crate) id: SurfaceId,
@@ -41,8 +41,9 @@ impl<'a> Model for SubmittedFrame<'a> {
 }
 
 impl<'a> SubmittedFrame<'a> {
-    /// A frame on a surface, with its client and ordinal, its number among those of the surface,
-    /// and the block of each of its listings. Condition: the frame fits a message file.
+    /// Joins a frame with its surface, its client and ordinal, its number among the frames of the
+    /// surface, and the pixel block of each listed resource, in the order of the listings.
+    /// Condition: the frame fits a message file.
     pub fn new(
         alloc: Global,
         id: SurfaceId,
@@ -86,7 +87,7 @@ impl<'a> SubmittedFrame<'a> {
         self.sub
     }
 
-    /// Its number among the frames of its surface, from 1 on.
+    /// Its number among the frames of its surface, from 1.
     pub fn index(&self) -> u32
         ensures { result ≡ self.now.index }
     {
@@ -101,14 +102,14 @@ impl<'a> SubmittedFrame<'a> {
         self.frame
     }
 
-    /// The block of each listing of its frame.
+    /// The pixel block of each listed resource of the frame, in the order of the listings.
     pub fn blocks(&self) -> &[&'a PixelBlock]
         ensures { map (λ b. b.now) result.now ≡ self.now.blocks }
     {
         self.blocks.as_slice()
     }
 
-    /// The same one. No list is copied.
+    /// Makes a second reference to the same frame. No list is copied.
     pub fn share(&self) -> Result<SubmittedFrame<'a>, AllocError>
         ensures { IfOk result (λ s. s ≡ self.now) }
     {
@@ -123,7 +124,7 @@ impl<'a> SubmittedFrame<'a> {
     }
 }
 
-/// Whether a surface is the other or a newer one of its group.
+/// Whether a surface is the other one or a newer one of its group.
 pub(crate) fn is_at_least(a: &SurfaceId, b: &SurfaceId) -> bool
     ensures { result ≡ at_least a.now b.now }
 {

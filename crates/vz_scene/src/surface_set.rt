@@ -1,4 +1,4 @@
-//! Surfaces that are gathered, so that it is found soon whether one is there.
+//! A set of surfaces that is built step by step, with a fast lookup.
 ghost use Rattle.std.specs.Prelude.{◌≡◌, [], ◌∷◌, OnOk};
 ghost use Rattle.vz_ids.specs.Ids.{same_surface};
 ghost use Rattle.vz_rules.specs.Closure.{adding};
@@ -9,7 +9,7 @@ use std::collections::BTreeSet;
 use std::marker::Model;
 use vz_ids::SurfaceId;
 
-/// Surfaces in the order in which they were added, each of them once.
+/// A set of surfaces in the order in which they were added.
 #[derive(Drop)]
 pub struct SurfaceSet {
     list: Vec<SurfaceId>,
@@ -29,7 +29,7 @@ impl Model for SurfaceSet {
 }
 
 impl SurfaceSet {
-    /// No surface.
+    /// Creates an empty set.
     pub fn new(alloc: Global) -> SurfaceSet
         ensures { result ≡ [] }
     {
@@ -39,14 +39,14 @@ impl SurfaceSet {
         }
     }
 
-    /// Whether a surface is there.
+    /// Whether the set has a surface.
     pub fn has(&self, id: &SurfaceId) -> bool
         ensures { result ≡ has_id self.now id.now }
     {
         self.set.contains(id)
     }
 
-    /// A surface is added, if it is not yet there.
+    /// Adds a surface, unless the set has it. The only error is a failed allocation.
     pub fn add(&mut self, id: &SurfaceId) -> Result<(), AllocError>
         ensures { OnOk result (self.new ≡ adding same_surface self.old (id.now ∷ [])) }
     {
@@ -58,7 +58,7 @@ impl SurfaceSet {
         Ok(())
     }
 
-    /// What is not yet there is added.
+    /// Adds the surfaces that the set does not have yet. The only error is a failed allocation.
     pub fn add_all(&mut self, ids: &[SurfaceId]) -> Result<(), AllocError>
         ensures { OnOk result (self.new ≡ adding same_surface self.old ids.now) }
     {

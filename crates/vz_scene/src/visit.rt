@@ -1,4 +1,4 @@
-//! What the walk meets, with the weight.
+//! What the walk visits, and how much.
 ghost use Rattle.std.specs.Prelude.{◌≡◌, ◌+◌, ◌++◌, ◌∷◌, [], false, OnOk};
 ghost use Rattle.std.specs.Option.{option_copied};
 ghost use Rattle.vz_rules.specs.Walk.{Quad as AQuad, Shows as AShowing, Enters as AnEntry};
@@ -12,27 +12,27 @@ use vz_base::limits::{MOST_ON_PATH, MOST_WEIGHT};
 use vz_geom::Rect;
 use vz_ids::SurfaceRange;
 
-/// What the walk meets.
+/// One thing that the walk visits.
 #[derive(Drop)]
 pub(crate) enum Kind<'b, 'a> {
     /// A quad.
     Quad,
-    /// The range of a surface quad, what it shows, and the quad's visible part of the display.
+    /// The range of a surface quad.
     Shows {
         /// The range.
         range: SurfaceRange,
-        /// What it shows.
+        /// The frame of the surface that the range shows, or None if it shows none.
         shown: Option<&'b SubmittedFrame<'a>>,
-        /// The quad's visible part of the display.
+        /// The part of the display in which the quad is visible.
         seen: Rect,
     },
-    /// A surface that the walk goes into.
+    /// A surface that the walk enters.
     Enters {
-        /// How many surfaces are then on the path.
+        /// How many surfaces are on the path then.
         depth: usize,
         /// The frame on the surface.
         submitted: &'b SubmittedFrame<'a>,
-        /// Where it stands.
+        /// Where the surface is on the display.
         place: Place,
     },
 }
@@ -52,7 +52,7 @@ impl<'b, 'a> Model for Visit<'b, 'a> {
     ghost view = { λ m. visit_of m.kind };
 }
 
-/// The visits so far, with their weight: at most one quad more than `MOST_WEIGHT` is among them.
+/// The visits so far, with their weight. They contain at most one quad more than `MOST_WEIGHT`.
 #[derive(Drop)]
 pub struct Walked<'b, 'a> {
     visits: Vec<Visit<'b, 'a>>,
@@ -73,7 +73,7 @@ impl<'b, 'a> Model for Walked<'b, 'a> {
 }
 
 impl<'b, 'a> Walked<'b, 'a> {
-    /// No visit.
+    /// Creates an empty list of visits.
     #[tactic(auto, unfolding(vz_rules::specs::Walk::weight))]
     pub fn new(alloc: Global) -> Walked<'b, 'a>
         ensures { result ≡ [] }
@@ -85,7 +85,7 @@ impl<'b, 'a> Walked<'b, 'a> {
         }
     }
 
-    /// A quad is met. Condition: it was not too much before.
+    /// Appends a quad. Condition: the limit was not passed before.
     #[tactic(auto, unfolding(vz_rules::specs::Walk::weight, vz_rules::specs::Walk::too_much))]
     pub(crate) fn add_quad(&mut self) -> Result<(), AllocError>
         requires { too_much self.old ≡ false }
@@ -97,7 +97,7 @@ impl<'b, 'a> Walked<'b, 'a> {
         Ok(())
     }
 
-    /// A range is met.
+    /// Appends a range.
     #[tactic(auto, unfolding(vz_rules::specs::Walk::weight))]
     pub(crate) fn add_shows(
         &mut self,
@@ -115,7 +115,7 @@ impl<'b, 'a> Walked<'b, 'a> {
         Ok(())
     }
 
-    /// A surface is gone into.
+    /// Appends a surface that the walk enters.
     #[tactic(auto, unfolding(vz_rules::specs::Walk::weight))]
     pub(crate) fn add_enters(
         &mut self,
@@ -140,7 +140,8 @@ impl<'b, 'a> Walked<'b, 'a> {
         Ok(())
     }
 
-    /// Whether more than `MOST_WEIGHT` quads are met, or a path has more than `MOST_ON_PATH` surfaces.
+    /// Whether the limit is passed: the visits have more than `MOST_WEIGHT` quads, or a path has
+    /// more than `MOST_ON_PATH` surfaces.
     #[tactic(auto, unfolding(vz_rules::specs::Walk::too_much, vz_rules::specs::Walk::weight))]
     pub(crate) fn is_too_much(&self) -> bool
         ensures { result ≡ too_much self.now }

@@ -1,4 +1,4 @@
-//! The walk through a scene, quad by quad. What is still to be walked stands on a stack.
+//! The walk through a scene, quad by quad. A stack holds what is still to be visited.
 ghost use Rattle.std.specs.Prelude.{◌≡◌, ◌≤◌, length, List, ◌+◌, ◌*◌, ◌++◌, false, IfOk, OnOk};
 ghost use Rattle.std.specs.Option.{option_to_list};
 ghost use Rattle.vz_rules.specs.Walk.{Visit, walk_of, weight, too_much};
@@ -14,10 +14,10 @@ use vz_base::limits::MOST_ON_PATH;
 use vz_geom::Size;
 use vz_ids::SurfaceId;
 
-/// How many surfaces deep the walk goes: one more than is not too much.
+/// How many surfaces deep the walk goes: one more than the limit allows.
 pub const LEVELS: u32 = MOST_ON_PATH as u32 + 1;
 
-/// A cursor is put on the stack, if there is one.
+/// Pushes a cursor onto the stack, if there is one.
 fn push_some<'b, 'a>(
     stack: &mut Vec<Cursor<'b, 'a>>,
     cursor: Option<Cursor<'b, 'a>>,
@@ -33,9 +33,9 @@ fn push_some<'b, 'a>(
     }
 }
 
-/// The cursor is walked by one quad; what is then still to be walked stands on the stack. A
-/// quad more is met for each two cursors that the stack gains, and at most one. Condition: it
-/// was not too much before.
+/// Visits the next quad of a cursor, and pushes what is then still to be visited onto the stack.
+/// It visits at most one quad, and the stack grows by at most two cursors for it. Condition: the
+/// limit was not passed before.
 fn advance<'b, 'a>(
     alloc: Global,
     active: &ActiveFrames<'b, 'a>,
@@ -62,7 +62,7 @@ fn advance<'b, 'a>(
     }
 }
 
-/// The walk over a stack, cursor by cursor. None is answered where it is too much.
+/// Walks the whole stack, cursor by cursor. Returns None if the limit is passed.
 fn run<'b, 'a>(
     alloc: Global,
     active: &ActiveFrames<'b, 'a>,
@@ -81,8 +81,9 @@ fn run<'b, 'a>(
     Ok(None)
 }
 
-/// The walk from the root pass of the root. None is answered where it is too much, after at
-/// most one quad more than `MOST_WEIGHT`. Condition: the size is a display's.
+/// The walk from the root pass of the root surface. It returns None if the scene is over the
+/// limit, after at most one quad more than `MOST_WEIGHT`. Condition: the size is that of a
+/// display.
 pub fn walk_of<'b, 'a>(
     alloc: Global,
     active: &ActiveFrames<'b, 'a>,

@@ -1,4 +1,4 @@
-//! What is asked of the machine between steps. No answer takes memory.
+//! Questions about the machine between steps. No answer allocates.
 ghost use Rattle.std.specs.Prelude.{◌≡◌, ◌<◌, ◌||◌};
 ghost use Rattle.std.specs.Option.{option_map, option_copied};
 ghost use Rattle.vz_rules.specs.declared.entry.Event.TheVariants as event;
@@ -16,22 +16,22 @@ use vz_ids::FrameSinkId;
 use vz_rules::Plan;
 use vz_state::{Client, client_of, file_of, new_client, next_message};
 
-/// What is asked of a client.
+/// The answers for one client.
 #[derive(Drop)]
 pub(crate) struct Asked {
     /// Its sink.
     sink: FrameSinkId,
-    /// Whether its next answer would be NotYet.
+    /// Whether its next reply would be NotYet.
     waits: bool,
-    /// Whether it is closed, has no message left or waits.
+    /// Whether it is idle: it is closed, has no message left, or waits.
     is_idle: bool,
-    /// Whether it has answered the tick.
+    /// Whether it has answered the current tick.
     has_answered: bool,
-    /// How many resources its next message lists.
+    /// How many resources its next message lists; 0 if that is no submission.
     listed: u64,
 }
 
-/// How many resources the frame of a message lists, 0 where it has none.
+/// How many resources the frame of a message lists; 0 if the message has none.
 fn listed_in(message: Option<&Message>) -> u64
     ensures { result ≡ listed_in (option_copied message.entry) }
 {
@@ -44,7 +44,7 @@ fn listed_in(message: Option<&Message>) -> u64
     }
 }
 
-/// Whether a client's next answer would be NotYet, with the Over mark or without it.
+/// Whether a client's next reply would be NotYet, given whether the Over mark is set.
 fn waits(plan: &Plan, over: bool, client: &Client<'_>) -> bool
     ensures { (w : Placement) → w.over ≡ over → result ≡ waits plan.now w client.now }
 {
@@ -57,7 +57,7 @@ fn waits(plan: &Plan, over: bool, client: &Client<'_>) -> bool
     }
 }
 
-/// What is asked of a client of a world.
+/// The answers for a client of a world.
 fn asked_of(plan: &Plan, tick: u32, over: bool, client: &Client<'_>) -> Asked
     ensures { (w : Placement) → w.tick ≡ tick → w.over ≡ over
         → result ≡ asked_of plan.now w client.now }
@@ -72,8 +72,8 @@ fn asked_of(plan: &Plan, tick: u32, over: bool, client: &Client<'_>) -> Asked
     }
 }
 
-/// What is asked of a client of the opening world, if there is that client. Condition: clients
-/// are numbered from 1 on.
+/// The answers for a client of the opening world, if the client exists. Condition: clients are
+/// numbered from 1.
 fn asked_at_first(alloc: Global, plan: &Plan, over: bool, c: u32) -> Option<Asked>
     requires { 0 < c }
     ensures { result ≡ option_map (asked_of plan.now (record (opening plan.now) { over = over }))
@@ -86,7 +86,7 @@ fn asked_at_first(alloc: Global, plan: &Plan, over: bool, c: u32) -> Option<Aske
 }
 
 impl<'a> World<'a> {
-    /// What is asked of a client, if there is that client.
+    /// The answers for a client, if it exists.
     fn asked(&self, plan: &Plan, c: u32) -> Option<Asked>
         ensures { result ≡ option_map (asked_of plan.now self.now) (client_at self.now c) }
     {
@@ -96,7 +96,7 @@ impl<'a> World<'a> {
         }
     }
 
-    /// Whether some submission waits to become active.
+    /// Whether some submission is waiting to become active.
     fn some_waits(&self) -> bool
         ensures { result ≡ some_waits self.now }
     {
@@ -105,7 +105,7 @@ impl<'a> World<'a> {
 }
 
 impl<'a> Slow<'a> {
-    /// What is asked of a client, if there is that client.
+    /// The answers for a client, if it exists.
     fn asked(&self, c: u32) -> Option<Asked>
         requires { NamesClient self.now.plan (event.Client c) }
         ensures { result ≡ option_map (asked_of self.now.plan self.now.world)
@@ -117,7 +117,7 @@ impl<'a> Slow<'a> {
         }
     }
 
-    /// Whether the first client's sink reaches a sink.
+    /// Whether the first client's sink reaches this sink.
     fn is_below(&self, sink: FrameSinkId) -> bool
         ensures { result ≡ is_below self.now.plan self.now.world.relations sink }
     {
@@ -127,7 +127,7 @@ impl<'a> Slow<'a> {
         }
     }
 
-    /// Whether a client's next answer would be NotYet. Condition: the plan has that client.
+    /// Whether a client's next reply would be NotYet. Condition: the plan has that client.
     pub fn waits(&self, c: u32) -> bool
         requires { NamesClient self.now.plan (event.Client c) }
         ensures { result ≡ waits_at self.now c }
@@ -138,8 +138,8 @@ impl<'a> Slow<'a> {
         }
     }
 
-    /// Whether a client is closed, has no message left or waits. Condition: the plan has that
-    /// client.
+    /// Whether a client is idle: it is closed, has no message left, or its next reply would be
+    /// NotYet. Condition: the plan has that client.
     pub fn idle(&self, c: u32) -> bool
         requires { NamesClient self.now.plan (event.Client c) }
         ensures { result ≡ idle_at self.now c }
@@ -150,7 +150,7 @@ impl<'a> Slow<'a> {
         }
     }
 
-    /// Whether a client has answered the tick. Condition: the plan has that client.
+    /// Whether a client has answered the current tick. Condition: the plan has that client.
     pub fn answered(&self, c: u32) -> bool
         requires { NamesClient self.now.plan (event.Client c) }
         ensures { result ≡ answered_at self.now c }
@@ -161,7 +161,8 @@ impl<'a> Slow<'a> {
         }
     }
 
-    /// Whether the first client's sink reaches a client's. Condition: the plan has that client.
+    /// Whether a client is attached: the first client's sink reaches its sink. Condition: the
+    /// plan has that client.
     #[tactic(auto, unfolding(vz_rules::specs::Step::is_attached))]
     pub fn attached(&self, c: u32) -> bool
         requires { NamesClient self.now.plan (event.Client c) }
@@ -173,8 +174,8 @@ impl<'a> Slow<'a> {
         }
     }
 
-    /// How many resources the next message of a client lists, 0 where it has none or it is no
-    /// submission. Condition: the plan has that client.
+    /// How many resources the next message of a client lists; 0 if it has no message left or that
+    /// is no submission. Condition: the plan has that client.
     pub fn listed(&self, c: u32) -> u64
         requires { NamesClient self.now.plan (event.Client c) }
         ensures { result ≡ listed_at self.now c }
@@ -185,7 +186,7 @@ impl<'a> Slow<'a> {
         }
     }
 
-    /// Whether some submission waits to become active.
+    /// Whether some submission is waiting to become active.
     pub fn waiting(&self) -> bool
         ensures { result ≡ some_waits self.now.world }
     {

@@ -1,4 +1,4 @@
-//! Which sinks the first client's sink reaches, without memory.
+//! Which sinks the first client's sink reaches, computed without an allocation.
 ghost use Rattle.std.specs.Prelude.{◌≡◌, ◌<◌, ◌≤◌, ◌++◌, [], ◌∷◌, length, IsFalse};
 ghost use Rattle.std.specs.List.{list_any};
 ghost use Rattle.vz_ids.specs.declared.FrameSinkId.{FrameSinkId as Id};
@@ -14,7 +14,7 @@ use vz_ids::FrameSinkId;
 use vz_rules::Plan;
 use vz_state::has_sink;
 
-/// Sinks that take no memory, as many as a plan has files at most.
+/// A list of sinks that allocates nothing. It holds at most as many as a plan has files.
 #[derive(Drop)]
 struct Sinks {
     places: [FrameSinkId; MOST_FILES],
@@ -34,7 +34,7 @@ impl Model for Sinks {
 }
 
 impl Sinks {
-    /// One sink.
+    /// A list of one sink.
     fn one(sink: FrameSinkId) -> Sinks
         ensures { result ≡ sink ∷ [] }
     {
@@ -44,14 +44,14 @@ impl Sinks {
         }
     }
 
-    /// The sinks.
+    /// The sinks, in the order in which they were appended.
     fn as_slice(&self) -> &[FrameSinkId]
         ensures { result.now ≡ self.now }
     {
         &self.places[..self.count]
     }
 
-    /// Puts a sink behind the others. Condition: there is room.
+    /// Appends a sink. Condition: there is room.
     fn push(&mut self, sink: FrameSinkId)
         requires { length self.old < MOST_FILES }
         ensures { self.new ≡ self.old ++ sink ∷ [] }
@@ -61,7 +61,7 @@ impl Sinks {
         self.count = count + 1;
     }
 
-    /// Puts a sink behind the others, unless it is there. Condition: there is room for it.
+    /// Appends a sink, unless the list has it. Condition: there is room for it.
     fn add(&mut self, sink: FrameSinkId)
         requires { IsFalse (list_any (same_sink sink) self.old) → length self.old < MOST_FILES }
         ensures { self.new ≡ adding same_sink self.old (sink ∷ []) }
@@ -71,8 +71,8 @@ impl Sinks {
         }
     }
 
-    /// Puts the children of a sink behind the others, each unless it is there. Condition: there
-    /// is room for them.
+    /// Appends the children of a sink, each unless the list has it. Condition: there is room for
+    /// them.
     fn follow(&mut self, relations: &[(FrameSinkId, FrameSinkId)], from: FrameSinkId)
         requires { length (adding same_sink self.old (children relations.now from)) ≤ MOST_FILES }
         ensures { self.new ≡ adding same_sink self.old (children relations.now from) }
@@ -85,7 +85,8 @@ impl Sinks {
     }
 }
 
-/// The sinks that a sink reaches, each once. Condition: it and all that are related are few.
+/// The sinks that a sink reaches, each once. Condition: this sink and all that are related fit
+/// into the list.
 fn reached(relations: &[(FrameSinkId, FrameSinkId)], from: FrameSinkId) -> Sinks
     requires { AreFew relations.now from }
     ensures { (sink : Id) → has_sink result sink ≡ reaches relations.now from sink }
@@ -100,8 +101,8 @@ fn reached(relations: &[(FrameSinkId, FrameSinkId)], from: FrameSinkId) -> Sinks
     sinks
 }
 
-/// Whether the first client's sink reaches a sink. Condition: it and all that are related are
-/// few.
+/// Whether the first client's sink reaches this sink. Condition: it and all that are related fit
+/// into the list.
 pub(crate) fn is_below(
     plan: &Plan,
     relations: &[(FrameSinkId, FrameSinkId)],

@@ -1,4 +1,4 @@
-//! The destruction of marked surfaces that are not reached.
+//! Garbage collection: the destruction of marked surfaces that are not reached.
 ghost use Rattle.std.specs.Prelude.{◌≡◌, IfOk, OnOk};
 ghost use Rattle.vz_rules.specs.Reach.{reach, lost_in, clearing, collect, destroyed_in};
 
@@ -9,7 +9,7 @@ use vz_scene::SurfaceSet;
 use vz_state::{Surface, by_client, destroy_all, drop_all};
 
 impl<'a> World<'a> {
-    /// The surfaces that are lost. Condition: what is kept is what is reached.
+    /// The surfaces that are lost. Condition: `kept` has exactly the surfaces that are reached.
     #[tactic(auto, unfolding(vz_rules::specs::Reach::lost_in))]
     fn lost(&self, kept: &SurfaceSet) -> Result<Vec<Surface>, AllocError>
         requires { kept.now ≡ reach self.now }
@@ -22,8 +22,8 @@ impl<'a> World<'a> {
             .collect(self.alloc)
     }
 
-    /// The lost surfaces are destroyed, and the submissions on them end. Conditions: what is
-    /// kept is what is reached, and what is lost follows from it.
+    /// Destroys the lost surfaces, and ends the submissions on them. Conditions: `kept` has
+    /// exactly the surfaces that are reached, and `lost` those that are lost.
     fn clear(&mut self, kept: &SurfaceSet, lost: &[Surface])
         requires kept { kept.now ≡ reach self.old }
         requires lost { lost.now ≡ lost_in self.old }
@@ -33,8 +33,8 @@ impl<'a> World<'a> {
         drop_all(&mut self.subs, lost);
     }
 
-    /// Surfaces are named, and then the marked ones that are not reached are destroyed. The
-    /// answer is these, by client and creation.
+    /// Notes which surfaces are named, and then destroys the marked ones that are not reached.
+    /// Returns these, by client and then in the order of creation.
     pub(crate) fn collect(&mut self) -> Result<Vec<Lost>, AllocError>
         ensures destroyed { IfOk result (λ v. v.items ≡ destroyed_in self.old) }
         ensures world { OnOk result (self.new ≡ collect self.old) }

@@ -1,4 +1,4 @@
-//! Copies, on which a step works until nothing can fail any more.
+//! Copies. A step changes a copy of the world until nothing can fail any more.
 ghost use Rattle.std.specs.Prelude.{◌≡◌, IfOk};
 
 use crate::world::World;
@@ -8,7 +8,7 @@ use vz_ids::Sub;
 use vz_scene::Aggregation;
 use vz_state::{copy_clients, copy_submissions};
 
-/// The same list of what is in flight, if there is one.
+/// A copy of the list of what is in the drawn frame, if there is one.
 fn copy_flight(
     alloc: Global,
     in_flight: &Option<List<Sub>>,
@@ -24,7 +24,7 @@ fn copy_flight(
     }
 }
 
-/// The same aggregation, if there is one.
+/// A copy of the last aggregation, if there is one.
 fn copy_last(alloc: Global, last: &Option<Aggregation>) -> Result<Option<Aggregation>, AllocError>
     ensures { IfOk result (λ o. o ≡ last.now) }
 {
@@ -35,7 +35,7 @@ fn copy_last(alloc: Global, last: &Option<Aggregation>) -> Result<Option<Aggrega
 }
 
 impl<'a> World<'a> {
-    /// The same world.
+    /// A copy of the world.
     pub(crate) fn copy(&self) -> Result<World<'a>, AllocError>
         ensures { IfOk result (λ w. w ≡ self.now) }
     {

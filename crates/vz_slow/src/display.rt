@@ -1,4 +1,4 @@
-//! The steps of the display beside a drawing, and what follows each step.
+//! The steps of the display except for a draw, and the effects of each step.
 ghost use Rattle.std.specs.Prelude.{◌≡◌, ◌≤◌, [], true, IfOk, OnOk};
 ghost use Rattle.vz_rules.specs.Messages.{says};
 ghost use Rattle.vz_rules.specs.Step.{next_tick, begin_answer, outcome_of};
@@ -13,7 +13,7 @@ use vz_ids::FrameSinkId;
 use vz_rules::{Effects, Plan, Reply};
 use vz_state::{deliver_all, make_room, reached};
 
-/// The tick that follows. Condition: it is at most the last one.
+/// The next tick. Condition: this one is not after the last one.
 fn next_tick(tick: u32) -> u32
     requires { tick ≤ LAST_TICK }
     ensures value { result ≡ next_tick tick }
@@ -33,8 +33,8 @@ impl<'a> World<'a> {
         }
     }
 
-    /// A begin-frame: the tick goes on and is delivered. Condition: the tick is none behind the
-    /// last one.
+    /// A begin-frame: the tick rises by one and is delivered to the attached clients. Condition:
+    /// the tick is not after the last one.
     pub(crate) fn begin(&mut self, plan: &Plan) -> Result<Reply, AllocError>
         requires { self.old.tick ≤ LAST_TICK }
         ensures { IfOk result (λ r. says r self.new ≡ begin_answer plan.now self.old) }
@@ -46,14 +46,15 @@ impl<'a> World<'a> {
         Ok(Reply::Ticked(tick))
     }
 
-    /// No begin-frame will be waited for from now on.
+    /// The Over mark: no client will wait for a begin-frame any more.
     pub(crate) fn end(&mut self)
         ensures { self.new ≡ record self.old { over = true } }
     {
         self.over = true;
     }
 
-    /// What follows a change that presents nothing: activation, collection, returns and feedback.
+    /// The effects of a change that presents nothing: activation, collection, returned resources
+    /// and feedback.
     pub(crate) fn follow(&mut self) -> Result<Effects, AllocError>
         ensures effects { IfOk result (λ e. (r : Said)
             → e ≡ (outcome_of [] (says r self.old)).effects) }

@@ -1,4 +1,4 @@
-//! A drawing: what is drawn, or why it is not.
+//! A draw: what is drawn, or why nothing is.
 ghost use Rattle.std.specs.Prelude.{◌≡◌, ◌&&◌, is_some, IfOk};
 ghost use Rattle.vz_geom.specs.Rectangle.{is_empty_rect};
 ghost use Rattle.vz_rules.specs.Messages.{says};
@@ -13,7 +13,7 @@ use vz_rules::{Plan, Reply};
 use vz_scene::{ActiveFrames, Aggregation, drawn_damage, remember, walk_of, walked_subs};
 use vz_state::{accepted_frames, active_frames};
 
-/// Whether there was an aggregation and the damage is empty.
+/// Whether there was an aggregation before and the damage is empty.
 fn is_unchanged(last: &Option<Aggregation>, damage: &Rect) -> bool
     ensures { result ≡ (is_some last.now && is_empty_rect damage.now) }
 {
@@ -24,7 +24,7 @@ fn is_unchanged(last: &Option<Aggregation>, damage: &Rect) -> bool
 }
 
 impl<'a> World<'a> {
-    /// What is drawn of a scene, or why it is not.
+    /// Draws a scene, or says why nothing is drawn.
     fn draw_scene(
         &mut self,
         plan: &Plan,
@@ -55,7 +55,8 @@ impl<'a> World<'a> {
         }
     }
 
-    /// A drawing: busy while a frame is in flight, no root where nothing can be seen.
+    /// A draw. The reply is Busy if a drawn frame is not done yet, and NoRoot if nothing can be
+    /// seen.
     pub(crate) fn draw(&mut self, plan: &Plan) -> Result<Reply, AllocError>
         ensures { IfOk result (λ r. says r self.new ≡ draw_answer plan.now self.old) }
     {

@@ -1,4 +1,4 @@
-//! A drawing with its picture.
+//! A draw with its picture.
 ghost use Rattle.std.specs.Prelude.{◌≡◌, IfOk, OnErr};
 ghost use Rattle.std.specs.Option.{option_map};
 ghost use Rattle.vz_geom.specs.Display.{IsDisplaySize};
@@ -24,8 +24,9 @@ impl<'a> Slow<'a> {
         self.plan.size()
     }
 
-    /// Draws, and paints what was to be seen where the answer is Drawn: a colour for each pixel,
-    /// row by row. At Memory, the only error, the machine stands for the world before.
+    /// Draws. If the reply is Drawn, it also paints what was to be seen: a colour for each pixel,
+    /// row by row from the top. The only error is `Memory`, if an allocation fails; then the
+    /// machine is in the world before.
     pub fn draw_picture(&mut self) -> Result<(Reply, Effects, Option<Vec<Pixel>>), Memory>
         ensures step { IfOk result (λ d. IsOutcome (step_in self.old.plan self.old.world event.Draw)
             (d.0, d.1) self.new.world) }
@@ -40,7 +41,7 @@ impl<'a> Slow<'a> {
         }
     }
 
-    /// The same. The picture is painted before the machine goes on.
+    /// As `draw_picture`. It paints the picture before the machine takes its step.
     fn draw_and_paint(&mut self) -> Result<(Reply, Effects, Option<Vec<Pixel>>), AllocError>
         ensures step { IfOk result (λ d. IsOutcome (step_in self.old.plan self.old.world event.Draw)
             (d.0, d.1) self.new.world) }
@@ -56,7 +57,7 @@ impl<'a> Slow<'a> {
         Ok((reply, effects, pixels))
     }
 
-    /// The picture of what can be seen, where an answer is Drawn.
+    /// The picture of what can be seen, if the reply is Drawn.
     fn picture_for(&self, reply: &Reply) -> Result<Option<Vec<Pixel>>, AllocError>
         ensures { IfOk result (λ o. option_map (λ v. v.items) o
             ≡ drawn_picture self.now.plan self.now.world reply.now) }

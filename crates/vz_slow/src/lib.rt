@@ -1,8 +1,8 @@
-//! The plain machine.
+//! The plain machine: a simple reference implementation of the definitions.
 //!
-//! Its contracts are the definitions of `vz_rules`, and its bodies stay close to these: it
-//! keeps every submission and scans all of them. It checks what faster bodies made, and answers
-//! what a definition says of a plan and a history.
+//! Its contracts are the definitions of `vz_rules`, and its bodies stay close to them: it keeps
+//! every submission and scans all of them. It checks what faster implementations did, and says
+//! what a definition gives for a plan and a history.
 #![tactic(auto)]
 
 mod asked;

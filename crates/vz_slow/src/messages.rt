@@ -1,4 +1,4 @@
-//! What a client's message answers and changes, before anything follows from it.
+//! The reply to a client's message and what the message changes, before any effects.
 ghost use Rattle.std.specs.Prelude.{◌≡◌, ◌∷◌, [], Some, true, map, IfOk, OnOk};
 ghost use Rattle.vz_rules.specs.World.{Client as ClientState, client_at};
 ghost use Rattle.vz_rules.specs.Messages.{taking, says, refused, in_use, upload_answer, root_answer, await_answer, mark_of, message_answer};
@@ -38,7 +38,7 @@ impl<'a> World<'a> {
         Ok(())
     }
 
-    /// A refused message is taken and changes nothing else.
+    /// The client takes a message that is refused, which changes nothing else.
     pub(crate) fn refuse(&mut self, c: u32, refusal: Refusal) -> Result<Reply, AllocError>
         requires { AreSmallClients self.old.clients }
         ensures { (x : ClientState) → client_at self.old c ≡ Some x
@@ -48,7 +48,7 @@ impl<'a> World<'a> {
         Ok(Reply::Refused(refusal))
     }
 
-    /// An upload is stored, but for a resource that is in use.
+    /// Stores an uploaded block. The upload is refused if the resource is in use.
     fn upload(
         &mut self,
         c: u32,
@@ -67,7 +67,7 @@ impl<'a> World<'a> {
         Ok(Reply::Stored)
     }
 
-    /// It is noted that no frame comes.
+    /// The client answers a begin-frame without a frame.
     fn note(&mut self, c: u32, n: u32) -> Result<Reply, AllocError>
         requires { AreSmallClients self.old.clients }
         ensures { (x : ClientState) → client_at self.old c ≡ Some x
@@ -79,7 +79,7 @@ impl<'a> World<'a> {
         Ok(Reply::Noted)
     }
 
-    /// The queue is handed over.
+    /// Gives the client its queue of returned resources.
     fn hand_over(&mut self, c: u32, queue: Vec<Returned>) -> Result<Reply, AllocError>
         requires { AreSmallClients self.old.clients }
         ensures { (x : ClientState) → client_at self.old c ≡ Some x → queue.items ≡ x.queue
@@ -90,7 +90,7 @@ impl<'a> World<'a> {
         Ok(Reply::Reclaimed(List::from_vec(queue)))
     }
 
-    /// The first client names the root, whether it exists or not.
+    /// The first client names the root surface, which need not exist.
     fn name_root(
         &mut self,
         c: u32,
@@ -109,7 +109,8 @@ impl<'a> World<'a> {
         Ok(Reply::Rooted)
     }
 
-    /// A begin-frame that stands untaken is taken; else it is over, or nothing is taken.
+    /// If a begin-frame is pending, the client takes it. Otherwise the reply is Over if the Over
+    /// mark is set, and else NotYet, for which no message is taken.
     fn wait(&mut self, c: u32, delivered: Option<u32>) -> Result<Reply, AllocError>
         requires { AreSmallClients self.old.clients }
         ensures { (x : ClientState) → client_at self.old c ≡ Some x → delivered ≡ x.delivered
@@ -130,7 +131,7 @@ impl<'a> World<'a> {
         }
     }
 
-    /// The client is closed, and its surfaces are marked.
+    /// Closes the client and marks its surfaces.
     fn leave(&mut self, c: u32) -> Result<Reply, AllocError>
         requires { AreSmallClients self.old.clients }
         ensures { (x : ClientState) → client_at self.old c ≡ Some x
@@ -160,7 +161,7 @@ impl<'a> World<'a> {
         Ok(first_of_three(loops, !known, parent != sink))
     }
 
-    /// The relation is there; one that is there already stays as it is.
+    /// Adds the relation, unless it is registered already.
     fn relate(&mut self, parent: FrameSinkId, child: FrameSinkId) -> Result<(), AllocError>
         ensures { OnOk result (self.new
             ≡ record self.old { relations = relate parent child self.old.relations }) }
@@ -171,7 +172,7 @@ impl<'a> World<'a> {
         Ok(())
     }
 
-    /// A relation is registered, or refused.
+    /// Registers a relation, or refuses it.
     fn hierarchy(
         &mut self,
         c: u32,
@@ -193,7 +194,7 @@ impl<'a> World<'a> {
         }
     }
 
-    /// What a message of a client that is not closed answers and changes.
+    /// The reply to a message of a client that is not closed, and what the message changes.
     fn message(&mut self, c: u32, message: &'a Message) -> Result<Reply, AllocError>
         requires small { IsSmall self.old }
         requires fits { FitsSome message.now }
@@ -240,7 +241,7 @@ impl<'a> World<'a> {
 }
 
 impl<'a> World<'a> {
-    /// What the next message of a client answers and changes.
+    /// The reply to the next message of a client, and what the message changes.
     pub(crate) fn client(&mut self, plan: &'a Plan, c: u32) -> Result<Reply, AllocError>
         requires { IsSmall self.old }
         ensures { IfOk result (λ r. says r self.new ≡ client_answer plan.now self.old c) }
@@ -273,7 +274,7 @@ fn is_related(
         .any(|relation| relation.0 == parent && relation.1 == child)
 }
 
-/// The first of three reasons to refuse a relation.
+/// The first of the three reasons to refuse a relation that holds, if one does.
 fn first_of_three(loops: bool, unknown: bool, other: bool) -> Option<Refusal>
     ensures { result ≡ first_some (when loops refusal.Loop ∷ when unknown refusal.UnknownSink
         ∷ when other refusal.ParentOfOther ∷ []) }

@@ -1,4 +1,4 @@
-//! Which surfaces are named: by an active submission on an existing surface.
+//! Which surfaces are named: those that an active submission on an existing surface references.
 ghost use Rattle.std.specs.Prelude.{◌≡◌, IfOk, OnOk};
 ghost use Rattle.std.specs.List.{flat_map};
 ghost use Rattle.vz_rules.specs.Reach.{naming};
@@ -10,7 +10,8 @@ use vz_ids::SurfaceId;
 use vz_state::{Submission, exists, name_by, named_flags, range_ends};
 
 impl<'a> World<'a> {
-    /// The ends of what a submission references, where it is active and its surface exists.
+    /// The ends of the ranges that a submission references, if it is active and its surface
+    /// exists; otherwise none.
     fn ends_of(&self, submission: &Submission<'_>) -> Result<Vec<SurfaceId>, AllocError>
         ensures { IfOk result (λ v. v.items ≡ ends_of self.now submission.now) }
     {
@@ -21,7 +22,7 @@ impl<'a> World<'a> {
         Ok(Vec::new(self.alloc))
     }
 
-    /// The ends of what submissions reference that are active on existing surfaces.
+    /// The ends of the ranges that active submissions on existing surfaces reference.
     fn ends(&self, submissions: &[Submission<'_>]) -> Result<Vec<SurfaceId>, AllocError>
         ensures { IfOk result (λ v. v.items ≡ flat_map (ends_of self.now) submissions.now) }
     {
@@ -33,7 +34,7 @@ impl<'a> World<'a> {
         Ok(all)
     }
 
-    /// Every existing surface that is named now is named from now on.
+    /// Notes each existing surface that is named now as named, which it stays.
     pub(crate) fn name_all(&mut self) -> Result<(), AllocError>
         ensures { OnOk result (self.new ≡ naming self.old) }
     {

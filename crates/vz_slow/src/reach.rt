@@ -1,4 +1,4 @@
-//! Which surfaces are reached: from the root, and from every temporary one.
+//! Which surfaces are reached: from the root, and from each temporary surface.
 ghost use Rattle.std.specs.Prelude.{◌≡◌, ◌∷◌, [], map, filter, length, IfOk};
 ghost use Rattle.std.specs.List.{flat_map};
 ghost use Rattle.vz_ids.specs.Ids.{same_surface};
@@ -14,8 +14,8 @@ use vz_scene::{ActiveFrames, SurfaceSet};
 use vz_state::{Surface, active_frames, all_shown, exists, has_closed};
 
 impl<'a> World<'a> {
-    /// Whether a surface is temporary: it exists, was not named, its client is not closed, and
-    /// it is younger than `TEMPORARY_TICKS` begin-frames.
+    /// Whether a surface is temporary: it exists, was never named, its client is not closed, and
+    /// fewer than `TEMPORARY_TICKS` begin-frames have come since it was created.
     fn is_temporary(&self, surface: &Surface) -> bool
         ensures { result ≡ is_temporary self.now surface.now }
     {
@@ -37,7 +37,7 @@ impl<'a> World<'a> {
             .collect(self.alloc)
     }
 
-    /// The root, where it exists.
+    /// The root, if it exists; otherwise none.
     fn root_list(&self) -> Result<SurfaceSet, AllocError>
         ensures { IfOk result (λ s. s ≡ root_list self.now) }
     {
@@ -52,7 +52,7 @@ impl<'a> World<'a> {
         }
     }
 
-    /// The root, where it exists, and every temporary surface.
+    /// The root, if it exists, and each temporary surface.
     #[tactic(auto, unfolding(vz_rules::specs::Reach::roots))]
     fn roots(&self) -> Result<SurfaceSet, AllocError>
         ensures { IfOk result (λ s. s ≡ roots self.now) }
@@ -63,8 +63,8 @@ impl<'a> World<'a> {
         Ok(ids)
     }
 
-    /// What the active frame of a surface references, as it is shown. Condition: these are the
-    /// active frames.
+    /// The surfaces that the references of a surface's active frame show. Condition: `active` has
+    /// the active frames.
     #[tactic(auto, unfolding(vz_rules::specs::Scene::shown))]
     fn referenced(
         &self,
@@ -84,7 +84,7 @@ impl<'a> World<'a> {
         }
     }
 
-    /// What the active frames of surfaces reference. Condition: these are the active frames.
+    /// The same for several surfaces. Condition: `active` has the active frames.
     fn all_referenced(
         &self,
         active: &ActiveFrames<'_, 'a>,
@@ -101,8 +101,8 @@ impl<'a> World<'a> {
         Ok(all)
     }
 
-    /// The reached surfaces. What the frame of a surface references is asked once, and a step
-    /// that adds none is the last. Condition: these are the active frames.
+    /// The reached surfaces. The references of each surface are looked up once, and the search
+    /// ends at the first round that adds none. Condition: `active` has the active frames.
     fn reach_over(&self, active: &ActiveFrames<'_, 'a>) -> Result<SurfaceSet, AllocError>
         requires { active.now ≡ active_frames self.now.subs }
         ensures { IfOk result (λ s. s
@@ -133,7 +133,7 @@ impl<'a> World<'a> {
     }
 }
 
-/// One surface alone.
+/// A set of one surface.
 fn one(alloc: Global, id: SurfaceId) -> Result<SurfaceSet, AllocError>
     ensures { IfOk result (λ s. s ≡ id ∷ []) }
 {

@@ -1,4 +1,4 @@
-//! What is seen after a part of a history.
+//! The picture after a part of a history.
 ghost use Rattle.std.specs.Prelude.{◌≡◌, ◌≤◌, length, take, IfOk, OnOk};
 ghost use Rattle.vz_rules.specs.Step.{step_in, world, NamesClient};
 ghost use Rattle.vz_rules.specs.Whole.{picture_in};
@@ -11,8 +11,8 @@ use vz_pixels::{Memory, Pixel};
 use vz_plain::picture;
 use vz_rules::{Entry, Event, History, Plan};
 
-/// A step of which only the world that it leaves is wanted. Condition: a client's event is of
-/// a client of the plan.
+/// A step of which only the world after it is wanted. Condition: a client's event names a client
+/// of the plan.
 fn go_on(machine: &mut Slow<'_>, event: Event) -> Result<(), Memory>
     requires { NamesClient machine.old.plan event }
     ensures plan { machine.new.plan ≡ machine.old.plan }
@@ -25,8 +25,8 @@ fn go_on(machine: &mut Slow<'_>, event: Event) -> Result<(), Memory>
     }
 }
 
-/// The plain machine after the first so many entries of a history. Conditions: there are so
-/// many, and a client's event is of a client of the plan.
+/// The plain machine after the first `n` entries of a history. Conditions: there are that many,
+/// and a client's event names a client of the plan.
 fn machine_after<'a>(
     alloc: Global,
     plan: &'a Plan,
@@ -45,10 +45,11 @@ fn machine_after<'a>(
     Ok(machine)
 }
 
-/// The picture after the first `n` entries of a history, a colour for each pixel, row by row:
-/// the plain machine steps through them, and the plain painter goes through the scene by
-/// recursion. Memory is the only error. Conditions: the history has so many entries, and a
-/// client's event is of a client of the plan, as in each history that the machine makes.
+/// The picture after the first `n` entries of a history, a colour for each pixel, row by row: the
+/// plain machine steps through them, and the plain painter goes through the scene by recursion.
+/// The only error is `Memory`, if an allocation fails. Conditions: the history has so many
+/// entries, and a client's event is of a client of the plan, as in each history that the machine
+/// makes.
 #[tactic(auto, unfolding(vz_rules::specs::Whole::picture_in, vz_rules::specs::Scene::scene_of))]
 pub fn plain_frame(alloc: Global, plan: &Plan, h: &History, n: usize) -> Result<List<Pixel>, Memory>
     requires count { n ≤ length h.now }

@@ -1,4 +1,4 @@
-//! The opening world, and what is still out.
+//! The opening world, and what is outstanding at the end.
 ghost use Rattle.std.specs.Prelude.{◌≡◌, IfOk};
 ghost use Rattle.std.specs.List.{flat_map};
 ghost use Rattle.vz_rules.specs.World.{opening};
@@ -12,7 +12,7 @@ use vz_rules::{Plan, Rest};
 use vz_state::{Client, all_held, new_clients};
 
 impl<'a> World<'a> {
-    /// The world before the first step, where the Over mark may stand already.
+    /// The world before the first step. The Over mark may be set already.
     #[tactic(auto, unfolding(vz_rules::specs::World::opening))]
     pub(crate) fn new(alloc: Global, plan: &Plan, over: bool) -> Result<World<'a>, AllocError>
         ensures { IfOk result (λ w. w ≡ record (opening plan.now) { over = over }) }
@@ -32,7 +32,7 @@ impl<'a> World<'a> {
         })
     }
 
-    /// A client's submissions without feedback.
+    /// The submissions of a client that have no feedback yet, by ordinal.
     fn unfed_of(&self, client: &Client<'_>) -> Result<Vec<Sub>, AllocError>
         ensures { IfOk result (λ v. v.items ≡ unfed_of self.now client.now) }
     {
@@ -43,7 +43,7 @@ impl<'a> World<'a> {
             .collect(self.alloc)
     }
 
-    /// Submissions without feedback, by the clients given.
+    /// The submissions of these clients that have no feedback yet, by client and ordinal.
     fn all_unfed(&self, clients: &[Client<'_>]) -> Result<Vec<Sub>, AllocError>
         ensures { IfOk result (λ v. v.items ≡ flat_map (unfed_of self.now) clients.now) }
     {
@@ -55,7 +55,8 @@ impl<'a> World<'a> {
         Ok(all)
     }
 
-    /// What is still out: references, by client and id, and submissions, by client and ordinal.
+    /// What is outstanding: references, by client and resource id, and submissions without
+    /// feedback, by client and ordinal.
     #[tactic(auto, unfolding(vz_rules::specs::Log::rest_in))]
     pub(crate) fn rest(&self) -> Result<Rest, AllocError>
         ensures { IfOk result (λ r. r ≡ rest_in self.now) }

@@ -15,7 +15,7 @@ use vz_state::{
     met_by, number_of,
 };
 
-/// A world where a round begins, with the surfaces on which a submission was ever active.
+/// A world at the begin of a round, with the surfaces on which a submission was ever active.
 #[derive(Drop)]
 struct Round<'w, 'a> {
     world: &'w World<'a>,
@@ -43,7 +43,7 @@ impl<'w, 'a> Round<'w, 'a> {
         self.ever_active.has(d) || is_gone(&world.clients, d.sink)
     }
 
-    /// Whether the dependencies of a submission are all met, or its deadline has come.
+    /// Whether all dependencies of a submission are met, or its deadline has come.
     #[tactic(auto, unfolding(vz_rules::specs::Settle::has_come))]
     fn has_come(&self, submission: &Submission<'_>) -> bool
         ensures { result ≡ has_come self.now submission.now }
@@ -53,7 +53,7 @@ impl<'w, 'a> Round<'w, 'a> {
             || submission.due() <= u64::from(world.tick)
     }
 
-    /// Whether dependencies are all met.
+    /// Whether all of these dependencies are met.
     fn are_met(&self, dependencies: &[SurfaceId]) -> bool
         ensures { result ≡ list_all (is_met self.now) dependencies.now }
     {
@@ -68,7 +68,7 @@ impl<'w, 'a> Round<'w, 'a> {
         submission.is_waiting() && self.has_come(submission)
     }
 
-    /// What becomes active in the round.
+    /// The submissions that become active in the round.
     #[tactic(auto, unfolding(vz_rules::specs::Settle::ready))]
     fn risen(&self) -> Result<Vec<Risen>, AllocError>
         ensures { IfOk result (λ v. v.items
@@ -95,7 +95,7 @@ impl<'w, 'a> Round<'w, 'a> {
             .collect(world.alloc)
     }
 
-    /// What is found of the round before it changes anything.
+    /// What is computed of the round before it changes anything.
     fn signs(&self) -> Result<Signs, AllocError>
         ensures { IfOk result (λ s. AreSigns self.now s) }
     {
@@ -113,7 +113,7 @@ impl<'w, 'a> Round<'w, 'a> {
 }
 
 impl<'a> World<'a> {
-    /// What is noted of a submission.
+    /// What is noted of a submission that becomes active.
     fn risen_of(&self, submission: &Submission<'_>) -> Risen
         ensures { result ≡ risen_of self.now.surfaces submission.now }
     {
@@ -124,7 +124,7 @@ impl<'a> World<'a> {
         }
     }
 
-    /// For each submission, whether one that rose is on its surface.
+    /// For each submission, whether one that becomes active is on its surface.
     fn replaced_flags(&self, risen: &[Risen]) -> Result<Vec<bool>, AllocError>
         ensures { IfOk result (λ v. v.items
             ≡ map (λ s. list_any (λ r. same_surface r.id s.submitted.id) risen.now) self.now.subs) }
@@ -135,7 +135,7 @@ impl<'a> World<'a> {
             .collect(self.alloc)
     }
 
-    /// For each surface, whether one that rose is on a later one of its client.
+    /// For each surface, whether a submission becomes active on a later surface of its client.
     fn marked_flags(&self, risen: &[Risen]) -> Result<Vec<bool>, AllocError>
         ensures { IfOk result (λ v. v.items
             ≡ map (λ c. list_any (λ r. (c.client == r.sub.client)
@@ -147,8 +147,8 @@ impl<'a> World<'a> {
             .collect(self.alloc)
     }
 
-    /// What is found of a round before it changes anything. Condition: these are the surfaces on
-    /// which a submission was ever active.
+    /// What is computed of a round before it changes anything. Condition: `ever_active` has the
+    /// surfaces on which a submission was ever active.
     fn signs(&self, ever_active: &Newest) -> Result<Signs, AllocError>
         requires { IsMetBy ever_active.now self.now.subs }
         ensures { IfOk result (λ s. AreSigns self.now s) }
@@ -160,7 +160,7 @@ impl<'a> World<'a> {
         Ok(round.signs()?)
     }
 
-    /// One round, by its signs.
+    /// Applies one round.
     fn round(&mut self, signs: &Signs)
         requires { AreSigns self.old signs.now }
         ensures { self.new ≡ round self.old }
@@ -176,8 +176,8 @@ impl<'a> World<'a> {
         self.subs.len()
     }
 
-    /// Rounds until one changes nothing. The answer is what became active, by rounds, and in
-    /// a round in the order of acceptance.
+    /// Does rounds until one changes nothing. Returns the submissions that became active, by
+    /// round, and in a round in the order of acceptance.
     pub(crate) fn settle(&mut self) -> Result<Vec<Sub>, AllocError>
         ensures activated { IfOk result (λ v. v.items ≡ activated_in self.old) }
         ensures world { OnOk result (self.new ≡ settle self.old) }
@@ -199,14 +199,14 @@ impl<'a> World<'a> {
     }
 }
 
-/// Whether nothing rose.
+/// Whether no submission becomes active.
 fn is_none(risen: &[Risen]) -> bool
     ensures { IsTrue result → risen.now ≡ [] }
 {
     risen.is_empty()
 }
 
-/// The submissions that rose.
+/// The client and ordinal of each of these submissions.
 fn subs_of(alloc: Global, risen: &[Risen]) -> Result<Vec<Sub>, AllocError>
     ensures { IfOk result (λ v. v.items ≡ map (λ r. r.sub) risen.now) }
 {

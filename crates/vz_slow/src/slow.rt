@@ -20,21 +20,21 @@ use vz_rules::{Effects, Event, Fed, Plan, Reply, Rest, Returned};
 use vz_scene::SubmittedFrame;
 use vz_state::{Client, active_frames, make_room};
 
-/// Where the machine stands: at the opening of its plan, for which no memory was taken yet, or
-/// in a world that it has gone on to.
+/// The state of the machine: still the opening world of its plan, for which nothing was allocated
+/// yet, or another world.
 #[derive(Drop)]
 pub(crate) enum Stage<'a> {
-    /// The opening world, with the Over mark or without it.
+    /// The opening world.
     Opening {
-        /// Whether the Over mark stands.
+        /// Whether the Over mark is set.
         over: bool,
     },
     /// Another world.
     Running(World<'a>),
 }
 
-/// The plain machine over a plan. Contracts see the plan and the world. While a frame is in
-/// flight it keeps room for all that its end gives back and feeds.
+/// The plain machine over a plan. Contracts see the plan and the world. While a drawn frame is
+/// not done, it keeps room for all that the end of that frame returns and for its feedback.
 #[derive(Drop)]
 pub struct Slow<'a> {
     pub(crate) alloc: Global,
@@ -55,7 +55,7 @@ impl<'a> Model for Slow<'a> {
     ghost invariant = { λ m. IsSlow m.plan.now (world_at m.plan.now m.stage) m.returned m.fed };
 }
 
-/// Nothing follows.
+/// Effects in which nothing happened.
 fn nothing(alloc: Global) -> Effects
     ensures { result ≡ no_effects }
 {
@@ -67,7 +67,7 @@ fn nothing(alloc: Global) -> Effects
     }
 }
 
-/// Room for so many.
+/// An empty list with room for `n` items.
 fn room_for<T: Drop>(alloc: Global, n: usize) -> Result<Room<T>, AllocError>
     ensures { IfOk result (λ r. (r.list ≡ []) × (n ≤ r.spare)) }
 {
@@ -76,7 +76,8 @@ fn room_for<T: Drop>(alloc: Global, n: usize) -> Result<Room<T>, AllocError>
     Ok(room)
 }
 
-/// Room for all that the end of a frame gives back and feeds, where one is in flight.
+/// Room for what the end of the drawn frame returns and for its feedback, if there is such a
+/// frame.
 fn rooms_for(alloc: Global, world: &World<'_>) -> Result<(Room<Returned>, Room<Fed>), AllocError>
     ensures { IfOk result (λ r. HasRoom world.now r.0 r.1) }
 {
@@ -89,7 +90,7 @@ fn rooms_for(alloc: Global, world: &World<'_>) -> Result<(Room<Returned>, Room<F
 }
 
 impl<'a> Slow<'a> {
-    /// The machine in the opening world of a plan. It takes no memory.
+    /// Creates the machine in the opening world of a plan. It allocates nothing.
     pub fn new(alloc: Global, plan: &'a Plan) -> Slow<'a>
         ensures { result ≡ record { plan = plan.now; world = opening plan.now } }
     {
@@ -103,7 +104,7 @@ impl<'a> Slow<'a> {
         }
     }
 
-    /// A copy of the world, on which a step works until nothing can fail any more.
+    /// A copy of the world. A step changes the copy until nothing can fail any more.
     pub(crate) fn copy(&self) -> Result<World<'a>, AllocError>
         ensures { IfOk result (λ w. w ≡ self.now.world) }
     {
@@ -113,8 +114,8 @@ impl<'a> Slow<'a> {
         }
     }
 
-    /// The machine stands for another world, and has room for the end of a frame in flight. At
-    /// an error it stands for the world before. Condition: the plan leads to that world.
+    /// Moves the machine to another world, and makes room for the end of its drawn frame. At an
+    /// error the machine stays in the world before. Condition: the plan leads to the new world.
     fn go_on(&mut self, next: World<'a>) -> Result<(), AllocError>
         requires { IsReached self.old.plan next }
         ensures ok { OnOk result (self.new ≡ record self.old { world = next.entry }) }
@@ -127,8 +128,8 @@ impl<'a> Slow<'a> {
         Ok(())
     }
 
-    /// What follows an answer that presents nothing. Condition: the plan leads to the world that
-    /// is then left.
+    /// Computes the effects of a step that presents nothing. Condition: the plan leads to the
+    /// world after it.
     pub(crate) fn finish(
         &mut self,
         mut next: World<'a>,
@@ -147,7 +148,7 @@ impl<'a> Slow<'a> {
 }
 
 impl<'a> Slow<'a> {
-    /// The next message of a client. Condition: the plan has that client.
+    /// Takes the next message of a client. Condition: the plan has that client.
     fn client(&mut self, c: u32) -> Result<(Reply, Effects), AllocError>
         requires { NamesClient self.old.plan (event.Client c) }
         ensures ok { IfOk result
@@ -160,7 +161,7 @@ impl<'a> Slow<'a> {
         Ok(self.finish(next, reply)?)
     }
 
-    /// A begin-frame.
+    /// Takes a begin-frame.
     fn begin(&mut self) -> Result<(Reply, Effects), AllocError>
         ensures ok { IfOk result
             (λ o. IsOutcome (step_in self.old.plan self.old.world event.Begin) o self.new.world) }
@@ -172,7 +173,7 @@ impl<'a> Slow<'a> {
         Ok(self.finish(next, reply)?)
     }
 
-    /// A drawing.
+    /// Draws.
     fn draw(&mut self) -> Result<(Reply, Effects), AllocError>
         ensures ok { IfOk result
             (λ o. IsOutcome (step_in self.old.plan self.old.world event.Draw) o self.new.world) }
@@ -184,8 +185,8 @@ impl<'a> Slow<'a> {
         Ok(self.finish(next, reply)?)
     }
 
-    /// Ends the drawn frame, if there is one. It takes no memory: nothing becomes active and no
-    /// surface is destroyed, and for what is given back and fed there is room.
+    /// Ends the drawn frame, if there is one. It allocates nothing: no submission becomes active,
+    /// no surface is destroyed, and there is room for what is returned and for feedback.
     pub fn done(&mut self) -> (Reply, Effects)
         ensures step { IsOutcome (step_in self.old.plan self.old.world event.Done) result self.new.world }
         ensures plan { self.new.plan ≡ self.old.plan }
@@ -196,7 +197,8 @@ impl<'a> Slow<'a> {
         }
     }
 
-    /// No begin-frame will be waited for from now on. It takes no memory, since nothing follows.
+    /// Sets the Over mark: no client will wait for a begin-frame any more. It allocates nothing,
+    /// as the step has no effects.
     pub fn over(&mut self) -> (Reply, Effects)
         ensures step { IsOutcome (step_in self.old.plan self.old.world event.Over) result self.new.world }
         ensures plan { self.new.plan ≡ self.old.plan }
@@ -205,8 +207,9 @@ impl<'a> Slow<'a> {
         (Reply::Ended, nothing(self.alloc))
     }
 
-    /// A step: its reply and its effects. At Memory, the only error, the machine stands for the
-    /// world before. Condition: a client's event names a client of the plan.
+    /// Makes one step and returns its reply and its effects. The only error is `Memory`, if an
+    /// allocation fails; then the machine is in the world before. Condition: a client's event
+    /// names a client of the plan.
     pub fn step(&mut self, event: Event) -> Result<(Reply, Effects), Memory>
         requires { NamesClient self.old.plan event }
         ensures step { IfOk result
@@ -237,7 +240,7 @@ impl<'a> Slow<'a> {
         }
     }
 
-    /// The same, of the world as it is kept.
+    /// The active frames of the world, in the order of acceptance.
     pub(crate) fn frames_of_world(&self) -> Result<Vec<SubmittedFrame<'a>>, AllocError>
         ensures { IfOk result (λ v. v.items ≡ active_frames self.now.world.subs) }
     {
@@ -247,7 +250,7 @@ impl<'a> Slow<'a> {
         }
     }
 
-    /// The surface that is named as the root, if one is.
+    /// The surface that was named as the root, or None.
     pub fn root(&self) -> Option<SurfaceId>
         ensures { result ≡ self.now.world.root }
     {
@@ -257,8 +260,9 @@ impl<'a> Slow<'a> {
         }
     }
 
-    /// What is still out: references that were lent and not queued, and submissions without
-    /// feedback. Memory is the only error.
+    /// What is outstanding: references that were lent and not returned, by client and resource
+    /// id, and submissions without feedback, by client and ordinal. The only error is `Memory`,
+    /// if an allocation fails.
     pub fn rest(&self) -> Result<Rest, Memory>
         ensures { IfOk result (λ r. r ≡ rest_in self.now.world) }
     {
@@ -268,7 +272,7 @@ impl<'a> Slow<'a> {
         }
     }
 
-    /// The same, of the world as it is kept.
+    /// As `rest`, with the error of the allocator.
     fn rest_of_world(&self) -> Result<Rest, AllocError>
         ensures { IfOk result (λ r. r ≡ rest_in self.now.world) }
     {
@@ -282,7 +286,7 @@ impl<'a> Slow<'a> {
     }
 }
 
-/// The Over mark stands.
+/// Sets the Over mark.
 fn mark_over(stage: &mut Stage<'_>)
     ensures { (p : Planned) → world_at p stage.new ≡ record (world_at p stage.old) { over = true } }
 {
@@ -292,8 +296,8 @@ fn mark_over(stage: &mut Stage<'_>)
     }
 }
 
-/// Ends the drawn frame of a world, if there is one. Conditions: nothing is ready, named or lost
-/// in the world, and where a frame is in flight there is room for its end.
+/// Ends the drawn frame of a world, if there is one. Conditions: no submission is ready, no
+/// surface is to be named or is lost, and if there is a drawn frame there is room for its end.
 fn done(
     alloc: Global,
     world: &mut World<'_>,

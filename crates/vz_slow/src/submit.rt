@@ -20,7 +20,7 @@ use vz_state::{
 };
 
 impl<'a> World<'a> {
-    /// A submission as it is accepted, with the blocks that its listings name.
+    /// A submission as it is accepted, with the pixel blocks of its listed resources.
     #[tactic(auto, unfolding(vz_rules::specs::Messages::new_submission))]
     fn new_submission(
         &self,
@@ -43,7 +43,7 @@ impl<'a> World<'a> {
         Ok(Submission::new(submitted, due))
     }
 
-    /// A surface is created where the id is not that of the client's last one.
+    /// Creates a surface, if the local id is not that of the client's last one.
     #[tactic(auto, unfolding(vz_rules::specs::Messages::with_surface))]
     fn add_surface(
         &mut self,
@@ -66,7 +66,7 @@ impl<'a> World<'a> {
         Ok(())
     }
 
-    /// The submission waits on its surface, and the waiting one that is there is replaced.
+    /// Adds the submission, which waits on its surface. One that waited there is replaced.
     fn add_submission(
         &mut self,
         id: &SurfaceId,
@@ -83,7 +83,7 @@ impl<'a> World<'a> {
         Ok(())
     }
 
-    /// A submission is accepted: it waits, and the waiting one of its surface is dropped.
+    /// Accepts a submission: it waits, and one that waited on its surface is dropped.
     fn accept(
         &mut self,
         c: u32,
@@ -108,7 +108,7 @@ impl<'a> World<'a> {
         Ok(Reply::Accepted { ordinal, index })
     }
 
-    /// A submission is accepted, or refused.
+    /// Accepts a submission, or refuses it.
     pub(crate) fn submit(
         &mut self,
         c: u32,

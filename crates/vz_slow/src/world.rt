@@ -1,4 +1,4 @@
-//! Where the machine stands.
+//! The state of the plain machine.
 use std::alloc::Global;
 use std::marker::Model;
 use vz_frame::List;
@@ -6,8 +6,8 @@ use vz_ids::{FrameSinkId, Sub, SurfaceId};
 use vz_scene::Aggregation;
 use vz_state::{Client, Submission, Surface};
 
-/// The state of the machine. Surfaces stand in the order of creation, submissions in that of
-/// acceptance.
+/// The state of the plain machine. Surfaces are in the order of creation, submissions in the
+/// order of acceptance.
 #[derive(Drop)]
 pub(crate) struct World<'a> {
     pub(crate) alloc: Global,

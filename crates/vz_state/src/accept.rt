@@ -1,4 +1,4 @@
-//! What accepting a submission counts, replaces and takes along.
+//! What the acceptance of a submission counts, replaces and stores.
 ghost use Rattle.std.specs.Prelude.{◌≡◌, ◌==◌, ◌+◌, ◌*◌, ◌++◌, ◌≤◌, map, OnOk, IfOk, [], count_by};
 ghost use Rattle.vz_base.specs.declared.limits.TheConstants.{MOST_FILES, MOST_MESSAGES};
 ghost use Rattle.vz_rules.specs.World.{Resource as ResourceState, resource_in, is_on};
@@ -15,7 +15,7 @@ use vz_ids::SurfaceId;
 use vz_pixels::PixelBlock;
 use vz_rules::State;
 
-/// The number behind so many. Condition: they are not many.
+/// The number after this count. Condition: the count is within the limits of a plan.
 pub fn number_after(count: usize) -> u32
     requires { count ≤ MOST_FILES * MOST_MESSAGES }
     ensures { result ≡ count + 1 }
@@ -54,7 +54,7 @@ pub fn count_created(surfaces: &[Surface], c: u32) -> usize
 }
 
 impl<'a> Submission<'a> {
-    /// A waiting submission on the surface is replaced.
+    /// If the submission waits on this surface, it is replaced.
     fn replace(&mut self, id: &SurfaceId)
         ensures { self.new ≡ replace_on id.now self.old }
     {
@@ -64,7 +64,7 @@ impl<'a> Submission<'a> {
     }
 }
 
-/// The waiting submission on the surface is replaced.
+/// Replaces the submission that waits on this surface, if there is one.
 pub fn replace_all(submissions: &mut [Submission<'_>], id: &SurfaceId)
     ensures { submissions.new ≡ map (replace_on id.now) submissions.old }
 {
@@ -73,7 +73,7 @@ pub fn replace_all(submissions: &mut [Submission<'_>], id: &SurfaceId)
     }
 }
 
-/// The block of a resource is added, if it was ever stored.
+/// Appends the block of a resource, if one was ever stored.
 fn add_block<'a>(
     blocks: &mut Vec<&'a PixelBlock>,
     resources: &[Resource<'a>],
@@ -93,7 +93,7 @@ fn add_block<'a>(
     }
 }
 
-/// The blocks that listings name now.
+/// The blocks that the listings name now, in the order of the listings.
 pub fn blocks_of<'a>(
     alloc: Global,
     resources: &[Resource<'a>],

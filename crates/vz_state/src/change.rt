@@ -1,4 +1,4 @@
-//! What a client's message changes of the client.
+//! How a client's message changes what is kept of the client.
 ghost use Rattle.std.specs.Prelude.{◌≡◌, ◌==◌, map, if◌then◌else◌, OnOk};
 ghost use Rattle.vz_rules.specs.Messages.{took, lend, reclaim, answer_tick};
 ghost use Rattle.vz_state.specs.Changes.{changed_by};
@@ -12,10 +12,10 @@ use std::alloc::{AllocError, Global};
 use vz_frame::{CompositorFrame, Listing, Room};
 use vz_pixels::PixelBlock;
 
-/// What a message changes of its client, beside that it is taken.
+/// What a message changes of its client, besides that it is taken.
 #[derive(Clone, Copy)]
 pub enum Change<'a> {
-    /// Nothing.
+    /// It changes nothing else.
     Nothing,
     /// The id names the block from now on.
     Store {
@@ -24,30 +24,30 @@ pub enum Change<'a> {
         /// The block.
         block: &'a PixelBlock,
     },
-    /// What the frame lists is lent, and the begin-frame that it answers is noted.
+    /// The resources that the frame lists are lent, and the begin-frame that it answers is noted.
     Submit {
         /// The frame.
         frame: &'a CompositorFrame,
-        /// The tick.
+        /// The current tick.
         tick: u32,
     },
-    /// A begin-frame is answered.
+    /// The client answers a begin-frame.
     Answer {
         /// The number of the begin-frame.
         n: u32,
-        /// The tick.
+        /// The current tick.
         tick: u32,
     },
-    /// The queue is handed over.
+    /// The queue of returned resources is given to the client.
     Reclaim,
-    /// The delivered begin-frame is taken.
+    /// The pending begin-frame is taken.
     Take,
     /// The client is closed.
     Close,
 }
 
 impl<'a> Client<'a> {
-    /// A message is taken, and the client is changed. Condition: its numbers are small.
+    /// Takes a message and changes the client. Condition: its counts are within the limits.
     pub fn change(&mut self, alloc: Global, change: &Change<'a>) -> Result<(), AllocError>
         requires { IsSmallClient self.old }
         ensures { OnOk result (self.new ≡ took (changed_by change.now self.old)) }
@@ -68,8 +68,8 @@ impl<'a> Client<'a> {
         Ok(())
     }
 
-    /// Each listing lends one reference, and the queue has room for its return. Condition: not
-    /// many are lent.
+    /// Lends one reference for each listing, and makes room in the queue for its return.
+    /// Condition: the counts are within the limits.
     fn lend(&mut self, listings: &[Listing]) -> Result<(), AllocError>
         requires { AreSmallResources self.old.resources }
         ensures { OnOk result (self.new
@@ -80,7 +80,7 @@ impl<'a> Client<'a> {
         Ok(())
     }
 
-    /// The queue is emptied, with room as before for what is out.
+    /// Empties the queue, and makes room again for the returns that are outstanding.
     fn reclaim(&mut self, alloc: Global) -> Result<(), AllocError>
         ensures { OnOk result (self.new ≡ reclaim self.old) }
     {
@@ -91,7 +91,7 @@ impl<'a> Client<'a> {
         Ok(())
     }
 
-    /// The client has answered the tick where the number is that of the tick.
+    /// Notes that the client has answered the tick, if the number is that of the tick.
     fn answer(&mut self, tick: u32, n: u32)
         ensures { self.new ≡ answer_tick tick n self.old }
     {
@@ -100,7 +100,7 @@ impl<'a> Client<'a> {
         }
     }
 
-    /// Where it has the number, it takes a message and is changed.
+    /// If the client has this number, it takes a message and is changed.
     fn change_if(&mut self, alloc: Global, c: u32, change: &Change<'a>) -> Result<(), AllocError>
         requires { IsSmallClient self.old }
         ensures { OnOk result (self.new
@@ -113,7 +113,7 @@ impl<'a> Client<'a> {
     }
 }
 
-/// The client of this number takes a message and is changed.
+/// The client with this number takes a message and is changed.
 pub fn change_one<'a>(
     clients: &mut [Client<'a>],
     alloc: Global,

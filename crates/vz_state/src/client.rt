@@ -16,8 +16,8 @@ use vz_frame::{ClientFile, Room};
 use vz_ids::FrameSinkId;
 use vz_rules::Returned;
 
-/// A client, its resources by rising id. Its queue has room for a return of each resource of
-/// which references are out.
+/// A client, with its resources by rising id. Its queue has room for a return of each resource of
+/// which references are outstanding.
 #[derive(Drop)]
 pub struct Client<'a> {
     pub(crate) number: u32,
@@ -59,7 +59,7 @@ impl<'a> Client<'a> {
         self.sink
     }
 
-    /// Its number, from 1 on.
+    /// Its number, from 1.
     pub fn number(&self) -> u32
         ensures { result ≡ self.now.number }
     {
@@ -80,35 +80,35 @@ impl<'a> Client<'a> {
         &self.resources
     }
 
-    /// What is queued for it.
+    /// The returned resources that the client has not reclaimed, oldest first.
     pub fn queue(&self) -> &[Returned]
         ensures { result.now ≡ self.now.queue }
     {
         self.queue.as_slice()
     }
 
-    /// The begin-frame that was delivered and not taken, if there is one.
+    /// The begin-frame that is pending for it, if there is one.
     pub fn delivered(&self) -> Option<u32>
         ensures { result ≡ self.now.delivered }
     {
         self.delivered
     }
 
-    /// The tick that it answered last, 0 before it answered one.
+    /// The tick that it answered last, or 0 if it has answered none.
     pub fn answered(&self) -> u32
         ensures { result ≡ self.now.answered }
     {
         self.answered
     }
 
-    /// Whether this is the sink of a client that has closed.
+    /// Whether this is the sink of a closed client.
     pub(crate) fn has_gone(&self, sink: FrameSinkId) -> bool
         ensures { result ≡ (self.now.closed && same_sink self.now.sink sink) }
     {
         self.closed && self.sink == sink
     }
 
-    /// A begin-frame is delivered where the client is attached and not closed.
+    /// Delivers a begin-frame if the client is attached and not closed.
     fn deliver(&mut self, sinks: &[FrameSinkId], tick: u32)
         ensures { self.new ≡ deliver_by sinks.now tick self.old }
     {
@@ -118,14 +118,14 @@ impl<'a> Client<'a> {
     }
 }
 
-/// The client of this number.
+/// The client with this number, if there is one.
 pub fn client_of<'b, 'a>(clients: &'b [Client<'a>], c: u32) -> Option<&'b Client<'a>>
     ensures { option_copied result ≡ find (λ x. x.number == c) clients.now }
 {
     clients.iter().find(|client| client.number == c)
 }
 
-/// Whether a sink is that of a file.
+/// Whether a sink is that of some client's file.
 pub fn is_known(clients: &[Client<'_>], sink: FrameSinkId) -> bool
     ensures { result ≡ list_any (λ c. same_sink c.sink sink) clients.now }
 {
@@ -139,7 +139,7 @@ pub fn is_gone(clients: &[Client<'_>], sink: FrameSinkId) -> bool
     clients.iter().any(|client| client.has_gone(sink))
 }
 
-/// Whether the client is closed.
+/// Whether the client with this number is closed.
 pub fn has_closed(clients: &[Client<'_>], c: u32) -> bool
     ensures { result ≡ list_any (λ x. (x.number == c) && x.closed) clients.now }
 {
@@ -148,7 +148,7 @@ pub fn has_closed(clients: &[Client<'_>], c: u32) -> bool
         .any(|client| client.number == c && client.closed)
 }
 
-/// A begin-frame is delivered to the attached clients.
+/// Delivers a begin-frame to the attached clients that are not closed.
 pub fn deliver_all(clients: &mut [Client<'_>], sinks: &[FrameSinkId], tick: u32)
     ensures { clients.new ≡ map (deliver_by sinks.now tick) clients.old }
 {
@@ -157,7 +157,7 @@ pub fn deliver_all(clients: &mut [Client<'_>], sinks: &[FrameSinkId], tick: u32)
     }
 }
 
-/// A client before its first message. It takes no memory.
+/// Creates a client before its first message. It allocates nothing.
 pub fn new_client<'a>(alloc: Global, number: u32, sink: FrameSinkId) -> Client<'a>
     ensures { result ≡ new_client number sink }
 {
@@ -173,7 +173,7 @@ pub fn new_client<'a>(alloc: Global, number: u32, sink: FrameSinkId) -> Client<'
     }
 }
 
-/// The clients of files, numbered from 1 on.
+/// The clients of the files, numbered from 1. The only error is a failed allocation.
 pub fn new_clients<'a>(alloc: Global, files: &[ClientFile]) -> Result<Vec<Client<'a>>, AllocError>
     requires { length files.now ≤ MOST_FILES }
     ensures { IfOk result (λ v. v.items ≡ new_clients 1 files.now) }

@@ -1,4 +1,4 @@
-//! Copies, on which a step works until nothing can fail any more.
+//! Copies. A step changes a copy of the state until nothing can fail any more.
 ghost use Rattle.std.specs.Prelude.{◌≡◌, ◌≤◌, IfOk};
 
 use crate::client::Client;
@@ -11,7 +11,7 @@ use vz_frame::Room;
 use vz_rules::Returned;
 
 impl<'a> Resource<'a> {
-    /// The same resource.
+    /// A copy of the resource.
     fn copy(&self) -> Resource<'a>
         ensures { result ≡ self.now }
     {
@@ -25,7 +25,7 @@ impl<'a> Resource<'a> {
     }
 }
 
-/// The same resources.
+/// A copy of the resources.
 fn copy_resources<'a>(
     alloc: Global,
     resources: &[Resource<'a>],
@@ -38,7 +38,7 @@ fn copy_resources<'a>(
         .collect(alloc)
 }
 
-/// The same queue, with so many places to spare.
+/// A copy of the queue, with room for `spare` more.
 fn copy_queue(alloc: Global, queue: &[Returned], spare: usize) -> Result<Room<Returned>, AllocError>
     ensures { IfOk result (λ r. (r.list ≡ queue.now) × (spare ≤ r.spare)) }
 {
@@ -52,7 +52,7 @@ fn copy_queue(alloc: Global, queue: &[Returned], spare: usize) -> Result<Room<Re
 }
 
 impl<'a> Client<'a> {
-    /// The same client.
+    /// A copy of the client.
     fn copy(&self, alloc: Global) -> Result<Client<'a>, AllocError>
         ensures { IfOk result (λ c. c ≡ self.now) }
     {
@@ -72,7 +72,7 @@ impl<'a> Client<'a> {
 }
 
 impl Surface {
-    /// The same surface.
+    /// A copy of the surface.
     pub fn copy(&self) -> Surface
         ensures { result ≡ self.now }
     {
@@ -90,7 +90,7 @@ impl Surface {
 }
 
 impl<'a> Submission<'a> {
-    /// The same submission.
+    /// A copy of the submission.
     fn copy(&self, alloc: Global) -> Result<Submission<'a>, AllocError>
         ensures { IfOk result (λ s. s ≡ self.now) }
     {
@@ -104,7 +104,7 @@ impl<'a> Submission<'a> {
     }
 }
 
-/// The same clients.
+/// A copy of the clients.
 pub fn copy_clients<'a>(
     alloc: Global,
     clients: &[Client<'a>],
@@ -118,7 +118,7 @@ pub fn copy_clients<'a>(
     Ok(copies)
 }
 
-/// The same submissions.
+/// A copy of the submissions.
 pub fn copy_submissions<'a>(
     alloc: Global,
     submissions: &[Submission<'a>],

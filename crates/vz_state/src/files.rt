@@ -9,7 +9,7 @@ use crate::client::Client;
 use vz_frame::{ClientFile, Message};
 use vz_rules::Plan;
 
-/// The file of a client, which is numbered from 1.
+/// The file of a client, whose numbers start at 1, or None if there is no such client.
 #[tactic(auto, using(std::proofs::lemmas::Option::gets))]
 pub fn file_of(plan: &Plan, c: u32) -> Option<&ClientFile>
     ensures value { option_copied result ≡ file_of plan.now c }
@@ -18,7 +18,7 @@ pub fn file_of(plan: &Plan, c: u32) -> Option<&ClientFile>
     plan.files().get((c as usize).saturating_sub(1))
 }
 
-/// The message at a place of a file.
+/// The message at a place of a file, from 0.
 #[tactic(auto, using(std::proofs::lemmas::Option::gets))]
 fn message_at(file: &ClientFile, place: usize) -> Option<&Message>
     ensures { option_copied result ≡ slice_get file.now.messages place }
@@ -26,7 +26,7 @@ fn message_at(file: &ClientFile, place: usize) -> Option<&Message>
     file.messages.as_slice().get(place)
 }
 
-/// The message that a client takes next.
+/// The message that a client takes next, or None if it has taken all.
 pub fn next_message<'a>(plan: &'a Plan, client: &Client<'_>) -> Option<&'a Message>
     ensures value { option_copied result ≡ next_message plan.now client.now }
     ensures fits { IfSome result (λ m. FitsSome m.now) }

@@ -1,4 +1,4 @@
-//! Changes in place, by flags that were found before anything changes.
+//! Changes in place, by flags that were computed before anything changes.
 ghost use Rattle.std.specs.Prelude.{◌≡◌, ◌&&◌, length, map, if◌then◌else◌, true, Bool};
 ghost use Rattle.vz_rules.specs.World.{is_active, Submission as SubmissionState, Created};
 ghost use Rattle.vz_rules.specs.declared.entry.State.TheVariants.{Active as Acts, Past as Passed};
@@ -8,7 +8,8 @@ use crate::surface::Surface;
 use vz_rules::State;
 
 impl<'a> Submission<'a> {
-    /// It becomes active, or is past where it is active and another one on its surface becomes so.
+    /// Makes the submission active if `becomes`. If it was active and `replaced`, it is not
+    /// active any more.
     fn go_on(&mut self, becomes: bool, replaced: bool)
         ensures { self.new ≡ (if becomes then record self.old { state = Acts; was_active = true }
             else (if is_active self.old && replaced then record self.old { state = Passed }
@@ -24,7 +25,7 @@ impl<'a> Submission<'a> {
 }
 
 impl Surface {
-    /// It is marked where the flag stands.
+    /// Marks the surface if the flag is true.
     fn mark(&mut self, flag: bool)
         ensures { self.new ≡ (if flag then record self.old { marked = true } else self.old) }
     {
@@ -33,7 +34,7 @@ impl Surface {
         }
     }
 
-    /// It is named where the flag stands.
+    /// Notes the surface as named if the flag is true.
     fn name(&mut self, flag: bool)
         ensures { self.new ≡ (if flag then record self.old { named = true } else self.old) }
     {
@@ -43,7 +44,8 @@ impl Surface {
     }
 }
 
-/// Submissions go on, each by its two flags.
+/// Applies the two flags of each submission, by place: `becomes` makes it active, and `replaced`
+/// ends it if it was active.
 pub fn go_on_by(submissions: &mut [Submission<'_>], becomes: &[bool], replaced: &[bool])
     requires one { length becomes.now ≡ length submissions.old }
     requires other { length replaced.now ≡ length submissions.old }
@@ -57,7 +59,7 @@ pub fn go_on_by(submissions: &mut [Submission<'_>], becomes: &[bool], replaced: 
     }
 }
 
-/// Surfaces are marked, each by its flag.
+/// Marks each surface whose flag is true. Condition: there is a flag for each surface.
 pub fn mark_by(surfaces: &mut [Surface], flags: &[bool])
     requires { length flags.now ≡ length surfaces.old }
     ensures { (p : Created → Bool) → flags.now ≡ map p surfaces.old
@@ -68,7 +70,7 @@ pub fn mark_by(surfaces: &mut [Surface], flags: &[bool])
     }
 }
 
-/// Surfaces are named, each by its flag.
+/// Notes each surface whose flag is true as named. Condition: there is a flag for each surface.
 pub fn name_by(surfaces: &mut [Surface], flags: &[bool])
     requires { length flags.now ≡ length surfaces.old }
     ensures { (p : Created → Bool) → flags.now ≡ map p surfaces.old

@@ -1,4 +1,4 @@
-//! What is still out.
+//! What is outstanding at the end of a run.
 ghost use Rattle.std.specs.Prelude.{◌≡◌, ◌&&◌, ◌==◌, not, IfOk};
 ghost use Rattle.std.specs.List.{flat_map, filter_map};
 ghost use Rattle.vz_rules.specs.World.{Client as ClientState};
@@ -11,7 +11,7 @@ use std::alloc::{AllocError, Global};
 use vz_rules::Returned;
 
 impl<'a> Resource<'a> {
-    /// The references that are lent and not queued, where there are any.
+    /// The references of a resource that are lent and not returned, if there are any.
     fn held(&self, c: u32) -> Option<Returned>
         ensures { result ≡ held_resource c self.now }
     {
@@ -27,7 +27,7 @@ impl<'a> Resource<'a> {
     }
 }
 
-/// The references of a client that are lent and not queued.
+/// The references of a client that are lent and not returned, by resource id.
 fn held_by(alloc: Global, client: &Client<'_>) -> Result<Vec<Returned>, AllocError>
     ensures { IfOk result (λ v. v.items
         ≡ filter_map (held_resource client.now.number) client.now.resources) }
@@ -39,7 +39,7 @@ fn held_by(alloc: Global, client: &Client<'_>) -> Result<Vec<Returned>, AllocErr
         .collect(alloc)
 }
 
-/// The references that are lent and not queued, by client and id.
+/// The references that are lent and not returned, by client and resource id.
 pub fn all_held(alloc: Global, clients: &[Client<'_>]) -> Result<Vec<Returned>, AllocError>
     ensures { IfOk result (λ v. v.items ≡ flat_map
         (λ (c : ClientState). filter_map (held_resource c.number) c.resources) clients.now) }
@@ -53,7 +53,7 @@ pub fn all_held(alloc: Global, clients: &[Client<'_>]) -> Result<Vec<Returned>, 
 }
 
 impl<'a> Submission<'a> {
-    /// Whether it is a client's and has no feedback.
+    /// Whether the submission is by this client and has no feedback yet.
     pub fn is_unfed(&self, c: u32) -> bool
         ensures { result ≡ ((self.now.submitted.sub.client == c) && not self.now.fed) }
     {

@@ -1,8 +1,8 @@
-//! The parts of the machine's state, and what changes each.
+//! The parts of the plain machine's state, and what changes each of them.
 //!
-//! Clients with their resources and queues, surfaces, submissions, and what holds resources.
-//! The plain machine puts them together to a world, and steps through it by what changes each
-//! part. Each call answers what the definitions of `vz_rules` say, and scans plain lists.
+//! The parts are clients with their resources and queues, surfaces, submissions, and what holds
+//! resources. The plain machine joins them to a world, and steps by changing each part. Each call
+//! returns what the definitions of `vz_rules` say, and scans plain lists.
 #![tactic(auto)]
 
 mod accept;

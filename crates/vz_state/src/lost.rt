@@ -1,4 +1,4 @@
-//! Surfaces that are lost, and the submissions on them.
+//! Surfaces that are destroyed as nothing keeps them, and the submissions on them.
 ghost use Rattle.std.specs.Prelude.{◌≡◌, ◌==◌, map, if◌then◌else◌, Some, None, IfOk};
 ghost use Rattle.std.specs.List.{list_any, flat_map};
 ghost use Rattle.vz_rules.specs.World.{is_on};
@@ -12,7 +12,7 @@ use vz_rules::{Lost, State};
 use vz_scene::SurfaceSet;
 
 impl Surface {
-    /// It is destroyed where it is marked and is not among those that are kept.
+    /// Destroys the surface if it is marked and is not among those that are kept.
     fn destroy(&mut self, kept: &SurfaceSet)
         ensures { self.new ≡ destroy kept.now self.old }
     {
@@ -21,15 +21,15 @@ impl Surface {
         }
     }
 
-    /// Whether it is marked, exists and is not among those that are kept.
+    /// Whether the surface is lost: it is marked, exists, and is not among those that are kept.
     pub fn is_lost(&self, kept: &SurfaceSet) -> bool
         ensures { result ≡ is_lost kept.now self.now }
     {
         self.marked && !self.destroyed && !kept.has(&self.id)
     }
 
-    /// Its name, where it is this client's: the client, and its number among those that the
-    /// client created.
+    /// If the surface is this client's: the client's number, and the surface's number among those
+    /// that the client created.
     fn name_of(&self, c: u32) -> Option<Lost>
         ensures { result ≡ (if self.now.client == c
             then Some (record { client = self.now.client; surface = self.now.number }) else None) }
@@ -45,7 +45,7 @@ impl Surface {
     }
 }
 
-/// Every marked surface that is not kept is destroyed.
+/// Destroys each marked surface that is not kept.
 pub fn destroy_all(surfaces: &mut [Surface], kept: &SurfaceSet)
     ensures { surfaces.new ≡ map (destroy kept.now) surfaces.old }
 {
@@ -62,7 +62,7 @@ fn is_on_one(submission: &Submission<'_>, surfaces: &[Surface]) -> bool
 }
 
 impl<'a> Submission<'a> {
-    /// It ends where it is on one of these surfaces.
+    /// Ends the submission if it is on one of these surfaces.
     fn drop_on(&mut self, lost: &[Surface])
         ensures { self.new ≡ drop_on lost.now self.old }
     {
@@ -72,7 +72,7 @@ impl<'a> Submission<'a> {
     }
 }
 
-/// The submissions on these surfaces end.
+/// Ends the submissions on these surfaces.
 pub fn drop_all(submissions: &mut [Submission<'_>], lost: &[Surface])
     ensures { submissions.new ≡ map (drop_on lost.now) submissions.old }
 {
@@ -81,7 +81,7 @@ pub fn drop_all(submissions: &mut [Submission<'_>], lost: &[Surface])
     }
 }
 
-/// Those of the lost surfaces that are a client's, by their numbers.
+/// The lost surfaces of a client, in the order of creation.
 fn lost_of(alloc: Global, lost: &[Surface], client: &Client<'_>) -> Result<Vec<Lost>, AllocError>
     ensures { IfOk result (λ v. v.items ≡ lost_of lost.now client.now) }
 {
@@ -90,7 +90,7 @@ fn lost_of(alloc: Global, lost: &[Surface], client: &Client<'_>) -> Result<Vec<L
         .collect(alloc)
 }
 
-/// The lost surfaces, by client and creation.
+/// The lost surfaces, by client and then in the order of creation.
 pub fn by_client(
     alloc: Global,
     clients: &[Client<'_>],

@@ -1,4 +1,4 @@
-//! Which surfaces are named and shown by references.
+//! Which surfaces are named by references, and which are shown.
 ghost use Rattle.std.specs.Prelude.{◌≡◌, map, IfOk};
 ghost use Rattle.std.specs.List.{filter_map};
 ghost use Rattle.vz_state.specs.Naming.{is_named_by, shown_in};
@@ -8,7 +8,7 @@ use std::alloc::{AllocError, Global};
 use vz_ids::{SurfaceId, SurfaceRange};
 use vz_scene::{ActiveFrames, Newest};
 
-/// The ends of ranges.
+/// The ends of ranges, in their order.
 pub fn range_ends(alloc: Global, ranges: &[SurfaceRange]) -> Result<Vec<SurfaceId>, AllocError>
     ensures { IfOk result (λ v. v.items ≡ map (λ r. r.end) ranges.now) }
 {
@@ -16,7 +16,7 @@ pub fn range_ends(alloc: Global, ranges: &[SurfaceRange]) -> Result<Vec<SurfaceI
 }
 
 impl Surface {
-    /// Whether it exists, and one of these is it or a newer one of its group.
+    /// Whether the surface exists, and one of the ends is it or a newer one of its group.
     fn is_named_by(&self, ends: &Newest) -> bool
         ensures { result ≡ is_named_by ends.now self.now }
     {
@@ -24,7 +24,7 @@ impl Surface {
     }
 }
 
-/// For each surface, whether it exists and is one of those that are reached.
+/// For each surface, whether it exists and is named by these ends.
 fn flags_by(alloc: Global, surfaces: &[Surface], ends: &Newest) -> Result<Vec<bool>, AllocError>
     ensures { IfOk result
         (λ v. v.items ≡ map (is_named_by ends.now) surfaces.now) }
@@ -35,7 +35,7 @@ fn flags_by(alloc: Global, surfaces: &[Surface], ends: &Newest) -> Result<Vec<bo
         .collect(alloc)
 }
 
-/// For each surface, whether it exists and one of these is it or a newer one of its group.
+/// For each surface, whether it exists and one of the ends is it or a newer one of its group.
 pub fn named_flags(
     alloc: Global,
     surfaces: &[Surface],
@@ -57,7 +57,8 @@ fn shown(active: &ActiveFrames<'_, '_>, range: &SurfaceRange) -> Option<SurfaceI
     }
 }
 
-/// The surfaces that ranges show.
+/// The surfaces that ranges show, in the order of the ranges. A range that shows none adds
+/// nothing.
 pub fn all_shown(
     alloc: Global,
     active: &ActiveFrames<'_, '_>,

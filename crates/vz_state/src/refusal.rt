@@ -13,14 +13,14 @@ use vz_geom::Size;
 use vz_ids::LocalSurfaceId;
 use vz_rules::Refusal;
 
-/// Whether both sides are equal.
+/// Whether both sides of the sizes are equal.
 fn is_same_size(a: Size, b: Size) -> bool
     ensures { result ≡ same_size a b }
 {
     !(a.w < b.w) && !(b.w < a.w) && !(a.h < b.h) && !(b.h < a.h)
 }
 
-/// Whether no number of the new one is smaller, and one is greater.
+/// Whether neither number of the new id is smaller, and at least one is greater.
 fn is_raised(old: &LocalSurfaceId, new: &LocalSurfaceId) -> bool
     ensures { result ≡ is_raised old.now new.now }
 {
@@ -29,7 +29,7 @@ fn is_raised(old: &LocalSurfaceId, new: &LocalSurfaceId) -> bool
         && (old.parent < new.parent || old.child < new.child)
 }
 
-/// Whether the id is not the last one and does not go on from it.
+/// Whether the id is neither the last one of the client nor allowed after it.
 fn violates(last: Option<&Surface>, local: &LocalSurfaceId) -> bool
     ensures { result ≡ violates (option_copied last.entry) local.now }
 {
@@ -49,7 +49,7 @@ pub fn is_last(last: Option<&Surface>, local: &LocalSurfaceId) -> bool
     }
 }
 
-/// Whether the id is that of the last created surface, which has another size.
+/// Whether the id is that of the last created surface, and that surface has another size.
 fn has_other_size(last: Option<&Surface>, local: &LocalSurfaceId, frame: &CompositorFrame) -> bool
     ensures { result ≡ has_other_size (option_copied last.entry) local.now frame.now }
 {
@@ -68,7 +68,7 @@ fn has_unknown(resources: &[Resource<'_>], listings: &[Listing]) -> bool
         .any(|listing| is_unknown(resources, listing))
 }
 
-/// Why a submission is refused, if it is.
+/// Why a submission is refused, or None if it is accepted.
 pub fn submit_refusal(
     last: Option<&Surface>,
     resources: &[Resource<'_>],

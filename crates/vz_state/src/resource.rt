@@ -1,4 +1,4 @@
-//! Resources of clients, and what changes each.
+//! The resources of clients, and what changes them.
 ghost use Rattle.std.specs.Prelude.{◌≡◌, ◌&&◌, ◌==◌, ◌++◌, ◌<◌, ◌≤◌, length, map, take, drop, get_or, OnOk, OnErr};
 ghost use Rattle.std.specs.List.{list_any};
 ghost use Rattle.std.specs.Option.{option_copied};
@@ -14,7 +14,7 @@ use std::marker::Model;
 use vz_frame::Listing;
 use vz_pixels::PixelBlock;
 
-/// A resource of a client: its block, and the references lent, queued and reclaimed.
+/// A resource of a client: its block, and how many references were lent, returned and reclaimed.
 #[derive(Drop)]
 pub struct Resource<'a> {
     pub(crate) id: u32,
@@ -53,7 +53,7 @@ impl<'a> Resource<'a> {
         self.block
     }
 
-    /// Whether it has a block of the listed size under the listed id.
+    /// Whether its id and the size of its block are those of the listing.
     fn serves(&self, listing: &Listing) -> bool
         ensures { result ≡ ((self.now.id == listing.now.id)
             && (self.now.block.w == listing.now.w) && (self.now.block.h == listing.now.h)) }
@@ -63,7 +63,7 @@ impl<'a> Resource<'a> {
             && self.block.h() == u32::from(listing.h)
     }
 
-    /// A reference is lent where it is listed. Condition: not many are.
+    /// Lends a reference if the resource is listed. Condition: the count is within the limits.
     fn lend(&mut self, listings: &[Listing])
         requires { self.old.lent ≤ MOST_MESSAGES }
         ensures { self.new ≡ lend listings.now self.old }
@@ -73,14 +73,14 @@ impl<'a> Resource<'a> {
         }
     }
 
-    /// What is queued is reclaimed.
+    /// Notes that the client reclaims what was returned.
     fn reclaim(&mut self)
         ensures { self.new ≡ record self.old { reclaimed = self.old.queued } }
     {
         self.reclaimed = self.queued;
     }
 
-    /// It has another block.
+    /// Replaces the block.
     fn replace(&mut self, block: &'a PixelBlock)
         ensures { self.new ≡ record self.old { block = block.now } }
     {
@@ -88,7 +88,7 @@ impl<'a> Resource<'a> {
     }
 }
 
-/// The resource of this id, if it was ever stored.
+/// The resource with this id, if a block was ever stored for it.
 pub(crate) fn resource_of<'b, 'a>(
     resources: &'b [Resource<'a>],
     id: u32,
@@ -98,7 +98,7 @@ pub(crate) fn resource_of<'b, 'a>(
     resources.iter().find(|resource| resource.id == id)
 }
 
-/// Whether more references of a resource were lent than its client reclaimed.
+/// Whether a resource is in use: more of its references were lent than its client has reclaimed.
 pub fn in_use(resources: &[Resource<'_>], id: u32) -> bool
     ensures { result ≡ in_use resources.now id }
 {
@@ -130,7 +130,7 @@ pub(crate) fn is_unknown(resources: &[Resource<'_>], listing: &Listing) -> bool
     !is_served(resources, listing)
 }
 
-/// Each listing lends one reference. Condition: not many are lent.
+/// Lends one reference for each listing. Condition: the counts are within the limits.
 pub(crate) fn lend_all(resources: &mut [Resource<'_>], listings: &[Listing])
     requires { AreSmallResources resources.old }
     ensures { resources.new ≡ map (lend listings.now) resources.old }
@@ -140,7 +140,7 @@ pub(crate) fn lend_all(resources: &mut [Resource<'_>], listings: &[Listing])
     }
 }
 
-/// What is queued of each resource is reclaimed.
+/// Notes for each resource that the client reclaims what was returned.
 pub(crate) fn reclaim_all(resources: &mut [Resource<'_>])
     ensures { resources.new
         ≡ map (λ (s : ResourceState). record s { reclaimed = s.queued }) resources.old }
@@ -150,7 +150,7 @@ pub(crate) fn reclaim_all(resources: &mut [Resource<'_>])
     }
 }
 
-/// The place of the first resource whose id is not smaller.
+/// The place of the first resource whose id is not smaller than this.
 fn place_for(resources: &[Resource<'_>], id: u32) -> usize
     ensures within { result ≤ length resources.now }
     ensures put { (block : Block) → put_resource id block resources.now
@@ -168,7 +168,7 @@ fn place_for(resources: &[Resource<'_>], id: u32) -> usize
     k
 }
 
-/// The id names the block from now on, or nothing changes.
+/// Stores a block under an id. If it fails, nothing changes.
 pub(crate) fn put<'a>(
     resources: &mut Vec<Resource<'a>>,
     id: u32,

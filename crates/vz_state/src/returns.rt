@@ -1,4 +1,4 @@
-//! References that are given back, and feedback.
+//! Resources that are returned, and feedback.
 ghost use Rattle.std.specs.Prelude.{◌≡◌, ◌&&◌, ◌==◌, ◌<◌, ◌≤◌, map, IfOk, true, false};
 ghost use Rattle.std.specs.List.{list_any, flat_map, filter_map};
 ghost use Rattle.vz_frame.specs.Frame.{lists};
@@ -25,7 +25,7 @@ fn has_sub(subs: &[Sub], sub: Sub) -> bool
     subs.iter().any(|other| sub == *other)
 }
 
-/// Whether a submission is in the drawn frame that is not done.
+/// Whether a submission is in the drawn frame that is not done yet.
 fn is_in_flight(in_flight: &Option<List<Sub>>, sub: Sub) -> bool
     ensures { result ≡ is_in_flight in_flight.now sub }
 {
@@ -35,7 +35,7 @@ fn is_in_flight(in_flight: &Option<List<Sub>>, sub: Sub) -> bool
     }
 }
 
-/// What holds resources: the submissions, the surfaces, and the frame in flight.
+/// What holds resources: the submissions, the surfaces, and the drawn frame that is not done yet.
 #[derive(Drop)]
 pub struct Holders<'b, 'a> {
     submissions: &'b [Submission<'a>],
@@ -53,7 +53,7 @@ impl<'b, 'a> Model for Holders<'b, 'a> {
 }
 
 impl<'b, 'a> Holders<'b, 'a> {
-    /// The holders of these parts of a world.
+    /// Joins these parts of a state.
     pub fn new(
         submissions: &'b [Submission<'a>],
         surfaces: &'b [Surface],
@@ -68,7 +68,7 @@ impl<'b, 'a> Holders<'b, 'a> {
         }
     }
 
-    /// Whether a submission holds what it lists.
+    /// Whether a submission holds the resources that it lists.
     fn holds(&self, submission: &Submission<'_>) -> bool
         ensures { result ≡ holds self.now submission.now }
     {
@@ -88,7 +88,7 @@ impl<'b, 'a> Holders<'b, 'a> {
             && is_listed(id, submission.frame().resources.as_slice())
     }
 
-    /// Whether a resource of a client is held.
+    /// Whether any submission holds a resource of a client.
     #[tactic(auto, unfolding(vz_rules::specs::Returns::is_held))]
     fn is_held(&self, c: u32, id: u32) -> bool
         ensures { result ≡ is_held self.now c id }
@@ -98,14 +98,15 @@ impl<'b, 'a> Holders<'b, 'a> {
             .any(|submission| self.holds_of(submission, c, id))
     }
 
-    /// Whether a resource goes back: more of its references were lent than queued, and nothing holds it.
+    /// Whether a resource is returned now: more of its references were lent than returned, and
+    /// nothing holds it.
     fn goes_back(&self, c: u32, resource: &Resource<'_>) -> bool
         ensures { result ≡ goes_back self.now c resource.now }
     {
         resource.queued < resource.lent && !self.is_held(c, resource.id)
     }
 
-    /// What is queued of a resource now.
+    /// The return of a resource now, if it is returned.
     fn return_of(&self, c: u32, resource: &Resource<'_>) -> Option<Returned>
         ensures { result ≡ return_of self.now c resource.now }
     {
@@ -122,8 +123,8 @@ impl<'b, 'a> Holders<'b, 'a> {
 }
 
 impl<'a> Resource<'a> {
-    /// It is queued where it goes back: its return stands in the queue, and is told. Conditions:
-    /// where its references are out, both have a place to spare.
+    /// If the resource is returned now, appends its return to the queue and to the report.
+    /// Condition: if references of it are outstanding, both have a free place.
     fn give_back(
         &mut self,
         holders: &Holders<'_, '_>,
@@ -148,8 +149,8 @@ impl<'a> Resource<'a> {
     }
 }
 
-/// What is not used any more is queued, and told. Condition: both lists have room for a return
-/// of each resource of which references are out.
+/// Returns the resources that are not used any more, and reports them. Condition: both lists have
+/// room for a return of each resource of which references are outstanding.
 fn give_back_all(
     resources: &mut [Resource<'_>],
     holders: &Holders<'_, '_>,
@@ -169,8 +170,8 @@ fn give_back_all(
 }
 
 impl<'a> Client<'a> {
-    /// Its returns stand at the end of its queue, and are told. Condition: what is told has
-    /// room for a return of each resource of which references are out.
+    /// Appends the client's returns to its queue, and reports them. Condition: the report has
+    /// room for a return of each resource of which references are outstanding.
     fn give_back(&mut self, holders: &Holders<'_, '_>, told: &mut Room<Returned>)
         requires { outs self.old.resources ≤ told.old.spare }
         ensures client { self.new ≡ queue_returns holders.now self.old }
@@ -180,7 +181,7 @@ impl<'a> Client<'a> {
         give_back_all(&mut self.resources, holders, number, &mut self.queue, told);
     }
 
-    /// How many of its resources have references out.
+    /// How many of its resources have outstanding references.
     #[tactic(auto, unfolding(crate::specs::Outs::outs))]
     fn outs(&self) -> usize
         ensures { result ≡ outs self.now.resources }
@@ -193,7 +194,7 @@ impl<'a> Client<'a> {
 }
 
 impl<'a> Resource<'a> {
-    /// Whether more of its references were lent than queued.
+    /// Whether references of it are outstanding: more were lent than returned.
     fn is_out(&self) -> bool
         ensures { result ≡ is_out self.now }
     {
@@ -201,8 +202,8 @@ impl<'a> Resource<'a> {
     }
 }
 
-/// The returns of all clients are queued, and told, by client and rising id. Condition: there
-/// is room for them.
+/// Appends the returns of all clients to their queues, and reports them by client and rising id.
+/// Condition: there is room for them.
 pub fn give_back_clients(
     clients: &mut [Client<'_>],
     holders: &Holders<'_, '_>,
@@ -217,7 +218,7 @@ pub fn give_back_clients(
     }
 }
 
-/// How many resources of clients have references out.
+/// How many resources of all clients have outstanding references.
 pub fn outs_of(clients: &[Client<'_>]) -> Result<usize, AllocError>
     ensures { IfOk result (λ n. n ≡ all_outs clients.now) }
 {
@@ -232,7 +233,7 @@ pub fn outs_of(clients: &[Client<'_>]) -> Result<usize, AllocError>
 }
 
 impl<'a> Submission<'a> {
-    /// The feedback that it gets now.
+    /// The feedback that the submission gets now, if it gets some.
     fn feedback(&self, in_flight: &Option<List<Sub>>, presented: &[Sub]) -> Option<Fed>
         ensures { result ≡ feedback_by in_flight.now presented.now self.now }
     {
@@ -254,8 +255,8 @@ impl<'a> Submission<'a> {
         None
     }
 
-    /// Where it gets feedback now, it has it from now on, and this is told. Condition: there is
-    /// a place to spare where it has none yet.
+    /// If the submission gets feedback now, notes that and reports it. Condition: if it has none
+    /// yet there is a free place.
     fn feed(&mut self, in_flight: &Option<List<Sub>>, presented: &[Sub], told: &mut Room<Fed>)
         requires { self.old.fed ≡ false → 0 < told.old.spare }
         ensures submission { self.new ≡ fed_by in_flight.now presented.now self.old }
@@ -271,7 +272,7 @@ impl<'a> Submission<'a> {
     }
 }
 
-/// Each submission that is due for feedback gets it, and it is told, in the order of
+/// Gives feedback to each submission for which it is due, and reports it in the order of
 /// acceptance. Condition: there is room for all that have none yet.
 pub fn feed_all(
     submissions: &mut [Submission<'_>],
@@ -289,7 +290,7 @@ pub fn feed_all(
     }
 }
 
-/// How many submissions have no feedback.
+/// How many submissions have no feedback yet.
 #[tactic(auto, unfolding(crate::specs::Outs::unfed))]
 pub fn unfed_of(submissions: &[Submission<'_>]) -> usize
     ensures { result ≡ unfed submissions.now }

@@ -1,4 +1,4 @@
-//! What becomes active in a round.
+//! The submissions that become active in a round.
 ghost use Rattle.std.specs.Prelude.{◌≡◌, ◌&&◌, ◌||◌, ◌==◌, nat_lt, OnOk};
 ghost use Rattle.std.specs.List.{list_any};
 ghost use Rattle.vz_ids.specs.declared.SurfaceId.{SurfaceId as Surfaced};
@@ -22,27 +22,27 @@ pub struct Risen {
     pub number: u32,
 }
 
-/// What is found of a round before it changes anything.
+/// What is computed of a round before it changes anything.
 #[derive(Drop)]
 pub struct Signs {
-    /// What becomes active.
+    /// The submissions that become active, in the order of acceptance.
     pub risen: Vec<Risen>,
     /// For each submission, whether it becomes active.
     pub becomes: Vec<bool>,
-    /// For each submission, whether one that rose is on its surface.
+    /// For each submission, whether one that becomes active is on its surface.
     pub replaced: Vec<bool>,
-    /// For each surface, whether one that rose is on a later one of its client.
+    /// For each surface, whether a submission becomes active on a later surface of its client.
     pub marked: Vec<bool>,
 }
 
-/// Whether one of those that rose is on the surface.
+/// Whether one of those that become active is on the surface.
 pub fn is_one_on(risen: &[Risen], id: &SurfaceId) -> bool
     ensures { result ≡ list_any (λ r. same_surface r.id id.now) risen.now }
 {
     risen.iter().any(|other| other.id == *id)
 }
 
-/// Whether one of those that rose is on a later surface of the client.
+/// Whether one of those that become active is on a later surface of the same client.
 pub fn is_before_one(risen: &[Risen], surface: &Surface) -> bool
     ensures { result ≡ list_any (λ r. (surface.now.client == r.sub.client)
         && nat_lt surface.now.number r.number) risen.now }
@@ -50,7 +50,7 @@ pub fn is_before_one(risen: &[Risen], surface: &Surface) -> bool
     risen.iter().any(|other| surface.client == other.sub.client && surface.number < other.number)
 }
 
-/// The surfaces of those that rose are added to those that were met.
+/// Adds the surfaces of those that become active to those that are met.
 pub fn add_risen(met: &mut Newest, risen: &[Risen]) -> Result<(), AllocError>
     ensures { (d : Surfaced)
         → OnOk result (is_reached met.new d

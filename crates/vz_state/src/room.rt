@@ -1,10 +1,11 @@
-//! Room that is made before a step begins.
+//! Room that is reserved before a step begins.
 ghost use Rattle.std.specs.Prelude.{◌≡◌, ◌≤◌, OnOk, OnErr};
 
 use std::alloc::AllocError;
 use vz_frame::Room;
 
-/// Makes at least so many places spare, or changes nothing. The list stays in any case.
+/// Makes room for at least `n` more items. If an allocation fails, nothing changes. The list
+/// itself never changes.
 pub fn make_room<T>(room: &mut Room<T>, n: usize) -> Result<(), AllocError>
     ensures list { room.new.list ≡ room.old.list }
     ensures ok { OnOk result (n ≤ room.new.spare) }

@@ -1,4 +1,4 @@
-//! Which sinks a sink reaches over relations from parent to child.
+//! Which sinks a sink reaches, over the relations from parent to child.
 ghost use Rattle.std.specs.Prelude.{◌≡◌, length, OnOk, IfOk, [], ◌∷◌};
 ghost use Rattle.vz_ids.specs.Ids.{same_sink};
 ghost use Rattle.std.specs.List.{flat_map};
@@ -9,14 +9,14 @@ ghost use Rattle.vz_rules.specs.Messages.{children, reaches};
 use std::alloc::{AllocError, Global};
 use vz_ids::FrameSinkId;
 
-/// Whether a sink is one of these.
+/// Whether a sink is among these.
 pub fn has_sink(sinks: &[FrameSinkId], a: FrameSinkId) -> bool
     ensures { result ≡ has_sink sinks.now a }
 {
     sinks.iter().any(|sink| a == *sink)
 }
 
-/// What is not yet there is added.
+/// Appends the sinks that the list does not have yet.
 fn add_all(sinks: &mut Vec<FrameSinkId>, others: &[FrameSinkId]) -> Result<(), AllocError>
     ensures { OnOk result (sinks.new.items ≡ adding same_sink sinks.old.items others.now) }
 {
@@ -28,7 +28,7 @@ fn add_all(sinks: &mut Vec<FrameSinkId>, others: &[FrameSinkId]) -> Result<(), A
     Ok(())
 }
 
-/// The children of a sink.
+/// The children of a sink, in the order in which their relations were registered.
 fn children(
     alloc: Global,
     relations: &[(FrameSinkId, FrameSinkId)],
@@ -59,7 +59,8 @@ fn all_children(
     Ok(all)
 }
 
-/// The sinks that a sink reaches, itself too. A step that adds none is the last.
+/// The sinks that a sink reaches, itself first. The search ends at the first round that adds
+/// none.
 pub fn reached(
     alloc: Global,
     relations: &[(FrameSinkId, FrameSinkId)],

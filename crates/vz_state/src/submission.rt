@@ -1,4 +1,4 @@
-//! Submissions that were accepted, and where they stand.
+//! Submissions that were accepted, and their state.
 ghost use Rattle.std.specs.Prelude.{◌≡◌, ◌||◌, ◌++◌, map, OnOk, IfOk, [], ◌∷◌, false, cond};
 ghost use Rattle.vz_rules.specs.World.{is_active, is_waiting, is_on, active_frames, sub_of};
 ghost use Rattle.vz_ids.specs.declared.SurfaceId.{SurfaceId as Surface};
@@ -38,7 +38,8 @@ impl<'a> Model for Submission<'a> {
 }
 
 impl<'a> Submission<'a> {
-    /// A submission that waits until it is due: it was never active and has no feedback.
+    /// A new submission, which waits until its deadline `due` (a tick): it was never active and
+    /// has no feedback.
     pub fn new(submitted: SubmittedFrame<'a>, due: u64) -> Submission<'a>
         ensures { result ≡ record {
           submitted = submitted.entry;
@@ -67,7 +68,7 @@ impl<'a> Submission<'a> {
         }
     }
 
-    /// Whether it is the active one of its surface.
+    /// Whether it is active on its surface.
     pub fn is_active(&self) -> bool
         ensures { result ≡ is_active self.now }
     {
@@ -84,7 +85,7 @@ impl<'a> Submission<'a> {
         self.submitted.id() == *id
     }
 
-    /// The client and the ordinal.
+    /// Its client and ordinal.
     pub fn sub(&self) -> Sub
         ensures { result ≡ sub_of self.now }
     {
@@ -98,7 +99,7 @@ impl<'a> Submission<'a> {
         self.submitted.id()
     }
 
-    /// Its number among those that were accepted on the surface.
+    /// Its number among the submissions that were accepted on the surface, from 1.
     pub fn index(&self) -> u32
         ensures { result ≡ self.now.submitted.index }
     {
@@ -112,7 +113,7 @@ impl<'a> Submission<'a> {
         self.submitted.frame()
     }
 
-    /// The tick at which its deadline has come.
+    /// The tick of its deadline, at which it becomes active even if dependencies are unmet.
     pub fn due(&self) -> u64
         ensures { result ≡ self.now.due }
     {
@@ -120,7 +121,7 @@ impl<'a> Submission<'a> {
     }
 }
 
-/// The surface of a submission is added where it was active.
+/// Adds the surface of a submission if the submission was ever active.
 fn add_met(met: &mut Newest, submission: &Submission<'_>) -> Result<(), AllocError>
     ensures { (d : Surface) → OnOk result
         (is_reached met.new d ≡ (is_reached met.old d || meets d submission.now)) }
@@ -142,7 +143,7 @@ pub fn met_by(alloc: Global, submissions: &[Submission<'_>]) -> Result<Newest, A
     Ok(met)
 }
 
-/// The frame of a submission is added where it is active.
+/// Appends the frame of a submission if it is active.
 fn add_active<'a>(
     alloc: Global,
     active: &mut Vec<SubmittedFrame<'a>>,
@@ -171,7 +172,7 @@ pub fn active_frames<'a>(
     Ok(active)
 }
 
-/// What was submitted, in the order of acceptance.
+/// The frames of all submissions, in the order of acceptance.
 pub fn accepted_frames<'a>(
     alloc: Global,
     submissions: &[Submission<'a>],

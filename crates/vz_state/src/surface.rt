@@ -42,7 +42,7 @@ impl Model for Surface {
 }
 
 impl Surface {
-    /// A surface that is created now: nothing named, marked or destroyed it.
+    /// A new surface: it is not yet named, marked or destroyed.
     pub fn new(client: u32, number: u32, id: SurfaceId, size: Size, born: u32) -> Surface
         ensures { result ≡ record {
           client = client;
@@ -88,7 +88,7 @@ impl Surface {
         self.born
     }
 
-    /// Whether it was named.
+    /// Whether an active frame has ever named it.
     pub fn is_named(&self) -> bool
         ensures { result ≡ self.now.named }
     {
@@ -102,14 +102,14 @@ impl Surface {
         self.destroyed
     }
 
-    /// Whether it is the surface of this id, and exists.
+    /// Whether it has this id and exists.
     fn is_there(&self, id: &SurfaceId) -> bool
         ensures { result ≡ (same_surface self.now.id id.now && not self.now.destroyed) }
     {
         self.id == *id && !self.destroyed
     }
 
-    /// It is marked where it is the client's.
+    /// Marks the surface if it is this client's.
     fn mark_if(&mut self, c: u32)
         ensures { self.new ≡ mark_of c self.old }
     {
@@ -127,7 +127,7 @@ pub fn exists(surfaces: &[Surface], id: &SurfaceId) -> bool
     surfaces.iter().any(|surface| surface.is_there(id))
 }
 
-/// The surfaces of a client are marked.
+/// Marks the surfaces of a client.
 pub fn mark_client(surfaces: &mut [Surface], c: u32)
     ensures { surfaces.new ≡ map (mark_of c) surfaces.old }
 {
@@ -136,14 +136,14 @@ pub fn mark_client(surfaces: &mut [Surface], c: u32)
     }
 }
 
-/// The last surface of a client, from the last one on.
+/// The last surface of a client, by a search from the end.
 fn last_of(surfaces: &[Surface], c: u32) -> Option<&Surface>
     ensures { option_copied result ≡ find (λ s. s.client == c) (reverse surfaces.now) }
 {
     surfaces.iter().rev().find(|surface| surface.client == c)
 }
 
-/// The last surface that a client created.
+/// The surface that a client created last, if it created one.
 #[tactic(auto, using(crate::proofs::Ends::found_last))]
 pub fn last_created(surfaces: &[Surface], c: u32) -> Option<&Surface>
     ensures { option_copied result ≡ first_of (reverse (filter (λ s. s.client == c) surfaces.now)) }
@@ -151,7 +151,7 @@ pub fn last_created(surfaces: &[Surface], c: u32) -> Option<&Surface>
     last_of(surfaces, c)
 }
 
-/// The surface that a submission is on.
+/// The surface of a submission.
 fn surface_of<'b>(surfaces: &'b [Surface], submission: &Submission<'_>) -> Option<&'b Surface>
     ensures { option_copied result
         ≡ find (λ c. same_surface c.id submission.now.submitted.id) surfaces.now }
@@ -161,7 +161,7 @@ fn surface_of<'b>(surfaces: &'b [Surface], submission: &Submission<'_>) -> Optio
         .find(|surface| surface.id == submission.id())
 }
 
-/// The number of the surface of a submission among those of its client.
+/// The number of a submission's surface among those that its client created.
 pub fn number_of(surfaces: &[Surface], submission: &Submission<'_>) -> u32
     ensures { result ≡ number_of surfaces.now submission.now }
 {
