@@ -1,4 +1,4 @@
-//! The damages of all surfaces.
+//! The damage of all surfaces.
 ghost use Rattle.std.specs.Prelude.{◌≡◌, ◌<◌, ◌≤◌, ◌+◌, [], length, Some, None, is_some};
 ghost use Rattle.std.specs.Prelude.{is_none, IfSome};
 ghost use Rattle.std.specs.Prelude.{IsTrue, IsFalse, IsOk, OnOk, IfOk, OnErr};
@@ -27,9 +27,9 @@ use vz_ids::SurfaceId;
 use vz_surfaces::Store;
 use vz_walk::{Both, Visitor, Weigher, display_rect, walk};
 
-/// What changed of each surface. Contracts see the damages that were told of it by index, from 1
-/// on, which of its submissions is active, and which one was at the last aggregation; memory has
-/// two rectangles a surface, however many were told.
+/// What changed on each surface. Contracts see, for each surface, the damage of each submission
+/// by its index (from 1), which submission is active, and which one was at the last aggregation.
+/// In memory there are two rectangles for each surface, however many submissions were reported.
 #[derive(Drop)]
 pub struct Damage {
     alloc: Global,
@@ -55,7 +55,8 @@ impl Model for Damage {
 }
 
 impl Damage {
-    /// Nothing is told of any surface, and there was no aggregation. It takes no memory.
+    /// Creates a table in which nothing was reported and there was no aggregation. It allocates
+    /// nothing.
     pub fn new(alloc: Global) -> Damage
         ensures surfaces { result.surfaces ≡ [] }
         ensures last { result.last ≡ None }
@@ -69,8 +70,8 @@ impl Damage {
         }
     }
 
-    /// Makes room for at least so many more surfaces. Memory is the only error. Nothing else
-    /// changes in any case, and no room is lost.
+    /// Makes room for at least `n` more surfaces. The only error is `Memory`, if an allocation
+    /// fails. In either case nothing else changes and no room is lost.
     pub fn ready(&mut self, n: usize) -> Result<(), Memory>
         ensures surfaces { self.new.surfaces ≡ self.old.surfaces }
         ensures ok { OnOk result (n ≤ self.new.spare) }
@@ -82,7 +83,7 @@ impl Damage {
         Ok(())
     }
 
-    /// A surface that is not there yet.
+    /// Adds a surface with the damage of its first submission.
     fn begin(&mut self, id: SurfaceId, damage: Rect) -> Result<(), Memory>
         requires { told_on self.old.surfaces id ≡ None }
         ensures told { OnOk result (told_on self.new.surfaces id
@@ -98,11 +99,11 @@ impl Damage {
         Ok(())
     }
 
-    /// The damage of a submission is told, the part of its surface that may differ from the one
-    /// before (in its own pixels). For want of memory, and only then, it answers Memory and nothing
-    /// changes. Where the surface was told before, or where there is room for one, it answers Ok.
-    /// Condition: the index is one more than the last one that was told of the surface, and 1 for
-    /// one of which nothing is told.
+    /// Reports the damage of an accepted submission: the part of its surface that may differ from
+    /// the submission before, in pixels of the surface. It returns `Memory` if an allocation
+    /// fails; then nothing changes. If the surface was reported before or there is room for one,
+    /// it returns Ok. Condition: the index is one more than the last one reported for the
+    /// surface, and 1 for the first.
     pub fn accepted(&mut self, id: SurfaceId, index: u32, damage: Rect) -> Result<(), Memory>
         requires { index ≡ next_index (told_on self.old.surfaces id) }
         ensures told { OnOk result (told_on self.new.surfaces id
@@ -124,7 +125,7 @@ impl Damage {
         }
     }
 
-    /// The last submission that was told of a surface becomes its active one. It takes no memory.
+    /// Reports that the last submission of a surface becomes active. It allocates nothing.
     pub fn activated(&mut self, id: &SurfaceId)
         ensures told { told_on self.new.surfaces id.now
             ≡ option_map with_active (told_on self.old.surfaces id.now) }
@@ -138,7 +139,7 @@ impl Damage {
         }
     }
 
-    /// A surface is destroyed: nothing is told of it from now on. It takes no memory.
+    /// Reports that a surface is destroyed, which removes it. It allocates nothing.
     pub fn destroyed(&mut self, id: &SurfaceId)
         ensures none { told_on self.new.surfaces id.now ≡ None }
         ensures others { (other : Surface) → IsFalse (same_surface id.now other)
@@ -149,15 +150,16 @@ impl Damage {
         self.surfaces.swap_remove(id);
     }
 
-    /// The damage on a surface since the last aggregation, in the surface's own pixels.
+    /// The damage on a surface since the last aggregation, in pixels of the surface. It is empty
+    /// if nothing changed.
     pub fn since(&self, id: &SurfaceId) -> Rect
         ensures { result ≡ damage_in (told_on self.now.surfaces id.now) }
     {
         damage_of(&self.surfaces, id)
     }
 
-    /// The display is aggregated: the active submission of each surface was seen. It takes no
-    /// memory.
+    /// Notes an aggregation: the active submission of each surface was seen. It allocates
+    /// nothing.
     pub fn aggregated(&mut self)
         ensures told { (id : Surface) → told_on self.new.surfaces id
             ≡ option_map with_seen (told_on self.old.surfaces id) }
@@ -171,7 +173,7 @@ impl Damage {
         }
     }
 
-    /// Whether there was an aggregation with this root.
+    /// Whether the last aggregation had this root.
     fn has_root(&self, root: &SurfaceId) -> bool
         ensures { result ≡ has_root self.now.last root.now }
     {
@@ -181,8 +183,8 @@ impl Damage {
         }
     }
 
-    /// What a walk from a root measured, where this is the damage and these are the ranges: nothing
-    /// changed where there was an aggregation and the damage is empty.
+    /// The result of a walk from a root, given the damage and the ranges that it found. If there
+    /// was an aggregation before and the damage is empty, nothing changed.
     fn measured(&self, damage: Rect, root: &SurfaceId, ranges: Ranges) -> Measured
         ensures changed { result.changed ≡ what_changed self.now.last damage }
         ensures kept { result.kept ≡ record { root = root.now; indices = []; ranges = ranges } }
@@ -199,8 +201,8 @@ impl Damage {
         }
     }
 
-    /// What the walk from a root measures, with what another visitor met on it, and None exactly
-    /// where the walk is too much. Conditions: as for `measure`.
+    /// The result of the walk from the root, with the second visitor after it, or None exactly if
+    /// the scene is over the limit. The conditions are those of `measure`.
     fn walked<V: Visitor + Drop>(
         &self,
         free: Ranges,
@@ -244,7 +246,7 @@ impl Damage {
         }
     }
 
-    /// The root and the ranges of the last aggregation are these.
+    /// Remembers this root and these ranges as those of the last aggregation.
     fn keep(&mut self, root: SurfaceId, ranges: Ranges)
         ensures { self.new ≡ record self.old {
           last = Some (record { root = root; indices = []; ranges = ranges });
@@ -254,14 +256,15 @@ impl Damage {
         self.free = mem::replace(&mut self.shown, ranges);
     }
 
-    /// What a drawing from this root changes: the smallest rectangle round the claims, and nothing
-    /// where there was an aggregation and it is empty. With it comes what is remembered of the
-    /// walk, once it is (`remember`); until then nothing changes. None is the answer exactly where
-    /// the walk is too much: it ends at the limit. Memory is the only error.
+    /// Measures a draw from this root. The damage is the smallest rectangle around all claims, in
+    /// display pixels; nothing changed if it is empty and there was an aggregation before. The
+    /// result also holds what `remember` will keep of the walk. It is None exactly if the scene
+    /// is over the limit on weight or depth; the walk ends there. The only error is `Memory`, if
+    /// an allocation fails. Contracts see no change in any case.
     ///
-    /// The visitor beside goes along with the walk, and comes back with what it met.
-    /// Conditions: what always holds of the store is kept, and its frames fit; the size is a
-    /// display's; the visitor met nothing yet.
+    /// A second visitor, `beside`, goes along on the walk and is returned with what it met.
+    /// Conditions: the store keeps its invariants, and its frames fit message files; the size is
+    /// that of a display; the visitor has met nothing yet.
     pub fn measure<V: Visitor + Drop>(
         &mut self,
         store: &Store,
@@ -287,8 +290,8 @@ impl Damage {
         Ok(found)
     }
 
-    /// The display is aggregated: what is drawn, or would be if anything had changed, was measured
-    /// so, and is the last aggregation from now on. It takes no memory.
+    /// Notes an aggregation that was measured so, whether anything changed and was drawn or not.
+    /// It is the last aggregation from now on. It allocates nothing.
     pub fn remember(&mut self, measured: Measured)
         ensures last { self.new.last ≡ Some measured.kept }
         ensures told { (id : Surface) → told_on self.new.surfaces id

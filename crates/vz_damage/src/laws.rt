@@ -1,4 +1,4 @@
-//! Laws of damages, each the contract of a function that does nothing.
+//! Laws of damage: each is the contract of a function with an empty body.
 ghost use Rattle.std.specs.Prelude.{◌≡◌, List};
 ghost use Rattle.std.specs.Option.{option_map};
 ghost use Rattle.vz_geom.specs.declared.Size.{Size};
@@ -17,16 +17,16 @@ ghost use Rattle.vz_walk.specs.Scenes.{scene_in, walked_in};
 
 use vz_surfaces::laws::stores_tell;
 
-/// Where the damage of each accepted submission was told, the damage on a surface since the last
-/// aggregation is the one that a drawing tells.
+/// If the damage of each accepted submission was reported, the damage on a surface since the last
+/// aggregation is the one that the draw rules use.
 pub fn told_damages_are_drawn()
     ensures { (w : World) (a : Aggregation) (i : FrameData) → KeepsAlways w
         → damage_since a (accepted_frames w) i ≡ damage_on (told_of w a i) }
 {}
 
-/// Where each surface with an active frame has what is told of it behind the last aggregation of
-/// the machine's state, what `measure` tells of a store is what a drawing does: the damage, and
-/// what `remember` keeps and tells from then on.
+/// If what was reported of each surface with an active frame agrees with the last aggregation of
+/// the machine's state, `measure` gives the damage of a draw from that state, and `remember`
+/// leaves what agrees with the state after the draw.
 pub fn measured_damages_are_drawn()
     ensures damage { (w : World) (told : List (SurfaceId × Told)) (size : Size) (root : SurfaceId)
         → KeepsAlways w → TellsLast w told

@@ -1,8 +1,8 @@
 //! Which part of each surface changed since the last aggregation.
 //!
-//! The damage of each accepted submission is told, and which one of a surface is active. In memory
-//! a surface has two rectangles: round the damages up to its active submission since the last
-//! aggregation, and round those above it.
+//! The caller reports the damage of each accepted submission, and which submission of a surface
+//! becomes active. In memory there are two rectangles for each surface: one around the damages
+//! since the last aggregation up to the active submission, and one around those after it.
 #![tactic(auto)]
 
 mod damage;

@@ -6,9 +6,9 @@ use std::marker::Model;
 use vz_geom::Rect;
 use vz_ids::SurfaceId;
 
-/// What a walk measured: what changed since the last aggregation, and what is remembered of the
-/// walk once it is the last one, its root and what each range showed. Where it is let go, nothing
-/// is remembered of it.
+/// What a walk measured: what changed since the last aggregation, and what `Damage::remember`
+/// will keep (the root and what each range showed). If the value is dropped, nothing of the walk
+/// is kept.
 #[derive(Drop)]
 pub struct Measured {
     pub(crate) changed: Option<Rect>,
@@ -29,7 +29,7 @@ impl Model for Measured {
 }
 
 impl Measured {
-    /// What changed, and None where nothing did.
+    /// The rectangle that changed, in display pixels, or None if nothing did.
     pub fn changed(&self) -> Option<Rect>
         ensures { result ≡ self.now.changed }
     {

@@ -1,4 +1,4 @@
-//! The claims of a walk, as they are met.
+//! A visitor that gathers the claims of a walk.
 ghost use Rattle.std.specs.Prelude.{◌≡◌, [], if◌then◌else◌};
 ghost use Rattle.vz_geom.specs.Rectangle.{IsRectangle, join, no_rectangle};
 ghost use Rattle.vz_rules.specs.Damage.{is_switched};
@@ -15,7 +15,7 @@ use vz_ids::{SurfaceId, SurfaceRange};
 use vz_surfaces::Seen;
 use vz_walk::{Place, Visitor, inside_frame, moved, nothing};
 
-/// The damage on a surface since the last aggregation, none where nothing is told of it.
+/// The damage on a surface since the last aggregation; empty if nothing was reported of it.
 pub(crate) fn damage_of(told: &IndexMap<SurfaceId, Running>, id: &SurfaceId) -> Rect
     ensures { result ≡ damage_in (told_on told.now.entries id.now) }
 {
@@ -25,8 +25,8 @@ pub(crate) fn damage_of(told: &IndexMap<SurfaceId, Running>, id: &SurfaceId) -> 
     }
 }
 
-/// The part of a damage on the surface of a frame that is seen at a place. Conditions: the frame
-/// fits a message file, and the place is not far out.
+/// The part of a surface's damage that is visible at a place. Conditions: the frame fits a
+/// message file, and the place is within the limits.
 fn seen_damage(damage: &Rect, frame: &Seen<'_>, place: &Place) -> Rect
     requires fits { FitsFile frame.now.frame }
     requires room { HasRoom 0 place.now.shift }
@@ -37,8 +37,8 @@ fn seen_damage(damage: &Rect, frame: &Seen<'_>, place: &Place) -> Rect
     place.window().intersect(&moved(&part, place.shift()))
 }
 
-/// Keeps the smallest rectangle round the claims of a walk so far, and what each range shows that
-/// it met.
+/// A visitor that keeps the smallest rectangle around the claims so far, and what each range
+/// showed.
 #[derive(Drop)]
 pub(crate) struct Measurer<'d> {
     told: &'d IndexMap<SurfaceId, Running>,
@@ -48,7 +48,7 @@ pub(crate) struct Measurer<'d> {
 }
 
 impl<'d> Measurer<'d> {
-    /// Nothing was met. The ranges have none.
+    /// Creates a measurer that has met nothing. Condition: `ranges` is empty.
     pub(crate) fn new(
         told: &'d IndexMap<SurfaceId, Running>,
         last: &'d Ranges,
@@ -69,7 +69,7 @@ impl<'d> Measurer<'d> {
         }
     }
 
-    /// The damage and the ranges.
+    /// The damage and the ranges that were found.
     pub(crate) fn parts(self) -> (Rect, Ranges)
         ensures damage { result.0 ≡ self.entry.damage }
         ensures ranges { result.1 ≡ self.entry.ranges }
@@ -78,7 +78,7 @@ impl<'d> Measurer<'d> {
         (damage, ranges)
     }
 
-    /// The rectangle round the claims, where a range is met.
+    /// The rectangle around the claims so far, after a range is met.
     fn with_range(&self, range: &SurfaceRange, shown: &Option<Seen<'_>>, seen: &Rect) -> Rect
         ensures value { (a : Aggregation) → a.ranges ≡ self.now.last.now → result
             ≡ (if is_switched a range.now shown.now then join self.now.damage seen.now

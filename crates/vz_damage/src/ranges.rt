@@ -1,4 +1,4 @@
-//! What each range showed that a walk met.
+//! What each range showed during a walk.
 ghost use Rattle.std.specs.Prelude.{◌≡◌, [], ◌∷◌, OnOk};
 ghost use Rattle.vz_rules.specs.Closure.{adding};
 ghost use Rattle.vz_rules.specs.Scene.{id_of_frame};
@@ -12,7 +12,8 @@ use vz_base::Memory;
 use vz_ids::{SurfaceId, SurfaceRange};
 use vz_surfaces::Seen;
 
-/// What each range showed that a walk met, each range once, in the order in which they were met.
+/// The ranges that a walk met, each once, in the order in which they were met, and what each
+/// showed.
 #[derive(Drop)]
 pub(crate) struct Ranges {
     shown: IndexMap<SurfaceRange, Option<SurfaceId>>,
@@ -26,7 +27,7 @@ impl Model for Ranges {
     ghost view = { λ r. r.shown.entries };
 }
 
-/// The surface of a frame, if there is one.
+/// The surface of a frame, if there is a frame.
 fn id_of(now: &Option<Seen<'_>>) -> Option<SurfaceId>
     ensures { result ≡ id_of_frame now.now }
 {
@@ -36,7 +37,7 @@ fn id_of(now: &Option<Seen<'_>>) -> Option<SurfaceId>
     }
 }
 
-/// Whether a range showed nothing, or another surface than now.
+/// Whether a range showed nothing before, or another surface than now.
 fn shows_other(before: &Option<SurfaceId>, now: &Option<Seen<'_>>) -> bool
     ensures { result ≡ shows_other before.now now.now }
 {
@@ -50,7 +51,7 @@ fn shows_other(before: &Option<SurfaceId>, now: &Option<Seen<'_>>) -> bool
 }
 
 impl Ranges {
-    /// No range was met. It takes no memory.
+    /// Creates an empty list. It allocates nothing.
     pub(crate) fn new(alloc: Global) -> Ranges
         ensures { result ≡ [] }
     {
@@ -59,14 +60,14 @@ impl Ranges {
         }
     }
 
-    /// No range was met, and the room stays.
+    /// Empties the list, and keeps its room.
     pub(crate) fn clear(&mut self)
         ensures { self.new ≡ [] }
     {
         self.shown.clear();
     }
 
-    /// A range is met, and shows this now. What it showed where it was met first stays.
+    /// Notes a range and what it shows. If the range was noted before, that stays.
     pub(crate) fn note(
         &mut self,
         range: &SurfaceRange,
@@ -82,7 +83,7 @@ impl Ranges {
         Ok(())
     }
 
-    /// Whether a range was not met, or showed nothing, or another surface than now.
+    /// Whether a range was not met in that walk, or showed nothing or another surface than now.
     pub(crate) fn is_switched(&self, range: &SurfaceRange, now: &Option<Seen<'_>>) -> bool
         ensures { (a : Aggregation) → a.ranges ≡ self.now
             → result ≡ is_switched a range.now now.now }

@@ -1,4 +1,4 @@
-//! The damages of one surface, as they are told.
+//! The damage of one surface, as it is reported.
 ghost use Rattle.std.specs.Prelude.{◌≡◌, ◌+◌, ◌≤◌, [], ◌∷◌, ◌++◌, length};
 ghost use Rattle.vz_geom.specs.Rectangle.{IsRectangle};
 ghost use Rattle.vz_damage.specs.Told.{damage_on};
@@ -7,8 +7,8 @@ use std::marker::Model;
 use vz_geom::Rect;
 use vz_ghost::GhostList;
 
-/// The damages told on a surface. In memory they are two rectangles: round those up to the active
-/// submission since the last aggregation, and round those above it.
+/// The damages reported for a surface. In memory they are two rectangles: one around those since
+/// the last aggregation up to the active submission, and one around those after it.
 #[derive(Drop)]
 pub(crate) struct Running {
     shown: Rect,
@@ -34,7 +34,7 @@ impl Model for Running {
 }
 
 impl Running {
-    /// The damage of the first submission on a surface is told.
+    /// The damage of the first submission on a surface.
     pub(crate) fn new(damage: Rect) -> Running
         ensures { result ≡ record { damages = damage ∷ []; active = 0; seen = 0 } }
     {
@@ -51,7 +51,7 @@ impl Running {
         }
     }
 
-    /// The damage of the next submission is told, which has this index.
+    /// Reports the damage of the next submission, which has this index.
     pub(crate) fn accepted(&mut self, index: u32, damage: Rect)
         requires { index ≡ length self.old.damages + 1 }
         ensures { self.new ≡ record self.old { damages = self.old.damages ++ damage ∷ [] } }
@@ -62,7 +62,7 @@ impl Running {
         self.told = index;
     }
 
-    /// The last submission that was told becomes active.
+    /// Reports that the last submission becomes active.
     pub(crate) fn activated(&mut self)
         ensures { self.new ≡ record self.old { active = length self.old.damages } }
     {
@@ -71,7 +71,7 @@ impl Running {
         self.active = self.told;
     }
 
-    /// The display is aggregated: what is active now was seen.
+    /// Notes an aggregation: the active submission was seen.
     pub(crate) fn aggregated(&mut self)
         ensures { self.new ≡ record self.old { seen = self.old.active } }
     {
@@ -79,8 +79,8 @@ impl Running {
         self.seen = self.active;
     }
 
-    /// The smallest rectangle round the damages up to the active submission since the last
-    /// aggregation.
+    /// The smallest rectangle around the damages since the last aggregation up to the active
+    /// submission.
     pub(crate) fn damage(&self) -> Rect
         ensures { result ≡ damage_on self.now }
     {

@@ -84,7 +84,7 @@ fn put_one(
     sinks.put(sink_of(d.sink), lack);
 }
 
-/// Takes the first `n` dependencies of a submission out of their bunches.
+/// Takes the first `all` dependencies of a submission out of their bunches.
 pub(crate) fn take_all(
     on: &mut IndexMap<Lack, SurfaceId>,
     groups: &mut Bunches,

@@ -1,4 +1,4 @@
-//! Surfaces, passes and quads as operations, each appended to one list.
+//! Surfaces, passes and quads as drawing operations, all appended to one list.
 ghost use Rattle.std.specs.Prelude.{◌≡◌, ◌++◌, ◌+◌, ◌<◌, Some, length, slice_get, OnOk};
 ghost use Rattle.vz_frame.specs.declared.frame.RenderPass.{RenderPass as Pass};
 ghost use Rattle.vz_frame.specs.declared.frame.DrawQuad.{DrawQuad as Quad};
@@ -28,8 +28,8 @@ use vz_pixels::Pixel;
 use vz_surfaces::{Seen, Store};
 use vz_walk::{Path, Place, moved};
 
-/// A surface whose frame is flattened, behind the surfaces of a path and with so many surfaces
-/// left. What the store keeps holds all the time.
+/// A surface whose frame is flattened, with the surfaces on the path and how many more it may
+/// have. The store keeps its invariants all the time.
 #[derive(Drop)]
 struct Flattener<'b, 's> {
     store: &'s Store,
@@ -58,9 +58,9 @@ impl<'b, 's> Model for Flattener<'b, 's> {
         × IsWhole f.seen.now };
 }
 
-/// Appends what a surface draws, behind the surfaces of a path and with so many surfaces left.
-/// Conditions: what always holds is kept, the surface's frame is whole, and the place has room
-/// for the passes of all surfaces that are left.
+/// Appends what a surface draws, given the surfaces on the path and how many more it may have.
+/// Conditions: the store keeps its invariants, the surface's frame is valid, and the place has
+/// room for the passes of all surfaces that are left.
 #[tactic(auto, unfolding(crate::specs::Flat::flat, crate::specs::Flat::root_flat))]
 #[cycle(flatten)]
 pub(crate) fn surface<'s>(
@@ -102,7 +102,7 @@ pub(crate) fn surface<'s>(
 }
 
 impl<'b, 's> Flattener<'b, 's> {
-    /// The passes of the surface's frame, which is whole.
+    /// The passes of the surface's frame, which is valid.
     fn passes(&self) -> &[RenderPass]
         ensures own { result.now ≡ self.now.seen.frame.passes }
         ensures whole { IsWhole self.now.seen }
@@ -110,7 +110,7 @@ impl<'b, 's> Flattener<'b, 's> {
         self.seen.held().frame.frame().passes.as_slice()
     }
 
-    /// The place to which the name in a quad leads, by the places of its pass and of the quad.
+    /// The place to which the name in a quad leads, given the places of its pass and of the quad.
     fn place_named(&self, pass: usize, quad: usize) -> Option<usize>
         ensures { (p : Pass) (q : Quad) → slice_get self.now.seen.frame.passes pass ≡ Some p
             → slice_get p.quads quad ≡ Some q → result ≡ place_named self.now.seen.frame pass q }
@@ -118,9 +118,9 @@ impl<'b, 's> Flattener<'b, 's> {
         self.seen.held().frame.place_named(pass, quad)
     }
 
-    /// Appends what the pass at a place of the frame draws, over the earlier ones. Conditions: it
-    /// is there, it is whole, and the place has room for those up to it and the surfaces that are
-    /// left.
+    /// Appends what one pass of the frame draws, over the earlier ones. Conditions: the pass
+    /// exists and is valid, and the place has room for the passes up to it and the surfaces that
+    /// are left.
     #[cycle(flatten)]
     fn pass(
         &self,
@@ -145,8 +145,8 @@ impl<'b, 's> Flattener<'b, 's> {
         Ok(())
     }
 
-    /// Appends what a quad of the pass at a place draws, where it is seen. Condition: this is
-    /// where its name leads.
+    /// Appends what a quad of a pass draws, if it is visible. Condition: `leads_to` is where its
+    /// name leads.
     #[cycle(flatten)]
     fn quad(
         &self,
@@ -175,7 +175,7 @@ impl<'b, 's> Flattener<'b, 's> {
         Ok(())
     }
 
-    /// Appends what a quad of the pass at a place draws at its own place.
+    /// Appends what a quad of a pass draws at its own place.
     #[tactic(auto, unfolding(crate::specs::Flat::material_flat))]
     #[cycle(flatten)]
     fn material(
@@ -228,8 +228,8 @@ impl<'b, 's> Flattener<'b, 's> {
         }
     }
 
-    /// Appends what the pass at a place of the frame draws as a group. Conditions: it is there,
-    /// and the group's place has room for those up to it and the surfaces that are left.
+    /// Appends what a pass quad draws: an earlier pass as a group. Conditions: the pass exists,
+    /// and the group's place has room for the passes up to it and the surfaces that are left.
     #[cycle(flatten)]
     fn named(
         &self,
@@ -251,7 +251,7 @@ impl<'b, 's> Flattener<'b, 's> {
         Ok(())
     }
 
-    /// Appends what the pass at a place of the frame draws as a group, where it has points.
+    /// Appends what a pass draws as a group, if it has a point on the display.
     #[tactic(auto, unfolding(crate::specs::Flat::group_flat))]
     #[cycle(flatten)]
     fn group(
@@ -287,7 +287,7 @@ impl<'b, 's> Flattener<'b, 's> {
         Ok(())
     }
 
-    /// Appends what a range draws: nothing where the surface that it shows is on the path.
+    /// Appends what a range draws; nothing if the surface that it shows is on the path.
     #[tactic(auto, unfolding(crate::specs::Flat::range_flat))]
     #[cycle(flatten)]
     fn range(
@@ -327,7 +327,8 @@ impl<'b, 's> Flattener<'b, 's> {
         }
     }
 
-    /// Appends what a shown surface draws, straight or as a group, where it is not absent.
+    /// Appends what a shown surface draws, directly or as a group, unless it has no content
+    /// there.
     #[tactic(auto, unfolding(crate::specs::Flat::laid_flat))]
     #[cycle(flatten)]
     fn shown(
@@ -367,7 +368,7 @@ impl<'b, 's> Flattener<'b, 's> {
         Ok(())
     }
 
-    /// Appends the background round a shown surface, and the surface.
+    /// Appends the background around a shown surface, and then the surface.
     #[tactic(auto, unfolding(crate::specs::Flat::content_flat))]
     #[cycle(flatten)]
     fn content(

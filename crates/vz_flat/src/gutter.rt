@@ -1,4 +1,4 @@
-//! Gutters: the background round a surface that is too small.
+//! The gutter: the background around a shown surface that is too small for its quad.
 ghost use Rattle.std.specs.Prelude.{◌≡◌, ◌++◌, OnOk};
 ghost use Rattle.std.specs.List.{flat_map};
 ghost use Rattle.vz_geom.specs.Rectangle.{Covers};
@@ -15,7 +15,7 @@ use vz_pixels::Pixel;
 use vz_surfaces::Seen;
 use vz_walk::Place;
 
-/// The part of a rectangle above one that lies in it.
+/// The part of the outer rectangle above the inner one. Condition: the inner one lies in it.
 fn above(outer: &Rect, inner: &Rect) -> Rect
     requires { LiesIn outer.now inner.now }
     ensures { result ≡ above outer.now inner.now }
@@ -23,7 +23,7 @@ fn above(outer: &Rect, inner: &Rect) -> Rect
     Rect::new(outer.x(), outer.y(), outer.w(), inner.y() - outer.y())
 }
 
-/// The part below it.
+/// The part of the outer rectangle below the inner one.
 fn beneath(outer: &Rect, inner: &Rect) -> Rect
     requires { LiesIn outer.now inner.now }
     ensures { result ≡ beneath outer.now inner.now }
@@ -32,7 +32,7 @@ fn beneath(outer: &Rect, inner: &Rect) -> Rect
     Rect::new(outer.x(), y, outer.w(), outer.bottom() - y)
 }
 
-/// The part left of it.
+/// The part of the outer rectangle left of the inner one.
 fn left_of(outer: &Rect, inner: &Rect) -> Rect
     requires { LiesIn outer.now inner.now }
     ensures { result ≡ left_of outer.now inner.now }
@@ -40,7 +40,7 @@ fn left_of(outer: &Rect, inner: &Rect) -> Rect
     Rect::new(outer.x(), inner.y(), inner.x() - outer.x(), inner.h())
 }
 
-/// The part right of it.
+/// The part of the outer rectangle right of the inner one.
 fn right_of(outer: &Rect, inner: &Rect) -> Rect
     requires { LiesIn outer.now inner.now }
     ensures { result ≡ right_of outer.now inner.now }
@@ -49,7 +49,7 @@ fn right_of(outer: &Rect, inner: &Rect) -> Rect
     Rect::new(x, inner.y(), outer.right() - x, inner.h())
 }
 
-/// A colour over what is there, in a part.
+/// Appends a fill of a part with a colour, by the mode over.
 fn fill_part(ops: &mut Vec<Op>, part: Rect, color: Pixel) -> Result<(), Memory>
     ensures { OnOk result (ops.new.items ≡ ops.old.items ++ part_flat color part) }
 {
@@ -68,8 +68,8 @@ fn fill_part(ops: &mut Vec<Op>, part: Rect, color: Pixel) -> Result<(), Memory>
     Ok(())
 }
 
-/// A colour over what is there, in a rectangle round another. Condition: that one has no point
-/// outside it.
+/// Appends fills of the outer rectangle, except for the inner one, with a colour by the mode
+/// over. Condition: the inner rectangle has no point outside the outer one.
 #[tactic(auto, unfolding(crate::specs::Gutters::parts_round))]
 pub(crate) fn fill_round(
     ops: &mut Vec<Op>,
@@ -81,7 +81,7 @@ pub(crate) fn fill_round(
     ensures { OnOk result (ops.new.items ≡ ops.old.items
         ++ flat_map (part_flat color) (parts_round outer.now inner.now)) }
 {
-    // That the edges of both are within the limit is told by the test for points.
+    // The test for points shows that the edges of both are within the limits.
     let _ = outer.is_empty();
     if inner.is_empty() {
         fill_part(ops, *outer, color)?;
@@ -94,8 +94,8 @@ pub(crate) fn fill_round(
     Ok(())
 }
 
-/// The background round a surface, where that is not the range's end. Condition: the inner place
-/// is the surface's.
+/// Appends the background around a surface, if the surface is not the range's end. Condition: the
+/// inner place is that of the surface.
 #[tactic(auto, unfolding(crate::specs::Gutters::gutter_flat))]
 pub(crate) fn put_gutter(
     range: &SurfaceRange,

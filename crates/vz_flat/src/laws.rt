@@ -1,4 +1,4 @@
-//! Laws of operations, each the contract of a function that does nothing.
+//! Laws of drawing operations: each is the contract of a function with an empty body.
 ghost use Rattle.std.specs.Prelude.{◌≡◌, Some, false, true};
 ghost use Rattle.vz_geom.specs.declared.Point.{Point};
 ghost use Rattle.vz_geom.specs.declared.Size.{Size};
@@ -16,14 +16,14 @@ ghost use Rattle.vz_flat.specs.Flat.{scene_flat};
 
 use vz_surfaces::laws::stores_tell;
 
-/// A scene's operations leave at each point of the display the colour that painting leaves, where
-/// its walk is not too much.
+/// At each point of the display a scene's operations give the colour that the painting rules
+/// give, if the walk through the scene is within the limit.
 pub fn flat_is_painted()
     ensures { (size : Size) (scene : Scene) (p : Point) → too_much (walk_of size scene) ≡ false
         → has (sized size) p ≡ true → value (scene_flat size scene) p black ≡ full scene p }
 {}
 
-/// What can be seen of the machine's state is what a store shows that stands for it.
+/// What can be seen of the machine's state is what the store of that state shows.
 pub fn scenes_are_stored()
     ensures { (w : World) (scene : Scene) → KeepsAlways w → scene_of w ≡ Some scene
         → record { root = scene.root; active = seen_frames (stored_of w) } ≡ scene }

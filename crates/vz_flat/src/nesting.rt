@@ -1,4 +1,4 @@
-//! How deep the groups of operations are nested.
+//! How deep the groups of a list of operations are nested.
 ghost use Rattle.std.specs.Prelude.{◌≡◌, ◌≤◌, ◌+◌, ◌-◌, ◌&&◌, pos, ◌+ℤ◌, int_le, nat_lt, max, true, false, List, ◌∷◌, MatchOption};
 ghost use Rattle.vz_flat.specs.declared.op.Op.{Op as Step};
 ghost use Rattle.vz_flat.specs.Ops.{is_whole, is_whole_from, is_inside, deepest};
@@ -6,21 +6,21 @@ ghost use Rattle.vz_flat.specs.Nesting.{NestsOn};
 
 use crate::{MOST_OPEN, Op};
 
-/// The groups that are open, and the most that were.
+/// How many groups are open, and the most that were open at once.
 #[derive(Clone, Copy)]
 struct Nesting {
     now_open: u32,
     deepest: u32,
 }
 
-/// Whether so many texels from a column or a row on are inside a side of a block.
+/// Whether `count` texels from `from` on are inside a side of a block.
 fn is_span_inside(from: i32, count: i32, side: u32) -> bool
     ensures { result ≡ (int_le (pos 0) from && int_le (from +ℤ count) (pos side)) }
 {
     0 <= from && i64::from(from) + i64::from(count) <= i64::from(side)
 }
 
-/// Whether the texels of an operation are inside its block.
+/// Whether the texels of an operation are inside its block. For other operations it is true.
 #[tactic(auto, unfolding(crate::specs::Ops::is_inside))]
 fn is_inside(op: &Op) -> bool
     ensures { result ≡ is_inside op.now }
@@ -43,7 +43,7 @@ fn is_inside(op: &Op) -> bool
     }
 }
 
-/// The nesting after one operation more, if it may stand there.
+/// The nesting after one more operation, or None if that is not allowed here.
 fn after(nesting: Nesting, op: &Op) -> Option<Nesting>
     requires { nesting.now_open ≤ nesting.deepest }
     ensures { MatchOption result
@@ -61,7 +61,7 @@ fn after(nesting: Nesting, op: &Op) -> Option<Nesting>
     }
 }
 
-/// The nesting in a group more, if no more than the limit are open.
+/// The nesting after one more group is opened, or None if that is over the limit.
 fn pushed(nesting: Nesting) -> Option<Nesting>
     requires { nesting.now_open ≤ nesting.deepest }
     ensures { MatchOption result (nat_lt nesting.now_open MOST_OPEN ≡ false)
@@ -80,7 +80,7 @@ fn pushed(nesting: Nesting) -> Option<Nesting>
     Some(Nesting { now_open, deepest })
 }
 
-/// The nesting after the innermost group, if one is open.
+/// The nesting after the innermost group is ended, or None if no group is open.
 fn popped(nesting: Nesting) -> Option<Nesting>
     requires { nesting.now_open ≤ nesting.deepest }
     ensures { MatchOption result (nat_lt 0 nesting.now_open ≡ false)
@@ -96,7 +96,8 @@ fn popped(nesting: Nesting) -> Option<Nesting>
     })
 }
 
-/// The greatest number of groups that are open at once, if the operations are whole.
+/// The greatest number of groups that are open at once, or None if the operations break a rule of
+/// `Ops`.
 pub(crate) fn deepest_of(ops: &[Op]) -> Option<u32>
     ensures { MatchOption result (is_whole ops.now ≡ false)
         (λ n. (is_whole ops.now ≡ true) × (n ≡ deepest 0 ops.now)) }

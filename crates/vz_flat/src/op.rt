@@ -1,4 +1,4 @@
-//! Operations on the points of a display.
+//! Drawing operations on the pixels of a display.
 ghost use Rattle.std.specs.Prelude.{◌≡◌, ◌≤◌, IsTrue, IfOk, IfErr, IsOk, ◌↔◌};
 ghost use Rattle.vz_flat.specs.Ops.{is_whole, deepest};
 
@@ -8,55 +8,56 @@ use vz_frame::{Blend, List};
 use vz_geom::Rect;
 use vz_pixels::{Pixel, PixelBlock};
 
-/// The greatest number of groups that are open at once: at most 64 surfaces on a path, each with
-/// 15 passes that draw one another, and each but the root with a group of its own.
+/// The greatest number of groups that may be open at once. A path has at most 64 surfaces, each
+/// with 15 passes that draw one another, and each surface but the root has a group of its own.
 pub const MOST_OPEN: u32 = 1_023;
 
-/// One operation, in display coordinates. It changes the points of its area alone.
+/// One drawing operation, in display coordinates. It changes only the pixels of its area.
 #[derive(Drop)]
 pub enum Op {
-    /// One colour.
+    /// Fills the area with one colour.
     Fill {
-        /// The points that it changes.
+        /// The pixels that it changes.
         area: Rect,
         /// The colour.
         color: Pixel,
-        /// By which the colour is scaled, from 0 to 255.
+        /// The opacity by which the colour is scaled, from 0 to 255.
         opacity: u8,
-        /// How the colour is laid on what is there.
+        /// How the colour is blended with the pixels below it.
         blend: Blend,
     },
-    /// The texels of a block: at a point the one that is as far from the texel `(tx, ty)` as the
-    /// point is from the first one of the area.
+    /// Draws texels of a block: the texel `(tx, ty)` at the top left pixel of the area, and the
+    /// others at the same distance from it.
     Blit {
-        /// The points that it changes.
+        /// The pixels that it changes.
         area: Rect,
-        /// The texels.
+        /// The block with the texels.
         block: PixelBlock,
-        /// The column of the texel at the first point of the area.
+        /// The column of the texel at the top left pixel of the area.
         tx: i32,
         /// The row of that texel.
         ty: i32,
-        /// By which each texel is scaled, from 0 to 255.
+        /// The opacity by which each texel is scaled, from 0 to 255.
         opacity: u8,
-        /// How each texel is laid on what is there.
+        /// How each texel is blended with the pixels below it.
         blend: Blend,
     },
-    /// Opens a group: what follows, up to its `Pop`, is drawn on transparent.
+    /// Opens a group: what follows, up to its `Pop`, is drawn on a transparent layer.
     Push {
-        /// The points that the group changes.
+        /// The pixels that the group changes.
         area: Rect,
-        /// By which the group's colours are scaled, from 0 to 255.
+        /// The opacity by which the group's pixels are scaled, from 0 to 255.
         opacity: u8,
-        /// How the group's colours are laid on what is there.
+        /// How the group's pixels are blended with those below it.
         blend: Blend,
     },
-    /// Ends the innermost open group, and lays it on what stood there before it.
+    /// Ends the innermost open group, and blends it with what was there before it.
     Pop,
 }
 
-/// Operations, back to front: each `Pop` ends an open group, none is left open, at most
-/// `MOST_OPEN` are open at once, and each texel of a `Blit` is inside its block.
+/// A valid list of operations, from back to front, which may be empty: each `Pop` ends an open
+/// group, no group is left open, at most `MOST_OPEN` are open at once, and each texel of a `Blit`
+/// is inside its block.
 #[derive(Drop)]
 pub struct Ops {
     list: List<Op>,
@@ -76,8 +77,9 @@ impl Model for Ops {
 }
 
 impl Ops {
-    /// Operations that are listed back to front. The list comes back exactly where they break one
-    /// of the four facts. It takes no memory, and looks at each operation once.
+    /// Checks a list of operations, from back to front. The error gives the list back exactly if
+    /// it breaks one of the four rules of `Ops`. It allocates nothing, and looks at each
+    /// operation once.
     pub fn of(list: List<Op>) -> Result<Ops, List<Op>>
         ensures exactly { IsOk result ↔ IsTrue (is_whole list) }
         ensures ok { IfOk result (λ ops. ops ≡ list) }
@@ -89,7 +91,7 @@ impl Ops {
         }
     }
 
-    /// The operations, back to front.
+    /// The operations, from back to front.
     pub fn as_slice(&self) -> &[Op]
         ensures value { result.now ≡ self.now }
         ensures whole { IsTrue (is_whole self.now) }
@@ -97,8 +99,8 @@ impl Ops {
         self.list.as_slice()
     }
 
-    /// The greatest number of groups that are open at once: so many rows of colours a painter wants
-    /// beside its own.
+    /// The greatest number of groups that are open at once. A painter needs that many rows of
+    /// colours besides its own.
     pub fn deepest(&self) -> u32
         ensures value { result ≡ deepest 0 self.now }
         ensures limit { result ≤ MOST_OPEN }

@@ -1,13 +1,13 @@
-//! Operations at the end of a list.
+//! How operations are appended to a list.
 ghost use Rattle.std.specs.Prelude.{◌≡◌, ◌++◌, ◌<◌, ◌∷◌, [], OnOk, vec_len, vec_capacity};
 
 use crate::Op;
 use vz_base::Memory;
 
-/// So many places are made at least where one is wanted: as many operations as small scenes have.
+/// The least number of places that are reserved at once: as many operations as small scenes have.
 const MORE: usize = 16;
 
-/// Makes more places.
+/// Reserves more places.
 pub(crate) fn grow(ops: &mut Vec<Op>) -> Result<(), Memory>
     ensures room { OnOk result (vec_len ops.new < vec_capacity ops.new) }
     ensures same { OnOk result (ops.new.items ≡ ops.old.items) }
@@ -16,7 +16,7 @@ pub(crate) fn grow(ops: &mut Vec<Op>) -> Result<(), Memory>
     Ok(())
 }
 
-/// Makes places where none is left.
+/// Reserves more places if none is free.
 fn make_room(ops: &mut Vec<Op>) -> Result<(), Memory>
     ensures room { OnOk result (vec_len ops.new < vec_capacity ops.new) }
     ensures same { OnOk result (ops.new.items ≡ ops.old.items) }
@@ -28,7 +28,7 @@ fn make_room(ops: &mut Vec<Op>) -> Result<(), Memory>
     Ok(())
 }
 
-/// Puts an operation at the end.
+/// Appends an operation.
 pub(crate) fn put(ops: &mut Vec<Op>, op: Op) -> Result<(), Memory>
     ensures { OnOk result (ops.new.items ≡ ops.old.items ++ op ∷ []) }
 {

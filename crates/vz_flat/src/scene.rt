@@ -1,4 +1,4 @@
-//! What is drawn on a display of a store's surfaces.
+//! What is drawn on a display, from the surfaces of a store.
 ghost use Rattle.std.specs.Prelude.{◌≡◌, ◌++◌, true, false, OnOk, IfOk};
 ghost use Rattle.vz_geom.specs.declared.Point.{Point};
 ghost use Rattle.vz_geom.specs.Display.{IsDisplaySize};
@@ -24,7 +24,7 @@ use vz_ids::SurfaceId;
 use vz_surfaces::Store;
 use vz_walk::{Path, Place};
 
-/// Appends what is drawn of the root, in the part of the display in which it has points.
+/// Appends what the root draws, in the part of the display that it covers.
 #[tactic(auto, unfolding(crate::specs::Flat::scene_flat))]
 fn put_root(store: &Store, root: &SurfaceId, size: Size, ops: &mut Vec<Op>) -> Result<(), Memory>
     requires size { IsDisplaySize size }
@@ -46,13 +46,14 @@ fn put_root(store: &Store, root: &SurfaceId, size: Size, ops: &mut Vec<Op>) -> R
     }
 }
 
-/// The operations of a display of this size, back to front, whose root is a surface of the store.
-/// At each point of the display, on opaque black, they leave the colour that painting leaves, and
-/// opaque black everywhere where the root has no active frame. A part of the scene that has no
-/// point on the display has no operation. Blocks are shared, and nothing of a frame is copied.
+/// The drawing operations for a display of this size, in pixels, from back to front, with a
+/// surface of the store as the root. On opaque black they give at each point of the display the
+/// colour that the painting rules give; that is opaque black everywhere if the root has no active
+/// frame. A part of the scene without a point on the display has no operation. Blocks are shared,
+/// and nothing of a frame is copied. The only error is `Memory`, if an allocation fails.
 ///
-/// Conditions: the size is a display's, the store keeps what always holds, its frames are whole,
-/// and the walk from the root is not too much.
+/// Conditions: the size is that of a display, the store keeps its invariants, its frames are
+/// valid, and the walk from the root is within the limits on weight and depth.
 pub fn flatten(alloc: Global, store: &Store, root: &SurfaceId, size: Size) -> Result<Ops, Memory>
     requires size { IsDisplaySize size }
     requires keeps { KeepsStored store.now }

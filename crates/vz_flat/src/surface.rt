@@ -1,4 +1,4 @@
-//! The part of the display in which a surface has points, and whether it is laid as it is.
+//! The part of the display that a surface covers, and whether it is drawn directly.
 ghost use Rattle.std.specs.Prelude.{◌≡◌};
 ghost use Rattle.vz_rules.specs.Kept.{IsWhole};
 ghost use Rattle.vz_rules.specs.Paint.{is_straight};
@@ -11,7 +11,7 @@ use vz_ids::SurfaceRange;
 use vz_surfaces::Seen;
 use vz_walk::{Place, frame_rect, moved};
 
-/// The place of a surface in the part in which it has points.
+/// The place of a surface, in the part of the display that it covers.
 pub(crate) fn surface_place(seen: &Seen<'_>, place: &Place) -> Place
     requires whole { IsWhole seen.now }
     requires room { HasRoom 0 place.now.shift }
@@ -22,7 +22,7 @@ pub(crate) fn surface_place(seen: &Seen<'_>, place: &Place) -> Place
     place.within(&part)
 }
 
-/// The place of a surface in the part in which what a range shows is not absent.
+/// The place of a shown surface, in the part of the display in which it has content.
 #[tactic(auto, unfolding(crate::specs::Flat::present_place))]
 pub(crate) fn present_place(range: &SurfaceRange, seen: &Seen<'_>, place: &Place) -> Place
     requires whole { IsWhole seen.now }
@@ -36,7 +36,7 @@ pub(crate) fn present_place(range: &SurfaceRange, seen: &Seen<'_>, place: &Place
     }
 }
 
-/// Whether a colour is laid as it is: over another, at the full opacity.
+/// Whether a colour is drawn directly: with the mode over and full opacity.
 pub(crate) fn is_straight(mode: Blend, opacity: u8) -> bool
     ensures { result ≡ is_straight mode opacity }
 {

@@ -1,4 +1,4 @@
-//! Tiles.
+//! Tile quads.
 ghost use Rattle.std.specs.Prelude.{◌≡◌, ◌++◌, OnOk};
 ghost use Rattle.std.specs.Option.{option_copied};
 ghost use Rattle.vz_geom.specs.Rectangle.{corner, IsNear};
@@ -14,7 +14,7 @@ use vz_geom::{Point, Rect};
 use vz_pixels::{Pixel, PixelBlock};
 use vz_walk::Place;
 
-/// The first point of a rectangle.
+/// The top left point of a rectangle.
 fn corner(r: &Rect) -> Point
     ensures value { result ≡ corner r.now }
     ensures near { IsNear result }
@@ -23,8 +23,8 @@ fn corner(r: &Rect) -> Point
     Point { x: r.x(), y: r.y() }
 }
 
-/// The texel at the first point of a place's window, where the texel `(tx, ty)` stands at the
-/// first point of the tile.
+/// The texel at the top left pixel of a place's window, if the texel `(tx, ty)` is at the top
+/// left point of the tile.
 fn first_texel(tx: u16, ty: u16, place: &Place) -> Point
     requires { HasRoom 0 place.now.shift }
     ensures { result ≡ first_texel tx ty place.now }
@@ -47,8 +47,8 @@ pub(crate) fn block_at(blocks: &[PixelBlock], place: Option<usize>) -> Option<&P
     }
 }
 
-/// The operation of a tile whose texel `(tx, ty)` stands at its first point, of a block, or of
-/// transparent where there is none.
+/// Appends the operation of a tile with the texel `(tx, ty)` at its top left point. Without a
+/// block it is a fill with transparent.
 pub(crate) fn put_tile(
     ops: &mut Vec<Op>,
     block: Option<&PixelBlock>,

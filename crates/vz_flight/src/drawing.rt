@@ -8,8 +8,8 @@ use vz_geom::Size;
 use vz_ids::SurfaceId;
 use vz_surfaces::Store;
 
-/// The submissions that the walk over a store goes into, in the order of acceptance. It has no
-/// bytes.
+/// The submissions whose surfaces the walk over a store enters, in the order of acceptance. The
+/// type has no data at run time.
 #[derive(Drop)]
 pub(crate) struct Drawing {
     store: Snapshot<Store>,
@@ -28,7 +28,7 @@ impl Model for Drawing {
 }
 
 impl Drawing {
-    /// The drawing of a store as it is now, from a root and on a display of a size.
+    /// The value for a store as it is now, a root, and a display of this size.
     pub(crate) fn of(store: &Store, root: &SurfaceId, size: &Size) -> Drawing
         ensures { result ≡ flown_from size.now root.now store.now }
     {

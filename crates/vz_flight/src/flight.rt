@@ -9,8 +9,9 @@ use crate::roster::Roster;
 use std::marker::Model;
 use vz_ids::Sub;
 
-/// The submissions of a drawn frame, each with the resources that it lists: it holds them until
-/// the frame is done, even if it is past by then. Contracts see them in the order of acceptance.
+/// The submissions of a drawn frame, each with the resources that it lists. It holds these until
+/// the frame is done, even if it is no longer active by then. Contracts see the submissions in
+/// the order of acceptance.
 #[derive(Drop)]
 pub struct Flight {
     pub(crate) roster: Roster,

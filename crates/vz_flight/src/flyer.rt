@@ -1,4 +1,4 @@
-//! The submissions of a walk, as they are met.
+//! A visitor that gathers the submissions of a walk.
 ghost use Rattle.std.specs.Prelude.{◌≡◌, []};
 ghost use Rattle.vz_rules.specs.Walk.{walked_subs};
 ghost use Rattle.vz_surfaces.specs.Keeping.{KeepsStored};
@@ -15,14 +15,15 @@ use vz_ids::{SurfaceId, SurfaceRange};
 use vz_surfaces::{Seen, Store};
 use vz_walk::{Place, Visitor};
 
-/// Keeps the submissions into which a walk goes, each once, in the order in which they are met.
+/// A visitor that keeps the submissions whose surfaces a walk enters, each once, in the order in
+/// which they are met.
 #[derive(Drop)]
 pub struct Flyer {
     roster: Roster,
 }
 
 impl Flyer {
-    /// No submission was met. It takes no memory.
+    /// Creates a visitor that has met nothing. It allocates nothing.
     pub fn new(alloc: Global) -> Flyer
         ensures { result.roster ≡ met_in [] }
     {
@@ -31,8 +32,9 @@ impl Flyer {
         }
     }
 
-    /// The submissions into which a walk goes, with what they list. Conditions: what always holds
-    /// of the store is kept, and it met all of the walk from the root on a display of this size.
+    /// The submissions whose surfaces the walk entered, with what they list. Conditions: the
+    /// store keeps its invariants, and the visitor met the whole walk from this root on a display
+    /// of this size.
     pub fn flight(self, store: &Store, root: &SurfaceId, size: Size) -> Flight
         requires keeps { KeepsStored store.now }
         requires met { self.roster ≡ met_in (walked_in size root.now store.now) }

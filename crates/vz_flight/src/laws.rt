@@ -1,4 +1,4 @@
-//! Laws of the drawn frame, each the contract of a function that does nothing.
+//! Laws of the drawn frame: each is the contract of a function with an empty body.
 ghost use Rattle.std.specs.Prelude.{◌≡◌, ℕ, Option, Some, None, is_some, List, IsTrue};
 ghost use Rattle.std.specs.List.{Contains};
 ghost use Rattle.vz_geom.specs.declared.Size.{Size};
@@ -32,8 +32,8 @@ ghost use Rattle.vz_flight.specs.Drawn.{IsRosterOf, flown_from};
 
 use vz_surfaces::laws::stores_tell;
 
-/// The drawn frame stays where the machine's state names, gives back or feeds, where a submission
-/// becomes active or a surface is destroyed, where a frame begins, and where it is over.
+/// The drawn frame does not change with naming, the return of resources, feedback, a submission
+/// that becomes active, a surface that is destroyed, a begin-frame, or the Over mark.
 pub fn flights_stay()
     ensures naming { (w : World) (f : Option (List Flown)) → AreFlown w f
         → AreFlown (naming w) f }
@@ -51,9 +51,9 @@ pub fn flights_stay()
         → AreFlown (answer_to p w Over).world f }
 {}
 
-/// The drawn frame stays where a client took a message: where it alone changes, as where it is
-/// refused, reclaims or produced nothing, and where it submits, uploads, relates sinks, names the
-/// root, awaits a frame or closes.
+/// The drawn frame does not change when a client takes a message: one that changes only the
+/// client (as a refused one, a reclaim or an answer without a frame), a submission, an upload, a
+/// relation of sinks, the name of the root, a wait for a begin-frame, or a close.
 pub fn flights_stay_in_messages()
     ensures clients { (g : Client → Client) (c : Client) (w : World) (f : Option (List Flown))
         → AreFlown w f → AreFlown (taking g c w) f }
@@ -74,8 +74,8 @@ pub fn flights_stay_in_messages()
         → AreFlown (message_answer w c Close).world f }
 {}
 
-/// Where a drawing walks and is answered with Drawn, what `fly` answers for a store that stands for
-/// the machine's state is the drawn frame, and each submission of it is an active one.
+/// If a draw walks and the reply is Drawn, the drawn frame is the `Flight` of the store of the
+/// machine's state, and each submission in it is active.
 pub fn flights_are_drawn()
     ensures drawn { (p : Plan) (w : World) (root : SurfaceId) (damage : Rectangle)
         → KeepsAlways w → Draws p w root → (draw_answer p w).reply ≡ Drawn damage
@@ -88,7 +88,7 @@ pub fn flights_are_drawn()
     stores_tell();
 }
 
-/// Where a drawing is answered otherwise, the drawn frame stays.
+/// If the reply to a draw is another one, the drawn frame does not change.
 pub fn flights_stay_undrawn()
     ensures unchanged { (p : Plan) (w : World) (root : SurfaceId) (f : Option (List Flown))
         → Draws p w root → (draw_answer p w).reply ≡ Unchanged → AreFlown w f
@@ -103,16 +103,16 @@ pub fn flights_stay_undrawn()
         → AreFlown w f → AreFlown (draw_answer p w).world f }
 {}
 
-/// There is no drawn frame before the first step, nor once it is done, nor where the machine's
-/// state has none.
+/// There is no drawn frame before the first step, after it is done, or if the machine's state has
+/// none.
 pub fn flights_land()
     ensures opening { (p : Plan) → AreFlown (opening p) None }
     ensures done { (w : World) → AreFlown (done_answer w).world None }
     ensures none { (w : World) → w.in_flight ≡ None → AreFlown w None }
 {}
 
-/// What is in the drawn frame is what is in flight, and a roster of it has its submissions, each
-/// of which lists what the submission of the machine's state does.
+/// The submissions of the drawn frame are those in flight in the machine's state. A roster of it
+/// has the same submissions, each with the resources that it lists there.
 pub fn flights_tell()
     ensures flies { (w : World) (f : Option (List Flown)) (sub : Sub) → AreFlown w f
         → flies f sub ≡ is_in_flight w.in_flight sub }
@@ -127,9 +127,9 @@ pub fn flights_tell()
         × (s.submitted.frame.resources ≡ f.1) }
 {}
 
-/// A roster of the drawn frame stands for it: with it in flight, each submission holds what it
-/// lists and gets its feedback as before, and where those of it are presented, the same feedback is
-/// given.
+/// A roster may replace the drawn frame: with the roster in flight each submission holds what it
+/// lists and gets its feedback as before, and the same feedback is given when the submissions of
+/// the roster are presented.
 pub fn rosters_stand()
     ensures holds { (w : World) (flown roster : List Flown) (s : Submission)
         → AreFlown w (Some flown) → IsRosterOf flown roster

@@ -13,7 +13,8 @@ use vz_base::Memory;
 use vz_frame::{List, Listing};
 use vz_ids::Sub;
 
-/// Submissions, each with the resources that it lists, in the order in which they were put.
+/// A list of submissions, each with the resources that it lists, in the order in which they were
+/// appended.
 #[derive(Drop)]
 pub struct Roster {
     alloc: Global,
@@ -38,7 +39,7 @@ fn copy_of(alloc: Global, listings: &[Listing]) -> Result<List<Listing>, Memory>
 }
 
 impl Roster {
-    /// No submission. It takes no memory.
+    /// Creates an empty roster. It allocates nothing.
     pub fn new(alloc: Global) -> Roster
         ensures { result ≡ [] }
     {
@@ -48,7 +49,7 @@ impl Roster {
         }
     }
 
-    /// Whether a submission is in it.
+    /// Whether the roster has a submission.
     pub fn has(&self, sub: &Sub) -> bool
         ensures { result ≡ has_sub (subs_of self.now) sub.now }
     {
@@ -62,15 +63,15 @@ impl Roster {
         self.subs.len()
     }
 
-    /// The submissions in it, in their order.
+    /// The submissions, in their order.
     pub fn subs(&self) -> &[Sub]
         ensures { result.now ≡ subs_of self.now }
     {
         self.subs.keys().as_slice()
     }
 
-    /// Puts a submission at the end, with a copy of what it lists. For want of memory, and only
-    /// then, it answers Memory and nothing changes. Condition: the submission is not in it.
+    /// Appends a submission with a copy of what it lists. It returns `Memory` if an allocation
+    /// fails; then nothing changes. Condition: the roster does not have the submission.
     pub fn put(&mut self, sub: Sub, listings: &[Listing]) -> Result<(), Memory>
         requires { IsFalse (has_sub (subs_of self.old) sub) }
         ensures ok { OnOk result (self.new ≡ self.old ++ (sub, listings.now) ∷ []) }
@@ -81,7 +82,7 @@ impl Roster {
         Ok(())
     }
 
-    /// Puts a submission at the end unless it is in it.
+    /// Appends a submission, unless the roster has it.
     pub(crate) fn note(&mut self, sub: Sub, listings: &[Listing]) -> Result<(), Memory>
         ensures { OnOk result (self.new
             ≡ adding same_flown self.old ((sub, listings.now) ∷ [])) }
@@ -92,7 +93,8 @@ impl Roster {
         self.put(sub, listings)
     }
 
-    /// The submission at a place, with what it lists. Condition: there is one.
+    /// The submission at a place, from 0, with what it lists. Condition: the place is in the
+    /// list.
     pub fn get(&self, k: usize) -> (Sub, &[Listing])
         requires { k < length self.now }
         ensures { slice_get self.now k ≡ Some (result.0, result.1.now) }
@@ -103,7 +105,7 @@ impl Roster {
         (*sub, listings.as_slice())
     }
 
-    /// How many listings there are in all, None exactly where that number does not fit.
+    /// How many listings there are in all, or None exactly if that number does not fit a `usize`.
     pub fn listings(&self) -> Option<usize>
         ensures { MatchOption result (usize.MAX < listing_count self.now)
             (λ n. n ≡ listing_count self.now) }

@@ -190,10 +190,10 @@ impl Lending {
         self.lenders[client as usize - 1].release_all(listings);
     }
 
-    /// Gives back what was released: each resource without a reference that is alive is returned
-    /// with all references received as its count, by client and rising id. Conditions: the
-    /// records are right for a state that keeps the invariants, and `out` has room for each
-    /// resource that had a reference alive.
+    /// Gives back what was released: each released resource of which no reference is alive any
+    /// more is returned with all references received as its count, by client and rising id.
+    /// Conditions: the records are right for a state that keeps the invariants, and `out` has room
+    /// for each resource that had a reference alive.
     pub fn give_back(&mut self, out: &mut Room<Returned>)
         requires stands { (w : World) × KeepsAlways w × AreLent w self.old }
         requires room { resources_out self.old ≤ out.old.spare }

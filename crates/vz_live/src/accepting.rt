@@ -24,16 +24,16 @@ use vz_pixels::PixelBlock;
 pub struct Accepted {
     /// Its client and ordinal.
     pub sub: Sub,
-    /// Its number among the submissions on its surface, from 1 on.
+    /// Its number among the submissions on its surface, from 1.
     pub index: u32,
-    /// The submission that waited on the surface and is dropped, if one did.
+    /// The submission that was waiting on the surface and is dropped now, or None.
     pub replaced: Option<Sub>,
 }
 
 impl LiveSurfaces {
-    /// Makes room for one submission more of a client, with so many listings and references. Memory
-    /// is the only error. Nothing else changes in any case, and no room is lost. Condition: the
-    /// client is there.
+    /// Makes room for one more submission of a client with this many listed resources and
+    /// references. The only error is `Memory`, if an allocation fails. In either case nothing
+    /// else changes and no room is lost. Condition: the client exists.
     pub fn ready(&mut self, client: u32, listings: usize, references: usize) -> Result<(), Memory>
         requires known { IsLender client self.old.lent }
         ensures room { OnOk result (HasRoomFor client listings references self.new) }
@@ -55,10 +55,11 @@ impl LiveSurfaces {
         self.damage.ready(1)
     }
 
-    /// A submission of a client is accepted and waits: its resources are lent, it awaits feedback,
-    /// its damage is told, and the one that waited on its surface is dropped. For want of memory,
-    /// and only then, the frame comes back, and nothing changes. Conditions: the client is not
-    /// closed and may submit it, the blocks are those of its listings, and there is room for it.
+    /// Accepts a submission of a client, which waits: its resources are lent, it awaits feedback,
+    /// its damage is reported, and the one that was waiting on its surface is dropped. If an
+    /// allocation fails, the error gives the frame back and nothing changes. Conditions: the
+    /// client is not closed and may submit it, `blocks` has the block of each listed resource in
+    /// order, and there is room for it.
     pub fn accept(
         &mut self,
         client: u32,
@@ -124,7 +125,7 @@ impl LiveSurfaces {
     }
 }
 
-/// The damage that a frame says of its root pass, in its own pixels.
+/// The damage rectangle of a frame's root pass, in pixels of the surface.
 #[tactic(auto, unfolding(vz_geom::specs::Rectangle::with_sides))]
 fn root_damage(frame: &CompositorFrame) -> Rect
     ensures { result ≡ root_damage frame.now }

@@ -1,4 +1,4 @@
-//! What is asked of the surfaces and of what hangs on them.
+//! Questions about the surfaces and what belongs to them.
 ghost use Rattle.std.specs.Prelude.{◌≡◌, ◌≤◌, ◌+◌, ◌++◌, ◌&&◌, length, Option, OnOk, OnErr};
 ghost use Rattle.std.specs.List.{Contains, list_any};
 ghost use Rattle.std.specs.Option.{option_map};
@@ -21,8 +21,9 @@ use vz_ids::{LocalSurfaceId, Sub, SurfaceId};
 use vz_rules::Returned;
 
 impl LiveSurfaces {
-    /// The local id and the size of the last surface that a client created, None exactly where it
-    /// created none. Surfaces that were destroyed count too. Condition: its number is 1 to 16.
+    /// The local id and the size, in pixels, of the last surface that a client created, or None
+    /// exactly if it created none. Surfaces that were destroyed count too. Condition: the
+    /// client's number is 1 to 16.
     pub fn last(&self, client: u32) -> Option<(LocalSurfaceId, Size)>
         requires number { HasNumber client }
         ensures last { (w : World) (but : Option Id) → AreLive w but self.now
@@ -31,8 +32,8 @@ impl LiveSurfaces {
         self.store.last(client)
     }
 
-    /// Whether some submission on a surface of a surface's group, at this one or newer, was ever
-    /// active. Surfaces that were destroyed count too.
+    /// Whether this surface or a newer one of its group ever had an active submission. Surfaces
+    /// that were destroyed count too.
     pub fn ever_active(&self, id: &SurfaceId) -> bool
         ensures active { (w : World) (but : Option Id) → AreLive w but self.now
             → result ≡ list_any (λ (s : Submission). s.was_active && at_least s.submitted.id id.now)
@@ -41,8 +42,8 @@ impl LiveSurfaces {
         self.store.ever_active(id)
     }
 
-    /// Whether an upload of a resource is refused, as a reference of it was lent that the client
-    /// has not taken back. Condition: the client is there.
+    /// Whether an upload of a resource is refused as the resource is in use: a reference of it is
+    /// alive, or a return of it is in the queue. Condition: the client exists.
     pub fn in_use(&self, client: u32, id: u32) -> bool
         requires known { IsLender client self.now.lent }
         ensures { (w : World) (but : Option Id) (c : Client) → KeepsAlways w
@@ -52,8 +53,9 @@ impl LiveSurfaces {
         self.lending.in_use(client, id)
     }
 
-    /// Makes room in `out` for each resource of which some reference is out, and for so many more.
-    /// Memory is the only error, and then nothing changes. The list stays in any case.
+    /// Makes room in `out` for each resource of which some reference is outstanding, and for
+    /// `more` others. The only error is `Memory`, if an allocation fails; then nothing changes.
+    /// The list itself never changes.
     pub fn make_room(&self, more: usize, out: &mut Room<Returned>) -> Result<(), Memory>
         ensures ok { OnOk result (resources_out self.now.lent + more ≤ out.new.spare) }
         ensures list { out.new.list ≡ out.old.list }
@@ -62,8 +64,8 @@ impl LiveSurfaces {
         self.lending.make_room(more, out)
     }
 
-    /// Appends the references that are out, by client and rising id. Condition: `out` has room for
-    /// each resource of which some is out.
+    /// Appends the outstanding references, by client and rising resource id. Condition: `out` has
+    /// room for each resource of which some reference is outstanding.
     pub fn held(&self, out: &mut Room<Returned>)
         requires room { resources_out self.now.lent ≤ out.old.spare }
         ensures { (w : World) (but : Option Id) → KeepsAlways w → AreLive w but self.now
@@ -79,7 +81,7 @@ impl LiveSurfaces {
         self.feeding.unfed()
     }
 
-    /// Appends the submissions that await feedback, by client and ordinal. It takes no memory.
+    /// Appends the submissions that await feedback, by client and ordinal. It allocates nothing.
     /// Condition: `out` has room for all.
     pub fn subs(&self, out: &mut Room<Sub>)
         requires room { length self.now.owed.owed.unfed ≤ out.old.spare }

@@ -1,4 +1,4 @@
-//! A frame is drawn.
+//! A draw.
 ghost use Rattle.std.specs.Prelude.{◌≡◌, ◌≤◌, ℕ, None, Some, Option, IfOk, IfSome, OnOk};
 ghost use Rattle.std.specs.Prelude.{OnErr};
 ghost use Rattle.vz_geom.specs.declared.Size.{Size as DisplaySize};
@@ -28,20 +28,20 @@ use vz_rules::Fed;
 use vz_surfaces::Store;
 
 impl LiveSurfaces {
-    /// The surfaces and submissions, of which what is drawn is read.
+    /// The store of surfaces and submissions, from which the drawing operations are made.
     pub fn store(&self) -> &Store
         ensures { result.now ≡ self.now.store }
     {
         &self.store
     }
 
-    /// What a drawing finds in one walk from its root, on a display of a size: what changed, and
-    /// the submissions that are drawn where something did. None is the answer exactly where there
-    /// is more to be seen than may be drawn. It tells what the drawing is answered, before anything
-    /// is made for it, and nothing changes in any case. Memory is the only error. Condition: a look
-    /// told that something is to be seen on this root.
+    /// Measures a draw in one walk from its root, on a display of this size in pixels: what
+    /// changed, and the submissions that are drawn if something did. It is None exactly if the
+    /// scene is over the limit on weight or depth. So the reply is known before anything is
+    /// allocated for the frame; contracts see no change in any case. The only error is `Memory`,
+    /// if an allocation fails. Condition: `look` returned `Seen` with this root.
     ///
-    /// The drawing ends with `leave` where nothing changed, and with `show` where something did.
+    /// The draw ends with `leave` if nothing changed, and with `show` if something did.
     pub fn measure(
         &mut self,
         alloc: Global,
@@ -63,8 +63,8 @@ impl LiveSurfaces {
         Ok(Some((measured, flight)))
     }
 
-    /// A drawing that walks ends where nothing changed: what is seen is remembered, and nothing is
-    /// drawn. It takes no memory.
+    /// Ends a draw that walked and found no change: the aggregation is remembered, and nothing is
+    /// drawn. It allocates nothing.
     pub fn leave(&mut self, measured: Measured)
         ensures live { (p : Plan) (w : World) (root : Id) (size : DisplaySize)
             → IsShowing p w root size self.old → Measures root size self.old measured
@@ -74,11 +74,13 @@ impl LiveSurfaces {
         self.damage.remember(measured);
     }
 
-    /// A drawing that walks ends where something changed: what is seen is remembered, and drawn.
-    /// The submissions of the drawn frame hold what they list until it is done, and `fed` has room
-    /// for its end. Condition: the drawing walks from a root, and found these submissions.
+    /// Ends a draw that walked and found a change: the aggregation is remembered, and the frame
+    /// is drawn. The submissions of the drawn frame hold what they list until it is done, and
+    /// `fed` gets room for the feedback at its end. Condition: the draw walked from a root, and
+    /// `measure` found this.
     ///
-    /// Want of memory is the only error, and then nothing changes but that there may be more room.
+    /// The only error is `Memory`, if an allocation fails; then nothing changes, except that
+    /// there may be more room.
     pub fn show(
         &mut self,
         measured: Measured,

@@ -10,7 +10,7 @@ use vz_frame::Listing;
 use vz_ids::Sub;
 use vz_surfaces::Held;
 
-/// What a submission lists, nothing where there is none.
+/// The resources that a submission lists; none if there is no submission.
 pub(crate) fn listings_of(held: Option<&Held>) -> &[Listing]
     ensures { result.now ≡ listings_of (option_copied held.entry) }
 {
@@ -20,7 +20,7 @@ pub(crate) fn listings_of(held: Option<&Held>) -> &[Listing]
     }
 }
 
-/// A submission that ends, with whether it is in the drawn frame.
+/// A submission that ends, and whether it is in the drawn frame.
 pub(crate) fn ended_in(flight: &Option<Flight>, held: Option<&Held>) -> Option<Ended>
     ensures { result ≡ ended_in flight.now (option_copied held.entry) }
 {
@@ -43,7 +43,7 @@ fn flies(flight: &Option<Flight>, held: &Held) -> bool
     }
 }
 
-/// How many places among the references a submission wants that waits, none where there is none.
+/// How many places among the references a waiting submission needs; 0 if there is no submission.
 pub(crate) fn wanted_by(held: Option<&Held>) -> usize
     ensures { result ≡ wanted_by (option_copied held.entry) }
 {

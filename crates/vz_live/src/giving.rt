@@ -1,4 +1,4 @@
-//! What goes back to clients.
+//! What is returned to clients.
 ghost use Rattle.std.specs.Prelude.{◌≡◌, ◌≤◌, ◌++◌, [], length, Option};
 ghost use Rattle.std.specs.List.{Contains};
 ghost use Rattle.vz_ids.specs.declared.SurfaceId.{SurfaceId as Id};
@@ -15,9 +15,10 @@ use vz_frame::Room;
 use vz_rules::{Fed, Returned};
 
 impl LiveSurfaces {
-    /// Gives back what was released: each resource that nothing holds any more goes back with all
-    /// references that were lent, by client and rising id. It takes no memory. Conditions: what
-    /// always holds is kept, and `out` has room for each resource of which some reference is out.
+    /// Gives back what was released: each resource that nothing holds any more is returned, with
+    /// all references that were lent as its count, by client and rising resource id. It allocates
+    /// nothing. Conditions: the invariants hold, and `out` has room for each resource of which
+    /// some reference is outstanding.
     pub fn give_back(&mut self, out: &mut Room<Returned>)
         requires stands { (w : World) × (but : Option Id) × KeepsAlways w × AreLive w but self.old }
         requires room { resources_out self.old.lent ≤ out.old.spare }
@@ -32,8 +33,8 @@ impl LiveSurfaces {
         self.lending.give_back(out);
     }
 
-    /// Gives the feedback that is due, in the order of acceptance. It takes no memory. Condition:
-    /// `out` has room for it.
+    /// Gives the feedback that is due, in the order of acceptance. It allocates nothing.
+    /// Condition: `out` has room for it.
     pub fn feed(&mut self, out: &mut Room<Fed>)
         requires room { length self.old.owed.owed.due ≤ out.old.spare }
         ensures fed { (w : World) (but : Option Id) → AreLive w but self.old
@@ -46,7 +47,7 @@ impl LiveSurfaces {
         self.feeding.feed(out);
     }
 
-    /// How many returns are in a client's queue. Condition: the client is there.
+    /// How many returned resources are in a client's queue. Condition: the client exists.
     pub fn queued(&self, client: u32) -> usize
         requires known { IsLender client self.now.lent }
         ensures own { (l : Lent) → IsOf client self.now.lent l → result ≡ length l.holding.queue }
@@ -54,8 +55,8 @@ impl LiveSurfaces {
         self.lending.queued(client)
     }
 
-    /// Appends the queue of a client, and empties it. Conditions: the client is there, and `out`
-    /// has room for its queue.
+    /// Appends a client's queue of returned resources to `out` and empties it. Conditions: the
+    /// client exists, and `out` has room for its queue.
     pub fn reclaim(&mut self, client: u32, out: &mut Room<Returned>)
         requires known { IsLender client self.old.lent }
         requires room { (l : Lent) → IsOf client self.old.lent l

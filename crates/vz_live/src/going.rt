@@ -15,9 +15,9 @@ use vz_ids::SurfaceId;
 use vz_surfaces::Gone;
 
 impl LiveSurfaces {
-    /// A surface is destroyed: its waiting and its active submission end, and what they held is
-    /// released. The answer is what ended. It takes no memory. Conditions: the surface exists and
-    /// is not temporary, and what is named now is named.
+    /// Destroys a surface: its waiting and its active submission end, and what they held is
+    /// released. Returns what ended. It allocates nothing. Conditions: the surface exists and is
+    /// not temporary, and names are noted.
     pub fn go(&mut self, id: &SurfaceId) -> Gone
         requires goes { (w : World) × (c : Created) × IsGoing w c id.now self.old }
         ensures live { (w : World) (c : Created) → IsGoing w c id.now self.old

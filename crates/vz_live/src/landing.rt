@@ -15,14 +15,14 @@ use vz_lending::Lending;
 use vz_rules::{Fed, Returned};
 
 impl LiveSurfaces {
-    /// Whether a frame is drawn that is not done.
+    /// Whether there is a drawn frame that is not done yet.
     pub fn is_flying(&self) -> bool
         ensures { result ≡ is_some self.now.flight }
     {
         self.flight.is_some()
     }
 
-    /// How many submissions are in the drawn frame, 0 where there is none.
+    /// How many submissions are in the drawn frame; 0 if there is none.
     pub fn flying(&self) -> usize
         ensures { result ≡ flying_count self.now.flight }
     {
@@ -32,9 +32,9 @@ impl LiveSurfaces {
         }
     }
 
-    /// The drawn frame is done: what its submissions held is released and goes back, and they are
-    /// presented. It takes no memory. Conditions: there is such a frame, and `returned` and `fed`
-    /// have room for all that may go back and for all that may be fed.
+    /// Ends the drawn frame: what its submissions held is released and returned, and they are
+    /// presented. It allocates nothing. Conditions: there is a drawn frame, and `returned` and
+    /// `fed` have room for all that may be returned and all feedback that may be given.
     pub fn land(&mut self, returned: &mut Room<Returned>, fed: &mut Room<Fed>)
         requires lands { (w : World) × (drawn : List Sub) × IsFlying w drawn self.old }
         requires room { resources_out self.old.lent ≤ returned.old.spare }

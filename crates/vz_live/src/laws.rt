@@ -1,4 +1,5 @@
-//! Laws of surfaces with what hangs on them, each the contract of a function that does nothing.
+//! Laws of surfaces with what belongs to them: each is the contract of a function with an empty
+//! body.
 ghost use Rattle.std.specs.Prelude.{◌≡◌, ℕ, Option};
 ghost use Rattle.vz_ids.specs.declared.FrameSinkId.{FrameSinkId};
 ghost use Rattle.vz_ids.specs.declared.LocalSurfaceId.{LocalSurfaceId};
@@ -20,9 +21,9 @@ use vz_reaching::laws::{kept_ones_stay, names_are_noted};
 use vz_surfaces::laws::stores_stay;
 use vz_telling::laws::{damages_stay, damages_stay_in_messages};
 
-/// These changes of the machine's state are none of surfaces and of what hangs on them: naming, a
-/// message that changes neither what its client holds nor whether it is closed, an upload, a
-/// relation, a root, a begin-frame that is awaited, and the end.
+/// These changes of the machine's state change nothing here: naming, a message that changes
+/// neither what its client holds nor whether it is closed, an upload, a relation of sinks, the
+/// name of the root, a begin-frame that is taken, and the Over mark.
 pub fn surfaces_stay()
     ensures naming { (w : World) (but : Option SurfaceId) (v : Live) → AreLive w but v
         → AreLive (naming w) but v }

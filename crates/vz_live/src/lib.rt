@@ -1,9 +1,10 @@
-//! The surfaces of the machine and what hangs on them: the submissions that wait and are active,
-//! what their clients lent for them, the feedback that they are owed, what they reference, what
-//! they changed, and the drawn frame.
+//! The surfaces of the machine and what belongs to them: the waiting and active submissions, what
+//! their clients lent for them, the feedback that they await, what they reference, what they
+//! changed, and the drawn frame.
 //!
-//! Each call is one change of the machine's state, made to all of these. Its contract says, for
-//! every state that they stand for, that they stand for the next one.
+//! Each call makes one change of the machine's state in all of these parts. Its contract says: if
+//! the parts are right for some state before the call, they are right for the next state after
+//! it.
 #![tactic(auto)]
 
 mod accepting;

@@ -1,4 +1,4 @@
-//! The surfaces with what hangs on them.
+//! The surfaces with what belongs to them.
 ghost use Rattle.std.specs.Prelude.{◌≡◌, None, length, IfOk};
 ghost use Rattle.vz_rules.specs.Plan.{Plan};
 ghost use Rattle.vz_rules.specs.World.{opening};
@@ -15,10 +15,10 @@ use vz_lending::Lending;
 use vz_refs::References;
 use vz_surfaces::Store;
 
-/// The surfaces of the machine with what hangs on them. Contracts see a value for each part.
+/// The surfaces of the machine with what belongs to them. Contracts see a value for each part.
 ///
-/// A submission that waits has its places among the references made before, so that nothing that
-/// follows a step's own change takes memory.
+/// The room for the references of a waiting submission is reserved when it is accepted, so that
+/// nothing that follows a step's own change allocates.
 #[derive(Drop)]
 pub struct LiveSurfaces {
     pub(crate) store: Store,
@@ -47,7 +47,8 @@ impl Model for LiveSurfaces {
 }
 
 impl LiveSurfaces {
-    /// No surface was created, for so many clients, numbered from 1. Memory is the only error.
+    /// Creates the parts for clients 1 to `clients`, without surfaces. The only error is
+    /// `Memory`, if an allocation fails.
     pub fn open(alloc: Global, clients: u32) -> Result<LiveSurfaces, Memory>
         ensures live { IfOk result (λ s. (p : Plan) → length p.files ≡ clients
             → AreLive (opening p) None s) }

@@ -1,4 +1,4 @@
-//! A look at what is on the root, before it is drawn.
+//! What the reply to a draw depends on before the walk.
 ghost use Rattle.vz_geom.specs.declared.Size.{Size};
 ghost use Rattle.vz_rules.specs.Plan.{Plan};
 ghost use Rattle.vz_rules.specs.World.{World};
@@ -7,20 +7,20 @@ ghost use Rattle.vz_live.specs.Drawing.{IsDrawing, Foretells};
 use crate::live::LiveSurfaces;
 use vz_ids::SurfaceId;
 
-/// What a drawing of what is on the root is answered, short of a walk.
+/// What is known of the reply to a draw before the walk.
 #[derive(Clone, Copy)]
 pub enum Look {
-    /// A frame is drawn that is not done.
+    /// The reply is Busy: a drawn frame is not done yet.
     Busy,
-    /// There is no root, or nothing is to be seen on it.
+    /// The reply is NoRoot: there is no root, or it has nothing to show.
     NoRoot,
-    /// Something is to be seen on this root: a drawing walks from there, if it is not too much.
+    /// This root has something to show. The draw walks from it, and may still be over the limit.
     Seen(SurfaceId),
 }
 
 impl LiveSurfaces {
-    /// What a drawing of what is on the root is answered, short of a walk, on a display of any
-    /// size. It takes no memory. Condition: the root is that of the state.
+    /// What is known of the reply to a draw before the walk, for a display of any size. It
+    /// allocates nothing. Condition: `root` is the root of the state.
     pub fn look(&self, root: Option<SurfaceId>) -> Look
         requires draws { (p : Plan) × (w : World) × (size : Size)
             × IsDrawing p w root size self.now }

@@ -15,7 +15,7 @@ use vz_frame::Room;
 use vz_ids::SurfaceId;
 use vz_surfaces::Store;
 
-/// A surface, if there is one and it exists.
+/// The root, if one is given and it exists.
 fn if_exists(store: &Store, root: Option<SurfaceId>) -> Option<SurfaceId>
     ensures { result ≡ if_stands store.now root }
 {
@@ -47,8 +47,8 @@ impl LiveSurfaces {
         self.references.temporary()
     }
 
-    /// Appends the marked surfaces that exist, by client and in the order of creation. Condition:
-    /// `out` has room for as many surfaces as exist.
+    /// Appends the marked surfaces that exist, by client and then in the order of creation.
+    /// Condition: `out` has room for as many surfaces as exist.
     pub fn marked(&self, out: &mut Room<SurfaceId>)
         requires { existing_count self.now.store ≤ out.old.spare }
         ensures list { out.new.list ≡ out.old.list ++ marked_to 16 self.now.store }
@@ -57,9 +57,9 @@ impl LiveSurfaces {
         self.store.marked(out);
     }
 
-    /// Gives the reached surfaces, each once, where a surface is the root, if one is. It takes no
-    /// memory. Conditions: `out` is empty and has room for one more than the surfaces set and the
-    /// temporary ones together.
+    /// Appends the reachable surfaces, each once, given the root, if there is one. It allocates
+    /// nothing. Conditions: `out` is empty and has room for one more than the set and the
+    /// temporary surfaces together.
     pub fn reachable(&self, root: Option<SurfaceId>, out: &mut Room<SurfaceId>)
         requires live { (w : World) × (but : Option Id) × KeepsAlways w × AreLive w but self.now }
         requires empty { out.old.list ≡ [] }

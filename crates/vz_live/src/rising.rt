@@ -13,9 +13,9 @@ use crate::live::LiveSurfaces;
 use vz_ids::{Sub, SurfaceId};
 
 impl LiveSurfaces {
-    /// A submission that waits becomes active, and the answer is its surface: what the active one
-    /// there held is released, its references count, and the earlier surfaces of its client are
-    /// marked. It takes no memory. Condition: it waits.
+    /// Makes a waiting submission active and returns its surface: what the submission that was
+    /// active there held is released, its own references count from now on, and the earlier
+    /// surfaces of its client are marked. It allocates nothing. Condition: it waits.
     pub fn rise(&mut self, sub: Sub) -> SurfaceId
         requires rises { (w : World) × (but : Option Id) × (s : Submission)
             × IsRising w but s sub self.old }

@@ -1,4 +1,4 @@
-//! Temporary surfaces, as ticks begin and clients close.
+//! Temporary surfaces, as ticks begin and clients are closed.
 ghost use Rattle.std.specs.Prelude.{◌≡◌, ◌<◌, ◌≤◌, ◌+◌, length, None, Some, true, false, Option};
 ghost use Rattle.std.specs.List.{Contains};
 ghost use Rattle.vz_base.specs.declared.limits.TheConstants.{TEMPORARY_TICKS};
@@ -18,7 +18,7 @@ use crate::live::LiveSurfaces;
 use vz_ids::{FrameSinkId, SurfaceId};
 
 impl LiveSurfaces {
-    /// A tick begins: the temporary surfaces end that last no longer. It takes no memory.
+    /// Begins a tick: ends the temporary surfaces that last no longer. It allocates nothing.
     pub fn tick(&mut self, tick: u32)
         ensures live { (p : Plan) (w : World) (but : Option Id) → KeepsAlways w
             → AreLive w but self.old → tick ≡ next_tick w.tick
@@ -31,8 +31,8 @@ impl LiveSurfaces {
         self.references.tick(tick);
     }
 
-    /// A client with a sink is closed: its surfaces are marked, and none of them is temporary any
-    /// longer. It takes no memory. Condition: its number is 1 to 16.
+    /// Closes a client with this sink: its surfaces are marked, and none of them is temporary any
+    /// longer. It allocates nothing. Condition: the client's number is 1 to 16.
     pub fn close(&mut self, client: u32, sink: FrameSinkId)
         requires number { HasNumber client }
         ensures live { (w : World) (c : Client) → KeepsAlways w → AreLive w None self.old
@@ -49,8 +49,8 @@ impl LiveSurfaces {
         self.references.sink_gone(sink);
     }
 
-    /// A new surface becomes temporary until a tick, unless something that is set names it. It
-    /// takes no memory. Conditions: there is room for one, and what is named now is named.
+    /// Makes a new surface temporary until a tick, unless a range that is set names it. It
+    /// allocates nothing. Conditions: there is room for one, and names are noted.
     pub fn keep(&mut self, id: SurfaceId, until: u32)
         requires room { 0 < self.old.kept.room }
         ensures live { (w : World) (c : Created) → KeepsAlways w → AreLive w (Some id) self.old

@@ -1,4 +1,4 @@
-//! A submission that arrives: all that is read of it before the first change, and the room that is
+//! A submission that arrives: what is read of it before the first change, and the room that is
 //! made for it.
 ghost use Rattle.std.specs.Prelude.{◌≡◌, ◌≤◌, ◌<◌, ◌+◌, None, IsTrue, is_some, length};
 ghost use Rattle.std.specs.Prelude.{IfOk, OnOk, OnErr};
@@ -39,17 +39,17 @@ use vz_support::Support;
 pub(crate) struct Coming {
     /// The sink of its client.
     pub(crate) sink: FrameSinkId,
-    /// The tick at which it becomes active even where it lacks a dependency.
+    /// The deadline: the tick at which it becomes active even if it lacks a dependency.
     pub(crate) due: u32,
-    /// The surface that it creates, if it creates one.
+    /// The surface that it creates, or None.
     pub(crate) new: Option<New>,
     /// How many resources it lists.
     pub(crate) listings: usize,
-    /// How many references it has.
+    /// How many references (surface ranges) it has.
     pub(crate) references: usize,
-    /// The dependencies that it lacks.
+    /// The unmet dependencies, in the order of the frame.
     pub(crate) lacked: Room<SurfaceId>,
-    /// The block of each resource that it lists.
+    /// The pixel block of each listed resource, in the order of the listings.
     pub(crate) blocks: List<PixelBlock>,
 }
 
@@ -63,8 +63,9 @@ fn is_last(last: Option<(LocalSurfaceId, Size)>, local: &LocalSurfaceId) -> bool
     }
 }
 
-/// The surface that a submission creates at a tick, where it is not on the last one of its client.
-/// Conditions: the number of the client is 1 to 16, and the surface lasts to a tick.
+/// The surface that a submission creates at a tick, or None if it is on its client's last
+/// surface. Conditions: the client's number is 1 to 16, and the last tick of a temporary surface
+/// does not overflow.
 fn created(live: &LiveSurfaces, c: u32, id: SurfaceId, tick: u32) -> Option<New>
     requires number { HasNumber c }
     requires late { tick + TEMPORARY_TICKS ≤ u32.MAX }
@@ -80,8 +81,8 @@ fn created(live: &LiveSurfaces, c: u32, id: SurfaceId, tick: u32) -> Option<New>
     })
 }
 
-/// What is read of a submission of a client. No pixel is copied. Memory is the only error.
-/// Conditions: the client is there, and its submission is not refused.
+/// Reads a submission of a client. No pixel is copied. The only error is `Memory`, if an
+/// allocation fails. Conditions: the client exists, and its submission is not refused.
 fn read(
     alloc: Global,
     support: &Support,
@@ -118,9 +119,9 @@ fn read(
     })
 }
 
-/// What is read of the submission that a client sends next. No pixel is copied. Memory is the only
-/// error. Conditions: the client is there, and its next message is a submission that is not
-/// refused.
+/// Reads the submission that a client sends next. No pixel is copied. The only error is `Memory`,
+/// if an allocation fails. Conditions: the client exists, and its next message is a submission
+/// that is not refused.
 pub(crate) fn read_submission(
     alloc: Global,
     support: &Support,
@@ -142,8 +143,8 @@ pub(crate) fn read_submission(
     Ok(coming)
 }
 
-/// Where a frame is drawn, makes room for the end of it once a submission of so many listings is
-/// accepted. Memory is the only error, and then nothing changes.
+/// If there is a drawn frame, makes room for its end after a submission with this many listings
+/// is accepted. The only error is `Memory`, if an allocation fails; then nothing changes.
 fn ready_to_land(
     live: &LiveSurfaces,
     listings: usize,
@@ -160,9 +161,9 @@ fn ready_to_land(
     live.make_room(listings, returned)
 }
 
-/// Makes room for a submission of a client among the surfaces and those that wait. Memory is the
-/// only error. Nothing else changes in any case, and no room is lost. Condition: the client is
-/// there.
+/// Makes room for a submission of a client among the surfaces and the waiting submissions. The
+/// only error is `Memory`, if an allocation fails. In either case nothing else changes and no
+/// room is lost. Condition: the client exists.
 fn ready_to_wait(settling: &mut Settling, c: u32, coming: &Coming) -> Result<(), Memory>
     requires known { IsLender c settling.old.live.lent }
     ensures live { OnOk result (HasRoomFor c coming.now.listings coming.now.references
@@ -177,9 +178,10 @@ fn ready_to_wait(settling: &mut Settling, c: u32, coming: &Coming) -> Result<(),
     settling.waiting.ready(coming.lacked.as_slice().len())
 }
 
-/// Makes room for a submission of a client and for all that may follow it, and where a frame is
-/// drawn, for the end of it. Memory is the only error. Nothing else changes in any case.
-/// Conditions: the client is there, and the state is one between steps.
+/// Makes room for a submission of a client, for all that may follow it and, if there is a drawn
+/// frame, for the end of that frame. The only error is `Memory`, if an allocation fails. In
+/// either case nothing else changes. Conditions: the client exists, and the state is one between
+/// steps.
 pub(crate) fn make_room(
     settling: &mut Settling,
     returned: &mut Room<Returned>,

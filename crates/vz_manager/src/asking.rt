@@ -1,4 +1,4 @@
-//! What is asked of the machine between steps.
+//! Questions about the machine between steps.
 ghost use Rattle.std.specs.Prelude.{◌≡◌, ◌≤◌, None, length, IfOk};
 ghost use Rattle.vz_rules.specs.Plan.{Plan};
 ghost use Rattle.vz_rules.specs.World.{World, Machine};
@@ -17,7 +17,8 @@ use vz_ids::Sub;
 use vz_live::LiveSurfaces;
 use vz_rules::{Rest, Returned};
 
-/// The references that are out, by client and rising id. Memory is the only error.
+/// The outstanding references, by client and rising resource id. The only error is `Memory`, if
+/// an allocation fails.
 fn held(alloc: Global, live: &LiveSurfaces) -> Result<List<Returned>, Memory>
     ensures { (w : World) → KeepsAlways w → AreLive w None live.now
         → IfOk result (λ l. l ≡ (rest_in w).held) }
@@ -28,7 +29,8 @@ fn held(alloc: Global, live: &LiveSurfaces) -> Result<List<Returned>, Memory>
     Ok(out.into_list())
 }
 
-/// The submissions that await feedback, by client and ordinal. Memory is the only error.
+/// The submissions that await feedback, by client and ordinal. The only error is `Memory`, if an
+/// allocation fails.
 fn unfed(alloc: Global, live: &LiveSurfaces) -> Result<List<Sub>, Memory>
     ensures { (w : World) → Keeps w → AreLive w None live.now
         → IfOk result (λ l. l ≡ (rest_in w).unfed) }
@@ -40,7 +42,7 @@ fn unfed(alloc: Global, live: &LiveSurfaces) -> Result<List<Sub>, Memory>
 }
 
 impl Parts {
-    /// Whether a client's next answer would be NotYet. Condition: the client is there.
+    /// Whether a client's next reply would be NotYet. Condition: the client exists.
     pub(crate) fn waits(&self, c: u32) -> bool
         requires some { 1 ≤ c }
         requires known { c ≤ length self.now.support.clients }
@@ -49,7 +51,8 @@ impl Parts {
         self.support.waits(c)
     }
 
-    /// Whether a client is closed, has no message left or waits. Condition: the client is there.
+    /// Whether a client is idle: it is closed, has no message left, or its next reply would be
+    /// NotYet. Condition: the client exists.
     pub(crate) fn idle(&self, c: u32) -> bool
         requires some { 1 ≤ c }
         requires known { c ≤ length self.now.support.clients }
@@ -58,7 +61,7 @@ impl Parts {
         self.support.idle(c)
     }
 
-    /// Whether a client has answered the tick. Condition: the client is there.
+    /// Whether a client has answered the current tick. Condition: the client exists.
     pub(crate) fn answered(&self, c: u32) -> bool
         requires some { 1 ≤ c }
         requires known { c ≤ length self.now.support.clients }
@@ -67,7 +70,8 @@ impl Parts {
         self.support.answered(c)
     }
 
-    /// Whether the first client's sink reaches a client's. Condition: the client is there.
+    /// Whether a client is attached: the first client's sink reaches its sink. Condition: the
+    /// client exists.
     pub(crate) fn attached(&self, c: u32) -> bool
         requires some { 1 ≤ c }
         requires known { c ≤ length self.now.support.clients }
@@ -76,8 +80,8 @@ impl Parts {
         self.support.attached(c)
     }
 
-    /// How many resources the next message of a client lists, 0 where it has none or it is no
-    /// submission. Condition: the client is there.
+    /// How many resources the next message of a client lists; 0 if it has no message left or that
+    /// is no submission. Condition: the client exists.
     pub(crate) fn listed(&self, c: u32) -> u64
         requires some { 1 ≤ c }
         requires known { c ≤ length self.now.support.clients }
@@ -86,15 +90,15 @@ impl Parts {
         self.support.listed(c)
     }
 
-    /// Whether some submission waits to become active.
+    /// Whether some submission is waiting to become active.
     pub(crate) fn waiting(&self) -> bool
         ensures { (p : Plan) (w : World) → Serves p w self.now → result ≡ some_waits w }
     {
         0 < self.settling.waiting.count()
     }
 
-    /// What is still out: references not given back and submissions without feedback. Memory is the
-    /// only error.
+    /// What is outstanding: references that were not returned, and submissions without feedback.
+    /// The only error is `Memory`, if an allocation fails.
     pub(crate) fn rest(&self, alloc: Global) -> Result<Rest, Memory>
         ensures { (p : Plan) (w : World) → Serves p w self.now
             → IfOk result (λ r. r ≡ rest_in w) }

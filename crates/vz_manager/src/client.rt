@@ -1,4 +1,4 @@
-//! A client's step: what its next message makes of the machine.
+//! A client's step: what its next message does to the machine.
 ghost use Rattle.std.specs.Prelude.{◌≡◌, ◌≤◌, Some, length, IfOk, OnOk, OnErr};
 ghost use Rattle.vz_rules.specs.declared.entry.Event.TheVariants as event;
 ghost use Rattle.vz_rules.specs.Plan.{Plan};
@@ -12,9 +12,9 @@ use vz_base::Memory;
 use vz_machine::Step;
 
 impl Parts {
-    /// Takes the next message of a client. For want of memory, and only then, it answers Memory,
-    /// and the parts stand for the same state. Conditions: the client is there, and the parts stand
-    /// for a state that has it.
+    /// Takes the next message of a client. It returns `Memory` if an allocation fails; then the
+    /// state does not change. Conditions: the client exists, and the parts are right for a state
+    /// that has it.
     pub(crate) fn client(&mut self, c: u32) -> Result<Step, Memory>
         requires some { 1 ≤ c }
         requires known { c ≤ length self.old.support.clients }

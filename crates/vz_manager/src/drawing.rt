@@ -1,4 +1,4 @@
-//! A frame is drawn.
+//! A draw.
 ghost use Rattle.std.specs.Prelude.{◌≡◌, Some, None, IfOk, OnOk, OnErr};
 ghost use Rattle.vz_geom.specs.Rectangle.{Rectangle};
 ghost use Rattle.vz_ids.specs.declared.SurfaceId.{SurfaceId as Id};
@@ -25,8 +25,8 @@ use vz_support::laws::support_stays_at_ends;
 use vz_waiting::laws::waiting_ones_stay;
 
 impl Parts {
-    /// A drawing of what is on the root, with its picture where something is drawn. Memory is the
-    /// only error, and then the parts stand for the same state.
+    /// Draws from the root, with a picture if something is drawn. The only error is `Memory`, if
+    /// an allocation fails; then the state does not change.
     pub(crate) fn draw(&mut self) -> Result<(Step, Option<FlatPicture>), Memory>
         requires stands { (p : Plan) × (w : World) × Serves p w self.old }
         ensures step { (p : Plan) (w : World) → Serves p w self.old
@@ -46,11 +46,11 @@ impl Parts {
         Ok((nothing_follows(self.alloc, reply), None))
     }
 
-    /// A drawing of what is to be seen on a root, with its picture where something changed. One
-    /// walk tells whether that is too much, what changed and what is drawn. Condition: a look told
-    /// that something is to be seen there.
+    /// Draws from a root that has something to show, with a picture if something changed. One
+    /// walk finds whether the scene is over the limit, what changed and what is drawn. Condition:
+    /// `look` returned `Seen` with this root.
     ///
-    /// Memory is the only error, and then the parts stand for the same state.
+    /// The only error is `Memory`, if an allocation fails; then the state does not change.
     fn draw_from(&mut self, root: &SurfaceId) -> Result<(Step, Option<FlatPicture>), Memory>
         requires seen { (p : Plan) × (w : World) × IsToMeasure p w root.now self.old }
         ensures step { (p : Plan) (w : World) → IsToMeasure p w root.now self.old
@@ -69,11 +69,11 @@ impl Parts {
         self.draw_found(root, measured, flight)
     }
 
-    /// A drawing that walks from a root, with its picture where something changed: where nothing
-    /// did, what was measured is remembered alone. All that may want memory is made before the
-    /// first change. Condition: this was found of the drawing.
+    /// Ends a draw that walked from a root, with a picture if something changed. If nothing did,
+    /// only the measured aggregation is remembered. Everything is allocated before the first
+    /// change. Condition: `measure` found this.
     ///
-    /// Memory is the only error, and then the parts stand for the same state.
+    /// The only error is `Memory`, if an allocation fails; then the state does not change.
     fn draw_found(
         &mut self,
         root: &SurfaceId,
@@ -103,8 +103,8 @@ impl Parts {
         Ok((step, Some(picture_of(size, ops, damage))))
     }
 
-    /// A drawing that walks ends where nothing changed: what was measured is remembered. It takes
-    /// no memory.
+    /// Ends a draw that walked and found no change: the measured aggregation is remembered. It
+    /// allocates nothing.
     fn leave(&mut self, measured: Measured)
         ensures serves { (p : Plan) (w : World) (root : Id) → IsToShow p w root self.old
             → Measures root self.old.size self.old.settling.live measured
@@ -115,11 +115,10 @@ impl Parts {
         self.settling.live.leave(measured);
     }
 
-    /// A drawing that walks ends where something changed: what is seen is drawn, and there is room
-    /// for the end of the drawn frame. Condition: the drawing walks from a root, and found these
-    /// submissions.
+    /// Ends a draw that walked and found a change: the frame is drawn, and there is room for its
+    /// end. Condition: the draw walked from a root, and `measure` found this.
     ///
-    /// Want of memory is the only error, and then the parts stand for the same state.
+    /// The only error is `Memory`, if an allocation fails; then the state does not change.
     fn show(&mut self, measured: Measured, flight: Flight) -> Result<(), Memory>
         requires shows { (p : Plan) × (w : World) × (root : Id) × IsToShow p w root self.old
             × Flies root self.old.size self.old.settling.live flight }

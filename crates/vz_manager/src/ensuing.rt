@@ -1,4 +1,4 @@
-//! Steps from which something follows, but for submissions.
+//! Steps that have effects, except for submissions.
 ghost use Rattle.std.specs.Prelude.{◌≡◌, ◌≤◌, length, IfOk, OnOk, OnErr};
 ghost use Rattle.vz_ids.specs.declared.LocalSurfaceId.{LocalSurfaceId as Local};
 ghost use Rattle.vz_frame.specs.declared.message.Message.TheVariants.{SetRoot, Close};
@@ -19,9 +19,10 @@ use vz_rules::Reply;
 use vz_waiting::laws::waiting_ones_stay;
 
 impl Parts {
-    /// A client names the root, whether it exists or not; only the first one may. For want of
-    /// memory, and only then, it answers Memory and nothing changes. Conditions: the client is
-    /// there, this is its next message, and the parts stand for a state.
+    /// A client names the root surface, which need not exist. Only the first client may; the
+    /// request of another is refused. It returns `Memory` if an allocation fails; then nothing
+    /// changes. Conditions: the client exists, this is its next message, and the parts are right
+    /// for a state.
     pub(crate) fn set_root(&mut self, c: u32) -> Result<Step, Memory>
         requires some { 1 ≤ c }
         requires known { c ≤ length self.old.support.clients }
@@ -51,9 +52,9 @@ impl Parts {
         ))
     }
 
-    /// A client is closed. For want of memory, and only then, it answers Memory and nothing
-    /// changes. Conditions: the client is there, this is its next message, and the parts stand for
-    /// a state.
+    /// Closes a client. It returns `Memory` if an allocation fails; then nothing changes.
+    /// Conditions: the client exists, this is its next message, and the parts are right for a
+    /// state.
     pub(crate) fn close(&mut self, c: u32) -> Result<Step, Memory>
         requires some { 1 ≤ c }
         requires known { c ≤ length self.old.support.clients }
@@ -86,8 +87,8 @@ impl Parts {
         ))
     }
 
-    /// A begin-frame: the tick goes on. For want of memory, and only then, it answers Memory and
-    /// nothing changes. Condition: the parts stand for a state.
+    /// A begin-frame: the tick rises by one. It returns `Memory` if an allocation fails; then
+    /// nothing changes. Condition: the parts are right for a state.
     pub(crate) fn begin(&mut self) -> Result<Step, Memory>
         requires stands { (p : Plan) × (w : World) × Serves p w self.old }
         ensures step { (p : Plan) (w : World) → Serves p w self.old

@@ -1,5 +1,5 @@
-//! What is asked of a client's submission before anything changes: why it is refused, which of its
-//! dependencies are not met, and when it becomes active at the latest.
+//! Questions about a client's submission before anything changes: why it is refused, which of its
+//! dependencies are unmet, and at which tick its deadline is.
 ghost use Rattle.std.specs.Prelude.{◌≡◌, ◌≤◌, ◌<◌, ◌+◌, ◌++◌, ◌∷◌, [], not, filter, length, Some};
 ghost use Rattle.vz_base.specs.declared.limits.TheConstants.{GREATEST_DEADLINE, LAST_TICK, MOST_FILES};
 ghost use Rattle.vz_ids.specs.declared.LocalSurfaceId.{LocalSurfaceId as Local};
@@ -26,8 +26,8 @@ use vz_machine::Step;
 use vz_rules::Refusal;
 use vz_support::Support;
 
-/// The submission that a client sends next: the local id of its surface, and its frame. Conditions:
-/// the client is there, and a submission is its next message.
+/// The submission that a client sends next: the local id of its surface, and its frame.
+/// Conditions: the client exists, and its next message is a submission.
 pub(crate) fn submission(support: &Support, c: u32) -> (&LocalSurfaceId, &CompositorFrame)
     requires some { 1 ≤ c }
     requires known { c ≤ length support.now.clients }
@@ -47,7 +47,7 @@ pub(crate) fn submission(support: &Support, c: u32) -> (&LocalSurfaceId, &Compos
     (local, frame)
 }
 
-/// Whether no number of the new one is smaller, and one is greater.
+/// Whether neither number of the new id is smaller, and at least one is greater.
 fn is_raised(old: &LocalSurfaceId, new: &LocalSurfaceId) -> bool
     ensures { result ≡ is_raised old.now new.now }
 {
@@ -56,7 +56,7 @@ fn is_raised(old: &LocalSurfaceId, new: &LocalSurfaceId) -> bool
         && (old.parent < new.parent || old.child < new.child)
 }
 
-/// Whether a local id is not the last one and does not go on from it.
+/// Whether a local id is neither the last one of the client nor allowed after it.
 fn violates(last: Option<(LocalSurfaceId, Size)>, local: &LocalSurfaceId) -> bool
     ensures { result ≡ violates_named last local.now }
 {
@@ -66,7 +66,7 @@ fn violates(last: Option<(LocalSurfaceId, Size)>, local: &LocalSurfaceId) -> boo
     }
 }
 
-/// Whether a local id is the last one, which has another size.
+/// Whether a local id is the last one of the client, and that surface has another size.
 fn has_other_size(last: Option<(LocalSurfaceId, Size)>, local: &LocalSurfaceId, size: Size) -> bool
     ensures { result ≡ has_other_size_named last local.now size }
 {
@@ -76,8 +76,8 @@ fn has_other_size(last: Option<(LocalSurfaceId, Size)>, local: &LocalSurfaceId, 
     }
 }
 
-/// Why a frame of a size is refused on a local id, by the local id and the size of the last surface
-/// of its client, if it is.
+/// Why a frame of this size is refused on a local id, or None, given the local id and the size of
+/// its client's last surface.
 fn shape_refusal(
     last: Option<(LocalSurfaceId, Size)>,
     local: &LocalSurfaceId,
@@ -94,8 +94,8 @@ fn shape_refusal(
     None
 }
 
-/// Why a client's submission is refused, if it is. Conditions: the client is there, and its number
-/// is one of a plan.
+/// Why a client's submission is refused, or None if it is not. Conditions: the client exists, and
+/// its number is one of a plan.
 pub(crate) fn refusal(
     support: &Support,
     live: &LiveSurfaces,
@@ -118,15 +118,16 @@ pub(crate) fn refusal(
     shape_refusal(live.last(c), local, frame.size())
 }
 
-/// Whether a dependency is met: a surface of its group, at it or newer, was active, or the client
-/// of its sink is closed.
+/// Whether a dependency is met: a submission on its surface or on a newer one of its group was
+/// ever active, or the client of its sink is closed.
 pub(crate) fn is_met(support: &Support, live: &LiveSurfaces, d: &SurfaceId) -> bool
     ensures { (p : Plan) (w : World) → AreAsked p w support.now live.now → result ≡ is_met w d.now }
 {
     live.ever_active(d) || support.is_gone(&d.sink)
 }
 
-/// Appends a dependency unless it is met. It takes no memory. Condition: `out` has room for it.
+/// Appends a dependency, unless it is met. It allocates nothing. Condition: `out` has room for
+/// it.
 fn put_lacked(support: &Support, live: &LiveSurfaces, d: &SurfaceId, out: &mut Room<SurfaceId>)
     requires room { 0 < out.old.spare }
     ensures list { (p : Plan) (w : World) → AreAsked p w support.now live.now
@@ -138,8 +139,8 @@ fn put_lacked(support: &Support, live: &LiveSurfaces, d: &SurfaceId, out: &mut R
     }
 }
 
-/// Appends the dependencies of a frame that are not met, in their order. It takes no memory.
-/// Condition: `out` has room for all its dependencies.
+/// Appends the unmet dependencies of a frame, in their order. It allocates nothing. Condition:
+/// `out` has room for all its dependencies.
 pub(crate) fn lacked(
     support: &Support,
     live: &LiveSurfaces,
@@ -157,8 +158,9 @@ pub(crate) fn lacked(
     }
 }
 
-/// The tick at which a frame that is submitted at a tick becomes active at the latest. Conditions:
-/// the tick is one of the machine's, and the deadline is one that a frame may ask.
+/// The deadline of a frame that is submitted at a tick: the tick at which it becomes active even
+/// if it lacks a dependency. Conditions: the tick is one of the machine's, and the frame's
+/// deadline is within the limit.
 pub(crate) fn due(tick: u32, frame: &CompositorFrame) -> u32
     requires early { tick ≤ LAST_TICK }
     requires soon { deadline_of frame.now ≤ GREATEST_DEADLINE }
@@ -168,8 +170,8 @@ pub(crate) fn due(tick: u32, frame: &CompositorFrame) -> u32
 }
 
 impl Parts {
-    /// A client's submission is refused for a reason: it is taken, and nothing else changes.
-    /// Conditions: the client is there, and a submission is its next message.
+    /// Refuses a client's submission for a reason: it is taken, and nothing else changes.
+    /// Conditions: the client exists, and its next message is a submission.
     pub(crate) fn refuse_submission(&mut self, c: u32, refusal: Refusal) -> Step
         requires some { 1 ≤ c }
         requires known { c ≤ length self.old.support.clients }

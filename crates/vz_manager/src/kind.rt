@@ -11,29 +11,29 @@ use vz_support::Support;
 /// What kind of message a client sends next.
 #[derive(Clone, Copy)]
 pub(crate) enum Kind {
-    /// It has none left.
+    /// The client has no message left.
     Nothing,
-    /// It is closed, and has one left.
+    /// The client is closed, but has a message left.
     Closed,
-    /// It stores a block.
+    /// It uploads a block.
     Upload,
     /// It submits a frame.
     Submit,
     /// It answers a begin-frame without a frame.
     DidNotProduce,
-    /// It takes back its returns.
+    /// It reclaims its returned resources.
     Reclaim,
-    /// It names the root.
+    /// It names the root surface.
     SetRoot,
-    /// It registers a relation.
+    /// It registers a relation between sinks.
     Hierarchy,
     /// It waits for a begin-frame.
     Await,
-    /// It ends.
+    /// It closes.
     Close,
 }
 
-/// What kind of message a client sends next. Condition: the client is there.
+/// What kind of message a client sends next. Condition: the client exists.
 pub(crate) fn kind_of(support: &Support, c: u32) -> Kind
     requires some { 1 ≤ c }
     requires known { c ≤ length support.now.clients }

@@ -1,4 +1,4 @@
-//! The drawn frame is done.
+//! The end of the drawn frame.
 ghost use Rattle.std.specs.Prelude.{◌≡◌, []};
 ghost use Rattle.vz_rules.specs.declared.entry.Event.TheVariants as event;
 ghost use Rattle.vz_rules.specs.declared.entry.Reply.TheVariants as reply;
@@ -17,7 +17,8 @@ use vz_rules::{Effects, Fed, Reply, Returned};
 use vz_support::laws::support_stays_at_ends;
 use vz_waiting::laws::waiting_ones_stay;
 
-/// The drawn frame is shown: this went back, and that was fed. It takes no memory.
+/// The step in which the drawn frame was shown, with the returned resources and the feedback. It
+/// allocates nothing.
 fn shown(alloc: Global, returned: Room<Returned>, fed: Room<Fed>) -> Step
     ensures reply { result.reply ≡ reply.Shown }
     ensures effects { result.effects ≡ record {
@@ -39,9 +40,9 @@ fn shown(alloc: Global, returned: Room<Returned>, fed: Room<Fed>) -> Step
 }
 
 impl Parts {
-    /// The drawn frame is done, if there is one: what its submissions held is released and goes
-    /// back, and they are presented. It takes no memory, as room was made when the frame was drawn.
-    /// Condition: the parts stand for a state.
+    /// Ends the drawn frame, if there is one: what its submissions held is released and returned,
+    /// and they are presented. It allocates nothing, as room was made when the frame was drawn.
+    /// Condition: the parts are right for a state.
     pub(crate) fn done(&mut self) -> Step
         requires stands { (p : Plan) × (w : World) × Serves p w self.old }
         ensures step { (p : Plan) (w : World) → Serves p w self.old

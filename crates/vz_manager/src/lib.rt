@@ -1,8 +1,9 @@
-//! The machine that users run: the parts that each stand for their piece of the machine's state,
-//! and the steps over them. A step costs what it touches, and a frame what changed.
+//! The incremental machine that `run` and `step` use: the parts that each keep a piece of the
+//! machine's state, and the steps over them. A step's cost grows with what it touches, and a
+//! draw's cost with what is on the display.
 //!
-//! All room of a step is made before its first change: where a step wants memory, it answers so and
-//! nothing changed.
+//! All room of a step is reserved before its first change: if an allocation fails, the step
+//! returns `Memory` and nothing has changed.
 #![tactic(auto)]
 
 mod arriving;

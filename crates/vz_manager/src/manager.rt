@@ -1,4 +1,4 @@
-//! The machine that users run, behind the trait of a machine.
+//! The incremental machine, as an implementation of the trait `Machine`.
 ghost use Rattle.std.specs.Prelude.{◌≡◌, IfOk};
 ghost use Rattle.vz_rules.specs.World.{opening};
 
@@ -12,12 +12,13 @@ use vz_ghost::GhostList;
 use vz_machine::{Machine, Step};
 use vz_rules::{Event, Plan, Rest};
 
-/// The display compositor's machine over a plan. Contracts see the plan and the world after the
-/// events that it was told.
+/// The display compositor's machine over a plan. Contracts see the plan, and the world after the
+/// events so far.
 ///
-/// A step costs what it touches, and a drawing what is on the display. All room of a step is made
-/// before its first change: for want of memory it answers so, and the world stays. The parts stay
-/// at their place in memory, so that little is copied where the machine goes from hand to hand.
+/// A step's cost grows with what it touches, and a draw's cost with what is on the display. All
+/// room of a step is reserved before its first change: if an allocation fails, the step returns
+/// `Memory` and the world does not change. The parts have a fixed place in memory, so that little
+/// is copied when the machine is moved.
 #[derive(Drop)]
 pub struct Manager {
     parts: Box<Parts>,
@@ -38,7 +39,8 @@ impl Model for Manager {
 }
 
 impl Manager {
-    /// The machine in the opening world of a plan. Memory is the only error.
+    /// Creates the machine in the opening world of a plan. The only error is `Memory`, if an
+    /// allocation fails; the plan is dropped then.
     pub fn open(alloc: Global, plan: Plan) -> Result<Manager, Memory>
         ensures { IfOk result (λ m. m ≡ record { plan = plan; world = opening plan }) }
     {

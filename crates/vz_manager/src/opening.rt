@@ -26,7 +26,8 @@ fn count(plan: &Plan) -> u32
     plan.files().len() as u32
 }
 
-/// The surfaces of so many clients, of which none was created. Memory is the only error.
+/// The surfaces and waiting submissions of clients 1 to `clients`; there are none yet. The only
+/// error is `Memory`, if an allocation fails.
 fn no_surfaces(alloc: Global, clients: u32) -> Result<Settling, Memory>
     ensures stands { IfOk result (λ v. (p : Planned) → IsPlan p → length p.files ≡ clients
         → AreSettling (opening p) None v) }
@@ -37,7 +38,8 @@ fn no_surfaces(alloc: Global, clients: u32) -> Result<Settling, Memory>
     Ok(Settling { live, waiting })
 }
 
-/// What is kept for the clients of a plan, of whom none sent anything. Memory is the only error.
+/// What is kept for the clients of a plan before any message is taken. The only error is
+/// `Memory`, if an allocation fails.
 fn no_messages(alloc: Global, plan: Plan) -> Result<Support, Memory>
     requires is { IsPlan plan }
     ensures { IfOk result (λ v. IsSupport plan (opening plan) v) }
@@ -49,7 +51,8 @@ fn no_messages(alloc: Global, plan: Plan) -> Result<Support, Memory>
 }
 
 impl Parts {
-    /// The parts of a plan's machine before its first step. Memory is the only error.
+    /// The parts of a plan's machine before its first step. The only error is `Memory`, if an
+    /// allocation fails.
     pub(crate) fn open(alloc: Global, plan: Plan) -> Result<Parts, Memory>
         ensures serves { IfOk result (λ v. Serves plan (opening plan) v) }
     {

@@ -1,5 +1,5 @@
-//! What follows a step's own change: submissions become active, surfaces that are not reached are
-//! destroyed, references go back, and feedback is given.
+//! The effects of a step: submissions become active, surfaces that are not reached are destroyed,
+//! resources are returned, and feedback is given.
 ghost use Rattle.std.specs.Prelude.{◌≡◌, ◌==◌, ◌≤◌, ◌+◌, ◌++◌, ◌||◌, not, length, None, []};
 ghost use Rattle.vz_rules.specs.World.{World};
 ghost use Rattle.vz_rules.specs.declared.entry.Reply.{Reply as Answered};
@@ -25,7 +25,8 @@ use vz_settling::laws::named_ones_are_collected;
 use vz_settling::{Lists, Settling};
 use vz_waiting::laws::waiting_ones_stay;
 
-/// The lists of what follows a step, and those that are worked with, with room made before.
+/// The lists for the effects of a step, and the work lists. Their room is reserved before the
+/// step.
 #[derive(Drop)]
 pub(crate) struct Following {
     pub(crate) activated: Room<Sub>,
@@ -36,14 +37,14 @@ pub(crate) struct Following {
     pub(crate) lists: Lists,
 }
 
-/// A surface that the step created, and the tick up to which it is kept.
+/// A surface that the step created, and the last tick at which it is kept as temporary.
 #[derive(Clone, Copy)]
 pub(crate) struct New {
     pub(crate) id: SurfaceId,
     pub(crate) until: u32,
 }
 
-/// A new surface, if there is one, is kept for a while.
+/// Makes a new surface temporary, if there is one.
 fn keep(settling: &mut Settling, new: Option<New>)
     requires room { CanKeep new settling.old }
     ensures kept { (w : World) → IsKeeping w new settling.old
@@ -60,17 +61,17 @@ fn keep(settling: &mut Settling, new: Option<New>)
     }
 }
 
-/// Whether surfaces may be lost: the step's own change marked, named or showed something anew, or
-/// submissions become active, of which these are ready.
+/// Whether surfaces may be lost: the step's own change marked, named or showed something new, or
+/// some submissions become active. `ready` has the first of these.
 fn may_lose(anew: bool, ready: &[Sub]) -> bool
     ensures { result ≡ (anew || not (length ready.now == 0)) }
 {
     anew || !ready.is_empty()
 }
 
-/// Every marked surface that is not reached is destroyed, and told. Where that is not asked,
-/// nothing is done. Conditions: what is named now is named, there is room for it, and it is asked
-/// wherever a surface is lost.
+/// Destroys each marked surface that is not reached, and reports it. If this is not asked for, it
+/// does nothing. Conditions: names are noted, there is room for the report, and it is asked for
+/// whenever a surface is lost.
 fn collect(
     settling: &mut Settling,
     root: Option<SurfaceId>,
@@ -95,9 +96,9 @@ fn collect(
     settling.collect(root, lists, destroyed);
 }
 
-/// All that follows a step's own change: `activated` has what is ready. It takes no memory.
-/// Conditions: the root is that of the state, there is room for all, and nothing is lost where the
-/// change marked, named and showed nothing anew.
+/// Computes all effects of a step's own change. At the start `activated` has the submissions that
+/// are ready. It allocates nothing. Conditions: the root is that of the state, there is room for
+/// all, and nothing is lost if the change marked, named and showed nothing new.
 pub(crate) fn follow(
     settling: &mut Settling,
     root: Option<SurfaceId>,
@@ -134,9 +135,9 @@ pub(crate) fn follow(
     settling.live.feed(&mut following.fed);
 }
 
-/// All that follows a step's own change, and with it what the step answers. It takes no memory.
-/// Conditions: the root is that of the state, there is room for all, and nothing is lost where the
-/// change marked, named and showed nothing anew.
+/// Computes all effects of a step's own change, and joins them with its reply. It allocates
+/// nothing. Conditions: the root is that of the state, there is room for all, and nothing is lost
+/// if the change marked, named and showed nothing new.
 pub(crate) fn finish(
     alloc: Global,
     reply: Reply,
@@ -165,7 +166,7 @@ pub(crate) fn finish(
     }
 }
 
-/// What a list has, taken out: one that has nothing keeps its room.
+/// Takes the items out of a list. An empty list keeps its room.
 fn take<T>(alloc: Global, list: &mut Room<T>) -> List<T>
     ensures { result ≡ list.old.list }
 {
@@ -176,7 +177,7 @@ fn take<T>(alloc: Global, list: &mut Room<T>) -> List<T>
 }
 
 impl Following {
-    /// Empty lists. They take no memory.
+    /// Creates empty lists. It allocates nothing.
     pub(crate) fn new(alloc: Global) -> Following {
         Following {
             activated: Room::new(alloc),
@@ -188,8 +189,8 @@ impl Following {
         }
     }
 
-    /// What followed, taken out: a list that was used is made anew, and one that has nothing keeps
-    /// its room.
+    /// Takes the effects out. A list that was used is replaced by a new one, and an empty one
+    /// keeps its room.
     pub(crate) fn take_effects(&mut self, alloc: Global) -> Effects
         ensures { Tells result self.old }
     {

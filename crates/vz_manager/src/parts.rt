@@ -8,9 +8,9 @@ use vz_rules::{Fed, Returned};
 use vz_settling::Settling;
 use vz_support::Support;
 
-/// The parts of the machine: what is kept for the clients, the surfaces and the submissions that
-/// wait, the lists for what follows a step, and those for the end of the drawn frame. Contracts see
-/// all but what follows.
+/// The parts of the machine: what is kept for clients, the surfaces and the waiting submissions,
+/// the lists for the effects of a step, and those for the end of the drawn frame. Contracts see
+/// all but the lists for effects.
 #[derive(Drop)]
 pub(crate) struct Parts {
     pub(crate) alloc: Global,

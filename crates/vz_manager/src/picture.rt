@@ -1,4 +1,4 @@
-//! The picture of a drawing.
+//! The picture of a draw.
 ghost use Rattle.std.specs.Prelude.{◌≡◌, Some, IfOk};
 ghost use Rattle.vz_rules.specs.declared.entry.Reply.TheVariants as reply;
 ghost use Rattle.vz_rules.specs.Plan.{Plan};
@@ -18,8 +18,8 @@ use vz_live::LiveSurfaces;
 use vz_machine::Picture;
 use vz_paint::paint;
 
-/// A picture of a display as operations on opaque black, with the rectangle that changed. A point
-/// gets its colour only where it is painted.
+/// A picture of a display as drawing operations on opaque black, with the rectangle that changed,
+/// in display pixels. A pixel gets its colour only when it is painted.
 #[derive(Drop)]
 pub struct FlatPicture {
     size: Size,
@@ -66,9 +66,9 @@ impl Picture for FlatPicture {
     }
 }
 
-/// The operations that leave, at each point of a display, what is to be seen from the root. They
-/// are made before the frame is drawn, which cannot be taken back. Memory is the only error.
-/// Condition: a drawing walks from there.
+/// The drawing operations that give, at each point of a display, what can be seen from the root.
+/// They are made before the frame is drawn, as a draw cannot be undone. The only error is
+/// `Memory`, if an allocation fails. Condition: a draw walks from this root.
 pub(crate) fn operations(
     alloc: Global,
     live: &LiveSurfaces,
@@ -83,8 +83,8 @@ pub(crate) fn operations(
     Ok(ops)
 }
 
-/// The picture of a drawing that walks, where something changed. Condition: with this damage the
-/// drawing is answered, on a display of this size.
+/// The picture of a draw that found a change. Condition: the reply to the draw has this damage,
+/// on a display of this size.
 pub(crate) fn picture_of(size: Size, ops: Ops, damage: Rect) -> FlatPicture
     requires answered { (p : Plan) × (w : World) × IsAnswered p w size (reply.Drawn damage) }
     ensures painted { (p : Plan) (w : World) → IsAnswered p w size (reply.Drawn damage)

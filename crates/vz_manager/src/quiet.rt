@@ -1,4 +1,4 @@
-//! Steps from which nothing follows.
+//! Steps that have no effects.
 ghost use Rattle.std.specs.Prelude.{◌≡◌, ◌≤◌, ℕ, Some, length, IfOk, OnOk, OnErr};
 ghost use Rattle.vz_ids.specs.declared.FrameSinkId.{FrameSinkId as Id};
 ghost use Rattle.vz_pixels.specs.Block.{Block};
@@ -24,7 +24,7 @@ use vz_rules::{Effects, Refusal, Reply};
 use vz_support::Support;
 use vz_waiting::laws::waiting_ones_stay;
 
-/// A step that is answered so, and from which nothing follows.
+/// A step with this reply and no effects.
 pub(crate) fn nothing_follows(alloc: Global, reply: Reply) -> Step
     ensures reply { result.reply ≡ reply }
     ensures effects { result.effects ≡ no_effects }
@@ -40,8 +40,8 @@ pub(crate) fn nothing_follows(alloc: Global, reply: Reply) -> Step
     }
 }
 
-/// The resource of the upload that a client sends next. Conditions: the client is there, and an
-/// upload is its next message.
+/// The resource id of the upload that a client sends next. Conditions: the client exists, and its
+/// next message is an upload.
 fn uploaded(support: &Support, c: u32) -> u32
     requires some { 1 ≤ c }
     requires known { c ≤ length support.now.clients }
@@ -60,7 +60,7 @@ fn uploaded(support: &Support, c: u32) -> u32
 }
 
 impl Parts {
-    /// A client has no message left: it is told so, and nothing changes.
+    /// The step of a client that has no message left. Nothing changes.
     pub(crate) fn no_message(&self) -> Step
         ensures step { (p : Plan) (w : World) (c : ℕ) (x : Client) → Serves p w self.now
             → HasNone p w c x → IsStepOf p w (event.Client c) result }
@@ -70,8 +70,8 @@ impl Parts {
         nothing_follows(self.alloc, Reply::Refused(Refusal::NoMessage))
     }
 
-    /// A client's next message is refused for a reason: it is taken, and nothing else changes.
-    /// Conditions: the client is there, and it has a message.
+    /// Refuses a client's next message for a reason: it is taken, and nothing else changes.
+    /// Conditions: the client exists, and it has a message.
     pub(crate) fn refuse(&mut self, c: u32, refusal: Refusal) -> Step
         requires some { 1 ≤ c }
         requires known { c ≤ length self.old.support.clients }
@@ -88,7 +88,7 @@ impl Parts {
         nothing_follows(self.alloc, Reply::Refused(refusal))
     }
 
-    /// A closed client's next message is refused. Conditions: the client is there, and it has a
+    /// Refuses the next message of a closed client. Conditions: the client exists, and it has a
     /// message.
     pub(crate) fn refuse_closed(&mut self, c: u32) -> Step
         requires some { 1 ≤ c }
@@ -102,8 +102,8 @@ impl Parts {
         self.refuse(c, Refusal::AlreadyClosed)
     }
 
-    /// A client answers a begin-frame without a frame. Conditions: the client is there, and this is
-    /// its next message.
+    /// A client answers a begin-frame without a frame (`DidNotProduceFrame`). Conditions: the
+    /// client exists, and this is its next message.
     pub(crate) fn did_not_produce(&mut self, c: u32) -> Step
         requires some { 1 ≤ c }
         requires known { c ≤ length self.old.support.clients }
@@ -120,9 +120,9 @@ impl Parts {
         nothing_follows(self.alloc, Reply::Noted)
     }
 
-    /// A client registers a relation, unless it is refused. For want of memory, and only then, it
-    /// answers Memory and nothing changes. Conditions: the client is there, and this is its next
-    /// message.
+    /// A client registers a relation between sinks, or is refused. It returns `Memory` if an
+    /// allocation fails; then nothing changes. Conditions: the client exists, and this is its
+    /// next message.
     pub(crate) fn hierarchy(&mut self, c: u32) -> Result<Step, Memory>
         requires some { 1 ≤ c }
         requires known { c ≤ length self.old.support.clients }
@@ -142,9 +142,9 @@ impl Parts {
         Ok(nothing_follows(self.alloc, reply))
     }
 
-    /// A client takes the begin-frame that stands untaken. Where none does, it is told that it is
-    /// over, or it waits and its message is not taken. Conditions: the client is there, and this is
-    /// its next message.
+    /// A client takes its pending begin-frame. If none is pending, the reply is Over if the Over
+    /// mark is set; otherwise it is NotYet and the message is not taken. Conditions: the client
+    /// exists, and this is its next message.
     pub(crate) fn await_begin(&mut self, c: u32) -> Step
         requires some { 1 ≤ c }
         requires known { c ≤ length self.old.support.clients }
@@ -160,9 +160,9 @@ impl Parts {
         nothing_follows(self.alloc, reply)
     }
 
-    /// A client's block is stored, unless its resource is in use. For want of memory, and only
-    /// then, it answers Memory and nothing changes. Conditions: the client is there, an upload is
-    /// its next message, and the parts stand for a state.
+    /// Stores a client's uploaded block, unless its resource is in use. It returns `Memory` if an
+    /// allocation fails; then nothing changes. Conditions: the client exists, its next message is
+    /// an upload, and the parts are right for a state.
     pub(crate) fn upload(&mut self, c: u32) -> Result<Step, Memory>
         requires some { 1 ≤ c }
         requires known { c ≤ length self.old.support.clients }
@@ -187,9 +187,9 @@ impl Parts {
         Ok(nothing_follows(self.alloc, Reply::Stored))
     }
 
-    /// A client takes back its returns. For want of memory, and only then, it answers Memory and
-    /// nothing changes. Conditions: the client is there, this is its next message, and the parts
-    /// stand for a state.
+    /// A client reclaims its returned resources. It returns `Memory` if an allocation fails; then
+    /// nothing changes. Conditions: the client exists, this is its next message, and the parts
+    /// are right for a state.
     pub(crate) fn reclaim(&mut self, c: u32) -> Result<Step, Memory>
         requires some { 1 ≤ c }
         requires known { c ≤ length self.old.support.clients }
@@ -211,7 +211,7 @@ impl Parts {
         Ok(nothing_follows(self.alloc, Reply::Reclaimed(queue.into_list())))
     }
 
-    /// It is over: no begin-frame will be waited for from now on.
+    /// Sets the Over mark: no client will wait for a begin-frame any more.
     pub(crate) fn over(&mut self) -> Step
         ensures step { (p : Plan) (w : World) → Serves p w self.old
             → IsStepOf p w event.Over result }

@@ -1,4 +1,4 @@
-//! Room for what follows a step, made before its first change.
+//! Room for the effects of a step, reserved before its first change.
 ghost use Rattle.std.specs.Prelude.{◌≡◌, ◌≤◌, ◌+◌, [], length, OnOk, IfOk};
 ghost use Rattle.vz_rules.specs.World.{World};
 ghost use Rattle.vz_manager.specs.Followed.{IsBetween, HasRoomAfter};
@@ -10,7 +10,8 @@ use vz_frame::Room;
 use vz_settling::Settling;
 use vz_waiting::laws::waiting_ones_lack;
 
-/// A list is empty and has room for so many. Memory is the only error.
+/// Empties a list and makes room for `n` items. The only error is `Memory`, if an allocation
+/// fails.
 fn make_room<T: Drop>(list: &mut Room<T>, n: usize) -> Result<(), Memory>
     ensures list { list.new.list ≡ [] }
     ensures room { OnOk result (n ≤ list.new.spare) }
@@ -19,14 +20,15 @@ fn make_room<T: Drop>(list: &mut Room<T>, n: usize) -> Result<(), Memory>
     list.reserve(n)
 }
 
-/// One more, where there is a number for it.
+/// One more than this number. It is `Memory` if that does not fit a `usize`.
 fn one_more(n: usize) -> Result<usize, Memory>
     ensures { IfOk result (λ more. more ≡ n + 1) }
 {
     n.checked_add(1).ok_or(Memory)
 }
 
-/// How many surfaces may be reached, and one more, where so many become active and one is new.
+/// One more than the number of surfaces that may be reached, if `risen` submissions become active
+/// and one surface is new.
 fn reached(settling: &Settling, risen: usize) -> Result<usize, Memory>
     ensures { IfOk result (λ n. n ≡ length settling.now.live.kept.sets + risen
         + length settling.now.live.kept.temporary + 2) }
@@ -37,8 +39,9 @@ fn reached(settling: &Settling, risen: usize) -> Result<usize, Memory>
     kept.checked_add(2).ok_or(Memory)
 }
 
-/// Makes room for what follows a step that accepts one submission, of so many listings and on a new
-/// surface, or fewer. Memory is the only error. Condition: the state is one between steps.
+/// Makes room for the effects of a step that accepts at most one submission, with at most this
+/// many listings and at most one new surface. The only error is `Memory`, if an allocation fails.
+/// Condition: the state is one between steps.
 pub(crate) fn ready_to_follow(
     settling: &Settling,
     listings: usize,

@@ -1,4 +1,4 @@
-//! A client submits a frame: it is accepted, or refused.
+//! A client submits a frame, which is accepted or refused.
 ghost use Rattle.std.specs.Prelude.{◌≡◌, ◌≤◌, ◌<◌, ◌+◌, [], IsFalse, IfOk, OnOk, OnErr, length};
 ghost use Rattle.vz_ids.specs.declared.LocalSurfaceId.{LocalSurfaceId as Local};
 ghost use Rattle.vz_frame.specs.declared.frame.CompositorFrame.{CompositorFrame as Frame};
@@ -40,9 +40,9 @@ use vz_support::Support;
 use vz_waiting::laws::arrivals_are_new;
 use vz_waiting::{Arrival, Waiting};
 
-/// The submission of a client is taken and accepted. For want of memory, and only then, it is the
-/// client's next message again, and the surfaces stay as they were. Conditions: the client is
-/// there, and its next message is a submission that is not refused, for which there is room.
+/// Takes and accepts the submission of a client. If an allocation fails, it is the client's next
+/// message again and the surfaces do not change. Conditions: the client exists, its next message
+/// is a submission that is not refused, and there is room for it.
 fn put_in(
     support: &mut Support,
     settling: &mut Settling,
@@ -94,9 +94,9 @@ fn put_in(
     }
 }
 
-/// A submission that was accepted waits; where it lacks nothing or its deadline has come, it is
-/// ready at once and is put at the end. Conditions: it is none of those that wait, and there is
-/// room for it.
+/// Makes an accepted submission wait. If it lacks nothing or its deadline has come, it is ready
+/// at once and appended to `activated`. Conditions: it does not wait yet, and there is room for
+/// it.
 fn wait(
     waiting: &mut Waiting,
     a: Arrival,
@@ -124,10 +124,10 @@ fn wait(
     }
 }
 
-/// The submission of a client is taken and accepted, and waits; where it is ready at once, it is
-/// put at the end. For want of memory, and only then, it is the client's next message again, and
-/// the surfaces stay as they were. Conditions: the client is there, its next message is a
-/// submission that is not refused, of which this was read, and there is room for it.
+/// Takes and accepts the submission of a client, which waits or, if it is ready at once, is
+/// appended to `activated`. If an allocation fails, it is the client's next message again and the
+/// surfaces do not change. Conditions: the client exists, its next message is a submission that
+/// is not refused and that was read as `coming`, and there is room for it.
 fn take_in(
     support: &mut Support,
     settling: &mut Settling,
@@ -178,9 +178,9 @@ fn take_in(
 }
 
 impl Parts {
-    /// The submission that a client sends next is accepted. For want of memory, and only then, it
-    /// answers Memory, and the parts stand for what they stood for. Conditions: the client is
-    /// there, and its next message is a submission that is not refused.
+    /// Accepts the submission that a client sends next. It returns `Memory` if an allocation
+    /// fails; then the state does not change. Conditions: the client exists, and its next message
+    /// is a submission that is not refused.
     fn accept(&mut self, c: u32) -> Result<Step, Memory>
         requires some { 1 ≤ c }
         requires known { c ≤ length self.old.support.clients }
@@ -225,8 +225,8 @@ impl Parts {
         ))
     }
 
-    /// Why the submission that a client sends next is refused, if it is. Conditions: the client is
-    /// there, its next message is a submission, and the parts stand for a state.
+    /// Why the submission that a client sends next is refused, or None if it is not. Conditions:
+    /// the client exists, its next message is a submission, and the parts are right for a state.
     fn judge(&self, c: u32) -> Option<Refusal>
         requires some { 1 ≤ c }
         requires known { c ≤ length self.now.support.clients }
@@ -241,9 +241,9 @@ impl Parts {
         refusal(&self.support, &self.settling.live, c, local, frame)
     }
 
-    /// A client submits a frame: it is accepted, or refused. For want of memory, and only then, it
-    /// answers Memory, and the parts stand for what they stood for. Conditions: the client is
-    /// there, and a submission is its next message.
+    /// A client submits a frame, which is accepted or refused. It returns `Memory` if an
+    /// allocation fails; then the state does not change. Conditions: the client exists, and its
+    /// next message is a submission.
     pub(crate) fn submit(&mut self, c: u32) -> Result<Step, Memory>
         requires some { 1 ≤ c }
         requires known { c ≤ length self.old.support.clients }

@@ -1,4 +1,4 @@
-//! The choice of the operations that some rows want.
+//! Which operations are needed to paint some rows.
 ghost use Rattle.std.specs.Prelude.{◌≡◌, ◌≤◌, ◌<◌, ◌+◌, ◌-◌, ◌==◌, ◌&&◌, ◌++◌, Bool, List, map, length, vec_len, vec_capacity, [], ◌∷◌, ◌^◌, if◌then◌else◌};
 ghost use Rattle.vz_flat.specs.declared.op.Op.{Op as Step};
 ghost use Rattle.vz_paint.specs.Choice.{meets, seen};
@@ -6,21 +6,21 @@ ghost use Rattle.vz_paint.specs.Choice.{meets, seen};
 use vz_flat::Op;
 use vz_geom::Rect;
 
-/// Whether an operation is seen, and behind how many groups that are not the next one stands.
+/// Whether an operation is visible, and how many invisible groups the next one is inside of.
 #[derive(Clone, Copy)]
 struct Fate {
     is_seen: bool,
     hidden: usize,
 }
 
-/// Whether an area, behind so many groups that are not seen, shares points with a part.
+/// Whether an area inside this many invisible groups shares points with a part of the display.
 fn is_shown(area: &Rect, part: &Rect, hidden: usize) -> bool
     ensures { result ≡ ((hidden == 0) && meets area.now part.now) }
 {
     hidden == 0 && !area.intersect(part).is_empty()
 }
 
-/// Whether an operation is seen in a part of the display, behind so many groups that are not.
+/// Whether an operation inside this many invisible groups is visible in a part of the display.
 fn fate_of(op: &Op, part: &Rect, hidden: usize) -> Fate
     requires few { hidden + 1 < 2 ^ 64 }
     ensures few { result.hidden ≤ hidden + 1 }
@@ -42,7 +42,7 @@ fn fate_of(op: &Op, part: &Rect, hidden: usize) -> Fate
     }
 }
 
-/// What becomes of a group.
+/// The fate of a group's begin.
 fn begun(is_seen: bool, hidden: usize) -> Fate
     requires few { hidden + 1 < 2 ^ 64 }
     ensures seen { result.is_seen ≡ is_seen }
@@ -58,7 +58,7 @@ fn begun(is_seen: bool, hidden: usize) -> Fate
     }
 }
 
-/// What becomes of the end of a group.
+/// The fate of a group's end.
 fn ended(hidden: usize) -> Fate
     ensures seen { result.is_seen ≡ (hidden == 0) }
     ensures hidden { result.hidden ≡ (if hidden == 0 then hidden else hidden - 1) }
@@ -76,7 +76,7 @@ fn ended(hidden: usize) -> Fate
     }
 }
 
-/// Puts an operation behind those that are chosen, if it is seen.
+/// Appends an operation to those that are chosen, if it is visible.
 fn keep<'a>(chosen: &mut Vec<&'a Op>, op: &'a Op, is_seen: bool)
     requires room { vec_len chosen.old < vec_capacity chosen.old }
     ensures room { vec_capacity chosen.new ≡ vec_capacity chosen.old }
@@ -90,8 +90,8 @@ fn keep<'a>(chosen: &mut Vec<&'a Op>, op: &'a Op, is_seen: bool)
     }
 }
 
-/// Chooses the operations that are seen in a part of the display. It takes no memory. Condition:
-/// there is room for all of them.
+/// Chooses the operations that are visible in a part of the display, in their order. It allocates
+/// nothing. Condition: there is room for all of them.
 pub(crate) fn choose<'a>(ops: &'a [Op], part: &Rect, chosen: &mut Vec<&'a Op>)
     requires room { length ops.now ≤ vec_capacity chosen.old }
     ensures room { vec_capacity chosen.new ≡ vec_capacity chosen.old }

@@ -13,14 +13,14 @@ use vz_frame::Blend;
 use vz_geom::Rect;
 use vz_pixels::Pixel;
 
-/// The colour that all of an area has behind the first operations, so many.
+/// The one colour that a whole area has after the first `drawn` operations.
 #[derive(Clone, Copy)]
 pub(crate) struct Ground {
     pub(crate) color: Pixel,
     pub(crate) drawn: usize,
 }
 
-/// What becomes of opaque black where a colour is laid on it.
+/// The result of a colour that is blended with opaque black.
 fn on_black(color: Pixel, opacity: u8, mode: Blend) -> Pixel
     ensures { result ≡ laid mode color opacity black }
 {
@@ -32,7 +32,7 @@ fn on_black(color: Pixel, opacity: u8, mode: Blend) -> Pixel
     }
 }
 
-/// The colour that an operation makes of opaque black, if it lays one on all of an area.
+/// The colour that an operation makes of opaque black on all of an area, if it fills all of it.
 fn ground_by(op: &Op, area: &Rect) -> Option<Pixel>
     ensures { IfSome result (λ c. IsGround area.now op.now c) }
 {
@@ -54,7 +54,8 @@ fn ground_by(op: &Op, area: &Rect) -> Option<Pixel>
     }
 }
 
-/// The ground of an area: behind the first operation, where that lays one colour on all of it.
+/// The ground of an area: the result of the first operation if that fills all of it with one
+/// colour, and else opaque black.
 pub(crate) fn ground_of(ops: &[&Op], area: &Rect) -> Ground
     ensures drawn { result.drawn ≤ length ops.now }
     ensures same { (p : Place) → has area.now p ≡ true
@@ -78,7 +79,7 @@ pub(crate) fn ground_of(ops: &[&Op], area: &Rect) -> Ground
     }
 }
 
-/// The operations behind the first ones, so many.
+/// The operations after the first `drawn`.
 pub(crate) fn behind<'a, 'b>(ops: &'b [&'a Op], drawn: usize) -> &'b [&'a Op]
     requires { drawn ≤ length ops.now }
     ensures { map (λ r. r.now) result.now ≡ drop drawn (map (λ r. r.now) ops.now) }

@@ -1,4 +1,4 @@
-//! The groups that are open in a row.
+//! The groups that are open while a row is painted.
 ghost use Rattle.std.specs.Prelude.{◌≡◌, ◌<◌, ℕ, length, replicate, get_or, if◌then◌else◌, IfOk};
 ghost use Rattle.vz_geom.specs.Rectangle.{has};
 ghost use Rattle.vz_pixels.specs.Colour.{transparent};
@@ -12,7 +12,7 @@ use vz_frame::Blend;
 use vz_geom::{Point, Rect};
 use vz_pixels::Pixel;
 
-/// A group that is open in a row: the row below it, and how the group's row is laid on that.
+/// A group that is open in a row: the row below it, and how the group's row is blended with that.
 #[derive(Drop)]
 pub(crate) struct OpenGroup {
     pub(crate) below: Vec<Pixel>,
@@ -22,7 +22,7 @@ pub(crate) struct OpenGroup {
 }
 
 impl OpenGroup {
-    /// A row for a group, so wide.
+    /// The rows for a group of this width, in pixels.
     pub(crate) fn new(alloc: Global, width: usize) -> Result<OpenGroup, Memory>
         ensures { IfOk result (λ g. length g.below.items ≡ width) }
     {
@@ -36,7 +36,7 @@ impl OpenGroup {
     }
 }
 
-/// Opens a group: the row so far lies below it, and its own row is transparent.
+/// Opens a group: the row so far is kept below it, and the group's own row begins transparent.
 pub(crate) fn begin(
     top: &mut Vec<Pixel>,
     group: &mut OpenGroup,
@@ -58,7 +58,7 @@ pub(crate) fn begin(
     group.mode = mode;
 }
 
-/// Ends a group: its row is laid on the one below it, where its area has the point.
+/// Ends a group: blends its row with the one below it, at the points of its area.
 pub(crate) fn end(top: &mut Vec<Pixel>, group: &mut OpenGroup, start: Point)
     requires start { IsStart start }
     requires same { length group.old.below.items ≡ length top.old.items }

@@ -1,4 +1,4 @@
-//! The painter: operations into the pixels of a buffer, row by row.
+//! The painter: it turns drawing operations into the pixels of a buffer, row by row.
 #![tactic(auto)]
 
 mod choice;

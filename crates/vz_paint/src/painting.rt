@@ -24,7 +24,7 @@ use vz_flat::{Op, Ops};
 use vz_geom::{Point, Rect};
 use vz_pixels::Pixel;
 
-/// The first point of the row of an area that is `below` its first one.
+/// The leftmost point of a row of an area; `below` counts rows from the top one.
 fn row_start(area: &Rect, below: u32) -> Point
     requires top { pos 0 ≤ℤ area.now.y }
     requires bottom { (area.now.y +ℤ pos below) <ℤ pos GREATEST_DISPLAY_SIDE }
@@ -37,9 +37,9 @@ fn row_start(area: &Rect, below: u32) -> Point
     }
 }
 
-/// Paints the row of an area that is `below` its first one with a colour for each point, which is
-/// what the operations make of the ground. Conditions: the area is inside, the operations are
-/// whole, and there is a row for each group that they open at once.
+/// Paints one row of an area: the result of the operations on the ground. `below` counts rows
+/// from the top one. Conditions: the area is inside the buffer, the operations are valid, and
+/// there is a row for each group that they have open at once.
 fn paint_row<L: Ledger>(
     ops: &[&Op],
     ground: Pixel,
@@ -75,14 +75,14 @@ fn paint_row<L: Ledger>(
     buffer.put_span(start.x, start.y, top.as_slice(), steps);
 }
 
-/// So many rows of an area, from one on.
+/// Some rows of an area that follow one another.
 #[derive(Clone, Copy)]
 struct Band {
     from: u32,
     count: u32,
 }
 
-/// Paints a band of an area row by row. Conditions: those of a row.
+/// Paints a band of an area row by row. The conditions are those of a row.
 fn paint_band<L: Ledger>(
     ops: &[&Op],
     ground: Pixel,
@@ -122,7 +122,7 @@ fn paint_band<L: Ledger>(
     }
 }
 
-/// How many columns an area has.
+/// How many columns an area has, in pixels.
 fn width(area: &Rect) -> usize
     requires { pos 1 ≤ℤ area.now.w }
     ensures value { result ≡ nat_abs area.now.w }
@@ -130,7 +130,7 @@ fn width(area: &Rect) -> usize
     area.w().unsigned_abs() as usize
 }
 
-/// How many rows an area has.
+/// How many rows an area has, in pixels.
 fn height(area: &Rect) -> u32
     requires { pos 1 ≤ℤ area.now.h }
     ensures value { result ≡ nat_abs area.now.h }
@@ -138,14 +138,14 @@ fn height(area: &Rect) -> u32
     area.h().unsigned_abs()
 }
 
-/// So many groups have places at least, where there is one.
+/// The least number of groups for which places are reserved, if there is a group at all.
 const FEW_GROUPS: usize = 4;
 
-/// So many operations have places at least, where there is one.
+/// The least number of operations for which places are reserved, if there is one at all.
 const FEW_OPS: usize = 16;
 
-/// How many places are made where so many are wanted: at least a few, if any. So most lists are of
-/// one size, and take the memory that the one before them gave back.
+/// How many places are reserved for `wanted`: at least a few, if any. So most lists have the same
+/// size and reuse the memory that the one before them freed.
 fn places(wanted: usize, few: usize) -> usize
     ensures { wanted ≤ result }
 {
@@ -155,7 +155,7 @@ fn places(wanted: usize, few: usize) -> usize
     few
 }
 
-/// A row for each of so many groups.
+/// The rows for `count` groups.
 fn group_rows(alloc: Global, count: u32, width: usize) -> Result<Vec<OpenGroup>, Memory>
     ensures count { IfOk result (λ v. length v.items ≡ count) }
     ensures rows { IfOk result (λ v. AreRows width v.items) }
@@ -167,7 +167,7 @@ fn group_rows(alloc: Global, count: u32, width: usize) -> Result<Vec<OpenGroup>,
     Ok(groups)
 }
 
-/// Paints an area that has points. All memory is taken before the first row.
+/// Paints an area that is not empty. Everything is allocated before the first row.
 fn paint_area<L: Ledger>(
     alloc: Global,
     ops: &Ops,
@@ -211,11 +211,13 @@ fn paint_area<L: Ledger>(
     Ok(())
 }
 
-/// Paints an area of a buffer: exactly its points get the value of the operations on opaque black,
-/// and each of them is a step. Condition: the area is inside the buffer.
+/// Paints an area of a buffer: exactly the pixels of the area are set, to what the operations
+/// give on opaque black, and each pixel counts as one step. An empty area is allowed. Condition:
+/// the area is inside the buffer.
 ///
-/// All memory is taken before the first row: a row for the area and one for each group that may be
-/// open at once, and a place for each operation. At Memory the buffer is as it was.
+/// Everything is allocated before the first row: a row for the area, one for each group that may
+/// be open at once, and a place for each operation. If that fails it returns `Memory`, and the
+/// buffer does not change.
 pub fn paint<L: Ledger>(
     alloc: Global,
     ops: &Ops,

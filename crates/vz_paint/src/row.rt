@@ -1,4 +1,4 @@
-//! Operations in one row.
+//! Drawing operations in one row.
 ghost use Rattle.std.specs.Prelude.{◌≡◌, ◌≤◌, ◌<◌, ◌∷◌, ℕ, List, length, map, get_or, replicate, true};
 ghost use Rattle.vz_base.specs.declared.limits.TheConstants.{GREATEST_DISPLAY_SIDE};
 ghost use Rattle.vz_pixels.specs.Colour.{transparent};
@@ -13,7 +13,8 @@ use vz_flat::Op;
 use vz_geom::Point;
 use vz_pixels::Pixel;
 
-/// Draws one operation in a row where so many groups are open, and answers how many are then.
+/// Draws one operation in a row inside `depth` open groups, and returns how many are open after
+/// it.
 fn draw(
     op: &Op,
     start: Point,
@@ -82,15 +83,15 @@ fn draw(
     }
 }
 
-/// Makes a row one colour.
+/// Fills a row with one colour.
 fn level(top: &mut Vec<Pixel>, ground: Pixel)
     ensures { top.new.items ≡ replicate (length top.old.items) ground }
 {
     top.fill(ground);
 }
 
-/// Draws operations in a row, on one colour. Conditions: they are whole, and there is a row for
-/// each group that they open at once.
+/// Draws operations in a row, on one colour. Conditions: they are valid, and there is a row for
+/// each group that they have open at once.
 pub(crate) fn draw_row(
     ops: &[&Op],
     ground: Pixel,

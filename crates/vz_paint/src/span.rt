@@ -1,4 +1,4 @@
-//! Which part of a row an area has, and colours that are laid there.
+//! The part of a row that an area covers, and colours that are blended there.
 ghost use Rattle.std.specs.Prelude.{true, ◌==◌, ◌-ℤ◌, ◌+◌, ◌*◌, take, drop, ◌≡◌, ◌≤◌, ◌<◌, ◌<ℤ◌, ◌≤ℤ◌, ◌+ℤ◌, pos, int_le, nat_le, nat_lt, ◌&&◌, ℕ, length, map, get_or, if◌then◌else◌, IsTrue, Some};
 ghost use Rattle.vz_base.specs.declared.limits.TheConstants.{GREATEST_DISPLAY_SIDE, GREATEST_BLOCK_SIDE};
 ghost use Rattle.vz_geom.specs.Rectangle.{has, plus, minus, corner};
@@ -17,14 +17,14 @@ use vz_geom::{Point, Rect};
 use vz_kernel::{dst_in_fill, dst_in_row, fill_row, over_fill, over_row, src_row};
 use vz_pixels::{Pixel, PixelBlock};
 
-/// The places of a row that an area has: from one on, up to before another.
+/// The places of a row that an area covers: from `from` up to, but without, `to`.
 #[derive(Clone, Copy)]
 pub(crate) struct Span {
     from: usize,
     to: usize,
 }
 
-/// How many of the columns of a row, so many from the first on, stand left of a column.
+/// How many of the first `count` columns of a row are left of column `x`.
 fn columns_before(start: Point, x: &i32, count: usize) -> usize
     requires start { IsStart start }
     ensures most { result ≤ count }
@@ -38,7 +38,7 @@ fn columns_before(start: Point, x: &i32, count: usize) -> usize
     if before < count { before } else { count }
 }
 
-/// The places of a row, so long from its first point on, that an area has.
+/// The places of a row of `count` pixels that an area covers.
 fn span_of(area: &Rect, start: Point, count: usize) -> Span
     requires start { IsStart start }
     ensures ordered { result.from ≤ result.to }
@@ -57,7 +57,7 @@ fn span_of(area: &Rect, start: Point, count: usize) -> Span
     Span { from, to }
 }
 
-/// Lays one colour on each of a row.
+/// Blends one colour with each pixel of a row.
 fn tint(row: &mut [Pixel], color: Pixel, mode: Blend)
     ensures { row.new ≡ map (blend mode color) row.old }
 {
@@ -68,7 +68,7 @@ fn tint(row: &mut [Pixel], color: Pixel, mode: Blend)
     }
 }
 
-/// Lays each colour, by an opacity, on the one at its place.
+/// Blends each colour, scaled by an opacity, with the pixel at its place.
 fn mix(row: &mut [Pixel], source: &[Pixel], opacity: u8, mode: Blend)
     requires { length row.old ≡ length source.now }
     ensures { row.new ≡ zip2 (λ s d. laid mode s opacity d) source.now row.old }
@@ -80,7 +80,7 @@ fn mix(row: &mut [Pixel], source: &[Pixel], opacity: u8, mode: Blend)
     }
 }
 
-/// A colour by an opacity: at the full one it is the colour itself.
+/// A colour scaled by an opacity. Full opacity does not change it.
 pub(crate) fn shade(color: Pixel, opacity: u8) -> Pixel
     ensures { result ≡ scale color opacity }
 {
@@ -90,7 +90,7 @@ pub(crate) fn shade(color: Pixel, opacity: u8) -> Pixel
     color.scale(opacity)
 }
 
-/// Lays one colour, by an opacity, where an area has a point of a row.
+/// Blends one colour, scaled by an opacity, with the pixels of a row inside an area.
 pub(crate) fn fill(
     row: &mut [Pixel],
     start: Point,
@@ -110,7 +110,7 @@ pub(crate) fn fill(
     tint(&mut row[here.from..here.to], shade(color, opacity), mode);
 }
 
-/// Lays each colour of another row, by an opacity, where an area has the point.
+/// Blends another row, scaled by an opacity, with the pixels of this row inside an area.
 pub(crate) fn lay(
     row: &mut [Pixel],
     start: Point,
@@ -136,17 +136,17 @@ pub(crate) fn lay(
     );
 }
 
-/// So many texels are looked at, as it costs less than to mix them.
+/// How many texels are tested for opacity, as that costs less than to blend them.
 const FEW: usize = 16;
 
-/// Whether all colours are opaque.
+/// Whether all of these colours are opaque.
 fn are_opaque(source: &[Pixel]) -> bool
     ensures { result ≡ list_all (λ c. c.a == 255) source.now }
 {
     source.iter().all(|c| c.a() == 255)
 }
 
-/// Whether texels, by an opacity, hide what they are laid on. It is tried of few alone.
+/// Whether texels, scaled by an opacity, hide what is below them. Only a few are tested.
 fn do_hide(source: &[Pixel], opacity: u8, mode: Blend) -> bool
     ensures { result ≡ true
         → (mode ≡ Over) × (opacity ≡ 255) × (list_all (λ c. c.a == 255) source.now ≡ true) }
@@ -161,7 +161,8 @@ fn do_hide(source: &[Pixel], opacity: u8, mode: Blend) -> bool
     }
 }
 
-/// Lays each texel, by an opacity, on the colour at its place: few opaque ones are copied.
+/// Blends each texel, scaled by an opacity, with the pixel at its place. A few opaque ones are
+/// copied.
 fn print(row: &mut [Pixel], source: &[Pixel], opacity: u8, mode: Blend)
     requires { length row.old ≡ length source.now }
     ensures { row.new ≡ zip2 (λ s d. laid mode s opacity d) source.now row.old }
@@ -173,14 +174,14 @@ fn print(row: &mut [Pixel], source: &[Pixel], opacity: u8, mode: Blend)
     mix(row, source, opacity, mode);
 }
 
-/// A texel of a block.
+/// The column and row of a texel in a block.
 #[derive(Clone, Copy)]
 struct Texel {
     column: usize,
     row: usize,
 }
 
-/// The point that stands so far right of the first one of a row.
+/// The point that is `by` pixels right of the first one of a row.
 fn right_of(start: Point, by: usize) -> Point
     requires start { IsStart start }
     requires near { by ≤ GREATEST_DISPLAY_SIDE }
@@ -192,8 +193,8 @@ fn right_of(start: Point, by: usize) -> Point
     }
 }
 
-/// The texel of a block that stands at a point of an area, which begins with that of the column
-/// `tx` and the row `ty`.
+/// The texel of a block at a point of an area, if the texel in column `tx` and row `ty` is at the
+/// top left point.
 fn texel_at(block: &PixelBlock, p: Point, area: &Rect, tx: &i32, ty: &i32) -> Texel
     requires left { area.now.x ≤ℤ p.x }
     requires top { area.now.y ≤ℤ p.y }
@@ -213,7 +214,7 @@ fn texel_at(block: &PixelBlock, p: Point, area: &Rect, tx: &i32, ty: &i32) -> Te
     Texel { column, row }
 }
 
-/// So many texels of a row of a block, from one on.
+/// `count` texels of a row of a block, from one on.
 fn texels(block: &PixelBlock, at: Texel, count: usize) -> &[Pixel]
     requires across { (at.column + count) ≤ block.now.w }
     requires down { at.row < block.now.h }
@@ -226,8 +227,8 @@ fn texels(block: &PixelBlock, at: Texel, count: usize) -> &[Pixel]
     &block.pixels()[from..from + count]
 }
 
-/// Lays texels, by an opacity, where an area has a point of a row. The texel at the first point of
-/// the area is that of the column `tx` and the row `ty`.
+/// Blends texels, scaled by an opacity, with the pixels of a row inside an area. The texel in
+/// column `tx` and row `ty` is at the top left point of the area.
 pub(crate) fn blit(
     row: &mut [Pixel],
     start: Point,

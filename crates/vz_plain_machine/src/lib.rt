@@ -1,5 +1,5 @@
-//! The plain machine as a display and a desk drive it: its steps, and the pictures of its
-//! drawings, which have all their pixels.
+//! The plain machine with pictures, as the display and the desk drive it. Each picture has all
+//! pixels.
 #![tactic(auto)]
 
 mod machine;

@@ -1,4 +1,4 @@
-//! The plain machine behind the trait of a machine.
+//! The plain machine, as an implementation of the trait `Machine`.
 ghost use Rattle.std.specs.Prelude.{◌≡◌};
 ghost use Rattle.vz_rules.specs.World.{opening};
 
@@ -10,7 +10,7 @@ use vz_machine::{Machine, PixelPicture, Step};
 use vz_rules::{Event, Plan, Rest};
 use vz_slow::Slow;
 
-/// The plain machine over a plan, with a picture for each drawing.
+/// The plain machine over a plan, with a picture for each draw.
 #[derive(Drop)]
 pub struct PlainMachine<'a> {
     slow: Slow<'a>,
@@ -25,7 +25,7 @@ impl<'a> Model for PlainMachine<'a> {
 }
 
 impl<'a> PlainMachine<'a> {
-    /// The machine in the opening world of a plan. It takes no memory.
+    /// Creates the machine in the opening world of a plan. It allocates nothing.
     pub fn new(alloc: Global, plan: &'a Plan) -> PlainMachine<'a>
         ensures { result ≡ record { plan = plan.now; world = opening plan.now } }
     {

@@ -1,4 +1,4 @@
-//! The picture of a drawing.
+//! The picture of a draw.
 ghost use Rattle.std.specs.Prelude.{◌≡◌, length, IfSome};
 ghost use Rattle.std.specs.Option.{option_map};
 ghost use Rattle.vz_buffers.specs.Canvas.{pixel_count};
@@ -10,8 +10,9 @@ use vz_machine::PixelPicture;
 use vz_pixels::Pixel;
 use vz_rules::Reply;
 
-/// The picture of what was drawn, if an answer is Drawn. Conditions: a display's size, a pixel
-/// for each point where there are pixels, and a damage that is on the display.
+/// The picture of what was drawn, or None if the reply is not Drawn. Conditions: the size is that
+/// of a display, there is a pixel for each point if there are pixels, and the damage is on the
+/// display.
 pub(crate) fn picture_of(
     size: Size,
     reply: &Reply,

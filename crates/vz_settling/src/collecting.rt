@@ -1,4 +1,4 @@
-//! Marked surfaces that are not reached are destroyed.
+//! Garbage collection: the destruction of marked surfaces that are not reached.
 ghost use Rattle.std.specs.Prelude.{◌≡◌, ◌≤◌, ◌<◌, ◌+◌, ◌++◌, ◌∷◌, [], length, None};
 ghost use Rattle.vz_rules.specs.World.{World, Created};
 ghost use Rattle.vz_rules.specs.Reach.{naming, clearing, destroyed_in};
@@ -17,7 +17,7 @@ use vz_frame::Room;
 use vz_ids::SurfaceId;
 use vz_rules::Lost;
 
-/// A surface is destroyed, with the submission that waits on it, and told.
+/// Destroys a surface, with the submission that waits on it, and reports it.
 fn destroy(settling: &mut Settling, id: &SurfaceId, destroyed: &mut Room<Lost>)
     requires goes { (w : World) × (c : Created) × IsGoing w c id.now settling.old.live }
     requires room { 0 < destroyed.old.spare }
@@ -40,8 +40,8 @@ fn destroy(settling: &mut Settling, id: &SurfaceId, destroyed: &mut Room<Lost>)
     destroyed.put(gone.lost);
 }
 
-/// Of these marked surfaces those are destroyed that are not reached. Condition: there is room to
-/// tell all of them.
+/// Destroys those of these marked surfaces that are not reached. Condition: there is room to
+/// report all of them.
 fn destroy_all(
     settling: &mut Settling,
     marked: &[SurfaceId],
@@ -68,11 +68,11 @@ fn destroy_all(
 }
 
 impl Settling {
-    /// A collection: every marked surface that is not reached from the root or from a temporary
-    /// one is destroyed, and told by client and creation. Where none is marked, nothing is asked.
-    /// It takes no memory.
+    /// Collects garbage: destroys each marked surface that is not reached from the root or from a
+    /// temporary surface, and reports it, by client and then in the order of creation. If no
+    /// surface is marked, nothing is searched. It allocates nothing.
     ///
-    /// Conditions: what is named now is named, and there is room for it.
+    /// Conditions: names are noted, and there is room for the report and the lists.
     pub fn collect(
         &mut self,
         root: Option<SurfaceId>,

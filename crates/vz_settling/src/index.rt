@@ -1,4 +1,4 @@
-//! Surfaces, so that one is found among them at once.
+//! A set of surfaces with a fast lookup.
 ghost use Rattle.std.specs.Prelude.{◌≡◌, ◌≤◌, ◌||◌, [], length, OnOk};
 ghost use Rattle.indexmap.specs.IndexSet.{spare as spare_of};
 ghost use Rattle.vz_ids.specs.declared.SurfaceId.{SurfaceId as Id};
@@ -10,8 +10,8 @@ use std::marker::Model;
 use vz_base::Memory;
 use vz_ids::SurfaceId;
 
-/// Surfaces, so that one is found among them at once. Contracts see them and, beside them, the
-/// room that was made before.
+/// A set of surfaces with a fast lookup. Contracts see the surfaces, and the room that was
+/// reserved before.
 #[derive(Drop)]
 pub struct Index {
     ids: IndexSet<SurfaceId>,
@@ -41,7 +41,7 @@ fn insert_all(set: &mut IndexSet<SurfaceId>, ids: &[SurfaceId])
 }
 
 impl Index {
-    /// No surface. It takes no memory.
+    /// Creates an empty set. It allocates nothing.
     pub fn new(alloc: Global) -> Index
         ensures { result.list ≡ [] }
     {
@@ -50,7 +50,8 @@ impl Index {
         }
     }
 
-    /// No surface is in it, and there is room for so many. Memory is the only error.
+    /// Empties the set, and makes room for `n` surfaces. The only error is `Memory`, if an
+    /// allocation fails.
     pub fn ready(&mut self, n: usize) -> Result<(), Memory>
         ensures list { self.new.list ≡ [] }
         ensures ok { OnOk result (n ≤ self.new.spare) }
@@ -60,7 +61,7 @@ impl Index {
         Ok(())
     }
 
-    /// Puts surfaces in. Conditions: none is in it, and there is room for them.
+    /// Puts surfaces into the set. Conditions: it is empty, and there is room for them.
     pub(crate) fn fill(&mut self, ids: &[SurfaceId])
         requires empty { self.old.list ≡ [] }
         requires room { length ids.now ≤ self.old.spare }
@@ -69,7 +70,7 @@ impl Index {
         insert_all(&mut self.ids, ids);
     }
 
-    /// Whether a surface is in it.
+    /// Whether the set has a surface.
     pub(crate) fn has(&self, id: &SurfaceId) -> bool
         ensures { result ≡ has_id self.now.list id.now }
     {

@@ -1,4 +1,4 @@
-//! Laws of settling, each the contract of a function that does nothing.
+//! Laws of settling: each is the contract of a function with an empty body.
 ghost use Rattle.std.specs.Prelude.{◌≡◌, Option, []};
 ghost use Rattle.vz_ids.specs.declared.SurfaceId.{SurfaceId};
 ghost use Rattle.vz_rules.specs.World.{World};
@@ -10,8 +10,8 @@ ghost use Rattle.vz_settling.specs.Settles.{AreSettling, AreReady};
 use vz_live::laws::surfaces_stay;
 use vz_waiting::laws::waiting_ones_stay;
 
-/// Once it settled, nothing is ready. What stands for a state stands for that in which what is
-/// named now is named.
+/// After a state has settled, no submission is ready. What is right for a state is also right
+/// after names are noted.
 pub fn settled_ones_stay()
     ensures ready { (w : World) → AreReady (settle w) [] }
     ensures naming { (w : World) (but : Option SurfaceId) (v : Settling) → AreSettling w but v
@@ -21,7 +21,7 @@ pub fn settled_ones_stay()
     waiting_ones_stay();
 }
 
-/// A step's collection is that of the state in which what is named now is named.
+/// The collection of a step is that of the state after names are noted.
 pub fn named_ones_are_collected()
     ensures collect { (w : World) → collect w ≡ clearing (naming w) }
     ensures named { (w : World) → naming (naming w) ≡ naming w }

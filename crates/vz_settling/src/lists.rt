@@ -1,4 +1,4 @@
-//! The lists of a collection.
+//! The work lists of a collection.
 ghost use Rattle.std.specs.Prelude.{◌≡◌, ◌≤◌, [], OnOk};
 
 use crate::index::Index;
@@ -7,7 +7,7 @@ use vz_base::Memory;
 use vz_frame::Room;
 use vz_ids::SurfaceId;
 
-/// The lists that a collection works with, with room made before, which they keep from one
+/// The work lists of a collection. Their room is reserved before a step and kept from one
 /// collection to the next.
 #[derive(Drop)]
 pub struct Lists {
@@ -15,11 +15,12 @@ pub struct Lists {
     pub marked: Room<SurfaceId>,
     /// The surfaces that are reached.
     pub reached: Room<SurfaceId>,
-    /// The same, so that one is found at once.
+    /// The same surfaces, as a set with a fast lookup.
     pub index: Index,
 }
 
-/// A list is empty and has room for so many. Memory is the only error.
+/// Empties a list and makes room for `n` surfaces. The only error is `Memory`, if an allocation
+/// fails.
 fn make_room(list: &mut Room<SurfaceId>, n: usize) -> Result<(), Memory>
     ensures list { list.new.list ≡ [] }
     ensures room { OnOk result (n ≤ list.new.spare) }
@@ -29,7 +30,7 @@ fn make_room(list: &mut Room<SurfaceId>, n: usize) -> Result<(), Memory>
 }
 
 impl Lists {
-    /// Empty lists. They take no memory.
+    /// Creates empty lists. It allocates nothing.
     pub fn new(alloc: Global) -> Lists
         ensures marked { result.marked.list ≡ [] }
         ensures reached { result.reached.list ≡ [] }
@@ -42,8 +43,8 @@ impl Lists {
         }
     }
 
-    /// The lists are empty and have room for so many marked and so many reached surfaces. Memory
-    /// is the only error.
+    /// Empties the lists and makes room for this many marked and this many reached surfaces. The
+    /// only error is `Memory`, if an allocation fails.
     pub fn ready(&mut self, marked: usize, reached: usize) -> Result<(), Memory>
         ensures none_marked { OnOk result (self.new.marked.list ≡ []) }
         ensures none_reached { OnOk result (self.new.reached.list ≡ []) }

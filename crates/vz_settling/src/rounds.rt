@@ -1,4 +1,4 @@
-//! A round: all that are ready become active.
+//! A round: all submissions that are ready become active.
 ghost use Rattle.std.specs.Prelude.{◌≡◌, ◌≤◌, ◌+◌, ◌++◌, map, length, drop, Option};
 ghost use Rattle.vz_ids.specs.declared.SurfaceId.{SurfaceId as Id};
 ghost use Rattle.vz_rules.specs.World.{World};
@@ -12,7 +12,7 @@ use vz_frame::Room;
 use vz_ids::{Sub, SurfaceId};
 use vz_live::LiveSurfaces;
 
-/// What stands in a list from a place on. Condition: the place is not behind its end.
+/// The part of a list from a place on. Condition: the place is not after the end of the list.
 pub(crate) fn since<T>(list: &Room<T>, from: usize) -> &[T]
     requires { from ≤ length list.now.list }
     ensures { result.now ≡ drop from list.now.list }
@@ -20,8 +20,8 @@ pub(crate) fn since<T>(list: &Room<T>, from: usize) -> &[T]
     &list.as_slice()[from..]
 }
 
-/// A round: the submissions that are ready become active, one after another, and the surface of
-/// each is put at the end. It takes no memory. Condition: there is room for the surfaces.
+/// One round: the submissions that are ready become active, one after another, and the surface of
+/// each is appended to `ids`. It allocates nothing. Condition: there is room for the surfaces.
 pub(crate) fn rise_all(live: &mut LiveSurfaces, subs: &[Sub], ids: &mut Room<SurfaceId>)
     requires round { (w : World) × (but : Option Id) × IsRound w but subs.now live.old }
     requires room { length subs.now ≤ ids.old.spare }

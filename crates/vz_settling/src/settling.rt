@@ -1,4 +1,4 @@
-//! The surfaces and the submissions that wait, as they settle.
+//! The surfaces and the waiting submissions, as they settle.
 ghost use Rattle.std.specs.Prelude.{◌≡◌, ◌≤◌, ◌+◌, [], length, Option};
 ghost use Rattle.vz_ids.specs.declared.SurfaceId.{SurfaceId as Id};
 ghost use Rattle.vz_rules.specs.World.{World};
@@ -14,18 +14,19 @@ use vz_ids::{Sub, SurfaceId};
 use vz_live::LiveSurfaces;
 use vz_waiting::Waiting;
 
-/// The surfaces with what hangs on them, and what the submissions that wait lack.
+/// The surfaces with what belongs to them, and the waiting submissions.
 #[derive(Drop)]
 pub struct Settling {
-    /// The surfaces with what hangs on them.
+    /// The surfaces with what belongs to them.
     pub live: LiveSurfaces,
-    /// The submissions that wait, until they become active.
+    /// The submissions that wait to become active.
     pub waiting: Waiting,
 }
 
 impl Settling {
-    /// Rounds, until nothing is ready: `activated` has those that are ready, and all that become
-    /// active follow there, round by round; `ids` is used beside. It takes no memory.
+    /// Does rounds until no submission is ready. At the start `activated` has the submissions
+    /// that are ready; all that become active later are appended, round by round. `ids` is a work
+    /// list. It allocates nothing.
     ///
     /// Conditions: `ids` is empty, and there is room for all that wait.
     pub fn settle(&mut self, ids: &mut Room<SurfaceId>, activated: &mut Room<Sub>)

@@ -1,4 +1,4 @@
-//! Laws of what is kept for the clients, each the contract of a function that does nothing.
+//! Laws of what is kept for clients: each is the contract of a function with an empty body.
 ghost use Rattle.std.specs.Prelude.{ℕ, ◌≤◌, List, length};
 ghost use Rattle.vz_ids.specs.declared.Sub.{Sub};
 ghost use Rattle.vz_rules.specs.Plan.{Plan};
@@ -12,14 +12,14 @@ ghost use Rattle.vz_rules.specs.Kept.{KeepsPlan};
 ghost use Rattle.vz_machine.specs.Stepping.{HasClient};
 ghost use Rattle.vz_support.specs.Supporting.{Supported, IsSupport};
 
-/// Each client of the plan is one of those that are kept.
+/// Each client of the plan has its entry.
 pub fn clients_are_known()
     ensures { (m : Machine) (c : ℕ) (v : Supported) → KeepsPlan m.plan m.world
         → IsSupport m.plan m.world v → HasClient m c → (1 ≤ c) × (c ≤ length v.clients) }
 {}
 
-/// What is kept for the clients stays where a submission becomes active, and through a round and
-/// all rounds of a step.
+/// What is kept for clients does not change when a submission becomes active, nor through a round
+/// or all rounds of a step.
 pub fn support_stays_in_rounds()
     ensures rising { (p : Plan) (w : World) (s : Submission) (v : Supported)
         → IsSupport p w v → IsSupport p (rising s w) v }
@@ -29,7 +29,7 @@ pub fn support_stays_in_rounds()
         → IsSupport p w v → IsSupport p (settle w) v }
 {}
 
-/// So it does where surfaces are named and destroyed.
+/// It does not change when surfaces are named or destroyed.
 pub fn support_stays_in_collections()
     ensures naming { (p : Plan) (w : World) (v : Supported)
         → IsSupport p w v → IsSupport p (naming w) v }
@@ -41,7 +41,8 @@ pub fn support_stays_in_collections()
         → IsSupport p w v → IsSupport p (collect w) v }
 {}
 
-/// So it does where references go back, feedback is given, a frame is drawn or is done.
+/// It does not change when resources are returned, feedback is given, or a frame is drawn or
+/// done.
 pub fn support_stays_at_ends()
     ensures returns { (p : Plan) (w : World) (v : Supported)
         → IsSupport p w v → IsSupport p (give_back w) v }

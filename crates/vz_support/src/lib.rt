@@ -1,8 +1,9 @@
-//! What stands between the compositor and its clients, after Chromium's CompositorFrameSinkSupport:
-//! what each client has still to send, and the begin-frames that it is to take.
+//! The client side of the compositor, after Chromium's CompositorFrameSinkSupport: the messages
+//! that each client has still to send, and its pending begin-frames.
 //!
-//! Each call is one change of the machine's state, made to what is kept here. Its contract says,
-//! for every state that this stands for, that it stands for the next one.
+//! Each call makes one change of the machine's state in the part that is kept here. Its contract
+//! says: if this part is right for some state before the call, it is right for the next state
+//! after it.
 #![tactic(auto)]
 
 pub mod laws;

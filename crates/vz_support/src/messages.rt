@@ -1,4 +1,4 @@
-//! Messages that change nothing beyond what is kept for the client that sends them.
+//! Messages that change only what is kept for the client that sends them.
 ghost use Rattle.std.specs.Prelude.{◌≡◌, ◌≤◌, ℕ, false, length, OnOk, OnErr};
 ghost use Rattle.vz_pixels.specs.Block.{Block};
 ghost use Rattle.vz_frame.specs.declared.message.Message.{Message as Sent};
@@ -18,7 +18,8 @@ use vz_base::Memory;
 use vz_clients::Clients;
 use vz_frame::Message;
 
-/// A client has answered the tick where the number is that of it. Condition: the client is there.
+/// Notes that a client has answered the tick, if `n` is the number of the tick. Condition: the
+/// client exists.
 pub(crate) fn note(clients: &mut Clients, c: u32, tick: u32, n: u32)
     requires some { 1 ≤ c }
     requires known { c ≤ length clients.old }
@@ -30,8 +31,8 @@ pub(crate) fn note(clients: &mut Clients, c: u32, tick: u32, n: u32)
 }
 
 impl Support {
-    /// The next message of a client is refused: it is taken, and changes nothing else. Conditions:
-    /// the client is there, and it has a message.
+    /// Refuses the next message of a client: the message is taken and changes nothing else.
+    /// Conditions: the client exists, and it has a message.
     pub fn refuse(&mut self, c: u32)
         requires some { 1 ≤ c }
         requires known { c ≤ length self.old.clients }
@@ -43,8 +44,8 @@ impl Support {
         self.clients.take(c);
     }
 
-    /// A client answers a begin-frame without a frame. Conditions: the client is there, and this is
-    /// its next message.
+    /// A client answers a begin-frame without a frame (`DidNotProduceFrame`). Conditions: the
+    /// client exists, and this is its next message.
     pub fn did_not_produce(&mut self, c: u32)
         requires some { 1 ≤ c }
         requires known { c ≤ length self.old.clients }
@@ -64,8 +65,8 @@ impl Support {
         note(&mut self.clients, c, self.tick, n);
     }
 
-    /// A client takes back its returns, which are kept elsewhere. Conditions: the client is there,
-    /// and this is its next message.
+    /// A client reclaims its returned resources, which are kept elsewhere. Conditions: the client
+    /// exists, and this is its next message.
     pub fn reclaim(&mut self, c: u32)
         requires some { 1 ≤ c }
         requires known { c ≤ length self.old.clients }
@@ -76,9 +77,9 @@ impl Support {
         self.clients.skip(c);
     }
 
-    /// A client's block is stored: it is moved in. For want of memory, and only then, it answers
-    /// Memory and nothing changes. Conditions: the client is there, and an upload is its next
-    /// message, of a resource that is not in use.
+    /// Stores an uploaded block, which is moved out of the file. It returns `Memory` if an
+    /// allocation fails; then nothing changes. Conditions: the client exists, and its next
+    /// message is an upload of a resource that is not in use.
     pub fn upload(&mut self, c: u32) -> Result<(), Memory>
         requires some { 1 ≤ c }
         requires known { c ≤ length self.old.clients }
@@ -93,7 +94,7 @@ impl Support {
         Ok(())
     }
 
-    /// A client is closed. Conditions: the client is there, and this is its next message.
+    /// Closes a client. Conditions: the client exists, and this is its next message.
     pub fn close(&mut self, c: u32)
         requires some { 1 ≤ c }
         requires known { c ≤ length self.old.clients }

@@ -1,4 +1,4 @@
-//! What is kept for the clients before the first step.
+//! What is kept for clients before the first step.
 ghost use Rattle.std.specs.Prelude.{◌≡◌, ◌≤◌, length, map, IfOk, IfErr};
 ghost use Rattle.vz_frame.specs.declared.message.ClientFile.{ClientFile as File};
 ghost use Rattle.vz_rules.specs.Plan.{Plan};
@@ -14,7 +14,7 @@ use vz_frame::ClientFile;
 use vz_ids::FrameSinkId;
 use vz_sinks::Sinks;
 
-/// The sink of each file.
+/// The sink of each file, in the order of the files.
 fn sinks_of(alloc: Global, files: &[ClientFile]) -> Result<Vec<FrameSinkId>, Memory>
     ensures { IfOk result (λ s. s.items ≡ map (λ (f : File). f.sink) files.now) }
 {
@@ -26,8 +26,9 @@ fn sinks_of(alloc: Global, files: &[ClientFile]) -> Result<Vec<FrameSinkId>, Mem
 }
 
 impl Support {
-    /// What is kept for the clients of these files, of which nothing was taken. For want of memory,
-    /// and only then, the files come back. Conditions: 1 to `MOST_FILES` files.
+    /// Creates what is kept for the clients of these files, none of whose messages was taken. If
+    /// an allocation fails, the error gives the files back. Condition: there are 1 to
+    /// `MOST_FILES` files.
     pub fn open(alloc: Global, files: Vec<ClientFile>) -> Result<Support, Vec<ClientFile>>
         requires some { 1 ≤ length files.items }
         requires few { length files.items ≤ MOST_FILES }

@@ -1,4 +1,4 @@
-//! What is asked of what is kept for the clients.
+//! Questions about what is kept for clients.
 ghost use Rattle.std.specs.Prelude.{◌≡◌, ◌≤◌, Some, length};
 ghost use Rattle.std.specs.Option.{option_copied};
 ghost use Rattle.vz_frame.specs.Frame.{first_of};
@@ -27,7 +27,7 @@ fn is_await(message: Option<&Message>) -> bool
     }
 }
 
-/// How many resources the frame of a message lists, 0 where it has none.
+/// How many resources the frame of a message lists; 0 if the message has none.
 fn listed_in(message: Option<&Message>) -> u64
     ensures { result ≡ listed_in (option_copied message.entry) }
 {
@@ -41,28 +41,29 @@ fn listed_in(message: Option<&Message>) -> u64
 }
 
 impl Support {
-    /// The number of the last begin-frame, 0 before the first one.
+    /// The current tick: the number of the last begin-frame, or 0 before the first one.
     pub fn tick(&self) -> u32
         ensures { (p : Plan) (w : World) → IsSupport p w self.now → result ≡ w.tick }
     {
         self.tick
     }
 
-    /// The surface that the first client named last as the root, whether it exists or not.
+    /// The surface that the first client named last as the root, which need not exist, or None if
+    /// it named none.
     pub fn root(&self) -> Option<SurfaceId>
         ensures { (p : Plan) (w : World) → IsSupport p w self.now → result ≡ w.root }
     {
         self.root
     }
 
-    /// Whether it is over.
+    /// Whether the Over mark is set, so that no begin-frame comes any more.
     pub fn is_over(&self) -> bool
         ensures { (p : Plan) (w : World) → IsSupport p w self.now → result ≡ w.over }
     {
         self.over
     }
 
-    /// The sink of a client. Condition: the client is there.
+    /// The sink of a client. Condition: the client exists.
     pub fn sink(&self, c: u32) -> FrameSinkId
         requires some { 1 ≤ c }
         requires known { c ≤ length self.now.clients }
@@ -72,7 +73,8 @@ impl Support {
         self.clients.sink(c)
     }
 
-    /// The message that a client sends next, if there is one. Condition: the client is there.
+    /// The message that a client sends next, or None if it has sent all. Condition: the client
+    /// exists.
     pub fn next(&self, c: u32) -> Option<&Message>
         requires some { 1 ≤ c }
         requires known { c ≤ length self.now.clients }
@@ -83,7 +85,7 @@ impl Support {
         self.clients.next(c)
     }
 
-    /// Whether a client is closed. Condition: the client is there.
+    /// Whether a client is closed. Condition: the client exists.
     pub fn is_closed(&self, c: u32) -> bool
         requires some { 1 ≤ c }
         requires known { c ≤ length self.now.clients }
@@ -93,7 +95,7 @@ impl Support {
         self.clients.is_closed(c)
     }
 
-    /// Whether a client's next answer would be NotYet. Condition: the client is there.
+    /// Whether a client's next reply would be NotYet. Condition: the client exists.
     pub fn waits(&self, c: u32) -> bool
         requires some { 1 ≤ c }
         requires known { c ≤ length self.now.clients }
@@ -106,7 +108,8 @@ impl Support {
         awaits & !stands & !self.over & !is_closed
     }
 
-    /// Whether a client is closed, has no message left or waits. Condition: the client is there.
+    /// Whether a client is idle: it is closed, has no message left, or its next reply would be
+    /// NotYet. Condition: the client exists.
     pub fn idle(&self, c: u32) -> bool
         requires some { 1 ≤ c }
         requires known { c ≤ length self.now.clients }
@@ -118,7 +121,7 @@ impl Support {
         is_closed | is_done | self.waits(c)
     }
 
-    /// Whether a client has answered the tick. Condition: the client is there.
+    /// Whether a client has answered the current tick. Condition: the client exists.
     pub fn answered(&self, c: u32) -> bool
         requires some { 1 ≤ c }
         requires known { c ≤ length self.now.clients }
@@ -129,7 +132,8 @@ impl Support {
         (0 < self.tick) & (answered == self.tick)
     }
 
-    /// Whether the first client's sink reaches a client's. Condition: the client is there.
+    /// Whether a client is attached: the first client's sink reaches its sink. Condition: the
+    /// client exists.
     pub fn attached(&self, c: u32) -> bool
         requires some { 1 ≤ c }
         requires known { c ≤ length self.now.clients }
@@ -139,8 +143,8 @@ impl Support {
         self.sinks.attached(c)
     }
 
-    /// How many resources the next message of a client lists, 0 where it has none or it is no
-    /// submission. Condition: the client is there.
+    /// How many resources the next message of a client lists; 0 if it has no message left or that
+    /// is no submission. Condition: the client exists.
     pub fn listed(&self, c: u32) -> u64
         requires some { 1 ≤ c }
         requires known { c ≤ length self.now.clients }

@@ -1,4 +1,4 @@
-//! Messages that are answered by what is kept for all clients.
+//! Messages whose reply depends on what is kept for all clients.
 ghost use Rattle.std.specs.Prelude.{◌≡◌, ◌≤◌, ℕ, length, IfOk, OnOk, OnErr};
 ghost use Rattle.vz_ids.specs.declared.FrameSinkId.{FrameSinkId as Id};
 ghost use Rattle.vz_ids.specs.declared.LocalSurfaceId.{LocalSurfaceId as Local};
@@ -18,7 +18,7 @@ use vz_ids::{FrameSinkId, SurfaceId};
 use vz_rules::{Refusal, Reply};
 use vz_sinks::{SinkError, Sinks};
 
-/// What is said of a relation that is not registered, but for want of memory.
+/// The reply's refusal for an error of the sink hierarchy, or None for a failed allocation.
 fn refusal_of(error: SinkError) -> Option<Refusal>
     ensures { result ≡ refusal_of error }
 {
@@ -30,8 +30,8 @@ fn refusal_of(error: SinkError) -> Option<Refusal>
     }
 }
 
-/// Registers a relation that a client asks for, unless it is refused. For want of memory, and only
-/// then, it answers Memory and nothing changes.
+/// Registers a relation that a client asks for, or refuses it. It returns `Memory` if an
+/// allocation fails; then nothing changes.
 fn relate(
     sinks: &mut Sinks,
     c: u32,
@@ -56,8 +56,9 @@ fn relate(
 }
 
 impl Support {
-    /// A client names the root, whether it exists or not; only the first one may. Conditions: the
-    /// client is there, and this is its next message.
+    /// A client names the root surface, which need not exist. Only the first client may; the
+    /// request of another is refused. Conditions: the client exists, and this is its next
+    /// message.
     pub fn set_root(&mut self, c: u32) -> Reply
         requires some { 1 ≤ c }
         requires known { c ≤ length self.old.clients }
@@ -80,9 +81,9 @@ impl Support {
         Reply::Rooted
     }
 
-    /// A client registers a relation, unless it is refused. For want of memory, and only then, it
-    /// answers Memory, nothing changes and the message is not taken. Conditions: the client is
-    /// there, and this is its next message.
+    /// A client registers a relation between sinks, or is refused. It returns `Memory` if an
+    /// allocation fails; then nothing changes and the message is not taken. Conditions: the
+    /// client exists, and this is its next message.
     pub fn hierarchy(&mut self, alloc: Global, c: u32) -> Result<Reply, Memory>
         requires some { 1 ≤ c }
         requires known { c ≤ length self.old.clients }
@@ -106,9 +107,9 @@ impl Support {
         Ok(reply)
     }
 
-    /// A client takes the begin-frame that stands untaken. Where none does, it is told that it is
-    /// over, or it waits and its message is not taken. Conditions: the client is there, and this is
-    /// its next message.
+    /// A client takes its pending begin-frame. If none is pending, the reply is Over if the Over
+    /// mark is set; otherwise it is NotYet and the message is not taken. Conditions: the client
+    /// exists, and this is its next message.
     pub fn await_begin(&mut self, c: u32) -> Reply
         requires some { 1 ≤ c }
         requires known { c ≤ length self.old.clients }

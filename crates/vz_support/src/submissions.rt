@@ -1,5 +1,5 @@
-//! Submissions: each is taken by value, and accepted, given back or refused; and what is asked of
-//! the blocks that it lists and of the clients that it depends on.
+//! Submissions. Each is taken by value, and then accepted, put back or refused. Also questions
+//! about the blocks that a submission lists and the clients that it depends on.
 ghost use Rattle.std.specs.Prelude.{◌≡◌, ◌≤◌, ◌&&◌, length, IfOk};
 ghost use Rattle.std.specs.List.{list_any};
 ghost use Rattle.vz_ids.specs.declared.LocalSurfaceId.{LocalSurfaceId as Local};
@@ -22,8 +22,9 @@ use vz_ids::{FrameSinkId, LocalSurfaceId};
 use vz_pixels::PixelBlock;
 
 impl Support {
-    /// Takes a submission by value: its surface and its frame. If it is refused, this is all that
-    /// changes. Conditions: the client is there, and this is its next message.
+    /// Takes a submission by value and returns its local surface id and its frame. If the
+    /// submission is refused, nothing else changes. Conditions: the client exists, and this is
+    /// its next message.
     pub fn take_submission(&mut self, c: u32) -> (LocalSurfaceId, CompositorFrame)
         requires some { 1 ≤ c }
         requires known { c ≤ length self.old.clients }
@@ -43,8 +44,8 @@ impl Support {
         (local, frame)
     }
 
-    /// A submission that was taken is accepted: its answer to a begin-frame is noted. Conditions:
-    /// the client is there.
+    /// Accepts a submission that was taken: notes which begin-frame it answers (`ack`).
+    /// Condition: the client exists.
     pub fn accept(&mut self, c: u32, ack: u32)
         requires some { 1 ≤ c }
         requires known { c ≤ length self.old.clients }
@@ -56,8 +57,8 @@ impl Support {
         note(&mut self.clients, c, self.tick, ack);
     }
 
-    /// A submission that was taken is the client's next message again. Conditions: the client is
-    /// there, and its submission was taken.
+    /// Puts a submission that was taken back as the client's next message. Conditions: the client
+    /// exists, and its submission was taken.
     pub fn put_back(&mut self, c: u32, local: LocalSurfaceId, frame: CompositorFrame)
         requires some { 1 ≤ c }
         requires known { c ≤ length self.old.clients }
@@ -69,8 +70,8 @@ impl Support {
         self.clients.put_back(c, Message::Submit { local, frame });
     }
 
-    /// Whether a client stored no block of its size for one of some listings. Condition: the client
-    /// is there.
+    /// Whether, for one of some listings, the client stored no block of its size. Condition: the
+    /// client exists.
     pub fn is_unknown(&self, c: u32, listings: &[Listing]) -> bool
         requires some { 1 ≤ c }
         requires known { c ≤ length self.now.clients }
@@ -81,7 +82,7 @@ impl Support {
         !self.clients.knows_all(c, listings)
     }
 
-    /// Whether a closed client has this sink, so that nothing is waited for there.
+    /// Whether a closed client has this sink, so that dependencies on it are met.
     pub fn is_gone(&self, sink: &FrameSinkId) -> bool
         ensures { (p : Plan) (w : World) → KeepsClients w.clients → IsSupport p w self.now
             → result ≡ list_any (λ (x : Client). x.closed && same_sink x.sink sink.now) w.clients }
@@ -89,8 +90,8 @@ impl Support {
         self.clients.is_gone(sink)
     }
 
-    /// The block that each of some listings names, in their order. No pixel is copied. Memory is
-    /// the only error. Condition: the client is there.
+    /// The pixel blocks of these listings, in their order. They are shared: no pixel is copied.
+    /// The only error is `Memory`, if an allocation fails. Condition: the client exists.
     pub fn blocks(
         &self,
         alloc: Global,

@@ -1,11 +1,11 @@
-//! What is kept for the clients.
+//! What is kept for clients.
 use std::marker::Model;
 use vz_clients::Clients;
 use vz_ids::SurfaceId;
 use vz_sinks::Sinks;
 
-/// What is kept for the clients: what they have still to send, their sinks with the begin-frames
-/// that stand untaken, the tick, the root, and whether it is over.
+/// What is kept for clients: the messages that they have still to send, their sinks with the
+/// pending begin-frames, the tick, the root surface, and whether the Over mark is set.
 #[derive(Drop)]
 pub struct Support {
     pub(crate) clients: Clients,

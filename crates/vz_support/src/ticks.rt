@@ -10,7 +10,7 @@ ghost use Rattle.vz_support.specs.Supporting.{IsSupport};
 use crate::support::Support;
 use vz_base::limits::LAST_TICK;
 
-/// The tick that follows. Condition: it is not beyond the last one.
+/// The next tick. Condition: this one is not after the last one.
 fn next_tick(tick: u32) -> u32
     requires { tick ≤ last }
     ensures value { result ≡ next_tick tick }
@@ -20,8 +20,8 @@ fn next_tick(tick: u32) -> u32
 }
 
 impl Support {
-    /// A begin-frame: the tick goes on, and is delivered to each attached client that is not
-    /// closed. It answers the tick.
+    /// Begins a frame: the tick rises by one and is delivered to each client that is attached and
+    /// not closed. Returns the new tick.
     pub fn begin(&mut self) -> u32
         ensures reply { (p : Plan) (w : World) → IsSupport p w self.old
             → (begin_answer p w).reply ≡ Ticked result }
@@ -33,7 +33,7 @@ impl Support {
         self.tick
     }
 
-    /// It is over: no begin-frame is waited for from now on.
+    /// Sets the Over mark: no client will wait for a begin-frame any more.
     pub fn over(&mut self)
         ensures { (p : Plan) (w : World) → IsSupport p w self.old
             → IsSupport p (record w { over = true }) self.new }

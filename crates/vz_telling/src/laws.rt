@@ -1,4 +1,4 @@
-//! Laws of what is told of damages, each the contract of a function that does nothing.
+//! Laws of what is reported of damage: each is the contract of a function with an empty body.
 ghost use Rattle.std.specs.Prelude.{◌≡◌, ℕ, ◌+◌, Some, None, is_some, [], List, count_by, IsTrue, IsFalse};
 ghost use Rattle.std.specs.List.{Contains};
 ghost use Rattle.std.specs.Option.{option_map};
@@ -35,14 +35,13 @@ ghost use Rattle.vz_telling.specs.Changing.{IsAllowed, Draws, drawn_reply};
 use vz_damage::laws::measured_damages_are_drawn;
 use vz_surfaces::laws::{stores_stay, stores_tell};
 
-/// Where nothing is told and nothing is remembered, this stands for the state before the first
-/// step.
+/// If nothing was reported and there was no aggregation, the table agrees with the opening state.
 pub fn damages_open()
     ensures { (p : Plan) (d : Damaged) → d.surfaces ≡ [] → d.last ≡ None → AreTold (opening p) d }
 {}
 
-/// What is told stays where the machine's state names, gives back or feeds, where a frame begins,
-/// where the drawn one is done, and where it is over.
+/// The table still agrees after naming, the return of resources, feedback, a begin-frame, the end
+/// of the drawn frame and the Over mark.
 pub fn damages_stay()
     ensures naming { (w : World) (d : Damaged) → AreTold w d → AreTold (naming w) d }
     ensures returns { (w : World) (d : Damaged) → AreTold w d → AreTold (give_back w) d }
@@ -58,9 +57,9 @@ pub fn damages_stay()
     stores_tell();
 }
 
-/// What is told stays where a client took a message that submits nothing: where it alone changes,
-/// as where it is refused, reclaims or produced nothing, and where it uploads, relates sinks, names
-/// the root, awaits a frame or closes.
+/// The table still agrees after each message but a submission: one that changes only its client
+/// (as a refused one, a reclaim or an answer without a frame), an upload, a relation of sinks,
+/// the name of the root, a wait for a begin-frame, and a close.
 pub fn damages_stay_in_messages()
     ensures clients { (f : Client → Client) (c : Client) (w : World) (d : Damaged)
         → AreTold w d → AreTold (taking f c w) d }
@@ -79,8 +78,8 @@ pub fn damages_stay_in_messages()
     stores_tell();
 }
 
-/// Where a submission is accepted, the damage of its frame is told of its surface. Its index, which
-/// is also the one that a store answers, is the next one there.
+/// When a submission is accepted, the damage of its frame is to be reported for its surface. Its
+/// index, which the store returns too, is the next one there.
 pub fn damages_arrive()
     ensures told { (w : World) (c : Client) (local : LocalSurfaceId) (frame : CompositorFrame)
         (old new : Damaged) → KeepsAlways w → IsAllowed w c local frame → AreTold w old
@@ -99,7 +98,8 @@ pub fn damages_arrive()
         ≡ next_index (told_on d.surfaces (id_of c local)) }
 {}
 
-/// Where a submission that waits becomes active, the last one that was told of its surface does.
+/// When a waiting submission becomes active, it is the last one that was reported for its
+/// surface.
 pub fn damages_rise()
     ensures { (w : World) (s : Submission) (old new : Damaged) → KeepsAlways w
         → Contains w.subs s → IsTrue (is_waiting s) → AreTold w old
@@ -110,7 +110,7 @@ pub fn damages_rise()
         → new.last ≡ old.last → AreTold (rising s w) new }
 {}
 
-/// Where a surface is destroyed, nothing is told of it from then on.
+/// When a surface is destroyed, it is to be removed from the table.
 pub fn damages_go()
     ensures { (w : World) (c : Created) (old new : Damaged) → AreTold w old
         → told_on new.surfaces c.id ≡ None
@@ -119,8 +119,8 @@ pub fn damages_go()
         → new.last ≡ old.last → AreTold (going c w) new }
 {}
 
-/// What can be seen of the machine's state, and the walk through it, are those of a store that
-/// stands for it.
+/// What can be seen of the machine's state, and the walk through it, are those of the store of
+/// that state.
 pub fn scenes_are_stored()
     ensures rootless { (w : World) → w.root ≡ None → scene_of w ≡ None }
     ensures nothing { (w : World) (root : SurfaceId) → KeepsAlways w → w.root ≡ Some root
@@ -134,8 +134,8 @@ pub fn scenes_are_stored()
     stores_tell();
 }
 
-/// What is told is what `measured_damages_are_drawn` asks for, and where a drawing walks, what
-/// `measure` tells of a store that stands for the machine's state is what is answered.
+/// A table that agrees meets the condition of `measured_damages_are_drawn`. If a draw walks, what
+/// `measure` finds in the store of the state decides the reply.
 pub fn damages_tell()
     ensures last { (w : World) (d : Damaged) → KeepsAlways w → AreTold w d
         → TellsLast w d.surfaces }
@@ -147,8 +147,8 @@ pub fn damages_tell()
     measured_damages_are_drawn();
 }
 
-/// Where a drawing walks, what `remember` leaves stands for the state that is left; where none
-/// does, what is told stays.
+/// If a draw walks, the table after `remember` agrees with the state after the draw. If none
+/// walks, the table still agrees as it is.
 pub fn damages_are_seen()
     ensures drawn { (p : Plan) (w : World) (root : SurfaceId) (old new : Damaged) → KeepsAlways w
         → Draws p w root → AreTold w old

@@ -1,4 +1,4 @@
-//! Two visitors of one walk.
+//! Two visitors that go along on one walk.
 ghost use Rattle.std.specs.Prelude.{◌≡◌, false};
 
 use crate::place::Place;
@@ -7,20 +7,20 @@ use vz_geom::Rect;
 use vz_ids::SurfaceRange;
 use vz_surfaces::Seen;
 
-/// Two visitors of one walk: each visit is told to the first, and then to the second. It stops
-/// where one of them stops.
+/// Two visitors that go along on one walk: each visit is reported to the first, and then to the
+/// second. The walk stops as soon as one of them stops it.
 #[derive(Drop)]
 pub struct Both<A, B> {
     /// The first one.
     pub first: A,
     /// The second one.
     pub second: B,
-    /// Whether it was the first one that stopped.
+    /// Whether it was the first visitor that stopped the walk.
     pub first_stopped: bool,
 }
 
 impl<A, B> Both<A, B> {
-    /// The two of them. Neither of them stopped.
+    /// Joins two visitors, neither of which has stopped the walk.
     pub fn new(first: A, second: B) -> Both<A, B>
         ensures { result ≡ record { first = first; second = second; first_stopped = false } }
     {

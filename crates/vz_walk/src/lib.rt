@@ -1,7 +1,8 @@
-//! The walk over a store, quad by quad, and the places that it comes to.
+//! The walk over a store, quad by quad, and the places of passes and surfaces on the display.
 //!
-//! The walk starts at the root pass of the root and meets each quad, with repetition. It goes into
-//! the pass or the surface that a quad draws, unless that surface is on the path.
+//! The walk starts at the root pass of the root surface and visits each quad as often as it is
+//! drawn. It enters the pass or the surface that a quad draws, unless that surface is on the
+//! path.
 #![tactic(auto)]
 
 mod both;

@@ -1,4 +1,4 @@
-//! The surfaces that a walk went through.
+//! The surfaces that a walk is inside of.
 ghost use Rattle.std.specs.Prelude.{◌≡◌};
 ghost use Rattle.std.specs.List.{list_any};
 ghost use Rattle.vz_ids.specs.Ids.{same_surface};
@@ -6,12 +6,12 @@ ghost use Rattle.vz_walk.specs.Walking.{ids};
 
 use vz_ids::SurfaceId;
 
-/// A path through surfaces. It stands on the stack of those that go along it.
+/// A path through surfaces. It is on the call stack of the functions that walk.
 #[derive(Drop)]
 pub enum Path<'p> {
-    /// No surface.
+    /// The empty path.
     Start,
-    /// A surface, and those before it.
+    /// A path that goes on into a surface.
     Behind {
         /// The surface.
         id: SurfaceId,

@@ -1,4 +1,4 @@
-//! Where the walk stands on the display.
+//! Where the walk is on the display.
 ghost use Rattle.std.specs.Prelude.{◌≡◌};
 ghost use Rattle.vz_geom.specs.Rectangle.{plus, minus, corner, meet, moved, sized, no_rectangle};
 ghost use Rattle.vz_geom.specs.Rectangle.{IsOffset};
@@ -11,8 +11,8 @@ use std::marker::Model;
 use vz_frame::{DrawQuad, RenderPass};
 use vz_geom::{Point, Rect, Size};
 
-/// Where a pass or a surface stands: what moves a point of it to the display, and the part of the
-/// display that the path leaves.
+/// Where a pass or a surface is on the display: the offset from its points to display pixels, and
+/// the part of the display that the clips on the path leave.
 #[derive(Clone, Copy)]
 pub struct Place {
     shift: Point,
@@ -29,7 +29,7 @@ impl Model for Place {
     ghost inverse = { λ p. record { shift = p.shift; window = p.window } };
 }
 
-/// The rectangle without a point.
+/// The empty rectangle.
 #[tactic(auto, unfolding(vz_geom::specs::Rectangle::with_sides))]
 pub fn nothing() -> Rect
     ensures { result ≡ no_rectangle }
@@ -37,7 +37,7 @@ pub fn nothing() -> Rect
     Rect::new(0, 0, 0, 0)
 }
 
-/// The rectangle of the display. Condition: the size is a display's.
+/// The rectangle of the display. Condition: the size is that of a display.
 pub fn display_rect(size: Size) -> Rect
     requires { IsDisplaySize size }
     ensures { result ≡ sized size }
@@ -57,14 +57,15 @@ fn plus(p: Point, by: Point) -> Point
     }
 }
 
-/// The first point of a rectangle.
+/// The top left point of a rectangle.
 fn corner(r: &Rect) -> Point
     ensures { result ≡ corner r.now }
 {
     Point { x: r.x(), y: r.y() }
 }
 
-/// A rectangle moved by an offset. Conditions: it is in reach, and so is the offset.
+/// A rectangle moved by an offset. Conditions: the rectangle and the offset are within the
+/// limits.
 pub fn moved(r: &Rect, by: Point) -> Rect
     requires reach { IsInReach r.now }
     requires room { HasRoom 0 by }
@@ -73,8 +74,8 @@ pub fn moved(r: &Rect, by: Point) -> Rect
     r.translate(by)
 }
 
-/// A rectangle inside the clip, where there is one. Conditions: the clip is in reach, and so
-/// is the offset by which it is moved.
+/// The part of a rectangle inside the clip, if there is a clip. Conditions: the clip and the
+/// offset by which it is moved are within the limits.
 fn cut(clip: &Option<Rect>, shift: Point, r: Rect) -> Rect
     requires reach { IsClipInReach clip.now }
     requires room { HasRoom 0 shift }
@@ -87,7 +88,7 @@ fn cut(clip: &Option<Rect>, shift: Point, r: Rect) -> Rect
 }
 
 impl Place {
-    /// The place of the root on the display. Condition: the size is a display's.
+    /// The place of the root on the display. Condition: the size is that of a display.
     pub fn whole(size: Size) -> Place
         requires { IsDisplaySize size }
         ensures { result ≡ whole size }
@@ -98,22 +99,22 @@ impl Place {
         }
     }
 
-    /// What moves a point of it to the display.
+    /// The offset from its points to display pixels.
     pub fn shift(&self) -> Point
         ensures { result ≡ self.now.shift }
     {
         self.shift
     }
 
-    /// The part of the display that the path leaves.
+    /// The part of the display, in pixels, that the clips on the path leave. It may be empty.
     pub fn window(&self) -> Rect
         ensures { result ≡ self.now.window }
     {
         self.window
     }
 
-    /// The part of the display in which a quad is seen. Conditions: the pass and the quad are in
-    /// reach, and the place has room for the quad's offset.
+    /// The part of the display in which a quad is visible. It may be empty. Conditions: the pass
+    /// and the quad are within the limits, and the place has room for the quad's offset.
     #[tactic(auto, unfolding(vz_rules::specs::Walk::seen_part))]
     pub fn seen_part(&self, pass: &RenderPass, quad: &DrawQuad) -> Rect
         requires pass { IsPassInReach pass.now }
@@ -128,8 +129,8 @@ impl Place {
         window.intersect(&part)
     }
 
-    /// The place of what a quad draws. Conditions: the pass and the quad are in reach, and the
-    /// place has room for the quad's offset and the first point of its rectangle.
+    /// The place of what a quad draws. Conditions: the pass and the quad are within the limits,
+    /// and the place has room for the quad's offset and the top left point of its rectangle.
     pub fn place_in(&self, pass: &RenderPass, quad: &DrawQuad) -> Place
         requires pass { IsPassInReach pass.now }
         requires quad { IsQuadInReach quad.now }
@@ -143,8 +144,8 @@ impl Place {
         }
     }
 
-    /// The place counted from the first point of a pass. Conditions: the pass is in reach, and
-    /// the place has room for its first point.
+    /// The place of the top left point of a pass. Conditions: the pass is within the limits, and
+    /// the place has room for that point.
     pub fn inside(&self, pass: &RenderPass) -> Place
         requires pass { IsPassInReach pass.now }
         requires room { HasRoom (coordinates 1) self.now.shift }
@@ -157,7 +158,7 @@ impl Place {
         }
     }
 
-    /// The place in a part of the display alone.
+    /// The same place, with its window cut to a part of the display.
     pub fn within(&self, part: &Rect) -> Place
         ensures { result ≡ record self.now { window = meet self.now.window part.now } }
     {

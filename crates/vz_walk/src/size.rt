@@ -9,7 +9,7 @@ use crate::place::nothing;
 use vz_frame::CompositorFrame;
 use vz_geom::Rect;
 
-/// A rectangle of the same sides at the origin. Condition: it is one of a frame that fits.
+/// A rectangle of this size at the origin. Condition: it is one of a frame that fits a file.
 fn at_origin(r: &Rect) -> Rect
     requires { IsTrue (fits_rect r.now) }
     ensures { result ≡ sized (record { w = r.now.w; h = r.now.h }) }
@@ -17,7 +17,7 @@ fn at_origin(r: &Rect) -> Rect
     Rect::new(0, 0, r.w(), r.h())
 }
 
-/// The rectangle of the size of a frame. Condition: it fits a message file.
+/// The rectangle of a frame's size, at the origin. Condition: the frame fits a message file.
 pub fn frame_rect(frame: &CompositorFrame) -> Rect
     requires { FitsFile frame.now }
     ensures { result ≡ sized (frame_size frame.now) }
@@ -28,7 +28,8 @@ pub fn frame_rect(frame: &CompositorFrame) -> Rect
     }
 }
 
-/// The part of a rectangle that is inside a frame's size. Condition: the frame fits a message file.
+/// The part of a rectangle that is inside a frame's size. It may be empty. Condition: the frame
+/// fits a message file.
 pub fn inside_frame(frame: &CompositorFrame, r: &Rect) -> Rect
     requires { FitsFile frame.now }
     ensures value { result ≡ meet (sized (frame_size frame.now)) r.now }

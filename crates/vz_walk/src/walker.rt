@@ -1,4 +1,4 @@
-//! The walk over a store, quad by quad, along the definitions.
+//! The walk over a store, quad by quad, as the definitions say.
 ghost use Rattle.std.specs.Prelude.{◌≡◌, ◌<◌, ◌+◌, length, Some};
 ghost use Rattle.vz_geom.specs.Display.{IsDisplaySize};
 ghost use Rattle.vz_rules.specs.Walk.{walk};
@@ -22,10 +22,10 @@ use vz_geom::Size;
 use vz_ids::{SurfaceId, SurfaceRange};
 use vz_surfaces::{NamedFrame, Seen, Store};
 
-/// How many surfaces deep the walk goes: one more than is not too much.
+/// How many surfaces deep the walk goes: one more than the limit allows.
 const LEVELS: u32 = MOST_ON_PATH as u32 + 1;
 
-/// Where a walk stands: in a frame, behind the surfaces of a path and with so many surfaces left.
+/// Where a walk is: in a frame, with the surfaces on the path and how many more it may have.
 #[derive(Drop)]
 struct Walker<'b, 's> {
     store: &'b Store,
@@ -50,9 +50,10 @@ impl<'b, 's> Model for Walker<'b, 's> {
     ghost invariant = { λ w. IsStanding w.store.now w.levels (ids w.path.now) w.frame.now };
 }
 
-/// The walk in a surface, behind the surfaces of a path and with so many surfaces left.
-/// Conditions: what always holds is kept, no surface too many is on the path or left, the frame
-/// fits, and the place has room for the passes of all surfaces that are left.
+/// The walk in a surface, given the surfaces on the path and how many more it may have.
+/// Conditions: the store keeps its invariants, the path and what is left of it are within the
+/// limit, the frame fits a message file, and the place has room for the passes of all surfaces
+/// that are left.
 #[cycle(walk)]
 fn surface<V: Visitor>(
     store: &Store,
@@ -92,8 +93,8 @@ fn surface<V: Visitor>(
 }
 
 impl<'b, 's> Walker<'b, 's> {
-    /// The walk in the pass at a place of the frame. Conditions: it is there, and the place has
-    /// room for it, those before it and all surfaces that are left.
+    /// The walk in one pass of the frame. Conditions: the pass exists, and the place has room for
+    /// it, those before it and all surfaces that are left.
     #[cycle(walk)]
     fn pass<V: Visitor>(&self, k: usize, place: &Place, visitor: &mut V) -> bool
         requires there { k < length self.now.frame.passes }
@@ -112,9 +113,9 @@ impl<'b, 's> Walker<'b, 's> {
         true
     }
 
-    /// A quad of the pass at a place, and the walk in what it draws. Conditions: the pass is
-    /// there, it and the quad are in reach, this is where the quad's name leads, and the place has
-    /// room as for the pass.
+    /// A quad of a pass, and the walk in what it draws. Conditions: the pass exists, the pass and
+    /// the quad are within the limits, `leads_to` is where the quad's name leads, and the place
+    /// has room as for the pass.
     #[cycle(walk)]
     fn quad<V: Visitor>(
         &self,
@@ -149,8 +150,8 @@ impl<'b, 's> Walker<'b, 's> {
         }
     }
 
-    /// The walk in the pass at a place of the frame, seen as a group. Conditions: it is there, and
-    /// the group's place has room for it, those before it and all surfaces that are left.
+    /// The walk in an earlier pass that a quad draws. Conditions: the pass exists, and its place
+    /// has room for it, those before it and all surfaces that are left.
     #[cycle(walk)]
     fn group<V: Visitor>(&self, k: usize, place: &Place, visitor: &mut V) -> bool
         requires there { k < length self.now.frame.passes }
@@ -181,8 +182,8 @@ impl<'b, 's> Walker<'b, 's> {
         }
     }
 
-    /// The walk into a surface that a range shows, unless it is on the path. Conditions: its frame
-    /// fits, and the place has room for all surfaces that are left.
+    /// The walk in a shown surface, unless it is on the path. Conditions: its frame fits a
+    /// message file, and the place has room for all surfaces that are left.
     #[cycle(walk)]
     fn shown<V: Visitor>(&self, seen: &Seen<'_>, place: &Place, visitor: &mut V) -> bool
         requires fits { FitsFile seen.now.frame }
@@ -200,9 +201,10 @@ impl<'b, 's> Walker<'b, 's> {
     }
 }
 
-/// Walks from the root pass of the root, and tells a visitor of each visit, in order. It takes no
-/// memory. The answer is whether it went to its end; where not, the visitor stopped it.
-/// Conditions: what always holds is kept, the frames fit, and the size is a display's.
+/// Walks from the root pass of the root surface, and reports each visit to the visitor, in order.
+/// It allocates nothing. Returns true if the walk went to its end, and false if the visitor
+/// stopped it. Conditions: the store keeps its invariants, the frames fit message files, and the
+/// size is that of a display.
 pub fn walk<V: Visitor>(store: &Store, root: &SurfaceId, size: Size, visitor: &mut V) -> bool
     requires keeps { KeepsStored store.now }
     requires frames { KeepsFrames store.now }

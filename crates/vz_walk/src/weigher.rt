@@ -13,15 +13,15 @@ use vz_geom::{Rect, Size};
 use vz_ids::{SurfaceId, SurfaceRange};
 use vz_surfaces::{Seen, Store};
 
-/// Counts quads, and stops where they or the surfaces of a path are too many: exactly where more
-/// than `MOST_WEIGHT` are met, or a path has more than `MOST_ON_PATH` surfaces.
+/// A visitor that counts quads and stops the walk at the limit: exactly if more than
+/// `MOST_WEIGHT` quads are visited, or a path has more than `MOST_ON_PATH` surfaces.
 #[derive(Drop)]
 pub struct Weigher {
     quads: u32,
 }
 
 impl Weigher {
-    /// No quad was met.
+    /// Creates a weigher that has met no quad.
     pub fn new() -> Weigher
         ensures { result ≡ record { quads = 0 } }
     {
@@ -53,12 +53,13 @@ impl Visitor for Weigher {
     }
 }
 
-/// The weight of what is on the root: how many quads a walk from it meets, with repetition, on a
-/// display of any size. None is the answer exactly where more than `MOST_WEIGHT` are met, or a
-/// path has more than `MOST_ON_PATH` surfaces. It takes no memory. Conditions: what always holds
-/// is kept, and the frames fit.
+/// The weight of the scene below a root surface: how many quads a walk from it visits, each as
+/// often as it is drawn. It does not depend on the size of the display. It is None exactly if
+/// more than `MOST_WEIGHT` are visited or a path has more than `MOST_ON_PATH` surfaces. It
+/// allocates nothing. Conditions: the store keeps its invariants, and the frames fit message
+/// files.
 ///
-/// A drawing asks for it with what changed, in one walk.
+/// A draw computes the weight and the damage in one walk.
 pub fn weight(store: &Store, root: &SurfaceId) -> Option<u32>
     requires keeps { KeepsStored store.now }
     requires frames { KeepsFrames store.now }
