@@ -44,7 +44,7 @@ impl Blocks {
         self.blocks.insert(id, block).unwrap();
     }
 
-    /// The block that an id names.
+    /// The block that is stored under an id, or None.
     pub(crate) fn get(&self, id: u32) -> Option<&PixelBlock>
         ensures { option_copied result ≡ block_in self.now.blocks.entries id }
     {

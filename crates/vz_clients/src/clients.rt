@@ -176,8 +176,8 @@ impl Clients {
     }
 
     /// The blocks that a client stored for these listings, in their order. They are shared: no
-    /// pixel is copied. A listing without a stored block has none in the answer. Condition: the
-    /// client exists.
+    /// pixel is copied. A listing without a stored block adds none. The only error is `Memory`,
+    /// if an allocation fails. Condition: the client exists.
     pub fn blocks(
         &self,
         alloc: Global,

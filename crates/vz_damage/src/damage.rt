@@ -290,8 +290,8 @@ impl Damage {
         Ok(found)
     }
 
-    /// Notes an aggregation that was measured so, whether anything changed and was drawn or not.
-    /// It is the last aggregation from now on. It allocates nothing.
+    /// Notes an aggregation that `measure` measured: it is the last aggregation from now on,
+    /// whether anything changed and was drawn or not. It allocates nothing.
     pub fn remember(&mut self, measured: Measured)
         ensures last { self.new.last ≡ Some measured.kept }
         ensures told { (id : Surface) → told_on self.new.surfaces id

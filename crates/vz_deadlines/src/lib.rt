@@ -1,5 +1,6 @@
 //! The deadlines of submissions that wait: the tick at which each becomes active even if it lacks
-//! a dependency.
+//! a dependency, after Chromium's `SurfaceDependencyDeadline`. A tick is the number of a
+//! begin-frame.
 #![tactic(auto)]
 
 mod deadlines;

@@ -1,5 +1,5 @@
-//! The submissions that lack nothing any more are released, in the order in which they were
-//! blocked.
+//! The release of the submissions that have no unmet dependency any more, in the order in which
+//! they were blocked.
 ghost use Rattle.std.specs.Prelude.{◌≡◌, ◌≤◌, ◌<◌, ◌+◌, ◌++◌, ℕ, not, nat_eq, IsTrue, Some, None, [], option_to_list, length, map, filter, cond, vec_capacity};
 ghost use Rattle.std.specs.Map.{lookup};
 ghost use Rattle.indexmap.specs.IndexMap.{spare as spare_of};
@@ -13,8 +13,8 @@ use indexmap::IndexMap;
 use vz_frame::Room;
 use vz_ids::Sub;
 
-/// Appends the submissions that lack nothing any more, in the order in which they were blocked,
-/// and removes them. Condition: there is room for all that are blocked.
+/// Appends the submissions that have no unmet dependency any more, in the order in which they
+/// were blocked, and removes them. Condition: there is room for all that are blocked.
 pub(crate) fn release(
     subs: &mut IndexMap<u64, Sub>,
     numbers: &mut IndexMap<Sub, u64>,

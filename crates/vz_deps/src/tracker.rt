@@ -18,8 +18,9 @@ use vz_base::Memory;
 use vz_frame::Room;
 use vz_ids::{FrameSinkId, Sub, SurfaceId};
 
-/// The submissions that are blocked, each by its unmet dependencies. Contracts see them in the
-/// order in which they were blocked, and the room that was reserved before.
+/// The submissions that are blocked, each by its unmet dependencies, after Chromium's
+/// `SurfaceDependencyTracker`. Contracts see them in the order in which they were blocked, and
+/// the room that was reserved before.
 ///
 /// Each has a number, which rises with each that is blocked. The dependencies are in bunches, one
 /// for each group of surfaces, so that a surface that becomes active costs a look at one bunch

@@ -9,7 +9,7 @@ use vz_ids::Sub;
 pub struct Ended {
     /// Its client and ordinal.
     pub sub: Sub,
-    /// Whether it is in the drawn frame, so that it gets `presented` when that frame is done.
+    /// Whether it is in the drawn frame, so that it is presented when that frame is done.
     pub in_flight: bool,
 }
 

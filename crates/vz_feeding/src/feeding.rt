@@ -125,8 +125,8 @@ impl Feeding {
         self.note(dropped_by(past), false);
     }
 
-    /// Notes that a surface is destroyed, so that its waiting and its active submission, if there
-    /// are such, are dropped.
+    /// Notes that a surface is destroyed: its waiting and its active submission, if it has them,
+    /// are dropped.
     pub fn destroy(&mut self, waiting: Option<Ended>, active: Option<Ended>)
         ensures owed { (w : World) (c : Created) → KeepsAlways w → AreOwed w self.old.owed
             → waiting ≡ option_map (ended_of w) (waiting_on w c.id)

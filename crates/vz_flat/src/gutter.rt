@@ -49,7 +49,7 @@ fn right_of(outer: &Rect, inner: &Rect) -> Rect
     Rect::new(x, inner.y(), outer.right() - x, inner.h())
 }
 
-/// Appends a fill of a part with a colour, by the mode over.
+/// Appends a fill of a part with a colour, by the mode `Over`.
 fn fill_part(ops: &mut Vec<Op>, part: Rect, color: Pixel) -> Result<(), Memory>
     ensures { OnOk result (ops.new.items ≡ ops.old.items ++ part_flat color part) }
 {
@@ -69,7 +69,7 @@ fn fill_part(ops: &mut Vec<Op>, part: Rect, color: Pixel) -> Result<(), Memory>
 }
 
 /// Appends fills of the outer rectangle, except for the inner one, with a colour by the mode
-/// over. Condition: the inner rectangle has no point outside the outer one.
+/// `Over`. Condition: the inner rectangle has no point outside the outer one.
 #[tactic(auto, unfolding(crate::specs::Gutters::parts_round))]
 pub(crate) fn fill_round(
     ops: &mut Vec<Op>,

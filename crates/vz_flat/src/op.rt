@@ -26,8 +26,8 @@ pub enum Op {
         /// How the colour is blended with the pixels below it.
         blend: Blend,
     },
-    /// Draws texels of a block: the texel `(tx, ty)` at the top left pixel of the area, and the
-    /// others at the same distance from it.
+    /// Draws texels of a block: the texel `(tx, ty)` at the top left pixel of the area, and at
+    /// each other pixel the texel as far from it, in columns and rows.
     Blit {
         /// The pixels that it changes.
         area: Rect,

@@ -36,7 +36,7 @@ pub(crate) fn present_place(range: &SurfaceRange, seen: &Seen<'_>, place: &Place
     }
 }
 
-/// Whether a colour is drawn directly: with the mode over and full opacity.
+/// Whether a colour is drawn directly: with the mode `Over` and full opacity.
 pub(crate) fn is_straight(mode: Blend, opacity: u8) -> bool
     ensures { result ≡ is_straight mode opacity }
 {

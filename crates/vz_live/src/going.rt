@@ -17,7 +17,7 @@ use vz_surfaces::Gone;
 impl LiveSurfaces {
     /// Destroys a surface: its waiting and its active submission end, and what they held is
     /// released. Returns what ended. It allocates nothing. Conditions: the surface exists and is
-    /// not temporary, and names are noted.
+    /// not temporary, and each surface that an active frame names is noted as named.
     pub fn go(&mut self, id: &SurfaceId) -> Gone
         requires goes { (w : World) × (c : Created) × IsGoing w c id.now self.old }
         ensures live { (w : World) (c : Created) → IsGoing w c id.now self.old

@@ -50,7 +50,8 @@ impl LiveSurfaces {
     }
 
     /// Makes a new surface temporary until a tick, unless a range that is set names it. It
-    /// allocates nothing. Conditions: there is room for one, and names are noted.
+    /// allocates nothing. Conditions: there is room for one, and each surface that an active
+    /// frame names is noted as named.
     pub fn keep(&mut self, id: SurfaceId, until: u32)
         requires room { 0 < self.old.kept.room }
         ensures live { (w : World) (c : Created) → KeepsAlways w → AreLive w (Some id) self.old

@@ -1,5 +1,5 @@
-//! The incremental machine that `run` and `step` use: the parts that each keep a piece of the
-//! machine's state, and the steps over them. A step's cost grows with what it touches, and a
+//! The incremental machine that `run`, `step` and `demo` use: the parts that each keep a piece of
+//! the machine's state, and the steps over them. A step's cost grows with what it touches, and a
 //! draw's cost with what is on the display.
 //!
 //! All room of a step is reserved before its first change: if an allocation fails, the step

@@ -69,9 +69,9 @@ fn may_lose(anew: bool, ready: &[Sub]) -> bool
     anew || !ready.is_empty()
 }
 
-/// Destroys each marked surface that is not reached, and reports it. If this is not asked for, it
-/// does nothing. Conditions: names are noted, there is room for the report, and it is asked for
-/// whenever a surface is lost.
+/// Destroys each marked surface that is not reached, and reports it, if this is asked for.
+/// Conditions: each surface that an active frame names is noted as named, there is room for the
+/// report, and it is asked for whenever a surface is lost.
 fn collect(
     settling: &mut Settling,
     root: Option<SurfaceId>,

@@ -27,8 +27,8 @@ fn one_more(n: usize) -> Result<usize, Memory>
     n.checked_add(1).ok_or(Memory)
 }
 
-/// One more than the number of surfaces that may be reached, if `risen` submissions become active
-/// and one surface is new.
+/// How many surfaces may be reached, plus one, if `risen` submissions become active and one
+/// surface is new. It is `Memory` if that does not fit a `usize`.
 fn reached(settling: &Settling, risen: usize) -> Result<usize, Memory>
     ensures { IfOk result (λ n. n ≡ length settling.now.live.kept.sets + risen
         + length settling.now.live.kept.temporary + 2) }

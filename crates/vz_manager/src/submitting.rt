@@ -94,9 +94,9 @@ fn put_in(
     }
 }
 
-/// Makes an accepted submission wait. If it lacks nothing or its deadline has come, it is ready
-/// at once and appended to `activated`. Conditions: it does not wait yet, and there is room for
-/// it.
+/// Makes an accepted submission wait. If it has no unmet dependency or its deadline has come, it
+/// is ready at once and appended to `activated`. Conditions: it does not wait yet, and there is
+/// room for it.
 fn wait(
     waiting: &mut Waiting,
     a: Arrival,

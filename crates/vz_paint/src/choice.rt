@@ -42,7 +42,7 @@ fn fate_of(op: &Op, part: &Rect, hidden: usize) -> Fate
     }
 }
 
-/// The fate of a group's begin.
+/// The fate of a group's start.
 fn begun(is_seen: bool, hidden: usize) -> Fate
     requires few { hidden + 1 < 2 ^ 64 }
     ensures seen { result.is_seen ≡ is_seen }

@@ -65,7 +65,7 @@ fn is_absent(range: &SurfaceRange, submitted: &SubmittedFrame<'_>, point: Point)
     !is_inside(submitted, point) && submitted.id() == range.end
 }
 
-/// Whether a colour is drawn directly: with the mode over and full opacity.
+/// Whether a colour is drawn directly: with the mode `Over` and full opacity.
 fn is_straight(mode: Blend, opacity: u8) -> bool
     ensures { result ≡ is_straight mode opacity }
 {

@@ -77,8 +77,9 @@ fn rows(
     Ok(colours)
 }
 
-/// The picture of these active frames and root, row by row from the top; all black if nothing can
-/// be seen. Condition: the size is that of a display.
+/// The picture of these active frames and root: a colour for each pixel, row by row from the top;
+/// all black if nothing can be seen. The only error is a failed allocation. Condition: the size
+/// is that of a display.
 pub fn picture(
     alloc: Global,
     active: &[SubmittedFrame<'_>],

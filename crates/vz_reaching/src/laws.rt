@@ -57,7 +57,8 @@ pub fn kept_ones_stay()
         → AreKept w but r → AreKept (feed presented w) but r }
 {}
 
-/// When names are noted, what is kept does not change, and a second time notes nothing more.
+/// When the surfaces that active frames name are noted as named, what is kept does not change,
+/// and a second time notes nothing more.
 pub fn names_are_noted()
     ensures kept { (w : World) (but : Option SurfaceId) (r : Referring) → AreKept w but r
         → AreKept (naming w) but r }
@@ -92,8 +93,8 @@ pub fn new_surfaces_follow()
         → AreKept (accepted w c local frame).world None r }
 {}
 
-/// After all that follows has become active and names are noted, a new surface becomes temporary,
-/// unless a range that is set names it.
+/// After all that follows has become active and the surfaces that active frames name are noted as
+/// named, a new surface becomes temporary, unless a range that is set names it.
 pub fn new_surfaces_last()
     ensures { (w : World) (c : Created) (r : Referring) → KeepsAlways w → naming w ≡ w
         → Contains w.surfaces c → c.born ≡ w.tick → c.destroyed ≡ false
@@ -103,8 +104,8 @@ pub fn new_surfaces_last()
         }) }
 {}
 
-/// After a surface that is not temporary is destroyed, no ranges are set for it. If names were
-/// noted before, they still are.
+/// After a surface that is not temporary is destroyed, no ranges are set for it. If the surfaces
+/// that active frames name were noted as named before, they still are.
 pub fn destroyed_surfaces_go()
     ensures { (w : World) (d : Created) (r : Referring) → naming w ≡ w
         → has_kept r.temporary d.id ≡ false → AreKept w None r
@@ -120,10 +121,11 @@ pub fn shown_ones_are_set()
         → (x : SurfaceRange) → IfSome (shows x) (λ id. IsTrue (is_set r.sets id)) }
 {}
 
-/// After names are noted, marking starts at the root, if it exists, and at the temporary
-/// surfaces. The list that `References::reachable` gives for them has exactly the surfaces that
-/// are reached. A marked surface that exists is lost exactly if it is not in that list (for each
-/// client in the order of creation), and no lost surface is temporary.
+/// After the surfaces that active frames name are noted as named, marking starts at the root, if
+/// it exists, and at the temporary surfaces. The list that `References::reachable` gives for them
+/// has exactly the surfaces that are reached. A marked surface that exists is lost exactly if it
+/// is not in that list (for each client in the order of creation), and no lost surface is
+/// temporary.
 pub fn roots_are_reached()
     ensures roots { (w : World) (r : Referring) → naming w ≡ w → AreKept w None r
         → AreRoots w (root_of w) r.temporary }

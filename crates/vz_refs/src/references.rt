@@ -32,7 +32,9 @@ pub trait Shows {
         ensures { result ≡ shows self.now r.now };
 }
 
-/// The ranges that are set for each surface, and the temporary surfaces.
+/// The ranges that active frames reference, for each surface, and the temporary references (here:
+/// the temporary surfaces). Chromium's `SurfaceManager` keeps the same two, to find the live
+/// surfaces.
 ///
 /// Contracts see `sets` (in the order of their first `set`), `temporary` (in the order of `keep`)
 /// and the room that was reserved before. The type also has a place for each surface of both, in

@@ -12,7 +12,7 @@ pub(crate) fn is_same(a: &SurfaceId, b: &SurfaceId) -> bool
     a == b
 }
 
-/// Whether one of them is this surface.
+/// Whether a list contains a surface.
 pub(crate) fn has_surface(surfaces: &[SurfaceId], surface: &SurfaceId) -> bool
     ensures { result ≡ list_any (same_surface surface.now) surfaces.now }
 {

@@ -92,7 +92,7 @@ impl Temporaries {
         Ok(())
     }
 
-    /// How many there are.
+    /// How many surfaces are temporary.
     pub(crate) fn len(&self) -> usize
         ensures { result ≡ length self.now.list }
     {

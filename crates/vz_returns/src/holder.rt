@@ -10,9 +10,13 @@ use vz_base::Memory;
 use vz_frame::Room;
 use vz_rules::Returned;
 
-/// The references that a client lent: for each resource how many were received since it was last
-/// returned and how many are alive, and the queue of returned resources that the client has not
-/// reclaimed yet.
+/// The references that a client lent, after Chromium's `SurfaceResourceHolder`: for each resource
+/// how many were received since it was last returned and how many are alive, and the queue of
+/// returned resources that the client has not reclaimed yet.
+///
+/// For example: two frames that list resource 7 are accepted, and `lend` is called for each. Two
+/// references are received and alive. After `release` was called for each, one return of resource
+/// 7 with the count 2 is in the queue.
 ///
 /// Contracts see the resources of which some reference is alive (by rising id), the queue, and
 /// the room that was reserved before. `lend` reserves the place of a resource's return in the

@@ -107,7 +107,7 @@ fn only_on<'b, 'a>(
     }
 }
 
-/// The frame that was found, if it is on a surface of the range's own group.
+/// The frame that was found, if it is in the range and in the group of its end.
 fn only_in<'b, 'a>(
     found: Option<&'b SubmittedFrame<'a>>,
     range: &SurfaceRange,

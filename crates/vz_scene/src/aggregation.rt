@@ -6,7 +6,7 @@ use std::marker::Model;
 use vz_ids::{SurfaceId, SurfaceRange};
 
 /// What the machine remembers of the last aggregation: the root, the number of each frame that
-/// was active, and the surface that each range shown in the walk led to.
+/// was active, and the surface that each range showed which the walk met, or None.
 #[derive(Drop)]
 pub struct Aggregation {
     pub(crate) root: SurfaceId,

@@ -144,8 +144,8 @@ fn claims(
     }
 }
 
-/// The damage of a draw: the smallest rectangle around all claims. Condition: the size is that of
-/// a display.
+/// The damage of a draw, in display pixels: the smallest rectangle around all claims. Condition:
+/// the size is that of a display.
 #[tactic(auto, unfolding(vz_rules::specs::Damage::drawn_damage))]
 pub fn drawn_damage(
     alloc: Global,

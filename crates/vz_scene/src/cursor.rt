@@ -94,7 +94,8 @@ fn is_on_path(path: &[SurfaceId], submitted: &SubmittedFrame<'_>) -> bool
 }
 
 /// The cursor for the root pass of a surface, with the surfaces on the path and how many more it
-/// may have. Condition: the place has room for the passes of all of them.
+/// may have. It is None if the path may have no more, or the frame has no pass. Condition: the
+/// place has room for the passes of all of them.
 pub(crate) fn enter<'b, 'a>(
     alloc: Global,
     levels: u32,

@@ -2,9 +2,11 @@
 //!
 //! A scene is the root surface and the active frames. The walk goes through it quad by quad, and
 //! stops if it passes the limit on weight or depth. Along the walk it claims what changed since
-//! the last aggregation. Each call returns what the definitions of `vz_rules` say. The active
-//! frames are kept by group and an aggregation is kept sorted, so that each item is found fast
-//! among many.
+//! the last aggregation. The active frames are kept by group and an aggregation is kept sorted,
+//! so that each item is found fast among many.
+//!
+//! Each call returns what the definitions of `vz_rules` say. The only error of a call is
+//! `AllocError`, if an allocation fails.
 #![tactic(auto)]
 
 mod active_frames;

@@ -72,7 +72,8 @@ impl Settling {
     /// temporary surface, and reports it, by client and then in the order of creation. If no
     /// surface is marked, nothing is searched. It allocates nothing.
     ///
-    /// Conditions: names are noted, and there is room for the report and the lists.
+    /// Conditions: each surface that an active frame names is noted as named, and there is room
+    /// for the report and the lists.
     pub fn collect(
         &mut self,
         root: Option<SurfaceId>,

@@ -11,7 +11,7 @@ use vz_live::laws::surfaces_stay;
 use vz_waiting::laws::waiting_ones_stay;
 
 /// After a state has settled, no submission is ready. What is right for a state is also right
-/// after names are noted.
+/// after the surfaces that active frames name are noted as named.
 pub fn settled_ones_stay()
     ensures ready { (w : World) → AreReady (settle w) [] }
     ensures naming { (w : World) (but : Option SurfaceId) (v : Settling) → AreSettling w but v
@@ -21,7 +21,8 @@ pub fn settled_ones_stay()
     waiting_ones_stay();
 }
 
-/// The collection of a step is that of the state after names are noted.
+/// The collection of a step is that of the state after the surfaces that active frames name are
+/// noted as named.
 pub fn named_ones_are_collected()
     ensures collect { (w : World) → collect w ≡ clearing (naming w) }
     ensures named { (w : World) → naming (naming w) ≡ naming w }

@@ -17,7 +17,8 @@ use vz_base::limits::MOST_FILES;
 use vz_frame::{List, Room};
 use vz_ids::FrameSinkId;
 
-/// The clients' sinks, the relations between sinks, and the pending begin-frames.
+/// The frame sink hierarchy, after Chromium's `FrameSinkManagerImpl`: the clients' sinks, the
+/// relations between sinks, and the pending begin-frames.
 #[derive(Drop)]
 pub struct Sinks {
     first: FrameSinkId,
@@ -67,9 +68,9 @@ impl Sinks {
         })
     }
 
-    /// Registers a relation that client `c` asks for. If it is registered already, nothing
-    /// changes and the answer is Ok. The error is the first reason for a refusal that holds, or
-    /// `Memory` if an allocation fails; then nothing changes.
+    /// Registers a relation that the client `by` asks for. A relation that is registered already
+    /// is not added again. The error is the first reason for a refusal that holds, or `Memory` if
+    /// an allocation fails; then nothing changes.
     pub fn register(
         &mut self,
         by: u32,

@@ -1,8 +1,8 @@
 //! The plain machine: a simple reference implementation of the definitions.
 //!
 //! Its contracts are the definitions of `vz_rules`, and its bodies stay close to them: it keeps
-//! every submission and scans all of them. It checks what faster implementations did, and says
-//! what a definition gives for a plan and a history.
+//! every submission and scans all of them. `check` replays a log on it, and tests compare the
+//! incremental machine with it.
 #![tactic(auto)]
 
 mod asked;

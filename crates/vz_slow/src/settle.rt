@@ -15,7 +15,7 @@ use vz_state::{
     met_by, number_of,
 };
 
-/// A world at the begin of a round, with the surfaces on which a submission was ever active.
+/// A world at the start of a round, with the surfaces on which a submission was ever active.
 #[derive(Drop)]
 struct Round<'w, 'a> {
     world: &'w World<'a>,

@@ -230,7 +230,8 @@ impl<'a> Slow<'a> {
         }
     }
 
-    /// The active frames, in the order of acceptance.
+    /// The active frames, in the order of acceptance. The only error is `Memory`, if an
+    /// allocation fails.
     pub fn active(&self) -> Result<Vec<SubmittedFrame<'a>>, Memory>
         ensures { IfOk result (λ v. v.items ≡ active_frames self.now.world.subs) }
     {

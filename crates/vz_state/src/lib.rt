@@ -1,8 +1,10 @@
 //! The parts of the plain machine's state, and what changes each of them.
 //!
 //! The parts are clients with their resources and queues, surfaces, submissions, and what holds
-//! resources. The plain machine joins them to a world, and steps by changing each part. Each call
-//! returns what the definitions of `vz_rules` say, and scans plain lists.
+//! resources. The plain machine joins them to a world, and steps by changing each part.
+//!
+//! Each call returns what the definitions of `vz_rules` say, and scans plain lists. The only
+//! error of a call is `AllocError`, if an allocation fails.
 #![tactic(auto)]
 
 mod accept;

@@ -218,7 +218,8 @@ pub fn give_back_clients(
     }
 }
 
-/// How many resources of all clients have outstanding references.
+/// How many resources of all clients have outstanding references. If the number does not fit a
+/// `usize`, that counts as a failed allocation.
 pub fn outs_of(clients: &[Client<'_>]) -> Result<usize, AllocError>
     ensures { IfOk result (λ n. n ≡ all_outs clients.now) }
 {

@@ -37,9 +37,9 @@ use vz_pixels::PixelBlock;
 use vz_refs::Shows;
 use vz_rules::Lost;
 
-/// The surfaces and submissions of the machine's state. Contracts see all that were ever created
-/// and accepted. In memory there are at most one waiting and one active frame for each surface
-/// that exists.
+/// The surfaces and submissions of the machine's state, as Chromium's `SurfaceManager` keeps
+/// them. Contracts see all that were ever created and accepted. In memory there are at most one
+/// waiting and one active frame for each surface that exists.
 #[derive(Drop)]
 pub struct Store {
     alloc: Global,

@@ -63,14 +63,14 @@ impl Table {
         Ok(())
     }
 
-    /// How many surfaces there are.
+    /// How many surfaces exist.
     pub(crate) fn len(&self) -> usize
         ensures { result ≡ length self.now.keys.entries }
     {
         self.keys.len()
     }
 
-    /// The surface of an id.
+    /// The surface with an id, or None if it does not exist.
     pub(crate) fn get(&self, id: &SurfaceId) -> Option<&Surface>
         ensures { option_copied result ≡ look self.now id.now }
     {

@@ -7,7 +7,7 @@ use vz_ghost::GhostList;
 use vz_ids::{FrameSinkId, LocalSurfaceId, Sub, SurfaceId};
 use vz_pixels::PixelBlock;
 
-/// A submission that is accepted.
+/// An accepted submission, as the history keeps it.
 #[derive(Drop)]
 pub(crate) struct Acceptance {
     pub(crate) client: u32,
@@ -17,7 +17,7 @@ pub(crate) struct Acceptance {
     pub(crate) blocks: List<PixelBlock>,
 }
 
-/// A change of a store.
+/// A change of a store, as the history keeps it.
 #[derive(Drop)]
 pub(crate) enum Told {
     Accepted(Acceptance),

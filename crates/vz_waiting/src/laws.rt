@@ -51,8 +51,8 @@ pub fn waiting_ones_stay()
         → AreWaiting w a → AreWaiting (record w { over = true }) a }
 {}
 
-/// Each waiting submission lacks something, so that room for as many as wait is enough for every
-/// call.
+/// Each waiting submission has an unmet dependency, so that room for as many as wait is enough
+/// for every call.
 pub fn waiting_ones_lack()
     ensures { (w : World) (a : Waits) → AreWaiting w a → length a.blocked ≡ length a.due }
 {}

@@ -25,12 +25,12 @@ use vz_frame::Room;
 use vz_ids::{FrameSinkId, Sub, SurfaceId};
 
 /// The submissions that wait to become active, each until its dependencies are met or its
-/// deadline comes. Contracts see what each of them lacks, their deadlines, and the room that was
-/// reserved before.
+/// deadline comes. Contracts see the unmet dependencies of each, their deadlines, and the room
+/// that was reserved before.
 ///
-/// Each call is a change of the machine's state that such submissions depend on; `laws` says that
-/// they depend on no other. A submission that becomes active is appended to `out` (`accepted`
-/// returns true for it) and no longer waits. Only `ready` allocates.
+/// Each call is a change of the machine's state that these submissions depend on; `laws` says
+/// that they depend on no other. A submission that becomes active is appended to `out`
+/// (`accepted` returns true for it) and no longer waits. Only `ready` allocates.
 #[derive(Drop)]
 pub struct Waiting {
     tracker: Tracker,
@@ -129,8 +129,8 @@ impl Waiting {
     }
 
     /// The client of a sink is closed: appends the submissions that become active by it, in the
-    /// order of acceptance, and removes them. Condition: `out` has room for all that lack
-    /// something.
+    /// order of acceptance, and removes them. Condition: `out` has room for all that have an
+    /// unmet dependency.
     pub fn closed(&mut self, sink: FrameSinkId, out: &mut Room<Sub>)
         requires { length self.old.blocked ≤ out.old.spare }
         ensures waits { (w : World) (c : Client) → KeepsAlways w → Contains w.clients c
@@ -149,7 +149,7 @@ impl Waiting {
 
     /// Submissions on these surfaces become active in one round: appends the submissions that
     /// become active in the next round, in the order of acceptance, and removes them. Condition:
-    /// `out` has room for all that lack something.
+    /// `out` has room for all that have an unmet dependency.
     pub fn activated(&mut self, ids: &[SurfaceId], out: &mut Room<Sub>)
         requires { length self.old.blocked ≤ out.old.spare }
         ensures waits { (w : World) → KeepsAlways w → AreWaiting w self.old
