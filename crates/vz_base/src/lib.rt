@@ -1,5 +1,5 @@
-//! What every crate of the compositor stands on: the limits of its files, frames and displays,
-//! and want of memory as an error.
+//! What every crate of the compositor uses: the limits of files, frames and displays, and the
+//! error of a failed allocation.
 #![tactic(auto)]
 
 pub mod limits;

@@ -1,11 +1,11 @@
-//! Want of memory as an error.
+//! The error of a failed allocation.
 ghost use Rattle.std.specs.Prelude.{◌≡◌};
 
 use std::alloc::{AllocError, AllocFailed};
 use std::error::Error;
 use std::fmt;
 
-/// Want of memory: a growth was refused. It is the one error that no clause ties to a cause.
+/// An allocation failed. No clause says when this error comes: the allocator decides it.
 #[derive(Clone, Copy, Debug, PartialEq, Eq, Hash)]
 pub struct Memory;
 

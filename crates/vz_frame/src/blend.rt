@@ -1,21 +1,22 @@
-//! Blend modes: how a quad is laid on what is under it.
+//! Blend modes: how a quad is combined with what is below it.
 ghost use Rattle.std.specs.Prelude.{◌≡◌, Some, IsTrue};
 ghost use Rattle.vz_frame.specs.Blending.{mode_number, mode_of};
 
-/// How a quad is laid on what is under it: over it, in its place, or as a mask of it. These
-/// are three of the Porter-Duff modes on premultiplied colours.
+/// How a quad is combined with what is below it in its pass: laid over it, put in its place, or
+/// used as its mask. These are three Porter-Duff modes on premultiplied colours; Chromium's
+/// `SkBlendMode` has more.
 #[derive(Clone, Copy, Debug, PartialEq, Eq)]
 pub enum Blend {
-    /// Source-over.
+    /// Source-over, the usual mode (`kSrcOver`).
     Over,
-    /// The quad's colour in place of what is under it.
+    /// The quad's colour replaces what is below it (`kSrc`).
     Src,
-    /// What is under it, scaled by the alpha of the quad's colour.
+    /// What is below the quad is scaled by the alpha of the quad's colour (`kDstIn`).
     DstIn,
 }
 
 impl Blend {
-    /// The number by which a message file names the mode.
+    /// The number of the mode in a message file.
     pub fn number(self) -> u8
         ensures value { result ≡ mode_number self }
         ensures again { mode_of result ≡ Some self }
@@ -27,7 +28,7 @@ impl Blend {
         }
     }
 
-    /// The mode that a number names, if it names one.
+    /// The mode with this number in a message file, or None if no mode has it.
     pub fn of_number(number: u8) -> Option<Blend>
         ensures { result ≡ mode_of number }
     {

@@ -1,4 +1,4 @@
-//! A map of ids that takes no memory.
+//! A map of ids on the stack, which allocates nothing.
 ghost use Rattle.std.specs.Prelude.{◌≡◌, ◌<◌, ◌+◌, [], length, IsTrue, IsFalse, IfOk, IfErr, is_none};
 ghost use Rattle.vz_frame.specs.Pairs.{get, IsAt, IsGapFor, GetsAfterSet};
 
@@ -6,8 +6,8 @@ use arrayvec::ArrayVec;
 use std::marker::Model;
 use vz_base::limits::MOST_RESOURCES;
 
-/// A map from ids to places, in the order of the ids. It has room for as many as a frame of a
-/// message file lists.
+/// A map from ids to indices, sorted by id. It has room for as many ids as a frame of a message
+/// file may list.
 #[derive(Drop)]
 pub struct IdMap {
     pairs: ArrayVec<(u32, usize), MOST_RESOURCES>,
@@ -32,7 +32,7 @@ impl IdMap {
         }
     }
 
-    /// The place of an id.
+    /// The index of an id, or None if the map has none for it.
     pub fn get(&self, id: u32) -> Option<usize>
         ensures { result ≡ get self.now id }
     {
@@ -42,7 +42,7 @@ impl IdMap {
         }
     }
 
-    /// Gives an id its place, and answers whether it had none. A place that it has stays.
+    /// Gives an id its index, and returns true if it had none. An id that has an index keeps it.
     pub fn insert(&mut self, id: u32, place: usize) -> bool
         requires { length self.old < MOST_RESOURCES }
         ensures answer { result ≡ is_none (get self.old id) }
@@ -59,7 +59,7 @@ impl IdMap {
         }
     }
 
-    /// Where an id is, or where it would go.
+    /// The position of an id in the map, or the position at which it would be inserted.
     fn search(&self, id: u32) -> Result<usize, usize>
         ensures found { IfOk result (IsAt self.now id) }
         ensures absent { IfErr result (IsGapFor self.now id) }

@@ -1,4 +1,4 @@
-//! Where ids stand in a list.
+//! The indices of ids in a list.
 ghost use Rattle.std.specs.Prelude.{◌≡◌, ◌≤◌, ◌==◌, ℕ, length, map};
 ghost use Rattle.vz_frame.specs.Frame.{has_repeat};
 ghost use Rattle.vz_frame.specs.Pairs.{get};
@@ -9,8 +9,8 @@ use crate::{Listing, RenderPass};
 use std::marker::Model;
 use vz_base::limits::MOST_RESOURCES;
 
-/// What has an id among others of its kind: a pass among those of a frame, a resource among those
-/// that it lists.
+/// A value with an id that should differ from those of its kind: a pass among the passes of a
+/// frame, or a resource among those that it lists.
 pub trait HasId {
     ghost id_of: { Self → ℕ };
 
@@ -34,11 +34,11 @@ impl HasId for Listing {
     }
 }
 
-/// A list of fewer values is scanned sooner than a map of it is made.
+/// A list shorter than this is scanned, which takes less time than to make a map of it.
 const FEW: usize = 8;
 
-/// A list whose values are found by their ids, through a map. A list of few values is scanned
-/// instead, and so is one that is longer than the map has room for, which no message file has.
+/// A list whose values are found by their ids, through a map. A short list is scanned instead. A
+/// list longer than the map has room for is scanned too, but no message file has one.
 #[derive(Drop)]
 pub struct Places<'a, T: HasId> {
     items: &'a [T],
@@ -67,7 +67,7 @@ impl<'a, T: HasId> Places<'a, T> {
     ghost use Rattle.vz_frame.specs.Frame.{has_repeat};
     ghost use Rattle.vz_frame.specs.Places.{first_place};
 
-    /// A list, and a map of the places of its ids.
+    /// Makes the map of a list.
     pub fn of(items: &'a [T]) -> Places<'a, T>
         ensures { result ≡ items.now }
     {
@@ -87,14 +87,14 @@ impl<'a, T: HasId> Places<'a, T> {
         }
     }
 
-    /// Whether two values have one id.
+    /// Whether two values have the same id.
     pub fn has_repeat(&self) -> bool
         ensures { result ≡ has_repeat (λ a b. T.id_of b == T.id_of a) self.now }
     {
         self.repeats
     }
 
-    /// The first value that has an id.
+    /// The first value that has this id, if there is one.
     pub fn find(&self, id: u32) -> Option<&'a T>
         ensures { option_copied result ≡ find (λ x. T.id_of x == id) self.now }
     {
@@ -104,7 +104,7 @@ impl<'a, T: HasId> Places<'a, T> {
         }
     }
 
-    /// Whether a value before a place has an id.
+    /// Whether a value before index `place` has this id.
     pub fn has_before(&self, id: u32, place: usize) -> bool
         ensures { result ≡ list_any (λ x. T.id_of x == id) (take place self.now) }
     {
@@ -114,7 +114,7 @@ impl<'a, T: HasId> Places<'a, T> {
         }
     }
 
-    /// The first place at which an id stands.
+    /// The first index with this id, if there is one.
     fn first(&self, id: u32) -> Option<usize>
         ensures { result ≡ first_place id (map T.id_of self.now) }
     {
@@ -125,7 +125,7 @@ impl<'a, T: HasId> Places<'a, T> {
     }
 }
 
-/// The ids with their first places, and whether one stands twice.
+/// The ids with their first indices, and whether an id occurs twice.
 fn indexed<T: HasId>(items: &[T]) -> (IdMap, bool)
     requires { length items.now ≤ MOST_RESOURCES }
     ensures places { (n : ℕ) → get result.0 n ≡ first_place n (map T.id_of items.now) }
@@ -140,7 +140,7 @@ fn indexed<T: HasId>(items: &[T]) -> (IdMap, bool)
     (index, repeats)
 }
 
-/// Whether an id stands twice.
+/// Whether an id occurs twice.
 fn scan_repeats<T: HasId>(items: &[T]) -> bool
     ensures { result ≡ has_repeat (λ a b. b == a) (map T.id_of items.now) }
 {
@@ -152,7 +152,7 @@ fn scan_repeats<T: HasId>(items: &[T]) -> bool
     repeats
 }
 
-/// The first place at which an id stands.
+/// The first index with this id, if there is one.
 fn scan<T: HasId>(items: &[T], id: u32) -> Option<usize>
     ensures { result ≡ first_place id (map T.id_of items.now) }
 {

@@ -1,4 +1,4 @@
-//! The rules of a frame: what they are, what they are called, and their test.
+//! The rules that a frame must keep, their names, and the test of them.
 ghost use Rattle.std.specs.Prelude.{◌≡◌, ◌+ℤ◌, pos, int_lt, not, take, Some, None, IfErr, OnOk};
 ghost use Rattle.std.specs.List.{list_any};
 ghost use Rattle.vz_frame.specs.Checking.{joined, in_quad, in_quads, in_passes, first_said};
@@ -13,17 +13,17 @@ use std::fmt;
 use vz_geom::Rect;
 use vz_ids::{SurfaceId, SurfaceRange};
 
-/// The rules that a frame has to keep, in the order in which they are tested. Each says
-/// what breaks it.
+/// The rules that a frame must keep, in the order in which they are tested. Each comment says
+/// what breaks the rule.
 #[derive(Clone, Copy, Debug, PartialEq, Eq, Hash)]
 pub enum Rule {
-    /// There is no pass.
+    /// The frame has no pass.
     NoPass,
     /// The output of the root pass is empty or does not start at (0, 0).
     BadRoot,
-    /// Two passes have one id.
+    /// Two passes have the same id.
     PassIds,
-    /// A pass quad names no pass that stands earlier in the list than its own.
+    /// A pass quad names a pass that does not come earlier in the list than the quad's own.
     PassOrder,
     /// A visible rectangle has a point outside the quad's rectangle.
     VisibleOutside,
@@ -33,7 +33,7 @@ pub enum Rule {
     ListedTwice,
     /// A tile reaches outside the listed width or height.
     TileOutside,
-    /// A range has start and end in one group, and the start is newer.
+    /// A range has its start and its end in one group, and the start is newer than the end.
     BadRange,
     /// Two dependencies are equal.
     BadDependency,
@@ -68,7 +68,8 @@ impl fmt::Display for Rule {
 
 impl Error for Rule {}
 
-/// What the passes and quads of a frame break: each field is whether one of them breaks that rule.
+/// Which rules the passes and quads of a frame break. A field is true if one of them breaks that
+/// rule.
 #[derive(Clone, Copy)]
 struct Found {
     /// A pass quad names no earlier pass.
@@ -95,7 +96,7 @@ impl Found {
         damage: false,
     };
 
-    /// What is found in the one or in the other.
+    /// What either of the two found.
     fn join(self, other: Found) -> Found
         ensures { result ≡ joined self other }
     {
@@ -110,11 +111,12 @@ impl Found {
     }
 }
 
-/// Whether a frame keeps the eleven rules; an error is the first one that it breaks, in the
-/// order of `Rule`.
+/// Tests whether a frame keeps the eleven rules. The error is the first rule that it breaks, in
+/// the order of `Rule`.
 ///
-/// Each quad is looked at once. Ids of passes and of resources are found by maps on the stack, so
-/// that no memory is wanted; few of them, and more than a frame of a file may list, are scanned.
+/// It looks at each quad once. It finds the ids of passes and resources through maps on the
+/// stack, and so allocates nothing. Short lists, and those longer than a frame of a file may
+/// have, are scanned.
 pub fn check(frame: &CompositorFrame) -> Result<(), Rule>
     ensures kept { OnOk result (first_broken frame.now ≡ None) }
     ensures broken { IfErr result (λ rule. first_broken frame.now ≡ Some rule) }
@@ -125,7 +127,7 @@ pub fn check(frame: &CompositorFrame) -> Result<(), Rule>
     }
 }
 
-/// The first rule that a frame breaks.
+/// The first rule that a frame breaks, if it breaks one.
 fn first_broken(frame: &CompositorFrame) -> Option<Rule>
     ensures { result ≡ first_broken frame.now }
 {
@@ -155,7 +157,7 @@ fn first_broken(frame: &CompositorFrame) -> Option<Rule>
     first_said(&table)
 }
 
-/// The first rule of a table that is said to be broken.
+/// The first rule in the table that is marked as broken, if there is one.
 fn first_said(table: &[(bool, Rule)]) -> Option<Rule>
     ensures { result ≡ first_said table.now }
 {
@@ -167,8 +169,7 @@ fn first_said(table: &[(bool, Rule)]) -> Option<Rule>
     None
 }
 
-/// Whether there is no root pass, or its output is empty or begins elsewhere than at the first
-/// point.
+/// Whether there is no root pass, or its output is empty or does not begin at (0, 0).
 fn is_bad_root(root: Option<&RenderPass>) -> bool
     ensures { result ≡ bad_root (option_copied root.entry) }
 {
@@ -179,7 +180,7 @@ fn is_bad_root(root: Option<&RenderPass>) -> bool
     output.is_empty() || output.x() > 0 || output.x() < 0 || output.y() > 0 || output.y() < 0
 }
 
-/// Looks at all passes.
+/// Looks at all passes of a frame.
 fn search_passes(
     passes: &[RenderPass],
     by_id: &Places<RenderPass>,
@@ -198,7 +199,7 @@ fn search_passes(
     found
 }
 
-/// Looks at the quads of the pass at a place.
+/// Looks at the quads of the pass at index `place`.
 fn search_quads(
     quads: &[DrawQuad],
     place: usize,
@@ -214,7 +215,7 @@ fn search_quads(
     found
 }
 
-/// Looks at a quad of the pass at a place.
+/// Looks at a quad of the pass at index `place`.
 fn search_quad(
     quad: &DrawQuad,
     place: usize,
@@ -237,14 +238,14 @@ fn search_quad(
     found
 }
 
-/// Whether the last column or row of a tile lies outside what the listing has.
+/// Whether the last column or row of a tile lies outside the listed size.
 fn exceeds(area: &Rect, tx: u16, ty: u16, listing: &Listing) -> bool
     ensures { result ≡ exceeds area.now tx ty listing.now }
 {
     ends_outside(tx, area.w(), listing.w) || ends_outside(ty, area.h(), listing.h)
 }
 
-/// Whether a side from a texel on ends behind a limit.
+/// Whether a side that starts at texel `from` ends beyond a limit.
 fn ends_outside(from: u16, side: i32, limit: u16) -> bool
     ensures { result ≡ int_lt (pos limit) (pos from +ℤ side) }
 {
@@ -263,7 +264,7 @@ fn has_bad_range(ranges: &[SurfaceRange]) -> bool
     false
 }
 
-/// Whether two surfaces are the same.
+/// Whether a surface occurs twice.
 fn has_repeat(surfaces: &[SurfaceId]) -> bool
     ensures { result ≡ has_repeat same_surface surfaces.now }
 {

@@ -1,13 +1,13 @@
-//! Laws of rectangles, each the contract of a function that does nothing. A caller that
-//! calls one has its clauses.
+//! Laws of rectangles. Each is the contract of an empty function; a caller that calls it may use
+//! its clauses.
 ghost use Rattle.std.specs.Prelude.{◌≡◌, ◌&&◌, ◌↔◌, IsTrue, List, length, map, if◌then◌else◌};
 ghost use Rattle.std.specs.List.{All};
 ghost use Rattle.vz_geom.specs.declared.Point.{Point};
 ghost use Rattle.vz_geom.specs.Rectangle.{Rectangle, IsRectangle, has, plus, meet, join, bound, moved, Covers, covers_rect};
 ghost use Rattle.vz_geom.specs.Rectangle.{area_of, points_in, times_in};
 
-/// What two rectangles share is the same in each order and grouping, has exactly the
-/// points of both, and grows where they grow.
+/// The intersection does not depend on order or grouping, has exactly the points that both
+/// rectangles have, and grows if they grow.
 pub fn intersections()
     ensures commutative { (a b : Rectangle) → meet a b ≡ meet b a }
     ensures associative { (a b c : Rectangle) → meet (meet a b) c ≡ meet a (meet b c) }
@@ -17,7 +17,7 @@ pub fn intersections()
     ensures proper { (a b : Rectangle) → IsRectangle a → IsRectangle b → IsRectangle (meet a b) }
 {}
 
-/// The bound of a list covers each of its rectangles, and whatever covers each of them
+/// The bound of a list covers each of its rectangles. Each rectangle that covers all of them also
 /// covers the bound.
 pub fn bounds()
     ensures covers { (rs : List Rectangle) → All (Covers (bound rs)) rs }
@@ -26,8 +26,8 @@ pub fn bounds()
     ensures proper { (rs : List Rectangle) → All IsRectangle rs → IsRectangle (bound rs) }
 {}
 
-/// A moved rectangle has exactly the moved points, and moving goes with sharing and
-/// bounding.
+/// A translated rectangle has exactly the translated points. Translation can be done before or
+/// after an intersection or a bound.
 pub fn translations()
     ensures points { (r : Rectangle) (by p : Point) → has (moved r by) (plus p by) ≡ has r p }
     ensures intersection { (a b : Rectangle) (by : Point)
@@ -38,15 +38,15 @@ pub fn translations()
         → moved (bound rs) by ≡ bound (map (λ r. moved r by) rs) }
 {}
 
-/// The area is the number of points: the list of them, row by row, is as long, and has each
-/// point of the rectangle once and no other.
+/// The area is the number of points. The list of points, row by row, has that length, has each
+/// point of the rectangle once, and no other.
 pub fn areas()
     ensures count { (r : Rectangle) → length (points_in r) ≡ area_of r }
     ensures once { (r : Rectangle) (p : Point) → IsRectangle r
         → times_in (points_in r) p ≡ (if has r p then 1 else 0) }
 {}
 
-/// The test of the edges tells which rectangles cover others.
+/// The test that compares edges decides exactly which rectangles cover which.
 pub fn coverings()
     ensures { (outer inner : Rectangle) → IsTrue (covers_rect outer inner) ↔ Covers outer inner }
 {}

@@ -1,8 +1,9 @@
-//! What proofs alone remember.
+//! Lists that only proofs read.
 //!
-//! A part of the machine often means a list that it no longer holds: a store keeps two frames a
-//! surface, and stands for every submission that was ever accepted. `GhostList` is that list. It
-//! has no bytes, and nothing of it is left when the program runs.
+//! Part of the machine often represents a list that it no longer holds. For example, the store
+//! keeps at most two frames of a surface, but it represents every submission that was ever
+//! accepted. `GhostList` is such a list. It takes no bytes, and nothing of it is left when the
+//! program runs.
 #![tactic(auto)]
 
 mod list;

@@ -5,16 +5,16 @@ use std::marker::Model;
 use std::mem;
 use std::snapshot::Snapshot;
 
-/// A list that grows by one value at a time, the last in front. A link stands for the list alone:
-/// one is made where a value is shown, and goes at once.
+/// A list that grows by one value at a time, with the newest in front. A link is made when a
+/// value is shown, and dropped at once.
 #[derive(Drop)]
 pub(crate) enum Link<E> {
     Start,
     After(Snapshot<E>, Snapshot<Link<E>>),
 }
 
-/// All values that were shown to it, in order. It has no bytes, and a value that was shown is free
-/// to be moved, changed and dropped.
+/// All values that were shown to it, in the order of the calls. It takes no bytes. A value that
+/// was shown may still be moved, changed and dropped.
 #[derive(Drop)]
 pub struct GhostList<E> {
     last: Snapshot<Link<E>>,
@@ -30,7 +30,7 @@ impl<E> Model for GhostList<E> {
 }
 
 impl<E> GhostList<E> {
-    /// Nothing was shown. It takes no memory.
+    /// Makes the empty list. It takes no memory.
     #[tactic(auto, unfolding(crate::specs::Shown::shown))]
     pub fn new() -> GhostList<E>
         ensures { result ≡ [] }
@@ -41,7 +41,7 @@ impl<E> GhostList<E> {
         }
     }
 
-    /// The list with a value more at its end.
+    /// Returns the list with one more value at its end.
     #[tactic(auto, unfolding(crate::specs::Shown::shown))]
     fn with(self, value: &E) -> GhostList<E>
         ensures { result ≡ self ++ value.now ∷ [] }
@@ -53,7 +53,7 @@ impl<E> GhostList<E> {
         }
     }
 
-    /// Shows a value, which stands at the end of the list from now on. It takes no memory.
+    /// Appends a value to the list. It takes no memory.
     pub fn show(&mut self, value: &E)
         ensures { self.new ≡ self.old ++ value.now ∷ [] }
     {

@@ -1,5 +1,6 @@
-//! Allocators of local surface ids: the parent's raises the parent number, the child's the
-//! child number.
+//! Allocators of local surface ids. The parent's allocator raises the parent number, the child's
+//! allocator the child number, as Chromium's `ParentLocalSurfaceIdAllocator` and
+//! `ChildLocalSurfaceIdAllocator` do.
 ghost use Rattle.std.specs.Prelude.{◌≡◌, ◌+◌, ◌<◌, IsOk, IsErr, IfOk, OnErr, IsTrue, ◌↔◌, ◌⊎◌, ◌≢◌};
 ghost use Rattle.vz_ids.specs.Allocating.{first_id, with_parent, with_child, adopted, adopts};
 
@@ -8,7 +9,7 @@ use std::error::Error;
 use std::fmt;
 use std::marker::Model;
 
-/// No number is left to raise.
+/// The allocator has no number left: the one that it would raise is 4,294,967,295.
 #[derive(Clone, Copy, Debug, PartialEq, Eq, Hash)]
 pub struct Spent;
 
@@ -20,7 +21,7 @@ impl fmt::Display for Spent {
 
 impl Error for Spent {}
 
-/// The allocator of an embedder: contracts see the id that it allocated last.
+/// The allocator of an embedder. In contracts its value is the id that it allocated last.
 #[derive(Drop)]
 pub struct ParentAllocator {
     last: LocalSurfaceId,
@@ -35,7 +36,8 @@ impl Model for ParentAllocator {
 }
 
 impl ParentAllocator {
-    /// An allocator for a new embedding, at the numbers 1 and 1 with this token.
+    /// Makes the allocator of a new embedding. Its first id has the numbers 1 and 1 and this
+    /// token.
     pub fn new(token: EmbedToken) -> ParentAllocator
         ensures { result ≡ first_id token }
     {
@@ -48,8 +50,8 @@ impl ParentAllocator {
         }
     }
 
-    /// The next id, with the parent number raised by one. Spent comes exactly where that
-    /// number is 4,294,967,295, and then nothing changes.
+    /// Returns the next id, with the parent number raised by one. The error is `Spent`, exactly
+    /// if that number is 4,294,967,295; then nothing changes.
     pub fn next(&mut self) -> Result<LocalSurfaceId, Spent>
         ensures when { IsErr result ↔ (self.old.parent ≡ u32.MAX) }
         ensures next { IfOk result (λ id. id ≡ with_parent (self.old.parent + 1) self.old) }
@@ -71,8 +73,8 @@ impl ParentAllocator {
     }
 }
 
-/// The allocator of an embedded client: contracts see the id that it allocated or adopted
-/// last.
+/// The allocator of an embedded client. In contracts its value is the id that it allocated or
+/// adopted last.
 #[derive(Drop)]
 pub struct ChildAllocator {
     last: LocalSurfaceId,
@@ -87,15 +89,15 @@ impl Model for ChildAllocator {
 }
 
 impl ChildAllocator {
-    /// An allocator that goes on from the id that the embedder gave.
+    /// Makes an allocator that continues from the id that the embedder gave.
     pub fn new(id: LocalSurfaceId) -> ChildAllocator
         ensures { result ≡ id }
     {
         ChildAllocator { last: id }
     }
 
-    /// The next id, with the child number raised by one. Spent comes exactly where that
-    /// number is 4,294,967,295, and then nothing changes.
+    /// Returns the next id, with the child number raised by one. The error is `Spent`, exactly if
+    /// that number is 4,294,967,295; then nothing changes.
     pub fn next(&mut self) -> Result<LocalSurfaceId, Spent>
         ensures when { IsErr result ↔ (self.old.child ≡ u32.MAX) }
         ensures next { IfOk result (λ id. id ≡ with_child (self.old.child + 1) self.old) }
@@ -109,9 +111,9 @@ impl ChildAllocator {
         Ok(self.last)
     }
 
-    /// Takes over the parent number and the token of an id that the embedder gave, and
-    /// keeps the child number. It answers true where the token is another or the parent
-    /// number is greater, and else answers false and changes nothing.
+    /// Takes over the parent number and the token of an id that the embedder gave, and keeps the
+    /// child number. It returns true if the token differs or the parent number is greater.
+    /// Otherwise it returns false and changes nothing.
     pub fn adopt(&mut self, from: LocalSurfaceId) -> bool
         ensures when { result ≡ adopts self.old from }
         ensures new { self.new ≡ adopted self.old from }

@@ -1,4 +1,4 @@
-//! Sixteen pixels of a row as a vector of their channels.
+//! Sixteen pixels of a row as one vector of their channels.
 ghost use Rattle.std.specs.Prelude.{◌≡◌, ◌+◌, ◌≤◌, ◌<◌, length, get_or};
 ghost use lib.Lanes.{chunk, put_chunk, Each1};
 ghost use Rattle.vz_pixels.specs.Colour.{IsPremultiplied, transparent};
@@ -7,7 +7,7 @@ ghost use Rattle.vz_kernel.specs.Lanes.{channels_of, word_of, colours, AreBytes,
 use std::simd::prelude::*;
 use vz_pixels::Pixel;
 
-/// The channels of a pixel as one number, as they lie in memory.
+/// The four channels of a pixel as one number, in the order in which they lie in memory.
 #[inline(always)]
 fn word_of(pixel: Pixel) -> u32
     ensures value { result ≡ word_of pixel }
@@ -17,7 +17,7 @@ fn word_of(pixel: Pixel) -> u32
     u32::from_le_bytes([pixel.r(), pixel.g(), pixel.b(), pixel.a()])
 }
 
-/// The channels of the pixel at a place as one number.
+/// The channels of the pixel at index `at`, as one number.
 #[inline(always)]
 fn word_at(row: &[Pixel], at: usize) -> u32
     requires { at < length row.now }
@@ -28,7 +28,8 @@ fn word_at(row: &[Pixel], at: usize) -> u32
     word_of(row[at])
 }
 
-/// The channels of sixteen pixels from a place on. As sixteen numbers they are read by whole vectors.
+/// The channels of the sixteen pixels from index `at` on. They are gathered as sixteen numbers so
+/// that the compiler reads whole vectors.
 #[inline(always)]
 pub(crate) fn load(row: &[Pixel], at: usize) -> u8x64
     requires { at + 16 ≤ length row.now }
@@ -55,7 +56,7 @@ pub(crate) fn load(row: &[Pixel], at: usize) -> u8x64
     .to_le_bytes()
 }
 
-/// The pixel of the k-th four channels.
+/// The k-th pixel of the channels.
 #[inline(always)]
 fn pixel_of(channels: &[u8; 64], k: usize) -> Pixel
     requires inside { k < 16 }
@@ -70,7 +71,7 @@ fn pixel_of(channels: &[u8; 64], k: usize) -> Pixel
     )
 }
 
-/// Writes sixteen pixels from a place on, by their channels.
+/// Writes the sixteen pixels of these channels from index `at` on.
 #[inline(always)]
 pub(crate) fn store(row: &mut [Pixel], at: usize, lanes: u8x64)
     requires inside { at + 16 ≤ length row.old }

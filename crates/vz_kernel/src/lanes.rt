@@ -1,4 +1,5 @@
-//! The channels of sixteen pixels as a vector of bytes, and products of them lane by lane.
+//! The channels of sixteen pixels as a vector of bytes, and products of such vectors lane by
+//! lane.
 ghost use Rattle.std.specs.Prelude.{◌≡◌, ◌-◌, map, List, IsTrue};
 ghost use lib.Lanes.{zip2, Each1};
 ghost use Rattle.vz_pixels.specs.Colour.{Colour, mul, transparent};
@@ -6,14 +7,14 @@ ghost use Rattle.vz_kernel.specs.Lanes.{evens, odds, woven, doubled, AreBytes, A
 
 use std::simd::prelude::*;
 
-/// The least channels of opaque colours.
+/// The smallest channels of sixteen opaque colours.
 const OPAQUE: [u8; 64] = [
     0, 0, 0, 255, 0, 0, 0, 255, 0, 0, 0, 255, 0, 0, 0, 255, 0, 0, 0, 255, 0, 0, 0, 255, 0, 0, 0,
     255, 0, 0, 0, 255, 0, 0, 0, 255, 0, 0, 0, 255, 0, 0, 0, 255, 0, 0, 0, 255, 0, 0, 0, 255, 0, 0,
     0, 255, 0, 0, 0, 255, 0, 0, 0, 255,
 ];
 
-/// The first byte of each two: red and blue.
+/// The first byte of each pair: red and blue.
 #[inline(always)]
 pub(crate) fn evens(bytes: u8x64) -> u16x32
     ensures value { result ≡ evens bytes }
@@ -22,7 +23,7 @@ pub(crate) fn evens(bytes: u8x64) -> u16x32
     u16x32::from_le_bytes(bytes) % u16x32::splat(256)
 }
 
-/// The second byte of each two: green and alpha.
+/// The second byte of each pair: green and alpha.
 #[inline(always)]
 pub(crate) fn odds(bytes: u8x64) -> u16x32
     ensures value { result ≡ odds bytes }
@@ -31,7 +32,7 @@ pub(crate) fn odds(bytes: u8x64) -> u16x32
     u16x32::from_le_bytes(bytes) >> u16x32::splat(8)
 }
 
-/// Red and blue with green and alpha, as bytes.
+/// Puts red and blue together with green and alpha, as bytes.
 #[inline(always)]
 pub(crate) fn woven(evens: u16x32, odds: u16x32) -> u8x64
     requires evens { AreBytes evens }
@@ -41,7 +42,7 @@ pub(crate) fn woven(evens: u16x32, odds: u16x32) -> u8x64
     (evens + odds * u16x32::splat(256)).to_le_bytes()
 }
 
-/// The alpha of each pixel, for both of its lanes.
+/// The alpha of each pixel, in both of its lanes.
 #[inline(always)]
 pub(crate) fn alphas(odds: u16x32) -> u16x32
     requires { AreBytes odds }
@@ -54,8 +55,8 @@ pub(crate) fn alphas(odds: u16x32) -> u16x32
     ])
 }
 
-/// The product of each two lanes as parts of 255, rounded to the nearest: `(t * 257) >> 16` with `t = a * b + 128`, which
-/// takes one high multiply, is `(a * b + 127) / 255`.
+/// The product of each two lanes as parts of 255, rounded to the nearest. `(t * 257) >> 16` with
+/// `t = a * b + 128` takes one high multiply, and equals `(a * b + 127) / 255`.
 #[inline(always)]
 pub(crate) fn parts(a: u16x32, b: u16x32) -> u16x32
     requires a { AreBytes a }
@@ -67,7 +68,7 @@ pub(crate) fn parts(a: u16x32, b: u16x32) -> u16x32
     ((product * u32x32::splat(257)) >> u32x32::splat(16)).cast::<u16>()
 }
 
-/// What is left of 255.
+/// 255 minus each lane.
 #[inline(always)]
 pub(crate) fn rest(a: u16x32) -> u16x32
     requires { AreBytes a }
@@ -77,7 +78,7 @@ pub(crate) fn rest(a: u16x32) -> u16x32
     u16x32::splat(255) - a
 }
 
-/// Whether all lanes are 0. Where it is so, all colours are transparent.
+/// Whether all lanes are 0. If so, all colours are transparent.
 #[inline(always)]
 pub(crate) fn is_clear(lanes: u8x64) -> bool
     ensures { (cs : List Colour) → AreLanes lanes cs → IsTrue result
@@ -86,7 +87,7 @@ pub(crate) fn is_clear(lanes: u8x64) -> bool
     lanes.simd_ne(u8x64::splat(0)).to_bitmask() == 0
 }
 
-/// Whether no colour has an alpha below 255.
+/// Whether each colour has the alpha 255.
 #[inline(always)]
 pub(crate) fn is_opaque(lanes: u8x64) -> bool
     ensures { (cs : List Colour) → AreLanes lanes cs → IsTrue result → Each1 (λ c. c.a ≡ 255) cs }

@@ -1,4 +1,5 @@
-//! Rows of pixels, sixteen at a time. Each call leaves what its plain loop leaves.
+//! Operations on rows of pixels, sixteen pixels at a time. Each call leaves the same pixels as a
+//! plain loop over single pixels.
 #![tactic(auto)]
 
 mod groups;

@@ -1,4 +1,4 @@
-//! Colours of sixteen pixels laid over others and scaled, as vectors of their channels.
+//! Sixteen colours laid over sixteen others, and scaled, as vectors of their channels.
 ghost use Rattle.std.specs.Prelude.{◌≡◌, ℕ, List};
 ghost use lib.Lanes.{zip2};
 ghost use Rattle.vz_pixels.specs.Colour.{Colour, over, scale};
@@ -7,7 +7,7 @@ ghost use Rattle.vz_kernel.specs.Lanes.{each_twice, AreBytes, AreLanes};
 use crate::lanes::{alphas, evens, odds, parts, rest, woven};
 use std::simd::prelude::*;
 
-/// Each colour of the first vector laid over the one at its place of the second.
+/// Lays each colour of the first vector over the colour at the same index of the second.
 #[inline(always)]
 pub(crate) fn over(top: u8x64, under: u8x64) -> u8x64
     ensures { (ss ds : List Colour) → AreLanes top ss → AreLanes under ds
@@ -17,7 +17,7 @@ pub(crate) fn over(top: u8x64, under: u8x64) -> u8x64
     top + woven(parts(evens(under), rest), parts(odds(under), rest))
 }
 
-/// Each colour scaled by what stands in both of its lanes of the second vector.
+/// Scales each colour by the number that both of its lanes of `by` have.
 #[inline(always)]
 pub(crate) fn scaled(lanes: u8x64, by: u16x32) -> u8x64
     requires { AreBytes by }

@@ -1,4 +1,5 @@
-//! Rows of pixels laid over others, put and kept in place of others, and colours in place of rows.
+//! Rows of pixels laid over other rows, put in their place, or used as their mask; and the same
+//! with one colour in place of a row.
 ghost use Rattle.std.specs.Prelude.{◌≡◌, length, map, List, replicate};
 ghost use lib.Lanes.{zip2};
 ghost use Rattle.vz_pixels.specs.Colour.{Colour, over, scale};
@@ -11,8 +12,9 @@ use crate::walks::{Change, Mix, change_row, mix_row};
 use std::simd::prelude::*;
 use vz_pixels::Pixel;
 
-/// Each pixel laid over the one at its place. Sixteen opaque ones are copied, and sixteen transparent ones leave all as
-/// it is; they are tested where the first of them is one or the other.
+/// Lays each pixel over the one at its index. Sixteen opaque pixels are copied, and sixteen
+/// transparent ones change nothing; these tests are made only if the first of the sixteen is
+/// opaque or transparent.
 #[derive(Clone, Copy)]
 struct Over;
 
@@ -40,7 +42,8 @@ impl Mix for Over {
     }
 }
 
-/// Each pixel by an opacity laid over the one at its place. Sixteen transparent ones leave all as it is.
+/// Lays each pixel at an opacity over the one at its index. Sixteen transparent pixels change
+/// nothing.
 #[derive(Clone, Copy)]
 struct OverBy {
     opacity: u8,
@@ -67,7 +70,7 @@ impl Mix for OverBy {
     }
 }
 
-/// Each pixel by an opacity put in its place.
+/// Puts each pixel at an opacity in the place of the one at its index.
 #[derive(Clone, Copy)]
 struct SrcBy {
     opacity: u8,
@@ -88,8 +91,8 @@ impl Mix for SrcBy {
     }
 }
 
-/// The pixel at each place by the alpha of another one. Sixteen opaque ones leave all as it is, and sixteen
-/// transparent ones leave nothing.
+/// Scales each pixel by the alpha of the one at its index of the other row. Sixteen opaque pixels
+/// change nothing, and sixteen transparent ones leave transparent.
 #[derive(Clone, Copy)]
 struct DstIn;
 
@@ -117,7 +120,7 @@ impl Mix for DstIn {
     }
 }
 
-/// The pixel at each place by the alpha that another one has by an opacity.
+/// Scales each pixel by the alpha that the one at its index of the other row has at an opacity.
 #[derive(Clone, Copy)]
 struct DstInBy {
     opacity: u8,
@@ -140,7 +143,7 @@ impl Mix for DstInBy {
     }
 }
 
-/// One colour laid over each pixel.
+/// Lays one colour over each pixel.
 #[derive(Clone, Copy)]
 struct Tint {
     colour: Pixel,
@@ -162,7 +165,7 @@ impl Change for Tint {
     }
 }
 
-/// Each pixel by one alpha.
+/// Scales each pixel by one alpha.
 #[derive(Clone, Copy)]
 struct Fade {
     alpha: u8,
@@ -184,7 +187,8 @@ impl Change for Fade {
     }
 }
 
-/// Lays each pixel of src, by an opacity, over the one at its place of dst.
+/// Lays each pixel of `src`, at an opacity of 0 to 255, over the one at the same index of `dst`:
+/// source-over.
 #[inline(never)]
 pub fn over_row(dst: &mut [Pixel], src: &[Pixel], opacity: u8)
     requires { length dst.old ≡ length src.now }
@@ -197,7 +201,8 @@ pub fn over_row(dst: &mut [Pixel], src: &[Pixel], opacity: u8)
     }
 }
 
-/// Puts each pixel of src, by an opacity, into its place of dst.
+/// Puts each pixel of `src`, at an opacity of 0 to 255, in the place of the one at the same index
+/// of `dst`.
 #[inline(never)]
 pub fn src_row(dst: &mut [Pixel], src: &[Pixel], opacity: u8)
     requires { length dst.old ≡ length src.now }
@@ -210,7 +215,8 @@ pub fn src_row(dst: &mut [Pixel], src: &[Pixel], opacity: u8)
     }
 }
 
-/// Scales each pixel of dst by the alpha that the one at its place of src has by an opacity.
+/// Scales each pixel of `dst` by the alpha that the one at the same index of `src` has at an
+/// opacity of 0 to 255.
 #[inline(never)]
 pub fn dst_in_row(dst: &mut [Pixel], src: &[Pixel], opacity: u8)
     requires { length dst.old ≡ length src.now }
@@ -222,14 +228,14 @@ pub fn dst_in_row(dst: &mut [Pixel], src: &[Pixel], opacity: u8)
     }
 }
 
-/// Puts one colour into each place.
+/// Puts one colour in the place of each pixel.
 pub fn fill_row(dst: &mut [Pixel], c: Pixel)
     ensures { dst.new ≡ replicate (length dst.old) c }
 {
     dst.fill(c);
 }
 
-/// Lays one colour over each pixel.
+/// Lays one colour over each pixel: source-over.
 #[inline(never)]
 pub fn over_fill(dst: &mut [Pixel], c: Pixel)
     ensures { dst.new ≡ tinted c dst.old }

@@ -1,4 +1,4 @@
-//! Walks along rows: sixteen pixels at a time, and one at a time in what is left.
+//! Walks along rows: sixteen pixels at a time, and one at a time for the remainder.
 ghost use Rattle.std.specs.Prelude.{◌≡◌, ◌+◌, ◌*◌, ◌≤◌, length, List, map};
 ghost use lib.Lanes.{zip2, chunk, put_chunk};
 ghost use Rattle.vz_pixels.specs.Colour.{Colour};
@@ -6,15 +6,15 @@ ghost use Rattle.vz_kernel.specs.Rows.{mixed_upto, changed_upto};
 
 use vz_pixels::Pixel;
 
-/// So many pixels are taken at a time.
+/// How many pixels are taken at a time.
 const GROUP: usize = 16;
 
 /// A way to mix the pixels of a row into those of another.
 pub(crate) trait Mix {
-    /// What a colour and the one under it become.
+    /// What a colour becomes when another is mixed into it.
     ghost mixed: { Self → Colour → Colour → Colour };
 
-    /// Mixes sixteen pixels, from a place on.
+    /// Mixes sixteen pixels, from index `at` on.
     fn group(&self, dst: &mut [Pixel], src: &[Pixel], at: usize)
         requires dst { at + 16 ≤ length dst.old }
         requires src { at + 16 ≤ length src.now }
@@ -26,7 +26,7 @@ pub(crate) trait Mix {
         ensures { result ≡ mixed self.now src dst };
 }
 
-/// Mixes so many groups of a row into another.
+/// Mixes `count` groups of sixteen pixels of a row into another.
 #[inline(always)]
 fn mix_groups<M: Mix>(mix: &M, dst: &mut [Pixel], src: &[Pixel], count: usize)
     requires dst { length dst.old ≡ length src.now }
@@ -38,7 +38,7 @@ fn mix_groups<M: Mix>(mix: &M, dst: &mut [Pixel], src: &[Pixel], count: usize)
     }
 }
 
-/// Mixes what is left of a row, from a place on.
+/// Mixes the remainder of a row, from index `from` on.
 #[inline(always)]
 fn mix_rest<M: Mix>(mix: &M, dst: &mut [Pixel], src: &[Pixel], from: usize)
     requires dst { length dst.old ≡ length src.now }
@@ -67,7 +67,7 @@ pub(crate) trait Change {
     /// What a colour becomes.
     ghost changed: { Self → Colour → Colour };
 
-    /// Changes sixteen pixels, from a place on.
+    /// Changes sixteen pixels, from index `at` on.
     fn group(&self, row: &mut [Pixel], at: usize)
         requires { at + 16 ≤ length row.old }
         ensures { row.new ≡ put_chunk at row.old (map (changed self.now) (chunk at 16 row.old)) };
@@ -77,7 +77,7 @@ pub(crate) trait Change {
         ensures { result ≡ changed self.now pixel };
 }
 
-/// Changes so many groups of a row.
+/// Changes `count` groups of sixteen pixels of a row.
 #[inline(always)]
 fn change_groups<C: Change>(change: &C, row: &mut [Pixel], count: usize)
     requires { count * 16 ≤ length row.old }
@@ -88,7 +88,7 @@ fn change_groups<C: Change>(change: &C, row: &mut [Pixel], count: usize)
     }
 }
 
-/// Changes what is left of a row, from a place on.
+/// Changes the remainder of a row, from index `from` on.
 #[inline(always)]
 fn change_rest<C: Change>(change: &C, row: &mut [Pixel], from: usize)
     requires { from ≤ length row.old }

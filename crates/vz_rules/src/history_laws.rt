@@ -1,4 +1,5 @@
-//! Laws on whole histories, each the contract of a function that does nothing.
+//! Laws of whole histories. Each is the contract of an empty function; a caller that calls it may
+//! use its clauses.
 ghost use Rattle.std.specs.Prelude.{◌≡◌, ℕ, ◌<◌, ◌↔◌, Some, List, [], ◌∷◌, ◌++◌, length, slice_get, count_by, if◌then◌else◌, IsTrue, IsFalse};
 ghost use Rattle.vz_rules.specs.Plan.{Plan, IsPlan};
 ghost use Rattle.vz_rules.specs.declared.entry.Entry.{Entry};
@@ -11,8 +12,8 @@ ghost use Rattle.vz_rules.specs.Step.{world, step_in, entry_in, NamesClient, Leg
 ghost use Rattle.vz_rules.specs.Whole.{is_in_time};
 ghost use Rattle.vz_rules.specs.Accounts.{takes, taken_in, IsTaking, accepts, IsAcceptance, AreAccounts, ReturnsEachOnce, TellsEachOnce, IsTimely, answered_in, AnswersTick};
 
-/// What stands before the rest of a legal history is legal, and each entry is the one that the
-/// machine makes at its place.
+/// Each front part of a legal history is legal, and each entry is the one that the machine makes
+/// after the entries before it.
 pub fn prefixes_are_legal()
     ensures front { (p : Plan) (h k : List Entry) → Legal p (h ++ k) → Legal p h }
     ensures entries { (p : Plan) (h : List Entry) (e : Entry) (k : List Entry)
@@ -20,9 +21,9 @@ pub fn prefixes_are_legal()
         → NamesClient p e.event × (e ≡ entry_in p (world p h) e.event) }
 {}
 
-/// A client took as many messages as it has entries that are not refused as too early or as none
-/// being left. They are the first messages of its file: the entry at a place among these answers
-/// the message of that place.
+/// A client took as many messages as it has entries, not counting those refused as `NotYet` or
+/// `NoMessage`. They are the first messages of its file: the first such entry answers the first
+/// message, the second entry the second, and so on.
 pub fn messages_are_taken_in_order()
     ensures count { (p : Plan) (h : List Entry) (c : ℕ) → Legal p h
         → taken_in (world p h) c ≡ length (takes h c) }
@@ -30,7 +31,8 @@ pub fn messages_are_taken_in_order()
         → slice_get (takes h c) k ≡ Some e → IsTaking p h c k e }
 {}
 
-/// The submissions of the world are those that the accepting entries took from the files, in order.
+/// The submissions of the world are those of the entries that accept one, with the frames of the
+/// client files, in the order of the entries.
 pub fn submissions_are_those_accepted()
     ensures count { (p : Plan) (h : List Entry) → Legal p h
         → length (world p h).subs ≡ count_by accepts h }
@@ -38,27 +40,27 @@ pub fn submissions_are_those_accepted()
         → slice_get (world p h).subs n ≡ Some s → IsAcceptance p h n s.submitted }
 {}
 
-/// The accounts of each client's resources agree with the history: what was lent, queued,
-/// reclaimed, and is held.
+/// For each resource of each client, the numbers of references that were lent, queued, reclaimed
+/// and are held agree with the history.
 pub fn references_are_accounted()
     ensures { (p : Plan) (h : List Entry) (c id : ℕ) → Legal p h → NamesClient p (event.Client c)
         → AreAccounts p h c id }
 {}
 
-/// Each lent reference is returned once, at the step after which no surface or drawn frame holds
-/// its resource. What is still held at the end is in the rest.
+/// Each lent reference is returned once, in the step after which no surface and no drawn frame
+/// holds its resource. A reference that is still held at the end is in the rest.
 pub fn references_are_returned_once()
     ensures { (p : Plan) (h : List Entry) → IsPlan p → Legal p h → ReturnsEachOnce p h }
 {}
 
-/// Each accepted submission has feedback once where it had any, and becomes active once where it
-/// was ever active.
+/// An accepted submission that got feedback got it once, and one that was ever active became
+/// active once.
 pub fn feedback_is_given_once()
     ensures { (p : Plan) (h : List Entry) → Legal p h → TellsEachOnce p h }
 {}
 
-/// A submission becomes active at the step after which its dependencies are met or its deadline has
-/// come. What waits after a step has not come.
+/// A submission becomes active in the step after which its dependencies are met or its deadline
+/// has come. For a submission that waits after a step, neither is so.
 pub fn activations_are_timely()
     ensures activated { (p : Plan) (h : List Entry) (e : Entry) (k : List Entry) (n : ℕ)
         (s : Submission)
@@ -69,9 +71,9 @@ pub fn activations_are_timely()
         → IsFalse (has_come (world p h) s) }
 {}
 
-/// Where the tick is above 0, a client has answered it exactly where an entry behind a begin-frame
-/// that ticked it is this client's accepted submission, or its note that no frame comes, that
-/// carries it.
+/// If the tick is above 0, a client has answered it exactly if, after the begin-frame of that
+/// tick, some entry is an accepted submission or a DidNotProduce of this client that carries the
+/// tick's number.
 pub fn ticks_are_answered()
     ensures { (p : Plan) (h : List Entry) (c : ℕ) → Legal p h → NamesClient p (event.Client c)
         → 0 < (world p h).tick
@@ -81,7 +83,7 @@ pub fn ticks_are_answered()
 ghost use Rattle.vz_rules.specs.Kept.{Keeps, no_effects};
 ghost use Rattle.vz_rules.specs.Unchanged.{ChangesNothing, after_taking};
 
-/// A refused message has no effects, and leaves the world but for the message taken.
+/// A refused message has no effects, and it changes the world only in that the message is taken.
 pub fn refusals_change_nothing()
     ensures steps { (p : Plan) (w : World) (c : ℕ) (r : Refusal) → Keeps w
         → (step_in p w (event.Client c)).reply ≡ reply.Refused r
@@ -95,8 +97,8 @@ pub fn refusals_change_nothing()
 ghost use Rattle.vz_geom.specs.Rectangle.{Rectangle, is_empty_rect};
 ghost use Rattle.vz_rules.specs.Whole.{damage_after};
 
-/// A drawing tells the damage after the history before it, and where it answers that all is
-/// unchanged that damage is empty.
+/// A drawing reports the damage since the last aggregation in the history before it. If it
+/// answers `Unchanged`, that damage is empty.
 pub fn drawings_tell_the_damage()
     ensures drawn { (p : Plan) (h : List Entry) (e : Entry) (k : List Entry) (damage : Rectangle)
         → Legal p (h ++ e ∷ k) → e.reply ≡ reply.Drawn damage → damage ≡ damage_after p h }

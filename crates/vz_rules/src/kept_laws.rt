@@ -1,4 +1,5 @@
-//! Laws of what is kept of the world, each the contract of a function that does nothing.
+//! Laws of the invariants of the world. Each is the contract of an empty function; a caller that
+//! calls it may use its clauses.
 ghost use Rattle.std.specs.Prelude.{◌≡◌, true, ℕ, ◌+◌, ◌<◌, ◌≤◌, ◌⊎◌, Some, None, List, [], slice_get, IsTrue, IsFalse};
 ghost use Rattle.std.specs.List.{Contains, list_all, sum_by};
 ghost use Rattle.vz_base.specs.declared.limits.TheConstants.{MOST_MESSAGES};
@@ -28,7 +29,8 @@ ghost use Rattle.vz_rules.specs.declared.entry.Reply.TheVariants as reply;
 ghost use Rattle.vz_rules.specs.Ends.{landed, presenting};
 ghost use Rattle.vz_rules.specs.Kept.{Keeps, KeepsAlways, KeepsPlan, KeepsMessages, AreShort, HasSmallClient, IsSmallReturn, IsSmallResource, IsSmallSubmission, IsSmallSurface, count_of, is_open, no_effects, out_of};
 
-/// What is kept between steps holds at first and after every history, and each step leads to it.
+/// The invariants between steps hold in the opening world and after each history, and each step
+/// establishes them.
 pub fn steps_keep()
     ensures opening { (p : Plan) → IsPlan p → Keeps (opening p) }
     ensures step { (p : Plan) (w : World) (e : Event) → KeepsAlways w
@@ -36,7 +38,7 @@ pub fn steps_keep()
     ensures history { (p : Plan) (h : List Entry) → IsPlan p → Keeps (world p h) }
 {}
 
-/// So does what is kept of the plan.
+/// The same is true of the invariants that involve the plan.
 pub fn steps_keep_the_plan()
     ensures opening { (p : Plan) → KeepsPlan p (opening p) }
     ensures step { (p : Plan) (w : World) (e : Event) → IsPlan p → KeepsAlways w → KeepsPlan p w
@@ -44,7 +46,7 @@ pub fn steps_keep_the_plan()
     ensures history { (p : Plan) (h : List Entry) → IsPlan p → KeepsPlan p (world p h) }
 {}
 
-/// So does what is kept of the messages that clients sent.
+/// The same is true of the invariants that involve the messages that clients sent.
 pub fn steps_keep_the_messages()
     ensures opening { (p : Plan) → KeepsMessages (opening p) }
     ensures step { (p : Plan) (w : World) (e : Event) → IsPlan p → KeepsAlways w → KeepsMessages w
@@ -52,8 +54,8 @@ pub fn steps_keep_the_messages()
     ensures history { (p : Plan) (h : List Entry) → IsPlan p → KeepsMessages (world p h) }
 {}
 
-/// Within a step the own change of an event and each part of what follows keep what holds all the
-/// time.
+/// Inside a step, both the event's own change and each part of what follows preserve the
+/// invariants that hold at all times.
 pub fn changes_keep()
     ensures answer { (p : Plan) (w : World) (e : Event) → KeepsAlways w
         → KeepsAlways (answer_to p w e).world }
@@ -66,7 +68,7 @@ pub fn changes_keep()
         → KeepsAlways (feed presented w) }
 {}
 
-/// No two clients, surfaces or submissions have one name.
+/// No two clients, surfaces or submissions have the same name.
 pub fn names_differ()
     ensures clients { (w : World) (c d : Client) → KeepsAlways w → Contains w.clients c
         → Contains w.clients d → c.number ≡ d.number → c ≡ d }
@@ -80,8 +82,9 @@ pub fn names_differ()
         → IsTrue (same_sub (sub_of s) (sub_of t)) → n ≡ m }
 {}
 
-/// What is of one sink or on one surface is of one client, whose last surface has the greatest
-/// number, and an active submission is the one that is seen on its surface.
+/// All surfaces of one sink, and all submissions to one surface, belong to one client. The
+/// surface that a client created last has the greatest number. An active submission is the one
+/// that is seen on its surface.
 pub fn surfaces_are_owned()
     ensures sinks { (w : World) (s t : Created) → KeepsAlways w → Contains w.surfaces s
         → Contains w.surfaces t → IsTrue (same_sink s.id.sink t.id.sink) → s.client ≡ t.client }
@@ -94,7 +97,7 @@ pub fn surfaces_are_owned()
         → IsTrue (is_active s) → frame_on s.submitted.id (active_frames w.subs) ≡ Some s.submitted }
 {}
 
-/// No number gets great.
+/// Numbers in the world stay below the limits.
 pub fn numbers_are_small()
     ensures clients { (p : Plan) (w : World) → IsPlan p → KeepsAlways w → KeepsPlan p w
         → (c : Client)
@@ -111,13 +114,14 @@ pub fn numbers_are_small()
         → IsSmallReturn r }
 {}
 
-/// No list of a world gets long.
+/// Lists in the world stay below the limits.
 pub fn lists_are_short()
     ensures { (p : Plan) (w : World) → IsPlan p → KeepsAlways w → KeepsPlan p w → KeepsMessages w
         → AreShort w }
 {}
 
-/// A surface has one size, that of each frame accepted on it, and blocks have the sides of blocks.
+/// A surface has one size, and each frame accepted on it has that size. Each block has sides from
+/// 1 to 256.
 pub fn sizes_are_kept()
     ensures surface { (w : World) (s : Submission) (c : Created) → KeepsAlways w → KeepsMessages w
         → Contains w.subs s → Contains w.surfaces c → IsTrue (same_surface c.id s.submitted.id)
@@ -133,8 +137,8 @@ pub fn sizes_are_kept()
         → Contains s.submitted.blocks b → IsBlock b }
 {}
 
-/// What was lent is queued or out, what was queued is reclaimed or stands in the queue, and
-/// between steps exactly what is held is out.
+/// Each lent reference is either queued or outstanding, and each queued one is reclaimed or still
+/// in the queue. Between steps a resource has outstanding references only if it is held.
 pub fn references_are_counted()
     ensures lent { (w : World) (c : Client) (s : Resource) → KeepsAlways w → Contains w.clients c
         → Contains c.resources s → s.lent ≡ s.queued + out_of s }
@@ -146,8 +150,8 @@ pub fn references_are_counted()
         → Contains c.resources s → IsFalse (is_held w c.number s.id) → out_of s ≡ 0 }
 {}
 
-/// Destroying what is not reached changes nothing of what is reached, so that one collection is
-/// enough. What is reached exists.
+/// If surfaces that are not reached are destroyed, nothing changes for the reached ones, so that
+/// one collection is enough. Each reached surface exists.
 pub fn one_collection_is_enough()
     ensures shown { (w : World) (id : SurfaceId) (i : FrameData) (range : SurfaceRange)
         → KeepsAlways w
@@ -162,8 +166,9 @@ pub fn one_collection_is_enough()
         → IsTrue (exists w id) }
 {}
 
-/// Between steps what waits has not come, as a dependency is not met and its deadline is to come,
-/// what is marked and exists is reached, and what had no feedback is waiting, active or in flight.
+/// Between steps nothing is late. A waiting submission lacks a dependency, and its deadline is
+/// still to come. A marked surface that exists is reached. A submission without feedback is
+/// waiting, active or in flight.
 pub fn nothing_is_late()
     ensures waits { (w : World) (s : Submission) → Keeps w → Contains w.subs s
         → IsTrue (is_waiting s)
@@ -176,15 +181,16 @@ pub fn nothing_is_late()
         → IsTrue (is_open s) ⊎ IsTrue (is_in_flight w.in_flight (sub_of s)) }
 {}
 
-/// Where an answer leaves what is kept between steps, nothing follows: it has no effects and its
-/// world stays.
+/// If an event's own change leaves a world in which the invariants between steps hold, the step
+/// has no effects and does not change that world further.
 pub fn nothing_follows()
     ensures { (a : Answer) → Keeps a.world
         → outcome_of [] a ≡ record { reply = a.reply; effects = no_effects; world = a.world } }
 {}
 
-/// Between steps Done only gives back and feeds, Done with no frame in flight leaves the world, and
-/// Over notes that it is over: none of these makes a submission active or destroys a surface.
+/// Between steps, Done with a frame in flight only queues returns and gives feedback, Done
+/// without one changes nothing, and Over only notes that begin-frames are over. None of them
+/// makes a submission active or destroys a surface, so none needs room for that.
 pub fn ends_take_no_room()
     ensures shown { (p : Plan) (w : World) (drawn : List Sub) → Keeps w → w.in_flight ≡ Some drawn
         → step_in p w event.Done ≡ presenting drawn (landed w) }
@@ -196,8 +202,8 @@ pub fn ends_take_no_room()
         ≡ record { reply = reply.Ended; effects = no_effects; world = record w { over = true } } }
 {}
 
-/// So it is with a refused message, with each message that is no submission, root or closing, with
-/// drawings and with the end.
+/// These changes preserve the invariants between steps too: a refused message, each message other
+/// than Submit, SetRoot and Close, a drawing, and Over.
 pub fn idle_changes_keep()
     ensures refused { (w : World) (c : Client) (r : Refusal) → Keeps w
         → Keeps (refused w c r).world }
@@ -213,13 +219,13 @@ pub fn idle_changes_keep()
     ensures over { (p : Plan) (w : World) → Keeps w → Keeps (answer_to p w event.Over).world }
 {}
 
-/// A legal history and what is still out behind it can be spelled: the text has every number of
-/// theirs.
+/// Each legal history and what is outstanding at its end can be written as a log: each of their
+/// numbers fits.
 pub fn histories_are_spelled()
     ensures { (p : Plan) (h : List Entry) → IsPlan p → Legal p h → Spellable h (rest_of p h) }
 {}
 
-/// The surfaces of a group are a chain: of two one is the other or newer.
+/// The existing surfaces of a group form a chain: of any two, one is the other or newer than it.
 pub fn groups_are_chains()
     ensures surfaces { (w : World) (s t : Created) → KeepsAlways w → Contains w.surfaces s
         → Contains w.surfaces t → IsTrue (same_group s.id t.id)
@@ -230,8 +236,10 @@ pub fn groups_are_chains()
         ⊎ IsTrue (at_least t.submitted.id s.submitted.id) }
 {}
 
-/// A range shows the active surface at its end or older that is newer than all others there; where
-/// there is none, that at its start or newer; and else none.
+/// A range shows the newest active surface in the end's group that is not newer than the end and,
+/// if the start is in that group, not older than the start. If there is none, it shows the newest
+/// active surface in the start's group that is not older than the start. If there is none either,
+/// it shows nothing.
 pub fn ranges_show_the_newest()
     ensures end { (w : World) (range : SurfaceRange) (i : FrameData) → KeepsAlways w
         → Contains (active_frames w.subs) i → IsTrue (in_range range i) → ((j : FrameData)
@@ -250,8 +258,8 @@ pub fn ranges_show_the_newest()
         → shown w range ≡ None }
 {}
 
-/// A round makes what is ready active one after another, and a collection destroys what is lost one
-/// after another in any order.
+/// A round of settling makes the ready submissions active one after another, in order. A
+/// collection destroys the lost surfaces one after another, in any order.
 pub fn changes_go_one_by_one()
     ensures round { (w : World) → KeepsAlways w → round w ≡ all_rising (ready w) w }
     ensures clearing { (w : World) (cs : List Created) → KeepsAlways w → ((c : Created)
@@ -259,9 +267,9 @@ pub fn changes_go_one_by_one()
         → Contains cs c) → clearing w ≡ all_going cs w }
 {}
 
-/// Between the parts of a round and of a collection, which go one by one, what always holds is
-/// kept, so that calls may follow one another: as a submission that waits becomes active, where
-/// the others wait on, and as a marked surface is destroyed, where the others stay marked.
+/// The invariants that hold at all times also hold inside a round and inside a collection, after
+/// each single change, so that calls may follow one another. If one waiting submission becomes
+/// active, the others still wait; if one marked surface is destroyed, the others stay marked.
 pub fn single_changes_keep()
     ensures rising { (w : World) (s : Submission) → KeepsAlways w → Contains w.subs s
         → IsTrue (is_waiting s) → KeepsAlways (rising s w) }

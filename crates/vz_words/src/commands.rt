@@ -1,123 +1,124 @@
-//! What the words of a command line can ask for.
+//! The commands that a command line can ask for.
 
-/// The words of `run`: each client on a thread of its own, with a display beside them. Sides are in
-/// pixels, and names are those of files.
+/// The words of `run`, which runs each client on its own thread beside a display. Sides are in
+/// pixels, and names are names of files.
 #[derive(Clone, Copy)]
 pub struct RunWords<'a> {
-    /// Whether the display waits in each round until every client has answered the begin-frame or is
-    /// idle.
+    /// Whether in each round the display waits, before it draws, until each client has answered
+    /// the begin-frame or is idle.
     pub paced: bool,
-    /// How many buffers the display has, where the words say so.
+    /// How many buffers the display has, or None if the words do not say.
     pub buffers: Option<u32>,
     /// Whether a thread of its own writes the frames.
     pub pipe: bool,
-    /// How many columns the display has.
+    /// The width of the display in pixels.
     pub width: u32,
-    /// How many rows the display has.
+    /// The height of the display in pixels.
     pub height: u32,
-    /// How many begin-frames there are.
+    /// How many begin-frames the display makes.
     pub ticks: u32,
-    /// Where the frames go.
+    /// The file to which the frames are written.
     pub frames: &'a str,
-    /// Where the log goes.
+    /// The file to which the log is written.
     pub log: &'a str,
-    /// The client files, of which the first is that of client 1.
+    /// The client files. The first is that of client 1.
     pub files: &'a [String],
 }
 
-/// The words of `step`: the steps of a schedule, one after the other.
+/// The words of `step`, which takes the events of a schedule one after the other.
 #[derive(Clone, Copy)]
 pub struct StepWords<'a> {
-    /// How many columns the display has.
+    /// The width of the display in pixels.
     pub width: u32,
-    /// How many rows the display has.
+    /// The height of the display in pixels.
     pub height: u32,
-    /// Where the schedule stands.
+    /// The file of the schedule.
     pub schedule: &'a str,
-    /// Where the frames go.
+    /// The file to which the frames are written.
     pub frames: &'a str,
-    /// Where the log goes.
+    /// The file to which the log is written.
     pub log: &'a str,
-    /// The client files, of which the first is that of client 1.
+    /// The client files. The first is that of client 1.
     pub files: &'a [String],
 }
 
-/// The words of `check`: whether a log and its frames are those of the machine.
+/// The words of `check`, which decides whether a log and its frames are those that the machine
+/// makes.
 #[derive(Clone, Copy)]
 pub struct CheckWords<'a> {
-    /// How many columns the display has.
+    /// The width of the display in pixels.
     pub width: u32,
-    /// How many rows the display has.
+    /// The height of the display in pixels.
     pub height: u32,
-    /// Where the frames stand.
+    /// The file of the frames.
     pub frames: &'a str,
-    /// Where the log stands.
+    /// The file of the log.
     pub log: &'a str,
-    /// The client files, of which the first is that of client 1.
+    /// The client files. The first is that of client 1.
     pub files: &'a [String],
 }
 
-/// The words of `gen`: the three client files by rule, written.
+/// The words of `gen`, which generates three client files.
 #[derive(Clone, Copy)]
 pub struct MakeWords<'a> {
     /// How many rounds the files have.
     pub rounds: u32,
-    /// Where the file of client 1 goes.
+    /// The file to which client 1's messages are written.
     pub first: &'a str,
-    /// Where the file of client 2 goes.
+    /// The file to which client 2's messages are written.
     pub second: &'a str,
-    /// Where the file of client 3 goes.
+    /// The file to which client 3's messages are written.
     pub third: &'a str,
 }
 
-/// The words of `hit`: which surface is at a point of the last frame of a schedule.
+/// The words of `hit`, which asks for the surface at a point of the last frame of a schedule.
 #[derive(Clone, Copy)]
 pub struct HitWords<'a> {
-    /// How many columns the display has.
+    /// The width of the display in pixels.
     pub width: u32,
-    /// How many rows the display has.
+    /// The height of the display in pixels.
     pub height: u32,
-    /// Where the schedule stands.
+    /// The file of the schedule.
     pub schedule: &'a str,
-    /// The column of the point, from 0.
+    /// The column of the point, from 0 on.
     pub x: u32,
-    /// The row of the point, from 0.
+    /// The row of the point, from 0 on.
     pub y: u32,
-    /// The client files, of which the first is that of client 1.
+    /// The client files. The first is that of client 1.
     pub files: &'a [String],
 }
 
-/// The words of `turns`: clients and a display that take turns, without pictures.
+/// The words of `turns`, in which clients and a display take turns, without pictures.
 #[derive(Clone, Copy)]
 pub struct TurnsWords<'a> {
-    /// How many columns the display has.
+    /// The width of the display in pixels.
     pub width: u32,
-    /// How many rows the display has.
+    /// The height of the display in pixels.
     pub height: u32,
-    /// How many begin-frames there are.
+    /// How many begin-frames the display makes.
     pub ticks: u32,
-    /// The client files, of which the first is that of client 1.
+    /// The client files. The first is that of client 1.
     pub files: &'a [String],
 }
 
-/// What the words of a command line ask for.
+/// What a command line asks for.
 #[derive(Clone, Copy)]
 pub enum Command<'a> {
-    /// Each client on a thread of its own, with a display beside them.
+    /// Run each client on its own thread, beside a display.
     Run(RunWords<'a>),
-    /// The steps of a schedule, one after the other.
+    /// Take the events of a schedule one after the other.
     Step(StepWords<'a>),
-    /// Whether a log and its frames are those of the machine.
+    /// Decide whether a log and its frames are those that the machine makes.
     Check(CheckWords<'a>),
-    /// The three client files by rule, written.
+    /// Generate three client files and write them.
     Gen(MakeWords<'a>),
-    /// The three client files by rule, shown without a file.
+    /// Generate three client files and run them without writing a file.
     Demo {
         /// How many rounds the files have.
         rounds: u32,
     },
-    /// Which surface is at a point of the last frame of a schedule.
+    /// Find the surface at a point of the last frame of a schedule.
     Hit(HitWords<'a>),
-    /// Clients and a display that take turns, without pictures.
+    /// Let clients and a display take turns, without pictures.
     Turns(TurnsWords<'a>),
 }

@@ -1,4 +1,4 @@
-//! The numbers in front of words.
+//! The numbers at the front of a list of words.
 ghost use Rattle.std.specs.Prelude.{◌≡◌, ◌≤◌, ◌+◌, ℕ, List, IfSome, IfNone};
 ghost use Rattle.vz_rules.specs.Command.{Word, frames_fit};
 ghost use Rattle.vz_words.specs.Words.{texts, IsDisplay, IsTimed};
@@ -7,30 +7,29 @@ ghost use Rattle.vz_base.specs.declared.limits.TheConstants.{GREATEST_DISPLAY_SI
 use crate::numbers::number;
 use vz_base::limits::{GREATEST_DISPLAY_SIDE, MOST_DRAWN_BYTES, MOST_TICKS};
 
-/// The sides of the display in front of words, and the words behind them.
+/// The sides of the display, and the words after them.
 pub(crate) struct Display<'a> {
-    /// How many columns the display has.
+    /// The width of the display in pixels.
     pub width: u32,
-    /// How many rows the display has.
+    /// The height of the display in pixels.
     pub height: u32,
-    /// The words behind the sides.
+    /// The words after the sides.
     pub rest: &'a [String],
 }
 
-/// The sides of the display and the number of begin-frames in front of words, and the words
-/// behind them.
+/// The sides of the display, the number of begin-frames, and the words after them.
 pub(crate) struct Timed<'a> {
-    /// How many columns the display has.
+    /// The width of the display in pixels.
     pub width: u32,
-    /// How many rows the display has.
+    /// The height of the display in pixels.
     pub height: u32,
-    /// How many begin-frames there are.
+    /// How many begin-frames the display makes.
     pub ticks: u32,
-    /// The words behind the numbers.
+    /// The words after the numbers.
     pub rest: &'a [String],
 }
 
-/// The sides of the display in front of the words.
+/// Reads the sides of the display from the first two words. It returns None if they spell none.
 pub(crate) fn sides(words: &[String]) -> Option<Display<'_>>
     ensures found { IfSome result (λ d. IsDisplay (texts words.now) d.width d.height
         (texts d.rest.now)) }
@@ -49,8 +48,9 @@ pub(crate) fn sides(words: &[String]) -> Option<Display<'_>>
     })
 }
 
-/// The sides of the display and the number of begin-frames in front of the words, where the frames
-/// that are drawn then have no more bytes than they may.
+/// Reads the sides of the display and the number of begin-frames from the first three words. It
+/// returns None if they spell none, or if the frames drawn then could have more than
+/// `MOST_DRAWN_BYTES` bytes together.
 pub(crate) fn sides_and_ticks(words: &[String]) -> Option<Timed<'_>>
     ensures found { IfSome result (λ t. IsTimed (texts words.now) t.width t.height t.ticks
         (texts t.rest.now)) }
@@ -77,8 +77,8 @@ pub(crate) fn sides_and_ticks(words: &[String]) -> Option<Timed<'_>>
     })
 }
 
-/// Whether so many frames of a display have no more bytes than they may. Conditions: sides of a
-/// display, and no more frames than a run draws.
+/// Whether so many frames have at most `MOST_DRAWN_BYTES` bytes together. Conditions: the sides
+/// are those of a display, and there are no more frames than a run draws.
 fn frames_fit(width: u32, height: u32, frames: u32) -> bool
     requires width { width ≤ GREATEST_DISPLAY_SIDE }
     requires height { height ≤ GREATEST_DISPLAY_SIDE }

@@ -7,37 +7,38 @@ ghost use Rattle.vz_words.specs.Words.{texts};
 
 use vz_base::limits::{MOST_FILES, MOST_NAME_BYTES};
 
-/// Whether each word is a name and all differ, and there are as many files among them as there may
-/// be.
+/// Whether each of the names is the name of a file, all of them differ, and there are 1 to
+/// `MOST_FILES` files.
 pub(crate) fn are_names_with(names: &[String], files: &[String]) -> bool
     ensures { result ≡ (are_files (texts files.now) && are_names (texts names.now)) }
 {
     are_files(files) && are_names(names)
 }
 
-/// Whether a word and files are names that all differ, and there are as many files as there may
-/// be.
+/// Whether the name and each of the files is the name of a file, all differ, and there are 1 to
+/// `MOST_FILES` files.
 pub(crate) fn is_name_before(name: &str, files: &[String]) -> bool
     ensures { result ≡ (are_files (texts files.now) && are_names (name.now ∷ texts files.now)) }
 {
     are_files(files) && is_name(name) && !has_word(files, name) && are_names(files)
 }
 
-/// Whether there are as many files as there may be.
+/// Whether there are 1 to `MOST_FILES` files.
 fn are_files(files: &[String]) -> bool
     ensures { result ≡ are_files (texts files.now) }
 {
     !files.is_empty() && files.len() <= MOST_FILES
 }
 
-/// Whether each word is a name, and all differ.
+/// Whether each word is the name of a file, and all differ.
 pub(crate) fn are_names(words: &[String]) -> bool
     ensures { result ≡ are_names (texts words.now) }
 {
     all_are_names(words) && !has_repeat(words)
 }
 
-/// Whether a word is a name: 1 to `MOST_NAME_BYTES` bytes, and no dash at its front.
+/// Whether a word is the name of a file: it has 1 to `MOST_NAME_BYTES` bytes and begins with no
+/// dash.
 fn is_name(word: &str) -> bool
     ensures { result ≡ is_name word.now }
 {
@@ -45,7 +46,7 @@ fn is_name(word: &str) -> bool
     !bytes.is_empty() && bytes.len() <= MOST_NAME_BYTES && bytes[0] != b'-'
 }
 
-/// Whether each word is a name.
+/// Whether each word is the name of a file.
 fn all_are_names(words: &[String]) -> bool
     ensures { result ≡ list_all is_name (texts words.now) }
 {
@@ -65,7 +66,7 @@ fn has_repeat(words: &[String]) -> bool
     }
 }
 
-/// Whether a word is among some.
+/// Whether the words include this one.
 fn has_word(words: &[String], word: &str) -> bool
     ensures { result ≡ list_any (same_text word.now) (texts words.now) }
 {

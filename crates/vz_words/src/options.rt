@@ -1,4 +1,4 @@
-//! The options in front of words.
+//! The options at the front of a list of words.
 ghost use Rattle.std.specs.Prelude.{codes, ℕ, List, Option, IfSome, IfNone};
 ghost use Rattle.vz_rules.specs.Command.{Word};
 ghost use Rattle.vz_words.specs.Words.{texts, IsFlag, IsBuffers};
@@ -7,7 +7,8 @@ use crate::names::is_same;
 use crate::numbers::number;
 use vz_base::limits::MOST_BUFFERS;
 
-/// Whether the option stands in front of the words, and the words behind it.
+/// Whether the first word is this option. If so, the words after it come with the answer, and else
+/// all words.
 pub(crate) fn flag<'a>(words: &'a [String], name: &str) -> (bool, &'a [String])
     ensures { IsFlag name.now (texts words.now) result.0 (texts result.1.now) }
 {
@@ -19,8 +20,8 @@ pub(crate) fn flag<'a>(words: &'a [String], name: &str) -> (bool, &'a [String])
     (false, words)
 }
 
-/// The number of buffers in front of the words, where the option for it stands there, and the
-/// words behind it. Nothing where the option stands there without a number of buffers.
+/// Reads the number of buffers if the first word is the option for it, and returns it with the
+/// words after it. It returns None if that option comes without a valid number of buffers.
 pub(crate) fn buffers(words: &[String]) -> Option<(Option<u32>, &[String])>
     ensures found { IfSome result (λ b. IsBuffers (texts words.now) b.0 (texts b.1.now)) }
     ensures none { IfNone result ((b : Option ℕ) (rest : List Word)

@@ -1,4 +1,4 @@
-//! Which command words are.
+//! Decides which command a list of words asks for.
 ghost use Rattle.std.specs.Prelude.{codes, ◌∷◌, IfSome, IfNone};
 ghost use Rattle.vz_rules.specs.Command.{IsCommand, IsNoCommand};
 ghost use Rattle.vz_words.specs.Words.{texts, command_of};
@@ -10,9 +10,9 @@ use crate::numbers::number;
 use crate::options::{buffers, flag};
 use vz_base::limits::MOST_ROUNDS;
 
-/// What the words behind the name of the program ask for. Nothing where they are those of no
-/// command: another first word, a number or name too few, too many or out of range, an option out
-/// of its order, or two names that are the same.
+/// Decides what the words after the program's name ask for. It returns None if they are those of
+/// no command: the first word is no command's, a number or a name is missing, superfluous or out
+/// of its range, an option is out of its order, or two names are equal.
 pub fn command(words: &[String]) -> Option<Command<'_>>
     ensures found { IfSome result (λ c. IsCommand (texts words.now) (command_of c)) }
     ensures none { IfNone result (IsNoCommand (texts words.now)) }
@@ -32,7 +32,7 @@ pub fn command(words: &[String]) -> Option<Command<'_>>
     }
 }
 
-/// The command whose words behind `run` these are.
+/// Reads the words after `run`.
 fn run(words: &[String]) -> Option<Command<'_>>
     ensures found { IfSome result (λ c. IsCommand (codes "run" ∷ texts words.now) (command_of c)) }
     ensures none { IfNone result (IsNoCommand (codes "run" ∷ texts words.now)) }
@@ -65,7 +65,7 @@ fn run(words: &[String]) -> Option<Command<'_>>
     }))
 }
 
-/// The command whose words behind `step` these are.
+/// Reads the words after `step`.
 fn step(words: &[String]) -> Option<Command<'_>>
     ensures found { IfSome result (λ c. IsCommand (codes "step" ∷ texts words.now) (command_of c)) }
     ensures none { IfNone result (IsNoCommand (codes "step" ∷ texts words.now)) }
@@ -91,7 +91,7 @@ fn step(words: &[String]) -> Option<Command<'_>>
     }))
 }
 
-/// The command whose words behind `check` these are.
+/// Reads the words after `check`.
 fn check(words: &[String]) -> Option<Command<'_>>
     ensures found { IfSome result (λ c. IsCommand (codes "check" ∷ texts words.now)
         (command_of c)) }
@@ -117,7 +117,7 @@ fn check(words: &[String]) -> Option<Command<'_>>
     }))
 }
 
-/// The command whose words behind `gen` these are.
+/// Reads the words after `gen`.
 fn make_files(words: &[String]) -> Option<Command<'_>>
     ensures found { IfSome result (λ c. IsCommand (codes "gen" ∷ texts words.now) (command_of c)) }
     ensures none { IfNone result (IsNoCommand (codes "gen" ∷ texts words.now)) }
@@ -140,7 +140,7 @@ fn make_files(words: &[String]) -> Option<Command<'_>>
     }))
 }
 
-/// The command whose words behind `demo` these are.
+/// Reads the words after `demo`.
 fn demo(words: &[String]) -> Option<Command<'_>>
     ensures found { IfSome result (λ c. IsCommand (codes "demo" ∷ texts words.now) (command_of c)) }
     ensures none { IfNone result (IsNoCommand (codes "demo" ∷ texts words.now)) }
@@ -152,7 +152,7 @@ fn demo(words: &[String]) -> Option<Command<'_>>
     Some(Command::Demo { rounds })
 }
 
-/// The command whose words behind `hit` these are.
+/// Reads the words after `hit`.
 fn hit(words: &[String]) -> Option<Command<'_>>
     ensures found { IfSome result (λ c. IsCommand (codes "hit" ∷ texts words.now) (command_of c)) }
     ensures none { IfNone result (IsNoCommand (codes "hit" ∷ texts words.now)) }
@@ -180,7 +180,7 @@ fn hit(words: &[String]) -> Option<Command<'_>>
     }))
 }
 
-/// The command whose words behind `turns` these are.
+/// Reads the words after `turns`.
 fn turns(words: &[String]) -> Option<Command<'_>>
     ensures found { IfSome result (λ c. IsCommand (codes "turns" ∷ texts words.now)
         (command_of c)) }
