@@ -1,4 +1,4 @@
-//! The buffer.
+//! A buffer of pixels.
 ghost use Rattle.std.specs.Prelude.{◌≡◌, ◌+◌, ◌≤◌, ◌≤ℤ◌, ◌<ℤ◌, ◌+ℤ◌, pos, length, replicate, slice_get, Some, IfOk, OnOk, OnErr};
 ghost use Rattle.vz_pixels.specs.Colour.{black};
 ghost use Rattle.vz_buffers.specs.Canvas.{IsCanvas, pixel_count, span_put, pixel_place};
@@ -12,7 +12,7 @@ use vz_base::Memory;
 use vz_geom::Size;
 use vz_pixels::Pixel;
 
-/// The pixels of a display, row by row from the top, each row from left to right.
+/// The pixels of a display, row by row from the top, and each row from left to right.
 #[derive(Drop)]
 pub struct Buffer {
     size: Size,
@@ -30,7 +30,8 @@ impl Model for Buffer {
 }
 
 impl Buffer {
-    /// A buffer that is opaque black everywhere. Each of its pixels is a step.
+    /// Makes a buffer that is opaque black everywhere. Each of its pixels counts as a step. The
+    /// only error is `Memory`.
     pub fn new<L: Ledger>(alloc: Global, size: Size, steps: &mut Steps<L>) -> Result<Buffer, Memory>
         requires { IsDisplaySize size }
         ensures size { IfOk result (λ b. b.size ≡ size) }
@@ -52,7 +53,7 @@ impl Buffer {
         self.size
     }
 
-    /// Puts a span of pixels into row `y`, from column `x` on. Each of them is a step.
+    /// Puts a span of pixels into row `y`, from column `x` on. Each of them counts as a step.
     pub fn put_span<L: Ledger>(&mut self, x: i32, y: i32, row: &[Pixel], steps: &mut Steps<L>)
         requires left { pos 0 ≤ℤ x }
         requires right { (x +ℤ pos (length row.now)) ≤ℤ self.old.size.w }
@@ -79,7 +80,7 @@ impl Buffer {
         self.pixels[place(&self.size, x, y)]
     }
 
-    /// All pixels.
+    /// All pixels, row by row from the top.
     pub fn pixels(&self) -> &[Pixel]
         ensures { result.now ≡ self.now.pixels }
     {
@@ -95,7 +96,7 @@ fn pixels_of(size: &Size) -> usize
     size.w.unsigned_abs() as usize * size.h.unsigned_abs() as usize
 }
 
-/// Where the pixel of a column and a row stands.
+/// The index of the pixel in column `x` and row `y`.
 fn place(size: &Size, x: i32, y: i32) -> usize
     requires sides { IsDisplaySize size.now }
     requires left { pos 0 ≤ℤ x }
@@ -107,7 +108,7 @@ fn place(size: &Size, x: i32, y: i32) -> usize
     y.unsigned_abs() as usize * size.w.unsigned_abs() as usize + x.unsigned_abs() as usize
 }
 
-/// Replaces a span of pixels from a place on.
+/// Replaces the pixels from index `at` on by a span.
 #[tactic(auto, unfolding(crate::specs::Canvas::span_put))]
 fn put(pixels: &mut [Pixel], at: usize, row: &[Pixel])
     requires { (at + length row.now) ≤ length pixels.old }

@@ -1,12 +1,14 @@
-//! Laws of the buffers in turn, each the contract of a function that does nothing.
+//! Laws of buffers that are used in turn. Each is the contract of an empty function; a caller
+//! that calls it may use its clauses.
 ghost use Rattle.std.specs.Prelude.{◌≡◌, ℕ, ◌≤◌, ◌%◌, List, ◌∷◌, length};
 ghost use Rattle.vz_geom.specs.declared.Size.{Size};
 ghost use Rattle.vz_geom.specs.Rectangle.{Rectangle};
 ghost use Rattle.vz_buffers.specs.Turns.{stale_of, damaged, turns_after, stale_with};
 
-/// Where each drawing adds its damage and paints the next buffer, what is stale of that buffer is
-/// the whole display at its first use, and then the smallest rectangle round the damages since its
-/// last one, and the buffers are next in turn.
+/// Suppose that each drawing adds its damage and then paints the next buffer. Then the stale
+/// rectangle of that buffer is the whole display at its first use, and later the smallest
+/// rectangle around the damages since its last use; and the buffers come one after the other, in
+/// a circle.
 pub fn damages_accumulate()
     ensures stale { (size : Size) (count : ℕ) (r : Rectangle) (before : List Rectangle) → 1 ≤ count
         → stale_of (damaged (turns_after size count before) r)

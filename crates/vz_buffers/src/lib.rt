@@ -1,5 +1,5 @@
-//! A display's buffers of pixels, the queue in which they are used, and the counter of the pixels
-//! that are put into them.
+//! The buffers of a display, the queue in which they are used, and the counter of the pixels that
+//! are put into them.
 #![tactic(auto)]
 
 mod buffer;

@@ -1,4 +1,4 @@
-//! The queue of the buffers of a display.
+//! The queue of the buffers of a display, like Chromium's `BufferQueue`.
 ghost use Rattle.std.specs.Prelude.{◌≡◌, ◌≤◌, ◌-◌, map, replicate, Some, None, ◌∷◌, length, take};
 ghost use Rattle.std.specs.Option.{option_map};
 ghost use Rattle.vz_geom.specs.Rectangle.{join, no_rectangle, sized};
@@ -10,8 +10,8 @@ use std::marker::Model;
 use vz_base::limits::MOST_BUFFERS;
 use vz_geom::{Rect, Size};
 
-/// The buffers of a display, which are used in turn: which one is next, and what of each is
-/// stale, since it changed after the buffer was painted.
+/// Which of the buffers of a display is painted next, and which rectangle of each is stale: it
+/// changed after the buffer was last painted.
 #[derive(Drop)]
 pub struct Queue {
     size: Size,
@@ -34,8 +34,8 @@ impl Model for Queue {
 }
 
 impl Queue {
-    /// So many buffers that were never painted. Conditions: 1 to `MOST_BUFFERS` buffers, and
-    /// a display's size.
+    /// Makes the queue of `count` buffers that were never painted. Conditions: 1 to
+    /// `MOST_BUFFERS` buffers, and a size that a display may have.
     pub fn new(count: u32, size: Size) -> Queue
         requires from { 1 ≤ count }
         requires upto { count ≤ MOST_BUFFERS }
@@ -57,8 +57,8 @@ impl Queue {
         self.next
     }
 
-    /// What is stale of the next buffer: the whole display before it was painted, and then the
-    /// smallest rectangle round the damages since.
+    /// The stale rectangle of the next buffer: the whole display if it was never painted, and
+    /// else the smallest rectangle around the damages since it was painted.
     #[tactic(auto, unfolding(crate::specs::Turns::stale_of))]
     pub fn stale(&self) -> Rect
         ensures { result ≡ stale_of self.now }
@@ -69,7 +69,7 @@ impl Queue {
         }
     }
 
-    /// Adds a damage to what is stale of each buffer.
+    /// Adds a damage to the stale rectangle of each buffer.
     #[tactic(auto, unfolding(crate::specs::Turns::damaged))]
     pub fn add_damage(&mut self, r: &Rect)
         ensures { self.new ≡ damaged self.old r.now }
@@ -77,7 +77,8 @@ impl Queue {
         add_to_all(self.stales.as_mut_slice(), r);
     }
 
-    /// The next buffer was painted: nothing of it is stale, and the one behind it is next.
+    /// Notes that the next buffer was painted: its stale rectangle becomes empty, and the buffer
+    /// after it is next.
     #[tactic(auto, unfolding(crate::specs::Turns::turned))]
     pub fn painted(&mut self)
         ensures { self.new ≡ turned self.old }
@@ -87,7 +88,7 @@ impl Queue {
     }
 }
 
-/// So many buffers of which all is stale.
+/// The stale rectangles of `count` buffers that were never painted. None means the whole display.
 fn never_painted(count: u32) -> ArrayVec<Option<Rect>, MOST_BUFFERS>
     requires { count ≤ MOST_BUFFERS }
     ensures { result.items ≡ replicate count None }
@@ -99,7 +100,7 @@ fn never_painted(count: u32) -> ArrayVec<Option<Rect>, MOST_BUFFERS>
     stales
 }
 
-/// The last of them comes first, with nothing stale.
+/// Moves the last of them to the front, with an empty stale rectangle.
 fn turn(stales: &mut ArrayVec<Option<Rect>, MOST_BUFFERS>)
     requires some { 1 ≤ length stales.old.items }
     requires room { length stales.old.items ≤ MOST_BUFFERS }
@@ -110,7 +111,7 @@ fn turn(stales: &mut ArrayVec<Option<Rect>, MOST_BUFFERS>)
     stales.insert(0, Some(nothing()));
 }
 
-/// The rectangle without a point.
+/// The empty rectangle.
 #[tactic(auto, unfolding(vz_geom::specs::Rectangle::with_sides))]
 fn nothing() -> Rect
     ensures { result ≡ no_rectangle }
@@ -118,7 +119,7 @@ fn nothing() -> Rect
     Rect::new(0, 0, 0, 0)
 }
 
-/// All of a display.
+/// The rectangle of a whole display.
 fn whole(size: &Size) -> Rect
     requires { IsDisplaySize size.now }
     ensures { result ≡ sized size.now }
@@ -126,7 +127,7 @@ fn whole(size: &Size) -> Rect
     Rect::new(0, 0, size.w, size.h)
 }
 
-/// Adds a damage to what is stale, each where the buffer was painted.
+/// Adds a damage to the stale rectangle of each buffer that was ever painted.
 fn add_to_all(stales: &mut [Option<Rect>], r: &Rect)
     ensures { stales.new ≡ map (option_map (join r.now)) stales.old }
 {
@@ -135,7 +136,7 @@ fn add_to_all(stales: &mut [Option<Rect>], r: &Rect)
     }
 }
 
-/// Adds a damage to what is stale, where the buffer was painted.
+/// Adds a damage to a stale rectangle, if its buffer was ever painted.
 fn add_to(stale: &mut Option<Rect>, r: &Rect)
     ensures { stale.new ≡ option_map (join r.now) stale.old }
 {

@@ -4,8 +4,8 @@ ghost use Rattle.std.specs.Prelude.{◌≡◌, ◌+◌, ◌-◌, ◌^◌, min};
 use std::marker::Model;
 use std::sync::ledger::{Blank, Book, Ledger, Share};
 
-/// How many steps were taken: a step is one pixel put into a buffer. It only counts: nothing sets
-/// it back, and only a buffer counts in it.
+/// How many steps were taken. A step is one pixel that is put into a buffer. The counter only
+/// rises: nothing sets it back, and only buffers count in it.
 #[derive(Drop)]
 pub struct Steps<L: Ledger> {
     book: Book<L>,
@@ -26,7 +26,7 @@ impl<L: Ledger> Model for Steps<L> {
 impl<L: Ledger> Steps<L> {
     ghost use Rattle.std.specs.Prelude.{◌<◌};
 
-    /// A counter at 0, of a ledger that nobody else counts in.
+    /// Makes a counter at 0, of a ledger in which nobody else counts.
     pub fn new(blank: Blank) -> Steps<L>
         requires name { blank.name ≡ L.name }
         requires parts { blank.parts ≡ L.parts }
@@ -41,7 +41,7 @@ impl<L: Ledger> Steps<L> {
         }
     }
 
-    /// Counts so many steps more. The buffer alone does: it counts what it puts.
+    /// Counts more steps. Only a buffer calls it, for the pixels that it puts.
     pub(crate) fn add(&mut self, count: u64)
         ensures { self.new ≡ self.old + count }
     {
@@ -49,7 +49,7 @@ impl<L: Ledger> Steps<L> {
         self.count = self.count.saturating_add(count);
     }
 
-    /// All steps so far, or `u64::MAX` where they are more.
+    /// All steps so far, or `u64::MAX` if there are more.
     pub fn count(&self) -> u64
         ensures { result ≡ min self.now (2 ^ 64 - 1) }
     {

@@ -1,4 +1,4 @@
-//! Files, encoded.
+//! Encodes message files.
 ghost use Rattle.std.specs.Prelude.{◌≡◌, IsTrue, IfOk};
 ghost use Rattle.vz_frame.specs.Fits.{fits_file};
 ghost use Rattle.vz_codec.specs.Spelling.{file_bytes};
@@ -9,7 +9,8 @@ use std::alloc::Global;
 use vz_frame::ClientFile;
 use vz_pixels::Memory;
 
-/// The one spelling of a file. Condition: it fits. Memory is the only error.
+/// Encodes a file. Each file that fits the format has exactly one encoding. Condition: it fits.
+/// The only error is `Memory`.
 pub fn encode(alloc: Global, file: &ClientFile) -> Result<Vec<u8>, Memory>
     requires { IsTrue (fits_file file.now) }
     ensures { IfOk result (λ bytes. bytes.items ≡ file_bytes file.now) }

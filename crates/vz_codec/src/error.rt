@@ -1,11 +1,11 @@
-//! Why a field is not read.
+//! Why a field cannot be read.
 ghost use Rattle.std.specs.Prelude.{◌≡◌};
 ghost use Rattle.vz_codec.specs.declared.error.ReadError.TheVariants.{Memory};
 
 use crate::fault::FileRule;
 use std::alloc::{AllocError, AllocFailed};
 
-/// Why a field is not read: for want of memory, or what it breaks and how many bytes are left at it.
+/// Why a field cannot be read: an allocation failed, or a rule is broken with so many bytes left.
 #[derive(Clone, Copy, Debug, PartialEq, Eq)]
 pub enum ReadError {
     Memory,
@@ -15,7 +15,7 @@ pub enum ReadError {
 impl ReadError {
     ghost use Rattle.vz_codec.specs.declared.error.ReadError.TheVariants.{Wrong};
 
-    /// The field at which so many bytes are left breaks a rule.
+    /// The error that the field with `left` bytes left breaks a rule.
     pub fn refused(left: usize, rule: FileRule) -> ReadError
         ensures { result ≡ Wrong left rule }
     {

@@ -1,4 +1,4 @@
-//! Kinds of fields, fields that stand behind a flag, and several in a row.
+//! Kinds of fields: single ones, optional ones after a flag, and several in a row.
 ghost use Rattle.std.specs.Prelude.{◌≡◌, ◌++◌, length, OnOk, IfOk};
 ghost use Rattle.std.specs.List.{flat_map, list_all};
 ghost use Rattle.vz_codec.specs.Fields.{Kind, optional, counted};
@@ -12,11 +12,11 @@ use crate::writer::Writer;
 use std::alloc::AllocError;
 use vz_frame::List;
 
-/// A kind of field: how its values are read and written, and which of them fit.
+/// A kind of field: how its values are read and written, and which of them fit the format.
 pub trait Field {
     type Value: Drop;
 
-    /// How a value is read, which bytes spell it, and whether every number of it is in its range.
+    /// How a value is read, which bytes spell it, and whether each number in it is in its range.
     ghost kind: { Self → Kind Self.Value };
 
     fn read(&self, input: &mut Reader) -> Result<Self::Value, ReadError>
@@ -29,7 +29,7 @@ pub trait Field {
         ensures { result ≡ (kind self.now).fitting value.now };
 }
 
-/// A flag, and the value behind a 1.
+/// A flag of one byte, and, after the flag 1, a value.
 #[derive(Drop)]
 pub struct Optional<F>(pub F);
 
@@ -64,7 +64,7 @@ impl<F: Field + Drop> Field for Optional<F> {
     }
 }
 
-/// A count of one byte up to a limit, and so many values.
+/// A count of one byte with a greatest value, and then as many values.
 #[derive(Drop)]
 pub struct Counted<F>(pub u8, pub F);
 
@@ -92,7 +92,8 @@ impl<F: Field + Drop> Field for Counted<F> {
     }
 }
 
-/// So many values. At first room is made for no more of them than there are bytes left.
+/// Reads `count` values. It first reserves room for no more of them than bytes are left, so that
+/// a false count cannot ask for much memory.
 pub fn read_many<F: Field>(
     field: &F,
     count: usize,
@@ -104,7 +105,7 @@ pub fn read_many<F: Field>(
 {
     let mut values = Vec::with_capacity(input.alloc(), count.min(input.left()))?;
 
-    // What is left is kept at hand while the values are read.
+    // A copy of the reader is used while the values are read.
     let mut ahead = input.ahead();
     for _ in 0..count {
         let value = field.read(&mut ahead)?;
@@ -114,7 +115,7 @@ pub fn read_many<F: Field>(
     Ok(values)
 }
 
-/// Values one after the other, without their number.
+/// Writes values one after the other, without their count.
 pub fn write_many<F: Field>(
     field: &F,
     values: &[F::Value],
@@ -128,7 +129,7 @@ pub fn write_many<F: Field>(
     Ok(())
 }
 
-/// Whether all of these values fit.
+/// Whether each of these values fits the format.
 pub fn fit_all<F: Field>(field: &F, values: &[F::Value]) -> bool
     ensures { result ≡ list_all (F.kind field.now).fitting values.now }
 {

@@ -21,7 +21,7 @@ use vz_ids::FrameSinkId;
 /// The bytes `VIZC` as a number.
 const MAGIC: u32 = 0x435a_4956;
 
-/// All of the bytes as a file.
+/// Reads all of the bytes as one file.
 #[tactic(auto, unfolding(crate::specs::Reading::file_in, crate::specs::Reading::file_at, crate::specs::Reading::counted_at))]
 pub fn read_file(alloc: Global, bytes: &[u8]) -> Result<ClientFile, ReadError>
     ensures { Gives (λ f. f) result (file_in bytes.now) }
@@ -40,7 +40,7 @@ pub fn read_file(alloc: Global, bytes: &[u8]) -> Result<ClientFile, ReadError>
     ended(file, &input)
 }
 
-/// The file, where no byte is left.
+/// The file, if no byte is left after it.
 #[tactic(auto, unfolding(crate::specs::Reading::ended))]
 fn ended(file: ClientFile, input: &Reader) -> Result<ClientFile, ReadError>
     ensures { Gives (λ f. f) result (ended (file, input.now)) }
@@ -63,7 +63,7 @@ fn read_magic(input: &mut Reader) -> Result<(), ReadError>
     Ok(())
 }
 
-/// The sink of a file.
+/// Reads the sink of a file. Its two numbers may not both be 0.
 #[tactic(auto, unfolding(crate::specs::Reading::header_at))]
 fn read_header(input: &mut Reader) -> Result<FrameSinkId, ReadError>
     ensures { Gives (λ x. (x, input.new)) result (header_at input.old) }
@@ -95,16 +95,17 @@ fn write_magic(out: &mut Writer) -> Result<(), AllocError>
     out.u32(MAGIC)
 }
 
-/// Whether a file fits, that is, every number of it is in the range that a message file has for it:
+/// Whether a file fits the format, that is, each number in it is in its range:
 ///
-/// - The format is 1 or 2, and in format 1 every mode is Over. The sink is not (0, 0).
+/// - The format is 1 or 2, and in format 1 each mode is Over. The sink is not (0, 0).
 /// - There are at most 4,096 messages.
 /// - A frame has at most 16 dependencies, 64 references, 64 resources and 16 passes, and 1,024
-///   quads in all of them. Its deadline is at most 64.
-/// - No number of a local id is 0, nor is its token. No resource is 0.
-/// - A rectangle's numbers are all 0, or its place is within 16,384 either way and its sides are
-///   1 to 16,384. A quad's offset is within 16,384 either way.
-/// - The sides of blocks and resources are 1 to 256, and a tile's first texel is at most (255, 255).
+///   quads in all of its passes together. Its deadline is at most 64.
+/// - No number of a local id is 0, nor is its token. No resource id is 0.
+/// - The numbers of a rectangle are all 0, or its top left point is within 16,384 of 0 in both
+///   directions and its sides are 1 to 16,384. A quad's offset is within 16,384 of 0.
+/// - The sides of blocks and resources are 1 to 256, and a tile's first texel is at most
+///   (255, 255).
 #[tactic(auto, unfolding(vz_frame::specs::Fits::fits_file))]
 pub fn fits(file: &ClientFile) -> bool
     ensures { result ≡ fits_file file.now }
@@ -117,14 +118,14 @@ pub fn fits(file: &ClientFile) -> bool
         && fit_all(&Messages(format), messages)
 }
 
-/// Whether a number is that of a format.
+/// Whether there is a format with this number.
 fn is_format(format: u8) -> bool
     ensures { result ≡ within 1 2 format }
 {
     1 <= format && format <= NEWEST_FORMAT
 }
 
-/// Whether a sink may be that of a file.
+/// Whether a file may have this sink.
 fn is_file_sink(sink: FrameSinkId) -> bool
     ensures { result ≡ (fits_sink sink && not ((sink.client_id == 0) && (sink.sink_id == 0))) }
 {

@@ -1,4 +1,4 @@
-//! Frames: what stands with them, their resources and passes.
+//! Fields of frames: metadata, listed resources and passes.
 ghost use Rattle.std.specs.Prelude.{◌≡◌, ◌≤◌, ◌++◌, ◌&&◌, nat_le, length, sum_by, OnOk};
 ghost use Rattle.std.specs.List.{list_all};
 ghost use Rattle.vz_frame.specs.Fits.{fits_optional, fits_listing, fits_pass, fits_frame, within};
@@ -28,7 +28,7 @@ const REFERENCES: Counted<Ranges> = Counted(MOST_REFERENCES, Ranges);
 
 const RESOURCES: Counted<Listings> = Counted(MOST_RESOURCES, Listings);
 
-/// The frames of a file of this format.
+/// The field of a frame, in a file of this format.
 #[derive(Drop)]
 pub struct Frames(pub u8);
 
@@ -108,7 +108,7 @@ impl Field for Metadatas {
     }
 }
 
-/// The deadline that says that there is none.
+/// The number that stands for no deadline.
 const NO_DEADLINE: u8 = 255;
 
 #[derive(Drop)]
@@ -144,7 +144,7 @@ impl Field for Deadlines {
     }
 }
 
-/// A listed resource: its id and its sides.
+/// The field of a listed resource: its id and its sides.
 #[derive(Drop)]
 struct Listings;
 
@@ -179,7 +179,7 @@ fn is_short_side(number: u16) -> bool
     1 <= number && number <= MOST_SIDE
 }
 
-/// The passes of a frame in a file of this format, which has room for so many more quads.
+/// The field of a pass, in a file of this format, if the frame may have so many more quads.
 #[derive(Drop)]
 struct Passes(u8, usize);
 
@@ -224,7 +224,7 @@ impl Field for Passes {
     }
 }
 
-/// So many passes, each with no more quads than those before it leave of all.
+/// Reads `count` passes. Their quads together are at most as many as a frame may have.
 fn read_passes(format: u8, count: u8, input: &mut Reader) -> Result<List<RenderPass>, ReadError>
     ensures { Gives (λ x. (x, input.new)) result (passes_at format count MOST_QUADS input.old) }
 {
@@ -238,7 +238,7 @@ fn read_passes(format: u8, count: u8, input: &mut Reader) -> Result<List<RenderP
     Ok(List::from_vec(passes))
 }
 
-/// Whether the passes have at most 1,024 quads in all.
+/// Whether the passes together have at most 1,024 quads.
 fn have_few_quads(passes: &[RenderPass]) -> bool
     ensures { result ≡ nat_le (sum_by (λ p. length p.quads) passes.now) MOST_QUADS }
 {

@@ -1,4 +1,4 @@
-//! Ids of sinks and surfaces, and ranges of surfaces.
+//! Fields of sinks, local ids, surfaces and ranges of surfaces.
 ghost use Rattle.vz_frame.specs.Fits.{is_number, fits_sink, fits_local, fits_surface, fits_range};
 ghost use Rattle.vz_codec.specs.Fields.{field};
 ghost use Rattle.vz_codec.specs.Reading.{sink_at, local_at, surface_at, range_at};
@@ -13,14 +13,14 @@ use crate::writer::Writer;
 use std::alloc::AllocError;
 use vz_ids::{EmbedToken, FrameSinkId, LocalSurfaceId, SurfaceId, SurfaceRange};
 
-/// Each `u32` has 32 bits.
+/// Each `u32` is in range: it has 32 bits.
 pub fn is_number(number: u32) -> bool
     ensures { result ≡ is_number number }
 {
     true
 }
 
-/// The client and the sink.
+/// The field of a sink: its client number and its sink number.
 #[derive(Drop)]
 pub struct Sinks;
 
@@ -46,7 +46,7 @@ impl Field for Sinks {
     }
 }
 
-/// The parent, the child and the token, none of them 0.
+/// The field of a local id: the parent number, the child number and the token. None of them is 0.
 #[derive(Drop)]
 pub struct Locals;
 
@@ -82,7 +82,7 @@ impl Field for Locals {
     }
 }
 
-/// A sink and a local id in it.
+/// The field of a surface: a sink and a local id.
 #[derive(Drop)]
 pub struct Surfaces;
 
@@ -108,7 +108,7 @@ impl Field for Surfaces {
     }
 }
 
-/// A start behind a flag, and an end.
+/// The field of a range: an optional start after a flag, and an end.
 #[derive(Drop)]
 pub struct Ranges;
 

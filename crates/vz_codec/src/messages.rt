@@ -1,4 +1,4 @@
-//! Messages, and blocks of pixels.
+//! Fields of messages and of blocks of pixels.
 ghost use Rattle.std.specs.Prelude.{◌≡◌, ◌≤◌, ◌*◌, IfOk};
 ghost use Rattle.vz_frame.specs.Fits.{fits_block, fits_message};
 ghost use Rattle.vz_codec.specs.Fields.{field};
@@ -19,7 +19,7 @@ use std::alloc::AllocError;
 use vz_frame::Message;
 use vz_pixels::{BlockError, PixelBlock};
 
-/// The bytes of a texel.
+/// How many bytes a texel has.
 const TEXEL_BYTES: usize = 4;
 
 const UPLOAD: u8 = 1;
@@ -38,7 +38,7 @@ const AWAIT: u8 = 7;
 
 const CLOSE: u8 = 8;
 
-/// The messages of a file of this format, each with a tag.
+/// The field of a message, in a file of this format: a tag, and what a message with this tag has.
 #[derive(Drop)]
 pub struct Messages(pub u8);
 
@@ -116,7 +116,7 @@ impl Field for Messages {
     }
 }
 
-/// The sides of a block, and its texels row by row.
+/// The field of a block: its sides, and its texels row by row.
 #[derive(Drop)]
 struct Blocks;
 
@@ -138,14 +138,14 @@ impl Field for Blocks {
         write_many(&Colours, block.pixels(), out)
     }
 
-    /// The sides of a block are 1 to 256.
+    /// Each block has sides from 1 to 256.
     fn fits(&self, block: &PixelBlock) -> bool {
         let pixels = block.pixels();
         pixels.len() == block.w() as usize * block.h() as usize && fit_all(&Colours, pixels)
     }
 }
 
-/// The block of the texels of these sides.
+/// Reads the texels of a block with these sides.
 fn read_texels(w: u32, h: u32, input: &mut Reader) -> Result<PixelBlock, ReadError>
     requires w { (1 ≤ w) × (w ≤ 256) }
     requires h { (1 ≤ h) × (h ≤ 256) }
@@ -168,7 +168,7 @@ fn read_texels(w: u32, h: u32, input: &mut Reader) -> Result<PixelBlock, ReadErr
     }
 }
 
-/// The block of the texels of these sides, read one by one, which finds the first fault.
+/// Reads the texels of a block with these sides one by one, to find the first fault.
 fn read_each_texel(w: u32, h: u32, input: &mut Reader) -> Result<PixelBlock, ReadError>
     requires w { (1 ≤ w) × (w ≤ 256) }
     requires h { (1 ≤ h) × (h ≤ 256) }

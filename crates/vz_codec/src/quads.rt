@@ -1,4 +1,4 @@
-//! Quads, their blend modes and their materials.
+//! Fields of quads, of their blend modes and of their materials.
 ghost use Rattle.std.specs.Prelude.{◌≡◌, ◌++◌, ◌&&◌, ◌==◌, nat_lt, nat_le, ◌^◌, OnOk};
 ghost use Rattle.vz_frame.specs.Fits.{in_reach, fits_mode, fits_material, fits_quad};
 ghost use Rattle.vz_codec.specs.Fields.{field};
@@ -18,7 +18,7 @@ use std::alloc::AllocError;
 use vz_frame::{Blend, DrawQuad, Material};
 use vz_geom::Point;
 
-/// The quads of a file of this format.
+/// The field of a quad, in a file of this format.
 #[derive(Drop)]
 pub struct Quads(pub u8);
 
@@ -72,7 +72,7 @@ fn fits_offset(offset: &Point) -> bool
     in_reach(offset.x) && in_reach(offset.y)
 }
 
-/// A quad's offset, its rectangles and its clip.
+/// Writes a quad's offset, its rectangles and its clip.
 #[tactic(auto, using(crate::proofs::Appended::appended))]
 fn write_place(quad: &DrawQuad, out: &mut Writer) -> Result<(), AllocError>
     ensures { OnOk result (out.new ≡ out.old ++ place_bytes quad.now) }
@@ -84,7 +84,7 @@ fn write_place(quad: &DrawQuad, out: &mut Writer) -> Result<(), AllocError>
     Optional(Rects).write(&quad.clip, out)
 }
 
-/// Each `u8` is a byte.
+/// Each `u8` is in range: it is one byte.
 fn is_byte(number: u8) -> bool
     ensures { result ≡ nat_lt number 256 }
 {
@@ -97,7 +97,7 @@ const SRC: u8 = 1;
 
 const DST_IN: u8 = 2;
 
-/// Modes by their numbers, which a file of format 1 does not spell.
+/// The field of a blend mode, as its number. A file of format 1 has no byte for it.
 #[derive(Drop)]
 struct Modes(u8);
 
@@ -145,7 +145,7 @@ const SURFACE: u8 = 3;
 
 const PASS: u8 = 4;
 
-/// A tag, and what the material of the tag has.
+/// The field of a material: a tag, and what a material with this tag has.
 #[derive(Drop)]
 struct Materials;
 

@@ -1,4 +1,4 @@
-//! Bytes that are read from the front, and the numbers at the front of them, low byte first.
+//! A reader of bytes from the front. Numbers have their low byte first.
 ghost use Rattle.std.specs.Prelude.{◌≡◌, ◌<◌, ◌≤◌, length, drop, IfOk};
 ghost use Rattle.std.specs.Int.{w8, w16, w32, w128};
 ghost use Rattle.vz_frame.specs.Fits.{in_reach};
@@ -17,8 +17,8 @@ const SHORT: ReadError = ReadError::Wrong {
     rule: FileRule::Short,
 };
 
-/// Bytes that are still to be read, and the allocator for what is read. After an error what is left
-/// of the bytes is not said.
+/// The bytes that are still to be read, and the allocator for the values that are read. After an
+/// error it is not specified which bytes are left.
 #[derive(Drop)]
 pub struct Reader<'a> {
     alloc: Global,
@@ -44,7 +44,7 @@ impl<'a> Reader<'a> {
         self.alloc
     }
 
-    /// A reader of the same bytes.
+    /// Returns another reader of the same bytes.
     pub fn ahead(&self) -> Reader<'a>
         ensures { result ≡ self.now }
     {
@@ -68,7 +68,7 @@ impl<'a> Reader<'a> {
         self.rest
     }
 
-    /// Leaves so many bytes behind. Condition: they are there.
+    /// Skips `count` bytes. Condition: at least so many are left.
     pub fn skip(&mut self, count: usize)
         requires { count ≤ length self.old }
         ensures { self.new ≡ drop count self.old }
@@ -76,7 +76,7 @@ impl<'a> Reader<'a> {
         self.rest = &self.rest[count..];
     }
 
-    /// So many bytes as they stand.
+    /// Reads `count` bytes unchanged. The only error is `Short`.
     pub fn front(&mut self, count: usize) -> Result<&'a [u8], ReadError>
         ensures { Gives (λ front. (front.now, self.new)) result (front_at count self.old) }
     {
@@ -127,7 +127,8 @@ impl<'a> Reader<'a> {
         Ok(self.u32()?.cast_signed())
     }
 
-    /// A number from low to high, or it breaks this rule.
+    /// Reads a number. The error is `Short`, or this rule if the number is below `low` or above
+    /// `high`.
     #[tactic(auto, unfolding(crate::specs::Reading::ranged_at))]
     pub fn u8_within(&mut self, rule: FileRule, low: u8, high: u8) -> Result<u8, ReadError>
         ensures { Gives (λ x. (x, self.new)) result (ranged_at rule w8 low high self.old) }
@@ -140,7 +141,8 @@ impl<'a> Reader<'a> {
         Ok(number)
     }
 
-    /// A number from low to high, or it breaks this rule.
+    /// Reads a number. The error is `Short`, or this rule if the number is below `low` or above
+    /// `high`.
     #[tactic(auto, unfolding(crate::specs::Reading::ranged_at))]
     pub fn u16_within(&mut self, rule: FileRule, low: u16, high: u16) -> Result<u16, ReadError>
         ensures given { Gives (λ x. (x, self.new)) result (ranged_at rule w16 low high self.old) }
@@ -154,7 +156,8 @@ impl<'a> Reader<'a> {
         Ok(number)
     }
 
-    /// A number from low to high, or it breaks this rule.
+    /// Reads a number. The error is `Short`, or this rule if the number is below `low` or above
+    /// `high`.
     #[tactic(auto, unfolding(crate::specs::Reading::ranged_at))]
     pub fn u32_within(&mut self, rule: FileRule, low: u32, high: u32) -> Result<u32, ReadError>
         ensures { Gives (λ x. (x, self.new)) result (ranged_at rule w32 low high self.old) }
@@ -180,7 +183,7 @@ impl<'a> Reader<'a> {
     }
 }
 
-/// Whether a number may be a coordinate.
+/// Whether a number may be a coordinate of a frame.
 pub fn in_reach(number: i32) -> bool
     ensures { result ≡ in_reach number }
 {

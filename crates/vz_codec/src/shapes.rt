@@ -1,4 +1,4 @@
-//! Rectangles and colours.
+//! Fields of rectangles and colours.
 ghost use Rattle.std.specs.Prelude.{◌≡◌, ◌++◌, ◌&&◌, is_some, IfSome, OnOk};
 ghost use Rattle.vz_codec.specs.Fields.{field, rectangle};
 ghost use Rattle.vz_codec.specs.Reading.{rect_at, colour_at};
@@ -15,7 +15,8 @@ use std::alloc::AllocError;
 use vz_geom::Rect;
 use vz_pixels::Pixel;
 
-/// A place and two sides, all four 0 or in their ranges.
+/// The field of a rectangle: its top left point and its sides. All four numbers are 0, or each is
+/// in its range.
 #[derive(Drop)]
 pub struct Rects;
 
@@ -49,7 +50,7 @@ impl Field for Rects {
     }
 }
 
-/// A place and two sides, of any numbers.
+/// The four numbers of a rectangle as they are in the file, of any values.
 #[derive(Drop)]
 struct Sides {
     x: i32,
@@ -58,7 +59,7 @@ struct Sides {
     h: i32,
 }
 
-/// The numbers of a rectangle.
+/// The four numbers of a rectangle.
 fn sides_of(rect: &Rect) -> Sides
     ensures { rectangle result ≡ rect.now }
 {
@@ -70,7 +71,7 @@ fn sides_of(rect: &Rect) -> Sides
     }
 }
 
-/// The rectangle of these numbers, where they are one.
+/// The rectangle with these numbers, if they are in their ranges.
 #[inline(always)]
 fn rect_of(sides: &Sides) -> Option<Rect>
     ensures fits { is_some result ≡ fits_rect (rectangle sides.now) }
@@ -83,7 +84,7 @@ fn rect_of(sides: &Sides) -> Option<Rect>
     }
 }
 
-/// Whether all four numbers are 0, or they are a place in reach and two sides.
+/// Whether all four numbers are 0, or they are a point within reach and two sides.
 fn are_rect(sides: &Sides) -> bool
     ensures { result ≡ fits_rect (rectangle sides.now) }
 {
@@ -98,7 +99,7 @@ fn is_zero(sides: &Sides) -> bool
     sides.x == 0 && sides.y == 0 && sides.w == 0 && sides.h == 0
 }
 
-/// Whether they are a place in reach and two sides.
+/// Whether the numbers are a point within reach and two sides.
 fn is_placed(sides: &Sides) -> bool
     ensures { let s = sides.now in
         result ≡ (in_reach s.x && in_reach s.y && is_side s.w && is_side s.h) }
@@ -106,14 +107,14 @@ fn is_placed(sides: &Sides) -> bool
     in_reach(sides.x) && in_reach(sides.y) && is_side(sides.w) && is_side(sides.h)
 }
 
-/// Whether a number may be a side.
+/// Whether a number may be a side of a rectangle.
 fn is_side(number: i32) -> bool
     ensures { result ≡ is_side number }
 {
     1 <= number && number <= REACH
 }
 
-/// Red, green, blue and alpha, premultiplied.
+/// The field of a colour: red, green, blue and alpha, premultiplied.
 #[derive(Drop)]
 pub struct Colours;
 
@@ -141,7 +142,7 @@ impl Field for Colours {
     }
 }
 
-/// Each pixel is premultiplied.
+/// Each pixel is premultiplied, and so fits.
 fn fits_colour(colour: Pixel) -> bool
     ensures { result ≡ fits_colour colour }
 {

@@ -1,11 +1,12 @@
-//! Bytes that are written field by field, the numbers low byte first.
+//! A writer of fields one after the other. Numbers have their low byte first.
 ghost use Rattle.std.specs.Prelude.{◌≡◌, [], ◌++◌, OnOk};
 ghost use Rattle.vz_codec.specs.Spelling.{u8_bytes, u16_bytes, u32_bytes, u128_bytes, i32_bytes};
 
 use std::alloc::{AllocError, Global};
 use std::marker::Model;
 
-/// Bytes that were written. After an error what was written of a field is not said.
+/// The bytes that were written. After an error it is not specified how much of the last field was
+/// written.
 #[derive(Drop)]
 pub struct Writer {
     bytes: Vec<u8>,
@@ -29,14 +30,14 @@ impl Writer {
         }
     }
 
-    /// The bytes that were written.
+    /// Returns the bytes that were written.
     pub fn into_bytes(self) -> Vec<u8>
         ensures { result.items ≡ self }
     {
         self.bytes
     }
 
-    /// Bytes as they stand.
+    /// Writes bytes unchanged.
     pub fn all(&mut self, bytes: &[u8]) -> Result<(), AllocError>
         ensures { OnOk result (self.new ≡ self.old ++ bytes.now) }
     {
@@ -49,21 +50,21 @@ impl Writer {
         self.all(&n.to_le_bytes())
     }
 
-    /// The low byte of a count.
+    /// Writes a count as one byte: its low 8 bits.
     pub fn u8_count(&mut self, n: usize) -> Result<(), AllocError>
         ensures { OnOk result (self.new ≡ self.old ++ u8_bytes n) }
     {
         self.all(&n.to_le_bytes()[..1])
     }
 
-    /// The low two bytes of a count.
+    /// Writes a count as two bytes: its low 16 bits.
     pub fn u16_count(&mut self, n: usize) -> Result<(), AllocError>
         ensures { OnOk result (self.new ≡ self.old ++ u16_bytes n) }
     {
         self.all(&n.to_le_bytes()[..2])
     }
 
-    /// The low four bytes of a count.
+    /// Writes a count as four bytes: its low 32 bits.
     pub fn u32_count(&mut self, n: usize) -> Result<(), AllocError>
         ensures { OnOk result (self.new ≡ self.old ++ u32_bytes n) }
     {

@@ -16,8 +16,8 @@ use vz_geom::Size;
 use vz_machine::Picture;
 use vz_pixels::Pixel;
 
-/// A display of 1 to `MOST_BUFFERS` buffers that are painted in turn. A buffer is made at its
-/// first use, and painted where it is stale alone.
+/// A display with 1 to `MOST_BUFFERS` buffers that are painted in turn. It makes a buffer at its
+/// first use, and repaints only the stale rectangle of a buffer.
 #[derive(Drop)]
 pub struct Display {
     size: Size,
@@ -42,8 +42,8 @@ impl Model for Display {
 }
 
 impl Display {
-    /// A display that shows nothing yet. Conditions: 1 to `MOST_BUFFERS` buffers, and a
-    /// display's size.
+    /// Makes a display that shows nothing yet. Conditions: 1 to `MOST_BUFFERS` buffers, and a
+    /// size that a display may have.
     pub fn new(size: Size, buffers: u32) -> Display
         requires from { 1 ≤ buffers }
         requires upto { buffers ≤ MOST_BUFFERS }
@@ -58,9 +58,10 @@ impl Display {
         }
     }
 
-    /// Shows a picture: its damage is added to what is stale of each buffer, and the next buffer is
-    /// painted where it is stale and becomes the current one. Condition: the picture has the
-    /// display's size. At want of memory the display is of no further use.
+    /// Shows a picture. It adds the picture's damage to the stale rectangle of each buffer,
+    /// paints the stale rectangle of the next buffer, and makes that buffer the current one.
+    /// Condition: the picture has the display's size. The only error is `Memory`; the display may
+    /// not be used after it.
     pub fn show<P: Picture, L: Ledger>(
         &mut self,
         alloc: Global,
@@ -87,8 +88,9 @@ impl Display {
         Ok(())
     }
 
-    /// The bytes of a row of the current buffer, four a pixel. Conditions: a picture was shown, the
-    /// row is one of the display, and there are four bytes for each of its pixels.
+    /// Copies row `y` of the current buffer, four bytes a pixel: red, green, blue and alpha.
+    /// Conditions: a picture was shown, the row is one of the display, and `into` has four bytes
+    /// for each pixel of the row.
     pub fn row(&self, y: i32, into: &mut [u8])
         requires current { IsSome (current self.now) }
         requires top { pos 0 ≤ℤ y }
@@ -101,7 +103,7 @@ impl Display {
         }
     }
 
-    /// All steps of the pictures shown so far, or `u64::MAX` where they are more.
+    /// How many steps the pictures shown so far took, or `u64::MAX` if there are more.
     pub fn painted(&self) -> u64
         ensures { result ≡ self.now.painted }
     {
@@ -109,7 +111,7 @@ impl Display {
     }
 }
 
-/// So many buffers that were never made.
+/// The places of `count` buffers that were not made yet.
 fn never_made(count: u32) -> ArrayVec<Option<Buffer>, MOST_BUFFERS>
     requires { count ≤ MOST_BUFFERS }
     ensures { result.items ≡ replicate count None }
@@ -121,7 +123,8 @@ fn never_made(count: u32) -> ArrayVec<Option<Buffer>, MOST_BUFFERS>
     kept
 }
 
-/// Takes the next buffer, and makes it where it was never made; and the steps for making it.
+/// Takes the next buffer, or makes it at its first use, and returns it with the steps for making
+/// it.
 fn next_buffer<L: Ledger>(
     alloc: Global,
     size: Size,
@@ -143,7 +146,7 @@ fn next_buffer<L: Ledger>(
     }
 }
 
-/// Makes a buffer, and tells the steps for it.
+/// Makes a buffer, and returns it with the steps for making it.
 fn make<L: Ledger>(alloc: Global, size: Size, steps: &mut Steps<L>) -> Result<(Buffer, u64), Memory>
     requires size { IsDisplaySize size }
     ensures size { IfOk result (λ r. r.0.size ≡ size) }
@@ -169,7 +172,7 @@ fn copy_row(buffer: &Buffer, size: &Size, y: i32, into: &mut [u8])
     copy_pixels(span(buffer.pixels(), from, width), into);
 }
 
-/// So many pixels from a place on.
+/// The `count` pixels from index `from` on.
 fn span(pixels: &[Pixel], from: usize, count: usize) -> &[Pixel]
     requires { (from + count) ≤ length pixels.now }
     ensures { result.now ≡ take count (drop from pixels.now) }
@@ -187,7 +190,7 @@ fn copy_pixels(row: &[Pixel], into: &mut [u8])
     }
 }
 
-/// Puts the bytes of a pixel from a place on.
+/// Writes the four bytes of a pixel from index `at` on.
 fn put(into: &mut [u8], at: usize, p: Pixel)
     requires { (at + 4) ≤ length into.old }
     ensures { into.new ≡ take at into.old ++ pixel_bytes p ++ drop (at + 4) into.old }

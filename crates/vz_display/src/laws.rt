@@ -1,4 +1,5 @@
-//! Laws of a display, each the contract of a function that does nothing.
+//! Laws of a display. Each is the contract of an empty function; a caller that calls it may use
+//! its clauses.
 ghost use Rattle.std.specs.Prelude.{◌≡◌, ℕ, ◌+◌, ◌≤◌, Some, List, [], ◌∷◌, ◌++◌};
 ghost use Rattle.vz_geom.specs.declared.Size.{Size};
 ghost use Rattle.vz_geom.specs.Rectangle.{Rectangle};
@@ -16,8 +17,8 @@ ghost use Rattle.vz_machine.specs.Pictured.{Pictured, colours_in};
 ghost use Rattle.vz_display.specs.Displayed.{first_displayed, display_after, shown, steps_for, current, buffer_with};
 ghost use Rattle.vz_display.specs.Displayed.{display_at, IsNext};
 
-/// A display that shows the pictures of drawings one after the other has the newest frame that is
-/// written in its current buffer, and takes one step for each point that is painted.
+/// If a display shows the pictures of drawings one after the other, its current buffer has the
+/// newest written frame, and it takes one step for each point that is painted.
 pub fn drawings_are_shown()
     ensures first { (size : Size) (count : ℕ)
         → display_after size count [] ≡ first_displayed size count }
@@ -34,9 +35,9 @@ pub fn drawings_are_shown()
         → current (display_after size count drawn) ≡ buffer_with size frame }
 {}
 
-/// A display that shows the picture of each drawing of a history, as it comes about, has the newest
-/// frame that the history writes, and takes the steps that it paints; an entry that draws nothing
-/// leaves all as it is.
+/// If a display shows the picture of each drawing of a history, its current buffer has the newest
+/// frame that the history writes, and it takes as many steps as the history paints. An entry that
+/// draws nothing changes neither.
 pub fn histories_are_shown()
     ensures drawn { (p : Plan) (h : List Entry) (e : Entry) (count : ℕ) (r : Rectangle)
         (scene : Scene) (pictured : Pictured) → IsDisplaySize p.size → 1 ≤ count

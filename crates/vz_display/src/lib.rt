@@ -1,4 +1,4 @@
-//! A display that repaints its buffers in turn, each where it is stale.
+//! A display that uses its buffers in turn and repaints only the stale rectangle of each.
 #![tactic(auto)]
 
 mod display;

@@ -1,4 +1,4 @@
-//! The clients' files, accepted one after the other.
+//! The files of the clients, accepted or refused one after the other.
 ghost use Rattle.std.specs.Prelude.{◌≡◌, ◌≤◌, ◌<◌, ◌+◌, None, Some, [], true, false};
 ghost use Rattle.std.specs.Prelude.{length, slice_index_or, IsTrue};
 ghost use Rattle.std.specs.Prelude.{IfOk, IfErr, OnOk, OnErr, IsErrOf};
@@ -25,17 +25,20 @@ use vz_frame::ClientFile;
 use vz_geom::Size;
 use vz_rules::Plan;
 
-/// What is answered of a file by itself: the file that its bytes spell, or why it is refused.
+/// What one file gives by itself: the messages that its bytes spell, or why it is refused.
 type Decoded = Result<ClientFile, InputError>;
 
-/// How many bytes stand before the sink in a client's file.
+/// How many bytes come before the sink in a client's file.
 const SINK_PLACE: usize = 6;
 
-/// The plan of the clients' files, as they were read, on a display of this size. The files are
-/// decoded at once, one piece of work each. The first of them that is refused is told with its
-/// number, the place and the reason: a file is refused where it is longer than `MOST_FILE_BYTES`,
-/// then by the first rule of the grammar that it breaks, then where an earlier one has its sink.
-/// Conditions: 1 to `MOST_FILES` files, and a display's sides.
+/// Makes the plan of the clients' files on a display of this size. `inputs` has the bytes of each
+/// file, the first those of client 1. The files are decoded in parallel, each as one piece of
+/// work.
+///
+/// The error is `Refused` for the first file that is refused, with its number, the place in bytes
+/// and the reason. A file is refused if it is longer than `MOST_FILE_BYTES`, else by the first
+/// rule of the format that it breaks, else if an earlier file has its sink. Otherwise the only
+/// error is `Memory`. Conditions: 1 to `MOST_FILES` files, and sides that a display may have.
 pub fn plan_of<R: Threads + AllocGlobal + Sync>(
     rt: &R,
     size: Size,
@@ -57,8 +60,8 @@ pub fn plan_of<R: Threads + AllocGlobal + Sync>(
     }
 }
 
-/// Decodes the files at once, one piece of work each, and answers what `decode_one` does of each of
-/// them, in their order.
+/// Decodes the files in parallel, each as one piece of work, and returns for each, in their
+/// order, what `decode_one` answers for it.
 fn decode_all<R: Threads + AllocGlobal + Sync>(
     rt: &R,
     inputs: &[Vec<u8>],
@@ -76,7 +79,7 @@ fn decode_all<R: Threads + AllocGlobal + Sync>(
     Ok(answers)
 }
 
-/// What is answered of the input at a place, whatever the others are.
+/// What the input at an index gives, whatever the others are.
 fn decode_at(alloc: Global, inputs: &[Vec<u8>], place: usize) -> Decoded
     requires inside { place < length inputs.now }
     requires few { length inputs.now ≤ MOST_FILES }
@@ -85,7 +88,8 @@ fn decode_at(alloc: Global, inputs: &[Vec<u8>], place: usize) -> Decoded
     decode_one(alloc, place, &inputs[place])
 }
 
-/// The file that the bytes behind so many other inputs spell, whatever the others are.
+/// The file that these bytes spell, as the one after `others` other inputs. It does not depend on
+/// them.
 fn decode_one(alloc: Global, others: usize, bytes: &[u8]) -> Decoded
     requires { others < MOST_FILES }
     ensures { IsDecoded others bytes.now result }
@@ -100,7 +104,7 @@ fn decode_one(alloc: Global, others: usize, bytes: &[u8]) -> Decoded
     }
 }
 
-/// The files of inputs, of which these are the answers, where none has the sink of an earlier one.
+/// The decoded files of the inputs, if all were decoded and no two have the same sink.
 fn accepted_files(
     alloc: Global,
     inputs: &[Vec<u8>],
@@ -125,7 +129,7 @@ fn accepted_files(
     Ok(files)
 }
 
-/// The file, where none of the earlier ones has its sink.
+/// The file, if no earlier one has its sink.
 fn free_file(earlier: &[ClientFile], file: ClientFile) -> Result<ClientFile, InputError>
     requires { length earlier.now < MOST_FILES }
     ensures same { IfOk result (λ f. f ≡ file) }
@@ -144,14 +148,14 @@ fn free_file(earlier: &[ClientFile], file: ClientFile) -> Result<ClientFile, Inp
     }
 }
 
-/// Whether one of these files has the sink of another.
+/// Whether one of the earlier files has the sink of this one.
 fn takes_sink(earlier: &[ClientFile], file: &ClientFile) -> bool
     ensures { result ≡ takes_sink earlier.now file.now }
 {
     earlier.iter().any(|other| file.sink == other.sink)
 }
 
-/// That the file behind so many others is refused.
+/// The error that the file after `others` other files is refused.
 fn refused(others: usize, at: usize, reason: Reason) -> InputError
     requires { others < MOST_FILES }
     ensures { result ≡ input_error.Refused (record {

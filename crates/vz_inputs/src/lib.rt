@@ -1,5 +1,5 @@
-//! What a command reads: the clients' files and the schedule, each read whole, and then accepted
-//! or refused with the place and the reason.
+//! What a command reads: the files of the clients and the schedule. Each is read whole, and then
+//! accepted, or refused with the place and the reason.
 #![tactic(auto)]
 
 mod files;

@@ -6,11 +6,11 @@ ghost use Rattle.vz_inputs.specs.Read.{IsReadUpto, AreReadUpto, MissesOne, texts
 use std::alloc::Global;
 use vz_outside::{Shelf, ShelfError, read_upto};
 
-/// Reads a named file to its end, or to one byte above a limit in bytes, so that a longer file
-/// shows. The bytes of every name stay.
+/// Reads a named file whole, but at most `limit + 1` bytes, so that the caller sees if the file
+/// is longer than the limit. No file's bytes change.
 ///
-/// `Failed` comes exactly where the shelf counted a fault, as it does for a name that is not there;
-/// `Memory` comes for want of memory.
+/// The error is `Failed` exactly if the shelf counted a fault, as it does if no file has the
+/// name, and `Memory` if an allocation failed.
 pub fn read_file<F: Shelf>(
     alloc: Global,
     shelf: &mut F,
@@ -30,8 +30,9 @@ pub fn read_file<F: Shelf>(
     Ok(bytes)
 }
 
-/// Reads named files one after the other, each to its end or to one byte above a limit in bytes.
-/// The bytes of every name stay. The errors are those of one file.
+/// Reads named files one after the other, each whole, but at most `limit + 1` bytes of it. The
+/// answer has their bytes in the order of the names. No file's bytes change. The errors are those
+/// of `read_file`.
 pub fn read_files<F: Shelf>(
     alloc: Global,
     shelf: &mut F,

@@ -13,18 +13,18 @@ use vz_codec::FileRule;
 pub enum Reason {
     /// A field of a client's file, or an event of the schedule, breaks this rule.
     Rule(FileRule),
-    /// An earlier file has the sink of this one.
+    /// An earlier client's file has the same sink.
     SinkTaken,
-    /// It has more bytes than such an input has at most.
+    /// The input is longer than such an input may be.
     Long,
 }
 
-/// An input that is refused.
+/// An input that is refused: which one, where and why.
 #[derive(Clone, Copy, Debug, PartialEq, Eq)]
 pub struct Refused {
-    /// The number of the client's file, from 1 on; 0 for the schedule and for a log.
+    /// The number of the client whose file it is, from 1 on, or 0 for the schedule or a log.
     pub file: u32,
-    /// How many bytes stand before what is wrong.
+    /// How many bytes come before the fault.
     pub at: usize,
     /// What is wrong there.
     pub reason: Reason,
@@ -33,9 +33,9 @@ pub struct Refused {
 /// Why inputs are not accepted.
 #[derive(Clone, Copy, Debug, PartialEq, Eq)]
 pub enum InputError {
-    /// The first input that is refused.
+    /// This input is the first that is refused.
     Refused(Refused),
-    /// Want of memory.
+    /// An allocation failed.
     Memory,
 }
 

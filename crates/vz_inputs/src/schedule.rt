@@ -1,4 +1,4 @@
-//! The schedule: a byte for each event.
+//! The schedule, which has one byte for each event.
 ghost use Rattle.std.specs.Prelude.{◌≡◌, ◌≤◌, None, Some, All, [], ◌∷◌, ◌++◌, ◌*◌, pos, ◌≤ℤ◌, nat_abs};
 ghost use Rattle.std.specs.Prelude.{IfOk, OnOk, IsErrOf};
 ghost use Rattle.vz_base.specs.declared.limits.TheConstants.{MOST_EVENTS, GREATEST_DISPLAY_SIDE};
@@ -22,8 +22,8 @@ use vz_rules::{Event, Plan};
 /// The byte of a drawing.
 const DRAW: u8 = 0x12;
 
-/// The event of a byte, if it is one: 1 to 16 for the next message of that client, then Begin,
-/// Draw, Done and Over.
+/// The event of a byte, or None if the byte is no event. 1 to 16 stand for the next message of
+/// that client; the four numbers from 17 on for Begin, Draw, Done and Over.
 #[tactic(auto, unfolding(crate::specs::Schedule::event_of))]
 pub fn event_of(byte: u8) -> Option<Event>
     ensures { result ≡ event_of byte }
@@ -38,9 +38,12 @@ pub fn event_of(byte: u8) -> Option<Event>
     }
 }
 
-/// The events of a schedule, as it was read, for a plan. A schedule is refused, as file 0, where it
-/// is longer than `MOST_EVENTS` bytes, and else at its first byte that is no event of the plan
-/// (`Tag`), or the first drawing at which all frames have more than `MOST_DRAWN_BYTES` (`Limit`).
+/// Reads the events of a schedule for a plan, in their order. The list may be empty.
+///
+/// The error is `Refused`, as file 0, if the schedule is longer than `MOST_EVENTS` bytes; else at
+/// its first byte that is no event of the plan (`Tag`), or at the first drawing with which the
+/// frames would have more than `MOST_DRAWN_BYTES` bytes together (`Limit`), whichever comes
+/// first. Otherwise the only error is `Memory`.
 pub fn events_of(alloc: Global, plan: &Plan, bytes: &[u8]) -> Result<Vec<Event>, InputError>
     ensures events { IfOk result (λ events. events.items ≡ events_of bytes.now) }
     ensures named { IfOk result (λ events. All (NamesClient plan.now) events.items) }
@@ -66,7 +69,8 @@ pub fn events_of(alloc: Global, plan: &Plan, bytes: &[u8]) -> Result<Vec<Event>,
     Ok(events)
 }
 
-/// The rule that a byte breaks with so many clients, as the drawing of this number if it is one.
+/// The rule that a byte breaks in a plan with so many clients, if it breaks one. If the byte is a
+/// drawing, it is the one after `draws` others.
 fn rule_broken(clients: usize, size: &Size, draws: u32, byte: u8) -> Option<FileRule>
     requires size { IsDisplaySize size.now }
     requires few { draws ≤ MOST_EVENTS }
@@ -81,7 +85,7 @@ fn rule_broken(clients: usize, size: &Size, draws: u32, byte: u8) -> Option<File
     }
 }
 
-/// Whether a byte is an event, with so many clients.
+/// Whether a byte is an event in a plan with so many clients.
 fn is_event(clients: usize, byte: u8) -> bool
     ensures { result ≡ is_event clients byte }
 {
@@ -103,7 +107,7 @@ fn is_draw(byte: u8) -> bool
     byte == DRAW
 }
 
-/// Whether so many frames of a display have room, at four bytes a pixel.
+/// Whether so many frames of the display have at most `MOST_DRAWN_BYTES` bytes together.
 fn frames_fit(size: &Size, frames: u32) -> bool
     requires size { IsDisplaySize size.now }
     requires few { frames ≤ MOST_EVENTS }
@@ -122,7 +126,7 @@ fn pixel_count(size: &Size) -> u64
     side(size.w) * side(size.h)
 }
 
-/// A side of a display.
+/// A side of a display as an unsigned number.
 fn side(side: i32) -> u64
     requires short { side ≤ℤ pos GREATEST_DISPLAY_SIDE }
     requires some { pos 1 ≤ℤ side }
@@ -132,7 +136,7 @@ fn side(side: i32) -> u64
     u64::from(side.unsigned_abs())
 }
 
-/// Puts the event of a byte behind others, if it is one.
+/// Appends the event of a byte, if the byte is one.
 fn push_event(events: &mut Vec<Event>, byte: u8) -> Result<(), Memory>
     ensures { OnOk result (events.new.items ≡ events.old.items ++ events_of (byte ∷ [])) }
 {
@@ -142,7 +146,7 @@ fn push_event(events: &mut Vec<Event>, byte: u8) -> Result<(), Memory>
     Ok(())
 }
 
-/// That the schedule is refused.
+/// The error that the schedule is refused.
 fn refused(at: usize, reason: Reason) -> InputError
     ensures { result ≡ input_error.Refused (record { file = 0; at = at; reason = reason }) }
 {

@@ -1,4 +1,4 @@
-//! The effects of an entry, read.
+//! Reads the effects of an entry.
 ghost use Rattle.std.specs.Prelude.{Some};
 ghost use Rattle.vz_journal.specs.Giving.{Gives};
 ghost use Rattle.vz_journal.specs.Reading.{sub_at, counted_at, return_at, activated_at, destroyed_at, returned_at, fed_by, fed_at, effects_at};
@@ -10,7 +10,7 @@ use std::alloc::Global;
 use vz_ids::Sub;
 use vz_rules::{Effects, Fed, Lost, Returned};
 
-/// A client and a number of it, with a dot between them.
+/// Reads a submission: a client number, a dot and an ordinal.
 #[tactic(auto, unfolding(crate::specs::Reading::sub_at))]
 pub fn read_sub(input: &mut Reader) -> Result<Sub, Stop>
     ensures { Gives (λ x. (x, input.new)) result (sub_at input.old) }
@@ -21,7 +21,7 @@ pub fn read_sub(input: &mut Reader) -> Result<Sub, Stop>
     Ok(Sub { client, ordinal })
 }
 
-/// A resource of this client and a count.
+/// Reads a resource id of this client and a count.
 #[tactic(auto, unfolding(crate::specs::Reading::counted_at))]
 pub fn read_counted(client: u32, input: &mut Reader) -> Result<Returned, Stop>
     ensures { Gives (λ x. (x, input.new)) result (counted_at client input.old) }
@@ -32,7 +32,7 @@ pub fn read_counted(client: u32, input: &mut Reader) -> Result<Returned, Stop>
     Ok(Returned { client, id, count })
 }
 
-/// A client, a resource of it and a count.
+/// Reads a client number, a resource id of the client and a count.
 #[tactic(auto, unfolding(crate::specs::Reading::return_at))]
 pub fn read_return(input: &mut Reader) -> Result<Returned, Stop>
     ensures { Gives (λ x. (x, input.new)) result (return_at input.old) }
@@ -42,7 +42,7 @@ pub fn read_return(input: &mut Reader) -> Result<Returned, Stop>
     read_counted(client, input)
 }
 
-/// Submissions that became active.
+/// The item of a submission that became active.
 #[derive(Drop)]
 struct Activated;
 
@@ -58,7 +58,7 @@ impl Item for Activated {
     }
 }
 
-/// Surfaces that were destroyed.
+/// The item of a surface that was destroyed.
 #[derive(Drop)]
 struct Destroyed;
 
@@ -78,7 +78,7 @@ impl Item for Destroyed {
     }
 }
 
-/// References that were queued for their clients.
+/// The item of references that were queued for their client.
 #[derive(Drop)]
 struct Queued;
 
@@ -94,7 +94,7 @@ impl Item for Queued {
     }
 }
 
-/// The feedback of submissions.
+/// The item of a submission's feedback.
 #[derive(Drop)]
 struct Feedback;
 
@@ -113,7 +113,7 @@ impl Item for Feedback {
     }
 }
 
-/// The submission of a feedback.
+/// Reads the submission of a feedback.
 #[tactic(auto, unfolding(crate::specs::Reading::fed_by))]
 fn read_fed(presented: bool, input: &mut Reader) -> Result<Fed, Stop>
     ensures { Gives (λ x. (x, input.new)) result (fed_by presented input.old) }
@@ -122,7 +122,7 @@ fn read_fed(presented: bool, input: &mut Reader) -> Result<Fed, Stop>
     Ok(Fed { sub, presented })
 }
 
-/// The effects, in the order of their kinds.
+/// Reads the effects of an entry, kind by kind in their order.
 #[tactic(auto, unfolding(crate::specs::Reading::effects_at))]
 pub fn read_effects(alloc: Global, input: &mut Reader) -> Result<Effects, Stop>
     ensures { Gives (λ x. (x, input.new)) result (Some (effects_at input.old)) }

@@ -1,4 +1,4 @@
-//! Items that stand in a row.
+//! Items in a row.
 ghost use Rattle.std.specs.Prelude.{ℕ, List, Some, length};
 ghost use Rattle.vz_journal.specs.Giving.{Gives};
 ghost use Rattle.vz_journal.specs.Reading.{Read, all_at};
@@ -8,18 +8,18 @@ use crate::stop::Stop;
 use std::alloc::Global;
 use vz_frame::List;
 
-/// How a kind of item is read.
+/// A kind of item, and how it is read.
 pub trait Item {
     type Value: Drop;
 
-    /// The value at the front of bytes and the bytes after it, where there is one.
+    /// The value at the front of some bytes and the bytes after it, if there is such a value.
     ghost value_at: { Self → List ℕ → Read Self.Value };
 
     fn read(&self, input: &mut Reader) -> Result<Self::Value, Stop>
         ensures { Gives (λ x. (x, input.new)) result (value_at self.now input.old) };
 }
 
-/// As many values as there are.
+/// Reads as many values as there are. It may be none.
 pub fn all<I: Item>(alloc: Global, item: &I, input: &mut Reader) -> Result<List<I::Value>, Stop>
     ensures { Gives (λ xs. (xs, input.new)) result
         (Some (all_at (I.value_at item.now) input.old)) }

@@ -1,4 +1,4 @@
-//! The log as text.
+//! The log as text: read and written.
 #![tactic(auto)]
 
 mod effects;

@@ -1,4 +1,4 @@
-//! The lines of a log, read.
+//! Reads the lines of a log.
 ghost use Rattle.vz_journal.specs.Giving.{Gives};
 ghost use Rattle.vz_journal.specs.Reading.{plain_events, client_event_at, event_at, one_of, entry_at, held_at, open_at};
 
@@ -11,7 +11,7 @@ use std::alloc::Global;
 use vz_ids::Sub;
 use vz_rules::{Entry, Event, Returned};
 
-/// The number of a client and the blank behind it.
+/// Reads the number of a client and the blank after it.
 #[tactic(auto, unfolding(crate::specs::Reading::client_event_at))]
 fn read_client_event(input: &mut Reader) -> Result<Event, Stop>
     ensures { Gives (λ x. (x, input.new)) result (client_event_at input.old) }
@@ -21,7 +21,7 @@ fn read_client_event(input: &mut Reader) -> Result<Event, Stop>
     Ok(Event::Client(client))
 }
 
-/// An event of no client and the blank behind it.
+/// Reads an event of the display and the blank after it.
 #[tactic(auto, unfolding(crate::specs::Reading::one_of))]
 fn read_plain_event(input: &mut Reader) -> Result<Event, Stop>
     ensures { Gives (λ x. (x, input.new)) result (one_of plain_events input.old) }
@@ -39,7 +39,7 @@ fn read_plain_event(input: &mut Reader) -> Result<Event, Stop>
     }
 }
 
-/// An event and the blank behind it.
+/// Reads an event and the blank after it.
 #[tactic(auto, unfolding(crate::specs::Reading::event_at))]
 fn read_event(input: &mut Reader) -> Result<Event, Stop>
     ensures { Gives (λ x. (x, input.new)) result (event_at input.old) }
@@ -51,7 +51,7 @@ fn read_event(input: &mut Reader) -> Result<Event, Stop>
     }
 }
 
-/// The lines of entries.
+/// The line of an entry.
 #[derive(Drop)]
 pub struct Entries {
     pub alloc: Global,
@@ -76,7 +76,7 @@ impl Item for Entries {
     }
 }
 
-/// The lines of resources of which references are out.
+/// The line of a resource with outstanding references.
 #[derive(Drop)]
 pub struct HeldLines;
 
@@ -94,7 +94,7 @@ impl Item for HeldLines {
     }
 }
 
-/// The lines of submissions without feedback.
+/// The line of a submission without feedback.
 #[derive(Drop)]
 pub struct OpenLines;
 

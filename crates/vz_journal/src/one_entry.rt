@@ -1,4 +1,4 @@
-//! The line of one entry, read and written by itself.
+//! Reads and writes the line of a single entry.
 ghost use Rattle.std.specs.Prelude.{◌≡◌, string_bytes, IfOk};
 ghost use Rattle.vz_journal.specs.Answers.{IsFirstEntry};
 ghost use Rattle.vz_rules.specs.Log.{entry_text};
@@ -12,9 +12,9 @@ use std::alloc::Global;
 use vz_base::Memory;
 use vz_rules::Entry;
 
-/// The entry whose line a text begins with, and how many bytes that line has; none where the text
-/// begins with the line of no entry. Its lists are made on this allocator. It fails only for want
-/// of memory.
+/// Reads the entry whose line the text begins with, and returns it with the length of that line
+/// in bytes. It returns None if the text does not begin with the line of an entry. The lists of
+/// the entry are made on this allocator. The only error is `Memory`.
 pub fn read_entry(alloc: Global, text: &[u8]) -> Result<Option<(Entry, usize)>, Memory>
     ensures { IfOk result (λ found. IsFirstEntry text.now found) }
 {
@@ -26,7 +26,7 @@ pub fn read_entry(alloc: Global, text: &[u8]) -> Result<Option<(Entry, usize)>, 
     }
 }
 
-/// The line of an entry, in ASCII. It fails only for want of memory.
+/// Returns the line of an entry, in ASCII. The only error is `Memory`.
 pub fn write_entry(alloc: Global, entry: &Entry) -> Result<String, Memory>
     ensures { IfOk result (λ line. string_bytes line ≡ entry_text entry.now) }
 {

@@ -1,4 +1,4 @@
-//! Bytes that are read from the front, and the words and numbers at the front of them.
+//! A reader of bytes from the front, by words and numbers.
 ghost use Rattle.std.specs.Prelude.{◌≡◌, ◌≤◌, ℕ, Bool, length, drop, slice_index, if◌then◌else◌};
 ghost use Rattle.vz_journal.specs.Giving.{Gives};
 ghost use Rattle.vz_journal.specs.Reading.{begins, after, word_at, is_digit, digits_at, number_at};
@@ -8,10 +8,10 @@ use crate::stop::Stop;
 use std::marker::Model;
 use vz_base::limits::{GREATEST_NUMBER, MOST_FILES};
 
-/// The greatest number of a log, as wide as the numbers that are gathered from digits.
+/// The greatest number in a log, in the type in which digits are added up.
 const GREATEST: u64 = GREATEST_NUMBER as u64;
 
-/// Bytes that are still to be read. After an error what is left of them is not said.
+/// The bytes that are still to be read. After an error it is not specified which bytes are left.
 #[derive(Drop)]
 pub struct Reader<'a> {
     rest: &'a [u8],
@@ -32,7 +32,7 @@ impl<'a> Reader<'a> {
         Reader { rest: bytes }
     }
 
-    /// A reader of the same bytes.
+    /// Returns another reader of the same bytes.
     pub fn ahead(&self) -> Reader<'a>
         ensures { result ≡ self.now }
     {
@@ -46,7 +46,7 @@ impl<'a> Reader<'a> {
         self.rest.len()
     }
 
-    /// Whether the bytes begin with this word, which is then left behind.
+    /// Whether the bytes begin with this word. If so, it is skipped.
     pub fn has(&mut self, word: &[u8]) -> bool
         ensures found { result ≡ begins word.now self.old }
         ensures rest { self.new
@@ -69,7 +69,7 @@ impl<'a> Reader<'a> {
         Ok(())
     }
 
-    /// The first byte, and 0 where there is none.
+    /// The first byte, or 0 if none is left.
     fn first(&self) -> u8
         ensures { result ≡ slice_index self.now 0 }
     {
@@ -79,7 +79,7 @@ impl<'a> Reader<'a> {
         }
     }
 
-    /// A number in decimal, without a leading zero.
+    /// Reads a number in decimal digits, without a leading zero.
     #[tactic(auto, unfolding(crate::specs::Reading::number_at))]
     pub fn number(&mut self) -> Result<u32, Stop>
         ensures { Gives (λ x. (x, self.new)) result (number_at self.old) }
@@ -96,7 +96,7 @@ impl<'a> Reader<'a> {
         self.digits(first - b'0')
     }
 
-    /// A number that begins with this digit.
+    /// Reads a number whose first digit was read already.
     fn digits(&mut self, first: u8) -> Result<u32, Stop>
         requires { first ≤ 9 }
         ensures { Gives (λ x. (x, self.new)) result (digits_at first self.old) }
@@ -117,7 +117,7 @@ impl<'a> Reader<'a> {
         Ok(number as u32)
     }
 
-    /// A number that is not 0.
+    /// Reads a number other than 0.
     #[tactic(auto, unfolding(crate::specs::Reading::count_at))]
     pub fn count(&mut self) -> Result<u32, Stop>
         ensures { Gives (λ x. (x, self.new)) result (count_at self.old) }
@@ -129,7 +129,7 @@ impl<'a> Reader<'a> {
         Ok(number)
     }
 
-    /// The number of a client.
+    /// Reads the number of a client.
     #[tactic(auto, unfolding(crate::specs::Reading::client_at))]
     pub fn client(&mut self) -> Result<u32, Stop>
         ensures { Gives (λ x. (x, self.new)) result (client_at self.old) }
@@ -141,7 +141,7 @@ impl<'a> Reader<'a> {
         Ok(number)
     }
 
-    /// A blank and a number.
+    /// Reads a blank and a number.
     #[tactic(auto, unfolding(crate::specs::Reading::next_number_at))]
     pub fn next_number(&mut self) -> Result<u32, Stop>
         ensures { Gives (λ x. (x, self.new)) result (next_number_at self.old) }
@@ -150,7 +150,7 @@ impl<'a> Reader<'a> {
         self.number()
     }
 
-    /// A blank and a number that is not 0.
+    /// Reads a blank and a number other than 0.
     #[tactic(auto, unfolding(crate::specs::Reading::next_count_at))]
     pub fn next_count(&mut self) -> Result<u32, Stop>
         ensures { Gives (λ x. (x, self.new)) result (next_count_at self.old) }

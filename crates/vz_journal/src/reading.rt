@@ -14,24 +14,24 @@ use std::alloc::Global;
 use vz_frame::List;
 use vz_rules::{Entry, Rest};
 
-/// The history and the rest that the text of a log stands for. Its lists are made on this
+/// Reads the text of a whole log: the history, in order, and the rest. Its lists are made on this
 /// allocator.
 ///
-/// `Refused` comes with the first line, counted from 1, that is not in the grammar at its place,
-/// or that does not end with a line feed; where the text ends without the line `end`, it is the
-/// line after the last one. `Memory` comes for want of memory.
+/// The error is `Refused` with the number, from 1 on, of the first line that is not in the
+/// grammar at its place or does not end with a line feed. If the text ends without the line
+/// `end`, that is the line after the last one. Otherwise the only error is `Memory`.
 pub fn read(alloc: Global, bytes: &[u8]) -> Result<(List<Entry>, Rest), LogError>
-    // What is answered is what the text stands for, or its first bad line.
+    // The answer is what the text is the log of, or its first bad line.
     ensures exact { IsReading bytes.now result }
 
-    // What a text stands for is found.
+    // If the text is a log, the answer is what it is the log of.
     ensures only { (h : Row Entry) (rest : Rest) → IsLog bytes.now h rest
         → Finds result h rest }
 {
     read_log(alloc, bytes)
 }
 
-/// The history and the rest, line by line.
+/// Reads the history and the rest, line by line.
 #[tactic(auto, unfolding(crate::specs::Reading::log_in))]
 fn read_log(alloc: Global, bytes: &[u8]) -> Result<(List<Entry>, Rest), LogError>
     ensures { GivesLog result (log_in bytes.now) }
@@ -43,7 +43,8 @@ fn read_log(alloc: Global, bytes: &[u8]) -> Result<(List<Entry>, Rest), LogError
     }
 }
 
-/// The lines of entries, of what is held and of what is open, as many as there are of each.
+/// Reads the lines of entries, of held references and of submissions without feedback, as many as
+/// there are of each.
 #[tactic(auto, unfolding(crate::specs::Reading::lines_at))]
 fn read_lines(alloc: Global, input: &mut Reader) -> Result<(List<Entry>, Rest), Stop>
     ensures { Gives (λ x. (x, input.new)) result (Some (lines_at input.old)) }
@@ -54,7 +55,7 @@ fn read_lines(alloc: Global, input: &mut Reader) -> Result<(List<Entry>, Rest), 
     Ok((entries, Rest { held, unfed }))
 }
 
-/// The last line and nothing after it.
+/// Reads the last line, after which nothing may come.
 #[tactic(auto, unfolding(crate::specs::Reading::ended))]
 fn ended(lines: (List<Entry>, Rest), input: &mut Reader) -> Result<(List<Entry>, Rest), LogError>
     requires { line_count lines + 2 < 2 ^ 64 }
@@ -71,7 +72,7 @@ fn ended(lines: (List<Entry>, Rest), input: &mut Reader) -> Result<(List<Entry>,
     Ok(lines)
 }
 
-/// How many lines these are.
+/// How many lines these take.
 fn line_count(entries: &List<Entry>, rest: &Rest) -> u64
     requires { line_count (entries.now, rest.now) < 2 ^ 64 }
     ensures { result ≡ line_count (entries.now, rest.now) }

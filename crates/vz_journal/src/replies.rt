@@ -1,4 +1,4 @@
-//! The reply of an entry, read.
+//! Reads the reply of an entry.
 ghost use Rattle.std.specs.Prelude.{◌≡◌, IsTrue};
 ghost use Rattle.vz_journal.specs.Giving.{Gives};
 ghost use Rattle.vz_journal.specs.Reading.{rule_of, refusal_of, malformed_at, refused_at, accepted_at, began_at, reclaim_at, one_of};
@@ -14,7 +14,7 @@ use vz_frame::Rule;
 use vz_geom::Rect;
 use vz_rules::{Event, Refusal, Reply, Returned};
 
-/// The rule of a number, in the order in which the rules are tested.
+/// The rule with this number. The rules are numbered in the order in which they are tested.
 #[tactic(auto, unfolding(crate::specs::Reading::rule_of))]
 fn rule_of(number: u32) -> Result<Rule, Stop>
     ensures { Gives (λ r. r) result (rule_of number) }
@@ -35,7 +35,7 @@ fn rule_of(number: u32) -> Result<Rule, Stop>
     }
 }
 
-/// The refusal of a number, where no rule stands behind it.
+/// The refusal with this number, if it is one without the number of a rule after it.
 #[tactic(auto, unfolding(crate::specs::Reading::refusal_of))]
 fn refusal_of(number: u32) -> Result<Refusal, Stop>
     ensures { Gives (λ r. r) result (refusal_of number) }
@@ -56,7 +56,7 @@ fn refusal_of(number: u32) -> Result<Refusal, Stop>
     }
 }
 
-/// The number of a broken rule.
+/// Reads the number of the rule that a malformed frame breaks.
 #[tactic(auto, unfolding(crate::specs::Reading::malformed_at))]
 fn read_malformed(input: &mut Reader) -> Result<Reply, Stop>
     ensures { Gives (λ x. (x, input.new)) result (malformed_at input.old) }
@@ -66,7 +66,7 @@ fn read_malformed(input: &mut Reader) -> Result<Reply, Stop>
     Ok(Reply::Refused(Refusal::Malformed(rule)))
 }
 
-/// The number of a refusal, and behind 2 that of the broken rule.
+/// Reads the number of a refusal and, after 2, the number of the broken rule.
 #[tactic(auto, unfolding(crate::specs::Reading::refused_at))]
 fn read_refused(input: &mut Reader) -> Result<Reply, Stop>
     ensures { Gives (λ x. (x, input.new)) result (refused_at input.old) }
@@ -79,7 +79,7 @@ fn read_refused(input: &mut Reader) -> Result<Reply, Stop>
     Ok(Reply::Refused(refusal))
 }
 
-/// The ordinal and the index of a submission.
+/// Reads the ordinal and the index of a submission.
 #[tactic(auto, unfolding(crate::specs::Reading::accepted_at))]
 fn read_accepted(input: &mut Reader) -> Result<Reply, Stop>
     ensures { Gives (λ x. (x, input.new)) result (accepted_at input.old) }
@@ -89,7 +89,7 @@ fn read_accepted(input: &mut Reader) -> Result<Reply, Stop>
     Ok(Reply::Accepted { ordinal, index })
 }
 
-/// The number of a begin-frame that began.
+/// Reads the number of the begin-frame that a client awaited.
 #[tactic(auto, unfolding(crate::specs::Reading::began_at))]
 fn read_began(input: &mut Reader) -> Result<Reply, Stop>
     ensures { Gives (λ x. (x, input.new)) result (began_at input.old) }
@@ -98,7 +98,7 @@ fn read_began(input: &mut Reader) -> Result<Reply, Stop>
     Ok(Reply::Began(number))
 }
 
-/// References that this client reclaimed.
+/// The item of references that a client reclaimed.
 #[derive(Drop)]
 struct Reclaims {
     client: u32,
@@ -116,7 +116,7 @@ impl Item for Reclaims {
     }
 }
 
-/// A reply to this client.
+/// Reads the reply to a client.
 #[tactic(auto, unfolding(crate::specs::Reading::client_reply_at))]
 fn read_client_reply(alloc: Global, client: u32, input: &mut Reader) -> Result<Reply, Stop>
     ensures { Gives (λ x. (x, input.new)) result (client_reply_at client input.old) }
@@ -137,7 +137,7 @@ fn read_client_reply(alloc: Global, client: u32, input: &mut Reader) -> Result<R
     read_plain_client_reply(input)
 }
 
-/// A reply to a client without a number.
+/// Reads a reply to a client that has no number.
 #[tactic(auto, unfolding(crate::specs::Reading::one_of))]
 fn read_plain_client_reply(input: &mut Reader) -> Result<Reply, Stop>
     ensures { Gives (λ x. (x, input.new)) result (one_of client_replies input.old) }
@@ -159,7 +159,7 @@ fn read_plain_client_reply(input: &mut Reader) -> Result<Reply, Stop>
     }
 }
 
-/// The number of a tick.
+/// Reads the number of a tick.
 #[tactic(auto, unfolding(crate::specs::Reading::ticked_at))]
 fn read_ticked(input: &mut Reader) -> Result<Reply, Stop>
     ensures { Gives (λ x. (x, input.new)) result (ticked_at input.old) }
@@ -169,7 +169,7 @@ fn read_ticked(input: &mut Reader) -> Result<Reply, Stop>
     Ok(Reply::Ticked(number))
 }
 
-/// The damage of a drawn frame.
+/// Reads the damage of a drawn frame.
 #[tactic(auto, unfolding(crate::specs::Reading::drawn_at))]
 fn read_drawn(input: &mut Reader) -> Result<Reply, Stop>
     ensures { Gives (λ x. (x, input.new)) result (drawn_at input.old) }
@@ -184,7 +184,8 @@ fn read_drawn(input: &mut Reader) -> Result<Reply, Stop>
     Ok(Reply::Drawn(drawn_on(x, y, w, h)))
 }
 
-/// The rectangle of these numbers. Condition: it has points and no edge beyond the longest side.
+/// The rectangle with these numbers. Condition: it is not empty, and no edge is beyond the
+/// greatest side of a display.
 fn drawn_on(x: u32, y: u32, w: u32, h: u32) -> Rect
     requires { IsTrue (is_drawn x y w h) }
     ensures { result ≡ drawn_on x y w h }
@@ -192,7 +193,7 @@ fn drawn_on(x: u32, y: u32, w: u32, h: u32) -> Rect
     Rect::new(x as i32, y as i32, w as i32, h as i32)
 }
 
-/// Whether the rectangle has points and no edge beyond the longest side.
+/// Whether the rectangle is not empty, and no edge is beyond the greatest side of a display.
 fn is_drawn(x: u32, y: u32, w: u32, h: u32) -> bool
     ensures { result ≡ is_drawn x y w h }
 {
@@ -202,7 +203,7 @@ fn is_drawn(x: u32, y: u32, w: u32, h: u32) -> bool
         && u64::from(y) + u64::from(h) <= u64::from(GREATEST_DISPLAY_SIDE)
 }
 
-/// A reply to a draw.
+/// Reads the reply to Draw.
 #[tactic(auto, unfolding(crate::specs::Reading::draw_reply_at, crate::specs::Reading::one_of))]
 fn read_draw_reply(input: &mut Reader) -> Result<Reply, Stop>
     ensures { Gives (λ x. (x, input.new)) result (draw_reply_at input.old) }
@@ -222,7 +223,7 @@ fn read_draw_reply(input: &mut Reader) -> Result<Reply, Stop>
     }
 }
 
-/// A reply to the end of a drawn frame.
+/// Reads the reply to Done.
 #[tactic(auto, unfolding(crate::specs::Reading::one_of))]
 fn read_done_reply(input: &mut Reader) -> Result<Reply, Stop>
     ensures { Gives (λ x. (x, input.new)) result (one_of done_replies input.old) }
@@ -236,7 +237,7 @@ fn read_done_reply(input: &mut Reader) -> Result<Reply, Stop>
     }
 }
 
-/// The reply to the end of all begin-frames.
+/// Reads the reply to Over.
 #[tactic(auto, unfolding(crate::specs::Reading::one_of))]
 fn read_over_reply(input: &mut Reader) -> Result<Reply, Stop>
     ensures { Gives (λ x. (x, input.new)) result (one_of over_replies input.old) }
@@ -248,7 +249,7 @@ fn read_over_reply(input: &mut Reader) -> Result<Reply, Stop>
     }
 }
 
-/// A reply to this event.
+/// Reads the reply to this event.
 #[tactic(auto, unfolding(crate::specs::Reading::reply_at))]
 pub fn read_reply(alloc: Global, event: Event, input: &mut Reader) -> Result<Reply, Stop>
     ensures { Gives (λ x. (x, input.new)) result (reply_at event input.old) }

@@ -1,4 +1,4 @@
-//! Why a text is not read.
+//! Why a text cannot be read as a log.
 ghost use Rattle.std.specs.Prelude.{◌≡◌, Some};
 ghost use Rattle.vz_journal.specs.declared.stop.Stop.TheVariants.{Memory};
 
@@ -6,12 +6,12 @@ use std::alloc::{AllocError, AllocFailed};
 use std::error::Error;
 use std::fmt;
 
-/// Why a log is not read.
+/// Why a log cannot be read.
 #[derive(Clone, Copy, Debug, PartialEq, Eq)]
 pub enum LogError {
-    /// The first line, counted from 1, that is not in the grammar at its place.
+    /// The number, from 1 on, of the first line that is not in the grammar at its place.
     Refused { line: u64 },
-    /// Want of memory.
+    /// An allocation failed.
     Memory,
 }
 
@@ -30,7 +30,8 @@ impl fmt::Display for LogError {
 
 impl Error for LogError {}
 
-/// Why a part of a line is not read: for want of memory, or since the bytes are unlike it.
+/// Why a part of a line cannot be read: an allocation failed, or the bytes are not in the
+/// grammar.
 #[derive(Clone, Copy, Debug, PartialEq, Eq)]
 pub enum Stop {
     Memory,

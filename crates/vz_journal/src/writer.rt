@@ -1,4 +1,4 @@
-//! Writes a history and what is still out as the text of a log.
+//! Writes a history, and what is outstanding at its end, as the text of a log.
 ghost use Rattle.std.specs.Prelude.{◌≡◌, ◌<◌, [], ◌∷◌, ◌++◌, map, nat_abs, string_bytes, codes};
 ghost use Rattle.std.specs.Prelude.{IfOk, OnOk};
 ghost use Rattle.std.specs.Fmt.{decimal};
@@ -16,8 +16,8 @@ use vz_geom::Rect;
 use vz_ids::Sub;
 use vz_rules::{Effects, Entry, Event, Fed, Lost, Refusal, Reply, Rest, Returned};
 
-/// The text of a log, in ASCII: a line for each entry of the history, the `held` and the `open`
-/// lines of the rest, and the line `end`. It fails only for want of memory.
+/// Returns the text of a log, in ASCII: a line for each entry of the history, the `held` lines
+/// and the `open` lines of the rest, and the line `end`. The only error is `Memory`.
 pub fn write(alloc: Global, history: &List<Entry>, rest: &Rest) -> Result<String, Memory>
     ensures { IfOk result (λ text. string_bytes text ≡ log_text history.now rest.now) }
 {
@@ -55,7 +55,8 @@ pub(crate) fn push_entry(out: &mut String, entry: &Entry) -> Result<(), AllocErr
     out.push_str("\n")
 }
 
-/// A word, and a number behind it. A word that is known at the call is stored there at once.
+/// Appends a word and then a number. It is inlined, so that a word that is known at the call is
+/// stored directly.
 #[inline(always)]
 fn push_number(out: &mut String, word: &str, number: u32) -> Result<(), AllocError>
     ensures { OnOk result (IsAppended out.old out.new (word.now ++ decimal number)) }
@@ -64,7 +65,8 @@ fn push_number(out: &mut String, word: &str, number: u32) -> Result<(), AllocErr
     push_decimal(out, number)
 }
 
-/// A number in decimal. That of a client, which stands in nearly each line, has two digits at most.
+/// Appends a number in decimal. Nearly each line has the number of a client, which has at most
+/// two digits.
 #[inline(never)]
 fn push_decimal(out: &mut String, number: u32) -> Result<(), AllocError>
     ensures { OnOk result (IsAppended out.old out.new (decimal number)) }
@@ -209,7 +211,7 @@ fn push_drawn(out: &mut String, damage: &Rect) -> Result<(), AllocError>
     push_number(out, " ", h)
 }
 
-/// Its numbers as they are printed, without signs: a drawn damage has none.
+/// The numbers of a drawn damage as they are printed. They have no sign, as none is negative.
 fn numbers_of(damage: &Rect) -> [u32; 4]
     ensures { result
         ≡ map nat_abs (damage.now.x ∷ damage.now.y ∷ damage.now.w ∷ damage.now.h ∷ []) }

@@ -1,22 +1,22 @@
-//! What a lock keeps.
+//! The state that a lock keeps.
 ghost use Rattle.std.specs.Prelude.{ℕ, List};
 
 use vz_base::limits::MOST_FILES;
 
-/// How many callers a lock has at most: the display, and the clients of a plan.
+/// The greatest number of callers of a lock: the display and the clients of a plan.
 pub const MOST_CALLERS: usize = MOST_FILES + 1;
 
-/// A state that callers take in turns.
+/// A state that callers use in turns.
 pub trait Kept: Send {
-    /// What is settled when the state is made.
+    /// What is fixed when the state is made.
     type Plan;
 
-    /// What a caller adds.
+    /// What a caller adds to the state in its turn.
     type Entry;
 
     /// The plan, which no caller changes.
     ghost plan: { Self → Self.Plan };
 
-    /// The entries made so far, each with the number of its caller.
+    /// The entries added so far, in order, each with the number of its caller.
     ghost entries: { Self → List (ℕ × Self.Entry) };
 }

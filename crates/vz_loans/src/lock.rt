@@ -12,7 +12,7 @@ mod life;
 mod meet;
 mod turns;
 
-/// A state that its callers take in turns.
+/// A state that its callers use in turns.
 pub struct Lock<K: Kept> {
     table: Table<Option<K>, View<K::Plan, K::Entry>, About<K>, Ordered<K>, Global>,
     callers: u32,
@@ -34,7 +34,7 @@ impl<K: Kept> Model for Lock<K> {
         × (l.callers ≤ MOST_CALLERS) };
 }
 
-/// A caller of a lock.
+/// The token of a caller of a lock.
 #[derive(Drop)]
 pub struct Token<K: Kept> {
     seat: Seat<Option<K>, View<K::Plan, K::Entry>>,

@@ -1,9 +1,10 @@
-//! The rule, and what each step tells. These types are for the proofs alone.
+//! The rule of the table, and what each step does under it. These types are only for proofs.
 //!
-//! There are eight kinds of step: a ticket is taken (`Take`); a caller looks whether its turn has
-//! come (`Look`); the state is taken out of the slot, and put back, which change no view; the turn
-//! is ended (`End`); a seat is split (`Cut` with a number for the new seat, `Note` without one); two
-//! seats are joined (`Glue`); and a seat compares its list with those that it was given (`Compare`).
+//! There are eight kinds of steps. A caller takes a ticket (`Take`), looks whether its turn has
+//! come (`Look`), takes the state out of the slot and puts it back, which change no view, and
+//! ends its turn (`End`). A seat is split: `Cut` gives the new seat a number, and `Note` does
+//! not. Two seats are joined (`Glue`). A seat compares its list with those that it was given
+//! (`Compare`).
 ghost use Rattle.vz_loans.specs.Rule.{took, looked, ended, compared, given, left, note, joined, spent};
 
 use crate::kept::Kept;
@@ -12,14 +13,14 @@ use atomic_table::{Join, Play, Split, TableRule};
 use std::marker::PhantomData;
 use std::snapshot::Snapshot;
 
-/// What the table is told: the state that it begins with, and how many callers there are.
+/// What is said to the table at its beginning: the first state, and how many callers there are.
 #[derive(Drop)]
 pub struct About<K> {
     pub state: Snapshot<K>,
     pub callers: u32,
 }
 
-/// The rule.
+/// The rule of the table.
 pub struct Ordered<K> {
     state: PhantomData<K>,
 }
@@ -32,14 +33,14 @@ impl<K: Kept> TableRule<Option<K>, View<K::Plan, K::Entry>, About<K>> for Ordere
     ghost first = { λ a. newcomer (K.plan a.state.value) };
 }
 
-/// A ticket is taken: word 0 rises by one.
+/// A caller takes a ticket: word 0 rises by one.
 pub struct Take;
 
 impl<K, P, E> Play<Option<K>, View<P, E>> for Take {
     ghost then = { took };
 }
 
-/// Word 1 is read. Where it is the seat's ticket, the slot goes out to the seat.
+/// A caller reads word 1. If it equals the seat's ticket, the seat may take the slot.
 pub struct Look<K> {
     state: PhantomData<K>,
 }
@@ -48,7 +49,7 @@ impl<K: Kept> Play<Option<K>, View<K::Plan, K::Entry>> for Look<K> {
     ghost then = { looked K.plan K.entries };
 }
 
-/// The turn is ended: word 1 rises by one, and the slot comes home.
+/// A caller ends its turn: word 1 rises by one, and the slot is the table's again.
 pub struct End<K> {
     state: PhantomData<K>,
 }
@@ -57,7 +58,7 @@ impl<K: Kept> Play<Option<K>, View<K::Plan, K::Entry>> for End<K> {
     ghost then = { ended K.plan K.entries };
 }
 
-/// The least spare number of a seat goes to a new one.
+/// The smallest number that a seat keeps and no caller has goes to a new seat.
 pub struct Cut;
 
 impl<P, E> Split<View<P, E>> for Cut {
@@ -66,7 +67,7 @@ impl<P, E> Split<View<P, E>> for Cut {
     ghost right = { given };
 }
 
-/// Two seats become one.
+/// Two seats become one seat.
 pub struct Glue;
 
 impl<P, E> Join<View<P, E>> for Glue {
@@ -75,7 +76,7 @@ impl<P, E> Join<View<P, E>> for Glue {
     ghost spent = { spent };
 }
 
-/// A seat with the plan and the list alone stands beside the old one.
+/// A new seat gets only the plan and the list of the old one, which stays.
 pub struct Note;
 
 impl<P, E> Split<View<P, E>> for Note {
@@ -84,7 +85,8 @@ impl<P, E> Split<View<P, E>> for Note {
     ghost right = { note };
 }
 
-/// Word 0 is read. The lists that a seat was given begin its own, and are put away.
+/// A caller reads word 0. Afterwards the seat has seen all lists that it was given, and no longer
+/// keeps them.
 pub struct Compare;
 
 impl<K, P, E> Play<Option<K>, View<P, E>> for Compare {

@@ -1,4 +1,4 @@
-//! Threads that really take turns.
+//! Tests with threads that take turns.
 ghost use Rattle.std.specs.Prelude.{◌≡◌, ◌++◌, ◌∷◌, [], false};
 ghost use Rattle.vz_loans.specs.Tokens.{IsAtRest};
 
@@ -7,7 +7,7 @@ use std::sync::Wait;
 use std::test::Fail;
 use std::thread;
 
-/// A limit, which is the plan, and a list of amounts.
+/// A state for the tests: a limit, which is the plan, and a list of amounts.
 #[derive(Drop)]
 struct Tally {
     limit: u64,
@@ -24,7 +24,7 @@ impl Kept for Tally {
     ghost entries = { λ t. t.made.items };
 }
 
-// One entry, if there is room for it.
+// Adds one entry, if there is room for it.
 fn add<R: Wait>(rt: &R, lock: &Lock<Tally>, token: &mut Token<Tally>, amount: u64) -> bool
     requires { IsAtRest lock.now.id token.old }
     ensures { IsAtRest lock.now.id token.new }
@@ -35,7 +35,7 @@ fn add<R: Wait>(rt: &R, lock: &Lock<Tally>, token: &mut Token<Tally>, amount: u6
     fits
 }
 
-// The three amounts of a caller, in three turns, and the token back.
+// Adds the three amounts of a caller in three turns, and returns the token.
 fn add_three<R: Wait>(
     rt: &R,
     lock: &Lock<Tally>,
@@ -51,7 +51,7 @@ fn add_three<R: Wait>(
     (token, first & second & third)
 }
 
-// Whether a caller's amounts are these, in this order.
+// Whether the caller's amounts are these, in this order.
 fn has_made(made: &[(u32, u64)], number: u32, amounts: &[u64]) -> bool {
     let mut left = amounts;
     for entry in made {
@@ -100,7 +100,7 @@ fn threads_add_to_one_list(rt: HostRuntime) -> Result<(), Fail> {
     Ok(())
 }
 
-// Whether the tokens have the numbers from 0 on, in this order.
+// Whether the tokens have the numbers from 0 on, in rising order.
 fn are_numbered(tokens: &[Token<Tally>]) -> bool {
     for (number, token) in tokens.iter().enumerate() {
         if token.number() as usize != number {

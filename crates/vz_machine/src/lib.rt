@@ -1,5 +1,5 @@
-//! What a display and a desk need of a machine and of its pictures, and a picture that has all
-//! its pixels.
+//! What a display and a desk need of a machine and of the pictures that it draws, and a picture
+//! that holds all its pixels.
 #![tactic(auto)]
 
 mod machine;

@@ -1,4 +1,4 @@
-//! A machine of a plan.
+//! The machine that runs a plan.
 ghost use Rattle.std.specs.Prelude.{◌≡◌, IfOk, OnErr, OnOk};
 ghost use Rattle.std.specs.Option.{option_map};
 ghost use Rattle.vz_rules.specs.declared.entry.Event.TheVariants.{Client, Begin, Draw, Done, Over};
@@ -12,39 +12,43 @@ use std::alloc::Global;
 use vz_base::Memory;
 use vz_rules::{Effects, Reply, Rest};
 
-/// What a step answers, and what followed from it.
+/// What an event is answered, and what follows from it.
 #[derive(Drop)]
 pub struct Step {
-    /// What the event was answered.
+    /// The answer to the event.
     pub reply: Reply,
-    /// What followed.
+    /// What follows from it.
     pub effects: Effects,
 }
 
-/// A machine that takes the events of a plan one after the other. Each step's answer, and the world
-/// that it leaves, are those that the definitions give. A step that wants memory leaves the world.
+/// A machine that takes the events of a plan one after the other. After each event, its reply,
+/// its effects and its world are those that the definitions give. If an allocation fails, the
+/// step returns `Memory` and the world is unchanged.
 pub trait Machine {
-    /// The plan that the machine runs, and the world that it stands for.
+    /// The plan that the machine runs, and the world that it represents.
     ghost state: { Self → State };
 
-    /// The picture of a drawing.
+    /// The type of the pictures that drawings give.
     type FrameData: Picture;
 
-    /// Takes the next message of a client. Condition: the plan has that client.
+    /// Takes the next message of a client. Condition: the plan has that client. The only error is
+    /// `Memory`, and then nothing changes.
     fn client(&mut self, alloc: Global, c: u32) -> Result<Step, Memory>
         requires { HasClient (state self.old) c }
         ensures answer { IfOk result (λ s. Answers (state self.old) (Client c) s) }
         ensures world { OnOk result (Goes (state self.old) (Client c) (state self.new)) }
         ensures err { OnErr result (state self.new ≡ state self.old) };
 
-    /// A begin-frame: the tick rises and is delivered to the attached clients.
+    /// Begins a frame: the tick rises by one and is delivered to the attached clients. The only
+    /// error is `Memory`, and then nothing changes.
     fn begin(&mut self, alloc: Global) -> Result<Step, Memory>
         ensures answer { IfOk result (λ s. Answers (state self.old) Begin s) }
         ensures world { OnOk result (Goes (state self.old) Begin (state self.new)) }
         ensures err { OnErr result (state self.new ≡ state self.old) };
 
-    /// Draws the active surfaces. There is a picture exactly where the answer is Drawn: it has the
-    /// plan's size, the colours of what was to be seen and the damage of the answer.
+    /// Draws the active surfaces. It returns a picture exactly if the answer is Drawn. The
+    /// picture has the size of the plan's display, the colours of the scene and the damage of the
+    /// answer. The only error is `Memory`, and then nothing changes.
     fn draw(&mut self, alloc: Global) -> Result<(Step, Option<Self::FrameData>), Memory>
         ensures answer { IfOk result (λ d. Answers (state self.old) Draw d.0) }
         ensures picture { IfOk result (λ d. ShowsDrawn (state self.old) d.0.reply
@@ -52,39 +56,42 @@ pub trait Machine {
         ensures world { OnOk result (Goes (state self.old) Draw (state self.new)) }
         ensures err { OnErr result (state self.new ≡ state self.old) };
 
-    /// Ends the drawn frame, if there is one.
+    /// Ends the drawn frame if one is in flight. Its submissions are presented. It cannot fail.
     fn done(&mut self) -> Step
         ensures answer { Answers (state self.old) Done result }
         ensures world { Goes (state self.old) Done (state self.new) };
 
-    /// No begin-frame will be waited for from now on.
+    /// Ends begin-frames: no client has to wait for one from now on. It cannot fail.
     fn over(&mut self) -> Step
         ensures answer { Answers (state self.old) Over result }
         ensures world { Goes (state self.old) Over (state self.new) };
 
-    /// Whether a client's next answer would be NotYet. Condition: the plan has that client.
+    /// Whether a client would be answered NotYet if it sent its next message now. Condition: the
+    /// plan has that client.
     fn waits(&self, c: u32) -> bool
         requires { HasClient (state self.now) c }
         ensures { result ≡ waits_at (state self.now) c };
 
-    /// Whether a client is closed, has no message left or waits. Condition: the plan has that
-    /// client.
+    /// Whether a client is closed, has no message left, or would be answered NotYet. Condition:
+    /// the plan has that client.
     fn idle(&self, c: u32) -> bool
         requires { HasClient (state self.now) c }
         ensures { result ≡ idle_at (state self.now) c };
 
-    /// Whether a client has answered the tick. Condition: the plan has that client.
+    /// Whether a client has answered the current begin-frame. Condition: the plan has that
+    /// client.
     fn answered(&self, c: u32) -> bool
         requires { HasClient (state self.now) c }
         ensures { result ≡ answered_at (state self.now) c };
 
-    /// Whether the first client's sink reaches a client's. Condition: the plan has that client.
+    /// Whether a client gets begin-frames: client 1's sink is its own or an ancestor of it.
+    /// Condition: the plan has that client.
     fn attached(&self, c: u32) -> bool
         requires { HasClient (state self.now) c }
         ensures { result ≡ attached_at (state self.now) c };
 
-    /// How many resources the next message of a client lists, 0 where it has none or it is no
-    /// submission. Condition: the plan has that client.
+    /// How many resources the next message of a client lists. It is 0 if the client has no
+    /// message left or the message is no Submit. Condition: the plan has that client.
     fn listed(&self, c: u32) -> u64
         requires { HasClient (state self.now) c }
         ensures { result ≡ listed_at (state self.now) c };
@@ -93,7 +100,8 @@ pub trait Machine {
     fn waiting(&self) -> bool
         ensures { result ≡ some_waits (state self.now).world };
 
-    /// What is still out: references not given back and submissions without feedback.
+    /// What is outstanding: the references that were not given back, and the submissions without
+    /// feedback. The only error is `Memory`.
     fn rest(&self, alloc: Global) -> Result<Rest, Memory>
         ensures { IfOk result (λ r. r ≡ rest_in (state self.now).world) };
 }

@@ -1,4 +1,4 @@
-//! The picture of a display.
+//! The picture that a display is to show.
 ghost use Rattle.std.specs.Prelude.{◌≡◌, ◌+◌, OnOk};
 ghost use Rattle.vz_geom.specs.Rectangle.{Covers, sized, points_of, area_of};
 ghost use Rattle.vz_rules.specs.Frames.{patched};
@@ -10,24 +10,25 @@ use vz_base::Memory;
 use vz_buffers::{Buffer, Steps};
 use vz_geom::{Rect, Size};
 
-/// What a display is to show: a colour for each of its points, and the rectangle of the points
-/// that changed since the picture before.
+/// What a display is to show: a colour for each of its points, and the damage, which is the
+/// rectangle of the points that changed since the picture before.
 pub trait Picture {
-    /// What can be known of the picture.
+    /// What contracts know of the picture.
     ghost pictured: { Self → Pictured };
 
-    /// The size of the display.
+    /// The size of the display in pixels.
     fn size(&self) -> Size
         ensures value { result ≡ (pictured self.now).size }
         ensures proper { IsPictured (pictured self.now) };
 
-    /// The rectangle of the points that changed.
+    /// The rectangle of the points that changed since the picture before. It may be empty.
     fn damage(&self) -> Rect
         ensures { result ≡ (pictured self.now).changed };
 
-    /// Paints an area of a buffer: exactly its points get their colours, and each of them is a
-    /// step. Conditions: the buffer has the picture's size, and the area is inside. At want of
-    /// memory some points of the area may have their colours.
+    /// Paints an area of a buffer: exactly the points of the area get their colours, and each
+    /// counts as a step. Conditions: the buffer has the picture's size, and the area is inside
+    /// it. The only error is `Memory`; after it some points of the area may have their colours
+    /// already.
     fn paint<L: Ledger>(
         &self,
         alloc: Global,

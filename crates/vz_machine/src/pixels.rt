@@ -1,4 +1,4 @@
-//! A picture that has all its pixels.
+//! A picture that holds all its pixels.
 ghost use Rattle.std.specs.Prelude.{◌≡◌, ◌+◌, ◌<◌, ◌≤◌, ◌≤ℤ◌, ◌<ℤ◌, ◌+ℤ◌, pos, nat_abs, length, take, drop};
 ghost use Rattle.vz_base.specs.declared.limits.TheConstants.{GREATEST_DISPLAY_SIDE};
 ghost use Rattle.vz_geom.specs.Rectangle.{Covers, sized, points_of, area_of};
@@ -16,7 +16,7 @@ use vz_buffers::{Buffer, Steps};
 use vz_geom::{Rect, Size};
 use vz_pixels::Pixel;
 
-/// A picture of a display with all its pixels, row by row.
+/// The picture of a display with all its pixels, row by row from the top.
 #[derive(Drop)]
 pub struct PixelPicture {
     size: Size,
@@ -39,8 +39,8 @@ impl Model for PixelPicture {
 }
 
 impl PixelPicture {
-    /// The picture of these pixels. Conditions: a display's size, a pixel for each point, and
-    /// what changed is on the display.
+    /// Makes the picture of these pixels. Conditions: a size that a display may have, a pixel for
+    /// each of its points, and a damage on the display.
     pub fn new(size: Size, pixels: Vec<Pixel>, damage: Rect) -> PixelPicture
         requires size { IsDisplaySize size }
         requires all { length pixels.items ≡ pixel_count size }
@@ -128,7 +128,7 @@ fn paint_rows<L: Ledger>(
     }
 }
 
-/// Paints the row of an area that is `below` its first one.
+/// Paints the row of an area that is `below` rows below its first one.
 fn paint_row<L: Ledger>(
     size: &Size,
     pixels: &[Pixel],
@@ -171,7 +171,7 @@ fn height(area: &Rect) -> u32
     area.h().unsigned_abs()
 }
 
-/// So many pixels from a place on.
+/// The `count` pixels from index `from` on.
 fn span(pixels: &[Pixel], from: usize, count: usize) -> &[Pixel]
     requires { (from + count) ≤ length pixels.now }
     ensures value { result.now ≡ take count (drop from pixels.now) }
@@ -179,7 +179,7 @@ fn span(pixels: &[Pixel], from: usize, count: usize) -> &[Pixel]
     &pixels[from..from + count]
 }
 
-/// The row of an area that is `below` its first one.
+/// The number of the row that is `below` rows below the first one of an area.
 fn row_below(area: &Rect, below: u32) -> i32
     requires top { pos 0 ≤ℤ area.now.y }
     requires bottom { (area.now.y +ℤ pos below) <ℤ pos GREATEST_DISPLAY_SIDE }
@@ -188,7 +188,7 @@ fn row_below(area: &Rect, below: u32) -> i32
     area.y() + below as i32
 }
 
-/// Where the pixel of a column and a row stands.
+/// The index of the pixel in column `x` and row `y`.
 fn place(size: &Size, x: i32, y: i32) -> usize
     requires sides { IsDisplaySize size.now }
     requires left { pos 0 ≤ℤ x }

@@ -1,19 +1,19 @@
-//! The files of `step`, made.
+//! The two files that `step` writes, created.
 ghost use Rattle.std.specs.Prelude.{◌≢◌, [], ◌∷◌, IfOk, OnErr};
 ghost use Rattle.vz_outside.specs.Shelved.{Behaves};
 ghost use Rattle.vz_outputs.specs.Written.{HasFront, IsOut, KeepsAllBut};
 
 use vz_outside::{Shelf, ShelfError};
 
-/// The slots of the frames and of the log.
+/// The slots of the file of the frames and of the file of the log, both open for writing.
 #[derive(Clone, Copy, Debug, PartialEq, Eq)]
 pub struct Outputs {
     pub frames: u32,
     pub log: u32,
 }
 
-/// Makes the two files, both empty. Condition: their names differ. At an error each of them is as
-/// before or empty.
+/// Creates the file of the frames and that of the log, both empty. Condition: their names differ.
+/// The errors are those of the shelf; after an error each file is as before or empty.
 pub fn create_outputs<F: Shelf>(
     shelf: &mut F,
     frames: &str,

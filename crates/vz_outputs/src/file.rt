@@ -1,4 +1,4 @@
-//! Client files, written.
+//! Writes client files.
 ghost use Rattle.std.specs.Prelude.{IsTrue, OnOk, OnErr};
 ghost use Rattle.vz_codec.specs.Spelling.{file_bytes};
 ghost use Rattle.vz_frame.specs.Fits.{fits_file};
@@ -10,9 +10,9 @@ use vz_codec::encode;
 use vz_frame::ClientFile;
 use vz_outside::{Shelf, ShelfError, write_all};
 
-/// Makes a file of this name, in the place of one that is there, and writes a client's file to it.
-/// At an error the name is as before, or a front part of the file stands. Condition: the client's
-/// file fits.
+/// Writes a client's file to a file with this name, and replaces one that is there. The errors
+/// are those of the shelf, and `Memory`; after an error the named file is as before, or has a
+/// front part of the bytes. Condition: the client's file fits the format.
 pub fn write_file<F: Shelf>(
     alloc: Global,
     shelf: &mut F,

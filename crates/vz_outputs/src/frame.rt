@@ -1,4 +1,4 @@
-//! Frames, written.
+//! Writes frames.
 ghost use Rattle.std.specs.Prelude.{◌≡◌, ◌+◌, ◌*◌, ◌≤◌, ◌<◌, ◌++◌, nat_abs, length, take, drop, Some, OnOk, OnErr};
 ghost use Rattle.std.specs.List.{flat_map};
 ghost use Rattle.vz_outside.specs.Shelved.{Writing, KeepsOthers, Appends, AppendsFront, Behaves};
@@ -9,23 +9,23 @@ use vz_display::Display;
 use vz_geom::Size;
 use vz_outside::{Shelf, ShelfError, write_all};
 
-/// How many bytes of a frame are written in one piece at most.
+/// The greatest number of bytes of a frame that are written in one piece.
 const MOST_PIECE_BYTES: usize = 65_536;
 
-/// Where frames are written: the slot of a file, and the size of the frames.
+/// The slot of the file to which frames are written, and the size of each frame in pixels.
 #[derive(Clone, Copy, Debug, PartialEq, Eq)]
 pub struct FrameFile {
     pub slot: u32,
     pub size: Size,
 }
 
-/// Writes the frame that a display shows at the end of a file: its rows from top to bottom, and of
-/// each pixel the bytes r, g, b and a. At an error a front part of it was written, maybe none.
-/// Conditions: the slot is open for writing, the display has the size of the frames, and it shows a
-/// frame with a pixel for each point.
+/// Appends the frame that a display shows to a file: the rows from top to bottom, and for each
+/// pixel the bytes red, green, blue and alpha. The errors are those of the shelf, and `Memory`;
+/// after an error a front part of the frame was written, possibly none. Conditions: the slot is
+/// open for writing, the display has the size of the frames, and it shows a frame.
 ///
-/// The bytes go by way of `piece`, whatever it has. Where it is kept for the next frame of the file,
-/// that one takes no memory.
+/// The bytes go through the buffer `piece`, whatever it contains. If the caller passes it again
+/// for the next frame of the file, that call allocates nothing.
 pub fn write_frame<F: Shelf>(
     shelf: &mut F,
     file: FrameFile,
@@ -50,7 +50,7 @@ pub fn write_frame<F: Shelf>(
     Ok(())
 }
 
-/// Writes all rows, as many in one piece as it has room for. Condition: it has room for one.
+/// Writes all rows, as many in one piece as `piece` has room for. Condition: it has room for one.
 fn write_pieces<F: Shelf>(
     shelf: &mut F,
     slot: u32,
@@ -82,7 +82,7 @@ fn write_pieces<F: Shelf>(
     Ok(())
 }
 
-/// Writes so many rows from one on, by way of a piece that has room for their bytes.
+/// Writes `count` rows from row `from` on, through a piece that has room for their bytes.
 fn write_rows<F: Shelf>(
     shelf: &mut F,
     slot: u32,
@@ -114,7 +114,7 @@ fn write_rows<F: Shelf>(
     Ok(())
 }
 
-/// Copies the bytes of so many rows from one on.
+/// Copies the bytes of `count` rows from row `from` on.
 fn copy_rows(display: &Display, from: usize, count: usize, width: usize, into: &mut [u8])
     requires shows { ShowsFrame display.now }
     requires width { nat_abs display.now.turns.size.w ≡ width }
@@ -127,7 +127,7 @@ fn copy_rows(display: &Display, from: usize, count: usize, width: usize, into: &
     }
 }
 
-/// Copies the bytes of a row to a place.
+/// Copies the bytes of row `y` to index `at`.
 fn copy_row(display: &Display, y: usize, width: usize, at: usize, into: &mut [u8])
     requires shows { ShowsFrame display.now }
     requires width { nat_abs display.now.turns.size.w ≡ width }

@@ -1,4 +1,4 @@
-//! What the commands write to a shelf: the frames and the log of a history, and files.
+//! What the commands write to a shelf: the frames and the log of a history, and client files.
 #![tactic(auto)]
 
 mod create;

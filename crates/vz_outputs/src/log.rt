@@ -1,4 +1,4 @@
-//! The log, written.
+//! Writes the log.
 ghost use Rattle.std.specs.Prelude.{◌≡◌, Some, OnOk, OnErr};
 ghost use Rattle.vz_outside.specs.Shelved.{Writing, KeepsOthers, Appends, AppendsFront, Behaves};
 ghost use Rattle.vz_rules.specs.Log.{log_text};
@@ -8,8 +8,9 @@ use vz_frame::List;
 use vz_outside::{Shelf, ShelfError, write_all};
 use vz_rules::{Entry, Rest};
 
-/// Writes the log of a history, and of what is still out behind it, at the end of a slot's file. At
-/// an error a front part of it was written, maybe none. Condition: the slot is open for writing.
+/// Appends to a slot's file the log of a history and of what is outstanding at its end. The
+/// errors are those of the shelf, and `Memory`; after an error a front part of the log was
+/// written, possibly none. Condition: the slot is open for writing.
 pub fn write_log<F: Shelf>(
     alloc: Global,
     shelf: &mut F,

@@ -1,4 +1,4 @@
-//! Events taken, and their frames written.
+//! Takes events and writes their frames.
 ghost use Rattle.std.specs.Prelude.{◌≡◌, ◌+◌, false, Some, OnOk, OnErr};
 ghost use Rattle.std.specs.List.{All};
 ghost use Rattle.vz_geom.specs.Display.{IsDisplaySize};
@@ -16,11 +16,12 @@ use vz_outside::{Gate, Shelf, ShelfError};
 use vz_player::Player;
 use vz_rules::Event;
 
-/// Takes events one after the other, each between the two calls of a gate, and writes each frame
-/// that comes about at the end of a file. At an error the first of the events were taken, and of the
-/// frames that they write a front part was written, maybe none. Conditions: no want of memory has
-/// stopped the player, each client's event is of a client of the plan, the frames have the size of
-/// the plan, and the slot is open for writing.
+/// Takes events one after the other, calls the gate before and after each, and appends each frame
+/// that is drawn to a file. The errors are those of the shelf, and `Memory`. After an error a
+/// front part of the events was taken, and of their frames a front part of the bytes was written,
+/// possibly none. Conditions: the player is not stopped by a failed allocation, each client's
+/// event names a client of the plan, the frames have the size of the plan, and the slot is open
+/// for writing.
 pub fn play_frames<M: Machine + Drop, F: Shelf, G: Gate, L: Ledger>(
     alloc: Global,
     player: &mut Player<M>,
@@ -49,7 +50,7 @@ where
         (F.shelved shelf.old) (F.shelved shelf.new) }
     ensures behaves { Behaves (F.shelved shelf.old) (F.shelved shelf.new) result }
 {
-    // No memory is taken for the piece before the first frame, and none after it.
+    // The piece takes no memory before the first frame, and no more after it.
     let mut piece = Vec::new(alloc);
     for event in events {
         play_one(alloc, player, *event, shelf, file, &mut piece, gate, steps)?;
@@ -57,7 +58,7 @@ where
     Ok(())
 }
 
-/// Takes an event between the two calls of a gate, and writes the frame where one more comes about.
+/// Takes an event, calls the gate before and after it, and appends a frame if the event drew one.
 fn play_one<M: Machine + Drop, F: Shelf, G: Gate, L: Ledger>(
     alloc: Global,
     player: &mut Player<M>,

@@ -1,11 +1,13 @@
-//! A gate round each step.
+//! Gates, which are called around each step.
 
-/// What is told of each step, outside every lock, before and after it: for tests that hold a caller back.
+/// A gate is called before and after each step, while no lock is held. Tests use one to hold a
+/// caller back.
 pub trait Gate {
-    /// Before a step. The display is actor 0 and client c is actor c; `turn` numbers the steps of that actor from 1.
+    /// Called before a step. Actor 0 is the display, and actor c is client c. `turn` numbers the
+    /// steps of that actor from 1.
     fn before(&self, actor: u32, turn: u64);
 
-    /// After that step.
+    /// Called after that step, with the same numbers.
     fn after(&self, actor: u32, turn: u64);
 }
 

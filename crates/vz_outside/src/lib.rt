@@ -1,4 +1,5 @@
-//! The outside as contracts see it: a shelf of named files, a sink for printed text, and a gate round each step.
+//! The outside world as contracts see it: a shelf of named files, a sink for printed text, and a
+//! gate around each step.
 #![tactic(auto)]
 
 mod gate;

@@ -1,4 +1,4 @@
-//! A shelf in memory, for tests: all of it is known, and calls of chosen numbers fail.
+//! A shelf in memory, for tests. All of its bytes are known, and calls with chosen numbers fail.
 ghost use Rattle.std.specs.Prelude.{◌≡◌, ◌+◌, ◌-◌, ◌<◌, ◌≤◌, [], ◌++◌, Some, min, take, drop, OnOk, length, IfSome, IfOk, OnErr, IsErrOf, vec_len, vec_capacity, string_bytes};
 ghost use Rattle.std.specs.Option.{option_copied};
 ghost use Rattle.vz_outside.specs.Numbered.{numbered_from_1};
@@ -13,16 +13,16 @@ use crate::{Shelf, ShelfError};
 use std::alloc::Global;
 use std::marker::Model;
 
-/// Where a slot stands in its file.
+/// The position of a slot in its file.
 #[derive(Clone, Copy)]
 enum Place {
-    /// The slot is open for reading, and this byte is the next.
+    /// The slot is open for reading, and this is the index of the next byte.
     At(usize),
-    /// The slot is open for writing at the end.
+    /// The slot is open for writing at the end of the file.
     End,
 }
 
-/// An open slot: the place of its file among the files, and where it stands there.
+/// An open slot: the index of its file among the files, and the position in the file.
 #[derive(Clone, Copy)]
 struct Slot {
     file: usize,
@@ -59,8 +59,9 @@ impl Model for MemoryShelf {
 }
 
 impl MemoryShelf {
-    /// A shelf of these files, by name and bytes. Of files with one name the first counts.
-    /// The calls with the numbers in `failing` fail, counted from 1, and each call moves at most `piece` bytes.
+    /// Makes a shelf of these files, each a name and its bytes. If two files have the same name,
+    /// the first counts. The calls whose numbers, from 1 on, are in `failing` fail, and each call
+    /// moves at most `piece` bytes.
     pub fn new(
         alloc: Global,
         files: Vec<(String, Vec<u8>)>,
@@ -83,7 +84,7 @@ impl MemoryShelf {
         }
     }
 
-    /// The bytes of the file of a name, if it is there.
+    /// The bytes of the file with this name, or None if there is none.
     pub fn bytes_of(&self, name: &str) -> Option<&[u8]>
         ensures { option_copied result ≡ bytes_in self.now.files name.now }
     {
@@ -92,7 +93,7 @@ impl MemoryShelf {
         Some(files[place].1.as_slice())
     }
 
-    /// Opens the first file of a name for reading.
+    /// Opens the first file with this name for reading.
     fn open_file(&mut self, name: &str) -> Result<u32, ShelfError>
         ensures kept { IsKept self.old }
         ensures opens { Opens self.old name.now result self.new }
@@ -109,7 +110,8 @@ impl MemoryShelf {
         Ok(slot)
     }
 
-    /// Empties the first file of a name or makes it, and opens it for writing.
+    /// Empties the first file with this name, or makes one if there is none, and opens it for
+    /// writing.
     fn create_file(&mut self, name: &str) -> Result<u32, ShelfError>
         ensures kept { IsKept self.old }
         ensures creates { Creates self.old name.now result self.new }
@@ -125,7 +127,7 @@ impl MemoryShelf {
         Ok(slot)
     }
 
-    /// Reads the next bytes of a slot to the front of a piece, and answers how many.
+    /// Reads the next bytes of a slot into the front of a piece, and returns how many.
     fn read_on(&mut self, slot: u32, into: &mut [u8]) -> Result<usize, ShelfError>
         requires open { (shelved_of self.old).mode slot ≡ Some Reading }
         ensures kept { IsKept self.old }
@@ -142,7 +144,7 @@ impl MemoryShelf {
         Ok(moved)
     }
 
-    /// Writes the front of a piece at the end of a slot's file, and answers how many bytes.
+    /// Writes the front of a piece to the end of a slot's file, and returns how many bytes.
     fn write_on(&mut self, slot: u32, from: &[u8]) -> Result<usize, ShelfError>
         requires open { (shelved_of self.old).mode slot ≡ Some Writing }
         ensures kept { IsKept self.old }
@@ -165,7 +167,8 @@ impl Shelf for MemoryShelf {
 
     ghost faultless_known = { λ shelf faultless. (refl, ltb-true _ _ (and_parts _ _ faultless).1) };
 
-    /// Its call is numbered, and fails exactly where its number is one of those or the name is not there.
+    /// The call takes the next number. It fails exactly if that number is a failing one or no
+    /// file has the name.
     fn open(&mut self, name: &str) -> Result<u32, ShelfError>
         ensures opens { Opens self.old name.now result self.new }
         ensures opened { IfOk result (λ slot.
@@ -181,7 +184,7 @@ impl Shelf for MemoryShelf {
         self.open_file(name)
     }
 
-    /// Its call is numbered, and fails exactly where its number is one of those.
+    /// The call takes the next number, and fails exactly if that is a failing one.
     fn create(&mut self, name: &str) -> Result<u32, ShelfError>
         ensures creates { Creates self.old name.now result self.new }
         ensures opened { IfOk result (λ slot.
@@ -194,7 +197,8 @@ impl Shelf for MemoryShelf {
         self.create_file(name)
     }
 
-    /// Its call is numbered, and fails exactly where its number is one of those. It moves at most a piece.
+    /// The call takes the next number, and fails exactly if that is a failing one. It moves at
+    /// most `piece` bytes.
     fn read(&mut self, slot: u32, into: &mut [u8]) -> Result<usize, ShelfError>
         requires open { (shelved_of self.old).mode slot ≡ Some Reading }
         requires piece { 0 < length into.old }
@@ -210,7 +214,8 @@ impl Shelf for MemoryShelf {
         self.read_on(slot, into)
     }
 
-    /// Its call is numbered, and fails exactly where its number is one of those. It moves at most a piece.
+    /// The call takes the next number, and fails exactly if that is a failing one. It moves at
+    /// most `piece` bytes.
     fn write(&mut self, slot: u32, from: &[u8]) -> Result<usize, ShelfError>
         requires open { (shelved_of self.old).mode slot ≡ Some Writing }
         requires piece { 0 < length from.now }
@@ -230,7 +235,7 @@ impl Shelf for MemoryShelf {
 }
 
 impl Place {
-    /// The next byte to read.
+    /// The index of the next byte to read.
     fn next(self) -> usize
         requires { mode_of self ≡ Reading }
         ensures { self ≡ At result }
@@ -242,7 +247,7 @@ impl Place {
     }
 }
 
-/// The place of the first file of a name.
+/// The index of the first file with this name.
 fn first_named(files: &[(String, Vec<u8>)], name: &str) -> Option<usize>
     ensures place { result ≡ first_named (files_of files.now) name.now }
     ensures within { IfSome result (λ place. place < length files.now) }
@@ -250,7 +255,7 @@ fn first_named(files: &[(String, Vec<u8>)], name: &str) -> Option<usize>
     files.iter().position(|file| file.0.as_str() == name)
 }
 
-/// Empties the first file of a name, or makes an empty one behind the others, and answers its place.
+/// Empties the first file with this name, or appends an empty one, and returns its index.
 fn empty_file(
     alloc: Global,
     files: &mut Vec<(String, Vec<u8>)>,
@@ -273,7 +278,7 @@ fn empty_file(
     Ok(place)
 }
 
-/// Puts more bytes at the end of the file at a place.
+/// Appends bytes to the file at an index.
 fn extend_file(
     files: &mut Vec<(String, Vec<u8>)>,
     place: usize,
@@ -289,7 +294,8 @@ fn extend_file(
     Ok(())
 }
 
-/// Copies the next bytes of a file to the front of a piece, at most so many, and answers how many.
+/// Copies the next bytes of a file, at most `most`, into the front of a piece, and returns how
+/// many.
 fn copy_piece(bytes: &[u8], next: usize, into: &mut [u8], most: usize) -> usize
     ensures many { result ≡ min most (min (length into.old) (length bytes.now - next)) }
     ensures moved { drop next bytes.now ≡ take result into.new ++ drop (next + result) bytes.now }

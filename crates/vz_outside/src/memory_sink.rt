@@ -1,4 +1,4 @@
-//! A sink in memory, for tests: all of it is known, and calls of chosen numbers fail.
+//! A sink in memory, for tests. All of its bytes are known, and calls with chosen numbers fail.
 ghost use Rattle.std.specs.Prelude.{◌≡◌, ◌<◌, ◌≤◌, [], length, take, IfOk, OnErr};
 ghost use Rattle.vz_outside.specs.InMemory.{Collects, sunk_of};
 ghost use Rattle.vz_outside.specs.Numbered.{numbered_from_1};
@@ -9,7 +9,7 @@ use crate::{ShelfError, Sink};
 use std::alloc::Global;
 use std::marker::Model;
 
-/// A sink that keeps what it takes in memory. It takes whole pieces.
+/// A sink that keeps in memory what it takes. Each call takes the whole piece.
 #[derive(Drop)]
 pub struct MemorySink {
     bytes: Vec<u8>,
@@ -25,7 +25,7 @@ impl Model for MemorySink {
 }
 
 impl MemorySink {
-    /// A sink that took nothing yet. The calls with the numbers in `failing` fail, counted from 1.
+    /// Makes an empty sink. The calls whose numbers, from 1 on, are in `failing` fail.
     pub fn new(alloc: Global, failing: Vec<u64>) -> Self
         ensures { result ≡ record { bytes = []; calls = numbered_from_1 failing.items } }
     {
@@ -35,14 +35,14 @@ impl MemorySink {
         }
     }
 
-    /// The bytes that it took, in their order.
+    /// The bytes that it took, in order.
     pub fn bytes(&self) -> &[u8]
         ensures { result.now ≡ self.now.bytes }
     {
         self.bytes.as_slice()
     }
 
-    /// Takes a whole piece, in a call that is numbered.
+    /// Takes a whole piece, in a call that has a number.
     fn take(&mut self, from: &[u8]) -> Result<usize, ShelfError>
         ensures collects { Collects self.old from.now result self.new }
     {
@@ -61,7 +61,8 @@ impl Sink for MemorySink {
 
     ghost faultless_known = { λ sink faultless. (refl, ltb-true _ _ (and_parts _ _ faultless).1) };
 
-    /// Its call is numbered, also at `Memory`, and fails exactly where its number is one of those.
+    /// The call takes the next number, also if it answers `Memory`. It fails exactly if that
+    /// number is a failing one.
     fn write(&mut self, from: &[u8]) -> Result<usize, ShelfError>
         requires piece { 0 < length from.now }
         ensures collects { Collects self.old from.now result self.new }

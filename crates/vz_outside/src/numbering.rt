@@ -1,4 +1,4 @@
-//! The calls of a device in memory, numbered from 1.
+//! The numbers of the calls of a device in memory, from 1 on.
 ghost use Rattle.std.specs.Prelude.{◌≡◌, true, false, OnOk, OnErr, IfErr};
 ghost use Rattle.vz_outside.specs.Faults.{one_more};
 ghost use Rattle.vz_outside.specs.Numbered.{after_one_call, after_one_fault, is_failing, numbered_from_1};
@@ -7,8 +7,9 @@ ghost use Rattle.vz_outside.specs.declared.shelf.ShelfError.TheVariants.{Failed}
 use crate::ShelfError;
 use std::marker::Model;
 
-/// Numbers calls from 1, lets those of some numbers fail, and counts the faults.
-/// The number 18,446,744,073,709,551,615 is that of all later calls too, and the count stands still there.
+/// Numbers calls from 1 on, makes those with chosen numbers fail, and counts the faults. After
+/// 18,446,744,073,709,551,615 all calls have that number, and the count of faults does not rise
+/// above it.
 #[derive(Drop)]
 pub struct Calls {
     failing: Vec<u64>,
@@ -25,7 +26,7 @@ impl Model for Calls {
 }
 
 impl Calls {
-    /// No call was made yet. Those of these numbers will fail.
+    /// Starts before the first call. The calls with these numbers will fail.
     pub fn new(failing: Vec<u64>) -> Self
         ensures { result ≡ numbered_from_1 failing.items }
     {
@@ -36,7 +37,7 @@ impl Calls {
         }
     }
 
-    /// Makes the next call, which fails if its number is one of those.
+    /// Makes the next call. It fails if its number is a failing one.
     pub fn pass(&mut self) -> Result<(), ShelfError>
         ensures passes { OnOk result (is_failing self.old ≡ false) }
         ensures ok { OnOk result (self.new ≡ after_one_call self.old) }
@@ -51,7 +52,7 @@ impl Calls {
         Ok(())
     }
 
-    /// Numbers the next call.
+    /// Gives the next call its number.
     fn count(&mut self) -> u64
         ensures number { result ≡ self.old.next }
         ensures counted { self.new ≡ after_one_call self.old }
@@ -61,7 +62,7 @@ impl Calls {
         number
     }
 
-    /// Counts a fault, and answers it.
+    /// Counts a fault, and returns the error for it.
     pub fn fail(&mut self) -> ShelfError
         ensures error { result ≡ Failed }
         ensures failed { self.new ≡ record self.old { faults = one_more self.old.faults } }

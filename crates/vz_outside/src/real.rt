@@ -1,5 +1,6 @@
-//! The files of the system and standard output, as a shelf and a sink: others may change them, so no bytes of names are
-//! known. What a runtime tells of an open file is, and faults are counted.
+//! The files of the system and standard output, as a shelf and a sink. Other programs may change
+//! files, so contracts know no bytes by name. They know what the runtime says of an open file,
+//! and the count of faults.
 ghost use Rattle.std.specs.Io.KnownBytes.{ReadConsumes, WriteAppends};
 ghost use Rattle.std.specs.Prelude.{◌≡◌, ◌<◌, ◌≤◌, [], Some, Ok, Err, IfOk, IfErr, OnOk, OnErr, IsErrOf, MatchResult, length, take, vec_len, vec_capacity};
 ghost use Rattle.vz_outside.specs.Faults.{HasCause, one_more};
@@ -15,18 +16,18 @@ use std::marker::Model;
 use std::rt::Files;
 use std::{fs, io};
 
-/// An open file, and what it is open for.
+/// An open file, and whether it is open for reading or for writing.
 #[derive(Drop)]
 enum Handle<F: Drop> {
-    /// A file to read.
+    /// A file that is read.
     Source(F),
-    /// A file to write.
+    /// A file that is written.
     Target(F),
 }
 
 /// A shelf of the files of the system.
 ///
-/// Each error of the system is a fault, and so is a write that takes nothing.
+/// Each error of the system counts as a fault, and so does a write that takes no byte.
 #[derive(Drop)]
 pub struct RealShelf<R: Files + Drop> {
     rt: R,
@@ -48,7 +49,8 @@ impl<R: Files + Drop> Model for RealShelf<R> {
 }
 
 impl<R: Files + AllocGlobal + Drop> RealShelf<R> {
-    /// A shelf of the files that a runtime reaches, with no slot open and no fault counted.
+    /// Makes a shelf of the files that a runtime reaches. No slot is open, and no fault is
+    /// counted.
     pub fn new(rt: R) -> Self
         ensures { result ≡ record { modes = []; known = []; faults = 0 } }
     {
@@ -69,7 +71,7 @@ impl<R: Files + AllocGlobal + Drop> Shelf for RealShelf<R> {
 
     ghost faultless_known = { λ shelf faultless. absurd (false≢true faultless) };
 
-    /// The new slot is the last one, and an error leaves the slots as they were.
+    /// The new slot is the last one. After an error the slots are unchanged.
     fn open(&mut self, name: &str) -> Result<u32, ShelfError>
         ensures last { IfOk result (λ slot. IsLastOpened Reading slot self.old self.new) }
         ensures slots { OnErr result (KeepsSlots self.old self.new) }
@@ -90,7 +92,7 @@ impl<R: Files + AllocGlobal + Drop> Shelf for RealShelf<R> {
         Ok(slot)
     }
 
-    /// The new slot is the last one, and an error leaves the slots as they were.
+    /// The new slot is the last one. After an error the slots are unchanged.
     fn create(&mut self, name: &str) -> Result<u32, ShelfError>
         ensures last { IfOk result (λ slot. IsLastOpened Writing slot self.old self.new) }
         ensures slots { OnErr result (KeepsSlots self.old self.new) }
@@ -108,8 +110,8 @@ impl<R: Files + AllocGlobal + Drop> Shelf for RealShelf<R> {
         Ok(slot)
     }
 
-    /// Its only error is `Failed`. Where it is known what is left of the file, exactly what is answered is taken
-    /// from it, and nothing at an error.
+    /// Its only error is `Failed`. If it is known what is left of the file, exactly the bytes in
+    /// the answer are taken from it, and none after an error.
     fn read(&mut self, slot: u32, into: &mut [u8]) -> Result<usize, ShelfError>
         requires open { (outer_shelf self.old).mode slot ≡ Some Reading }
         requires piece { 0 < length into.old }
@@ -129,8 +131,8 @@ impl<R: Files + AllocGlobal + Drop> Shelf for RealShelf<R> {
         self.slots[slot as usize].read(into, &mut self.faults)
     }
 
-    /// Its only error is `Failed`. Where it is known what the file holds, exactly those bytes that are answered are
-    /// put at its end, and none at an error.
+    /// Its only error is `Failed`. If it is known what the file holds, exactly the bytes in the
+    /// answer are appended to it, and none after an error.
     fn write(&mut self, slot: u32, from: &[u8]) -> Result<usize, ShelfError>
         requires open { (outer_shelf self.old).mode slot ≡ Some Writing }
         requires piece { 0 < length from.now }
@@ -154,8 +156,9 @@ impl<R: Files + AllocGlobal + Drop> Shelf for RealShelf<R> {
 }
 
 impl<F: Read + Write + Drop> Handle<F> {
-    /// Reads the next bytes of the file. Where it is known what is left, exactly what is answered is taken from
-    /// it, and nothing at an error. Each error of the system is a fault.
+    /// Reads the next bytes of the file. If it is known what is left of it, exactly the bytes in
+    /// the answer are taken from it, and none after an error. Each error of the system counts as
+    /// a fault.
     fn read(&mut self, into: &mut [u8], faults: &mut u64) -> Result<usize, ShelfError>
         requires mode { handle_mode self.old ≡ Reading }
         ensures mode { handle_mode self.new ≡ handle_mode self.old }
@@ -172,9 +175,9 @@ impl<F: Read + Write + Drop> Handle<F> {
         }
     }
 
-    /// Writes some bytes to the file, at least one. Where it is known what the file holds, exactly those that are
-    /// answered are put at its end, and none at an error. Each error of the system is a fault, and so is a write
-    /// that takes nothing.
+    /// Writes at least one byte to the file. If it is known what the file holds, exactly the
+    /// bytes in the answer are appended to it, and none after an error. Each error of the system
+    /// counts as a fault, and so does a write that takes no byte.
     fn write(&mut self, from: &[u8], faults: &mut u64) -> Result<usize, ShelfError>
         requires mode { handle_mode self.old ≡ Writing }
         requires piece { 0 < length from.now }
@@ -194,8 +197,8 @@ impl<F: Read + Write + Drop> Handle<F> {
     }
 }
 
-/// Writes some bytes to a file or a stream, at least one. Where it is known what it holds, exactly those that are
-/// answered are put at its end, and none at an error.
+/// Writes at least one byte to a file or a stream. If it is known what that holds, exactly the
+/// bytes in the answer are appended to it, and none after an error.
 fn put_some<W: Write>(to: &mut W, from: &[u8], faults: &mut u64) -> Result<usize, ShelfError>
     requires piece { 0 < length from.now }
     ensures count { IfOk result (λ n. n ≤ length from.now) }
@@ -210,7 +213,7 @@ fn put_some<W: Write>(to: &mut W, from: &[u8], faults: &mut u64) -> Result<usize
     }
 }
 
-/// Hands on an answer of the system, and counts an error of it as a fault.
+/// Passes on an answer of the system, and counts an error as a fault.
 fn answer<T>(given: io::Result<T>, faults: &mut u64) -> Result<T, ShelfError>
     ensures same { MatchResult given (λ value. result ≡ Ok value) (λ _. result ≡ Err Failed) }
     ensures cause { HasCause faults.old faults.new result }
@@ -221,7 +224,8 @@ fn answer<T>(given: io::Result<T>, faults: &mut u64) -> Result<T, ShelfError>
     }
 }
 
-/// Counts a fault, and answers it. The count stands still at 18,446,744,073,709,551,615.
+/// Counts a fault, and returns the error for it. The count does not rise above
+/// 18,446,744,073,709,551,615.
 fn fail(faults: &mut u64) -> ShelfError
     ensures error { result ≡ Failed }
     ensures counted { faults.new ≡ one_more faults.old }
@@ -230,8 +234,8 @@ fn fail(faults: &mut u64) -> ShelfError
     ShelfError::Failed
 }
 
-/// A stream of the system that is written to, as standard output. Each error of the system is a fault, and so is a
-/// write that takes nothing.
+/// A stream of the system that is written to, such as standard output. Each error of the system
+/// counts as a fault, and so does a write that takes no byte.
 #[derive(Drop)]
 pub struct RealSink<W: Write + Drop> {
     stream: W,
@@ -247,7 +251,7 @@ impl<W: Write + Drop> Model for RealSink<W> {
 }
 
 impl<W: Write + Drop> RealSink<W> {
-    /// A stream, with no fault counted.
+    /// Makes a sink of a stream, with no fault counted.
     pub fn new(stream: W) -> Self
         ensures { result ≡ record { known = W.contents stream; faults = 0 } }
     {
@@ -263,8 +267,8 @@ impl<W: Write + Drop> Sink for RealSink<W> {
 
     ghost faultless_known = { λ sink faultless. absurd (false≢true faultless) };
 
-    /// Its only error is `Failed`. Where it is known what the stream holds, exactly those bytes that are answered are
-    /// put at its end, and none at an error.
+    /// Its only error is `Failed`. If it is known what the stream holds, exactly the bytes in the
+    /// answer are appended to it, and none after an error.
     fn write(&mut self, from: &[u8]) -> Result<usize, ShelfError>
         requires piece { 0 < length from.now }
         ensures bytes { WriteAppends self.old.known self.new.known result from.now }

@@ -8,12 +8,12 @@ use std::alloc::{AllocError, AllocFailed};
 use std::error::Error;
 use std::fmt;
 
-/// Why a call of a shelf or a sink has no other answer.
+/// The errors of a call on a shelf or a sink.
 #[derive(Clone, Copy, Debug, PartialEq, Eq)]
 pub enum ShelfError {
-    /// The device failed, and counted the fault.
+    /// The device failed, or the file is not there. The call counted a fault.
     Failed,
-    /// Want of memory.
+    /// An allocation failed.
     Memory,
 }
 
@@ -56,16 +56,17 @@ impl From<vz_base::Memory> for ShelfError {
     }
 }
 
-/// Named files. A file is opened in a slot for reading or for writing, and a slot stays open.
+/// Named files. A file is opened in a slot, for reading or for writing, and the slot stays open.
 ///
-/// `Failed` is the answer exactly where the call counted a fault, `Memory` comes for want of memory.
-/// After both, a shelf whose bytes are known has the same slots, rests and bytes as before.
+/// A call returns `Failed` exactly if it counted a fault, and `Memory` if an allocation failed.
+/// After either error, a shelf whose bytes are known has the same slots and bytes as before, and
+/// the same bytes left to read.
 pub trait Shelf {
-    /// What can be known of the shelf.
+    /// What contracts know of the shelf.
     ghost shelved: { Self → Shelved };
 
-    /// Opens a file that is there for reading, from its first byte on, in a slot that was not open.
-    /// It fails where the name is not there.
+    /// Opens an existing file for reading from its first byte, in a slot that was not open. The
+    /// error is `Failed` if no file has the name.
     fn open(&mut self, name: &str) -> Result<u32, ShelfError>
         ensures opened { IfOk result (λ slot.
             IsOpened Reading name.now slot (shelved self.old) (shelved self.new)) }
@@ -77,7 +78,8 @@ pub trait Shelf {
         ensures behaves { BehavesUnless (IsMissing name.now (shelved self.old))
             (shelved self.old) (shelved self.new) result };
 
-    /// Makes an empty file, in the place of one of this name, and opens it for writing in a slot that was not open.
+    /// Creates an empty file, which replaces any file with this name, and opens it for writing in
+    /// a slot that was not open.
     fn create(&mut self, name: &str) -> Result<u32, ShelfError>
         ensures opened { IfOk result (λ slot.
             IsOpened Writing name.now slot (shelved self.old) (shelved self.new)) }
@@ -86,7 +88,9 @@ pub trait Shelf {
         ensures untouched { OnErr result (IsUntouched (shelved self.old) (shelved self.new)) }
         ensures behaves { Behaves (shelved self.old) (shelved self.new) result };
 
-    /// Reads the next bytes of a slot to the front of a piece, and answers how many. 0 is the end of the file.
+    /// Reads the next bytes of a slot into the front of a piece, and returns how many. 0 means
+    /// that the file has ended. Conditions: the slot is open for reading, and the piece is not
+    /// empty.
     fn read(&mut self, slot: u32, into: &mut [u8]) -> Result<usize, ShelfError>
         requires open { (shelved self.old).mode slot ≡ Some Reading }
         requires piece { 0 < length into.old }
@@ -98,7 +102,8 @@ pub trait Shelf {
         ensures untouched { OnErr result (IsUntouched (shelved self.old) (shelved self.new)) }
         ensures behaves { Behaves (shelved self.old) (shelved self.new) result };
 
-    /// Writes some bytes from the front of a piece at the end of the slot's file, and answers how many, at least 1.
+    /// Appends bytes from the front of a piece to the slot's file, and returns how many, at least
+    /// 1. Conditions: the slot is open for writing, and the piece is not empty.
     fn write(&mut self, slot: u32, from: &[u8]) -> Result<usize, ShelfError>
         requires open { (shelved self.old).mode slot ≡ Some Writing }
         requires piece { 0 < length from.now }
@@ -112,7 +117,7 @@ pub trait Shelf {
         ensures untouched { OnErr result (IsUntouched (shelved self.old) (shelved self.new)) }
         ensures behaves { Behaves (shelved self.old) (shelved self.new) result };
 
-    /// The bytes of a faultless shelf are known, and its count of faults can rise.
+    /// If a shelf is faultless, its bytes are known and its count of faults can rise.
     ghost faultless_known: { (s : Self) → IsTrue (shelved s).is_faultless →
         IsTrue (shelved s).is_known × ((shelved s).faults < greatest_count) };
 }

@@ -1,4 +1,4 @@
-//! Whole texts over calls that move a piece each.
+//! Reads and writes of whole texts, made of calls that each move a piece.
 ghost use Rattle.std.specs.Prelude.{◌≡◌, ◌+◌, ◌<◌, ◌≤◌, ◌^◌, Some, take, vec_len, IfOk, OnOk, OnErr, IsErrOf};
 ghost use Rattle.vz_outside.specs.Shelved.{Reading, Writing, Consumes, IsFront, ReadsOnly, KeepsOthers, Appends, AppendsFront, Behaves};
 ghost use Rattle.vz_outside.specs.Sunk as sinks;
@@ -7,13 +7,14 @@ ghost use Rattle.vz_outside.specs.declared.shelf.ShelfError.TheVariants.{Failed}
 use crate::{Shelf, ShelfError, Sink};
 use std::alloc::Global;
 
-/// By how many bytes at most the room for what is read grows in one turn.
+/// By how many bytes the buffer for a file grows at most in one turn.
 const STRIDE: usize = 65_536;
 
-/// Reads a slot's file on to its end, or to one byte above a limit in bytes, so that a longer file shows.
+/// Reads the rest of a slot's file, but at most `limit + 1` bytes, so that the caller sees if the
+/// file is longer than the limit.
 ///
-/// `Failed` is the answer exactly where a fault was counted, `Memory` comes for want of memory.
-/// After both, some of what was not yet read was taken, maybe none.
+/// The error is `Failed` exactly if a fault was counted, and `Memory` if an allocation failed.
+/// After either error, some of the bytes left to read were taken, possibly none.
 pub fn read_upto<F: Shelf>(
     alloc: Global,
     shelf: &mut F,
@@ -44,7 +45,8 @@ pub fn read_upto<F: Shelf>(
     Ok(bytes)
 }
 
-/// Sees that there is room behind the bytes that were filled, of no more than one byte above a limit in all.
+/// Makes sure that there is room after the `filled` bytes, for at most `limit + 1` bytes in
+/// total.
 fn make_room(bytes: &mut Vec<u8>, filled: usize, limit: usize) -> Result<(), ShelfError>
     requires filled { filled ≤ vec_len bytes.old }
     requires room { filled ≤ limit }
@@ -63,10 +65,10 @@ fn make_room(bytes: &mut Vec<u8>, filled: usize, limit: usize) -> Result<(), She
     Ok(())
 }
 
-/// Writes all of some bytes at the end of a slot's file, in as many calls as it takes.
+/// Appends all bytes to a slot's file, in as many calls as it takes.
 ///
-/// `Failed` is the answer exactly where a fault was counted, `Memory` comes for want of memory.
-/// After both, some front part of them, maybe none and maybe all, was written.
+/// The error is `Failed` exactly if a fault was counted, and `Memory` if an allocation failed.
+/// After either error a front part of the bytes was written, possibly none or all.
 pub fn write_all<F: Shelf>(shelf: &mut F, slot: u32, bytes: &[u8]) -> Result<(), ShelfError>
     requires open { (F.shelved shelf.old).mode slot ≡ Some Writing }
     ensures appended { OnOk result (Appends bytes.now ((F.shelved shelf.old).name slot)
@@ -84,10 +86,10 @@ pub fn write_all<F: Shelf>(shelf: &mut F, slot: u32, bytes: &[u8]) -> Result<(),
     Ok(())
 }
 
-/// Prints all of some bytes, in as many calls as it takes.
+/// Prints all bytes, in as many calls as it takes.
 ///
-/// `Failed` is the answer exactly where a fault was counted, `Memory` comes for want of memory.
-/// After both, some front part of them, maybe none and maybe all, was printed.
+/// The error is `Failed` exactly if a fault was counted, and `Memory` if an allocation failed.
+/// After either error a front part of the bytes was printed, possibly none or all.
 pub fn print<O: Sink>(out: &mut O, bytes: &[u8]) -> Result<(), ShelfError>
     ensures taken { OnOk result (sinks.Takes bytes.now (O.sunk out.old) (O.sunk out.new)) }
     ensures begun { OnErr result (sinks.TakesFront bytes.now (O.sunk out.old) (O.sunk out.new)) }

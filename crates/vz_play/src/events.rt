@@ -1,10 +1,10 @@
-//! Events of a schedule.
+//! The events of a schedule.
 ghost use Rattle.std.specs.Prelude.{IsTrue};
 ghost use Rattle.vz_rules.specs.Step.{NamesClient};
 
 use vz_rules::{Event, Plan};
 
-/// The event that a byte of a schedule stands for, if it stands for one: 1 to 16 for a client's
+/// The event of a byte of a schedule, or None if the byte is no event: 1 to 16 for a client's
 /// next message, and 17 to 20 for Begin, Draw, Done and Over.
 pub fn event_of(byte: u8) -> Option<Event> {
     match byte {
@@ -17,7 +17,7 @@ pub fn event_of(byte: u8) -> Option<Event> {
     }
 }
 
-/// Whether an event is of the display or of a client of the plan.
+/// Whether an event is the display's, or that of a client of the plan.
 pub fn is_of_plan(plan: &Plan, event: Event) -> bool
     ensures { IsTrue result → NamesClient plan.now event }
 {

@@ -1,4 +1,4 @@
-//! The bytes of the frames of a display.
+//! The bytes of the frames that a display shows.
 ghost use Rattle.std.specs.Prelude.{◌≡◌, ◌*◌, ◌++◌, ◌≤ℤ◌, ◌<ℤ◌, pos, nat_abs, length, vec_len, IfOk, OnOk, IsSome, IfSome};
 ghost use Rattle.std.specs.List.{flat_map};
 ghost use Rattle.vz_geom.specs.Display.{IsDisplaySize};
@@ -11,7 +11,7 @@ use vz_base::Memory;
 use vz_display::Display;
 use vz_geom::Size;
 
-/// Room for a row of a display.
+/// Makes room for the bytes of a row of the display.
 fn row_of(alloc: Global, size: Size) -> Result<Vec<u8>, Memory>
     requires { IsDisplaySize size }
     ensures { IfOk result (λ row. vec_len row ≡ 4 * nat_abs size.w) }
@@ -20,8 +20,9 @@ fn row_of(alloc: Global, size: Size) -> Result<Vec<u8>, Memory>
     Ok(row)
 }
 
-/// Puts the bytes of the current frame of a display behind others. Conditions: the size is the
-/// display's, and a picture was shown.
+/// Appends the bytes of the display's current frame to `frames`: the rows from top to bottom, and
+/// four bytes a pixel. Conditions: the size is the display's, and a picture was shown. The only
+/// error is `Memory`.
 pub fn push_frame(
     alloc: Global,
     display: &Display,
@@ -41,9 +42,9 @@ pub fn push_frame(
     Ok(())
 }
 
-/// Puts the bytes of a row of the current frame behind others. Conditions: the size is the display's,
-/// a picture was shown, the row is one of the display, and there are four bytes for each of its
-/// pixels.
+/// Appends the bytes of a row of the current frame. Conditions: the size is the display's, a
+/// picture was shown, the row is one of the display, and the room for the row has four bytes for
+/// each pixel.
 fn push_row(
     display: &Display,
     size: Size,

@@ -1,5 +1,5 @@
-//! Events taken by a machine one after the other, with no other caller between them, and the bytes
-//! of the frames that its display shows.
+//! Runs a machine through events one after the other, with no other caller in between, and gives
+//! the bytes of the frames that its display shows.
 #![tactic(auto)]
 
 mod events;

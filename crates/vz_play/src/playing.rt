@@ -1,4 +1,4 @@
-//! Events taken by a machine alone.
+//! Runs a machine through events, on one thread.
 ghost use Rattle.std.specs.Prelude.{◌≡◌, ◌≤◌, ◌+◌, false, length, All, map, IfOk, OnOk};
 ghost use Rattle.vz_base.specs.declared.limits.TheConstants.{MOST_FILES};
 ghost use Rattle.vz_geom.specs.Display.{IsDisplaySize};
@@ -21,23 +21,24 @@ use vz_outside::OpenGate;
 use vz_player::Player;
 use vz_rules::{Entry, Event, Rest};
 
-/// What events leave of a plan.
+/// What a machine made of a list of events.
 #[derive(Drop)]
 pub struct Results {
-    /// The history: an entry for each event.
+    /// The history: one entry for each event, in the same order.
     pub history: List<Entry>,
-    /// What is still out.
+    /// What is outstanding at the end.
     pub rest: Rest,
-    /// The bytes of the frames, one after the other.
+    /// The bytes of the frames, one frame after the other, each row by row from the top with four
+    /// bytes a pixel.
     pub frames: Vec<u8>,
-    /// For each frame, how many pixels were put into a buffer.
+    /// For each frame, in order, how many pixels were put into a buffer.
     pub painted: Vec<u64>,
 }
 
-/// Runs a machine through events, and shows its pictures on a display of so many buffers. `Memory`
-/// is the only error. Conditions: the machine stands at the opening of its plan, which has at most
-/// `MOST_FILES` files and a display of this size; each client's event is of a client of the plan;
-/// and there are 1 to `MOST_BUFFERS` buffers.
+/// Runs a machine through events, and shows its pictures on a display of so many buffers. The
+/// only error is `Memory`. Conditions: the machine is in the opening world of its plan, which has
+/// at most `MOST_FILES` files and a display of this size; each client's event names a client of
+/// the plan; and there are 1 to `MOST_BUFFERS` buffers.
 pub fn play<M: Machine + Drop, L: Ledger>(
     alloc: Global,
     machine: M,
@@ -59,7 +60,8 @@ where
     ensures legal { IfOk result (λ p. Legal (M.state machine).plan p.history) }
     ensures events { IfOk result (λ p. map (λ e. e.event) p.history ≡ events.now) }
     ensures rest { IfOk result (λ p. p.rest ≡ rest_of (M.state machine).plan p.history) }
-    // The frames are those that are written with so many buffers, and each pixel is a step.
+    // The frames are those that are written with so many buffers, and each pixel that is put
+    // counts as a step.
     ensures frames { IfOk result (λ p. p.frames.items
         ≡ frames_bytes (written (M.state machine).plan p.history buffers)) }
     ensures counted { IfOk result (λ p. steps.new
@@ -83,10 +85,10 @@ where
     })
 }
 
-/// Takes an event, and puts the bytes of the frame that is drawn behind those before. The answer is
-/// how many pixels were put into a buffer, where something is drawn. Conditions: no want of memory
-/// has stopped the player, a client's event is of a client of the plan, whose size this is, and the
-/// bytes are those of the frames so far.
+/// Takes an event, and appends the bytes of the frame if one is drawn. It returns how many pixels
+/// were put into a buffer, or None if nothing was drawn. Conditions: no failed allocation has
+/// stopped the player, a client's event names a client of the plan, the size is that of the plan,
+/// and `frames` has the bytes of the frames so far.
 fn turn<M: Machine + Drop, L: Ledger>(
     alloc: Global,
     player: &mut Player<M>,

@@ -1,4 +1,4 @@
-//! Actors, and the numbers of their steps.
+//! Actors, which are the display and the clients, and the numbers of their steps.
 ghost use Rattle.std.specs.Prelude.{◌≡◌, ℕ, ◌<◌, ◌+◌, ◌++◌, ◌∷◌, replicate, take, drop, get_or};
 ghost use Rattle.std.specs.List.{All};
 ghost use Rattle.vz_rules.specs.declared.entry.Entry.{Entry as OneEntry};
@@ -9,11 +9,11 @@ use std::marker::Model;
 use vz_base::limits::MOST_FILES;
 use vz_rules::{Entry, Event};
 
-/// How many actors there are at most: the display, and the clients of a plan.
+/// The greatest number of actors: the display and the clients of a plan.
 pub const MOST_ACTORS: usize = MOST_FILES + 1;
 
-/// How many steps each actor has taken, the display's first and then each client's. A number
-/// stands still at `u64::MAX`.
+/// How many steps each actor has taken: first the display's number, then each client's. A number
+/// does not rise above `u64::MAX`.
 #[derive(Drop)]
 pub struct Actors {
     taken: [u64; MOST_ACTORS],
@@ -28,7 +28,7 @@ impl Model for Actors {
 }
 
 impl Actors {
-    /// No step was taken yet.
+    /// Starts with no step taken.
     pub fn new() -> Actors
         ensures { result ≡ replicate MOST_ACTORS 0 }
     {
@@ -37,7 +37,7 @@ impl Actors {
         }
     }
 
-    /// The steps of a history were taken. Condition: each entry is a step of one of the actors.
+    /// Counts the steps of a history. Condition: each entry is a step of one of the actors.
     pub fn after(history: &[Entry]) -> Actors
         requires { All (λ (e : OneEntry). actor_in e.event < MOST_ACTORS) history.now }
         ensures { (actor : ℕ) → actor < MOST_ACTORS
@@ -50,8 +50,8 @@ impl Actors {
         actors
     }
 
-    /// Counts a step of an actor, and tells it as a gate knows it. Condition: it is one of the
-    /// actors.
+    /// Counts one more step of an actor, and returns its name for a gate. Condition: it is one of
+    /// the actors.
     pub fn next_turn(&mut self, actor: u32) -> Turn
         requires { actor < MOST_ACTORS }
         ensures actor { result.actor ≡ actor }
@@ -65,7 +65,7 @@ impl Actors {
     }
 }
 
-/// Whose step an event is: the display's, which is actor 0, or a client's.
+/// The actor whose step an event is: 0 for the display, or the number of the client.
 pub fn actor_of(event: Event) -> u32
     ensures { result ≡ actor_in event }
 {

@@ -1,20 +1,19 @@
-//! Steps between the two calls of a gate.
+//! Steps with a gate around them.
 ghost use Rattle.std.specs.Fn.{FnOnceReturnsAtMut, FnOnceTakesAtMut};
 
 use vz_outside::Gate;
 
-/// A step, as a gate knows it: whose it is, the display's or a client's, and which of that actor's
-/// steps, from 1 on.
+/// The name of a step for a gate: the actor, and which of that actor's steps it is.
 #[derive(Clone, Copy, Debug, PartialEq, Eq)]
 pub struct Turn {
-    /// The display is actor 0, and client c is actor c.
+    /// 0 for the display, or the number of the client.
     pub actor: u32,
-    /// Which of that actor's steps, from 1 on.
+    /// Which step of that actor it is, from 1 on.
     pub number: u64,
 }
 
-/// Takes a step that changes a state, and tells the gate of it before and after. The answer is the
-/// step's. Condition: the step may be taken in this state.
+/// Takes a step that changes a state, and calls the gate before and after it. It returns the
+/// answer of the step. Condition: the step may be taken in this state.
 pub fn gated<G: Gate, S, T, F: FnOnce(&mut S) -> T>(
     gate: &G,
     turn: Turn,

@@ -1,5 +1,5 @@
-//! A player: a machine that takes events one after the other, each between the two calls of a
-//! gate, its history, and a display that shows what is drawn.
+//! A player: a machine that takes events one after the other, with a gate around each, its
+//! history, and a display that shows what is drawn.
 #![tactic(auto)]
 
 mod actors;

@@ -27,7 +27,7 @@ use vz_machine::Machine;
 use vz_outside::Gate;
 use vz_rules::{Entry, Event, Rest};
 
-/// A machine with its history so far, and a display that shows what is drawn.
+/// A machine with its history so far, and a display that shows what the machine draws.
 #[derive(Drop)]
 pub struct Player<M: Machine + Drop> {
     machine: M,
@@ -59,9 +59,9 @@ impl<M: Machine + Drop> Model for Player<M> {
 }
 
 impl<M: Machine + Drop> Player<M> {
-    /// A player before the first event. It takes no memory. Conditions: the machine stands at the
-    /// opening of its plan, which has at most `MOST_FILES` files and a display of this size, and
-    /// there are 1 to `MOST_BUFFERS` buffers.
+    /// Makes a player before the first event. It takes no memory. Conditions: the machine is in
+    /// the opening world of its plan, which has at most `MOST_FILES` files and a display of this
+    /// size, and there are 1 to `MOST_BUFFERS` buffers.
     pub fn new(alloc: Global, machine: M, size: Size, buffers: u32) -> Player<M>
         requires opening { (M.state machine).world ≡ opening (M.state machine).plan }
         requires files { length (M.state machine).plan.files ≤ MOST_FILES }
@@ -81,10 +81,10 @@ impl<M: Machine + Drop> Player<M> {
         }
     }
 
-    /// A player that goes on behind a history that came about elsewhere. It takes no memory.
-    /// Conditions: the machine stands behind the history, which is legal, its plan has at most
-    /// `MOST_FILES` files and a display's size, there are 1 or more buffers, and the display is the
-    /// one behind the history with so many.
+    /// Makes a player that continues a history made elsewhere. It takes no memory. Conditions:
+    /// the history is legal and the machine is in the world after it, its plan has at most
+    /// `MOST_FILES` files and a size that a display may have, there is at least 1 buffer, and the
+    /// display is in the state after that history with so many buffers.
     pub fn resume(machine: M, display: Display, history: Room<Entry>, buffers: u32) -> Player<M>
         requires behind { (M.state machine).world ≡ world (M.state machine).plan history.list }
         requires legal { Legal (M.state machine).plan history.list }
@@ -105,11 +105,11 @@ impl<M: Machine + Drop> Player<M> {
         }
     }
 
-    /// Takes an event between the two calls of a gate, puts its entry at the end of the history,
-    /// and shows the picture where something is drawn. The answer says whether a frame more is
-    /// written. Conditions: no want of memory has stopped the player, and a client's event is of a
-    /// client of the plan. At want of memory the history is the one before, or has the event's
-    /// entry more, and nothing but the history is of further use.
+    /// Takes an event with the gate around it, appends its entry to the history, and shows the
+    /// picture if one is drawn. It returns true if a frame was drawn. Conditions: no failed
+    /// allocation has stopped the player, and a client's event names a client of the plan. The
+    /// only error is `Memory`. After it the history is the one before or has the event's entry
+    /// too, and only the history may still be used.
     pub fn turn<G: Gate, L: Ledger>(
         &mut self,
         alloc: Global,
@@ -134,8 +134,8 @@ impl<M: Machine + Drop> Player<M> {
         }
     }
 
-    // Takes a client's event, after which no frame more is written. It has a path of its own, on
-    // which the step goes at once into the history, as most events of a run are of clients.
+    // Takes a client's event, which draws no frame. Most events of a run are of clients, so it
+    // has a path of its own, on which the step goes directly into the history.
     fn take_client<G: Gate>(&mut self, alloc: Global, gate: &G, client: u32) -> Result<bool, Memory>
         requires going { self.old.stopped ≡ false }
         requires named { NamesClient self.old.plan (event.Client client) }
@@ -151,9 +151,8 @@ impl<M: Machine + Drop> Player<M> {
         Ok(false)
     }
 
-    // Takes an event of the display that is no drawing, after which no frame more is written. It
-    // stays a function of its own, as the room for the steps of all such events is cleared at its
-    // beginning.
+    // Takes an event of the display other than a drawing, which draws no frame. It is a function
+    // of its own, as at its beginning it clears the room for the steps of all such events.
     #[inline(never)]
     fn take_plain<G: Gate>(&mut self, alloc: Global, gate: &G, event: Event) -> Result<bool, Memory>
         requires going { self.old.stopped ≡ false }
@@ -171,8 +170,8 @@ impl<M: Machine + Drop> Player<M> {
         Ok(false)
     }
 
-    // Draws, and shows the picture where something is drawn. It stays a function of its own, as the
-    // room for a picture is cleared at its beginning.
+    // Draws, and shows the picture if one is drawn. It is a function of its own, as at its
+    // beginning it clears the room for a picture.
     #[inline(never)]
     fn draw<G: Gate, L: Ledger>(
         &mut self,
@@ -199,7 +198,7 @@ impl<M: Machine + Drop> Player<M> {
         Ok(drawn)
     }
 
-    /// The history so far.
+    /// The history so far, in order.
     pub fn history(&self) -> &[Entry]
         ensures value { result.now ≡ self.now.history }
         ensures legal { Legal self.now.plan self.now.history }
@@ -207,7 +206,7 @@ impl<M: Machine + Drop> Player<M> {
         self.history.as_slice()
     }
 
-    /// The history, after which the player is gone. It takes no memory.
+    /// Returns the history and drops the rest of the player. It takes no memory.
     pub fn into_history(self) -> List<Entry>
         ensures value { result ≡ self.history }
         ensures legal { Legal self.plan self.history }
@@ -215,8 +214,8 @@ impl<M: Machine + Drop> Player<M> {
         self.history.into_list()
     }
 
-    /// The display. Its current buffer has the last frame that is written, which has a pixel for each
-    /// point. Condition: no want of memory has stopped the player.
+    /// The display. Its current buffer has the last written frame, with a pixel for each point.
+    /// Condition: no failed allocation has stopped the player.
     pub fn display(&self) -> &Display
         requires { self.now.stopped ≡ false }
         ensures value { result.now ≡ display_of self.now }
@@ -231,14 +230,15 @@ impl<M: Machine + Drop> Player<M> {
         &self.display
     }
 
-    /// The machine, which stands behind the history.
+    /// The machine, in the world after the history.
     pub fn machine(&self) -> &M
         ensures { M.state result.now ≡ machine_of self.now }
     {
         &self.machine
     }
 
-    /// What is still out: references not given back and submissions without feedback.
+    /// What is outstanding: the references that were not given back, and the submissions without
+    /// feedback. The only error is `Memory`.
     pub fn rest(&self, alloc: Global) -> Result<Rest, Memory>
         ensures { IfOk result (λ rest. rest ≡ rest_of self.now.plan self.now.history) }
     {

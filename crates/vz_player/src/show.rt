@@ -1,4 +1,4 @@
-//! Pictures shown on a display.
+//! Shows pictures on a display.
 ghost use Rattle.std.specs.Prelude.{◌≡◌, ◌+◌, is_some, IfOk, IfSome, OnOk};
 ghost use Rattle.std.specs.Option.{option_map};
 ghost use Rattle.vz_player.specs.Played.{shown_with, steps_with};
@@ -10,8 +10,8 @@ use vz_buffers::Steps;
 use vz_display::Display;
 use vz_machine::Picture;
 
-/// Shows a picture, if there is one, and tells whether there was. Condition: it has the display's
-/// size. At want of memory the display is of no further use.
+/// Shows a picture if there is one, and returns whether there was. Condition: it has the
+/// display's size. The only error is `Memory`; the display may not be used after it.
 pub fn show_some<P: Picture + Drop, L: Ledger>(
     alloc: Global,
     picture: Option<P>,

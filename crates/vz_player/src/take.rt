@@ -1,4 +1,4 @@
-//! Events taken by a machine.
+//! Gives events to a machine, and makes their entries.
 ghost use Rattle.std.specs.Prelude.{◌≡◌, true, None, IfOk, OnOk, OnErr};
 ghost use Rattle.std.specs.Option.{option_map};
 ghost use Rattle.vz_rules.specs.declared.entry.Event.TheVariants as event;
@@ -13,8 +13,8 @@ use vz_machine::{Machine, Step};
 use vz_outside::Gate;
 use vz_rules::{Entry, Event};
 
-/// Takes a client's event, between the two calls of a gate: its entry. At want of memory the machine
-/// stays. Condition: the client is of the plan.
+/// Takes a client's event with the gate around it, and returns its entry. Condition: the plan has
+/// the client. The only error is `Memory`, and then the machine is unchanged.
 pub fn client_gated<M: Machine, G: Gate>(
     alloc: Global,
     gate: &G,
@@ -40,8 +40,8 @@ pub fn client_gated<M: Machine, G: Gate>(
     )
 }
 
-/// Takes a client's event: its entry. At want of memory the machine stays. Condition: the client is
-/// of the plan.
+/// Takes a client's event, and returns its entry. Condition: the plan has the client. The only
+/// error is `Memory`, and then the machine is unchanged.
 fn take_client<M: Machine>(alloc: Global, machine: &mut M, client: u32) -> Result<Entry, Memory>
     requires { NamesClient (M.state machine.old).plan (event.Client client) }
     ensures entry { IfOk result (λ e.
@@ -55,8 +55,8 @@ fn take_client<M: Machine>(alloc: Global, machine: &mut M, client: u32) -> Resul
     Ok(entry_of(Event::Client(client), step))
 }
 
-/// Takes an event of the display that is no drawing, between the two calls of a gate: its entry. At
-/// want of memory the machine stays.
+/// Takes an event of the display other than a drawing, with the gate around it, and returns its
+/// entry. The only error is `Memory`, and then the machine is unchanged.
 pub fn take_gated<M: Machine, G: Gate>(
     alloc: Global,
     gate: &G,
@@ -81,7 +81,8 @@ pub fn take_gated<M: Machine, G: Gate>(
     )
 }
 
-/// Takes an event of the display that is no drawing: its entry. At want of memory the machine stays.
+/// Takes an event of the display other than a drawing, and returns its entry. The only error is
+/// `Memory`, and then the machine is unchanged.
 fn take<M: Machine>(alloc: Global, machine: &mut M, event: Event) -> Result<Entry, Memory>
     requires { is_plain event ≡ true }
     ensures entry { IfOk result (λ e.
@@ -99,8 +100,8 @@ fn take<M: Machine>(alloc: Global, machine: &mut M, event: Event) -> Result<Entr
     }
 }
 
-/// Draws between the two calls of a gate: the entry, and the picture. At want of memory the machine
-/// stays.
+/// Draws with the gate around it, and returns the entry, with the picture if there is one. The
+/// only error is `Memory`, and then the machine is unchanged.
 pub fn draw_gated<M: Machine, G: Gate>(
     alloc: Global,
     gate: &G,
@@ -117,7 +118,8 @@ pub fn draw_gated<M: Machine, G: Gate>(
     gated(gate, turn, machine, |machine| { draw(alloc, machine) })
 }
 
-/// Draws: the entry, and the picture. At want of memory the machine stays.
+/// Draws, and returns the entry, with the picture if there is one. The only error is `Memory`,
+/// and then the machine is unchanged.
 fn draw<M: Machine>(alloc: Global, machine: &mut M) -> Result<(Entry, Option<M::FrameData>), Memory>
     ensures entry { IfOk result (λ r.
         r.0 ≡ entry_in (M.state machine.old).plan (M.state machine.old).world event.Draw) }

@@ -1,4 +1,4 @@
-//! How a lock begins and ends.
+//! Opens and closes a lock.
 ghost use Rattle.std.specs.Prelude.{◌≡◌, ℕ, ◌+◌, ◌-◌, ◌<◌, ◌≤◌, [], ◌∷◌, length, Some, IfOk, IfErr, All, vec_len, vec_capacity};
 ghost use Rattle.vz_loans.specs.declared.kept.TheConstants.{MOST_CALLERS};
 ghost use Rattle.vz_loans.specs.Tokens.{unused, unused_from, IsAtRest, IsClosedBy, IsWhole, Covers, numbered};
@@ -13,7 +13,7 @@ use std::alloc::Global;
 use std::snapshot::Snapshot;
 
 impl<K: Kept> Lock<K> {
-    // Gives the least spare number of the seat to a token.
+    // Gives a token the smallest number that the seat keeps and no caller has.
     fn give(&self, seat: &mut Seat<Option<K>, View<K::Plan, K::Entry>>, number: u32) -> Token<K>
         requires lock { seat.old.table_id ≡ self.now.id }
         requires ready { seat.old.me ≡ ready seat.old.me.0.plan number }
@@ -30,7 +30,7 @@ impl<K: Kept> Lock<K> {
         }
     }
 
-    // Gives the numbers from 1 on to tokens of their own.
+    // Makes tokens of their own for the numbers from 1 on.
     fn deal(&self, seat: &mut Seat<Option<K>, View<K::Plan, K::Entry>>, tokens: &mut Vec<Token<K>>)
         requires lock { seat.old.table_id ≡ self.now.id }
         requires ready { seat.old.me ≡ ready seat.old.me.0.plan 1 }
@@ -49,8 +49,8 @@ impl<K: Kept> Lock<K> {
         }
     }
 
-    // The tokens of all numbers below the lock's callers, in their order. The token 0 keeps the spare
-    // numbers.
+    // Makes the tokens for all numbers of callers, in rising order. Token 0 keeps the numbers
+    // that no caller has.
     fn deal_all(
         &self,
         mut seat: Seat<Option<K>, View<K::Plan, K::Entry>>,
@@ -76,9 +76,9 @@ impl<K: Kept> Lock<K> {
         }
     }
 
-    /// A lock with this state, and the tokens of its callers, with the numbers from 0 on, in their
-    /// order. At want of memory the state comes back. Conditions: the state has no entry, and there
-    /// are 1 to `MOST_CALLERS` callers.
+    /// Makes a lock with this state, and a token for each caller, with the numbers from 0 on, in
+    /// rising order. If an allocation fails, the state comes back as the error. Conditions: the
+    /// state has no entry, and there are 1 to `MOST_CALLERS` callers.
     pub fn open(alloc: Global, state: K, callers: u32) -> Result<(Lock<K>, Vec<Token<K>>), K>
         requires some { 0 < callers }
         requires few { callers ≤ MOST_CALLERS }
@@ -117,7 +117,7 @@ impl<K: Kept> Lock<K> {
         }
     }
 
-    // Joins the seats of all tokens into one.
+    // Joins the seats of all tokens into one seat.
     fn gather(&self, mut tokens: Vec<Token<K>>) -> Seat<Option<K>, View<K::Plan, K::Entry>>
         requires all { length tokens.items ≡ self.now.callers }
         requires ours { All (IsAtRest self.now.id) tokens.items }
@@ -146,13 +146,13 @@ impl<K: Kept> Lock<K> {
         seat
     }
 
-    /// Gives the state back. It takes no memory. Condition: these are all tokens of this lock, in
-    /// any order, and none has the state.
+    /// Closes the lock and returns the state. It takes no memory. Condition: these are all tokens
+    /// of this lock, in any order, and no caller is in its turn.
     pub fn close(self, tokens: Vec<Token<K>>) -> K
         requires all { length tokens.items ≡ self.callers }
         requires ours { All (IsAtRest self.id) tokens.items }
         ensures tokens { All (IsClosedBy (K.plan result) (K.entries result)) tokens.items }
-        // no entry has a number that no token has
+        // No entry has a number that no token has.
         ensures others { (n : ℕ) → numbered n tokens.items ≡ 0 → places n (K.entries result) ≡ [] }
     {
         let seat = self.gather(tokens);

@@ -1,4 +1,4 @@
-//! One caller tells another what it has seen.
+//! Lets one caller learn what another has seen.
 ghost use Rattle.std.specs.Prelude.{◌≡◌, ◌⊎◌};
 ghost use mathlib.Core.List.{IsPrefix};
 ghost use Rattle.vz_loans.specs.Tokens.{IsAtRest, IsSameCaller, mine};
@@ -8,9 +8,9 @@ use crate::kept::Kept;
 use crate::plays::{Compare, Glue, Note};
 
 impl<K: Kept> Lock<K> {
-    /// `to` has seen afterwards what both had seen before, and `from` stays as it is. It waits for
-    /// nobody, and takes no memory. Condition: both are tokens of this lock, and neither has the
-    /// state.
+    /// After the call, `to` has seen what both had seen before; `from` is unchanged. It waits for
+    /// nobody, and takes no memory. Condition: both are tokens of this lock, and neither caller
+    /// is in its turn.
     pub fn meet(&self, to: &mut Token<K>, from: &mut Token<K>)
         requires to { IsAtRest self.now.id to.old }
         requires from { IsAtRest self.now.id from.old }

@@ -1,4 +1,4 @@
-//! A turn: in, and out again.
+//! The beginning and the end of a turn.
 ghost use Rattle.std.specs.Prelude.{◌≡◌, ◌+◌, ◌++◌, ◌∷◌, [], true, false, Some, length};
 ghost use mathlib.Core.List.{IsPrefix};
 ghost use Rattle.vz_loans.specs.Tokens.{mine, IsSameCaller, MayLeave};
@@ -13,7 +13,7 @@ use std::sync::Wait;
 use std::thread;
 
 impl<K: Kept> Lock<K> {
-    // Takes a ticket, and waits until its turn has come.
+    // Takes a ticket, and waits until its turn comes.
     fn wait<R: Wait>(&self, rt: &R, seat: &mut Seat<Option<K>, View<K::Plan, K::Entry>>) -> u64
         requires lock { seat.old.table_id ≡ self.now.id }
         requires idle { MayEnter seat.old.me }
@@ -31,8 +31,8 @@ impl<K: Kept> Lock<K> {
         unreachable!()
     }
 
-    /// Waits for the turn, and hands the state out. Condition: the token is this lock's, and does
-    /// not have the state.
+    /// Waits for the caller's turn, and takes the state out of the lock. Condition: the token is
+    /// this lock's, and its caller is not in its turn.
     pub fn enter<R: Wait>(&self, rt: &R, token: &mut Token<K>) -> K
         requires lock { token.old.lock ≡ self.now.id }
         requires outside { token.old.inside ≡ false }
@@ -50,9 +50,9 @@ impl<K: Kept> Lock<K> {
         }
     }
 
-    /// Puts the state back, and ends the turn. Conditions: the token is this lock's and has the
-    /// state; the plan is the same; and the entries are those that were found, or one more of this
-    /// token's number.
+    /// Puts the state back, and ends the turn. Conditions: the token is this lock's, and its
+    /// caller is in its turn; the plan is unchanged; and the entries are those that the caller
+    /// found, possibly with one more with this token's number.
     pub fn leave(&self, token: &mut Token<K>, state: K)
         requires lock { token.old.lock ≡ self.now.id }
         requires inside { token.old.inside ≡ true }
