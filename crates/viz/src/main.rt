@@ -1,4 +1,5 @@
-//! The program `viz`: the words, the files and standard output of the system, handed to the top call.
+//! The program `viz`. It passes the command line, the files and standard output of the system to
+//! the top call.
 #![tactic(auto)]
 
 ghost use Rattle.std.specs.Prelude.{◌≡◌, ◌<◌};
@@ -16,7 +17,7 @@ use viz_run::viz;
 use vz_buffers::Steps;
 use vz_outside::{OpenGate, RealShelf, RealSink, Shelf, Sink};
 
-/// The status where memory is wanting.
+/// The status after a failed allocation.
 const MEMORY: u8 = 5;
 
 fn main(rt: HostRuntime) -> ExitCode {
@@ -31,7 +32,7 @@ fn main(rt: HostRuntime) -> ExitCode {
     ExitCode::from(run::<Brand, _, _, _>(&rt, &words, &mut shelf, &mut out, Blank::new(1)))
 }
 
-/// Runs the words, and answers the status.
+/// Runs the words of a command line, and returns the status.
 fn run<L: Ledger, F: Shelf + Send, O: Sink, R: Threads + Wait + AllocGlobal + Sync>(
     rt: &R,
     words: &[String],
@@ -47,7 +48,8 @@ fn run<L: Ledger, F: Shelf + Send, O: Sink, R: Threads + Wait + AllocGlobal + Sy
     viz(rt, words, shelf, out, &OpenGate, &mut steps).status
 }
 
-/// The words behind the program's name. Where one of them is not UTF-8 there are none, so that they are refused.
+/// The words after the program's name. If one of them is not UTF-8, the list is empty, so that
+/// the command line is refused.
 fn words_of<R: Env + AllocGlobal>(rt: &R) -> Result<Vec<String>, AllocError> {
     let mut words = Vec::new(rt.alloc());
     let given = match env::args(rt) {

@@ -1,4 +1,4 @@
-//! A plan run with threads, with the frames and the log written.
+//! Runs a plan with threads, and writes the frames and the log.
 ghost use Rattle.std.specs.Prelude.{◌≡◌, ◌≢◌, ◌+◌, Some, [], ◌∷◌, IsTrue};
 ghost use Rattle.std.specs.Prelude.{IfOk, OnOk, OnErr};
 ghost use Rattle.vz_outputs.specs.Written.{AreWhole, AreBegun, KeepsAllBut};
@@ -26,12 +26,12 @@ use vz_rules::{Entry, Rest};
 use vz_threads::{Course, play_course};
 use vz_words::RunWords;
 
-/// Runs a machine that stands at the opening of its plan, and writes the frames and the log.
-/// FRAMES and LOG are made here, once every file is accepted. `counts` tells how many messages each
-/// client has.
+/// Runs a machine in the opening world of its plan, and writes the frames and the log. It creates
+/// the two files itself, after each input was accepted. `counts` has the number of messages of
+/// each client, in the order of the files.
 ///
-/// `Failed` is the answer exactly where a fault was counted, `Memory` comes for want of memory.
-/// After both the history is a legal one, and of what it writes a front part stands.
+/// The error is `Failed` exactly if a fault was counted, and `Memory` if an allocation failed.
+/// After either error the history is legal, and a front part of what it writes is in each file.
 pub fn play_run<M: Machine + Send + Drop, F: Shelf, G: Gate + Sync, L: Ledger, R>(
     rt: &R,
     machine: M,
@@ -82,9 +82,9 @@ where
     Ok(())
 }
 
-/// Runs a machine that stands at the opening of its plan, writes the frames to an open slot, and
-/// answers what is still out. After an error the history is a legal one, and of the frames that it
-/// writes a front part stands.
+/// Runs a machine in the opening world of its plan, writes the frames to an open slot, and
+/// returns what is outstanding at the end. After an error the history is legal, and a front part
+/// of the bytes of its frames was written.
 fn show_run<M: Machine + Send + Drop, F: Shelf, G: Gate + Sync, L: Ledger, R>(
     rt: &R,
     machine: M,
@@ -134,7 +134,7 @@ where
     )
 }
 
-/// How many buffers there are, also where no number is given.
+/// The number of buffers, which is `DEFAULT_BUFFERS` if none is given.
 fn buffer_count(buffers: Option<u32>) -> u32
     ensures { result ≡ buffer_count buffers }
 {

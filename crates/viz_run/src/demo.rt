@@ -1,4 +1,4 @@
-//! `demo`: the files by rule, played and shown, but not written.
+//! The command `demo`: runs the generated files and paints the frames, but writes nothing.
 ghost use Rattle.std.specs.Prelude.{◌≡◌, ◌+◌, ◌≤◌, ℕ, [], false, take, All, string_bytes};
 ghost use Rattle.std.specs.Prelude.{IfOk, OnOk, OnErr};
 ghost use Rattle.vz_base.specs.declared.limits.TheConstants.{DEFAULT_BUFFERS, MOST_ROUNDS};
@@ -31,9 +31,10 @@ use vz_outside::Gate;
 use vz_player::Player;
 use vz_rules::{Entry, Event};
 
-/// Plays the files by rule with so many rounds, paints each frame, and answers the line that tells
-/// it. Nothing is read or written. Conditions: 1 to `MOST_ROUNDS` rounds, and an empty history. At
-/// want of memory, the only error, the history has a front part of the events.
+/// Runs the generated files for so many rounds, paints each frame, and returns the line that
+/// reports it. It reads and writes no file. Conditions: 1 to `MOST_ROUNDS` rounds, and an empty
+/// history. The only error is `Memory`, and then the history is that of a front part of the
+/// events.
 pub fn demo<G: Gate, L: Ledger>(
     alloc: Global,
     rounds: u32,
@@ -61,9 +62,9 @@ pub fn demo<G: Gate, L: Ledger>(
     Ok(demo_line(alloc, history.as_slice(), painted)?)
 }
 
-/// Plays events one after the other on a machine at the opening of its plan, paints each frame,
-/// and answers how many points were painted. `size` is that of the plan's display. At want of
-/// memory, the only error, the history has a front part of the events.
+/// Gives events one after the other to a machine in the opening world of its plan, paints each
+/// frame, and returns how many points were painted. `size` is that of the plan's display. The
+/// only error is `Memory`, and then the history is that of a front part of the events.
 fn play_all<M: Machine + Drop, G: Gate, L: Ledger>(
     alloc: Global,
     machine: M,
@@ -101,7 +102,8 @@ where
     }
 }
 
-/// Gives a player the events one after the other. At want of memory it took the first of them.
+/// Gives events to a player one after the other. After the error `Memory` it took a front part of
+/// them.
 fn take_all<M: Machine + Drop, G: Gate, L: Ledger>(
     alloc: Global,
     player: &mut Player<M>,

@@ -4,7 +4,7 @@ ghost use Rattle.viz_run.specs.Lines.{verdict_status};
 
 use vz_check::Verdict;
 
-/// The line that tells how a command ended, and its status: 0, or 1 where a log or its frames have
+/// The line that reports how a command ended, and its status: 0, or 1 if a log or its frames have
 /// a fault.
 #[derive(Drop)]
 pub struct End {
@@ -12,7 +12,7 @@ pub struct End {
     pub status: u8,
 }
 
-/// The status that tells a verdict.
+/// The status for a verdict: 0 for yes, 1 for no.
 pub fn verdict_status(verdict: &Verdict) -> u8
     ensures { result ≡ verdict_status verdict.now }
 {

@@ -1,4 +1,4 @@
-//! The events of the demonstration.
+//! The events of `demo`.
 ghost use Rattle.std.specs.Prelude.{◌≡◌, ◌++◌, IfOk, OnOk, replicate};
 ghost use Rattle.vz_rules.specs.declared.entry.Event.TheVariants as event;
 ghost use Rattle.viz_run.specs.Demo.{demo_events, round, four};
@@ -7,11 +7,11 @@ use std::alloc::Global;
 use vz_base::Memory;
 use vz_rules::Event;
 
-/// How many messages a client sends in a round.
+/// How many messages a child sends in a round.
 const MESSAGES: u32 = 4;
 
-/// The events of the demonstration with so many rounds: the page's messages, and for each round a
-/// begin-frame, the messages of both children, and a drawing that is shown.
+/// The events of `demo` for so many rounds: the page's messages, and then for each round a
+/// begin-frame, the messages of both children, a drawing, and its Done.
 pub fn demo_events(alloc: Global, rounds: u32) -> Result<Vec<Event>, Memory>
     ensures { IfOk result (λ events. events.items ≡ demo_events rounds) }
 {
@@ -23,7 +23,7 @@ pub fn demo_events(alloc: Global, rounds: u32) -> Result<Vec<Event>, Memory>
     Ok(events)
 }
 
-/// Puts the events of a round behind others.
+/// Appends the events of a round.
 fn push_round(events: &mut Vec<Event>) -> Result<(), Memory>
     ensures { OnOk result (events.new.items ≡ events.old.items ++ round) }
 {
@@ -35,7 +35,7 @@ fn push_round(events: &mut Vec<Event>) -> Result<(), Memory>
     Ok(())
 }
 
-/// Puts the messages that a client sends in a round behind others.
+/// Appends the events for the messages that a client sends in a round.
 fn push_messages(events: &mut Vec<Event>, client: u32) -> Result<(), Memory>
     ensures { OnOk result (events.new.items ≡ events.old.items ++ four client) }
 {

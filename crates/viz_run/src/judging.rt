@@ -1,4 +1,4 @@
-//! `check`: a log and its frames judged.
+//! The command `check`: checks a log and its frames.
 ghost use Rattle.std.specs.Prelude.{◌≡◌, ◌≤◌, None, Some, [], length, IsTrue, string_bytes};
 ghost use Rattle.std.specs.Prelude.{IfOk, OnOk, IsErrOf};
 ghost use Rattle.vz_base.specs.declared.limits.TheConstants.{MOST_FILES};
@@ -30,7 +30,7 @@ use vz_outside::Shelf;
 use vz_rules::Plan;
 use vz_words::CheckWords;
 
-/// Judges a log and its frames, and answers the line that tells the verdict, and its status.
+/// Checks a log and its frames, and returns the line that reports the verdict, with its status.
 pub fn check_log<F: Shelf, R: Threads + AllocGlobal + Sync>(
     rt: &R,
     words: &CheckWords<'_>,
@@ -56,9 +56,9 @@ pub fn check_log<F: Shelf, R: Threads + AllocGlobal + Sync>(
     })
 }
 
-/// Judges a log and its frames by the clients' files. The files and then the log are read, and the
-/// frames opened, before any is tested; the frames are read as they are judged. The bytes of every
-/// name stay.
+/// Checks a log and its frames against the files of the clients. It reads these files and then
+/// the log, and opens the frames, before it tests any of them; it reads the frames while it
+/// checks them. No file's bytes change.
 fn judge<F: Shelf, R: Threads + AllocGlobal + Sync>(
     rt: &R,
     words: &CheckWords<'_>,
@@ -84,7 +84,8 @@ fn judge<F: Shelf, R: Threads + AllocGlobal + Sync>(
     Ok(check(rt.alloc(), &plan, &log, shelf, slot)?)
 }
 
-/// The plan, where no input is refused: the clients' files are tested in order, and then the log.
+/// The plan, if no input is refused. The files of the clients are tested in order, and then the
+/// log.
 fn accept<R: Threads + AllocGlobal + Sync>(
     rt: &R,
     size: Size,

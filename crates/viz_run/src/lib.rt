@@ -1,4 +1,4 @@
-//! The display compositor's one public call.
+//! The one public call of the display compositor.
 #![tactic(auto)]
 
 mod coursing;

@@ -1,4 +1,4 @@
-//! The texts of the lines that are printed.
+//! The lines that the commands print.
 ghost use Rattle.std.specs.Prelude.{◌≡◌, ◌+◌, IfOk, string_bytes, length};
 ghost use Rattle.vz_check.specs.declared.verdict.Verdict.TheVariants as verdicts;
 ghost use Rattle.vz_display.specs.Displayed.{upto_most};
@@ -13,16 +13,16 @@ use vz_codec::FileRule;
 use vz_inputs::{Reason, Refused};
 use vz_rules::{Entry, Reply};
 
-/// Where the words are those of no command.
+/// The line if the words are those of no command.
 pub const WORDS_LINE: &str = "words refused\n";
 
-/// Where a log and its frames are those of the machine.
+/// The line if a log and its frames are those that the machine makes.
 const YES_LINE: &str = "yes\n";
 
-/// Where the files by rule are written.
+/// The line after the generated files are written.
 pub const MADE_LINE: &str = "made 3 files\n";
 
-/// How many entries a history has, and how many frames.
+/// The line of `run` and `step`: how many entries the history has, and how many frames.
 #[tactic(auto, unfolding(crate::specs::Lines::done_text))]
 pub fn done_line(alloc: Global, history: &[Entry]) -> Result<String, Memory>
     ensures { IfOk result (λ text. string_bytes text
@@ -37,8 +37,8 @@ pub fn done_line(alloc: Global, history: &[Entry]) -> Result<String, Memory>
     Ok(text)
 }
 
-/// How many entries a history has, how many frames, how many returns were queued, and how many
-/// points were painted.
+/// The line of `demo`: how many entries the history has, how many frames, how many returns were
+/// queued, and how many points were painted.
 #[tactic(auto, unfolding(crate::specs::Lines::demo_text))]
 pub fn demo_line(alloc: Global, history: &[Entry], painted: u64) -> Result<String, Memory>
     ensures { IfOk result (λ text. string_bytes text ≡ demo_text (length history.now)
@@ -56,7 +56,7 @@ pub fn demo_line(alloc: Global, history: &[Entry], painted: u64) -> Result<Strin
     Ok(text)
 }
 
-/// That the files by rule are written.
+/// The line after the generated files are written.
 #[tactic(auto, unfolding(crate::specs::Lines::made_line))]
 pub fn made_text(alloc: Global) -> Result<String, Memory>
     ensures { IfOk result (λ text. string_bytes text ≡ made_line) }
@@ -66,7 +66,7 @@ pub fn made_text(alloc: Global) -> Result<String, Memory>
     Ok(text)
 }
 
-/// What is said of a log and its frames.
+/// The line for a verdict.
 pub fn verdict_text(alloc: Global, verdict: &Verdict) -> Result<String, Memory>
     ensures { IfOk result (λ text. string_bytes text ≡ verdict_line verdict.now) }
 {
@@ -76,7 +76,7 @@ pub fn verdict_text(alloc: Global, verdict: &Verdict) -> Result<String, Memory>
     }
 }
 
-/// That a log and its frames are those of the machine.
+/// The line for the verdict yes.
 #[tactic(auto, unfolding(crate::specs::Lines::verdict_line))]
 fn yes_text(alloc: Global) -> Result<String, Memory>
     ensures { IfOk result (λ text. string_bytes text ≡ verdict_line verdicts.Yes) }
@@ -86,7 +86,7 @@ fn yes_text(alloc: Global) -> Result<String, Memory>
     Ok(text)
 }
 
-/// What is wrong first, and at which place.
+/// The line for the verdict no: the place, and what is wrong there.
 fn no_text(alloc: Global, entry: u64, what: What) -> Result<String, Memory>
     ensures { IfOk result (λ text. string_bytes text ≡ verdict_line (verdicts.No entry what)) }
 {
@@ -112,7 +112,7 @@ fn what_text(what: What) -> &'static str
     }
 }
 
-/// Which input is refused, where and why.
+/// The line for a refused input: which one, where and why.
 pub fn refused_text(alloc: Global, refused: &Refused) -> Result<String, Memory>
     ensures { IfOk result (λ text. string_bytes text ≡ refused_line refused.now) }
 {
@@ -144,7 +144,7 @@ fn reason_text(reason: Reason) -> &'static str
     }
 }
 
-/// How many entries were drawn.
+/// How many entries drew a frame.
 fn drawn_count(history: &[Entry]) -> usize
     ensures { result ≡ drawn_count history.now }
 {
@@ -160,7 +160,8 @@ fn is_drawn(reply: &Reply) -> bool
     matches!(reply, Reply::Drawn(_))
 }
 
-/// How many returns were queued, or `u64::MAX` where they are more.
+/// How many returns were queued, or `u64::MAX` if there are more. A return is a resource with a
+/// count.
 fn return_count(history: &[Entry]) -> u64
     ensures { result ≡ upto_most (return_count history.now) }
 {

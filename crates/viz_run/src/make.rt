@@ -1,4 +1,4 @@
-//! `gen`: the files by rule, written.
+//! The command `gen`: generates the client files and writes them.
 ghost use Rattle.std.specs.Prelude.{◌≡◌, IfOk, OnOk, OnErr, IsTrue, length, string_bytes};
 ghost use Rattle.std.specs.List.{list_all};
 ghost use Rattle.vz_frame.specs.Fits.{fits_file};
@@ -19,10 +19,12 @@ use vz_outputs::write_file;
 use vz_outside::{Shelf, ShelfError};
 use vz_words::MakeWords;
 
-/// Makes the files by rule, writes them one after the other, and answers the line that tells it.
+/// Generates the client files, writes them one after the other, and returns the line that reports
+/// it.
 ///
-/// `Failed` is the answer exactly where a fault was counted, `Memory` comes for want of memory.
-/// After both, the first files are whole, and of the next one a front part stands at most.
+/// The error is `Failed` exactly if a fault was counted, and `Memory` if an allocation failed.
+/// After either error some of the files, from the first on, are complete, and the next one has at
+/// most a front part of its bytes.
 pub fn make_files<F: Shelf>(
     alloc: Global,
     words: &MakeWords<'_>,
@@ -45,8 +47,8 @@ pub fn make_files<F: Shelf>(
     Ok(made_text(alloc)?)
 }
 
-/// Writes three files, one after the other. After an error the first of them are whole, and of the
-/// next one a front part stands at most.
+/// Writes three files, one after the other. After an error some of them, from the first on, are
+/// complete, and the next one has at most a front part of its bytes.
 fn write_three<F: Shelf>(
     alloc: Global,
     words: &MakeWords<'_>,

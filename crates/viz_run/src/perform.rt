@@ -1,4 +1,4 @@
-//! The command that the words ask for, carried out.
+//! Carries out the command that the words ask for.
 ghost use Rattle.std.specs.Prelude.{◌≡◌, ◌≤◌, [], IfOk, IfErr, OnErr, IsErrOf, string_bytes};
 ghost use Rattle.vz_words.specs.Words.{texts};
 ghost use Rattle.vz_inputs.specs.declared.refused.Refused.{Refused as Refusal};
@@ -25,10 +25,11 @@ use vz_outside::{Gate, Shelf};
 use vz_rules::Entry;
 use vz_words::{Command, command};
 
-/// Carries out the command that the words ask for, and answers how it ended.
+/// Carries out the command that the words ask for, and returns how it ended.
 ///
-/// `Words` comes where the program has no such command, `Input` where an input is refused, and
-/// after both nothing was begun. `Fault` comes exactly where the shelf counted one.
+/// The error is `Words` if the program has no such command, and `Input` if an input is refused;
+/// after either nothing was begun. It is `Fault` exactly if the shelf counted a fault, and
+/// `Memory` if an allocation failed.
 pub fn perform<F: Shelf, G: Gate + Sync, L: Ledger, R>(
     rt: &R,
     words: &[String],

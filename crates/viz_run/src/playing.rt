@@ -1,4 +1,4 @@
-//! The events of a schedule played on a machine, with the frames and the log written.
+//! Gives the events of a schedule to a machine, and writes the frames and the log.
 ghost use Rattle.std.specs.Prelude.{◌≡◌, ◌≢◌, ◌+◌, ℕ, All, Some, [], ◌∷◌, take, OnOk, OnErr, IfOk};
 ghost use Rattle.vz_base.specs.declared.limits.TheConstants.{DEFAULT_BUFFERS};
 ghost use Rattle.vz_outputs.specs.Written.{AreWhole, AreBegun, KeepsAllBut};
@@ -25,13 +25,13 @@ use vz_player::Player;
 use vz_rules::{Entry, Event, Rest};
 use vz_words::StepWords;
 
-/// Takes the events on a machine at the opening of its plan, and writes the frames and the log.
-/// FRAMES and LOG are made here, once every input is accepted. `size` is that of the plan's
+/// Gives events to a machine in the opening world of its plan, and writes the frames and the log.
+/// It creates the two files itself, after each input was accepted. `size` is that of the plan's
 /// display.
 ///
-/// `Failed` is the answer exactly where a fault was counted, `Memory` comes for want of memory.
-/// After both, the history is a legal one of a front part of the events, and of what it writes a
-/// front part stands.
+/// The error is `Failed` exactly if a fault was counted, and `Memory` if an allocation failed.
+/// After either error the history is that of a front part of the events, and a front part of what
+/// it writes is in each file.
 pub fn play<M: Machine + Drop, F: Shelf, G: Gate, L: Ledger>(
     alloc: Global,
     machine: M,
@@ -81,9 +81,9 @@ where
     Ok(())
 }
 
-/// Takes the events on a machine at the opening of its plan, writes the frames to an open slot,
-/// and answers what is still out. After an error the history is a legal one of a front part of the
-/// events, and of the frames that it writes a front part stands.
+/// Gives events to a machine in the opening world of its plan, writes the frames to an open slot,
+/// and returns what is outstanding at the end. After an error the history is that of a front part
+/// of the events, and a front part of the bytes of its frames was written.
 fn show<M: Machine + Drop, F: Shelf, G: Gate, L: Ledger>(
     alloc: Global,
     machine: M,

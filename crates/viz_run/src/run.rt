@@ -24,18 +24,17 @@ use vz_rules::Entry;
 /// How a call ended, and the history that it made.
 #[derive(Drop)]
 pub struct Run {
-    /// 0 done, 1 a log or its frames have a fault, 2 words refused, 3 an input refused, 4 a fault of the shelf or the sink, 5 want of
-    /// memory.
+    /// 0: done. 1: a log or its frames have a fault. 2: the words are refused. 3: an input is
+    /// refused. 4: the shelf or the sink had a fault. 5: an allocation failed.
     pub status: u8,
-    /// The entries of `run`, `step` and `demo`, in the order in which they were made; empty where none
-    /// was made.
+    /// The entries that `run`, `step` and `demo` made, in order. It is empty if none was made.
     pub history: List<Entry>,
 }
 
-/// Runs the program: `words` are those of the command line behind the program's name, `shelf` has
-/// the files that they name, and the line at the end goes to `out`. `gate` is told of each step,
-/// and `steps` counts each pixel that is made or painted. `rt` has the memory, and the threads of
-/// `run`, which this call waits for: that they end no clause says.
+/// Runs the program. `words` are those of the command line after the program's name, `shelf` has
+/// the files that they name, and the last line is printed to `out`. `gate` is called before and
+/// after each step, and `steps` counts each pixel that is made or painted. `rt` gives memory, and
+/// the threads of `run`, for which this call waits; no clause says that they end.
 pub fn viz<F: Shelf + Send, O: Sink, G: Gate + Sync, L: Ledger, R>(
     rt: &R,
     words: &[String],
@@ -48,22 +47,22 @@ where
     R: Threads + Wait + AllocGlobal + Sync,
     ensures range { result.status ≤ 5 }
 
-    // Status 0 and 1: all was done that the command is for, and the line that tells how it ended was
-    // printed. 1 is that of a log or frames that have a fault.
+    // Status 0 and 1: all was done that the command asks for, and the line that reports how it
+    // ended was printed. With 1, a log or its frames have a fault.
     ensures ends { result.status ≤ 1 → EndsWell (texts words.now) result.status result.history
         (outside (F.shelved shelf.old) (O.sunk out.old) steps.old)
         (outside (F.shelved shelf.new) (O.sunk out.new) steps.new) }
 
-    // Status 2: the words ask for nothing, the line says so, and nothing was begun. Such words get
-    // no other status, but 4 and 5 in the telling.
+    // Status 2: the words ask for nothing, the line says so, and nothing was begun. Such words
+    // get no other status, except 4 or 5 if the line cannot be printed.
     ensures words { result.status ≡ 2 → RefusesWords (texts words.now) result.history
         (outside (F.shelved shelf.old) (O.sunk out.old) steps.old)
         (outside (F.shelved shelf.new) (O.sunk out.new) steps.new) }
     ensures no_other { AsksNothing (texts words.now) → (result.status ≡ 2) ⊎ (4 ≤ result.status) }
 
-    // Status 3: an input, as it was read, is the first that is refused, the line says which, where
-    // and why, and nothing was begun. Where the shelf's bytes are known, a refused input gets no
-    // other status, but 4 and 5.
+    // Status 3: an input, as it was read, is the first that is refused, the line says which,
+    // where and why, and nothing was begun. If the shelf's bytes are known, a refused input gets
+    // no other status than 3, 4 or 5.
     ensures input { result.status ≡ 3 → RefusesInput (texts words.now) result.history
         (outside (F.shelved shelf.old) (O.sunk out.old) steps.old)
         (outside (F.shelved shelf.new) (O.sunk out.new) steps.new) }
@@ -71,12 +70,13 @@ where
         → IsTrue (F.shelved shelf.old).is_known → AreRefused (F.shelved shelf.old) c i r
         → (result.status ≡ 3) ⊎ (4 ≤ result.status) }
 
-    // What is accepted is done, or there is a fault or want of memory.
+    // If the inputs are accepted, the command is done, or there is a fault or a failed
+    // allocation.
     ensures complete { (c : Asked) (i : Inputs) → Asks (texts words.now) c
         → IsTrue (F.shelved shelf.old).is_known → AreAccepted (F.shelved shelf.old) c i
         → (result.status ≤ 1) ⊎ (4 ≤ result.status) }
 
-    // Status 4: one fault was counted. Any other status: none was.
+    // With status 4 exactly one fault was counted, and with any other status none.
     ensures fault { result.status ≡ 4 → CountsOneFault
         (outside (F.shelved shelf.old) (O.sunk out.old) steps.old)
         (outside (F.shelved shelf.new) (O.sunk out.new) steps.new) }
@@ -84,26 +84,27 @@ where
         (outside (F.shelved shelf.old) (O.sunk out.old) steps.old)
         (outside (F.shelved shelf.new) (O.sunk out.new) steps.new) }
 
-    // Status 4 without a fault of the shelf: only the line is missing.
+    // Status 4 without a fault of the shelf: only the printed line is incomplete.
     ensures only_line { result.status ≡ 4
         → (CountRose (F.shelved shelf.old).faults (F.shelved shelf.new).faults → ⊥)
         → MissesLine (texts words.now) result.history
         (site (F.shelved shelf.old) steps.old) (site (F.shelved shelf.new) steps.new) }
 
-    // Status 4 and 5: of the line that was due, and of what this very history writes, front parts
-    // stand at most.
+    // Status 4 and 5: of the line that was due, and of what this history writes, at most front
+    // parts were printed and written.
     ensures printed { 4 ≤ result.status → PrintsFront (texts words.now) result.history
         (outside (F.shelved shelf.old) (O.sunk out.old) steps.old)
         (outside (F.shelved shelf.new) (O.sunk out.new) steps.new) }
     ensures front { 4 ≤ result.status → LeavesFront (texts words.now) result.history
         (site (F.shelved shelf.old) steps.old) (site (F.shelved shelf.new) steps.new) }
 
-    // Whatever the status: names that nobody asked to write keep their bytes.
+    // With any status: names that the words do not ask to write keep their bytes.
     ensures others { KeepsOthers (texts words.now) (F.shelved shelf.old) (F.shelved shelf.new) }
     ensures call { IsCalled (outside (F.shelved shelf.old) (O.sunk out.old) steps.old)
         (outside (F.shelved shelf.new) (O.sunk out.new) steps.new) }
 
-    // Faultless devices stay so, and count no fault, where the files to be read are there.
+    // Faultless devices stay faultless and count no fault, if the files that are to be read
+    // exist.
     ensures sound { IsFaultless (outside (F.shelved shelf.old) (O.sunk out.old) steps.old)
         → FindsInputs (texts words.now) (F.shelved shelf.old)
         → KeepsFaultless (outside (F.shelved shelf.old) (O.sunk out.old) steps.old)

@@ -1,4 +1,4 @@
-//! `run`: a thread for each client beside the display.
+//! The command `run`: a thread for each client, beside the display.
 ghost use Rattle.std.specs.Prelude.{◌≡◌, ◌≤◌, [], IsTrue, string_bytes};
 ghost use Rattle.std.specs.Prelude.{IfOk, IfErr, OnErr, IsErrOf};
 ghost use Rattle.vz_inputs.specs.Read.{MissesOne};
@@ -35,7 +35,7 @@ use vz_rules::{Entry, Plan};
 use vz_words::RunWords;
 
 /// Runs the clients' files, each on a thread of its own beside the display, writes the frames and
-/// the log, and answers how that ended. The frames are written on this thread.
+/// the log, and returns how that ended. This thread writes the frames.
 pub fn run<F: Shelf, G: Gate + Sync, L: Ledger, R>(
     rt: &R,
     words: &RunWords<'_>,
@@ -75,7 +75,7 @@ where
     })
 }
 
-/// Reads the clients' files before any is tested, and accepts them: the plan that they make.
+/// Reads the clients' files before it tests any of them, and returns the plan that they make.
 fn admit<F: Shelf, R: Threads + AllocGlobal + Sync>(
     rt: &R,
     shelf: &mut F,
@@ -97,7 +97,7 @@ fn admit<F: Shelf, R: Threads + AllocGlobal + Sync>(
     Ok(plan_of(rt, size_of(words.width, words.height), &files)?)
 }
 
-/// How many messages each client's file has.
+/// How many messages each client's file has, in the order of the files.
 fn message_counts(alloc: Global, files: &[ClientFile]) -> Result<Vec<u64>, Memory>
     ensures counts { IfOk result (λ counts. counts.items ≡ counts_of files.now) }
 {

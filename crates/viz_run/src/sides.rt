@@ -5,7 +5,7 @@ ghost use Rattle.vz_rules.specs.Command.{are_sides};
 
 use vz_geom::Size;
 
-/// The size of the display of these sides, in pixels. Condition: words may have them.
+/// The size of a display with these sides, in pixels. Condition: the command line may give them.
 pub fn size_of(width: u32, height: u32) -> Size
     requires { IsTrue (are_sides width height) }
     ensures size { result ≡ record { w = pos width; h = pos height } }

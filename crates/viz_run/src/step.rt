@@ -1,4 +1,4 @@
-//! `step`: the steps of a schedule, one after the other.
+//! The command `step`: takes the events of a schedule one after the other.
 ghost use Rattle.std.specs.Prelude.{◌≡◌, ◌≤◌, All, None, Some, [], length, IsTrue, string_bytes};
 ghost use Rattle.std.specs.Prelude.{IfOk, IfErr, OnOk, OnErr, IsErrOf};
 ghost use Rattle.vz_base.specs.declared.limits.TheConstants.{MOST_FILES};
@@ -38,14 +38,14 @@ use vz_outside::{Gate, Shelf};
 use vz_rules::{Entry, Event, Plan};
 use vz_words::StepWords;
 
-/// What `step` is given: the plan, and the events of the schedule.
+/// The inputs of `step`: the plan, and the events of the schedule.
 #[derive(Drop)]
 struct Given {
     plan: Plan,
     events: Vec<Event>,
 }
 
-/// Takes the events of a schedule, writes the frames and the log, and answers how that ended.
+/// Takes the events of a schedule, writes the frames and the log, and returns how that ended.
 pub fn step<F: Shelf, G: Gate, L: Ledger, R: Threads + AllocGlobal + Sync>(
     rt: &R,
     words: &StepWords<'_>,
@@ -94,7 +94,8 @@ pub fn step<F: Shelf, G: Gate, L: Ledger, R: Threads + AllocGlobal + Sync>(
     })
 }
 
-/// Reads the clients' files and then the schedule, before any is tested, and accepts them.
+/// Reads the clients' files and then the schedule before it tests any of them, and returns the
+/// plan and the events.
 fn admit<F: Shelf, R: Threads + AllocGlobal + Sync>(
     rt: &R,
     shelf: &mut F,
@@ -118,8 +119,8 @@ fn admit<F: Shelf, R: Threads + AllocGlobal + Sync>(
     Ok(accept(rt, size_of(words.width, words.height), &files, &schedule)?)
 }
 
-/// The plan and the events, where no input is refused: the clients' files are tested in order,
-/// and then the schedule.
+/// The plan and the events, if no input is refused. The clients' files are tested in order, and
+/// then the schedule.
 fn accept<R: Threads + AllocGlobal + Sync>(
     rt: &R,
     size: Size,

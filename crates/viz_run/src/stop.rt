@@ -1,4 +1,4 @@
-//! Why a call stops.
+//! Why a call stops early.
 ghost use Rattle.std.specs.Prelude.{◌≡◌};
 ghost use Rattle.viz_run.specs.Stops.{stop_of, stop_for};
 ghost use Rattle.viz_run.specs.declared.stop.Stop.TheVariants as stop;
@@ -14,9 +14,9 @@ pub enum Stop {
     Words,
     /// An input is refused.
     Input(Refused),
-    /// The shelf or the sink failed, and counted the fault.
+    /// The shelf or the sink had a fault, and counted it.
     Fault,
-    /// Want of memory.
+    /// An allocation failed.
     Memory,
 }
 

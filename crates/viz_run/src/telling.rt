@@ -13,9 +13,9 @@ use std::alloc::Global;
 use vz_inputs::Refused;
 use vz_outside::{ShelfError, Sink, print};
 
-/// Prints a line, and answers a status: the one that is given where all of it was printed, 4 where
-/// the sink counted a fault, and 5 for want of memory. At 4 and 5 a front part of the line was
-/// printed, maybe none.
+/// Prints a line, and returns a status: the given one if the whole line was printed, 4 if the
+/// sink counted a fault, and 5 if an allocation failed. With 4 and 5 a front part of the line was
+/// printed, possibly none.
 pub fn tell<O: Sink>(out: &mut O, line: &str, status: u8) -> u8
     requires { status < 4 }
     ensures told { result ≡ status → Takes line.now (O.sunk out.old) (O.sunk out.new) }
@@ -34,9 +34,9 @@ pub fn tell<O: Sink>(out: &mut O, line: &str, status: u8) -> u8
     }
 }
 
-/// Tells why a call stopped, and answers its status: 2 where the words are refused, 3 where an
-/// input is, 4 after a fault, also of the sink in the telling, and 5 for want of memory. At 4 and
-/// 5 a front part of the line was printed, maybe none.
+/// Prints why a call stopped, and returns its status: 2 if the words are refused, 3 if an input
+/// is refused, 4 after a fault, also one of the sink while it prints, and 5 after a failed
+/// allocation. With 4 and 5 a front part of the line was printed, possibly none.
 #[tactic(auto, unfolding(crate::specs::Lines::words_line))]
 pub fn tell_stop<O: Sink>(alloc: Global, out: &mut O, stop: Stop) -> u8
     ensures words { result ≡ 2 →
@@ -64,7 +64,7 @@ pub fn tell_stop<O: Sink>(alloc: Global, out: &mut O, stop: Stop) -> u8
     }
 }
 
-/// Tells which input is refused, and answers the status.
+/// Prints which input is refused, and returns the status.
 fn tell_refused<O: Sink>(alloc: Global, out: &mut O, refused: &Refused) -> u8
     ensures told { result ≡ 3
         → Takes (refused_line refused.now) (O.sunk out.old) (O.sunk out.new) }

@@ -1,4 +1,4 @@
-//! What stands behind the entries, judged.
+//! Checks what comes after the entries.
 ghost use Rattle.std.specs.Prelude.{◌≡◌, Some, IfOk};
 ghost use Rattle.vz_outside.specs.Shelved.{Reading, ReadsOnly, Behaves};
 ghost use Rattle.vz_check.specs.Judged.{IsFoundAtEnd};
@@ -10,9 +10,9 @@ use std::alloc::Global;
 use vz_outside::{Shelf, ShelfError};
 use vz_slow::Slow;
 
-/// The first fault of a text that stands behind the entries, and of the bytes behind the frames, if
-/// there is one: the text is not in the grammar, it is not what is still out of the machine, or
-/// bytes are left. Condition: the slot is open for reading.
+/// The first fault of the text after the entries and of the bytes after the frames, if there is
+/// one: the text is not in the grammar, it is not what the machine has outstanding, or bytes are
+/// left. Condition: the slot is open for reading.
 pub(crate) fn fault_at_end<F: Shelf>(
     alloc: Global,
     machine: &Slow<'_>,

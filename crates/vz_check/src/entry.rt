@@ -1,4 +1,4 @@
-//! One entry, judged.
+//! Checks one entry.
 ghost use Rattle.std.specs.Prelude.{◌≡◌, Some, IfOk};
 ghost use Rattle.vz_outside.specs.Shelved.{Reading, ReadsOnly, Behaves};
 ghost use Rattle.vz_check.specs.Judged.{IsFound};
@@ -12,10 +12,10 @@ use vz_outside::{Shelf, ShelfError};
 use vz_rules::{Event, Plan};
 use vz_slow::Slow;
 
-/// The first fault of an entry whose event and line are given, if it has one: the machine has no
-/// such client or would write another line, or the frame of its drawing does not stand next. The
-/// machine takes the step where it can, and the frame is read. Conditions: the machine is one of
-/// the plan, and the slot is open for reading.
+/// The first fault of an entry with this event and this line, if it has one: the plan has no such
+/// client, the machine would write another line, or the next bytes of the slot are not the frame
+/// that it drew. The machine takes the step if it can, and the frame is read. Conditions: the
+/// machine is one of the plan, and the slot is open for reading.
 pub(crate) fn fault_of<F: Shelf>(
     alloc: Global,
     plan: &Plan,

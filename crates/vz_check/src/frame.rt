@@ -1,4 +1,4 @@
-//! Frames, read in pieces and compared.
+//! Reads frames in pieces and compares them.
 ghost use Rattle.std.specs.Prelude.{◌≡◌, ◌<◌, ◌≤◌, Some, length, IfOk};
 ghost use Rattle.std.specs.List.{flat_map};
 ghost use Rattle.std.specs.Option.{option_map};
@@ -11,10 +11,10 @@ use std::alloc::{AllocError, Global};
 use vz_outside::{Shelf, ShelfError, read_upto};
 use vz_pixels::Pixel;
 
-/// How many pixels of a frame are compared in one piece at most.
+/// The greatest number of pixels of a frame that are compared in one piece.
 const MOST_PIECE_PIXELS: usize = 16_384;
 
-/// Whether the next bytes of a slot are those of a picture, if there is one. They are then read.
+/// Whether the next bytes of a slot are those of a picture, if there is a picture. They are read.
 /// Condition: the slot is open for reading.
 pub(crate) fn reads_picture<F: Shelf>(
     alloc: Global,
@@ -35,7 +35,7 @@ pub(crate) fn reads_picture<F: Shelf>(
     }
 }
 
-/// Whether the next bytes of a slot are those of these pixels. They are then read.
+/// Whether the next bytes of a slot are those of these pixels. They are read.
 fn reads_pixels<F: Shelf>(
     alloc: Global,
     pixels: &[Pixel],
@@ -59,7 +59,7 @@ fn reads_pixels<F: Shelf>(
     Ok(true)
 }
 
-/// The same, of pixels that are compared in one piece.
+/// The same for pixels that are compared in one piece.
 fn reads_piece<F: Shelf>(
     alloc: Global,
     pixels: &[Pixel],
@@ -90,7 +90,7 @@ fn bytes_of(alloc: Global, pixels: &[Pixel]) -> Result<Vec<u8>, AllocError>
     Ok(bytes)
 }
 
-/// Whether no bytes are left in a slot. Condition: it is open for reading.
+/// Whether no bytes are left in a slot. Condition: the slot is open for reading.
 pub(crate) fn is_at_end<F: Shelf>(
     alloc: Global,
     shelf: &mut F,

@@ -1,4 +1,4 @@
-//! A log and its frames, judged.
+//! Checks a log and its frames.
 ghost use Rattle.std.specs.Prelude.{◌≡◌, Some, IfOk};
 ghost use Rattle.vz_outside.specs.Shelved.{Reading, ReadsOnly, Behaves};
 ghost use Rattle.vz_check.specs.Judged.{IsJudged};
@@ -13,12 +13,13 @@ use vz_outside::{Shelf, ShelfError};
 use vz_rules::Plan;
 use vz_slow::Slow;
 
-/// What is to be said of a log and of the frames that a slot gives: its unread rest, where the
-/// shelf tells it. The plain machine takes one step an entry, and no more of the frames is read
-/// than up to the first fault, in pieces.
+/// Checks a log and the frames, which are the bytes that are left to read in a slot. The plain
+/// machine takes one step for each entry. The frames are read in pieces, and only up to the first
+/// fault.
 ///
-/// `Failed` is the answer exactly where a fault was counted, `Memory` comes for want of memory.
-/// After both, some of the frames was read, maybe none. Condition: the slot is open for reading.
+/// The error is `Failed` exactly if a fault was counted, and `Memory` if an allocation failed.
+/// After either error some of the frames was read, possibly nothing. Condition: the slot is open
+/// for reading.
 pub fn check<F: Shelf>(
     alloc: Global,
     plan: &Plan,

@@ -1,5 +1,5 @@
-//! Whether a log and its frames are those of the machine, judged by the plain machine and the plain
-//! painter alone.
+//! Checks whether a log and its frames are those that the machine makes. It uses only the plain
+//! machine and the plain painter.
 #![tactic(auto)]
 
 mod end;

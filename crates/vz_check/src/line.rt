@@ -1,4 +1,4 @@
-//! Lines that are those of the machine.
+//! Compares lines of a log with those of the machine.
 ghost use Rattle.std.specs.Prelude.{◌≡◌, ◌<◌, ◌≤◌, [], IfOk};
 ghost use Rattle.vz_rules.specs.Step.{NamesClient};
 ghost use Rattle.vz_rules.specs.Log.{entry_text, log_text, rest_in};
@@ -11,7 +11,7 @@ use vz_journal::{LogError, read, write, write_entry};
 use vz_rules::{Entry, Event, Plan};
 use vz_slow::Slow;
 
-/// Whether an event is of no client, or of a client of the plan.
+/// Whether an event is the display's, or that of a client of the plan.
 pub(crate) fn names_client(plan: &Plan, event: Event) -> bool
     ensures { IsAnswer result (NamesClient plan.now event) }
 {
@@ -21,14 +21,14 @@ pub(crate) fn names_client(plan: &Plan, event: Event) -> bool
     }
 }
 
-/// Whether a number is one of the first so many, from 1 on.
+/// Whether `number` is one of the numbers from 1 to `most`.
 fn is_number_upto(number: u32, most: usize) -> bool
     ensures { IsAnswer result ((0 < number) × (number ≤ most)) }
 {
     0 < number && number as usize <= most
 }
 
-/// Whether a line is that of an entry.
+/// Whether a line is that of the entry.
 pub(crate) fn is_line(alloc: Global, entry: &Entry, line: &[u8]) -> Result<bool, Memory>
     ensures { IfOk result (λ same. IsAnswer same (line.now ≡ entry_text entry.now)) }
 {
@@ -36,7 +36,7 @@ pub(crate) fn is_line(alloc: Global, entry: &Entry, line: &[u8]) -> Result<bool,
     Ok(is_same(line, own.as_bytes()))
 }
 
-/// Whether a text is a log of some history.
+/// Whether a text is the log of some history.
 pub(crate) fn is_log(alloc: Global, text: &[u8]) -> Result<bool, Memory>
     ensures { IfOk result (λ good. IsAnswer good (IsSomeLog text.now)) }
 {
@@ -47,7 +47,7 @@ pub(crate) fn is_log(alloc: Global, text: &[u8]) -> Result<bool, Memory>
     }
 }
 
-/// Whether a text is the log of no entry and of what is still out of a machine.
+/// Whether a text is the log of no entry and of what the machine has outstanding.
 pub(crate) fn is_rest(alloc: Global, machine: &Slow<'_>, text: &[u8]) -> Result<bool, Memory>
     ensures { IfOk result (λ same.
         IsAnswer same (text.now ≡ log_text [] (rest_in machine.now.world))) }

@@ -10,8 +10,8 @@ use vz_pixels::Pixel;
 use vz_rules::{Entry, Event};
 use vz_slow::Slow;
 
-/// The entry that the machine makes for an event, and the pixels of a drawing, row by row.
-/// Condition: a client's event is of a client of the plan.
+/// Takes an event, and returns the entry that the machine makes and, for a drawing, its pixels
+/// row by row. Condition: a client's event names a client of the plan.
 pub(crate) fn take(
     machine: &mut Slow<'_>,
     event: Event,

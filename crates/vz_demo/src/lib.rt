@@ -1,4 +1,4 @@
-//! The files by rule as a plan, so that they can be shown without a file.
+//! The plan of the generated files, so that they can be run without being written.
 #![tactic(auto)]
 
 pub mod laws;

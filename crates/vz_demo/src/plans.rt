@@ -1,4 +1,4 @@
-//! The plan of the files by rule.
+//! The plan of the generated files.
 ghost use Rattle.std.specs.Prelude.{◌≡◌, ◌≤◌, IfOk};
 ghost use Rattle.vz_base.specs.declared.limits.TheConstants.{MOST_ROUNDS};
 ghost use Rattle.vz_demo.specs.Planned.{demo_plan};
@@ -9,8 +9,8 @@ use vz_gen::make;
 use vz_geom::Size;
 use vz_rules::Plan;
 
-/// The plan of the files for `n` rounds, on a display of 64 by 32 pixels. Condition: at most
-/// `MOST_ROUNDS` rounds.
+/// Makes the plan of the generated files for `n` rounds, on a display of 64 by 32 pixels.
+/// Condition: at most `MOST_ROUNDS` rounds. The only error is `Memory`.
 pub fn demo_plan(alloc: Global, n: u32) -> Result<Plan, Memory>
     requires { n ≤ MOST_ROUNDS }
     ensures { IfOk result (λ p. p ≡ demo_plan n) }

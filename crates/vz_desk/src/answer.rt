@@ -1,23 +1,23 @@
-//! What a desk answers.
+//! What the calls of a desk return.
 ghost use Rattle.std.specs.Prelude.{◌≡◌};
 
-/// What is told of the entry that a call made.
+/// What a call reports of the entry that it made.
 #[derive(Clone, Copy, Drop)]
 pub struct Note {
-    /// Its place in the history, counted from 1.
+    /// The position of the entry in the history, from 1 on.
     pub place: u64,
-    /// Whether it accepts a submission.
+    /// Whether the entry accepts a submission.
     pub accepted: bool,
-    /// Whether it refuses a client's message.
+    /// Whether the entry refuses a client's message.
     pub refused: bool,
-    /// How many references it lent: one for each resource of the frame that it accepts.
+    /// How many references the entry lent: one for each resource of the frame that it accepts.
     pub lent: u64,
-    /// How many references it handed back, up to 2^64 - 1.
+    /// How many references the entry gave back to the client, up to 2^64 - 1.
     pub back: u64,
 }
 
 impl Note {
-    /// The same of an entry at a place.
+    /// The same note with another position.
     pub(crate) fn at(self, place: u64) -> Note
         ensures { result ≡ record self { place = place } }
     {
@@ -25,11 +25,11 @@ impl Note {
     }
 }
 
-/// What a call of a desk answers.
+/// The answer to a call of a desk.
 #[derive(Clone, Copy, Drop)]
 pub enum Answer<S> {
-    /// It made an entry.
+    /// The call made this entry.
     Did(Note),
-    /// The desk was stopped, and this is the reason of the first stop.
+    /// The call made no entry, as the desk was stopped. This is the reason of the first stop.
     Stopped(S),
 }

@@ -1,7 +1,7 @@
-//! A bell that rings at each entry and at each stop.
+//! A bell, which rings at each entry and at each stop.
 use std::sync::{Condvar, Mutex, Wait};
 
-/// A bell, which wakes whoever waits. Nothing is claimed of it.
+/// A bell, which wakes the threads that wait for it. No clause says anything about it.
 #[derive(Drop)]
 pub struct Bell {
     rings: Mutex<u64>,
@@ -9,7 +9,7 @@ pub struct Bell {
 }
 
 impl Bell {
-    /// A bell that has not rung.
+    /// Makes a bell that has not rung.
     pub fn new() -> Bell {
         Bell {
             rings: Mutex::new(0),
@@ -22,7 +22,7 @@ impl Bell {
         *self.rings.lock(rt)
     }
 
-    /// Rings, and wakes all that wait.
+    /// Rings, and wakes all threads that wait.
     pub fn ring<R: Wait>(&self, rt: &R) {
         let mut rings = self.rings.lock(rt);
         *rings = rings.wrapping_add(1);
@@ -30,7 +30,7 @@ impl Bell {
         self.rang.notify_all();
     }
 
-    /// Waits until it has rung more often than this.
+    /// Waits until it has rung more often than `heard`.
     pub fn wait_beyond<R: Wait>(&self, rt: &R, heard: u64) {
         let rings = self.rings.lock(rt);
         drop(self.rang.wait_while(rt, rings, |rings| *rings == heard));

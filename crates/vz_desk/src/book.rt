@@ -1,4 +1,4 @@
-//! What lies in a desk's lock.
+//! The state in a desk's lock.
 ghost use Rattle.std.specs.Prelude.{◌≡◌, ◌<◌, ◌≤◌, [], length, IfOk, OnOk, OnErr, IsTrue, is_some, Some, None, unwrap_or};
 ghost use Rattle.std.specs.Option.{option_map};
 ghost use Rattle.vz_base.specs.declared.limits.TheConstants.{MOST_FILES};
@@ -61,8 +61,8 @@ impl<M: Machine + Send, S: Send> Kept for Book<M, S> {
 }
 
 impl<M: Machine, S: Copy> Book<M, S> {
-    /// A book before the first event. It takes no memory. Conditions: the machine stands at the
-    /// opening of its plan, which has so many files, at most `MOST_FILES`.
+    /// Makes a book before the first event. It takes no memory. Conditions: the machine is in the
+    /// opening world of its plan, which has so many clients, at most `MOST_FILES`.
     pub fn new(alloc: Global, machine: M, clients: u32) -> Book<M, S>
         requires opening { (M.state machine).world ≡ opening (M.state machine).plan }
         requires counted { clients ≡ length (M.state machine).plan.files }
@@ -79,9 +79,9 @@ impl<M: Machine, S: Copy> Book<M, S> {
         }
     }
 
-    /// Takes the next message of a client, and puts its entry at the end of the history. It tells
-    /// what is noted of the entry, and whether it took a message. At want of memory nothing changes.
-    /// Condition: the plan has that client.
+    /// Takes the next message of a client, and appends its entry to the history. It returns the
+    /// note of the entry, and whether the entry took a message. Condition: the plan has that
+    /// client. The only error is `Memory`, and then nothing changes.
     pub fn client(&mut self, alloc: Global, client: u32) -> Result<(Note, bool), Memory>
         requires { NamesClient self.old.plan (event.Client client) }
         ensures ok { OnOk result (self.new ≡ booked_on self.old (event.Client client)) }
@@ -98,8 +98,8 @@ impl<M: Machine, S: Copy> Book<M, S> {
         Ok((told.at(self.history.as_slice().len() as u64), in_time))
     }
 
-    /// Whether a client's next answer would be that it comes too early. Condition: the plan has that
-    /// client.
+    /// Whether a client would be answered NotYet if it sent its next message now. Condition: the
+    /// plan has that client.
     pub fn waits(&self, client: u32) -> bool
         requires { NamesClient self.now.plan (event.Client client) }
         ensures { result ≡ waits_at (machine_of self.now) client }
@@ -107,7 +107,7 @@ impl<M: Machine, S: Copy> Book<M, S> {
         self.machine.waits(client)
     }
 
-    /// A begin-frame. At want of memory nothing changes.
+    /// Begins a frame. The only error is `Memory`, and then nothing changes.
     pub fn begin(&mut self, alloc: Global) -> Result<(), Memory>
         ensures ok { OnOk result (self.new ≡ booked_on self.old event.Begin) }
         ensures err { OnErr result (self.new ≡ self.old) }
@@ -118,8 +118,8 @@ impl<M: Machine, S: Copy> Book<M, S> {
         Ok(())
     }
 
-    /// Draws. There is a picture exactly where the answer is Drawn. At want of memory nothing
-    /// changes.
+    /// Draws. It returns a picture exactly if the answer is Drawn. The only error is `Memory`,
+    /// and then nothing changes.
     pub fn draw(&mut self, alloc: Global) -> Result<Option<M::FrameData>, Memory>
         ensures ok { OnOk result (self.new ≡ booked_on self.old event.Draw) }
         ensures picture { IfOk result (λ p. ShowsDrawn (machine_of self.old)
@@ -141,7 +141,8 @@ impl<M: Machine, S: Copy> Book<M, S> {
         self.history.put(entry_of(Event::Done, step));
     }
 
-    /// Tells that no begin-frame will be waited for from now on. At want of memory nothing changes.
+    /// Ends begin-frames: no client has to wait for one from now on. The only error is `Memory`,
+    /// and then nothing changes.
     pub fn over(&mut self) -> Result<(), Memory>
         ensures ok { OnOk result (self.new ≡ booked_on self.old event.Over) }
         ensures err { OnErr result (self.new ≡ self.old) }
@@ -152,8 +153,8 @@ impl<M: Machine, S: Copy> Book<M, S> {
         Ok(())
     }
 
-    /// Whether a client is closed, has no message left or waits. Condition: the plan has that
-    /// client.
+    /// Whether a client is closed, has no message left, or would be answered NotYet. Condition:
+    /// the plan has that client.
     pub fn idle(&self, client: u32) -> bool
         requires { NamesClient self.now.plan (event.Client client) }
         ensures value { result ≡ idle_at (machine_of self.now) client }
@@ -162,7 +163,7 @@ impl<M: Machine, S: Copy> Book<M, S> {
         self.machine.idle(client)
     }
 
-    /// The reason of the first stop, if there was one.
+    /// The reason of the first stop, or None if there was no stop.
     pub fn reason(&self) -> Option<S>
         ensures value { result ≡ self.now.reason }
         ensures legal { Legal self.now.plan self.now.history }
@@ -170,7 +171,7 @@ impl<M: Machine, S: Copy> Book<M, S> {
         self.reason
     }
 
-    /// Keeps a reason, where none is kept.
+    /// Keeps a reason, unless one is kept already.
     pub fn stop(&mut self, why: S)
         ensures value { self.new
             ≡ record self.old { reason = Some (unwrap_or self.old.reason why) } }
@@ -182,7 +183,7 @@ impl<M: Machine, S: Copy> Book<M, S> {
     }
 }
 
-/// The entry of an event.
+/// Makes the entry of an event.
 fn entry_of(event: Event, step: Step) -> Entry
     ensures { result ≡ record { event = event; reply = step.reply; effects = step.effects } }
 {

@@ -10,8 +10,8 @@ use vz_base::Memory;
 use vz_loans::Lock;
 use vz_machine::Machine;
 
-/// A machine that threads drive in turns. Beside the lock is a bell, which rings at each entry and
-/// at each stop.
+/// A machine that several threads drive in turns. Its lock gives the turns, and its bell rings at
+/// each entry and at each stop.
 pub struct Desk<M: Machine + Send, S: Copy + Send + Sync> {
     pub(crate) lock: Lock<Book<M, S>>,
     pub(crate) bell: Bell,
@@ -33,8 +33,8 @@ impl<M: Machine + Send, S: Copy + Send + Sync> Desk<M, S>
 where
     M::FrameData: Send,
 {
-    /// Keeps a reason, where none is kept, and rings the bell. It makes no entry. Condition: the end
-    /// is of this desk.
+    /// Keeps a reason, unless one is kept already, and rings the bell. It makes no entry.
+    /// Condition: the end is of this desk.
     pub fn stop<R: Wait>(&self, rt: &R, by: &mut End<M, S>, why: S)
         requires { by.old.desk ≡ self.now.id }
         ensures same { IsSameOwner by.old by.new }
@@ -46,10 +46,10 @@ where
         self.bell.ring(rt);
     }
 
-    /// Makes one entry of a client: the answer to its next message, which may be that it comes too
-    /// early. It does not wait for the message's time. Stopped is answered only where a stop gave the
-    /// desk a reason, and then there is no entry. At want of memory there is none either. Condition:
-    /// the end is of this desk.
+    /// Takes the next message of the end's client, and makes one entry, also if the answer is
+    /// NotYet. It does not wait until the message may be taken. It returns `Stopped`, and makes
+    /// no entry, only if an earlier stop gave a reason. The only error is `Memory`, and then it
+    /// makes no entry. Condition: the end is of this desk.
     pub fn try_client<R: Wait + AllocGlobal>(
         &self,
         rt: &R,
@@ -67,10 +67,10 @@ where
         }
     }
 
-    /// Waits while the answer to a client's next message would be that it comes too early, and then
-    /// makes one entry: the answer to that message. It waits until the message's time has come or
-    /// the desk is stopped. Stopped is answered only where a stop gave the desk a reason, and then
-    /// there is no entry. At want of memory there is none either. Condition: the end is of this desk.
+    /// Waits while the next message of the end's client would be answered NotYet, and then takes
+    /// it and makes one entry. It waits until the message may be taken or the desk is stopped. It
+    /// returns `Stopped`, and makes no entry, only if a stop gave a reason. The only error is
+    /// `Memory`, and then it makes no entry. Condition: the end is of this desk.
     pub fn client<R: Wait + AllocGlobal>(
         &self,
         rt: &R,
@@ -92,8 +92,8 @@ where
         unreachable!()
     }
 
-    /// Makes one entry of a client, unless the desk was stopped. Where the client is patient and its
-    /// message would come too early, it makes none and there is no answer.
+    /// Makes one entry of the end's client, unless the desk was stopped. If `patient` is true and
+    /// the message would be answered NotYet, it makes no entry and returns None.
     fn take<R: Wait + AllocGlobal>(
         &self,
         rt: &R,
@@ -132,8 +132,9 @@ where
         }
     }
 
-    /// Whether the end's client is closed, has no message left or waits, in the world behind what
-    /// the end has seen afterwards. It makes no entry. Condition: the end is of this desk.
+    /// Whether the end's client is closed, has no message left, or would be answered NotYet, in
+    /// the world after the entries that the end has seen when the call returns. It makes no
+    /// entry. Condition: the end is of this desk.
     pub fn idle<R: Wait>(&self, rt: &R, end: &mut End<M, S>) -> bool
         requires { end.old.desk ≡ self.now.id }
         ensures same { IsSameOwner end.old end.new }

@@ -1,4 +1,4 @@
-//! The display's calls.
+//! The display's calls for begin-frames.
 ghost use Rattle.std.specs.Prelude.{◌≡◌, false, IfOk, OnErr};
 ghost use Rattle.vz_rules.specs.declared.entry.Event.TheVariants as event;
 ghost use Rattle.vz_desk.specs.Owners.{IsSameOwner, MakesNone};
@@ -10,7 +10,7 @@ use std::sync::Wait;
 use vz_base::Memory;
 use vz_machine::Machine;
 
-// What is noted of an entry of the display.
+// The note of an entry of the display.
 pub(crate) fn plain_note(place: u64) -> Note
     ensures { result
         ≡ record { place = place; accepted = false; refused = false; lent = 0; back = 0 } }
@@ -28,8 +28,9 @@ impl<M: Machine + Send, S: Copy + Send + Sync> Desk<M, S>
 where
     M::FrameData: Send,
 {
-    /// A begin-frame: one entry, and the bell rings. Where the desk was stopped, or at want of
-    /// memory, none is made. Condition: the end is of this desk.
+    /// Begins a frame: it makes one entry, and the bell rings. If the desk was stopped, it
+    /// returns `Stopped` and makes none. The only error is `Memory`, and then it makes none.
+    /// Condition: the end is of this desk.
     pub fn begin<R: Wait + AllocGlobal>(
         &self,
         rt: &R,
@@ -60,9 +61,9 @@ where
         }
     }
 
-    /// Tells that no begin-frame will be waited for from now on: one entry, and the bell rings.
-    /// Where the desk was stopped, or at want of memory, none is made. Condition: the end is of
-    /// this desk.
+    /// Ends begin-frames: it makes one entry, and the bell rings. If the desk was stopped, it
+    /// returns `Stopped` and makes none. The only error is `Memory`, and then it makes none.
+    /// Condition: the end is of this desk.
     pub fn over<R: Wait>(&self, rt: &R, d: &mut DisplayEnd<M, S>) -> Result<Answer<S>, Memory>
         requires { d.old.desk ≡ self.now.id }
         ensures same { IsSameOwner d.old d.new }

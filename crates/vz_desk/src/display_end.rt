@@ -1,4 +1,4 @@
-//! What the display's thread owns of a desk.
+//! What the thread of the display owns of a desk.
 ghost use Rattle.std.specs.Prelude.{◌≡◌};
 ghost use Rattle.vz_desk.specs.Displays.{DisplayStands};
 
@@ -7,9 +7,9 @@ use std::marker::Model;
 use vz_loans::Token;
 use vz_machine::Machine;
 
-/// The display's end of a desk. It tells the plan, the history up to the display's last turn, and
-/// what the display's entries in it amount to. It keeps room for the list of all tokens, so that
-/// the desk can be ended without memory.
+/// The display's end of a desk. From it, contracts know the plan, the history up to the display's
+/// last turn, and the totals of the display's entries in it. It keeps room for the list of all
+/// tokens, so that `gather` needs no memory.
 #[derive(Drop)]
 pub struct DisplayEnd<M: Machine + Send, S: Copy + Send + Sync> {
     pub(crate) token: Token<Book<M, S>>,
@@ -57,7 +57,7 @@ where
         self.begins
     }
 
-    /// How often it drew, or was answered why nothing is drawn.
+    /// How many times the display drew, also if nothing was drawn.
     pub fn draws(&self) -> u64
         ensures { result ≡ self.now.totals.draws }
     {
@@ -71,15 +71,15 @@ where
         self.drawn
     }
 
-    /// How often the display ended a frame, or told so without one.
+    /// How many times the display called Done, also if no frame was in flight.
     pub fn dones(&self) -> u64
         ensures { result ≡ self.now.totals.dones }
     {
         self.dones
     }
 
-    /// Whether a frame is in flight. What the end has seen is a legal history of its plan, and its
-    /// totals are those of the display's entries in it.
+    /// Whether a frame is in flight. What the end has seen is a legal history of its plan, and
+    /// its totals are those of the display's entries in it.
     pub fn in_flight(&self) -> bool
         ensures value { result ≡ self.now.totals.in_flight }
         ensures stands { DisplayStands self.now }

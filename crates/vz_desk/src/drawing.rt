@@ -1,14 +1,14 @@
-//! What a drawing answers.
+//! The answer to a drawing.
 
 use crate::{Hold, Note};
 use vz_machine::Machine;
 
-/// What a drawing answers.
+/// The answer to a drawing.
 pub enum Drawing<M: Machine + Send, S: Copy + Send + Sync> {
-    /// A frame was drawn: its token, and its picture.
+    /// A frame was drawn: this is its token, and its picture.
     Drawn(Hold<M, S>, M::FrameData),
-    /// An entry was made, and nothing was drawn.
+    /// The drawing made this entry, and nothing was drawn.
     Other(Note),
-    /// No entry was made: this is the kept reason.
+    /// The drawing made no entry, as the desk was stopped. This is the reason of the first stop.
     Stopped(S),
 }

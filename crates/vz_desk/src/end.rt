@@ -1,4 +1,4 @@
-//! What a client's thread owns of a desk.
+//! What the thread of a client owns of a desk.
 ghost use Rattle.std.specs.Prelude.{◌≡◌};
 ghost use Rattle.vz_desk.specs.Owners.{Stands};
 
@@ -7,8 +7,8 @@ use std::marker::Model;
 use vz_loans::Token;
 use vz_machine::Machine;
 
-/// A client's end of a desk. It tells the plan, the history up to the client's last turn, and what
-/// the client's entries in it amount to.
+/// A client's end of a desk. From it, contracts know the plan, the history up to the client's
+/// last turn, and the totals of the client's entries in it.
 #[derive(Drop)]
 pub struct End<M: Machine + Send, S: Copy + Send + Sync> {
     pub(crate) token: Token<Book<M, S>>,
@@ -45,35 +45,35 @@ where
         self.totals.calls
     }
 
-    /// How many messages it took.
+    /// How many messages of the client were taken.
     pub fn taken(&self) -> u64
         ensures { result ≡ self.now.totals.taken }
     {
         self.totals.taken
     }
 
-    /// How many of its submissions were accepted.
+    /// How many submissions of the client were accepted.
     pub fn accepted(&self) -> u64
         ensures { result ≡ self.now.totals.accepted }
     {
         self.totals.accepted
     }
 
-    /// How many of its calls were refused.
+    /// How many messages of the client were refused, also as NotYet.
     pub fn refused(&self) -> u64
         ensures { result ≡ self.now.totals.refused }
     {
         self.totals.refused
     }
 
-    /// How many references its accepted submissions lent, up to 2^64 - 1.
+    /// How many references the client's accepted submissions lent, up to 2^64 - 1.
     pub fn lent(&self) -> u64
         ensures { result ≡ self.now.totals.lent }
     {
         self.totals.lent
     }
 
-    /// How many references were handed back to it, up to 2^64 - 1.
+    /// How many references were given back to the client, up to 2^64 - 1.
     pub fn back(&self) -> u64
         ensures { result ≡ self.now.totals.back }
     {

@@ -13,7 +13,7 @@ use crate::{Book, Desk, DisplayEnd, End, Gathered, Hold};
 use vz_loans::Token;
 use vz_machine::Machine;
 
-// The tokens of all ends, in the room that the display's end has.
+// The tokens of all ends, in the room that the display's end keeps for them.
 fn tokens_of<M: Machine + Send, S: Copy + Send + Sync>(
     mut ends: Vec<End<M, S>>,
     d: DisplayEnd<M, S>,
@@ -49,8 +49,9 @@ impl<M: Machine + Send, S: Copy + Send + Sync> Desk<M, S>
 where
     M::FrameData: Send,
 {
-    /// Ends a desk: its machine, with the whole history. It takes no memory. Conditions: the ends
-    /// are all of this desk's, in any order, and there is a hold exactly where a frame is in flight.
+    /// Ends a desk, and returns its machine with the whole history. It takes no memory.
+    /// Conditions: `ends` are all client ends of this desk, in any order, and there is a hold
+    /// exactly if a frame is in flight.
     pub fn gather(
         self,
         ends: Vec<End<M, S>>,

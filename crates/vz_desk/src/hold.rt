@@ -6,7 +6,7 @@ use std::snapshot::Snapshot;
 use vz_loans::Token;
 use vz_machine::Machine;
 
-/// The drawn frame's token. It is spent by the end of the frame, or when the desk is gathered.
+/// The token of a drawn frame. Done takes it, and so does `gather` if a frame is still in flight.
 pub struct Hold<M: Machine + Send, S: Copy + Send + Sync> {
     pub(crate) by: Snapshot<Token<Book<M, S>>>,
 }
@@ -20,7 +20,7 @@ impl<M: Machine + Send, S: Copy + Send + Sync> Model for Hold<M, S> {
 }
 
 impl<M: Machine + Send, S: Copy + Send + Sync> Hold<M, S> {
-    // Spends it.
+    // Ends the token.
     pub(crate) fn spend(self) {
         let Hold { by: _ } = self;
     }

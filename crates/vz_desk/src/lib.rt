@@ -1,5 +1,5 @@
-//! A desk: threads take the events of one machine in turns, and what each of them has seen is a
-//! front part of one legal history.
+//! A desk: several threads drive one machine in turns, and each of them has seen a front part of
+//! one legal history.
 #![tactic(auto)]
 
 mod answer;

@@ -1,4 +1,4 @@
-//! What is told of an entry of a client.
+//! The note of a client's entry.
 ghost use Rattle.std.specs.Prelude.{◌≡◌};
 ghost use Rattle.std.specs.List.{sum_by};
 ghost use Rattle.vz_rules.specs.Accounts.{accepts};
@@ -8,7 +8,7 @@ ghost use Rattle.vz_desk.specs.Totals.{noted_with, refuses, handed_back, upto_mo
 use crate::Note;
 use vz_rules::{Entry, Refusal, Reply, Returned};
 
-/// What is told of an entry, whose client's message lists so many resources, without its place.
+/// The note of an entry without its position. The entry's message lists `listed` resources.
 pub(crate) fn note_of(entry: &Entry, listed: u64) -> Note
     ensures { result ≡ noted_with entry.now listed 0 }
 {
@@ -22,7 +22,7 @@ pub(crate) fn note_of(entry: &Entry, listed: u64) -> Note
     }
 }
 
-/// Whether an entry's message was taken.
+/// Whether the entry's message was taken.
 pub(crate) fn is_in_time(reply: &Reply) -> bool
     ensures { result ≡ is_in_time reply.now }
 {
@@ -33,7 +33,7 @@ pub(crate) fn is_in_time(reply: &Reply) -> bool
     }
 }
 
-/// Whether an entry accepts a submission.
+/// Whether the entry accepts a submission.
 fn is_accepted(entry: &Entry) -> bool
     ensures { result ≡ accepts entry.now }
 {
@@ -43,7 +43,7 @@ fn is_accepted(entry: &Entry) -> bool
     }
 }
 
-/// Whether an entry refuses a message.
+/// Whether the entry refuses a message.
 fn is_refused(entry: &Entry) -> bool
     ensures { result ≡ refuses entry.now }
 {
@@ -53,7 +53,7 @@ fn is_refused(entry: &Entry) -> bool
     }
 }
 
-/// How many references an entry hands back, up to 2^64 - 1.
+/// How many references the entry gives back to the client, up to 2^64 - 1.
 fn handed_back(entry: &Entry) -> u64
     ensures { result ≡ upto_most (handed_back entry.now) }
 {
@@ -63,7 +63,7 @@ fn handed_back(entry: &Entry) -> u64
     }
 }
 
-/// How many references these returns have, up to 2^64 - 1.
+/// How many references these returns have together, up to 2^64 - 1.
 fn counted(returns: &[Returned]) -> u64
     ensures { result ≡ upto_most (sum_by (λ r. r.count) returns.now) }
 {

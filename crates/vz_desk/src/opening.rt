@@ -16,9 +16,10 @@ impl<M: Machine + Send + Drop, S: Copy + Send + Sync> Desk<M, S>
 where
     M::FrameData: Send,
 {
-    /// A desk over a machine, with an end for each client, by rising client, and the display's. At
-    /// want of memory the machine is given up. Conditions: the machine stands at the opening of its
-    /// plan, which has so many clients, at most `MOST_FILES`.
+    /// Makes a desk of a machine. It returns the desk, an end for each client by rising number,
+    /// and the display's end. The only error is `Memory`, and then the machine is lost.
+    /// Conditions: the machine is in the opening world of its plan, which has so many clients, at
+    /// most `MOST_FILES`.
     pub fn open(
         alloc: Global,
         machine: M,
@@ -52,7 +53,7 @@ where
     }
 }
 
-/// Makes an end of each token but the first, in their order.
+/// Makes a client's end of each token but the first, in their order.
 fn take_ends<M: Machine + Send, S: Copy + Send + Sync>(
     tokens: &mut Vec<Token<Book<M, S>>>,
     ends: &mut Vec<End<M, S>>,
@@ -77,7 +78,7 @@ where
     }
 }
 
-/// The end of a client with this token.
+/// Makes the end of the client that this token belongs to.
 fn end_of<M: Machine + Send, S: Copy + Send + Sync>(token: Token<Book<M, S>>) -> End<M, S>
 where
     M::FrameData: Send,
@@ -90,7 +91,7 @@ where
     }
 }
 
-/// The display's end with this token.
+/// Makes the display's end of its token.
 fn display_of<M: Machine + Send, S: Copy + Send + Sync>(
     token: Token<Book<M, S>>,
     room: Vec<Token<Book<M, S>>>,

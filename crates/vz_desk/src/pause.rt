@@ -1,4 +1,4 @@
-//! The display's pauses, and its stop.
+//! How the display pauses and stops.
 ghost use Rattle.std.specs.Prelude.{◌≡◌, None, IfOk};
 ghost use Rattle.vz_desk.specs.Owners.{IsSameOwner, MakesNone};
 ghost use Rattle.vz_desk.specs.Answers.{IsPaused};
@@ -11,8 +11,9 @@ impl<M: Machine + Send, S: Copy + Send + Sync> Desk<M, S>
 where
     M::FrameData: Send,
 {
-    // One look at the desk, which makes no entry: the kept reason, or a client for which a pause has
-    // to wait, if there is one. The client of this number is asked first.
+    // Looks at the desk once, without an entry: it returns the reason of the first stop as the
+    // error, or else a client for which a pause has to wait, if there is one. Client `last` is
+    // asked first.
     fn look<R: Wait>(&self, rt: &R, d: &mut DisplayEnd<M, S>, last: u32) -> Result<Option<u32>, S>
         requires { d.old.desk ≡ self.now.id }
         ensures same { IsSameOwner d.old d.new }
@@ -29,9 +30,10 @@ where
         Ok(restless)
     }
 
-    /// Waits until each attached client is idle or has answered the tick, in the world behind what
-    /// the end has seen afterwards, or until a stop, and then answers the kept reason. It makes no
-    /// entry, and sleeps until the bell rings. Condition: the end is of this desk.
+    /// Waits until each attached client is idle or has answered the current begin-frame, in the
+    /// world after the entries that the end has seen when the call returns, and returns None. If
+    /// the desk is stopped before, it returns the reason. It makes no entry, and sleeps until the
+    /// bell rings. Condition: the end is of this desk.
     pub fn pace<R: Wait>(&self, rt: &R, d: &mut DisplayEnd<M, S>) -> Option<S>
         requires { d.old.desk ≡ self.now.id }
         ensures same { IsSameOwner d.old d.new }
@@ -53,8 +55,8 @@ where
         unreachable!()
     }
 
-    /// Keeps a reason, where none is kept, and rings the bell. It makes no entry. Condition: the
-    /// end is of this desk.
+    /// Keeps a reason, unless one is kept already, and rings the bell. It makes no entry.
+    /// Condition: the end is of this desk.
     pub fn stop_display<R: Wait>(&self, rt: &R, by: &mut DisplayEnd<M, S>, why: S)
         requires { by.old.desk ≡ self.now.id }
         ensures same { IsSameOwner by.old by.new }

@@ -1,4 +1,4 @@
-//! The display's drawings, and their ends.
+//! How the display draws, and ends drawn frames.
 ghost use Rattle.std.specs.Prelude.{◌≡◌, true, false, IfOk, OnErr};
 ghost use Rattle.vz_desk.specs.Owners.{IsSameOwner, MakesNone};
 ghost use Rattle.vz_desk.specs.Displays.{AnsweredDone, EndsFrame};
@@ -16,9 +16,10 @@ impl<M: Machine + Send, S: Copy + Send + Sync> Desk<M, S>
 where
     M::FrameData: Send,
 {
-    /// Draws: one entry, and the bell rings. Where a frame is drawn, its token comes with it; that
-    /// is never so while a frame is in flight. Where the desk was stopped, or at want of memory, no
-    /// entry is made. Condition: the end is of this desk.
+    /// Draws: it makes one entry, and the bell rings. If a frame is drawn, its token comes with
+    /// it; while a frame is in flight none is drawn. If the desk was stopped, it returns
+    /// `Stopped` and makes no entry. The only error is `Memory`, and then it makes no entry.
+    /// Condition: the end is of this desk.
     pub fn draw<R: Wait + AllocGlobal>(
         &self,
         rt: &R,
@@ -59,9 +60,9 @@ where
         }
     }
 
-    /// Ends the drawn frame: one entry, which is Shown, and the bell rings. It takes no memory, and
-    /// a stop does not keep it from it. Conditions: the end and the hold are of this desk, and a
-    /// frame is in flight.
+    /// Ends the drawn frame: it makes one entry, which is Shown, and the bell rings. It takes no
+    /// memory, and works also if the desk was stopped. Conditions: the end and the hold are of
+    /// this desk, and a frame is in flight.
     pub fn done<R: Wait>(&self, rt: &R, d: &mut DisplayEnd<M, S>, hold: Hold<M, S>)
         requires end { d.old.desk ≡ self.now.id }
         requires hold { hold ≡ self.now.id }
@@ -79,9 +80,10 @@ where
         d.in_flight = false;
     }
 
-    /// Tells that a frame is done where none is drawn: one entry, which is Nothing, and the bell
-    /// rings. Where the desk was stopped, or at want of memory, none is made. Conditions: the end is
-    /// of this desk, and no frame is in flight.
+    /// Calls Done although no frame is in flight: it makes one entry, which is Nothing, and the
+    /// bell rings. If the desk was stopped, it returns `Stopped` and makes no entry. The only
+    /// error is `Memory`, and then it makes no entry. Conditions: the end is of this desk, and no
+    /// frame is in flight.
     pub fn empty_done<R: Wait>(&self, rt: &R, d: &mut DisplayEnd<M, S>) -> Result<Answer<S>, Memory>
         requires end { d.old.desk ≡ self.now.id }
         requires flies { d.old.totals.in_flight ≡ false }

@@ -1,28 +1,28 @@
-//! What a client's end counts.
+//! The totals of a client's entries.
 ghost use Rattle.std.specs.Prelude.{◌≡◌, ◌+◌, ◌<◌, ◌≤◌, ◌^◌, ◌-◌, if◌then◌else◌};
 ghost use Rattle.vz_desk.specs.Totals.{with_note, AreFew};
 
 use crate::Note;
 
-/// What a client's entries amount to. Counts of references stand still at 2^64 - 1.
+/// The totals of a client's entries. Numbers of references do not rise above 2^64 - 1.
 #[derive(Clone, Copy, Drop)]
 pub struct Totals {
-    /// The entries.
+    /// How many entries the client made.
     pub calls: u64,
-    /// The messages taken.
+    /// How many messages were taken.
     pub taken: u64,
-    /// The accepted submissions.
+    /// How many submissions were accepted.
     pub accepted: u64,
-    /// The refused messages.
+    /// How many messages were refused.
     pub refused: u64,
-    /// The references lent by accepted submissions.
+    /// How many references accepted submissions lent.
     pub lent: u64,
-    /// The references handed back.
+    /// How many references were given back.
     pub back: u64,
 }
 
 impl Totals {
-    /// Nothing yet.
+    /// The totals before the first entry.
     pub const NONE: Totals = Totals {
         calls: 0,
         taken: 0,
@@ -32,7 +32,7 @@ impl Totals {
         back: 0,
     };
 
-    /// The totals with an entry more, which took a message where it is in time.
+    /// The totals after one more entry. `in_time` says whether the entry took a message.
     pub(crate) fn with(&self, note: &Note, in_time: bool) -> Totals
         requires few { AreFew self.now }
         ensures { result ≡ with_note self.now in_time note.now }
@@ -48,7 +48,7 @@ impl Totals {
     }
 }
 
-/// A count, raised by one where it is told so.
+/// A count, plus one if `by_one` is true.
 fn raised(count: u64, by_one: bool) -> u64
     requires { count < 2 ^ 64 - 1 }
     ensures { result ≡ (if by_one then count + 1 else count) }

@@ -1,21 +1,21 @@
-//! Numbers that are drawn, the same ones in each run: for the programs that play random histories.
+//! Pseudo-random numbers, the same in each run, for programs that play random histories.
 #![tactic(auto)]
 
 ghost use Rattle.std.specs.Prelude.{◌<◌};
 
-/// Draws numbers one after the other, by a linear congruence.
+/// A generator of numbers, by a linear congruence.
 #[derive(Drop)]
 pub struct Draws {
     state: u32,
 }
 
 impl Draws {
-    /// Draws that begin with a number.
+    /// Makes a generator that begins with this number.
     pub fn new(state: u32) -> Draws {
         Draws { state }
     }
 
-    /// A number below another one, or 0 below 0.
+    /// Returns a number below `end`, or 0 if `end` is 0.
     pub fn below(&mut self, end: u32) -> u32
         ensures { 0 < end → result < end }
     {
@@ -27,7 +27,7 @@ impl Draws {
         if end == 0 { 0 } else { drawn % end }
     }
 
-    /// A byte.
+    /// Returns a byte.
     pub fn byte(&mut self) -> u8 {
         let _next = self.below(1);
         self.state.to_be_bytes()[0]

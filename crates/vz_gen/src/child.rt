@@ -1,4 +1,4 @@
-//! A child: a tile that moves on, in front of one colour.
+//! A child client: a tile that moves in front of one colour.
 ghost use Rattle.std.specs.Prelude.{◌≡◌, ◌≤◌, ◌<◌, ◌+◌, ◌++◌, [], ◌∷◌, IfOk, OnOk};
 ghost use Rattle.vz_gen.specs.Make.{child_frame, child_file, round_of, rounds_from, resource_of, damage_of, block_of, child_quads};
 
@@ -13,14 +13,15 @@ use vz_pixels::PixelBlock;
 /// How many messages a child sends in a round.
 const MESSAGES_IN_A_ROUND: usize = 4;
 
-/// The resource of a round.
+/// The id of the resource that a child uploads in a round.
 fn resource(r: u32) -> u32
     ensures { result ≡ resource_of r }
 {
     1 + r % 2
 }
 
-/// What changes in a round: all in the first one, and then the tile's places before and now.
+/// What changes in a round: everything in the first one, and later the tile's old and new
+/// positions.
 fn damage(r: u32) -> Rect
     requires { 1 ≤ r }
     ensures { result ≡ damage_of r }
@@ -43,7 +44,7 @@ fn block(alloc: Global, r: u32) -> Result<PixelBlock, Memory>
     PixelBlock::of_pixels(alloc, 4, 4, pixels)
 }
 
-/// The quads of a round, front to back.
+/// The quads of a round, from front to back.
 fn quads(alloc: Global, k: u32, r: u32) -> Result<List<DrawQuad>, Memory>
     requires { (2 ≤ k) × (k ≤ 3) }
     ensures { IfOk result (λ l. l ≡ child_quads k r) }
@@ -85,7 +86,7 @@ fn child_frame(alloc: Global, k: u32, r: u32) -> Result<CompositorFrame, Memory>
     frame(alloc, &shape, List::new(alloc), resources, quads)
 }
 
-/// Adds the messages of a round.
+/// Appends the messages of a round.
 fn add_round(alloc: Global, k: u32, r: u32, messages: &mut Vec<Message>) -> Result<(), Memory>
     requires client { (2 ≤ k) × (k ≤ 3) }
     requires round { 1 ≤ r }
@@ -106,7 +107,7 @@ fn add_round(alloc: Global, k: u32, r: u32, messages: &mut Vec<Message>) -> Resu
     Ok(())
 }
 
-/// The file of a child.
+/// Makes the message file of child `k` for `n` rounds. The only error is `Memory`.
 pub fn child_file(alloc: Global, n: u32, k: u32) -> Result<ClientFile, Memory>
     requires rounds { n ≤ MOST_ROUNDS }
     requires client { (2 ≤ k) × (k ≤ 3) }

@@ -1,4 +1,4 @@
-//! The three files.
+//! The three generated files.
 ghost use Rattle.std.specs.Prelude.{◌≡◌, ◌≤◌, IfOk};
 ghost use Rattle.vz_gen.specs.Make.{make};
 
@@ -10,8 +10,8 @@ use vz_base::Memory;
 use vz_base::limits::MOST_ROUNDS;
 use vz_frame::{ClientFile, List};
 
-/// The files of a page and its two children, for `n` rounds. Condition: at most
-/// `MOST_ROUNDS` rounds.
+/// Makes the message files of a page and its two children, in this order, for `n` rounds.
+/// Condition: at most `MOST_ROUNDS` rounds. The only error is `Memory`.
 #[tactic(auto, unfolding(crate::specs::Make::make))]
 pub fn make(alloc: Global, n: u32) -> Result<List<ClientFile>, Memory>
     requires { n ≤ MOST_ROUNDS }

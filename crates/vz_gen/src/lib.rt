@@ -1,5 +1,5 @@
-//! Three message files by rule: a page that embeds two children, each of which answers so many
-//! begin-frames.
+//! Generates three message files: of a page that embeds two children, and of the children, which
+//! answer so many begin-frames.
 #![tactic(auto)]
 
 mod child;

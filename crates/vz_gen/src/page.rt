@@ -7,7 +7,7 @@ use std::alloc::Global;
 use vz_base::Memory;
 use vz_frame::{ClientFile, CompositorFrame, DrawQuad, List, Material, Message};
 
-/// The quads, front to back.
+/// The quads of the page, from front to back.
 fn quads(alloc: Global) -> Result<List<DrawQuad>, Memory>
     ensures { IfOk result (λ l. l ≡ page_quads) }
 {
@@ -47,7 +47,7 @@ fn page(alloc: Global) -> Result<CompositorFrame, Memory>
     frame(alloc, &shape, references, List::new(alloc), quads)
 }
 
-/// The page's file.
+/// Makes the message file of the page. The only error is `Memory`.
 pub fn page_file(alloc: Global) -> Result<ClientFile, Memory>
     ensures { IfOk result (λ f. f ≡ page_file) }
 {

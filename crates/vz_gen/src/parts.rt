@@ -1,4 +1,4 @@
-//! What the files are made of.
+//! Parts of the generated files.
 ghost use Rattle.std.specs.Prelude.{◌≡◌, ◌≤ℤ◌, pos, IfOk, None};
 ghost use Rattle.vz_gen.specs.Make.{colour, sink_of, local_of, range_of, frame_of};
 
@@ -9,7 +9,7 @@ use vz_geom::{Point, Rect};
 use vz_ids::{EmbedToken, FrameSinkId, LocalSurfaceId, ParentAllocator, SurfaceId, SurfaceRange};
 use vz_pixels::Pixel;
 
-/// A list of these values.
+/// Makes a list of these values. The only error is `Memory`.
 pub fn listed<T: Drop, const N: usize>(alloc: Global, values: [T; N]) -> Result<List<T>, Memory>
     ensures { IfOk result (λ list. list ≡ values) }
 {
@@ -17,7 +17,7 @@ pub fn listed<T: Drop, const N: usize>(alloc: Global, values: [T; N]) -> Result<
     Ok(List::from_vec(all))
 }
 
-/// A rectangle. Conditions: it is within 64 by 64 pixels, and no side is 0.
+/// Makes a rectangle. Conditions: it lies within 64 by 64 pixels, and no side is 0.
 pub fn rect(x: i32, y: i32, w: i32, h: i32) -> Rect
     requires x { (pos 0 ≤ℤ x) × (x ≤ℤ pos 64) }
     requires y { (pos 0 ≤ℤ y) × (y ≤ℤ pos 64) }
@@ -28,7 +28,7 @@ pub fn rect(x: i32, y: i32, w: i32, h: i32) -> Rect
     Rect::new(x, y, w, h)
 }
 
-/// An opaque colour.
+/// Makes an opaque colour.
 pub fn colour(r: u8, g: u8, b: u8) -> Pixel
     ensures { result ≡ colour r g b }
 {
@@ -38,7 +38,7 @@ pub fn colour(r: u8, g: u8, b: u8) -> Pixel
     }
 }
 
-/// The sink of a client.
+/// The sink of client `k`.
 pub fn sink(k: u32) -> FrameSinkId
     ensures { result ≡ sink_of k }
 {
@@ -48,14 +48,14 @@ pub fn sink(k: u32) -> FrameSinkId
     }
 }
 
-/// The local id of a client: the first of its own token.
+/// The local id of client `k`: the first one with the client's own token.
 pub fn local(k: u32) -> LocalSurfaceId
     ensures { result ≡ local_of k }
 {
     ParentAllocator::new(EmbedToken(k as u128)).current()
 }
 
-/// The range of a client's surface, from no start.
+/// The range that ends at the surface of client `k` and has no start.
 pub fn range(k: u32) -> SurfaceRange
     ensures { result ≡ range_of k }
 {
@@ -68,7 +68,7 @@ pub fn range(k: u32) -> SurfaceRange
     }
 }
 
-/// A quad without a clip, visible whole.
+/// Makes a quad that has no clip and is visible as a whole.
 pub fn quad(x: i32, area: &Rect, opacity: u8, material: Material) -> DrawQuad
     ensures { result ≡ record {
       offset = record { x = x; y = pos 0 };
@@ -91,20 +91,21 @@ pub fn quad(x: i32, area: &Rect, opacity: u8, material: Material) -> DrawQuad
     }
 }
 
-/// What a frame of one pass has beside its list of quads.
+/// What a frame with one pass has beside its lists.
 #[derive(Clone, Copy)]
 pub struct Shape {
-    /// The token.
+    /// The frame token.
     pub token: u32,
-    /// The begin-frame that it answers, 0 for none.
+    /// The number of the begin-frame that it answers, or 0 if it answers none.
     pub ack: u32,
     /// The output of the pass.
     pub output: Rect,
-    /// What changed.
+    /// What changed since the frame before, in the space of the pass.
     pub damage: Rect,
 }
 
-/// A frame of one pass, without dependencies or a deadline.
+/// Makes a frame with one pass, no dependencies and no deadline of its own. The only error is
+/// `Memory`.
 pub fn frame(
     alloc: Global,
     shape: &Shape,

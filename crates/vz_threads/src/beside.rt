@@ -1,4 +1,4 @@
-//! The clients' threads beside the display.
+//! The threads of the clients and the rounds of the display, at the same time.
 ghost use Rattle.std.specs.Prelude.{◌≡◌, ◌≤◌, [], length, vec_len, vec_capacity, OnOk, OnErr};
 ghost use Rattle.vz_desk.specs.Owners.{IsSameOwner};
 ghost use Rattle.vz_threads.specs.Crews.{IsCrew, CrewWorksOn};
@@ -17,7 +17,7 @@ use vz_desk::{Desk, DisplayEnd, End};
 use vz_machine::Machine;
 use vz_outside::{Gate, ShelfError};
 
-/// What comes back once all threads have ended.
+/// What is there after all threads have ended.
 #[derive(Drop)]
 pub(crate) struct Beside<M: Machine + Send, O> {
     pub(crate) ends: Vec<End<M, Halt>>,
@@ -26,9 +26,9 @@ pub(crate) struct Beside<M: Machine + Send, O> {
     pub(crate) played: Result<(), ShelfError>,
 }
 
-/// Starts a thread for each client, makes the rounds of the display on this one, and waits for all
-/// threads. Conditions: the ends are at work, the display has made no round yet, and there is room
-/// and a flag for each thread.
+/// Starts a thread for each client, makes the rounds of the display on this thread, and waits for
+/// all threads. Conditions: each end is of a client of the plan, and each of its calls took a
+/// message; the display has made no round yet; and there is room and a flag for each thread.
 pub(crate) fn play_beside<
     M: Machine + Send + Drop,
     O: Outlet + Drop,

@@ -1,4 +1,4 @@
-//! The clients' threads.
+//! The threads of the clients.
 ghost use Rattle.std.specs.Prelude.{◌≡◌, ◌≤◌, [], All, OnOk, length, vec_len, vec_capacity};
 ghost use Rattle.vz_threads.specs.Crews.{messages_of, MayTake, WorksOn, IsInCrew, IsCrew, CrewWorksOn, end_of, crew_of, IsServedHere};
 
@@ -14,7 +14,8 @@ use vz_desk::{Desk, End};
 use vz_machine::Machine;
 use vz_outside::Gate;
 
-/// What a thread gives back is the end that was given to it, at work where it was.
+/// A thread returns the end that was given to it. If each call of the end took a message before,
+/// the same is true after.
 #[derive(Drop)]
 pub(crate) struct SameEnd<M: Machine + Send> {
     pub(crate) given: Snapshot<End<M, Halt>>,
@@ -26,14 +27,14 @@ impl<M: Machine + Send> Promise<End<M, Halt>> for SameEnd<M> {
     ghost kept_by = { λ p r. WorksOn p.given.value r };
 }
 
-/// A client's end: with its thread, or here, where no thread could be started.
+/// The end of a client: either with its thread, or here, if no thread could be started.
 #[derive(Drop)]
 pub(crate) enum Started<M: Machine + Send> {
     Running(PromisedHandle<End<M, Halt>, SameEnd<M>>),
     Here(End<M, Halt>),
 }
 
-/// How many messages the file of an end's client has.
+/// How many messages the file of the end's client has.
 pub(crate) fn count_of<M: Machine + Send>(end: &End<M, Halt>, messages: &[u64]) -> u64
 where
     M::FrameData: Send,
@@ -44,7 +45,7 @@ where
     messages[end.client() as usize - 1]
 }
 
-// What a thread does: it takes its client's messages, unless it was refused.
+// What a thread does: it takes the messages of its client, unless the thread was refused.
 fn work<M: Machine + Send, G: Gate, R: Wait + AllocGlobal>(
     rt: &R,
     desk: &Desk<M, Halt>,
@@ -59,13 +60,13 @@ where
     ensures { WorksOn end result }
 {
     if !refused.load(Ordering::SeqCst) {
-        // The desk was stopped where this fails, which the display sees.
+        // If this fails, the desk was stopped, and the display sees that.
         let _ = take_messages(rt, desk, gate, &mut end, count);
     }
     end
 }
 
-// Starts the thread of one end. Where it cannot be started the end is still here.
+// Starts the thread of one end. If it cannot be started, the end stays here.
 fn start<
     's,
     M: Machine + Send + Drop + 's,
@@ -105,7 +106,7 @@ where
     }
 }
 
-// Takes messages of an end that is here, until its client is idle.
+// Takes the messages of an end that stayed here, until its client is idle.
 fn serve<M: Machine + Send, G: Gate, R: Wait + AllocGlobal>(
     rt: &R,
     desk: &Desk<M, Halt>,
@@ -141,9 +142,10 @@ where
     }
 }
 
-/// Starts a thread for each end, the last first, and takes the ends. Each takes its client's
-/// messages, unless it could not be started: then its end is in the list. `refused` has a place for
-/// each file. Conditions: the ends are the crew's, and there is room for all.
+/// Starts a thread for each end, the last end first, and takes the ends. Each thread takes its
+/// client's messages; if a thread could not be started, its end is in the list. `refused` has a
+/// flag for each file. Conditions: each end is of a client of the plan, and each of its calls
+/// took a message; and there is room for all.
 pub(crate) fn start_all<
     's,
     M: Machine + Send + Drop + 's,
@@ -177,9 +179,9 @@ where
     }
 }
 
-/// Takes messages of each end whose thread could not be started, until its client is idle. Where
-/// the desk was stopped, or at want of memory, it stops before and answers Memory. At want of memory
-/// the desk is stopped.
+/// Takes the messages of each end whose thread could not be started, until its client is idle.
+/// The error is `Memory` if the desk was stopped or an allocation failed, and then the messages
+/// are not all taken. If an allocation failed, the desk is stopped.
 pub(crate) fn serve_all<M: Machine + Send, G: Gate, R: Wait + AllocGlobal>(
     rt: &R,
     desk: &Desk<M, Halt>,
@@ -201,7 +203,7 @@ where
     Ok(())
 }
 
-/// Waits for all threads, and gives the ends back in the order in which `start_all` took them.
+/// Waits for all threads, and returns the ends in the order in which `start_all` took them.
 /// Condition: there is room for all.
 pub(crate) fn finish_all<M: Machine + Send + Drop, R: Threads + Wait>(
     rt: &R,

@@ -1,4 +1,4 @@
-//! The end of a run, once all threads have ended.
+//! The end of a run, after all threads have ended.
 ghost use Rattle.std.specs.Prelude.{◌≡◌, ◌+◌, ◌≤◌, Some, IfOk, OnOk, OnErr};
 ghost use Rattle.vz_outside.specs.Shelved.{Writing, KeepsOthers, Behaves};
 ghost use Rattle.vz_rules.specs.Frames.{painted};
@@ -21,11 +21,11 @@ use vz_outside::{Gate, Shelf, ShelfError};
 use vz_player::Player;
 use vz_rules::{Entry, Rest};
 
-/// Begins frames until no submission waits, draws once more, and answers what is still out.
-/// Conditions: the machine and the display stand behind the gathered history, which is legal, each
-/// deadline that is waited for is a tick that comes, the frames have the size of the plan, and the
-/// slot is open for writing. After an error the history is a legal one, and of the frames that it
-/// writes more a front part stands.
+/// Begins frames until no submission waits, draws once more, and returns what is outstanding.
+/// Conditions: the gathered history is legal, the machine and the display are in the state after
+/// it, the begin-frame of each pending deadline can still come, the frames have the size of the
+/// plan, and the slot is open for writing. After an error the history is legal, and a front part
+/// of the bytes of its further frames was written.
 pub(crate) fn finish_run<M: Machine + Drop, F: Shelf, G: Gate, L: Ledger>(
     alloc: Global,
     machine: M,

@@ -5,6 +5,6 @@
 pub(crate) enum Halt {
     /// Writing a frame failed.
     Fault,
-    /// Memory was wanting.
+    /// An allocation failed.
     Memory,
 }

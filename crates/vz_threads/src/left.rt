@@ -1,4 +1,4 @@
-//! The messages that are left once all threads have ended.
+//! The messages that are left after all threads have ended.
 ghost use Rattle.std.specs.Prelude.{◌≡◌, All, OnOk, vec_len, vec_capacity};
 ghost use Rattle.vz_threads.specs.Crews.{IsCrew, CrewWorksOn, HasTakenAll};
 
@@ -12,9 +12,9 @@ use vz_desk::{Desk, End};
 use vz_machine::Machine;
 use vz_outside::Gate;
 
-/// Takes the messages that are left, in the order of the files: after it each end has taken all of
-/// its file. Where the desk was stopped, or at want of memory, it stops before and answers Memory.
-/// At want of memory the desk is stopped.
+/// Takes the messages that are left, file by file, until each end has taken all messages of its
+/// file. The error is `Memory` if the desk was stopped or an allocation failed, and then the
+/// messages are not all taken. If an allocation failed, the desk is stopped.
 pub(crate) fn take_left<M: Machine + Send, G: Gate, R: Wait + AllocGlobal>(
     rt: &R,
     desk: &Desk<M, Halt>,

@@ -1,5 +1,5 @@
-//! A run: a thread for each client of a plan beside the display, which makes its rounds and writes
-//! the frames.
+//! A run: each client of a plan has a thread, and beside them the display makes its rounds and
+//! writes the frames.
 #![tactic(auto)]
 
 mod beside;

@@ -10,8 +10,8 @@ use vz_desk::{Answer, Desk, End};
 use vz_machine::Machine;
 use vz_outside::Gate;
 
-// Takes one message, between the two calls of the gate. A stopped desk and want of memory answer
-// Memory. At want of memory the desk is stopped.
+// Takes one message, and calls the gate before and after. The error is `Memory` if the desk was
+// stopped or an allocation failed. If an allocation failed, the desk is stopped.
 fn take_next<M: Machine + Send, G: Gate, R: Wait + AllocGlobal>(
     rt: &R,
     desk: &Desk<M, Halt>,
@@ -43,9 +43,9 @@ where
     }
 }
 
-/// Takes the messages of a client that are left: after it the end has taken as many as the file
-/// has, which is `count`. Where the desk was stopped, or at want of memory, it stops before and
-/// answers Memory. At want of memory the desk is stopped.
+/// Takes the messages of a client that are left, until the end has taken all `count` messages of
+/// its file. The error is `Memory` if the desk was stopped or an allocation failed, and then they
+/// are not all taken. If an allocation failed, the desk is stopped.
 pub(crate) fn take_messages<M: Machine + Send, G: Gate, R: Wait + AllocGlobal>(
     rt: &R,
     desk: &Desk<M, Halt>,
@@ -65,9 +65,9 @@ where
     Ok(())
 }
 
-/// Takes messages of a client until it is idle or the end has taken as many as the file has, which
-/// is `count`. Where the desk was stopped, or at want of memory, it stops before and answers Memory.
-/// At want of memory the desk is stopped.
+/// Takes the messages of a client until it is idle or the end has taken all `count` messages of
+/// its file. The error is `Memory` if the desk was stopped or an allocation failed, and then it
+/// may stop earlier. If an allocation failed, the desk is stopped.
 pub(crate) fn take_until_idle<M: Machine + Send, G: Gate, R: Wait + AllocGlobal>(
     rt: &R,
     desk: &Desk<M, Halt>,

@@ -1,4 +1,4 @@
-//! What a run needs before its threads start.
+//! What a run prepares before its threads start.
 ghost use Rattle.std.specs.Prelude.{◌≡◌, ◌≤◌, [], length, vec_capacity, IfOk};
 ghost use Rattle.vz_base.specs.declared.limits.TheConstants.{MOST_FILES};
 ghost use Rattle.vz_rules.specs.World.{opening};
@@ -22,9 +22,9 @@ pub(crate) struct Opened<M: Machine + Send> {
     pub(crate) refused: Vec<AtomicBool>,
 }
 
-/// Opens a desk on a machine, and makes room and a flag for each client's thread. At want of memory
-/// the machine is given up. Conditions: the machine stands at the opening of its plan, which has at
-/// most `MOST_FILES` files with so many messages.
+/// Makes a desk of a machine, with room and a flag for the thread of each client. The only error
+/// is `Memory`, and then the machine is lost. Conditions: the machine is in the opening world of
+/// its plan, which has at most `MOST_FILES` files with so many messages each.
 pub(crate) fn open_run<M: Machine + Send + Drop>(
     alloc: Global,
     machine: M,
@@ -53,7 +53,7 @@ where
     })
 }
 
-/// So many flags, none of them set.
+/// Makes `count` flags, none of them set.
 fn flags_for(alloc: Global, count: usize) -> Result<Vec<AtomicBool>, Memory>
     ensures { IfOk result (λ flags. length flags.items ≡ count) }
 {

@@ -1,4 +1,4 @@
-//! Where the display's pictures go.
+//! Where the display's pictures are shown and written.
 ghost use Rattle.std.specs.Prelude.{OnOk, OnErr, ◌≡◌};
 ghost use Rattle.vz_outside.specs.Shelved.{KeepsOthers, Behaves};
 ghost use Rattle.vz_threads.specs.Outlets.{MayShow, Shows, BeginsFrame, file_of};
@@ -11,15 +11,16 @@ use vz_machine::Picture;
 use vz_outputs::{FrameFile, write_frame};
 use vz_outside::{Shelf, ShelfError};
 
-/// Shows pictures on a display, and writes the frame of each at the end of a file.
+/// Shows pictures on a display, and appends the frame of each to a file.
 pub trait Outlet {
     ghost use Rattle.vz_threads.specs.Outlets.{Outlook};
 
-    /// How it stands.
+    /// The state of the display, of the file and of the counter of steps.
     ghost stands: { Self → Outlook };
 
-    /// Shows a picture. At an error a front part of its frame was written, maybe none, and the
-    /// display is of no further use.
+    /// Shows a picture, and appends its frame to the file. The errors are those of the shelf, and
+    /// `Memory`. After an error a front part of the frame was written, possibly none, and the
+    /// display may not be used any more.
     fn show<P: Picture + Drop>(&mut self, alloc: Global, picture: P) -> Result<(), ShelfError>
         requires { MayShow (stands self.old) (P.pictured picture) }
         ensures fixed { (stands self.new).fixed ≡ (stands self.old).fixed }
@@ -32,8 +33,8 @@ pub trait Outlet {
         ensures behaves { Behaves (stands self.old).shelf (stands self.new).shelf result };
 }
 
-/// A display, with the file of a shelf that its frames are written to, the piece by way of which
-/// their bytes go, and the counter of steps.
+/// A display, the file of a shelf to which its frames are written, the buffer through which their
+/// bytes go, and the counter of steps.
 #[derive(Drop)]
 pub struct FrameOutlet<'a, F: Shelf, L: Ledger> {
     pub display: Display,

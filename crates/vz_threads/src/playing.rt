@@ -1,4 +1,4 @@
-//! The display's part of a run while the clients' threads take their messages.
+//! What the display does in a run while the threads of the clients take messages.
 ghost use Rattle.std.specs.Prelude.{◌≡◌, ◌⊎◌, OnOk, OnErr, vec_len, vec_capacity};
 ghost use Rattle.vz_rules.specs.declared.entry.Event.TheVariants as event;
 ghost use Rattle.vz_desk.specs.Displays.{Displays};
@@ -17,8 +17,8 @@ use vz_desk::{Desk, DisplayEnd};
 use vz_machine::Machine;
 use vz_outside::{Gate, ShelfError};
 
-/// Begins a frame, and takes messages of the clients without a thread until they are idle. A desk
-/// that was stopped is answered as want of memory.
+/// Begins a frame, and takes messages of the clients without a thread until they are idle. The
+/// error is `Memory` if the desk was stopped or an allocation failed.
 fn open_round<M: Machine + Send, G: Gate, R: Wait + AllocGlobal>(
     rt: &R,
     desk: &Desk<M, Halt>,
@@ -42,8 +42,9 @@ where
     Ok(())
 }
 
-/// Makes a round. At an error a front part of its frame is written. Conditions: the end is of this
-/// desk, the display is somewhere in its run, and the ends of those that were started are at work.
+/// Makes a round. After an error a front part of the bytes of its frame was written. Conditions:
+/// the end is of this desk, the display is somewhere in its run, and each call of an end without
+/// a thread took a message.
 fn play_round<M: Machine + Send, O: Outlet, G: Gate, R: Wait + AllocGlobal>(
     rt: &R,
     desk: &Desk<M, Halt>,
@@ -74,9 +75,9 @@ where
     Ok(())
 }
 
-/// Makes so many rounds. At an error a front part of their frames is written. Conditions: the end is
-/// of this desk, the display has made no round yet, and the ends of those that were started are at
-/// work.
+/// Makes so many rounds. After an error a front part of the bytes of their frames was written.
+/// Conditions: the end is of this desk, the display has made no round yet, and each call of an
+/// end without a thread took a message.
 fn play_rounds<M: Machine + Send, O: Outlet, G: Gate, R: Wait + AllocGlobal>(
     rt: &R,
     desk: &Desk<M, Halt>,
@@ -107,7 +108,7 @@ where
     Ok(())
 }
 
-/// Makes the rounds, and tells that they are over.
+/// Makes the rounds, and then ends begin-frames.
 fn play_to_over<M: Machine + Send, O: Outlet, G: Gate, R: Wait + AllocGlobal>(
     rt: &R,
     desk: &Desk<M, Halt>,
@@ -139,9 +140,9 @@ where
     Ok(())
 }
 
-/// Makes the rounds, and tells that they are over. At an error the desk is stopped, and a front part
-/// of the frames is written. Conditions: the end is of this desk, the display has made no round yet,
-/// and the ends of those that were started are at work.
+/// Makes the rounds, and then ends begin-frames. After an error the desk is stopped, and a front
+/// part of the bytes of the frames was written. Conditions: the end is of this desk, the display
+/// has made no round yet, and each call of an end without a thread took a message.
 pub(crate) fn play<M: Machine + Send, O: Outlet, G: Gate, R: Wait + AllocGlobal>(
     rt: &R,
     desk: &Desk<M, Halt>,
@@ -175,7 +176,7 @@ where
     }
 }
 
-/// What an error stops a run for.
+/// The reason for which an error stops a run.
 fn halt_for(error: ShelfError) -> Halt {
     match error {
         ShelfError::Failed => Halt::Fault,

@@ -1,4 +1,4 @@
-//! What stands once all threads of a run have ended.
+//! What is there after all threads of a run have ended.
 ghost use Rattle.std.specs.Prelude.{◌≡◌, ◌≤◌, [], length, vec_capacity, All, OnOk};
 ghost use Rattle.vz_rules.specs.Step.{world};
 ghost use Rattle.vz_threads.specs.Crews.{IsCrew, CrewWorksOn, HasTakenAll};
@@ -20,7 +20,7 @@ use vz_machine::Machine;
 use vz_outside::{Gate, ShelfError};
 use vz_rules::Entry;
 
-/// The machine with its history, the outlet, and whether the display was cut short.
+/// The machine with its history, the outlet, and whether the display stopped early.
 pub(crate) struct Ran<M, O> {
     pub(crate) machine: M,
     pub(crate) history: Room<Entry>,
@@ -28,7 +28,7 @@ pub(crate) struct Ran<M, O> {
     pub(crate) played: Result<(), ShelfError>,
 }
 
-/// Takes the messages that are left, unless the display was cut short.
+/// Takes the messages that are left, unless the display stopped early.
 fn take_rest<M: Machine + Send, G: Gate, R: Wait + AllocGlobal>(
     rt: &R,
     desk: &Desk<M, Halt>,
@@ -54,8 +54,8 @@ where
 }
 
 /// Lets the threads and the display work, takes the messages that are left, and gathers the
-/// history. Conditions: the desk was opened, there is room and a flag for each thread, and the
-/// outlet has shown nothing yet.
+/// history. Conditions: the desk was just opened, there is room and a flag for each thread, and
+/// the outlet has shown nothing yet.
 pub(crate) fn run_opened<M: Machine + Send + Drop, O: Outlet + Drop, G: Gate + Sync, R>(
     rt: &R,
     opened: Opened<M>,

@@ -1,4 +1,4 @@
-//! What the display does in a round: each step between the two calls of a gate.
+//! What the display does in a round. The gate is called before and after each step.
 ghost use Rattle.std.specs.Prelude.{◌≡◌, true, IfOk, OnOk, OnErr, IsTrue, IsFalse};
 ghost use Rattle.vz_rules.specs.declared.entry.Event.TheVariants as event;
 ghost use Rattle.vz_desk.specs.Answers.{IsPaused};
@@ -17,7 +17,7 @@ use vz_machine::Machine;
 use vz_outside::{Gate, ShelfError};
 use vz_player::Turn;
 
-/// The display's next step, as a gate knows it.
+/// The display's next step, as it is named to a gate.
 fn next_turn<M: Machine + Send>(d: &DisplayEnd<M, Halt>) -> Turn
 where
     M::FrameData: Send,
@@ -32,7 +32,7 @@ where
     }
 }
 
-/// Begins a frame. A desk that was stopped is answered as want of memory.
+/// Begins a frame. The error is `Memory` if the desk was stopped or an allocation failed.
 pub(crate) fn begin_frame<M: Machine + Send, G: Gate, R: Wait + AllocGlobal>(
     rt: &R,
     desk: &Desk<M, Halt>,
@@ -56,7 +56,7 @@ where
     }
 }
 
-/// Tells that the rounds are over. A desk that was stopped is answered as want of memory.
+/// Ends begin-frames. The error is `Memory` if the desk was stopped or an allocation failed.
 pub(crate) fn tell_over<M: Machine + Send, G: Gate, R: Wait>(
     rt: &R,
     desk: &Desk<M, Halt>,
@@ -80,8 +80,8 @@ where
     }
 }
 
-/// Waits, where that is asked, until each attached client is idle or has answered the tick. A desk
-/// that was stopped is answered as want of memory.
+/// If the run is paced, waits until each attached client is idle or has answered the current
+/// begin-frame. The error is `Memory` if the desk was stopped.
 fn pause<M: Machine + Send, R: Wait>(
     rt: &R,
     desk: &Desk<M, Halt>,
@@ -105,9 +105,9 @@ where
     }
 }
 
-/// Ends a round that was begun: a pause, where that is asked, and a drawing, shown. At an error a
-/// front part of its frame is written. Conditions: the end is of this desk, and the display is
-/// somewhere in its run.
+/// Ends a round that was begun: pauses if the run is paced, draws, and shows the picture. After
+/// an error a front part of the bytes of the frame was written. Conditions: the end is of this
+/// desk, and the display is somewhere in its run.
 pub(crate) fn end_round<M: Machine + Send, O: Outlet, G: Gate, R: Wait + AllocGlobal>(
     rt: &R,
     desk: &Desk<M, Halt>,
@@ -133,7 +133,7 @@ where
     Ok(())
 }
 
-/// Draws, and answers what came of it.
+/// Draws, and returns the answer.
 fn ask_drawing<M: Machine + Send, G: Gate, R: Wait + AllocGlobal>(
     rt: &R,
     desk: &Desk<M, Halt>,
@@ -154,9 +154,9 @@ where
     Ok(drawing?)
 }
 
-/// Draws, and shows the picture where there is one, with its Done. At an error the frame in flight
-/// is done all the same, and of the frame a front part is written. Conditions: the end is of this
-/// desk, and the display is somewhere in its run.
+/// Draws, shows the picture if there is one, and calls Done. If showing it fails, Done is called
+/// all the same, and a front part of the bytes of the frame was written. Conditions: the end is
+/// of this desk, and the display is somewhere in its run.
 pub(crate) fn show_drawing<M: Machine + Send, O: Outlet, G: Gate, R: Wait + AllocGlobal>(
     rt: &R,
     desk: &Desk<M, Halt>,
@@ -188,8 +188,8 @@ where
     }
 }
 
-/// Tells that the drawn frame is done. Conditions: the end and the frame's token are of this desk,
-/// and a frame is in flight.
+/// Calls Done for the drawn frame. Conditions: the end and the token of the frame are of this
+/// desk, and a frame is in flight.
 fn end_frame<M: Machine + Send, G: Gate, R: Wait>(
     rt: &R,
     desk: &Desk<M, Halt>,

@@ -28,24 +28,25 @@ use vz_rules::{Entry, Rest};
 /// What the display does in a run.
 #[derive(Clone, Copy, Debug, PartialEq, Eq)]
 pub struct Course {
-    /// How many rounds of a begin-frame and a drawing it makes, at most `MOST_TICKS`.
+    /// How many rounds it makes, at most `MOST_TICKS`. A round is a begin-frame and a drawing.
     pub rounds: u32,
-    /// Whether it waits in each round until every attached client has answered or is idle.
+    /// Whether in each round it waits, before it draws, until each attached client has answered
+    /// the begin-frame or is idle.
     pub paced: bool,
     /// How many buffers it paints in turn, 1 to `MOST_BUFFERS`.
     pub buffers: u32,
 }
 
-/// Runs a plan with a thread for each client, which takes the client's messages, while this thread
-/// is the display: it makes its rounds and writes each frame that is drawn at the end of a file.
-/// `messages` tells how many messages each client's file has.
-/// After the last round it takes the messages that are left, begins frames until no submission
-/// waits, and draws once more. The answer is what is still out.
+/// Runs a plan. Each client has a thread that takes its messages, while this thread is the
+/// display: it makes its rounds, and appends each frame that is drawn to a file. `messages` has
+/// the number of messages of each client's file, in the order of the files. After the last round
+/// the display takes the messages that are left, begins frames until no submission waits, and
+/// draws once more. The answer is what is outstanding at the end; `history` gets the entries.
 ///
-/// Conditions: the machine stands at the opening of its plan, the frames have the plan's size, the
-/// slot is open for writing, and the history is empty.
-/// `Failed` comes where writing a frame fails, `Memory` for want of memory: after both the history
-/// is a legal one, and of the frames that it writes a front part stands.
+/// Conditions: the machine is in the opening world of its plan, the frames have the plan's size,
+/// the slot is open for writing, and the history is empty. The error is `Failed` if writing a
+/// frame fails, and `Memory` if an allocation fails. After either error the history is legal, and
+/// a front part of the bytes of its frames was written.
 pub fn play_course<M: Machine + Send + Drop, F: Shelf, G: Gate + Sync, L: Ledger, R>(
     rt: &R,
     machine: M,

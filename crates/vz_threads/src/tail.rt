@@ -1,4 +1,4 @@
-//! What the display does behind the last message.
+//! What the display does after the last message.
 ghost use Rattle.std.specs.Prelude.{◌≡◌, ◌+◌, ◌++◌, ◌∷◌, [], false, Some, OnOk, OnErr, List};
 ghost use Rattle.vz_geom.specs.Display.{IsDisplaySize};
 ghost use Rattle.vz_outside.specs.Shelved.{Writing, KeepsOthers, Behaves};
@@ -18,11 +18,11 @@ use vz_outside::{Gate, Shelf, ShelfError};
 use vz_player::Player;
 use vz_rules::{Entry, Event, Reply};
 
-/// Begins frames while some submission waits, then draws once, and tells that the frame is done
-/// where one was drawn. Frames are written at the end of a file. Conditions: no want of memory has
-/// stopped the player, the deadline of each submission that waits is a tick that comes, the frames
-/// have the size of the plan, and the slot is open for writing. At an error the history has some of
-/// this, and of the frames a front part was written.
+/// Begins frames while some submission waits, then draws once, and calls Done if a frame was
+/// drawn. It appends the frames to a file. Conditions: no failed allocation has stopped the
+/// player, the begin-frame of each pending deadline can still come, the frames have the size of
+/// the plan, and the slot is open for writing. After an error the history has a part of these
+/// entries, and a front part of the bytes of the frames was written.
 pub(crate) fn play_tail<M: Machine + Drop, F: Shelf, G: Gate, L: Ledger>(
     alloc: Global,
     player: &mut Player<M>,
@@ -89,7 +89,7 @@ where
     Ok(())
 }
 
-/// Draws once, and tells that the frame is done where one was drawn.
+/// Draws once, and calls Done if a frame was drawn.
 fn play_show<M: Machine + Drop, F: Shelf, G: Gate, L: Ledger>(
     alloc: Global,
     player: &mut Player<M>,
@@ -124,7 +124,7 @@ where
     Ok(())
 }
 
-/// Whether the last entry of a history answers that something was drawn.
+/// Whether the last entry of a history draws a frame.
 fn ends_drawn(history: &[Entry]) -> bool
     ensures { (before : List OneEntry) (last : OneEntry) → history.now ≡ before ++ last ∷ []
         → result ≡ is_drawn last.reply }
@@ -135,7 +135,7 @@ fn ends_drawn(history: &[Entry]) -> bool
     }
 }
 
-/// Whether a reply is that something was drawn.
+/// Whether a reply says that a frame was drawn.
 fn drew(reply: &Reply) -> bool
     ensures { result ≡ is_drawn reply.now }
 {

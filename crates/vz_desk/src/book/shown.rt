@@ -1,4 +1,4 @@
-//! What the display asks of a book, and how it ends.
+//! What the display asks of a book, and how a book ends.
 ghost use Rattle.std.specs.Prelude.{◌≡◌, OnOk, OnErr, IfSome, length, is_none, true};
 ghost use Rattle.vz_rules.specs.declared.entry.Event.TheVariants as event;
 ghost use Rattle.vz_rules.specs.Step.{NamesClient, Legal};
@@ -21,7 +21,8 @@ impl<M: Machine, S: Copy> Book<M, S> {
         self.history.as_slice().len() as u64
     }
 
-    /// Ends the drawn frame, if there is one. At want of memory nothing changes.
+    /// Takes the event Done: it ends the drawn frame, if one is in flight. The only error is
+    /// `Memory`, and then nothing changes.
     pub fn empty_done(&mut self) -> Result<(), Memory>
         ensures ok { OnOk result (self.new ≡ booked_on self.old event.Done) }
         ensures err { OnErr result (self.new ≡ self.old) }
@@ -32,8 +33,8 @@ impl<M: Machine, S: Copy> Book<M, S> {
         Ok(())
     }
 
-    /// Whether a pause has to wait for a client: it is attached, is not idle, and has not answered
-    /// the tick. Condition: the plan has that client.
+    /// Whether a pause has to wait for a client: it is attached, it is not idle, and it has not
+    /// answered the current begin-frame. Condition: the plan has that client.
     pub fn is_restless(&self, client: u32) -> bool
         requires { NamesClient self.now.plan (event.Client client) }
         ensures { result ≡ restless_at (machine_of self.now) client }
@@ -43,7 +44,7 @@ impl<M: Machine, S: Copy> Book<M, S> {
             && !self.machine.answered(client)
     }
 
-    // The first client for which a pause has to wait.
+    // The first client for which a pause has to wait, if there is one.
     fn first_restless(&self) -> Option<u32>
         ensures calm { is_none result ≡ is_calm self.now.plan (machine_of self.now).world }
         ensures restless { IfSome result (λ c. restless_at (machine_of self.now) c ≡ true) }
@@ -56,9 +57,9 @@ impl<M: Machine, S: Copy> Book<M, S> {
         None
     }
 
-    /// A client for which a pause has to wait: the one of this number, if it is such a client, so
-    /// that the others need not be asked again. There is none exactly where each attached client is
-    /// idle or has answered the tick.
+    /// A client for which a pause has to wait. If `last` is such a client, the answer is `last`,
+    /// and the others are not asked. It is None exactly if each attached client is idle or has
+    /// answered the current begin-frame.
     pub fn restless(&self, last: u32) -> Option<u32>
         ensures calm { is_none result ≡ is_calm self.now.plan (machine_of self.now).world }
         ensures restless { IfSome result (λ c. restless_at (machine_of self.now) c ≡ true) }
@@ -69,7 +70,7 @@ impl<M: Machine, S: Copy> Book<M, S> {
         self.first_restless()
     }
 
-    /// The machine and the history. It takes no memory.
+    /// Returns the machine and the history. It takes no memory.
     pub fn into_gathered(self) -> Gathered<M>
         ensures machine { M.state result.machine ≡ machine_of self }
         ensures history { result.history.list ≡ self.history }
