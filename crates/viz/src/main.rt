@@ -1,5 +1,5 @@
 //! The program `viz`. It passes the command line, the files and standard output of the system to
-//! the top call.
+//! the call `viz` of the crate `viz_run`.
 #![tactic(auto)]
 
 ghost use Rattle.std.specs.Prelude.{◌≡◌, ◌<◌};

@@ -31,9 +31,9 @@ use vz_outside::Gate;
 use vz_player::Player;
 use vz_rules::{Entry, Event};
 
-/// Runs the generated files for so many rounds, paints each frame, and returns the line that
-/// reports it. It reads and writes no file. Conditions: 1 to `MOST_ROUNDS` rounds, and an empty
-/// history. The only error is `Memory`, and then the history is that of a front part of the
+/// Runs the generated files for this number of rounds, paints each frame, and returns the line
+/// that reports it. It reads and writes no file. Conditions: 1 to `MOST_ROUNDS` rounds, and an
+/// empty history. The only error is `Memory`, and then the history is that of a front part of the
 /// events.
 pub fn demo<G: Gate, L: Ledger>(
     alloc: Global,

@@ -10,7 +10,7 @@ use vz_rules::Event;
 /// How many messages a child sends in a round.
 const MESSAGES: u32 = 4;
 
-/// The events of `demo` for so many rounds: the page's messages, and then for each round a
+/// The events of `demo` for this number of rounds: the page's messages, and then for each round a
 /// begin-frame, the messages of both children, a drawing, and its Done.
 pub fn demo_events(alloc: Global, rounds: u32) -> Result<Vec<Event>, Memory>
     ensures { IfOk result (λ events. events.items ≡ demo_events rounds) }

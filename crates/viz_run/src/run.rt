@@ -1,4 +1,4 @@
-//! The top call.
+//! The call that runs the whole program.
 ghost use Rattle.std.specs.Prelude.{◌≡◌, ◌≢◌, ◌≤◌, ◌⊎◌, IsTrue};
 ghost use Rattle.vz_outside.specs.Faults.{CountRose};
 ghost use Rattle.vz_words.specs.Words.{texts};
@@ -32,9 +32,9 @@ pub struct Run {
 }
 
 /// Runs the program. `words` are those of the command line after the program's name, `shelf` has
-/// the files that they name, and the last line is printed to `out`. `gate` is called before and
-/// after each step, and `steps` counts each pixel that is made or painted. `rt` gives memory, and
-/// the threads of `run`, for which this call waits; no clause says that they end.
+/// the files that they name, and `out` gets the line that reports how it ended. `gate` is called
+/// before and after each step, and `steps` counts each pixel that is made or painted. `rt` gives
+/// memory, and the threads of `run`, for which this call waits; no clause says that they end.
 pub fn viz<F: Shelf + Send, O: Sink, G: Gate + Sync, L: Ledger, R>(
     rt: &R,
     words: &[String],

@@ -69,8 +69,8 @@ pub const MOST_LOG_BYTES: usize = 268_435_456;
 /// The greatest number of rounds of the generated client files. The least is 1.
 pub const MOST_ROUNDS: u32 = 1_000;
 
-/// The greatest number of quads that one drawing may meet, where a quad that is met twice counts
-/// twice. With more, the drawing is refused as too much.
+/// The greatest number of quads that one drawing may meet. A quad that is met twice counts twice.
+/// With more, the drawing is refused as too much.
 pub const MOST_WEIGHT: u32 = 65_536;
 
 /// The greatest number of surfaces on a path from the root of a drawing. With a longer path, the

@@ -5,7 +5,8 @@ ghost use Rattle.vz_codec.specs.declared.error.ReadError.TheVariants.{Memory};
 use crate::fault::FileRule;
 use std::alloc::{AllocError, AllocFailed};
 
-/// Why a field cannot be read: an allocation failed, or a rule is broken with so many bytes left.
+/// Why a field cannot be read: an allocation failed, or this rule is broken at the field where
+/// `left` bytes were left.
 #[derive(Clone, Copy, Debug, PartialEq, Eq)]
 pub enum ReadError {
     Memory,

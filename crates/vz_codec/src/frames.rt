@@ -108,7 +108,7 @@ impl Field for Metadatas {
     }
 }
 
-/// The number that stands for no deadline.
+/// The number that means no deadline.
 const NO_DEADLINE: u8 = 255;
 
 #[derive(Drop)]
@@ -179,7 +179,8 @@ fn is_short_side(number: u16) -> bool
     1 <= number && number <= MOST_SIDE
 }
 
-/// The field of a pass, in a file of this format, if the frame may have so many more quads.
+/// The field of a pass, in a file of this format, if the frame may have only this many more
+/// quads.
 #[derive(Drop)]
 struct Passes(u8, usize);
 

@@ -8,7 +8,7 @@ ghost use Rattle.vz_codec.specs.declared.fault.DecodeError.{DecodeError};
 ghost use Rattle.vz_codec.specs.Spelling.{file_bytes};
 ghost use Rattle.vz_codec.specs.Grammar.{Spells, Decodes, Finds, Wrong, wrong};
 
-/// A file has exactly one encoding, and no bytes encode two files.
+/// A file has at most one encoding, and no bytes encode two files.
 pub fn files_have_one_spelling()
     ensures spelling { (a b : List ℕ) (file : ClientFile) → Spells a file → Spells b file → a ≡ b }
     ensures file { (bytes : List ℕ) (a b : ClientFile) → Spells bytes a → Spells bytes b → a ≡ b }

@@ -68,7 +68,7 @@ impl<'a> Reader<'a> {
         self.rest
     }
 
-    /// Skips `count` bytes. Condition: at least so many are left.
+    /// Skips `count` bytes. Condition: at least `count` bytes are left.
     pub fn skip(&mut self, count: usize)
         requires { count ≤ length self.old }
         ensures { self.new ≡ drop count self.old }

@@ -62,7 +62,7 @@ impl<M: Machine + Send, S: Send> Kept for Book<M, S> {
 
 impl<M: Machine, S: Copy> Book<M, S> {
     /// Makes a book before the first event. It takes no memory. Conditions: the machine is in the
-    /// opening world of its plan, which has so many clients, at most `MOST_FILES`.
+    /// opening world of its plan, which has this number of clients, at most `MOST_FILES`.
     pub fn new(alloc: Global, machine: M, clients: u32) -> Book<M, S>
         requires opening { (M.state machine).world ≡ opening (M.state machine).plan }
         requires counted { clients ≡ length (M.state machine).plan.files }
@@ -141,8 +141,8 @@ impl<M: Machine, S: Copy> Book<M, S> {
         self.history.put(entry_of(Event::Done, step));
     }
 
-    /// Ends begin-frames: no client has to wait for one from now on. The only error is `Memory`,
-    /// and then nothing changes.
+    /// Takes the event Over: from now on no client waits for a begin-frame. The only error is
+    /// `Memory`, and then nothing changes.
     pub fn over(&mut self) -> Result<(), Memory>
         ensures ok { OnOk result (self.new ≡ booked_on self.old event.Over) }
         ensures err { OnErr result (self.new ≡ self.old) }

@@ -1,4 +1,4 @@
-//! A desk.
+//! A desk, and the calls of its clients.
 ghost use Rattle.std.specs.Prelude.{◌≡◌, true, false, IfOk, OnErr, IsSome, IfSome};
 ghost use Rattle.vz_desk.specs.Owners.{IsSameOwner, MakesNone};
 ghost use Rattle.vz_desk.specs.Answers.{Answered, Tried, Waited, TellsIdle};

@@ -61,9 +61,9 @@ where
         }
     }
 
-    /// Ends begin-frames: it makes one entry, and the bell rings. If the desk was stopped, it
-    /// returns `Stopped` and makes none. The only error is `Memory`, and then it makes none.
-    /// Condition: the end is of this desk.
+    /// Takes the event Over, from which on no client waits for a begin-frame: it makes one entry,
+    /// and the bell rings. If the desk was stopped, it returns `Stopped` and makes none. The only
+    /// error is `Memory`, and then it makes none. Condition: the end is of this desk.
     pub fn over<R: Wait>(&self, rt: &R, d: &mut DisplayEnd<M, S>) -> Result<Answer<S>, Memory>
         requires { d.old.desk ≡ self.now.id }
         ensures same { IsSameOwner d.old d.new }

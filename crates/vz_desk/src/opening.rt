@@ -18,8 +18,8 @@ where
 {
     /// Makes a desk of a machine. It returns the desk, an end for each client by rising number,
     /// and the display's end. The only error is `Memory`, and then the machine is lost.
-    /// Conditions: the machine is in the opening world of its plan, which has so many clients, at
-    /// most `MOST_FILES`.
+    /// Conditions: the machine is in the opening world of its plan, which has this number of
+    /// clients, at most `MOST_FILES`.
     pub fn open(
         alloc: Global,
         machine: M,

@@ -8,8 +8,8 @@ ghost use Rattle.vz_frame.specs.Fits.{fits_file};
 ghost use Rattle.vz_frame.specs.Frame.{has_repeat};
 ghost use Rattle.vz_gen.specs.Make.{make};
 
-/// Three files are generated. For up to `MOST_ROUNDS` rounds each of them fits the format, so
-/// that it can be encoded and run, and no two have the same sink.
+/// Three files are generated, and no two have the same sink. For up to `MOST_ROUNDS` rounds each
+/// of them fits the format, so that it can be encoded and run.
 pub fn made_files_fit()
     ensures three { (n : ℕ) → length (make n) ≡ 3 }
     ensures fit { (n : ℕ) → n ≤ MOST_ROUNDS → IsTrue (list_all fits_file (make n)) }

@@ -1,5 +1,5 @@
 //! Generates three message files: of a page that embeds two children, and of the children, which
-//! answer so many begin-frames.
+//! answer a given number of begin-frames.
 #![tactic(auto)]
 
 mod child;

@@ -22,8 +22,8 @@ use vz_rules::{Event, Plan};
 /// The byte of a drawing.
 const DRAW: u8 = 0x12;
 
-/// The event of a byte, or None if the byte is no event. 1 to 16 stand for the next message of
-/// that client; the four numbers from 17 on for Begin, Draw, Done and Over.
+/// The event of a byte, or None if the byte is no event. 1 to 16 mean the next message of that
+/// client, and 17 to 20 mean Begin, Draw, Done and Over.
 #[tactic(auto, unfolding(crate::specs::Schedule::event_of))]
 pub fn event_of(byte: u8) -> Option<Event>
     ensures { result ≡ event_of byte }
@@ -69,8 +69,8 @@ pub fn events_of(alloc: Global, plan: &Plan, bytes: &[u8]) -> Result<Vec<Event>,
     Ok(events)
 }
 
-/// The rule that a byte breaks in a plan with so many clients, if it breaks one. If the byte is a
-/// drawing, it is the one after `draws` others.
+/// The rule that a byte breaks in a plan with `clients` clients, if it breaks one. If the byte is
+/// a drawing, it is the one after `draws` others.
 fn rule_broken(clients: usize, size: &Size, draws: u32, byte: u8) -> Option<FileRule>
     requires size { IsDisplaySize size.now }
     requires few { draws ≤ MOST_EVENTS }
@@ -85,7 +85,7 @@ fn rule_broken(clients: usize, size: &Size, draws: u32, byte: u8) -> Option<File
     }
 }
 
-/// Whether a byte is an event in a plan with so many clients.
+/// Whether a byte is an event in a plan with `clients` clients.
 fn is_event(clients: usize, byte: u8) -> bool
     ensures { result ≡ is_event clients byte }
 {
@@ -107,7 +107,7 @@ fn is_draw(byte: u8) -> bool
     byte == DRAW
 }
 
-/// Whether so many frames of the display have at most `MOST_DRAWN_BYTES` bytes together.
+/// Whether `frames` frames of the display have at most `MOST_DRAWN_BYTES` bytes together.
 fn frames_fit(size: &Size, frames: u32) -> bool
     requires size { IsDisplaySize size.now }
     requires few { frames ≤ MOST_EVENTS }

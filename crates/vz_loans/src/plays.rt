@@ -85,8 +85,8 @@ impl<P, E> Split<View<P, E>> for Note {
     ghost right = { note };
 }
 
-/// A caller reads word 0. Afterwards the seat has seen all lists that it was given, and no longer
-/// keeps them.
+/// A caller reads word 0. Each list that was joined into its seat is then known to be a front
+/// part of the seat's own list, and the seat no longer keeps it.
 pub struct Compare;
 
 impl<K, P, E> Play<Option<K>, View<P, E>> for Compare {

@@ -39,8 +39,8 @@ pub trait Machine {
         ensures world { OnOk result (Goes (state self.old) (Client c) (state self.new)) }
         ensures err { OnErr result (state self.new ≡ state self.old) };
 
-    /// Begins a frame: the tick rises by one and is delivered to the attached clients. The only
-    /// error is `Memory`, and then nothing changes.
+    /// Begins a frame: the tick rises by one, up to `LAST_TICK`, and is delivered to the attached
+    /// clients. The only error is `Memory`, and then nothing changes.
     fn begin(&mut self, alloc: Global) -> Result<Step, Memory>
         ensures answer { IfOk result (λ s. Answers (state self.old) Begin s) }
         ensures world { OnOk result (Goes (state self.old) Begin (state self.new)) }
@@ -61,7 +61,7 @@ pub trait Machine {
         ensures answer { Answers (state self.old) Done result }
         ensures world { Goes (state self.old) Done (state self.new) };
 
-    /// Ends begin-frames: no client has to wait for one from now on. It cannot fail.
+    /// Takes the event Over: from now on no client waits for a begin-frame. It cannot fail.
     fn over(&mut self) -> Step
         ensures answer { Answers (state self.old) Over result }
         ensures world { Goes (state self.old) Over (state self.new) };

@@ -35,10 +35,10 @@ pub struct Results {
     pub painted: Vec<u64>,
 }
 
-/// Runs a machine through events, and shows its pictures on a display of so many buffers. The
-/// only error is `Memory`. Conditions: the machine is in the opening world of its plan, which has
-/// at most `MOST_FILES` files and a display of this size; each client's event names a client of
-/// the plan; and there are 1 to `MOST_BUFFERS` buffers.
+/// Runs a machine through events, and shows its pictures on a display with this number of
+/// buffers. The only error is `Memory`. Conditions: the machine is in the opening world of its
+/// plan, which has at most `MOST_FILES` files and a display of this size; each client's event
+/// names a client of the plan; and there are 1 to `MOST_BUFFERS` buffers.
 pub fn play<M: Machine + Drop, L: Ledger>(
     alloc: Global,
     machine: M,
@@ -60,8 +60,8 @@ where
     ensures legal { IfOk result (λ p. Legal (M.state machine).plan p.history) }
     ensures events { IfOk result (λ p. map (λ e. e.event) p.history ≡ events.now) }
     ensures rest { IfOk result (λ p. p.rest ≡ rest_of (M.state machine).plan p.history) }
-    // The frames are those that are written with so many buffers, and each pixel that is put
-    // counts as a step.
+    // The frames are those that are written with this number of buffers, and each pixel that is
+    // put counts as a step.
     ensures frames { IfOk result (λ p. p.frames.items
         ≡ frames_bytes (written (M.state machine).plan p.history buffers)) }
     ensures counted { IfOk result (λ p. steps.new

@@ -84,7 +84,7 @@ impl<M: Machine + Drop> Player<M> {
     /// Makes a player that continues a history made elsewhere. It takes no memory. Conditions:
     /// the history is legal and the machine is in the world after it, its plan has at most
     /// `MOST_FILES` files and a size that a display may have, there is at least 1 buffer, and the
-    /// display is in the state after that history with so many buffers.
+    /// display has this number of buffers and is in the state after that history.
     pub fn resume(machine: M, display: Display, history: Room<Entry>, buffers: u32) -> Player<M>
         requires behind { (M.state machine).world ≡ world (M.state machine).plan history.list }
         requires legal { Legal (M.state machine).plan history.list }
@@ -135,7 +135,7 @@ impl<M: Machine + Drop> Player<M> {
     }
 
     // Takes a client's event, which draws no frame. Most events of a run are of clients, so it
-    // has a path of its own, on which the step goes directly into the history.
+    // has a separate path, on which the step goes directly into the history.
     fn take_client<G: Gate>(&mut self, alloc: Global, gate: &G, client: u32) -> Result<bool, Memory>
         requires going { self.old.stopped ≡ false }
         requires named { NamesClient self.old.plan (event.Client client) }
@@ -151,8 +151,8 @@ impl<M: Machine + Drop> Player<M> {
         Ok(false)
     }
 
-    // Takes an event of the display other than a drawing, which draws no frame. It is a function
-    // of its own, as at its beginning it clears the room for the steps of all such events.
+    // Takes an event of the display other than a drawing, which draws no frame. It is a separate
+    // function, as at its beginning it clears the room for the steps of all such events.
     #[inline(never)]
     fn take_plain<G: Gate>(&mut self, alloc: Global, gate: &G, event: Event) -> Result<bool, Memory>
         requires going { self.old.stopped ≡ false }
@@ -170,7 +170,7 @@ impl<M: Machine + Drop> Player<M> {
         Ok(false)
     }
 
-    // Draws, and shows the picture if one is drawn. It is a function of its own, as at its
+    // Draws, and shows the picture if one is drawn. It is a separate function, as at its
     // beginning it clears the room for a picture.
     #[inline(never)]
     fn draw<G: Gate, L: Ledger>(

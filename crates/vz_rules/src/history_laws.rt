@@ -83,7 +83,8 @@ pub fn ticks_are_answered()
 ghost use Rattle.vz_rules.specs.Kept.{Keeps, no_effects};
 ghost use Rattle.vz_rules.specs.Unchanged.{ChangesNothing, after_taking};
 
-/// A refused message has no effects, and it changes the world only in that the message is taken.
+/// A refused message has no effects. It changes the world only in that the message is taken, and
+/// not even so if it is refused as `NotYet` or `NoMessage`.
 pub fn refusals_change_nothing()
     ensures steps { (p : Plan) (w : World) (c : ℕ) (r : Refusal) → Keeps w
         → (step_in p w (event.Client c)).reply ≡ reply.Refused r
@@ -97,8 +98,8 @@ pub fn refusals_change_nothing()
 ghost use Rattle.vz_geom.specs.Rectangle.{Rectangle, is_empty_rect};
 ghost use Rattle.vz_rules.specs.Whole.{damage_after};
 
-/// A drawing reports the damage since the last aggregation in the history before it. If it
-/// answers `Unchanged`, that damage is empty.
+/// If a drawing is answered `Drawn`, the reply has the damage since the last aggregation. If it
+/// is answered `Unchanged`, that damage is empty.
 pub fn drawings_tell_the_damage()
     ensures drawn { (p : Plan) (h : List Entry) (e : Entry) (k : List Entry) (damage : Rectangle)
         → Legal p (h ++ e ∷ k) → e.reply ≡ reply.Drawn damage → damage ≡ damage_after p h }

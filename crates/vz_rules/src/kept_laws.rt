@@ -189,8 +189,8 @@ pub fn nothing_follows()
 {}
 
 /// Between steps, Done with a frame in flight only queues returns and gives feedback, Done
-/// without one changes nothing, and Over only notes that begin-frames are over. None of them
-/// makes a submission active or destroys a surface, so none needs room for that.
+/// without one changes nothing, and Over only notes that it has come. None of them makes a
+/// submission active or destroys a surface, so none needs room for that.
 pub fn ends_take_no_room()
     ensures shown { (p : Plan) (w : World) (drawn : List Sub) → Keeps w → w.in_flight ≡ Some drawn
         → step_in p w event.Done ≡ presenting drawn (landed w) }
@@ -237,9 +237,9 @@ pub fn groups_are_chains()
 {}
 
 /// A range shows the newest active surface in the end's group that is not newer than the end and,
-/// if the start is in that group, not older than the start. If there is none, it shows the newest
-/// active surface in the start's group that is not older than the start. If there is none either,
-/// it shows nothing.
+/// if the start is in that group, not older than the start. If there is none and the start is in
+/// another group, it shows the newest active surface in that group that is not older than the
+/// start. Otherwise it shows nothing.
 pub fn ranges_show_the_newest()
     ensures end { (w : World) (range : SurfaceRange) (i : FrameData) → KeepsAlways w
         → Contains (active_frames w.subs) i → IsTrue (in_range range i) → ((j : FrameData)

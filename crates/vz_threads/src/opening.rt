@@ -24,7 +24,8 @@ pub(crate) struct Opened<M: Machine + Send> {
 
 /// Makes a desk of a machine, with room and a flag for the thread of each client. The only error
 /// is `Memory`, and then the machine is lost. Conditions: the machine is in the opening world of
-/// its plan, which has at most `MOST_FILES` files with so many messages each.
+/// its plan, which has at most `MOST_FILES` files, and `messages` has the number of messages of
+/// each.
 pub(crate) fn open_run<M: Machine + Send + Drop>(
     alloc: Global,
     machine: M,

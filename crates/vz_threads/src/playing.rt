@@ -75,9 +75,9 @@ where
     Ok(())
 }
 
-/// Makes so many rounds. After an error a front part of the bytes of their frames was written.
-/// Conditions: the end is of this desk, the display has made no round yet, and each call of an
-/// end without a thread took a message.
+/// Makes the rounds of a run. After an error a front part of the bytes of their frames was
+/// written. Conditions: the end is of this desk, the display has made no round yet, and each call
+/// of an end without a thread took a message.
 fn play_rounds<M: Machine + Send, O: Outlet, G: Gate, R: Wait + AllocGlobal>(
     rt: &R,
     desk: &Desk<M, Halt>,
@@ -108,7 +108,7 @@ where
     Ok(())
 }
 
-/// Makes the rounds, and then ends begin-frames.
+/// Makes the rounds, and then takes the event Over.
 fn play_to_over<M: Machine + Send, O: Outlet, G: Gate, R: Wait + AllocGlobal>(
     rt: &R,
     desk: &Desk<M, Halt>,
@@ -140,9 +140,9 @@ where
     Ok(())
 }
 
-/// Makes the rounds, and then ends begin-frames. After an error the desk is stopped, and a front
-/// part of the bytes of the frames was written. Conditions: the end is of this desk, the display
-/// has made no round yet, and each call of an end without a thread took a message.
+/// Makes the rounds, and then takes the event Over. After an error the desk is stopped, and a
+/// front part of the bytes of the frames was written. Conditions: the end is of this desk, the
+/// display has made no round yet, and each call of an end without a thread took a message.
 pub(crate) fn play<M: Machine + Send, O: Outlet, G: Gate, R: Wait + AllocGlobal>(
     rt: &R,
     desk: &Desk<M, Halt>,

@@ -56,7 +56,7 @@ where
     }
 }
 
-/// Ends begin-frames. The error is `Memory` if the desk was stopped or an allocation failed.
+/// Takes the event Over. The error is `Memory` if the desk was stopped or an allocation failed.
 pub(crate) fn tell_over<M: Machine + Send, G: Gate, R: Wait>(
     rt: &R,
     desk: &Desk<M, Halt>,
@@ -154,9 +154,9 @@ where
     Ok(drawing?)
 }
 
-/// Draws, shows the picture if there is one, and calls Done. If showing it fails, Done is called
-/// all the same, and a front part of the bytes of the frame was written. Conditions: the end is
-/// of this desk, and the display is somewhere in its run.
+/// Draws, shows the picture if there is one, and calls Done. If showing it fails, Done is still
+/// called, and a front part of the bytes of the frame was written. Conditions: the end is of this
+/// desk, and the display is somewhere in its run.
 pub(crate) fn show_drawing<M: Machine + Send, O: Outlet, G: Gate, R: Wait + AllocGlobal>(
     rt: &R,
     desk: &Desk<M, Halt>,

@@ -1,4 +1,4 @@
-//! A run.
+//! Runs a plan with threads.
 ghost use Rattle.std.specs.Prelude.{◌≡◌, ◌+◌, ◌≤◌, [], Some, IfOk, OnOk, OnErr};
 ghost use Rattle.vz_base.specs.declared.limits.TheConstants.{MOST_BUFFERS, MOST_TICKS};
 ghost use Rattle.vz_outside.specs.Shelved.{Writing, KeepsOthers, Appends, AppendsFront, Behaves};

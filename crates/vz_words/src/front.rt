@@ -77,8 +77,8 @@ pub(crate) fn sides_and_ticks(words: &[String]) -> Option<Timed<'_>>
     })
 }
 
-/// Whether so many frames have at most `MOST_DRAWN_BYTES` bytes together. Conditions: the sides
-/// are those of a display, and there are no more frames than a run draws.
+/// Whether `frames` frames of this size have at most `MOST_DRAWN_BYTES` bytes together.
+/// Conditions: the sides are those of a display, and there are no more frames than a run draws.
 fn frames_fit(width: u32, height: u32, frames: u32) -> bool
     requires width { width ≤ GREATEST_DISPLAY_SIDE }
     requires height { height ≤ GREATEST_DISPLAY_SIDE }

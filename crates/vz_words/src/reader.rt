@@ -11,8 +11,10 @@ use crate::options::{buffers, flag};
 use vz_base::limits::MOST_ROUNDS;
 
 /// Decides what the words after the program's name ask for. It returns None if they are those of
-/// no command: the first word is no command's, a number or a name is missing, superfluous or out
-/// of its range, an option is out of its order, or two names are equal.
+/// no command: the first word names no command, there are too few or too many numbers or names, a
+/// number is out of its range, the frames of a run could have more than `MOST_DRAWN_BYTES` bytes
+/// together, a name is empty, too long or begins with a dash, an option is out of its order, or
+/// two names are equal.
 pub fn command(words: &[String]) -> Option<Command<'_>>
     ensures found { IfSome result (λ c. IsCommand (texts words.now) (command_of c)) }
     ensures none { IfNone result (IsNoCommand (texts words.now)) }

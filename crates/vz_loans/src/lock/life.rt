@@ -30,7 +30,7 @@ impl<K: Kept> Lock<K> {
         }
     }
 
-    // Makes tokens of their own for the numbers from 1 on.
+    // Makes a token for each number from 1 on.
     fn deal(&self, seat: &mut Seat<Option<K>, View<K::Plan, K::Entry>>, tokens: &mut Vec<Token<K>>)
         requires lock { seat.old.table_id ≡ self.now.id }
         requires ready { seat.old.me ≡ ready seat.old.me.0.plan 1 }
