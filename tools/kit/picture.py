@@ -4,7 +4,7 @@ from . import png
 from .wrong import Wrong, file
 
 GROUND = bytes((200, 200, 200, 255))
-GAP, STRIP_WIDTH, MOST = 4, 1280, 67108864
+GAP, STRIP_WIDTH, MOST = 4, 1292, 67108864
 
 
 class Picture:
@@ -39,6 +39,17 @@ class Picture:
         for row in range(y, y + h):
             self.put(x, row, colour)
             self.put(x + w - 1, row, colour)
+
+    def shrunk(self, n):
+        """The picture with each square of n by n pixels as one, their average."""
+        rows = []
+        for y in range(0, self.h, n):
+            made = bytearray(self.w // n * 4)
+            for channel in range(4):
+                parts = [row[channel + 4 * x::4 * n] for row in self.rows[y:y + n] for x in range(n)]
+                made[channel::4] = bytes((sum(part) + n * n // 2) // (n * n) for part in zip(*parts))
+            rows.append(made)
+        return Picture(self.w // n, self.h // n, rows)
 
     def lay(self, other, x, y):
         for place, row in enumerate(other.rows):
