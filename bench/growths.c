@@ -1,4 +1,5 @@
-/* Refuses the growth whose number the variable GROWTH has, and says so on standard error: a library that is loaded before the C library. */
+/* A library to load before the C library. It makes the memory growth fail whose number the variable GROWTH has, and then
+   writes `refused` to standard error. */
 #define _GNU_SOURCE
 #include <dlfcn.h>
 #include <stdlib.h>

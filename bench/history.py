@@ -1,8 +1,8 @@
 """Writes the files of a long history: `history.py FOLDER`.
 
-Three clients, of which the first embeds the two others, relates them to its sink and is the root. They take turns of five events: a
-client's frame, in which its bar has moved on, Begin, Draw, Done, and a Draw that finds nothing changed. The schedule has 60,000
-events: a drawing of everyone's first frame, and then turns.
+There are three clients. The first embeds the two others, relates them to its sink and is the root. They take turns of five events: a
+client's frame with a moved bar, Begin, Draw, Done, and a Draw that finds nothing changed. The schedule has 60,000 events: it draws
+everyone's first frame, and then come the turns.
 """
 
 import os

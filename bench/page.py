@@ -1,8 +1,9 @@
 """Writes the files of a page of 1,280 by 720 pixels: `page.py FOLDER [EVENTS]`.
 
-Client 1 is the page: a background, fifteen tiles of 256 by 240 pixels and a toolbar of eight coloured buttons, with two
-children that it embeds. Client 2 is a tab that moves a bar of 64 by 720 pixels each begin-frame, client 3 a caret of 2 by 20
-that blinks. The schedule has at most EVENTS events (256 if left out): the page's messages, then rounds of Begin, a frame of each child, Draw and Done.
+Client 1 is the page: a background, fifteen tiles of 256 by 240 pixels, a toolbar of eight coloured buttons, and two embedded
+children. Client 2 is a tab that moves a bar of 64 by 720 pixels at each begin-frame; client 3 is a caret of 2 by 20 that
+blinks. The schedule has at most EVENTS events (256 by default): the page's messages, then rounds of Begin, a frame of each
+child, Draw and Done.
 """
 
 import os

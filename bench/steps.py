@@ -1,7 +1,7 @@
 """Writes the file of one client that makes steps of the machine long: `steps.py KIND COUNT FILE`.
 
-Each submission is on a surface of its own. A SetRoot of the first one (the newest one
-for `draw`) is the last message, or the first where submissions wait. COUNT is the number of submissions.
+COUNT is the number of submissions; each is on a surface of its own. A SetRoot of the first surface (of the newest one
+for `draw`) is the last message, or the first message if submissions wait.
 """
 
 import struct

@@ -1,7 +1,7 @@
 """Writes the files of a crowd: `stress.py FOLDER`.
 
-Sixteen clients with 4,096 messages each: client 1 relates all sinks to its own and is the root, every client submits four small
-frames, and all else is Await, DidNotProduce and Reclaim in turn.
+There are sixteen clients with 4,096 messages each. Client 1 relates all sinks to its own and is the root. Every client submits four
+small frames; its other messages are Await, DidNotProduce and Reclaim in turn.
 """
 
 import os

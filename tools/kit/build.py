@@ -1,4 +1,4 @@
-"""A scene's text to message files and a schedule. FORM.md says what the text may say."""
+"""Makes message files and a schedule from a scene's text. docs/SCENES.md says what the text may contain."""
 
 import re
 from pathlib import Path

@@ -1,5 +1,5 @@
-"""A log beside the messages of its clients: which message an entry answers, what a submission waits for, and why
-it becomes active. A log alone does not say these."""
+"""Follows a log together with the messages of its clients: which message an entry answers, what a submission waits
+for, and why it becomes active. A log alone does not say these."""
 
 from . import names
 from .wrong import Wrong

@@ -1,4 +1,4 @@
-"""Frames of a scene's text: what stands behind `submit`."""
+"""Frames of a scene's text: the tables with a key `submit`."""
 
 from . import colours, names, wire
 from .table import Table, rectangle, text, whole, whole_numbers

@@ -1,4 +1,4 @@
-"""On which line of a TOML text the value of a key stands. The text was read by `tomllib` before, so it is whole."""
+"""Finds the line of a TOML text on which a key has its value. `tomllib` read the text before, so it is well-formed."""
 
 import re
 

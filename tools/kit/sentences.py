@@ -1,5 +1,5 @@
-"""The entries of a log as plain sentences. Where a scene stands beside the log, its names, its messages and the
-reasons of activations are told too."""
+"""The entries of a log as sentences. If there is a scene, the sentences also have its names, its messages and the
+reasons for activations."""
 
 from . import names
 from .follow import Facts, Follower

@@ -1,4 +1,4 @@
-"""Message files and a schedule to a scene's text; what the text would build anyway is left out."""
+"""Writes message files and a schedule as a scene's text, without the keys whose defaults would build the same."""
 
 import textwrap
 

@@ -1,4 +1,4 @@
-"""A table of a TOML text whose keys are taken one by one, each with its kind, and none left over."""
+"""A table of a TOML text. Its keys are taken one by one, each with its kind; a key left over is an error."""
 
 from .wrong import Wrong, inside
 

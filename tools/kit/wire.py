@@ -1,7 +1,7 @@
-"""Message files as bytes. Each format stands here once, as a field that both reads and writes.
+"""Message files as bytes. Each format is written down once, as a field that both reads and writes.
 
-A field is a function of an end (`Reader` or `Writer`) and a value. A reader's end takes no notice
-of the value and answers what it read; a writer's end tests the value, puts it and answers it.
+A field is a function of an end (`Reader` or `Writer`) and a value. A reader ignores the value and
+returns what it read; a writer tests the value, writes it and returns it.
 A record is a dict, a rectangle (x, y, w, h), a sink (client, number), a local id
 (parent, child, token), a surface (sink, local), a range (start or None, end), pixels are bytes.
 """

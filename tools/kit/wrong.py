@@ -6,7 +6,7 @@ from contextlib import contextmanager
 
 class Wrong(Exception):
     """Something in an input is wrong. `places` say where, from the outermost to the innermost; `keys` are the
-    keys and places of a scene's text that lead there, from its top on where it is `anchored`."""
+    keys and places of a scene's text that lead there, from its top if it is `anchored`."""
 
     def __init__(self, what):
         super().__init__(what)
