@@ -13,60 +13,62 @@ use Rattle.viz_run.specs.Lines.{words_line, refused_line}
 use Rattle.viz_run.specs.Ends.{TellsEnd, IsDone, IsCutShort, IsUnbegun}
 use Rattle.viz_run.specs.Site.{Site, Outside}
 
--- Of a command
+-- The cause of each kind of end, for one command
 
--- its inputs were accepted, all was done with them, and this line tells how it ended, with this status
+-- the command's inputs were accepted, all its work was done, and this line reports how it ended,
+-- with this status
 abbrev pub DoesFor : Command → List Entry → Site → Site → List ℕ → ℕ → Type 0
 DoesFor c h before after line status =
     (i : Inputs) × AreAccepted before.shelf c i × IsDone c i h before after × TellsEnd c i h line status
 
--- this is the first of its inputs that is refused
+-- this is the first of the command's inputs that is refused
 abbrev pub RefusesFor : Command → Shelved → Refused → Type 0
 RefusesFor c shelf r = (i : Inputs) × AreRefused shelf c i r
 
--- nothing was begun, or work on accepted inputs was cut short
+-- no work was begun, or work on accepted inputs was cut short
 abbrev pub LeavesFor : Command → List Entry → Site → Site → Type 0
 LeavesFor c h before after =
     IsUnbegun h before after ⊎ ((i : Inputs) × AreAccepted before.shelf c i × IsCutShort c i h before after)
 
--- Ends
+-- A call that ends
 
--- all was done that the words ask for, and this line tells how it ended, with this status
+-- all that the words ask for was done, and this line reports how it ended, with this status
 abbrev pub DoesAll : List Word → List Entry → Site → Site → List ℕ → ℕ → Type 0
 DoesAll words h before after line status = (c : Command) × Asks words c × DoesFor c h before after line status
 
--- all was done, with this status, and the line was printed
+-- all was done, with this status, and its line was printed
 abbrev pub EndsWell : List Word → ℕ → List Entry → Outside → Outside → Type 0
 EndsWell words status h before after =
     (line : List ℕ) × DoesAll words h before.site after.site line status × Takes line before.sink after.sink
 
 -- Refusals
 
--- this is the first input that the words name that is refused
+-- among the inputs that the words name, this is the first that is refused
 abbrev pub RefusesOne : List Word → Shelved → Refused → Type 0
 RefusesOne words shelf r = (c : Command) × Asks words c × RefusesFor c shelf r
 
--- the words ask for nothing, the line says so, and nothing was begun
+-- the words are those of no command, the line says so, and no work was begun
 pub record RefusesWords (words : List Word) (h : List Entry) (before after : Outside) : Type 0 where
   pub nothing : AsksNothing words
   pub told : Takes words_line before.sink after.sink
   pub unbegun : IsUnbegun h before.site after.site
 
--- an input is refused, the line says which, where and why, and nothing was begun
+-- an input is refused, the line says which one, where and why, and no work was begun
 pub record RefusesInput (words : List Word) (h : List Entry) (before after : Outside) : Type 0 where
   pub input : Refused
   pub refused : RefusesOne words before.site.shelf input
   pub told : Takes (refused_line input) before.sink after.sink
   pub unbegun : IsUnbegun h before.site after.site
 
--- What a call leaves that did not end
+-- What a call leaves if it does not end
 
--- nothing was begun, or work on what the words ask for was cut short
+-- no work was begun, or work on what the words ask for was cut short
 abbrev pub LeavesFront : List Word → List Entry → Site → Site → Type 0
 LeavesFront words h before after =
     IsUnbegun h before after ⊎ ((c : Command) × Asks words c × LeavesFor c h before after)
 
--- this line is due: none, that of refused words, that of a refused input, or that of what was done
+-- this line is due: none, or the line for refused words, for a refused input, or for the work that
+-- was done
 abbrev pub IsDue : List Word → List Entry → Site → Site → List ℕ → Type 0
 IsDue words h before after line =
     (line ≡ [])
@@ -74,24 +76,25 @@ IsDue words h before after line =
     ⊎ ((r : Refused) × RefusesOne words before.shelf r × (line ≡ refused_line r))
     ⊎ ((status : ℕ) × DoesAll words h before after line status)
 
--- a front part of the line that was due was printed, maybe none of it
+-- a front part of the due line was printed, possibly nothing of it
 abbrev pub PrintsFront : List Word → List Entry → Outside → Outside → Type 0
 PrintsFront words h before after =
     (line : List ℕ) × IsDue words h before.site after.site line × TakesFront line before.sink after.sink
 
--- only the line is missing: the words ask for nothing, an input is refused, or all was done
+-- only the line is missing: the words are those of no command, an input is refused, or all was
+-- done
 abbrev pub MissesLine : List Word → List Entry → Site → Site → Type 0
 MissesLine words h before after =
     AsksNothing words
     ⊎ ((r : Refused) × RefusesOne words before.shelf r)
     ⊎ ((line : List ℕ) × (status : ℕ) × DoesAll words h before after line status)
 
--- a name that no command that the words ask for writes keeps its bytes
+-- a name keeps its bytes unless the words ask for a command that writes it
 abbrev pub KeepsOthers : List Word → Shelved → Shelved → Type 0
 KeepsOthers words before after =
     IfKnown before
     ((name : Name) → ((c : Command) → Asks words c → IsNoneOf name (output_names c)) → after.bytes name ≡ before.bytes name)
 
--- the names that the words name to be read are there
+-- the files that the words name as inputs exist
 abbrev pub FindsInputs : List Word → Shelved → Type 0
 FindsInputs words shelf = (c : Command) → Asks words c → MissesOne (input_names c) shelf → ⊥

@@ -3,7 +3,8 @@ use Rattle.std.specs.Prelude.{ℕ, Bool, true, false, not, IsTrue, List, [], ◌
 use Rattle.vz_base.specs.declared.limits.TheConstants.{DEFAULT_BUFFERS}
 use Rattle.vz_rules.specs.Command.{Word, Command, Run, Step, Check, Gen, Demo, IsCommand, buffer_count}
 
--- the program has the command; the words of another are refused, and of one whose frames a thread of its own would write
+-- the program has the command; it refuses the words of the others, and of a run whose frames a
+-- writer thread would write
 abbrev pub is_built : Command → Bool
 is_built (Run paced buffers pipe w h ticks frames log files) = not pipe
 is_built (Step w h schedule frames log files) = true
@@ -12,11 +13,11 @@ is_built (Gen n first second third) = true
 is_built (Demo n) = true
 is_built _ = false
 
--- the words are those of a command that the program has
+-- the words ask for a command that the program has
 abbrev pub Asks : List Word → Command → Type 0
 Asks words c = IsCommand words c × IsTrue (is_built c)
 
--- the words are those of no such command
+-- the words ask for no command that the program has
 abbrev pub AsksNothing : List Word → Type 0
 AsksNothing words = (c : Command) → Asks words c → ⊥
 
@@ -27,26 +28,26 @@ client_names (Step w h schedule frames log files) = files
 client_names (Check w h frames log files) = files
 client_names _ = []
 
--- the name of the schedule, where there is one
+-- the name of the schedule, if the command has one
 abbrev pub schedule_names : Command → List Word
 schedule_names (Step w h schedule frames log files) = schedule ∷ []
 schedule_names _ = []
 
--- the name of the log that is judged, where one is
+-- the name of the log to judge, if there is one
 abbrev pub log_names : Command → List Word
 log_names (Check w h frames log files) = log ∷ []
 log_names _ = []
 
--- the name of the frames that are judged with it
+-- the name of the frames to judge with the log
 abbrev pub frame_names : Command → List Word
 frame_names (Check w h frames log files) = frames ∷ []
 frame_names _ = []
 
--- the names that are read
+-- the names of the files that the command reads
 abbrev pub input_names : Command → List Word
 input_names c = client_names c ++ (schedule_names c ++ (log_names c ++ frame_names c))
 
--- the names that are written
+-- the names of the files that the command writes
 abbrev pub output_names : Command → List Word
 output_names (Run paced buffers pipe w h ticks frames log files) = frames ∷ log ∷ []
 output_names (Step w h schedule frames log files) = frames ∷ log ∷ []

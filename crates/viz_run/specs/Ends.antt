@@ -25,39 +25,41 @@ use Rattle.viz_run.specs.Site.{Site}
 abbrev pub events_in : List Entry → List Event
 events_in h = map (λ (e : Entry). e.event) h
 
--- a legal history of these events
+-- h is a legal history of exactly these events
 pub record IsHistory (p : Plan) (events : List Event) (h : List Entry) : Type 0 where
   pub legal : Legal p h
   pub all : events_in h ≡ events
 
--- the history that a command asks for: of `run` a legal one in which the display makes its rounds, paced where that is asked, and
--- each client's messages are all taken in time; of the others the legal one of exactly their events
+-- the history that a command asks for: for `run`, a legal one in which the display makes its
+-- rounds, paced if that is asked, and all messages of each client are taken in time; for the other
+-- commands, the legal one of exactly their events
 abbrev pub IsAsked : Command → Inputs → List Entry → Type 0
 IsAsked (Run paced buffers pipe w h ticks frames log files) i history =
     IsRun (plan_read (record { w = pos w; h = pos h }) i.files) ticks paced history
 IsAsked c i history = IsHistory (plan_of c i) (events_for c i) history
 
--- what may come about of it: of `run` a legal history, of the others that of a front part of their events
+-- a part of such a history: for `run`, a legal history; for the others, a legal history of a front
+-- part of their events
 abbrev pub IsPart : Command → Inputs → List Entry → Type 0
 IsPart (Run paced buffers pipe w h ticks frames log files) i history =
     Legal (plan_read (record { w = pos w; h = pos h }) i.files) history
 IsPart c i history = (n : ℕ) × IsHistory (plan_of c i) (take n (events_for c i)) history
 
--- the text of a history, and of what is left behind it
+-- the text of a history and of what is outstanding after it
 abbrev pub log_of : Plan → List Entry → List ℕ
 log_of p h = log_text h (rest_of p h)
 
--- files under these names
+-- these files with these names
 abbrev pub named_files : List Word → List ClientFile → List Output
 named_files (name ∷ names) (file ∷ files) = record { name = name; bytes = file_bytes file } ∷ named_files names files
 named_files _ _ = []
 
--- the frames of a history with so many buffers, and its log, under these names
+-- the frames of a history with so many buffers, and its log, with these names
 abbrev pub frames_and_log : Word → Word → Plan → List Entry → ℕ → List Output
 frames_and_log frames log p history buffers =
     record { name = frames; bytes = frames_of p history buffers } ∷ record { name = log; bytes = log_of p history } ∷ []
 
--- what a command writes of a history of a plan
+-- what a command writes for a history of a plan
 abbrev pub outputs_of : Command → Plan → List Entry → List Output
 outputs_of (Run paced buffers pipe w h ticks frames log files) p history =
     frames_and_log frames log p history (buffers_of (Run paced buffers pipe w h ticks frames log files))
@@ -66,32 +68,34 @@ outputs_of (Step w h schedule frames log files) p history =
 outputs_of (Gen n first second third) p history = named_files (first ∷ second ∷ third ∷ []) (make n)
 outputs_of _ p history = []
 
--- this is to be said of a log and its frames
+-- this is the right verdict on a log and its frames
 abbrev pub IsSaid : Plan → List (List ℕ) → List (List ℕ) → Verdict → Type 0
 IsSaid p (log ∷ []) (frames ∷ []) verdict = IsVerdict p log frames verdict
 IsSaid p _ _ verdict = ⊥
 
--- this line tells how it ended, with this status: what is to be said, or that it was done
+-- this line and this status report how the command ended: with the verdict, or that it was done
 abbrev pub TellsEnd : Command → Inputs → List Entry → List ℕ → ℕ → Type 0
 TellsEnd (Check w h frames log files) i history line status =
     (verdict : Verdict) × IsSaid (plan_read (record { w = pos w; h = pos h }) i.files) i.logs i.frames verdict
     × (line ≡ verdict_line verdict) × (status ≡ verdict_status verdict)
 TellsEnd c i history line status = (line ≡ end_line c (plan_of c i) history) × (status ≡ 0)
 
--- all was done that the command is for: a history that it asks for came about, what it writes stands, each painted point was counted,
--- and where every client's damage covers what it changed, each written frame is the whole picture
+-- all the command's work is done: a history that it asks for happened, its outputs are written,
+-- each painted point is counted, and if every client's damage covers what it changed, each written
+-- frame is the whole picture
 pub record IsDone (c : Command) (i : Inputs) (h : List Entry) (before after : Site) : Type 0 where
   pub history : IsAsked c i h
   pub outputs : AreWhole (outputs_of c (plan_of c i) h) after.shelf
   pub counted : after.steps ≡ before.steps + painted (plan_of c i) h (buffers_of c)
   pub whole : Honest (plan_of c i) h → written (plan_of c i) h (buffers_of c) ≡ frames (plan_of c i) h
 
--- it was cut short: a part of such a history came about, and of what that very history writes a front part stands
+-- the work was cut short: a part of such a history happened, and the files have a front part of
+-- what that history writes
 pub record IsCutShort (c : Command) (i : Inputs) (h : List Entry) (before after : Site) : Type 0 where
   pub history : IsPart c i h
   pub outputs : AreBegun (outputs_of c (plan_of c i) h) before.shelf after.shelf
 
--- nothing was begun: the history is empty, the bytes of every name stay, and no step was counted
+-- no work was begun: the history is empty, every name keeps its bytes, and no step is counted
 pub record IsUnbegun (h : List Entry) (before after : Site) : Type 0 where
   pub history : h ≡ []
   pub files : SameFiles before.shelf after.shelf

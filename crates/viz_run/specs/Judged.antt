@@ -7,7 +7,7 @@ use Rattle.vz_rules.specs.Command.{Command, Check}
 use Rattle.viz_run.specs.Inputs.{first_some, logs_refused}
 use Rattle.vz_words.specs.declared.commands.CheckWords.{CheckWords}
 
--- the command
+-- the command `check` with these words
 abbrev pub command_of : CheckWords → Command
 command_of w = Check w.width w.height w.frames.now w.log.now (texts w.files.now)
 

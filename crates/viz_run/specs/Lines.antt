@@ -21,7 +21,7 @@ use Rattle.vz_display.specs.Displayed.{upto_most}
 abbrev pub drawn_count : List Entry → ℕ
 drawn_count h = count_by (λ e. is_drawn e.reply) h
 
--- the number of returns queued
+-- the number of returns that were queued
 abbrev pub return_count : List Entry → ℕ
 return_count h = sum_by (λ e. length e.effects.returned) h
 
@@ -36,15 +36,15 @@ demo_text entries frames returns painted =
     codes "entries" ++ then_number entries ++ codes " frames" ++ then_number frames
     ++ codes " returns" ++ then_number returns ++ codes " painted" ++ then_number painted ++ codes "\n"
 
--- the files by rule are written
+-- the line that says that the files by rule are written
 unfoldable pub made_line : List ℕ
 made_line = codes "made 3 files\n"
 
--- the words are those of no command
+-- the line for words of no command
 unfoldable pub words_line : List ℕ
 words_line = codes "words refused\n"
 
--- what is wrong with an input
+-- the name of what is wrong with an input
 unfoldable pub reason_text : Reason → List ℕ
 reason_text (reason.Rule rule.Magic) = codes "Magic"
 reason_text (reason.Rule rule.Version) = codes "Version"
@@ -56,12 +56,12 @@ reason_text (reason.Rule rule.Trailing) = codes "Trailing"
 reason_text reason.SinkTaken = codes "SinkTaken"
 reason_text reason.Long = codes "Long"
 
--- an input is refused
+-- the line for a refused input
 unfoldable pub refused_line : Refused → List ℕ
 refused_line r =
     codes "file" ++ then_number r.file ++ codes " refused at" ++ then_number r.at ++ codes ": " ++ reason_text r.reason ++ codes "\n"
 
--- what is wrong at a place of a log
+-- the name of what is wrong at an entry of a log
 unfoldable pub what_text : What → List ℕ
 what_text what.LogText = codes "LogText"
 what_text what.Reply = codes "Reply"
@@ -69,17 +69,17 @@ what_text what.Frame = codes "Frame"
 what_text what.Rest = codes "Rest"
 what_text what.Length = codes "Length"
 
--- what is said of a log and its frames
+-- the line for a verdict on a log and its frames
 unfoldable pub verdict_line : Verdict → List ℕ
 verdict_line verdict.Yes = codes "yes\n"
 verdict_line (verdict.No entry what) = codes "no" ++ then_number entry ++ codes " " ++ what_text what ++ codes "\n"
 
--- and the status
+-- the status for a verdict
 abbrev pub verdict_status : Verdict → ℕ
 verdict_status verdict.Yes = 0
 verdict_status (verdict.No entry what) = 1
 
--- the line of a command at its end, with the history of a plan
+-- the line of a command that ends with this history of a plan
 abbrev pub end_line : Command → Plan → List Entry → List ℕ
 end_line (Run paced buffers pipe w h ticks frames log files) p history = done_text (length history) (drawn_count history)
 end_line (Step w h schedule frames log files) p history = done_text (length history) (drawn_count history)

@@ -10,7 +10,7 @@ use Rattle.vz_rules.specs.declared.entry.Entry.{Entry}
 use Rattle.viz_run.specs.Ends.{outputs_of}
 use Rattle.vz_words.specs.declared.commands.RunWords.{RunWords}
 
--- the command
+-- the command `run` with these words
 abbrev pub command_of : RunWords → Command
 command_of w = Run w.paced w.buffers w.pipe w.width w.height w.ticks w.frames.now w.log.now (texts w.files.now)
 
@@ -18,7 +18,7 @@ command_of w = Run w.paced w.buffers w.pipe w.width w.height w.ticks w.frames.no
 abbrev pub size_of : RunWords → Size
 size_of w = record { w = pos w.width; h = pos w.height }
 
--- what is written of a history of a plan
+-- what the command writes for a history of a plan
 abbrev pub outputs_for : RunWords → Plan → List Entry → List Output
 outputs_for w p history = outputs_of (command_of w) p history
 

@@ -1,11 +1,11 @@
--- The outside of a call: its shelf, its counter of steps, and its sink.
+-- The devices of a call: its shelf, its counter of steps, and its sink.
 use Rattle.std.specs.Prelude.{◌≡◌, ◌≤◌, ◌⊎◌, ℕ, IsTrue}
 use Rattle.vz_outside.specs.Faults.{one_more}
 use Rattle.vz_outside.specs.Shelved.{Shelved, IsCall, StaysFaultless}
 use Rattle.vz_outside.specs.Sunk.{Sunk}
 use Rattle.vz_outside.specs.Sunk as sinks
 
--- what a command works on: the shelf, and how many steps were counted
+-- what a command works on: the shelf, and the number of counted steps
 pub record Site : Type 0 where
   pub shelf : Shelved
   pub steps : ℕ
@@ -14,12 +14,12 @@ pub record Site : Type 0 where
 abbrev pub site : Shelved → ℕ → Site
 site shelf steps = record { shelf = shelf; steps = steps }
 
--- the outside at a moment: what a command works on, and the sink that is printed on
+-- all devices at a moment: what a command works on, and the sink that it prints to
 pub record Outside : Type 0 where
   pub site : Site
   pub sink : Sunk
 
--- the outside of these three
+-- all devices, from these three
 abbrev pub outside : Shelved → Sunk → ℕ → Outside
 outside shelf sink steps = record { site = record { shelf = shelf; steps = steps }; sink = sink }
 
@@ -28,31 +28,32 @@ pub record CountsNoFault (before after : Outside) : Type 0 where
   pub shelf : after.site.shelf.faults ≡ before.site.shelf.faults
   pub sink : after.sink.faults ≡ before.sink.faults
 
--- a fault of the shelf was counted, and none of the sink
+-- the shelf counted one fault, and the sink none
 pub record CountsShelfFault (before after : Outside) : Type 0 where
   pub shelf : after.site.shelf.faults ≡ one_more before.site.shelf.faults
   pub sink : after.sink.faults ≡ before.sink.faults
 
--- a fault of the sink was counted, and none of the shelf
+-- the sink counted one fault, and the shelf none
 pub record CountsSinkFault (before after : Outside) : Type 0 where
   pub shelf : after.site.shelf.faults ≡ before.site.shelf.faults
   pub sink : after.sink.faults ≡ one_more before.sink.faults
 
--- one fault was counted, the shelf's or the sink's
+-- exactly one fault was counted, by the shelf or by the sink
 abbrev pub CountsOneFault : Outside → Outside → Type 0
 CountsOneFault before after = CountsShelfFault before after ⊎ CountsSinkFault before after
 
--- neither the shelf nor the sink fails, but for a name that is not there
+-- neither the shelf nor the sink fails, except that a name may not exist
 pub record IsFaultless (o : Outside) : Type 0 where
   pub shelf : IsTrue o.site.shelf.is_faultless
   pub sink : IsTrue o.sink.is_faultless
 
--- both are so still, and counted no fault
+-- shelf and sink are still faultless, and counted no fault
 pub record KeepsFaultless (before after : Outside) : Type 0 where
   pub shelf : StaysFaultless before.site.shelf after.site.shelf
   pub sink : sinks.StaysFaultless before.sink after.sink
 
--- what every call keeps of the shelf and the sink: what was open stays open, what is known stays known, and no count falls
+-- what every call keeps of the shelf and the sink: open slots stay open, known bytes stay known,
+-- and no count decreases
 pub record IsCalled (before after : Outside) : Type 0 where
   pub shelf : IsCall before.site.shelf after.site.shelf
   pub known : after.sink.is_known ≡ before.sink.is_known

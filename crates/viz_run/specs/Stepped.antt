@@ -1,4 +1,4 @@
--- What the words of `step` ask for, and what is made of its inputs.
+-- What the words of `step` ask for, and what comes of its inputs.
 use Rattle.std.specs.Prelude.{◌≡◌, ℕ, pos, Some, None, Option, List}
 use Rattle.vz_geom.specs.declared.Size.{Size}
 use Rattle.vz_inputs.specs.Read.{texts}
@@ -14,7 +14,7 @@ use Rattle.viz_run.specs.Ends.{outputs_of}
 use Rattle.viz_run.specs.Inputs.{Inputs, plan_of, events_for}
 use Rattle.vz_words.specs.declared.commands.StepWords.{StepWords}
 
--- the command
+-- the command `step` with these words
 abbrev pub command_of : StepWords → Command
 command_of w = Step w.width w.height w.schedule.now w.frames.now w.log.now (texts w.files.now)
 
@@ -27,10 +27,10 @@ abbrev pub refused_of : Size → List (List ℕ) → List ℕ → Option Refused
 refused_of size files schedule =
     elim (file_refused files) [ Some r ↦ Some r | None ↦ schedule_refused (plan_read size files) schedule ]
 
--- this is the plan and these are the events of a command's inputs
+-- the inputs of the command give this plan and these events
 abbrev pub Makes : Command → Inputs → Plan → List Event → Type 0
 Makes c i p events = (p ≡ plan_of c i) × (events ≡ events_for c i)
 
--- what is written of a history of a plan
+-- what the command writes for a history of a plan
 abbrev pub outputs_for : StepWords → Plan → List Entry → List Output
 outputs_for w p history = outputs_of (command_of w) p history

@@ -10,31 +10,31 @@ use Rattle.viz_run.specs.Lines.{words_line, refused_line}
 use Rattle.viz_run.specs.declared.stop.Stop.{Stop}
 use Rattle.viz_run.specs.declared.stop.Stop.TheVariants as stop
 
--- what an error of a shelf or a sink stops a call for
+-- why a call stops if a shelf or a sink reports this error
 abbrev pub stop_of : ShelfError → Stop
 stop_of shelf_error.Failed = stop.Fault
 stop_of shelf_error.Memory = stop.Memory
 
--- what an error of the inputs stops a call for
+-- why a call stops if the inputs report this error
 abbrev pub stop_for : InputError → Stop
 stop_for (input_error.Refused r) = stop.Input r
 stop_for input_error.Memory = stop.Memory
 
--- a call is stopped for its words or an input
+-- the call stops because of its words or of an input
 abbrev pub IsRefusal : Stop → Type 0
 IsRefusal stop.Words = Unit {0}
 IsRefusal (stop.Input r) = Unit {0}
 IsRefusal _ = ⊥
 
--- the line that is due where a call stops: none after a fault, nor for want of memory
+-- the line that is due if a call stops: none after a fault or for want of memory
 abbrev pub due_line : Stop → List ℕ
 due_line stop.Words = words_line
 due_line (stop.Input r) = refused_line r
 due_line stop.Fault = []
 due_line stop.Memory = []
 
--- what holds of the shelf after a call that may have stopped: one fault was counted where it stopped for one, and none
--- where it did not; a faultless shelf stops a call for one reason alone
+-- the shelf after a call that may have stopped: it counted one fault if the call stopped because
+-- of a fault, and none otherwise; a faultless shelf gives a fault for this reason alone
 pub record Behaves {T : Type 0} (reason : Type 0) (old new : Shelved) (result : Result T Stop) : Type 0 where
   pub call : IsCall old new
   pub fault : IsErrOf result stop.Fault → new.faults ≡ one_more old.faults

@@ -18,10 +18,10 @@ pub record IsCanvas (c : Canvas) : Type 0 where
   pub sides : IsDisplaySize c.size
   pub all : length c.pixels ≡ pixel_count c.size
 
--- where the pixel of a column and a row stands
+-- the index of the pixel in this column and row
 abbrev pub pixel_place : Size → ℤ → ℤ → ℕ
 pixel_place size x y = nat_abs y * nat_abs size.w + nat_abs x
 
--- the pixels with a span of them replaced, from a place on
+-- the pixels with those from a place on replaced by a span
 unfoldable pub span_put : List Colour → ℕ → List Colour → List Colour
 span_put pixels place span = take place pixels ++ span ++ drop (place + length span) pixels

@@ -1,4 +1,4 @@
--- What a rule and an error read as.
+-- The texts of rules and errors.
 use Rattle.std.specs.Prelude.{ℕ, List, codes, ◌++◌}
 use Rattle.std.specs.Fmt.{decimal}
 use Rattle.vz_codec.specs.declared.fault.FileRule.{FileRule}
@@ -6,7 +6,7 @@ use Rattle.vz_codec.specs.declared.fault.FileRule.TheVariants.{Magic, Version, S
 use Rattle.vz_codec.specs.declared.fault.DecodeError.{DecodeError}
 use Rattle.vz_codec.specs.declared.fault.DecodeError.TheVariants.{Refused, Memory}
 
--- the text of a rule, in UTF-8: what is wrong where it is broken
+-- the text of a rule, in UTF-8: what is wrong if it is broken
 abbrev pub rule_text : FileRule → List ℕ
 rule_text Magic = codes "no message file begins so"
 rule_text Version = codes "the version is unknown"
@@ -16,7 +16,7 @@ rule_text Limit = codes "a number is out of its range"
 rule_text Colour = codes "a channel exceeds its alpha"
 rule_text Trailing = codes "bytes are left over"
 
--- the text of an error, in UTF-8: the place and the rule, or that memory is wanting
+-- the text of an error, in UTF-8: the place and the rule, or that memory ran out
 abbrev pub error_text : DecodeError → List ℕ
 error_text (Refused at rule) = codes "byte " ++ (decimal at ++ (codes ": " ++ rule_text rule))
 error_text Memory = codes "memory ran out"

@@ -1,4 +1,4 @@
--- What is told of a surface where each accepted submission is.
+-- What the damage part knows of a surface, compared with the accepted submissions.
 use Rattle.std.specs.Prelude.{◌≡◌, Some, List, map, filter}
 use Rattle.std.specs.List.{Contains}
 use Rattle.vz_ids.specs.declared.SurfaceId.{SurfaceId}
@@ -6,7 +6,7 @@ use Rattle.vz_rules.specs.Damage.{root_damage, index_in}
 use Rattle.vz_rules.specs.World.{World, Scene, Submission, Aggregation, FrameData, is_on, active_frames}
 use Rattle.vz_damage.specs.Told.{Told, told_on}
 
--- what is told of the surface of a frame, which is active, behind an aggregation
+-- what is known of the surface of an active frame, compared with an aggregation
 abbrev pub told_of : World → Aggregation → FrameData → Told
 told_of w a i = record {
   damages = map (λ (s : Submission). root_damage s.submitted.frame) (filter (is_on i.id) w.subs);
@@ -14,14 +14,14 @@ told_of w a i = record {
   seen = index_in a i;
 }
 
--- each surface with an active frame has what is told of it behind an aggregation
+-- the damage part knows each surface with an active frame, compared with an aggregation
 abbrev pub TellsActive : World → Aggregation → List (SurfaceId × Told) → Type 0
 TellsActive w a told = (i : FrameData) → Contains (active_frames w.subs) i → told_on told i.id ≡ Some (told_of w a i)
 
--- behind the last one, if there was one
+-- the same, compared with the last aggregation, if there was one
 abbrev pub TellsLast : World → List (SurfaceId × Told) → Type 0
 TellsLast w told = (a : Aggregation) → w.last ≡ Some a → TellsActive w a told
 
--- what can be seen of a world from a root
+-- what can be seen of a world from this root
 abbrev pub scene_from : SurfaceId → World → Scene
 scene_from root w = record { root = root; active = active_frames w.subs }

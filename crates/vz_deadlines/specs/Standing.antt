@@ -1,4 +1,4 @@
--- Slots in which submissions stand, in the order in which they were set.
+-- Slots for waiting submissions, in the order in which their deadlines were set.
 use Rattle.std.specs.Prelude.{◌≡◌, ℕ, zero, suc, ◌+◌, ◌/◌, ◌≤◌, Bool, true, not, ◌&&◌, ◌==◌, nat_le, Option, Some, None, ⊤, List, [], ◌∷◌, length, map, take, drop, slice_get, IsTrue, IsSome, if◌then◌else◌}
 use Rattle.std.specs.List.{list_all}
 use Rattle.vz_ids.specs.declared.Sub.{Sub}
@@ -7,55 +7,57 @@ use Rattle.vz_deadlines.specs.declared.due.Due.{Due}
 use Rattle.vz_deadlines.specs.declared.slots.Slot.{Slot}
 use Rattle.vz_deadlines.specs.Timing.{waits}
 
--- those that stand in slots
+-- the submissions in the slots
 unfoldable pub standing : List (Option Due) → List Due
 standing [] = []
 standing (slot ∷ slots) = elim slot [ Some d ↦ d ∷ standing slots | None ↦ standing slots ]
 
--- what stands in slots
+-- the submission in each slot, if it has one
 abbrev pub held_in : List Slot → List (Option Due)
 held_in slots = map (λ s. s.due) slots
 
--- the submission that stands in a slot is this one
+-- the slot has this submission
 abbrev pub stands_at : List (Option Due) → ℕ → Sub → Bool
 stands_at slots place s = elim (slice_get slots place) [ Some slot ↦ elim slot [ Some d ↦ same_sub d.sub s | None ↦ not true ] | None ↦ not true ]
 
--- a slot is free once its tick has come
+-- a slot becomes free once its tick has come
 abbrev pub left_in : ℕ → Option Due → Option Due
 left_in tick slot = elim slot [ Some d ↦ if nat_le d.tick tick then None else Some d | None ↦ None ]
 
 abbrev pub slot_at : ℕ → Slot → Slot
 slot_at tick s = record s { due = left_in tick s.due }
 
--- none that stands in slots is due before a tick
+-- no submission in the slots is due before a tick
 unfoldable pub are_from : ℕ → List (Option Due) → Bool
 are_from tick slots = list_all (λ d. nat_le tick d.tick) (standing slots)
 
--- the first slot knows a tick before which none is due, and so on in each half of the others, on so many levels
+-- the first slot has a tick before which none of the slots is due, and the same holds in each half
+-- of the other slots, on so many levels
 unfoldable pub AreBounded : ℕ → List Slot → Type 0
 AreBounded zero slots = ⊤
 AreBounded (suc levels) [] = ⊤
 AreBounded (suc levels) (s ∷ slots) =
     IsTrue (are_from s.soonest (held_in (s ∷ slots))) × AreBounded levels (take (length slots / 2) slots) × AreBounded levels (drop (length slots / 2) slots)
 
--- no slot knows anything of those that it leads
+-- no slot has a bound for the slots below it
 unfoldable pub are_unbounded : List Slot → Bool
 are_unbounded slots = list_all (λ s. s.soonest == 0) slots
 
--- no submission stands twice
+-- no submission is in two slots
 unfoldable pub are_distinct : List Due → Bool
 are_distinct [] = true
 are_distinct (d ∷ list) = not (waits list d.sub) && are_distinct list
 
--- a map finds the slot of each submission that stands in one
+-- the map gives the slot of each submission that is in one
 abbrev pub AreFound : (Sub → Option ℕ) → List (Option Due) → Type 0
 AreFound place_of slots = (place : ℕ) (d : Due) → slice_get slots place ≡ Some (Some d) → place_of d.sub ≡ Some place
 
--- it tells some slot for each of them
+-- the map gives some slot for each such submission
 abbrev pub AreTold : (Sub → Option ℕ) → List (Option Due) → Type 0
 AreTold place_of slots = (place : ℕ) (d : Due) → slice_get slots place ≡ Some (Some d) → IsSome (place_of d.sub)
 
--- what holds of the slots, of how many were used and stand, and of the map with its spare places
+-- what always holds of the slots, of the number used and the number that are taken, and of the map
+-- with its spare places
 pub record AreKept (slots : List (Option Due)) (used count : ℕ) (place_of : Sub → Option ℕ) (spare : ℕ) : Type 0 where
   pub found : AreFound place_of slots
   pub distinct : IsTrue (are_distinct (standing slots))

@@ -6,7 +6,7 @@ use Rattle.vz_ids.specs.Ids.{same_sub}
 use Rattle.vz_rules.specs.World.{World, Submission, is_waiting, sub_of}
 use Rattle.vz_deadlines.specs.declared.due.Due.{Due}
 
--- those that wait, in the order in which they were set, with the room made before
+-- the waiting submissions, in the order in which their deadlines were set, with reserved room
 pub record Timed : Type 0 where
   pub list : List Due
   pub spare : ℕ
@@ -15,7 +15,7 @@ pub record Timed : Type 0 where
 unfoldable pub waits : List Due → Sub → Bool
 waits list s = list_any (λ d. same_sub d.sub s) list
 
--- all but a submission
+-- all except this submission
 unfoldable pub without : Sub → List Due → List Due
 without s list = filter (λ d. not (same_sub d.sub s)) list
 
@@ -23,7 +23,7 @@ without s list = filter (λ d. not (same_sub d.sub s)) list
 unfoldable pub due_at : ℕ → List Due → List Sub
 due_at tick list = map (λ d. d.sub) (filter (λ d. nat_le d.tick tick) list)
 
--- those whose tick has not come
+-- the submissions whose tick has not come
 unfoldable pub left_at : ℕ → List Due → List Due
 left_at tick list = filter (λ d. not (nat_le d.tick tick)) list
 
@@ -31,6 +31,6 @@ left_at tick list = filter (λ d. not (nat_le d.tick tick)) list
 abbrev pub due_of : Submission → Due
 due_of s = record { sub = sub_of s; tick = s.due }
 
--- the submissions of a state that wait, with their deadlines
+-- the waiting submissions of a state, with their deadlines
 unfoldable pub waiting_in : World → List Due
 waiting_in w = map due_of (filter is_waiting w.subs)

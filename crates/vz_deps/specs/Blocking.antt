@@ -9,14 +9,14 @@ use Rattle.vz_deps.specs.Tracking.{Blocked}
 abbrev pub dependencies_of : Submission → List SurfaceId
 dependencies_of s = s.submitted.frame.metadata.dependencies
 
--- a submission waits and not all its dependencies are met
+-- the submission waits, and some dependency of it is not met
 abbrev pub lacks_in : (SurfaceId → Bool) → Submission → Bool
 lacks_in met s = is_waiting s && not (list_all met (dependencies_of s))
 
--- a submission with what it lacks
+-- a submission with its unmet dependencies
 abbrev pub blocked_of : (SurfaceId → Bool) → Submission → Blocked
 blocked_of met s = record { sub = sub_of s; unmet = filter (λ d. not (met d)) (dependencies_of s) }
 
--- the submissions that are blocked where these dependencies are met
+-- the submissions that are blocked if exactly these dependencies are met
 unfoldable pub blocked_by : (SurfaceId → Bool) → List Submission → List Blocked
 blocked_by met subs = map (blocked_of met) (filter (lacks_in met) subs)

@@ -1,4 +1,4 @@
--- What the answers of a desk say.
+-- What the answers of a desk mean for the end that called.
 use Rattle.std.specs.Prelude.{◌≡◌, Bool, true, false, Option, Some, None, List, [], ◌∷◌, ◌++◌, IsTrue, IsFalse}
 use Rattle.vz_rules.specs.Plan.{Plan}
 use Rattle.vz_rules.specs.declared.entry.Event.TheVariants as event
@@ -18,7 +18,7 @@ use Rattle.vz_desk.specs.declared.totals.Totals.{Totals}
 use Rattle.vz_desk.specs.Totals.{noted, with_note}
 use Rattle.vz_desk.specs.Owners.{Owner, HasSeen, Makes, MakesNone}
 
--- a client's call made the entry that is noted
+-- a client's call made one entry, and the note describes it
 pub record Told (old new : Owner Totals) (told : Note) : Type 0 where
   pub plan : Plan
   pub before : List Entry
@@ -27,34 +27,37 @@ pub record Told (old new : Owner Totals) (told : Note) : Type 0 where
   pub note : told ≡ noted plan before old.number made
   pub totals : new.totals ≡ with_note old.totals (is_in_time made.reply) told
 
--- it is that the client's message comes too early
+-- the reply says that the client's message comes too early
 abbrev pub is_early : Reply → Bool
 is_early (reply.Refused NotYet) = true
 is_early _ = false
 
--- what the answer to a client says of its end: one entry was made and is told, or none
+-- what the answer means for a client's end: it made one entry, which the note describes, or it
+-- made none
 abbrev pub Answered : {S : Type 0} → Owner Totals → Owner Totals → Answer S → Type 0
 Answered old new (Did note) = Told old new note
 Answered old new (Stopped why) = MakesNone old new
 
--- where a call made an entry, its message did not come too early
+-- if the call made an entry, the message did not come too early
 abbrev pub Waited : {S : Type 0} → Owner Totals → Answer S → Type 0
 Waited new (Did note) = (h : List Entry) (e : Entry) → new.seen ≡ numbered (h ++ e ∷ []) → IsFalse (is_early e.reply)
 Waited new (Stopped why) = Unit {0}
 
--- what a client's try says of its end: it is answered, or its message would come too early and no entry was made
+-- what a client's try means for its end: it was answered, or its message would come too early and
+-- no entry was made
 abbrev pub Tried : {S : Type 0} → Owner Totals → Owner Totals → Option (Answer S) → Type 0
 Tried old new (Some a) = Answered old new a
 Tried old new None = MakesNone old new
 
--- a pause ended where each attached client is idle or has answered the tick, in the world behind what is seen
+-- a pause ended when each attached client was idle or had answered the tick, in the world after
+-- what the owner has seen
 pub record IsPaused {T : Type 0} (new : Owner T) : Type 0 where
   pub plan : Plan
   pub history : List Entry
   pub sees : HasSeen new plan history
   pub calm : IsTrue (is_calm plan (world plan history))
 
--- the answer tells whether the owner's client is idle, in the world behind what is seen
+-- the answer says whether the owner's client is idle, in the world after what the owner has seen
 pub record TellsIdle (new : Owner Totals) (answer : Bool) : Type 0 where
   pub plan : Plan
   pub history : List Entry

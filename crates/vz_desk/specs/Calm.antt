@@ -1,4 +1,4 @@
--- For whom a pause waits.
+-- The clients that a pause waits for.
 use Rattle.std.specs.Prelude.{ℕ, Bool, not, ◌&&◌}
 use Rattle.vz_rules.specs.World.{Machine}
 use Rattle.vz_machine.specs.Stepping.{attached_at, idle_at, answered_at}

@@ -1,4 +1,4 @@
--- What the display's calls say of its end.
+-- What the display's calls mean for its end.
 use Rattle.std.specs.Prelude.{◌≡◌, ◌+◌, List, if◌then◌else◌}
 use Rattle.vz_rules.specs.Plan.{Plan}
 use Rattle.vz_rules.specs.declared.entry.Event.{Event}
@@ -12,14 +12,15 @@ use Rattle.vz_desk.specs.Flights.{flies_by}
 use Rattle.vz_desk.specs.Totals.{DisplayTotals, AreDisplayTotals, draws_frame, is_done, noted_plainly}
 use Rattle.vz_desk.specs.Owners.{Owner, HasSeen, Makes, MakesNone}
 
--- what the display has seen is a legal history of its plan, and its totals are those of its entries in it
+-- what the display has seen is a legal history of its plan, and its totals are those of its
+-- entries there
 pub record DisplayStands (o : Owner DisplayTotals) : Type 0 where
   pub plan : Plan
   pub history : List Entry
   pub sees : HasSeen o plan history
   pub counted : AreDisplayTotals history o.totals
 
--- the totals with an entry more
+-- the totals after one more entry
 abbrev pub with_entry : DisplayTotals → Entry → DisplayTotals
 with_entry t e = record {
   begins = if is_begin e then t.begins + 1 else t.begins;
@@ -29,7 +30,7 @@ with_entry t e = record {
   in_flight = flies_by t.in_flight e.event e.reply;
 }
 
--- the display made one entry, of this event, and its totals have it
+-- the display made one entry, for this event, and its totals include it
 pub record Displays (old new : Owner DisplayTotals) (e : Event) : Type 0 where
   pub plan : Plan
   pub before : List Entry
@@ -37,16 +38,17 @@ pub record Displays (old new : Owner DisplayTotals) (e : Event) : Type 0 where
   pub makes : Makes old new e plan before made
   pub totals : new.totals ≡ with_entry old.totals made
 
--- the entry was made and is noted, or none was made, where the desk was stopped
+-- the call made an entry, which the note describes, or it made none because the desk was stopped
 abbrev pub AnsweredPlainly : {S : Type 0} → Event → Owner DisplayTotals → Owner DisplayTotals → Answer S → Type 0
 AnsweredPlainly e old new (Did note) = (d : Displays old new e) × (note ≡ noted_plainly d.before)
 AnsweredPlainly e old new (Stopped why) = MakesNone old new
 
--- the entry of Done was made and is noted, where no frame was in flight; or none was made
+-- Done made an entry, which the note describes, with no frame in flight; or it made none because
+-- the desk was stopped
 abbrev pub AnsweredDone : {S : Type 0} → Owner DisplayTotals → Owner DisplayTotals → Answer S → Type 0
 AnsweredDone old new (Did note) = (d : Displays old new event.Done) × (note ≡ noted_plainly d.before) × (d.made.reply ≡ reply.Nothing)
 AnsweredDone old new (Stopped why) = MakesNone old new
 
--- the drawn frame was ended by one entry
+-- one entry ended the drawn frame
 abbrev pub EndsFrame : Owner DisplayTotals → Owner DisplayTotals → Type 0
 EndsFrame old new = (d : Displays old new event.Done) × (d.made.reply ≡ reply.Shown)

@@ -12,7 +12,8 @@ use Rattle.vz_desk.specs.Books.{numbered}
 use Rattle.vz_desk.specs.declared.totals.Totals.{Totals}
 use Rattle.vz_desk.specs.Totals.{no_totals, AreTotals, DisplayTotals, AreDisplayTotals}
 
--- the end of a caller: its desk, the plan, its number, the history up to its last turn, and what it counts
+-- the end of a caller: its desk, the plan, its number, the history up to its last turn, and its
+-- totals
 pub record Owner (T : Type 0) : Type 0 where
   pub desk : TableId
   pub plan : Option Plan
@@ -33,7 +34,7 @@ pub record HasSeen {T : Type 0} (o : Owner T) (plan : Plan) (h : List Entry) : T
   pub seen : o.seen ≡ numbered h
   pub legal : Legal plan h
 
--- an end of a client: its token is at rest, and its totals are those of its entries
+-- a client's end: its token is not in a turn, and its totals are those of its entries
 pub record IsEnd (t : Caller Plan Entry) (totals : Totals) : Type 0 where
   pub rests : t.inside ≡ false
   pub plan : Plan
@@ -42,7 +43,8 @@ pub record IsEnd (t : Caller Plan Entry) (totals : Totals) : Type 0 where
   pub client : (0 < t.number) × (t.number ≤ length plan.files)
   pub counted : AreTotals plan history t.number totals
 
--- what an end of a client stands for: a legal history of its plan, which has that client, and the totals of the client's entries in it
+-- what a client's end represents: a legal history of its plan, which has that client, and the
+-- totals of the client's entries there
 pub record Stands (o : Owner Totals) : Type 0 where
   pub plan : Plan
   pub history : List Entry
@@ -50,7 +52,8 @@ pub record Stands (o : Owner Totals) : Type 0 where
   pub client : (0 < o.number) × (o.number ≤ length plan.files)
   pub counted : AreTotals plan history o.number o.totals
 
--- the display's end: its token has the number 0 and is at rest, and its totals are those of the display's entries
+-- the display's end: its token has the number 0 and is not in a turn, and its totals are those of
+-- the display's entries
 pub record IsDisplayEnd (t : Caller Plan Entry) (totals : DisplayTotals) : Type 0 where
   pub rests : t.inside ≡ false
   pub display : t.number ≡ 0
@@ -63,31 +66,32 @@ pub record IsDisplayEnd (t : Caller Plan Entry) (totals : DisplayTotals) : Type 
 abbrev pub fresh : {T : Type 0} → TableId → Plan → T → ℕ → Owner T
 fresh id plan totals number = record { desk = id; plan = Some plan; number = number; seen = []; totals = totals }
 
--- a token at rest, of a plan, before any entry
+-- a token of a plan that is not in a turn and has seen no entry
 pub record IsPlanned (t : Caller Plan Entry) : Type 0 where
   pub plan : Plan
   pub planned : t.plan ≡ Some plan
   pub seen : t.seen ≡ []
   pub rests : t.inside ≡ false
 
--- so it is one of a client
+-- the same, for a client's token
 pub record IsUnused (t : Caller Plan Entry) : Type 0 where
   pub begins : IsPlanned t
   pub client : (0 < t.number) × (t.number ≤ length begins.plan.files)
 
--- so many ends of clients before their first calls, with the numbers from k on
+-- the ends of so many clients before their first calls, numbered from k
 abbrev pub fresh_from : TableId → Plan → ℕ → ℕ → List (Owner Totals)
 fresh_from id plan k zero = []
 fresh_from id plan k (suc count) = fresh id plan no_totals k ∷ fresh_from id plan (k + 1) count
 
--- it is the same caller's end of the same desk, which has seen no less
+-- the end belongs to the same caller of the same desk, and it has seen at least as much
 pub record IsSameOwner {T : Type 0} (old new : Owner T) : Type 0 where
   pub desk : new.desk ≡ old.desk
   pub plan : new.plan ≡ old.plan
   pub number : new.number ≡ old.number
   pub later : IsPrefix old.seen new.seen
 
--- a call made one entry, of this event: it is the last of what is seen now, and its place is added to the owner's
+-- a call made one entry, for this event: it is the last entry that the owner has seen, and its
+-- place is now among the owner's
 pub record Makes {T : Type 0} (old new : Owner T) (e : Event) (plan : Plan) (before : List Entry) (made : Entry) : Type 0 where
   pub planned : new.plan ≡ Some plan
   pub legal : Legal plan before
@@ -96,7 +100,7 @@ pub record Makes {T : Type 0} (old new : Owner T) (e : Event) (plan : Plan) (bef
   pub seen : new.seen ≡ numbered (before ++ made ∷ [])
   pub mine : mine_of new ≡ mine_of old ++ (length before + 1) ∷ []
 
--- a call made no entry: the owner's places and totals stay
+-- a call made no entry: the owner's places and totals do not change
 pub record MakesNone {T : Type 0} (old new : Owner T) : Type 0 where
   pub mine : mine_of new ≡ mine_of old
   pub totals : new.totals ≡ old.totals

@@ -18,7 +18,7 @@ use Rattle.vz_desk.specs.Flights.{flies_behind}
 abbrev pub refuses : Entry → Bool
 refuses e = elim e.reply [ reply.Refused why ↦ true | _ ↦ false ]
 
--- the frame that is done was shown
+-- the drawn frame was shown when it was done
 abbrev pub shows : Entry → Bool
 shows e = elim e.reply [ reply.Shown ↦ true | _ ↦ false ]
 
@@ -26,28 +26,30 @@ shows e = elim e.reply [ reply.Shown ↦ true | _ ↦ false ]
 abbrev pub is_done : Entry → Bool
 is_done e = elim e.event [ event.Done ↦ true | _ ↦ false ]
 
--- how many references an entry hands back to its client
+-- how many references an entry returns to its client
 abbrev pub handed_back : Entry → ℕ
 handed_back e = elim e.reply [ reply.Reclaimed returns ↦ sum_by (λ r. r.count) returns | _ ↦ 0 ]
 
--- how many resources the message lists that a client takes behind a history
+-- how many resources the message lists that a client takes after a history
 abbrev pub listed_behind : Plan → List Entry → ℕ → ℕ
 listed_behind p h c = listed_in (message_at p c (length (takes h c)))
 
--- how many references an entry of a client lends, behind a history: one for each resource of the frame that it accepts
+-- how many references a client's entry lends after a history: one for each resource of the frame
+-- that it accepts
 abbrev pub lent_by : Plan → List Entry → ℕ → Entry → ℕ
 lent_by p h c e = if accepts e then listed_behind p h c else 0
 
--- those that the client's entries among these lent, behind a history
+-- how many references the client's entries among these lend, after a history
 abbrev pub lent_from : Plan → List Entry → ℕ → List Entry → ℕ
 lent_from p h c [] = 0
 lent_from p h c (e ∷ es) = (if is_of c e then lent_by p h c e else 0) + lent_from p (h ++ e ∷ []) c es
 
--- a count of 64 bits, which stands still at its end
+-- a count of 64 bits, which stays at its greatest value
 abbrev pub upto_most : ℕ → ℕ
 upto_most n = min n (2 ^ 64 - 1)
 
--- the totals of a client are those of its entries; counts of references stand still at their end
+-- the totals of a client are those of its entries; counts of references stay at their greatest
+-- value
 pub record AreTotals (p : Plan) (h : List Entry) (c : ℕ) (t : Totals) : Type 0 where
   pub calls : t.calls ≡ length (mine h c)
   pub taken : t.taken ≡ length (takes h c)
@@ -56,11 +58,12 @@ pub record AreTotals (p : Plan) (h : List Entry) (c : ℕ) (t : Totals) : Type 0
   pub lent : t.lent ≡ upto_most (lent_from p [] c h)
   pub back : t.back ≡ upto_most (sum_by handed_back (mine h c))
 
--- a client's end before its first call
+-- the totals before the first call
 abbrev pub no_totals : Totals
 no_totals = record { calls = 0; taken = 0; accepted = 0; refused = 0; lent = 0; back = 0 }
 
--- what the display's end counts: begin-frames, drawings, those that drew, and frames done; and whether a frame is in flight
+-- the totals of the display's end: begin-frames, drawings, drawings that drew, and frames done;
+-- and whether a frame is in flight
 pub record DisplayTotals : Type 0 where
   pub begins : ℕ
   pub draws : ℕ
@@ -68,15 +71,16 @@ pub record DisplayTotals : Type 0 where
   pub dones : ℕ
   pub in_flight : Bool
 
--- the display's end before its first call
+-- the display's totals before its first call
 abbrev pub no_display_totals : DisplayTotals
 no_display_totals = record { begins = 0; draws = 0; drawn = 0; dones = 0; in_flight = false }
 
--- a drawing that drew
+-- the entry is a drawing that drew
 abbrev pub draws_frame : Entry → Bool
 draws_frame e = is_draw e && is_drawn e.reply
 
--- the totals of the display are those of its entries, which alone tell whether a frame is in flight
+-- the totals of the display are those of its entries, which alone determine whether a frame is in
+-- flight
 pub record AreDisplayTotals (h : List Entry) (t : DisplayTotals) : Type 0 where
   pub begins : t.begins ≡ count_by is_begin (displayed h)
   pub draws : t.draws ≡ count_by is_draw (displayed h)
@@ -84,7 +88,7 @@ pub record AreDisplayTotals (h : List Entry) (t : DisplayTotals) : Type 0 where
   pub dones : t.dones ≡ count_by is_done (displayed h)
   pub in_flight : t.in_flight ≡ flies_behind false (displayed h)
 
--- what is noted of an entry at a place, whose client's message lists so many resources
+-- the note for an entry at a place, if its message lists so many resources
 abbrev pub noted_with : Entry → ℕ → ℕ → Note
 noted_with e listed place = record {
   place = place;
@@ -94,21 +98,22 @@ noted_with e listed place = record {
   back = upto_most (handed_back e);
 }
 
--- what is noted of an entry of a client, behind a history
+-- the note for an entry of a client, after a history
 abbrev pub noted : Plan → List Entry → ℕ → Entry → Note
 noted p h c e = noted_with e (listed_behind p h c) (length h + 1)
 
--- a note, and whether a message was taken, are told of a client's next entry, whose place is a number of 64 bits
+-- the note describes a client's next entry, and says whether its message was taken; the entry's
+-- place is a number of 64 bits
 pub record TellsNext {S : Type 0} (b : Booked S) (c : ℕ) (told : Note) (timely : Bool) : Type 0 where
   pub note : told ≡ noted b.plan b.history c (next_entry b (event.Client c))
   pub in_time : timely ≡ is_in_time (next_entry b (event.Client c)).reply
   pub few : length b.history + 1 < 2 ^ 64
 
--- what is noted of an entry of the display
+-- the note for an entry of the display
 abbrev pub noted_plainly : List Entry → Note
 noted_plainly h = record { place = length h + 1; accepted = false; refused = false; lent = 0; back = 0 }
 
--- the totals with an entry more
+-- the totals after one more entry
 abbrev pub with_note : Totals → Bool → Note → Totals
 with_note t in_time n = record {
   calls = t.calls + 1;
@@ -119,7 +124,7 @@ with_note t in_time n = record {
   back = upto_most (t.back + n.back);
 }
 
--- no count is at its end
+-- no count is at its greatest value
 pub record AreFew (t : Totals) : Type 0 where
   pub calls : t.calls < 2 ^ 64 - 1
   pub taken : t.taken ≤ t.calls

@@ -1,4 +1,4 @@
--- A display: its buffers in turn, and what they have.
+-- A display: its buffers in turn, and their pixels.
 use Rattle.std.specs.Prelude.{◌≡◌, ℕ, ◌+◌, ◌-◌, ◌*◌, ◌^◌, ◌≤◌, ℤ, nat_abs, min, Option, Some, None, unwrap_or, List, [], ◌∷◌, ◌++◌, length, map, take, drop}
 use Rattle.std.specs.Prelude.{slice_get, replicate, reverse}
 use Rattle.vz_base.specs.declared.limits.TheConstants.{MOST_BUFFERS}
@@ -13,13 +13,14 @@ use Rattle.vz_rules.specs.declared.entry.Entry.{Entry}
 use Rattle.vz_rules.specs.Frames.{DrawnFrame, drawn_frames, patched, written_of, written, painted_of}
 use Rattle.vz_machine.specs.Pictured.{Pictured, colours_in}
 
--- the buffers in turn, what each has, from the one that was painted last to the next one, and the steps so far; None before it was made
+-- the turns of the buffers, the pixels of each, from the one painted last to the next one, and the
+-- steps so far; a buffer is None until it is made
 pub record Displayed : Type 0 where
   pub turns : Turns
   pub kept : List (Option Canvas)
   pub painted : ℕ
 
--- what is stale is on the display
+-- every stale rectangle is on the display
 abbrev pub AreOn : Size → List (Option Rectangle) → Type 0
 AreOn size [] = Unit {0}
 AreOn size (None ∷ rs) = AreOn size rs
@@ -31,7 +32,8 @@ HaveSize size [] = Unit {0}
 HaveSize size (None ∷ bs) = HaveSize size bs
 HaveSize size (Some b ∷ bs) = (b.size ≡ size) × HaveSize size bs
 
--- no more buffers than the limit, of the display's size, and what is stale is on it
+-- there are no more buffers than the limit, all of the display's size, and every stale rectangle
+-- is on it
 pub record IsDisplayed (d : Displayed) : Type 0 where
   pub sides : IsDisplaySize d.turns.size
   pub few : length d.kept ≤ MOST_BUFFERS
@@ -42,21 +44,21 @@ pub record IsDisplayed (d : Displayed) : Type 0 where
 abbrev pub first_displayed : Size → ℕ → Displayed
 first_displayed size count = record { turns = first_turns size count; kept = replicate count None; painted = 0 }
 
--- the buffer that is next, if it was made
+-- the next buffer, if it was made
 abbrev pub last_in : List (Option Canvas) → Option Canvas
 last_in kept = unwrap_or (slice_get kept (length kept - 1)) None
 
--- the pixels of the next buffer, black where it is made now
+-- the pixels of the next buffer; they are black if it is made now
 abbrev pub pixels_in : Size → Option Canvas → List Colour
 pixels_in size None = replicate (pixel_count size) black
 pixels_in size (Some b) = b.pixels
 
--- the steps for making it
+-- the steps for making the next buffer, if it is made now
 abbrev pub making_in : Size → Option Canvas → ℕ
 making_in size None = pixel_count size
 making_in size (Some b) = 0
 
--- what is stale of the next buffer with a damage more
+-- the stale rectangle of the next buffer, with one more damage
 abbrev pub stale_now : Displayed → Rectangle → Rectangle
 stale_now d r = stale_of (damaged d.turns r)
 
@@ -64,15 +66,16 @@ stale_now d r = stale_of (damaged d.turns r)
 unfoldable pub steps_for : Displayed → Rectangle → ℕ
 steps_for d r = making_in d.turns.size (last_in d.kept) + area_of (stale_now d r)
 
--- at most the greatest number of 64 bits
+-- a count that stays at the greatest number of 64 bits
 abbrev pub upto_most : ℕ → ℕ
 upto_most n = min n (2 ^ 64 - 1)
 
--- the frame of a picture: its colours where the next buffer is stale, and what that buffer had elsewhere
+-- the frame for a picture: the picture's colours inside the stale rectangle of the next buffer,
+-- and the buffer's old colours outside
 unfoldable pub frame_of : Displayed → Pictured → List Colour
 frame_of d p = patched (stale_now d p.changed) (points_of p.size) (colours_in p) (pixels_in d.turns.size (last_in d.kept))
 
--- the display with a picture more
+-- the display after it shows one more picture
 unfoldable pub shown : Displayed → Pictured → Displayed
 shown d p =
     record {
@@ -89,7 +92,8 @@ current d = unwrap_or (slice_get d.kept 0) None
 abbrev pub buffer_with : Size → List Colour → Option Canvas
 buffer_with size frame = Some (record { size = size; pixels = frame })
 
--- a display with so many buffers after these drawings, newest first: the newest frames that are written, and the points painted
+-- a display with so many buffers after these drawings, newest first: its newest written frames,
+-- and the points it painted
 unfoldable pub display_after : Size → ℕ → List DrawnFrame → Displayed
 display_after size count drawn =
     record {
@@ -98,7 +102,7 @@ display_after size count drawn =
       painted = upto_most (painted_of size count drawn);
     }
 
--- the row of a buffer, from its first pixel on
+-- the row of a buffer, starting at its first pixel
 abbrev pub row_at : Canvas → ℤ → List Colour
 row_at b y = take (nat_abs b.size.w) (drop (nat_abs y * nat_abs b.size.w) b.pixels)
 
@@ -106,7 +110,7 @@ row_at b y = take (nat_abs b.size.w) (drop (nat_abs y * nat_abs b.size.w) b.pixe
 unfoldable pub display_at : Plan → List Entry → ℕ → Displayed
 display_at p h count = display_after p.size count (reverse (drawn_frames p h))
 
--- the frame that an entry adds to those that are written is the one that the display has then
+-- the frame that an entry adds to the written ones is the one that the display has then
 pub record IsNext (p : Plan) (h : List Entry) (e : Entry) (count : ℕ) : Type 0 where
   pub frame : List Colour
   pub more : written p (h ++ e ∷ []) count ≡ written p h count ++ frame ∷ []

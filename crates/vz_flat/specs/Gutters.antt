@@ -1,4 +1,4 @@
--- What a gutter is drawn by: the background in the parts of a window round a surface.
+-- The operations of a gutter: the background in the parts of a window round a surface.
 use Rattle.std.specs.Prelude.{◌+ℤ◌, ◌-ℤ◌, ◌≤ℤ◌, if◌then◌else◌, List, [], ◌∷◌}
 use Rattle.std.specs.List.{flat_map}
 use Rattle.vz_geom.specs.Rectangle.{Rectangle, IsRectangle, is_empty_rect, with_sides}
@@ -12,7 +12,7 @@ use Rattle.vz_flat.specs.declared.op.Op.{Op}
 use Rattle.vz_flat.specs.declared.op.Op.TheVariants.{Fill}
 use Rattle.vz_flat.specs.Parts.{seen_flat, surface_place}
 
--- a rectangle's edges are within those of another, and those within the limit
+-- the inner rectangle's edges are within the outer one's, and those are within the limit
 pub record LiesIn (outer inner : Rectangle) : Type 0 where
   pub left : outer.x ≤ℤ inner.x
   pub top : outer.y ≤ℤ inner.y
@@ -21,7 +21,7 @@ pub record LiesIn (outer inner : Rectangle) : Type 0 where
   pub outer_edges : IsRectangle outer
   pub inner_edges : IsRectangle inner
 
--- the parts of a rectangle above and below one that lies in it, and those left and right of it
+-- the parts of a rectangle above and below another one inside it, and to the left and right of it
 abbrev pub above : Rectangle → Rectangle → Rectangle
 above outer inner = with_sides outer.x outer.y outer.w (inner.y -ℤ outer.y)
 
@@ -34,17 +34,17 @@ left_of outer inner = with_sides outer.x inner.y (inner.x -ℤ outer.x) inner.h
 abbrev pub right_of : Rectangle → Rectangle → Rectangle
 right_of outer inner = with_sides (inner.x +ℤ inner.w) inner.y ((outer.x +ℤ outer.w) -ℤ (inner.x +ℤ inner.w)) inner.h
 
--- the parts round one that lies in it, which are all of it where that has no point
+-- the parts of a rectangle round another one inside it; if that one is empty, the whole rectangle
 unfoldable pub parts_round : Rectangle → Rectangle → List Rectangle
 parts_round outer inner =
     if is_empty_rect inner then outer ∷ []
     else above outer inner ∷ beneath outer inner ∷ left_of outer inner ∷ right_of outer inner ∷ []
 
--- a colour over what is there, in a part
+-- a fill of a part with a colour, over what is there
 abbrev pub part_flat : Colour → Rectangle → List Op
 part_flat b part = seen_flat part (Fill part b 255 Over ∷ [])
 
--- the background round a surface, where that is not the range's end
+-- the background round a surface, if it is not the range's end
 unfoldable pub gutter_flat : SurfaceRange → Colour → FrameData → Placement → List Op
 gutter_flat range b i place =
     if same_surface i.id range.end then [] else flat_map (part_flat b) (parts_round place.window (surface_place i place).window)

@@ -1,4 +1,4 @@
--- Which submissions a walk draws, and how they stand in memory.
+-- Which submissions a walk draws, and how they are kept in memory.
 use Rattle.std.specs.Prelude.{◌≡◌, ℕ, ◌+◌, Bool, IsFalse, Option, Some, None, List, [], map, filter, length, slice_get, take, drop}
 use Rattle.std.specs.List.{Contains, list_any, filter_map, sum_by}
 use Rattle.vz_geom.specs.declared.Size.{Size}
@@ -13,36 +13,38 @@ use Rattle.vz_surfaces.specs.Reading.{seen_frames}
 use Rattle.vz_walk.specs.Scenes.{walked_in}
 use Rattle.vz_flight.specs.Flying.{Flown, subs_of}
 
--- a frame's submission, with what it lists
+-- a frame's submission, with the resources that it lists
 abbrev pub flown_as : FrameData → Flown
 flown_as i = (i.sub, i.frame.resources)
 
--- those of these frames into which visits go, in the order of the frames
+-- among the submissions of these frames, those that some visit goes into, in the order of the
+-- frames
 unfoldable pub flown_in : List FrameData → List Visit → List Flown
 flown_in active visits = map flown_as (filter (λ (i : FrameData). list_any (goes_into i) visits) active)
 
--- those of a store that the walk from a root goes into, on a display of a size, in the order of acceptance
+-- the submissions that a walk over a store from a root goes into, on a display of this size, in
+-- the order of acceptance
 abbrev pub flown_from : Size → SurfaceId → Stored → List Flown
 flown_from size root st = flown_in (seen_frames st) (walked_in size root st)
 
--- the one that a visit goes into
+-- the submission that a visit goes into, if it goes into one
 abbrev pub flown_at : Visit → Option Flown
 flown_at (Enters depth i place) = Some (flown_as i)
 flown_at _ = None
 
--- two are of one submission
+-- both are the same submission
 abbrev pub same_flown : Flown → Flown → Bool
 same_flown f g = same_sub f.0 g.0
 
--- those that visits go into, each once, in the order in which they are met
+-- the submissions that visits go into, each once, in the order in which the walk meets them
 unfoldable pub met_in : List Visit → List Flown
 met_in visits = adding same_flown [] (filter_map flown_at visits)
 
--- how many listings there are in all
+-- the number of all their listings
 unfoldable pub listing_count : List Flown → ℕ
 listing_count flown = sum_by (λ (f : Flown). length f.1) flown
 
--- a roster has these submissions, with what they list, each once and in any order
+-- the roster has exactly these submissions, with what they list, each once and in any order
 pub record IsRosterOf (flown roster : List Flown) : Type 0 where
   pub all : (f : Flown) → Contains flown f → Contains roster f
   pub only : (f : Flown) → Contains roster f → Contains flown f

@@ -14,12 +14,13 @@ Flown = Sub × List Listing
 abbrev pub subs_of : List Flown → List Sub
 subs_of flown = map (λ (f : Flown). f.0) flown
 
--- a submission is in the drawn frame, if there is one
+-- the submission is in the drawn frame, if there is one
 abbrev pub flies : Option (List Flown) → Sub → Bool
 flies None sub = false
 flies (Some flown) sub = has_sub (subs_of flown) sub
 
--- the drawn frame is that of a state, and each of its submissions lists these resources
+-- the drawn frame has the submissions that are in flight in the state, and each with the resources
+-- that it lists
 pub record AreFlown (w : World) (flight : Option (List Flown)) : Type 0 where
   pub drawn : w.in_flight ≡ option_map subs_of flight
   pub listed : (flown : List Flown) (f : Flown) → flight ≡ Some flown → Contains flown f

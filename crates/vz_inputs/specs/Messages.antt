@@ -1,4 +1,4 @@
--- What a refused input reads as.
+-- The texts of refused inputs.
 use Rattle.std.specs.Prelude.{ℕ, List, codes, ◌++◌}
 use Rattle.std.specs.Fmt.{decimal}
 use Rattle.vz_codec.specs.Messages.{rule_text}

@@ -1,4 +1,4 @@
--- Which client's file that was read is refused, where and why, and the plan of those that are not.
+-- Which client's file is refused, where and why; and the plan of files that are all accepted.
 use Rattle.std.specs.Prelude.{ℕ, Bool, ◌+◌, ◌-◌, nat_lt, Option, Some, None, Ok, Err, List, [], ◌∷◌, ◌++◌, length, if◌then◌else◌}
 use Rattle.std.specs.List.{list_any, filter_map}
 use Rattle.vz_base.specs.declared.limits.TheConstants.{MOST_FILE_BYTES}
@@ -11,12 +11,13 @@ use Rattle.vz_inputs.specs.declared.refused.Reason.{Reason}
 use Rattle.vz_inputs.specs.declared.refused.Reason.TheVariants.{Rule, SinkTaken, Long}
 use Rattle.vz_inputs.specs.declared.refused.Refused.{Refused}
 
--- a place in an input, and what is wrong there
+-- an offset in an input, and what is wrong there
 pub record Flaw : Type 0 where
   pub at : ℕ
   pub reason : Reason
 
--- an input of more bytes than a limit is too long from there on; of another this may be wrong
+-- an input with more bytes than the limit is too long, at the first byte after the limit;
+-- otherwise this flaw counts
 abbrev pub unless_long : ℕ → List ℕ → Option Flaw → Option Flaw
 unless_long limit bytes other = if nat_lt limit (length bytes) then Some (record { at = limit; reason = Long }) else other
 
@@ -28,15 +29,16 @@ file_spelled bytes = elim (file_in bytes) [ Ok file ↦ Some file | Err fault �
 abbrev pub files_in : List (List ℕ) → List ClientFile
 files_in inputs = filter_map file_spelled inputs
 
--- the place of a file's sink in its bytes
+-- the offset of a file's sink in its bytes
 abbrev pub sink_place : ℕ
 sink_place = 6
 
--- one of these files has the sink of another
+-- a file's sink is that of one of these files
 abbrev pub takes_sink : List ClientFile → ClientFile → Bool
 takes_sink earlier file = list_any (λ (f : ClientFile). same_sink file.sink f.sink) earlier
 
--- what is wrong with a client's file behind earlier ones: it is too long, breaks a rule of the grammar, or has a sink that is taken
+-- what is wrong with a client's file after earlier ones: it is too long, breaks a rule of the
+-- grammar, or has a sink that is taken
 unfoldable pub file_flaw : List ClientFile → List ℕ → Option Flaw
 file_flaw earlier bytes =
     unless_long MOST_FILE_BYTES bytes (elim (file_in bytes) [
@@ -44,11 +46,11 @@ file_flaw earlier bytes =
       | Err fault ↦ Some (record { at = length bytes - fault.left; reason = Rule fault.rule })
     ])
 
--- a flaw of the file of this number
+-- the refusal of the file with this number, for a flaw
 abbrev pub refused_at : ℕ → Flaw → Refused
 refused_at file flaw = record { file = file; at = flaw.at; reason = flaw.reason }
 
--- the first of some clients' files that is refused, behind earlier ones that were not
+-- the first of some clients' files that is refused, after earlier ones that were not
 unfoldable pub refused_behind : List ClientFile → List (List ℕ) → Option Refused
 refused_behind earlier [] = None
 refused_behind earlier (bytes ∷ more) =

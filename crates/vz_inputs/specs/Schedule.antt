@@ -1,4 +1,4 @@
--- Schedules: a byte for each event, and what is said of bytes that are none.
+-- Schedules: one byte for each event, and what is wrong with other bytes.
 use Rattle.std.specs.Prelude.{ℕ, nat_abs, Bool, not, ◌&&◌, ◌||◌, ◌==◌, Option, Some, None, List, [], ◌∷◌, ◌++◌, length, count_by, if◌then◌else◌}
 use Rattle.std.specs.List.{filter_map}
 use Rattle.std.specs.Option.{option_map}
@@ -15,7 +15,7 @@ use Rattle.vz_inputs.specs.declared.refused.Reason.TheVariants.{Rule}
 use Rattle.vz_inputs.specs.declared.refused.Refused.{Refused}
 use Rattle.vz_inputs.specs.Refusals.{Flaw, unless_long, refused_at}
 
--- the event of a byte: 1 to 16 for a client, then those of the display
+-- the event of a byte: 1 to 16 for a client, and then those of the display
 unfoldable pub event_of : ℕ → Option Event
 event_of byte =
     if within 1 MOST_FILES byte then Some (event.Client byte)
@@ -29,26 +29,27 @@ event_of byte =
 abbrev pub events_of : List ℕ → List Event
 events_of bytes = filter_map event_of bytes
 
--- a byte is an event, with so many clients
+-- a byte is an event, if there are so many clients
 abbrev pub is_event : ℕ → ℕ → Bool
 is_event clients byte = within 1 clients byte || within 0x11 0x14 byte
 
--- a byte is a drawing
+-- a byte is a Draw
 abbrev pub is_draw : ℕ → Bool
 is_draw byte = byte == 0x12
 
--- the rule that a byte breaks with so many clients, as the drawing of this number if it is one: it is no event, or a frame too many
+-- the rule that a byte breaks: it is no event for so many clients, or it is the Draw with this
+-- number and one too many
 abbrev pub rule_broken : ℕ → Size → ℕ → ℕ → Option FileRule
 rule_broken clients size draws byte =
     if not (is_event clients byte) then Some fault.Tag
     else (if is_draw byte && not (frames_fit (nat_abs size.w) (nat_abs size.h) draws) then Some fault.Limit
     else None)
 
--- the drawings among bytes
+-- the number of Draws among bytes
 abbrev pub draws_in : List ℕ → ℕ
 draws_in bytes = count_by is_draw bytes
 
--- the first of some bytes that breaks a rule, behind others that break none
+-- the first of some bytes that breaks a rule, after others that break none
 unfoldable pub flaw_behind : Plan → List ℕ → List ℕ → Option Flaw
 flaw_behind p before [] = None
 flaw_behind p before (byte ∷ bytes) =
@@ -57,6 +58,6 @@ flaw_behind p before (byte ∷ bytes) =
       | None ↦ flaw_behind p (before ++ byte ∷ []) bytes
     ]
 
--- where and why a schedule is refused
+-- where and why a schedule is refused, if it is
 abbrev pub schedule_refused : Plan → List ℕ → Option Refused
 schedule_refused p bytes = option_map (refused_at 0) (unless_long MOST_EVENTS bytes (flaw_behind p [] bytes))

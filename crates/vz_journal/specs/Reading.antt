@@ -1,4 +1,5 @@
--- Reading a log, part by part: the value and the bytes after it, where the bytes begin with the text of one.
+-- Reading a log, part by part: the value and the bytes after it, if the bytes begin with the text
+-- of a value.
 use Rattle.std.specs.Prelude.{ℕ, zero, suc, ◌+◌, ◌-◌, ◌*◌, ◌==◌, pos, Bool, true, false, ◌&&◌, nat_lt, nat_le, codes}
 use Rattle.std.specs.Prelude.{Option, Some, None, Result, Ok, Err, List, [], ◌∷◌, length, drop, slice_index, if◌then◌else◌}
 use Rattle.std.specs.List.{starts_with}
@@ -22,17 +23,17 @@ use Rattle.vz_rules.specs.declared.entry.Entry.{Entry}
 use Rattle.vz_rules.specs.declared.entry.Rest.{Rest}
 use Rattle.vz_rules.specs.Log.{is_log_client}
 
--- a value and the bytes after it, where there is one at the front
+-- a value and the bytes after it, if the bytes begin with one
 abbrev pub Read : Type 0 → Type 0
 Read A = Option (A × List ℕ)
 
--- what is read next after a value, where there was one
+-- reading goes on after a value, if there was one
 infixl 10 ◌>>=◌
 abbrev pub ◌>>=◌ : {A B : Type 0} → Option A → (A → Option B) → Option B
 (Some x) >>= f = f x
 None >>= f = None
 
--- a value that was read and passes a test
+-- a value that was read, if it passes a test
 abbrev pub tested : {A : Type 0} → Bool → A → Option A
 tested good x = if good then Some x else None
 
@@ -40,11 +41,11 @@ tested good x = if good then Some x else None
 abbrev pub begins : List ℕ → List ℕ → Bool
 begins word bytes = starts_with (λ a b. a == b) bytes word
 
--- the bytes behind this word
+-- the bytes after this word
 abbrev pub after : List ℕ → List ℕ → List ℕ
 after word bytes = drop (length word) bytes
 
--- a word
+-- reads a word
 unfoldable pub word_at : List ℕ → List ℕ → Read (Unit {0})
 word_at word bytes = if begins word bytes then Some (tt, after word bytes) else None
 
@@ -53,17 +54,17 @@ unfoldable pub one_of : {A : Type 0} → List (List ℕ × A) → List ℕ → R
 one_of [] bytes = None
 one_of (w ∷ ws) bytes = if begins w.0 bytes then Some (w.1, after w.0 bytes) else one_of ws bytes
 
--- a value and those that follow it, where there is one
+-- a value and those that follow it, if there is one
 abbrev pub with_first : {A : Type 0} → Read A → List ℕ → (List ℕ → List A × List ℕ) → List A × List ℕ
 with_first None bytes others = ([], bytes)
 with_first (Some a) bytes others = (a.0 ∷ (others a.1).0, (others a.1).1)
 
--- values, as many as there are up to a number of them
+-- the values at the front, up to a number of them
 unfoldable pub items_at : {A : Type 0} → (List ℕ → Read A) → ℕ → List ℕ → List A × List ℕ
 items_at read zero bytes = ([], bytes)
 items_at read (suc n) bytes = with_first (read bytes) bytes (items_at read n)
 
--- values, as many as there are
+-- all values at the front
 abbrev pub all_at : {A : Type 0} → (List ℕ → Read A) → List ℕ → List A × List ℕ
 all_at read bytes = items_at read (length bytes) bytes
 
@@ -71,11 +72,11 @@ all_at read bytes = items_at read (length bytes) bytes
 abbrev pub is_digit : ℕ → Bool
 is_digit b = nat_le 48 b && nat_le b 57
 
--- a number with one digit more
+-- a number with one more digit
 abbrev pub with_digit : ℕ → ℕ → ℕ
 with_digit n b = 10 * n + (b - 48)
 
--- a number of which digits were read, with those that follow
+-- a number after its first digits were read, which have this value
 unfoldable pub digits_at : ℕ → List ℕ → Read ℕ
 digits_at n [] = Some (n, [])
 digits_at n (b ∷ bs) =
@@ -111,7 +112,7 @@ next_count_at bytes = do
   blank ← word_at (codes " ") bytes
   count_at blank.1
 
--- a client and a number of it, with a dot between them
+-- a client and one of its numbers, with a dot between them
 unfoldable pub sub_at : List ℕ → Read Sub
 sub_at bytes = do
   client ← client_at bytes
@@ -127,7 +128,7 @@ counted_at client bytes = do
   count ← count_at times.1
   Some (record { client = client; id = id.0; count = count.0 }, count.1)
 
--- a client, a resource of it and a count
+-- a client, one of its resources and a count
 unfoldable pub return_at : List ℕ → Read Returned
 return_at bytes = do
   client ← client_at bytes
@@ -153,7 +154,7 @@ returned_at bytes = do
   sign ← word_at (codes " <") bytes
   return_at sign.1
 
--- the submission of a feedback
+-- the submission that got this feedback
 unfoldable pub fed_by : Bool → List ℕ → Read Fed
 fed_by presented bytes = do
   sub ← sub_at bytes
@@ -165,7 +166,7 @@ fed_at bytes =
     if begins (codes " p") bytes then fed_by true (after (codes " p") bytes)
     else (word_at (codes " d") bytes >>= λ sign. fed_by false sign.1)
 
--- the effects, as many as there are of each kind
+-- the effects, in the order of their kinds, as many as there are
 unfoldable pub effects_at : List ℕ → Effects × List ℕ
 effects_at bytes =
     let activated = all_at activated_at bytes in
@@ -174,23 +175,23 @@ effects_at bytes =
     let fed = all_at fed_at returned.1 in
     (record { activated = activated.0; destroyed = destroyed.0; returned = returned.0; fed = fed.0 }, fed.1)
 
--- the events of no client, each with the blank behind it
+-- the events of the display, each with the blank after it
 abbrev pub plain_events : List (List ℕ × Event)
 plain_events =
     (codes "begin ", event.Begin) ∷ (codes "draw ", event.Draw) ∷ (codes "done ", event.Done) ∷ (codes "over ", event.Over) ∷ []
 
--- the number of a client and the blank behind it
+-- the number of a client and the blank after it
 unfoldable pub client_event_at : List ℕ → Read Event
 client_event_at bytes = do
   client ← client_at bytes
   blank ← word_at (codes " ") client.1
   Some (event.Client client.0, blank.1)
 
--- an event and the blank behind it
+-- an event and the blank after it
 unfoldable pub event_at : List ℕ → Read Event
 event_at bytes = if begins (codes "c") bytes then client_event_at (after (codes "c") bytes) else one_of plain_events bytes
 
--- the rule of a number, in the order in which the rules are tested
+-- the rule with this number, in the order in which the rules are tested
 unfoldable pub rule_of : ℕ → Option Rule
 rule_of n =
     if n == 1 then Some NoPass
@@ -206,7 +207,7 @@ rule_of n =
     else (if n == 11 then Some DamageOutside
     else None))))))))))
 
--- the refusal of a number, where no rule stands behind it
+-- the refusal with this number, except 2, which a rule follows
 unfoldable pub refusal_of : ℕ → Option Refusal
 refusal_of n =
     if n == 1 then Some refusal.AlreadyClosed
@@ -222,14 +223,14 @@ refusal_of n =
     else (if n == 12 then Some refusal.NoMessage
     else None))))))))))
 
--- the number of a broken rule
+-- the rule that a malformed frame breaks
 unfoldable pub malformed_at : List ℕ → Read Reply
 malformed_at bytes = do
   n ← next_number_at bytes
   rule ← rule_of n.0
   Some (reply.Refused (refusal.Malformed rule), n.1)
 
--- the number of a refusal, and behind 2 that of the broken rule
+-- the number of a refusal, and after 2 the number of the broken rule
 unfoldable pub refused_at : List ℕ → Read Reply
 refused_at bytes = do
   n ← next_number_at bytes
@@ -242,19 +243,19 @@ accepted_at bytes = do
   index ← next_count_at ordinal.1
   Some (reply.Accepted ordinal.0 index.0, index.1)
 
--- the number of a begin-frame that began
+-- the number of the begin-frame that the client takes
 unfoldable pub began_at : List ℕ → Read Reply
 began_at bytes = do
   number ← next_number_at bytes
   Some (reply.Began number.0, number.1)
 
--- references that were reclaimed by this client
+-- references that this client reclaims
 unfoldable pub reclaim_at : ℕ → List ℕ → Read Returned
 reclaim_at client bytes = do
   blank ← word_at (codes " ") bytes
   counted_at client blank.1
 
--- the replies to a client without a number
+-- the replies to a client that have no numbers
 abbrev pub client_replies : List (List ℕ × Reply)
 client_replies =
     (codes "stored", reply.Stored) ∷ (codes "noted", reply.Noted) ∷ (codes "rooted", reply.Rooted) ∷ (codes "joined", reply.Joined)
@@ -277,11 +278,11 @@ ticked_at bytes = do
   number ← next_number_at word.1
   Some (reply.Ticked number.0, number.1)
 
--- a rectangle of a display
+-- a rectangle with these numbers
 abbrev pub drawn_on : ℕ → ℕ → ℕ → ℕ → Rectangle
 drawn_on x y w h = record { x = pos x; y = pos y; w = pos w; h = pos h }
 
--- a rectangle with points and no edge beyond the greatest display
+-- a rectangle with points, whose edges are on the greatest display
 abbrev pub is_drawn : ℕ → ℕ → ℕ → ℕ → Bool
 is_drawn x y w h = nat_lt 0 w && nat_lt 0 h && nat_le (x + w) GREATEST_DISPLAY_SIDE && nat_le (y + h) GREATEST_DISPLAY_SIDE
 
@@ -294,20 +295,20 @@ drawn_at bytes = do
   h ← next_number_at w.1
   tested (is_drawn x.0 y.0 w.0 h.0) (reply.Drawn (drawn_on x.0 y.0 w.0 h.0), h.1)
 
--- the replies to a draw without a number
+-- the replies to Draw that have no numbers
 abbrev pub draw_replies : List (List ℕ × Reply)
 draw_replies =
     (codes "unchanged", reply.Unchanged) ∷ (codes "noroot", reply.NoRoot) ∷ (codes "toomuch", reply.TooMuch) ∷ (codes "busy", reply.Busy) ∷ []
 
--- a reply to a draw
+-- a reply to Draw
 unfoldable pub draw_reply_at : List ℕ → Read Reply
 draw_reply_at bytes = if begins (codes "drawn") bytes then drawn_at (after (codes "drawn") bytes) else one_of draw_replies bytes
 
--- the replies to the end of a drawn frame
+-- the replies to Done
 abbrev pub done_replies : List (List ℕ × Reply)
 done_replies = (codes "shown", reply.Shown) ∷ (codes "nothing", reply.Nothing) ∷ []
 
--- the reply to the end of all begin-frames
+-- the reply to Over
 abbrev pub over_replies : List (List ℕ × Reply)
 over_replies = (codes "ended", reply.Ended) ∷ []
 
@@ -328,7 +329,7 @@ entry_at bytes = do
       (word_at (codes "\n") effects.1
       >>= λ line. Some (record { event = event.0; reply = reply.0; effects = effects.0 }, line.1))
 
--- the line of a resource of which references are out
+-- the line of a resource with outstanding references
 unfoldable pub held_at : List ℕ → Read Returned
 held_at bytes = do
   word ← word_at (codes "held ") bytes
@@ -344,7 +345,7 @@ open_at bytes = do
   line ← word_at (codes "\n") sub.1
   Some (sub.0, line.1)
 
--- the lines of entries, of what is held and of what is open, as many as there are of each
+-- the lines of entries, then the `held` lines, then the `open` lines, as many of each as there are
 unfoldable pub lines_at : List ℕ → (List Entry × Rest) × List ℕ
 lines_at bytes =
     let entries = all_at entry_at bytes in
@@ -352,15 +353,15 @@ lines_at bytes =
     let unfed = all_at open_at held.1 in
     ((entries.0, record { held = held.0; unfed = unfed.0 }), unfed.1)
 
--- how many lines these are
+-- the number of these lines
 abbrev pub line_count : List Entry × Rest → ℕ
 line_count x = length x.0 + length x.1.held + length x.1.unfed
 
--- the last line and nothing after it, or the line that is wrong
+-- the last line and nothing after it, or otherwise the line that is wrong
 unfoldable pub ended : List Entry × Rest → List ℕ → Result (List Entry × Rest) ℕ
 ended x bytes =
     if begins (codes "end\n") bytes then (if length bytes == 4 then Ok x else Err (line_count x + 2)) else Err (line_count x + 1)
 
--- a whole log, or the first line that is wrong
+-- a whole log, or otherwise the first line that is wrong
 unfoldable pub log_in : List ℕ → Result (List Entry × Rest) ℕ
 log_in bytes = ended (lines_at bytes).0 (lines_at bytes).1

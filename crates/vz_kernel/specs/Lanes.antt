@@ -7,16 +7,16 @@ use Rattle.vz_pixels.specs.Colour.{Colour, IsPremultiplied}
 abbrev pub channels_of : Colour → List ℕ
 channels_of c = c.r ∷ c.g ∷ c.b ∷ c.a ∷ []
 
--- and as one number, red the lowest byte
+-- the same as one number, with red as the lowest byte
 abbrev pub word_of : Colour → ℕ
 word_of c = c.r + 256 * (c.g + 256 * (c.b + 256 * c.a))
 
--- the channels of colours, four to a colour: red, green, blue and alpha
+-- the channels of colours, four for each: red, green, blue and alpha
 abbrev pub channels : List Colour → List ℕ
 channels [] = []
 channels (c ∷ cs) = c.r ∷ c.g ∷ c.b ∷ c.a ∷ channels cs
 
--- the colours of channels
+-- the colours with these channels
 abbrev pub colours : List ℕ → List Colour
 colours [] = []
 colours (r ∷ []) = []
@@ -24,31 +24,31 @@ colours (r ∷ g ∷ []) = []
 colours (r ∷ g ∷ b ∷ []) = []
 colours (r ∷ g ∷ b ∷ a ∷ xs) = record { r = r; g = g; b = b; a = a } ∷ colours xs
 
--- the first of each two
+-- the first of each pair
 abbrev pub evens : List ℕ → List ℕ
 evens [] = []
 evens (x ∷ []) = []
 evens (x ∷ y ∷ zs) = x ∷ evens zs
 
--- the second of each two
+-- the second of each pair
 abbrev pub odds : List ℕ → List ℕ
 odds [] = []
 odds (x ∷ []) = []
 odds (x ∷ y ∷ zs) = y ∷ odds zs
 
--- one of the first list and one of the second in turn
+-- the elements of two lists in turn, one from the first and one from the second
 abbrev pub woven : List ℕ → List ℕ → List ℕ
 woven [] ys = []
 woven (x ∷ xs) [] = []
 woven (x ∷ xs) (y ∷ ys) = x ∷ y ∷ woven xs ys
 
--- the second of each two, twice
+-- the second of each pair, twice
 abbrev pub doubled : List ℕ → List ℕ
 doubled [] = []
 doubled (x ∷ []) = []
 doubled (x ∷ y ∷ zs) = y ∷ y ∷ doubled zs
 
--- each, twice
+-- each element twice
 abbrev pub each_twice : List ℕ → List ℕ
 each_twice [] = []
 each_twice (x ∷ xs) = x ∷ x ∷ each_twice xs

@@ -12,7 +12,8 @@ use Rattle.vz_rules.specs.Kept.{KeepsAlways, KeepsPlan}
 use Rattle.vz_lending.specs.Lent.{Lent, AreLent, NoneReleased}
 use Rattle.vz_lending.specs.Listed.{lists_twice, waiting_listings, active_listings}
 
--- a submission of a client is accepted that lists these resources, and the one that it replaces lists those
+-- a client's submission with these listings is accepted, and the submission that it replaces has
+-- those
 pub record IsAccepted (p : Plan) (w : World) (c : Client) (local : LocalSurfaceId) (frame : CompositorFrame)
     (client : ℕ) (listings replaced : List Listing) (lenders : List Lent) : Type 0 where
   pub plan : IsPlan p
@@ -28,7 +29,7 @@ pub record IsAccepted (p : Plan) (w : World) (c : Client) (local : LocalSurfaceI
   pub none_released : NoneReleased lenders
   pub lent : AreLent w lenders
 
--- a submission of a client becomes active, on a surface whose active one lists these resources
+-- a client's submission becomes active, on a surface whose active submission has these listings
 pub record IsRising (w : World) (s : Submission) (client : ℕ) (listings : List Listing) (lenders : List Lent) : Type 0 where
   pub always : KeepsAlways w
   pub known : Contains w.subs s
@@ -38,7 +39,7 @@ pub record IsRising (w : World) (s : Submission) (client : ℕ) (listings : List
   pub once : IsFalse (lists_twice listings)
   pub lent : AreLent w lenders
 
--- a surface of a client is destroyed, whose waiting submission lists these resources and whose active one those
+-- a client's surface is destroyed, and its waiting and active submissions have these listings
 pub record IsGoing (w : World) (d : Created) (client : ℕ) (waiting active : List Listing) (lenders : List Lent) : Type 0 where
   pub always : KeepsAlways w
   pub known : Contains w.surfaces d
@@ -49,7 +50,8 @@ pub record IsGoing (w : World) (d : Created) (client : ℕ) (waiting active : Li
   pub once_active : IsFalse (lists_twice active)
   pub lent : AreLent w lenders
 
--- a frame is drawn, of which these submissions hold their resources so far, and an active one of a client is the next
+-- a frame is drawn: these submissions hold their resources already, and this client's active
+-- submission is the next to do so
 pub record IsDrawn (p : Plan) (w : World) (drawn : List Sub) (s : Submission)
     (client : ℕ) (listings : List Listing) (lenders : List Lent) : Type 0 where
   pub plan : IsPlan p
@@ -64,7 +66,8 @@ pub record IsDrawn (p : Plan) (w : World) (drawn : List Sub) (s : Submission)
   pub none_released : NoneReleased lenders
   pub lent : AreLent (record w { in_flight = Some drawn }) lenders
 
--- the drawn frame is done, and of those that hold their resources in it a client's is the first and these are the others
+-- the drawn frame is done: among the submissions that still hold their resources in it, this
+-- client's is the first, and these are the others
 pub record IsDone (w : World) (s : Submission) (others : List Sub)
     (client : ℕ) (listings : List Listing) (lenders : List Lent) : Type 0 where
   pub always : KeepsAlways w

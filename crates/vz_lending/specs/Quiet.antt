@@ -1,8 +1,8 @@
--- What leaves the references of clients.
+-- Changes that leave the references of clients as they are.
 use Rattle.std.specs.Prelude.{◌≡◌}
 use Rattle.vz_rules.specs.World.{World, Client}
 
--- a client changes and keeps its number, its resources and its queue
+-- the client changes, and keeps its number, its resources and its queue
 pub record KeepsReferences (f : Client → Client) : Type 0 where
   pub number : (c : Client) → (f c).number ≡ c.number
   pub resources : (c : Client) → (f c).resources ≡ c.resources

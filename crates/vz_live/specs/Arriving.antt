@@ -1,4 +1,4 @@
--- A submission that arrives: what is asked for it, and the room for it.
+-- The arrival of a submission: what it requires, and the room for it.
 use Rattle.std.specs.Prelude.{◌≡◌, ℕ, ◌+◌, ◌^◌, ◌<◌, ◌≤◌, IsFalse, Option, Some, None, List, if◌then◌else◌}
 use Rattle.std.specs.List.{Contains}
 use Rattle.vz_ids.specs.declared.FrameSinkId.{FrameSinkId}
@@ -13,8 +13,8 @@ use Rattle.vz_rules.specs.Kept.{Keeps, KeepsPlan, KeepsMessages, IsWhole}
 use Rattle.vz_lending.specs.Lent.{AreRoomier, HasRoom, NoneReleased}
 use Rattle.vz_live.specs.Living.{Live, AreLive}
 
--- between steps a client of a plan, which is not closed, submits a frame that is not refused and fits a message file, with the
--- blocks of its listings
+-- between steps, a client of a plan, which has not closed, submits a frame that is not refused and
+-- that fits a message file, with the blocks of its listings
 pub record IsAccepting (p : Plan) (w : World) (c : Client) (client : ℕ) (sink : FrameSinkId) (local : LocalSurfaceId)
     (frame : CompositorFrame) (blocks : List Block) (v : Live) : Type 0 where
   pub plan : IsPlan p
@@ -40,11 +40,11 @@ pub record HasRoomFor (client listings references : ℕ) (v : Live) : Type 0 whe
   pub temporary : 0 < v.kept.room
   pub told : 0 < v.damaged.spare
 
--- the new surface of a submission, where it is not on the last one of its client
+-- the new surface of a submission, if it is not on the client's last surface
 abbrev pub new_one : World → Client → LocalSurfaceId → Option SurfaceId
 new_one w c local = if is_last (last_created w c.number) local then None else Some (id_of c local)
 
--- nothing changes but that there may be more room
+-- nothing changes, except that there may be more room
 pub record IsReadier (old new : Live) : Type 0 where
   pub store : new.store ≡ old.store
   pub lent : AreRoomier old.lent new.lent

@@ -1,4 +1,4 @@
--- What a submission asks of the last surface that its client created, of which the local id and the size are told.
+-- The test of a submission against the local id and the size of its client's last surface.
 use Rattle.std.specs.Prelude.{Bool, false, not, ◌&&◌, Option, Some, None}
 use Rattle.vz_geom.specs.declared.Size.{Size}
 use Rattle.vz_ids.specs.declared.LocalSurfaceId.{LocalSurfaceId}
@@ -14,17 +14,17 @@ NameAndSize = LocalSurfaceId × Size
 abbrev pub name_and_size : Created → NameAndSize
 name_and_size c = (c.id.local, c.size)
 
--- a local id is not the last one and doesn't go on from it
+-- the local id is not the last one, and is not raised above it
 abbrev pub violates_named : Option NameAndSize → LocalSurfaceId → Bool
 violates_named None local = false
 violates_named (Some last) local = not (same_local last.0 local) && not (is_raised last.0 local)
 
--- a local id is the last one
+-- the local id is the last one
 abbrev pub is_last_named : Option NameAndSize → LocalSurfaceId → Bool
 is_last_named None local = false
 is_last_named (Some last) local = same_local last.0 local
 
--- a local id is the last one, which has another size
+-- the local id is the last one, and its surface has another size
 abbrev pub has_other_size_named : Option NameAndSize → LocalSurfaceId → Size → Bool
 has_other_size_named None local size = false
 has_other_size_named (Some last) local size = same_local last.0 local && not (same_size last.1 size)

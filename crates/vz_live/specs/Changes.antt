@@ -1,4 +1,4 @@
--- The changes of the machine's state that surfaces go through.
+-- The changes of the machine's state that affect surfaces.
 use Rattle.std.specs.Prelude.{◌≡◌, false, Option, None, IsTrue, IsFalse}
 use Rattle.std.specs.List.{Contains}
 use Rattle.vz_ids.specs.declared.SurfaceId.{SurfaceId}
@@ -9,7 +9,7 @@ use Rattle.vz_rules.specs.Kept.{KeepsAlways}
 use Rattle.vz_reaching.specs.Lasting.{has_kept}
 use Rattle.vz_live.specs.Living.{Live, AreLive}
 
--- the submission of this name waits and becomes active
+-- the submission with this name waits, and becomes active
 pub record IsRising (w : World) (but : Option SurfaceId) (s : Submission) (sub : Sub) (v : Live) : Type 0 where
   pub always : KeepsAlways w
   pub live : AreLive w but v
@@ -17,7 +17,7 @@ pub record IsRising (w : World) (but : Option SurfaceId) (s : Submission) (sub :
   pub waits : IsTrue (is_waiting s)
   pub name : sub_of s ≡ sub
 
--- the surface of this id exists, is not temporary, and is destroyed, once what is named now is named
+-- the surface with this id exists, is not temporary, and is destroyed, after naming
 pub record IsGoing (w : World) (c : Created) (id : SurfaceId) (v : Live) : Type 0 where
   pub always : KeepsAlways w
   pub live : AreLive w None v
@@ -27,15 +27,15 @@ pub record IsGoing (w : World) (c : Created) (id : SurfaceId) (v : Live) : Type 
   pub exists : IsFalse c.destroyed
   pub lasts_not : has_kept v.kept.temporary id ≡ false
 
--- a client changes and keeps its number, whether it is closed, its resources and its queue
+-- the client changes, and keeps its number, whether it is closed, its resources and its queue
 pub record KeepsHolding (f : Client → Client) : Type 0 where
   pub number : (c : Client) → (f c).number ≡ c.number
   pub closed : (c : Client) → (f c).closed ≡ c.closed
   pub resources : (c : Client) → (f c).resources ≡ c.resources
   pub queue : (c : Client) → (f c).queue ≡ c.queue
 
--- a surface of this id was created in this tick by a client that is not closed, and exists; what is named now is named, and
--- that one is named only if it is named now
+-- the surface with this id was created in this tick by a client that is not closed, and exists;
+-- naming has happened, and this surface is named only if it is named now
 pub record IsNew (w : World) (c : Created) (id : SurfaceId) : Type 0 where
   pub named : naming w ≡ w
   pub known : Contains w.surfaces c

@@ -1,4 +1,4 @@
--- A frame is drawn: what it shows is held, one submission after the other.
+-- A frame is drawn: its submissions come to hold their resources, one after the other.
 use Rattle.std.specs.Prelude.{◌≡◌, ℕ, Option, Some, None, List, [], IsTrue, IsFalse, is_some, slice_get, take}
 use Rattle.std.specs.List.{Contains}
 use Rattle.vz_geom.specs.declared.Size.{Size}
@@ -19,7 +19,8 @@ use Rattle.vz_live.specs.Living.{Live, AreLive, AreWhole}
 use Rattle.vz_live.specs.declared.looking.Look.{Look}
 use Rattle.vz_live.specs.declared.looking.Look.TheVariants as look
 
--- between steps, what is on a root is to be drawn on a display of this size, and nothing is released that was not given back
+-- between steps, a root is to be drawn on a display of this size, and all released references were
+-- given back
 pub record IsDrawing (p : Plan) (w : World) (root : Option SurfaceId) (size : Size) (v : Live) : Type 0 where
   pub plan : IsPlan p
   pub keeps : Keeps w
@@ -29,43 +30,46 @@ pub record IsDrawing (p : Plan) (w : World) (root : Option SurfaceId) (size : Si
   pub sized_as : p.size ≡ size
   pub none_released : NoneReleased v.lent
 
--- and the drawing walks from there
+-- the same, and the drawing walks from the root
 pub record IsShowing (p : Plan) (w : World) (root : SurfaceId) (size : Size) (v : Live) : Type 0 where
   pub drawing : IsDrawing p w (Some root) size v
   pub walks : Draws p w root
 
--- no frame is in flight, and something is to be seen on this root
+-- no frame is in flight, and this root shows something
 pub record IsSeen (p : Plan) (w : World) (root : SurfaceId) (size : Size) (v : Live) : Type 0 where
   pub drawing : IsDrawing p w (Some root) size v
   pub free : IsFalse (is_some v.flight)
   pub there : IsTrue (is_some (active_on v.store root))
 
--- what a look tells of a drawing beforehand: it is answered so and leaves the state, or something is to be seen on this root
+-- what a look says of the drawing beforehand: it has this reply and does not change the state, or
+-- this root shows something
 abbrev pub Foretells : Plan → World → Option SurfaceId → Size → Live → Look → Type 0
 Foretells p w root size v look.Busy = draw_answer p w ≡ says reply.Busy w
 Foretells p w root size v look.NoRoot = draw_answer p w ≡ says reply.NoRoot w
 Foretells p w root size v (look.Seen id) = (root ≡ Some id) × IsSeen p w id size v
 
--- what a walk from a root tells of a drawing beforehand: there is too much to be seen, which leaves the state, or the drawing walks and
--- is answered by what changed
+-- what a walk from a root says of the drawing beforehand: it is too much, which does not change
+-- the state, or the drawing walks and its reply is what changed
 abbrev pub Finds : Plan → World → SurfaceId → Size → Live → Option (Measurement × List Flown) → Type 0
 Finds p w root size v None = draw_answer p w ≡ says reply.TooMuch w
 Finds p w root size v (Some found) = IsShowing p w root size v × (drawn_reply found.0.changed ≡ (draw_answer p w).reply)
 
--- this is measured of the surfaces from a root, on a display of a size, before anything of it is remembered
+-- this is measured on the surfaces from a root, on a display of this size, before the measurement
+-- is remembered
 abbrev pub Measures : SurfaceId → Size → Live → Measurement → Type 0
 Measures root size v m = IsMeasureOf v.damaged v.store root size m
 
--- these submissions are drawn of the surfaces from a root, with what they list
+-- these submissions are drawn from a root, with what they list
 abbrev pub Flies : SurfaceId → Size → Live → List Flown → Type 0
 Flies root size v flown = flown ≡ flown_from size root v.store
 
--- each of these, with what it lists, is an active submission of a state
+-- each of these is an active submission of a state, with what it lists
 abbrev pub AreActive : World → List Flown → Type 0
 AreActive w roster = (f : Flown) → Contains roster f
     → (s : Submission) × Contains w.subs s × IsTrue (is_active s) × (sub_of s ≡ f.0) × (s.submitted.frame.resources ≡ f.1)
 
--- these active submissions are drawn, each of them once, and none of them holds anything yet in the drawn frame
+-- these active submissions are to be drawn, each once, and none of them holds anything in the
+-- drawn frame yet
 pub record IsLifting (p : Plan) (w : World) (roster : List Flown) (lenders : List Lent) : Type 0 where
   pub plan : IsPlan p
   pub always : KeepsAlways w

@@ -1,4 +1,4 @@
--- The drawn frame is done: what its submissions held is released, one after the other.
+-- The drawn frame is done: its submissions release their resources, one after the other.
 use Rattle.std.specs.Prelude.{◌≡◌, ℕ, ◌+◌, Option, Some, None, List, IsFalse, drop, length, slice_get}
 use Rattle.std.specs.List.{Contains}
 use Rattle.vz_ids.specs.declared.Sub.{Sub}
@@ -8,23 +8,23 @@ use Rattle.vz_lending.specs.Lent.{Lent, AreLent}
 use Rattle.vz_flight.specs.Flying.{Flown, subs_of}
 use Rattle.vz_live.specs.Living.{Live, AreLive, AreWhole}
 
--- between steps, a frame of these submissions is drawn and not done
+-- between steps, a frame of these submissions is in flight
 pub record IsFlying (w : World) (drawn : List Sub) (v : Live) : Type 0 where
   pub keeps : Keeps w
   pub live : AreLive w None v
   pub flies : w.in_flight ≡ Some drawn
 
--- how many submissions are in the drawn frame, 0 where there is none
+-- how many submissions are in the drawn frame; 0 if there is no such frame
 abbrev pub flying_count : Option (List Flown) → ℕ
 flying_count None = 0
 flying_count (Some flown) = length flown
 
--- each of these, with what it lists, is a submission of a state
+-- each of these is a submission of a state, with what it lists
 abbrev pub AreSubmitted : World → List Flown → Type 0
 AreSubmitted w roster = (f : Flown) → Contains roster f
     → (s : Submission) × Contains w.subs s × (sub_of s ≡ f.0) × (s.submitted.frame.resources ≡ f.1)
 
--- these submissions, each of them once, hold what they list in the drawn frame
+-- these submissions, each once, hold what they list in the drawn frame
 pub record IsLanding (w : World) (roster : List Flown) (lenders : List Lent) : Type 0 where
   pub always : KeepsAlways w
   pub whole : AreWhole w.subs

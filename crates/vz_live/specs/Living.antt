@@ -1,4 +1,4 @@
--- The surfaces of the machine with what hangs on them, and when they stand for a state.
+-- The surfaces of the machine with all that depends on them, and when they represent a state.
 use Rattle.std.specs.Prelude.{◌≡◌, ℕ, ◌+◌, ◌≤◌, Option, List, length, if◌then◌else◌}
 use Rattle.std.specs.List.{Contains, sum_by}
 use Rattle.vz_ids.specs.declared.SurfaceId.{SurfaceId}
@@ -13,8 +13,9 @@ use Rattle.vz_lending.specs.Lent.{Lent, AreLent}
 use Rattle.vz_feeding.specs.Owing.{OwedAndRoom, AreOwed}
 use Rattle.vz_flight.specs.Flying.{Flown, AreFlown}
 
--- the surfaces and submissions, what clients lent, the feedback that is owed, what is referenced and temporary, the damages, the
--- drawn frame, and how many places the submissions that wait want among the references once they become active
+-- the surfaces and submissions, what clients lent, the owed feedback, references and temporary
+-- surfaces, the damages, the drawn frame, and how many places among the references the waiting
+-- submissions need once they become active
 pub record Live : Type 0 where
   pub store : Stored
   pub lent : List Lent
@@ -24,7 +25,7 @@ pub record Live : Type 0 where
   pub flight : Option (List Flown)
   pub wanted : ℕ
 
--- a submission that waits wants a place for its surface, and one for each of its references
+-- a waiting submission needs a place for its surface, and one for each of its references
 abbrev pub wants : Submission → ℕ
 wants s = if is_waiting s then length s.submitted.frame.metadata.references + 1 else 0
 
@@ -32,8 +33,8 @@ wants s = if is_waiting s then length s.submitted.frame.metadata.references + 1 
 abbrev pub AreWhole : List Submission → Type 0
 AreWhole subs = (s : Submission) → Contains subs s → IsWhole s.submitted
 
--- each part stands for a state, and there is room for every submission that waits to become active; the temporary surfaces
--- are those of the state but for a new one, which is to be kept still
+-- each part represents the state, and there is room for every waiting submission to become active;
+-- the temporary surfaces are those of the state, except for a new one that is yet to be kept
 pub record AreLive (w : World) (but : Option SurfaceId) (v : Live) : Type 0 where
   pub store : v.store ≡ stored_of w
   pub whole : AreWhole w.subs

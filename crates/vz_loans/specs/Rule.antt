@@ -1,5 +1,5 @@
--- The rule of the lock of turns, and what each of its steps tells.
--- Word 0 counts the tickets that were taken and word 1 the turns that ended, both modulo 2 ^ 64. Slot 0 has the state.
+-- The rule of the lock of turns, and what each of its steps means. Word 0 counts the tickets that
+-- were taken, and word 1 the turns that ended, both modulo 2 ^ 64. Slot 0 has the state.
 use Rattle.std.specs.Prelude.{◌≡◌, ◌≢◌, ℕ, ◌+◌, ◌-◌, ◌%◌, ◌^◌, ◌<◌, ◌≤◌, Bool, true, false, ◌==◌, nat_lt, if◌then◌else◌, zero, suc}
 use Rattle.std.specs.Prelude.{List, [], ◌∷◌, ◌++◌, map, length, slice_index, Option, Some, None, IfSome}
 use mathlib.Core.Option.{some}
@@ -12,34 +12,34 @@ use Rattle.vz_loans.specs.declared.view.View.{View}
 use Rattle.vz_loans.specs.declared.view.Stage.{Stage}
 use Rattle.vz_loans.specs.declared.view.Stage.TheVariants.{Idle, Waiting, Inside}
 
--- the entries made, each with the number of its caller
+-- the entries that were made, each with the number of its caller
 abbrev pub Log : Type 0 → Type 0
 Log E = List (ℕ × E)
 
--- a number, with the places of its entries
+-- a caller's number, with the places of its entries
 abbrev pub Claim : Type 0
 Claim = ℕ × List ℕ
 
--- the places, from k on, of the entries of the caller n
+-- the places of the entries of caller n, if the first entry has place k
 abbrev pub places_from : {E : Type 0} → ℕ → ℕ → Log E → List ℕ
 places_from k n [] = []
 places_from k n (x ∷ xs) =
     if x.0 == n then k ∷ places_from (k + 1) n xs else places_from (k + 1) n xs
 
--- the places of the entries of the caller n, counted from 1
+-- the places of the entries of caller n, counted from 1
 abbrev pub places : {E : Type 0} → ℕ → Log E → List ℕ
 places n log = places_from 1 n log
 
--- what a seat that was joined into another had: its plan and its list
+-- the plan and the list of a seat that was joined into another one
 abbrev pub Old : Type 0 → Type 0 → Type 0
 Old P E = Option P × Log E
 
--- each of these has this plan, and its list begins the list
+-- each of these has this plan, and its list is a front part of the list
 abbrev pub AllOld : {P E : Type 0} → Option P → List (Old P E) → Log E → Type 0
 AllOld a [] log = Unit {0}
 AllOld a (o ∷ os) log = IfSome o.0 (λ p. a ≡ Some p) × (IsPrefix o.1 log × AllOld a os log)
 
--- the claims tell the places of their numbers in the list
+-- the claims have the places of their numbers' entries in the list
 abbrev pub AllTell : {E : Type 0} → List Claim → Log E → Type 0
 AllTell [] log = Unit {0}
 AllTell (c ∷ cs) log = (c.1 ≡ places c.0 log) × AllTell cs log
@@ -48,25 +48,25 @@ abbrev pub weight : Bool → ℕ
 weight true = 1
 weight false = 0
 
--- how often the number is claimed
+-- how many claims have this number
 abbrev pub claims_of : ℕ → List Claim → ℕ
 claims_of n [] = 0
 claims_of n (c ∷ cs) = weight (c.0 == n) + claims_of n cs
 
--- count numbers, from k on
+-- count numbers, from k up
 abbrev pub numbers_from : ℕ → ℕ → List ℕ
 numbers_from k zero = []
 numbers_from k (suc count) = k ∷ numbers_from (k + 1) count
 
--- numbers that have no entry
+-- claims of numbers that have no entry
 abbrev pub blank : List ℕ → List Claim
 blank ns = map (λ n. (n, [])) ns
 
--- all numbers that a view keeps: those of callers, and the spare ones, which have no entry
+-- all numbers that a view has: those of callers, and the spare ones, which have no entry
 abbrev pub kept : {P E : Type 0} → View P E → List Claim
 kept v = v.claims ++ blank v.spares
 
--- the same numbers, with their places in this list
+-- the same numbers, with the places of their entries in this list
 abbrev pub retold : {E : Type 0} → Log E → List Claim → List Claim
 retold log cs = map (λ c. (c.0, places c.0 log)) cs
 
@@ -80,7 +80,7 @@ abbrev pub total : {A : Type 0} → (A → ℕ) → List A → ℕ
 total f [] = 0
 total f (x ∷ xs) = f x + total f xs
 
--- where the state is: in the slot at home, or out with the seat that is in turn
+-- where the state is: in the slot at home, or away with the seat that is in its turn
 pub data Place (K : Type 0) : Type 0 where
   home : K → Place K
   away : Place K
@@ -92,14 +92,16 @@ IsInTurn (Inside t) = Unit {0}
 
 module _ {K P E : Type 0} where
   module _ (tickets turns : ℕ) (agreed : Option P) (log : Log E) (owner : ℕ → ℕ) (place : Place K) (j : ℕ) (v : View P E) where
-    -- a ticket is of the open ones, this seat's alone, and of a seat with a number; in turn, the seat has seen the whole list
+    -- a seat's ticket is open and belongs to this seat, and the seat has a number; in its turn,
+    -- the seat has seen the whole list
     abbrev pub Knows : Stage → Type 0
     Knows Idle = Unit {0}
     Knows (Waiting t) = (turns ≤ t) × (t < tickets) × (owner t ≡ j) × (0 < length v.claims)
     Knows (Inside t) =
         (t ≡ turns) × (t < tickets) × (owner t ≡ j) × (0 < length v.claims) × (place ≡ away) × (v.seen ≡ log) × (v.plan ≡ agreed)
 
-  -- how a seat's view fits: its plan, its list and its old lists, and the places of the numbers that it keeps
+  -- what always holds of a seat's view: its plan, its list and its old lists fit, and so do the
+  -- places of its numbers
   pub record Fits (tickets turns : ℕ) (agreed : Option P) (log : Log E) (owner : ℕ → ℕ) (place : Place K) (j : ℕ) (v : View P E) : Type 0 where
     pub planned : IfSome v.plan (λ p. agreed ≡ Some p)
     pub begun : IsPrefix v.seen log
@@ -120,30 +122,31 @@ abbrev pub kept_on : {P E : Type 0} → ℕ → View P E → ℕ
 kept_on n v = claims_of n (kept v)
 
 module _ {K P E : Type 0} (plan_of : K → P) (entries_of : K → Log E) where
-  -- the state is in slot 0, has the plan, and its list is the list; or the front seat is in turn
+  -- the state is in slot 0, with the plan and the list; or the seat in front is in its turn
   abbrev pub Lies : List (maybe.Option (Option K)) → List (View P E) → Option P → Log E → ℕ → Place K → Type 0
   Lies homes views agreed log front (home k) =
       (get_elem? homes 0 ≡ some (some (Some k))) × (agreed ≡ Some (plan_of k)) × (entries_of k ≡ log)
   Lies homes views agreed log front away = (v : View P E) × (get_elem? views front ≡ some v) × IsInTurn v.stage
 
-  -- the rule, of the plan and of how many callers there are at most
+  -- the rule of the lock, for a plan and at most so many callers
   pub record Turns (plan : P) (callers : ℕ) (s : State (Option K) (View P E)) : Type 0 where
     pub tickets : ℕ
     pub turns : ℕ
     -- the one list of entries
     pub log : Log E
-    -- whose seat a ticket is
+    -- the seat that a ticket belongs to
     pub owner : ℕ → ℕ
     pub place : Place K
     pub few : callers ≤ MOST_CALLERS
     pub wide : length s.words ≡ 2
     pub tickets_is : slice_index s.words 0 ≡ tickets % 2 ^ 64
     pub turns_is : slice_index s.words 1 ≡ turns % 2 ^ 64
-    -- the open tickets are as many as the views that have one
+    -- there are as many open tickets as views with a ticket
     pub counted : total ticketed s.views + turns ≡ tickets
     pub numbered : total claimed s.views + total spared s.views ≡ MOST_CALLERS
     pub spare : MOST_CALLERS ≤ total spared s.views + callers
-    -- each number below the most callers is kept by one view, and no other is kept or has an entry
+    -- each number below the greatest number of callers is in one view; no other number is in a
+    -- view or has an entry
     pub once : (n : ℕ) → total (kept_on n) s.views ≡ weight (nat_lt n MOST_CALLERS)
     pub strange : (n : ℕ) → MOST_CALLERS ≤ n → places n log ≡ []
     pub each_seat : (j : ℕ) (v : View P E) → get_elem? s.views j ≡ some v → Fits tickets turns (Some plan) log owner place j v
@@ -170,7 +173,7 @@ module _ {P E : Type 0} where
   abbrev pub spent : View P E
   spent = view Idle None [] [] [] []
 
-  -- a seat before any entry, with the number 0, and with those from k on as spare ones
+  -- a seat before any entry, with the number 0, and with the numbers from k up as spare ones
   abbrev pub dealing : Option P → ℕ → View P E
   dealing plan k = view Idle plan [] [] ((0, []) ∷ []) (numbers_from k (MOST_CALLERS - k))
 
@@ -178,49 +181,50 @@ module _ {P E : Type 0} where
   abbrev pub newcomer : P → View P E
   newcomer plan = dealing (Some plan) 1
 
-  -- a new seat has the least spare number, if any, and the old one keeps the others
+  -- a new seat gets the least spare number, if there is one; the old seat keeps the others
   abbrev pub given : View P E → View P E
   given v = view Idle v.plan v.seen [] (blank (first_of v.spares)) []
 
   abbrev pub left : View P E → View P E
   left v = view v.stage v.plan v.seen v.olds v.claims (others_of v.spares)
 
-  -- a new seat with the plan and the list alone
+  -- a new seat with only the plan and the list
   abbrev pub note : View P E → View P E
   note v = view Idle v.plan v.seen [] [] []
 
-  -- the longer list, both lists and all old ones as old lists, and the numbers of both
+  -- the longer of two lists, with both lists and all old ones as old lists, and the numbers of
+  -- both seats
   abbrev pub joined : View P E → View P E → View P E
   joined v w = view v.stage v.plan (longer v.seen w.seen) ((v.plan, v.seen) ∷ (w.plan, w.seen) ∷ v.olds ++ w.olds) (v.claims ++ w.claims)
       (v.spares ++ w.spares)
 
-  -- after a turn that left this list
+  -- a view after a turn that left this list
   abbrev pub ended_view : P → Log E → View P E → View P E
   ended_view p xs v = view Idle (Some p) xs [] (retold xs v.claims) v.spares
 
--- a seat's view, and the slots that are out with it
+-- a seat's view, and the slots that are away with it
 abbrev pub Seated : Type 0 → Type 0 → Type 0 → Type 0
 Seated K P E = Me (Option K) (View P E)
 
 module _ {K P E : Type 0} where
-  -- a ticket is taken
+  -- a ticket was taken
   abbrev pub took : Step (Option K) → Seated K P E → ℕ → Seated K P E → Type 0
   took st m r m' = (t : ℕ) × (r ≡ t % 2 ^ 64) × (m' ≡ (staged (Waiting t) m.0, m.1))
 
-  -- the lists of the seats that were joined begin the seat's own, and are put away
+  -- the lists of the joined seats are front parts of the seat's own list, and are dropped
   abbrev pub compared : Step (Option K) → Seated K P E → ℕ → Seated K P E → Type 0
   compared st m r m' =
       (m' ≡ (view m.0.stage m.0.plan m.0.seen [] m.0.claims m.0.spares, m.1)) × AllOld m.0.plan m.0.olds m.0.seen × AllTell m.0.claims m.0.seen
 
 module _ {K P E : Type 0} (plan_of : K → P) (entries_of : K → Log E) where
-  -- the slot goes out to the seat, with the state k
+  -- the slot with the state k goes to the seat
   abbrev pub Enters : Seated K P E → ℕ → Seated K P E → Type 0
   Enters m t m' =
       (k : K) × (m' ≡ (view (Inside t) m.0.plan (entries_of k) [] m.0.claims m.0.spares, (0, Some k) ∷ m.1))
       × (m.0.plan ≡ Some (plan_of k)) × IsPrefix m.0.seen (entries_of k) × AllOld (Some (plan_of k)) m.0.olds (entries_of k)
       × AllTell m.0.claims (entries_of k)
 
-  -- the turn of the ticket t has come, or nothing changes
+  -- if the turn of the seat's ticket has come, the seat gets the slot; otherwise nothing changes
   abbrev pub looked : Step (Option K) → Seated K P E → ℕ → Seated K P E → Type 0
   looked st m r m' =
       (t : ℕ) → m.0.stage ≡ Waiting t → (r ≡ t % 2 ^ 64 → Enters m t m') × (r ≢ t % 2 ^ 64 → m' ≡ m)
@@ -235,7 +239,8 @@ is_inside Idle = false
 is_inside (Waiting t) = false
 is_inside (Inside t) = true
 
--- what a token keeps: one caller's number, and at rest no slot, or in turn the empty one
+-- what always holds of a token: it has one caller's number; outside its turn it has no slot, and
+-- in its turn the empty one
 pub record IsHeld {K P E : Type 0} (number ticket : ℕ) (me : Seated K P E) : Type 0 where
   pub planned : (p : P) × (me.0.plan ≡ Some p)
   pub claim : me.0.claims ≡ (number, places number me.0.seen) ∷ []
@@ -254,6 +259,6 @@ pub record MayEnter {K P E : Type 0} (m : Seated K P E) : Type 0 where
   pub claims : 0 < length m.0.claims
   pub planned : (p : P) × (m.0.plan ≡ Some p)
 
--- a seat that deals out the numbers from k on
+-- a seat that hands out the numbers from k up
 abbrev pub ready : {K P E : Type 0} → Option P → ℕ → Seated K P E
 ready plan k = (dealing plan k, [])

@@ -11,7 +11,8 @@ pub record Turnstile : Type 0 where
   pub id : TableId
   pub callers : ℕ
 
--- a caller: its lock, the plan, its number, the made entries that it has seen, and whether it has the state
+-- a caller: its lock, the plan, its number, the entries that it has seen, and whether it has the
+-- state
 pub record Caller (P E : Type 0) : Type 0 where
   pub lock : TableId
   pub plan : Option P
@@ -27,7 +28,7 @@ mine t = places t.number t.seen
 abbrev pub unused : {P E : Type 0} → TableId → Option P → ℕ → Caller P E
 unused id plan number = record { lock = id; plan = plan; number = number; seen = []; inside = false }
 
--- count callers before any entry, with the numbers from k on
+-- count callers before any entry, with the numbers from k up
 abbrev pub unused_from : {P E : Type 0} → TableId → Option P → ℕ → ℕ → List (Caller P E)
 unused_from id plan k zero = []
 unused_from id plan k (suc count) = unused id plan k ∷ unused_from id plan (k + 1) count
@@ -36,11 +37,11 @@ unused_from id plan k (suc count) = unused id plan k ∷ unused_from id plan (k 
 abbrev pub IsAtRest : {P E : Type 0} → TableId → Caller P E → Type 0
 IsAtRest id t = (t.lock ≡ id) × (t.inside ≡ false)
 
--- the entries are those that the caller has seen, or one more of its number
+-- the entries are those that the caller has seen, possibly followed by one of its own
 abbrev pub MayLeave : {P E : Type 0} → Caller P E → Log E → Type 0
 MayLeave {P} {E} t entries = (entries ≡ t.seen) ⊎ ((e : E) × (entries ≡ t.seen ++ (t.number, e) ∷ []))
 
--- it is the same caller of the same lock, with the same plan
+-- both are the same caller of the same lock, with the same plan
 abbrev pub IsSameCaller : {P E : Type 0} → Caller P E → Caller P E → Type 0
 IsSameCaller t u = (u.lock ≡ t.lock) × (u.number ≡ t.number) × (u.plan ≡ t.plan)
 
@@ -49,19 +50,19 @@ abbrev pub numbered : {P E : Type 0} → ℕ → List (Caller P E) → ℕ
 numbered n [] = 0
 numbered n (t ∷ ts) = weight (t.number == n) + numbered n ts
 
--- the plan and the entries of the state at the end are those that the token knows of
+-- the final state has the plan and the entries that the token knows
 pub record IsClosedBy {P E : Type 0} (plan : P) (entries : Log E) (t : Caller P E) : Type 0 where
   pub same_plan : t.plan ≡ Some plan
   pub begun : IsPrefix t.seen entries
   pub counted : places t.number entries ≡ mine t
 
--- a seat at rest that has the numbers of these callers
+-- a seat outside its turn that has the numbers of these callers
 pub record IsWhole {K P E : Type 0} (ts : List (Caller P E)) (me : Seated K P E) : Type 0 where
   pub idle : me.0.stage ≡ Idle
   pub claims : length me.0.claims ≡ length ts
   pub numbers : (n : ℕ) → claims_of n me.0.claims ≡ numbered n ts
 
--- what the view knows of a plan and a list, the token knew
+-- the token knew the plan and the list that the view has
 abbrev pub Covers : {P E : Type 0} → View P E → Caller P E → Type 0
 Covers {P} {E} v t =
     (plan : P) (entries : Log E) → IfSome v.plan (λ p. Some plan ≡ Some p) → IsPrefix v.seen entries → AllOld (Some plan) v.olds entries

@@ -22,17 +22,18 @@ use Rattle.vz_manager.specs.declared.outcome.New.{New}
 abbrev pub new_id : Option New → Option SurfaceId
 new_id new = option_map (λ (n : New). n.id) new
 
--- a new surface, if there is one, is to be kept in a state, in which what is named now is named
+-- a new surface, if there is one, is yet to be kept in a state after naming
 pub record IsKeeping (w : World) (new : Option New) (v : Settling) : Type 0 where
   pub stands : AreSettling w (new_id new) v
   pub is : (n : New) → new ≡ Some n → (c : Created) × IsNew w c n.id × (n.until ≡ w.tick + TEMPORARY_TICKS)
 
--- there is room for a new surface, if there is one, among the temporary ones
+-- there is room for a new surface, if there is one, among the temporary surfaces
 abbrev pub CanKeep : Option New → Settling → Type 0
 CanKeep new v = (n : New) → new ≡ Some n → 0 < v.live.kept.room
 
--- a step made its own change, and this is ready; a new surface, if there is one, is to be kept once all that follows became active.
--- Where the change marked, named and showed nothing anew, nothing is lost by it
+-- a step made its own change, and these submissions are ready; a new surface, if there is one, is
+-- to be kept after all rounds. If the change marked, named and showed nothing new, no surface is
+-- lost
 pub record IsFollowed (w : World) (root : Option SurfaceId) (new : Option New) (anew : Bool) (v : Settling) (f : Following) : Type 0 where
   pub settles : IsToSettle w (new_id new) v f.activated.list
   pub of_root : root ≡ w.root
@@ -40,12 +41,12 @@ pub record IsFollowed (w : World) (root : Option SurfaceId) (new : Option New) (
   pub is : (n : New) → new ≡ Some n → (c : Created) × IsNew (naming (settle w)) c n.id × (n.until ≡ w.tick + TEMPORARY_TICKS)
   pub unlost : IsFalse anew → lost_in (naming w) ≡ []
 
--- a collection begins, once what is named now is named; it is asked wherever a surface is lost
+-- a collection begins, after naming; the machine calls it if any surface is lost
 pub record IsAsked (w : World) (root : Option SurfaceId) (asked : Bool) (v : Settling) : Type 0 where
   pub collects : IsToCollect w root v
   pub unlost : IsFalse asked → lost_in w ≡ []
 
--- there is room for all that may follow
+-- there is room for everything that may follow
 pub record CanFollow (new : Option New) (v : Settling) (f : Following) : Type 0 where
   pub keeps : CanKeep new v
   pub activated : length v.waiting.blocked ≤ f.activated.spare
@@ -66,19 +67,20 @@ pub record CanFollow (new : Option New) (v : Settling) (f : Following) : Type 0 
   pub found : length v.live.kept.sets + (length f.activated.list + length v.waiting.blocked) + length v.live.kept.temporary + 1
       < f.lists.index.spare
 
--- the lists tell these effects
+-- the lists have these effects
 pub record Tells (e : Effects) (f : Following) : Type 0 where
   pub activated : e.activated ≡ f.activated.list
   pub destroyed : e.destroyed ≡ f.destroyed.list
   pub returned : e.returned ≡ f.returned.list
   pub fed : e.fed ≡ f.fed.list
 
--- a state between steps: nothing is due that its submissions await
+-- the settling represents a state between steps
 pub record IsBetween (w : World) (v : Settling) : Type 0 where
   pub keeps : Keeps w
   pub stands : AreSettling w None v
 
--- there is room for all that may follow a step that accepts one submission, of so many listings and on a new surface, or fewer
+-- there is room for everything that may follow a step that accepts at most one submission, with so
+-- many listings and on a new surface
 pub record HasRoomAfter (listings : ℕ) (v : Settling) (f : Following) : Type 0 where
   pub none_activated : f.activated.list ≡ []
   pub activated : length v.waiting.blocked + 1 ≤ f.activated.spare
@@ -97,8 +99,8 @@ pub record HasRoomAfter (listings : ℕ) (v : Settling) (f : Following) : Type 0
   pub none_found : f.lists.index.list ≡ []
   pub found : length v.live.kept.sets + (length v.waiting.blocked + 1) + length v.live.kept.temporary + 2 ≤ f.lists.index.spare
 
--- a step's own change, at most one acceptance of so many listings, so many of which are ready: what it leaves is no more than
--- there is room for
+-- a step's own change accepts at most one submission with so many listings, and makes so many
+-- ready: it leaves no more than there is room for
 pub record IsWithin (listings : ℕ) (old new : Settling) (risen : ℕ) : Type 0 where
   pub waiting : length new.waiting.blocked + risen ≤ length old.waiting.blocked + 1
   pub surfaces : existing_count new.live.store ≤ existing_count old.live.store + 1

@@ -1,4 +1,4 @@
--- What is asked of a client's submission before anything changes.
+-- The tests of a client's submission before anything changes.
 use Rattle.std.specs.Prelude.{ℕ, Option, None, unwrap_or, [], ◌∷◌}
 use Rattle.vz_base.specs.declared.limits.TheConstants.{DEFAULT_DEADLINE}
 use Rattle.vz_geom.specs.declared.Size.{Size}
@@ -14,7 +14,8 @@ use Rattle.vz_live.specs.Living.{Live, AreLive}
 use Rattle.vz_live.specs.Asking.{NameAndSize, violates_named, has_other_size_named}
 use Rattle.vz_support.specs.Supporting.{Supported, IsSupport}
 
--- why a frame of a size is refused on a local id, by the local id and the size of the last surface of its client, if it is
+-- why a frame with this local id and size is refused, by the local id and the size of its client's
+-- last surface; None if it is not refused
 abbrev pub shape_refusal : Option NameAndSize → LocalSurfaceId → Size → Option Refusal
 shape_refusal last local size =
     first_some (
@@ -22,7 +23,7 @@ shape_refusal last local size =
     ∷ when (has_other_size_named last local size) refusal.SizeMismatch ∷ []
     )
 
--- why a client's submission is refused, if it is
+-- why a client's submission is refused; None if it is not
 abbrev pub refusal_in : World → Client → LocalSurfaceId → CompositorFrame → Option Refusal
 refusal_in w x local frame = submit_refusal (last_created w x.number) x.resources local frame
 
@@ -30,7 +31,7 @@ refusal_in w x local frame = submit_refusal (last_created w x.number) x.resource
 abbrev pub deadline_of : CompositorFrame → ℕ
 deadline_of frame = unwrap_or frame.metadata.deadline DEFAULT_DEADLINE
 
--- what is kept for the clients, and the surfaces, stand for a state of a plan
+-- what is kept for the clients, and the surfaces, represent a state of a plan
 pub record AreAsked (p : Plan) (w : World) (v : Supported) (l : Live) : Type 0 where
   pub always : KeepsAlways w
   pub support : IsSupport p w v

@@ -21,12 +21,13 @@ sent_as (message.Hierarchy parent child) = kind.Hierarchy
 sent_as message.Await = kind.Await
 sent_as message.Close = kind.Close
 
--- what kind of message a client sends next, by whether it is closed and by the message, if one is left
+-- the kind of message that a client sends next, by whether it is closed and by its next message,
+-- if there is one
 abbrev pub kind_of : Bool → Option Message → Kind
 kind_of closed None = kind.Nothing
 kind_of closed (Some m) = if closed then kind.Closed else sent_as m
 
--- a client that sends a message of this kind next has a message that is of it
+-- the client's next message is of this kind
 abbrev pub Comes : Supported → ℕ → Kind → Type 0
 Comes v c kind.Nothing = Unit {0}
 Comes v c kind.Closed = (m : Message) × IsNext v c m

@@ -1,4 +1,4 @@
--- The picture of a drawing, made of flat operations.
+-- The picture of a drawing, made from flat operations.
 use Rattle.std.specs.Prelude.{◌≡◌, true, Option, Some, List}
 use Rattle.std.specs.Option.{option_map}
 use Rattle.vz_geom.specs.declared.Point.{Point}
@@ -17,33 +17,35 @@ use Rattle.vz_machine.specs.Stepping.{ShowsDrawn}
 use Rattle.vz_flat.specs.declared.op.Op.{Op}
 use Rattle.vz_flat.specs.Ops.{value}
 
--- the size of a display, the operations that are drawn on it, and the rectangle that changed
+-- the size of a display, the operations that are drawn on it, and the changed rectangle
 pub record Flattened : Type 0 where
   pub size : Size
   pub ops : List Op
   pub changed : Rectangle
 
--- the size is a display's, and what changed is on it
+-- the size is that of a display, and the changed rectangle is on it
 pub record IsFlattened (f : Flattened) : Type 0 where
   pub sides : IsDisplaySize f.size
   pub inside : Covers (sized f.size) f.changed
 
--- the picture that operations leave on opaque black
+-- the picture that operations paint on opaque black
 abbrev pub flat_picture : Flattened → Pictured
 flat_picture f = record { size = f.size; colour = λ q. value f.ops q black; changed = f.changed }
 
--- something can be seen of a state, and at each point of the plan's display the operations leave its colour
+-- the state shows something, and at each point of the plan's display the operations give its
+-- colour
 pub record LookLike (p : Plan) (w : World) (ops : List Op) : Type 0 where
   pub scene : Scene
   pub seen : scene_of w ≡ Some scene
   pub colours : (q : Point) → has (sized p.size) q ≡ true → value ops q black ≡ full scene q
 
--- a drawing of a state, on the plan's display of this size, is answered so
+-- a drawing of a state gets this reply, on the plan's display, which has this size
 pub record IsAnswered (p : Plan) (w : World) (size : Size) (reply : Reply) : Type 0 where
   pub plan : IsPlan p
   pub sized_as : p.size ≡ size
   pub reply_is : reply ≡ (draw_answer p w).reply
 
--- there is a picture exactly where the answer is Drawn: of what can be seen of the state, and what changed is the damage
+-- there is a picture exactly if the reply is Drawn; it shows what the state shows, and its changed
+-- rectangle is the damage
 abbrev pub IsPainted : Plan → World → Reply → Option Flattened → Type 0
 IsPainted p w reply painted = ShowsDrawn (record { plan = p; world = w }) reply (option_map flat_picture painted)

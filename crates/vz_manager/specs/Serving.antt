@@ -1,4 +1,4 @@
--- The parts of the machine, and when they stand for a state of a plan.
+-- The parts of the machine, and when they represent a state of a plan.
 use Rattle.std.specs.Prelude.{◌≡◌, ℕ, ◌≤◌, IsTrue, IsFalse, is_some, Some, None, []}
 use Rattle.vz_geom.specs.declared.Size.{Size}
 use Rattle.vz_frame.specs.declared.message.Message.{Message}
@@ -20,8 +20,8 @@ use Rattle.vz_settling.specs.declared.settling.Settling.{Settling}
 use Rattle.vz_settling.specs.Settles.{AreSettling}
 use Rattle.vz_support.specs.Supporting.{Supported, IsSupport}
 
--- the size of the display, what is kept for the clients, the surfaces and what waits, and the lists for the end of the drawn
--- frame, with the room that was made before
+-- the size of the display, what is kept for the clients, the surfaces with what waits, and the
+-- lists for the end of the drawn frame, with reserved room
 pub record Served : Type 0 where
   pub size : Size
   pub support : Supported
@@ -29,14 +29,14 @@ pub record Served : Type 0 where
   pub returned : Roomy Returned
   pub fed : Roomy Fed
 
--- there is room for the end of the drawn frame, if there is one, so that it takes no memory
+-- there is room for the end of the drawn frame, if there is one, so that Done takes no memory
 pub record CanLand (v : Served) : Type 0 where
   pub none_returned : v.returned.list ≡ []
   pub none_fed : v.fed.list ≡ []
   pub returned : IsTrue (is_some v.settling.live.flight) → resources_out v.settling.live.lent ≤ v.returned.spare
   pub fed : IsTrue (is_some v.settling.live.flight) → flying_count v.settling.live.flight ≤ v.fed.spare
 
--- between steps each part stands for the state, in which all is kept that steps keep
+-- each part represents a state between steps
 pub record Serves (p : Plan) (w : World) (v : Served) : Type 0 where
   pub plan : IsPlan p
   pub keeps : Keeps w
@@ -48,29 +48,29 @@ pub record Serves (p : Plan) (w : World) (v : Served) : Type 0 where
   pub released : NoneReleased v.settling.live.lent
   pub lands : CanLand v
 
--- a step answers what the definitions answer, and tells what follows
+-- a step returns what the definitions answer, and the effects that follow
 pub record IsStepOf (p : Plan) (w : World) (e : Event) (s : Step) : Type 0 where
   pub reply : s.reply ≡ (step_in p w e).reply
   pub effects : s.effects ≡ (step_in p w e).effects
 
--- the client of a number is not closed, and sends this message next
+-- the client with this number has not closed, and sends this message next
 pub record IsSending (p : Plan) (w : World) (c : ℕ) (x : Client) (m : Message) : Type 0 where
   pub here : client_at w c ≡ Some x
   pub stays : IsFalse x.closed
   pub next : next_message p x ≡ Some m
 
--- the client of a number has no message left
+-- the client with this number has no message left
 pub record HasNone (p : Plan) (w : World) (c : ℕ) (x : Client) : Type 0 where
   pub here : client_at w c ≡ Some x
   pub none : next_message p x ≡ None
 
--- the client of a number is closed, and has this message left
+-- the client with this number has closed, and has this message left
 pub record IsClosed (p : Plan) (w : World) (c : ℕ) (x : Client) (m : Message) : Type 0 where
   pub here : client_at w c ≡ Some x
   pub closed : IsTrue x.closed
   pub next : next_message p x ≡ Some m
 
--- the client of a number has this message next, which is refused for this reason
+-- the client with this number has this message next, and it is refused for this reason
 pub record IsRefused (p : Plan) (w : World) (c : ℕ) (x : Client) (m : Message) (r : Refusal) : Type 0 where
   pub here : client_at w c ≡ Some x
   pub next : next_message p x ≡ Some m

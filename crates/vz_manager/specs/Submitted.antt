@@ -1,4 +1,5 @@
--- A submission that a client sends: what is read of it, the room that is made for it, and what its acceptance leaves.
+-- A submission that a client sends: what is read of it, the room that is made for it, and what its
+-- acceptance changes.
 use Rattle.std.specs.Prelude.{◌≡◌, ℕ, ◌+◌, ◌<◌, ◌≤◌, not, IsTrue, is_some, Option, Some, None, List, length, filter, if◌then◌else◌}
 use Rattle.vz_base.specs.declared.limits.TheConstants.{TEMPORARY_TICKS}
 use Rattle.vz_geom.specs.declared.Size.{Size}
@@ -30,13 +31,12 @@ use Rattle.vz_manager.specs.Serving.{Serves, IsSending}
 use Rattle.vz_manager.specs.Followed.{HasRoomAfter}
 use Rattle.vz_manager.specs.Judging.{refusal_in, deadline_of}
 
--- the client of a number is not closed, and submits a frame next that is not refused
+-- the client with this number has not closed, and submits a frame next that is not refused
 pub record IsAllowed (p : Plan) (w : World) (c : ℕ) (x : Client) (local : LocalSurfaceId) (frame : CompositorFrame) : Type 0 where
   pub sends : IsSending p w c x (Submit local frame)
   pub allowed : refusal_in w x local frame ≡ None
 
--- a client submits a frame that is not refused, in a state between steps, for which what is kept for the clients, the surfaces and
--- what waits stand
+-- a client submits a frame that is not refused, and all parts represent the state between steps
 pub record IsSubmitting (p : Plan) (w : World) (c : ℕ) (x : Client) (local : LocalSurfaceId) (frame : CompositorFrame)
     (support : Supported) (settling : Settling) : Type 0 where
   pub plan : IsPlan p
@@ -48,7 +48,8 @@ pub record IsSubmitting (p : Plan) (w : World) (c : ℕ) (x : Client) (local : L
   pub released : NoneReleased settling.live.lent
   pub allowed : IsAllowed p w c x local frame
 
--- the surface that a submission creates, where it is not on the last one of its client, and the tick up to which it is kept
+-- the surface that a submission creates, if it is not on its client's last surface, and the tick
+-- until which it is kept
 unfoldable pub created_by : World → Client → LocalSurfaceId → Option New
 created_by w x local =
     if is_last (last_created w x.number) local then None
@@ -64,7 +65,8 @@ pub record IsComing (w : World) (x : Client) (local : LocalSurfaceId) (frame : C
   pub lacked : coming.lacked.list ≡ filter (λ d. not (is_met w d)) frame.metadata.dependencies
   pub blocks : coming.blocks ≡ blocks_of x.resources frame
 
--- there is room for a submission and for all that may follow it, and where a frame is drawn, for the end of it
+-- there is room for a submission and for everything that may follow it, and for the end of the
+-- drawn frame, if there is one
 pub record HasRoomToSubmit (c : ℕ) (coming : Coming) (settling : Settling) (returned : Roomy Returned)
     (following : Following) : Type 0 where
   pub live : HasRoomFor c coming.listings coming.references settling.live
@@ -72,14 +74,16 @@ pub record HasRoomToSubmit (c : ℕ) (coming : Coming) (settling : Settling) (re
   pub lands : IsTrue (is_some settling.live.flight) → resources_out settling.live.lent + coming.listings ≤ returned.spare
   pub follows : HasRoomAfter coming.listings settling following
 
--- whatever state the parts stood for, they stand for it with other surfaces and another list for the end of the drawn frame
+-- whatever state the parts represented, they represent it with other surfaces and another list for
+-- the end of the drawn frame
 abbrev pub StillServe : Settling → Roomy Returned → Settling → Roomy Returned → Type 0
 StillServe old before new after =
     (p : Plan) (w : World) (size : Size) (support : Supported) (fed : Roomy Fed)
     → Serves p w (record { size = size; support = support; settling = old; returned = before; fed = fed })
     → Serves p w (record { size = size; support = support; settling = new; returned = after; fed = fed })
 
--- a submission is to be accepted, with the sink of its client and the blocks of its listings, and there is room for it
+-- a submission is to be accepted, with its client's sink and the blocks of its listings, and there
+-- is room for it
 pub record IsArriving (p : Plan) (w : World) (c : ℕ) (x : Client) (local : LocalSurfaceId) (frame : CompositorFrame)
     (sink : FrameSinkId) (blocks : List Block) (support : Supported) (settling : Settling) : Type 0 where
   pub submits : IsSubmitting p w c x local frame support settling
@@ -87,7 +91,7 @@ pub record IsArriving (p : Plan) (w : World) (c : ℕ) (x : Client) (local : Loc
   pub listed : blocks ≡ blocks_of x.resources frame
   pub room : HasRoomFor c (length frame.resources) (length frame.metadata.references) settling.live
 
--- a submission is to be accepted, of which this was read, and there is room for it
+-- a submission is to be accepted, this was read of it, and there is room for it
 pub record IsTakingIn (p : Plan) (w : World) (c : ℕ) (x : Client) (local : LocalSurfaceId) (frame : CompositorFrame)
     (coming : Coming) (support : Supported) (settling : Settling) : Type 0 where
   pub submits : IsSubmitting p w c x local frame support settling
@@ -95,14 +99,14 @@ pub record IsTakingIn (p : Plan) (w : World) (c : ℕ) (x : Client) (local : Loc
   pub live : HasRoomFor c coming.listings coming.references settling.live
   pub waiting : length coming.lacked.list < settling.waiting.spare
 
--- a submission was accepted as this
+-- this describes how a submission was accepted
 pub record IsAcceptedAs (w : World) (x : Client) (local : LocalSurfaceId) (frame : CompositorFrame) (a : Accepted) : Type 0 where
   pub sub : a.sub ≡ sub_of (new_submission w x local frame)
   pub index : a.index ≡ (new_submission w x local frame).submitted.index
   pub replaced : a.replaced ≡ waiting_on w (id_of x local)
 
--- a submission was accepted: what is kept for the clients stands for what that leaves, and the surfaces and what waits are to
--- settle there, where these are ready
+-- a submission was accepted: what is kept for the clients represents the new state, and the
+-- surfaces and what waits are to settle there, with these submissions ready
 pub record HasTakenIn (p : Plan) (w : World) (x : Client) (local : LocalSurfaceId) (frame : CompositorFrame) (support : Supported)
     (settling : Settling) (subs : List Sub) : Type 0 where
   pub kept : IsSupport p (accepted w x local frame).world support

@@ -5,16 +5,16 @@ use Rattle.vz_pixels.specs.Colour.{Colour}
 use Rattle.vz_buffers.specs.Canvas.{pixel_count}
 use Rattle.vz_display.specs.Displayed.{Displayed, current, buffer_with}
 
--- the frame in the current buffer of a display, and nothing where none was painted
+-- the frame in the current buffer of a display, or nothing if none was painted
 abbrev pub frame_on : Displayed → List Colour
 frame_on d = elim (current d) [ Some buffer ↦ buffer.pixels | None ↦ [] ]
 
--- a display in range shows a frame of its size, which has a pixel for each point
+-- a display of an allowed size shows a frame of its size, with one pixel for each point
 pub record ShowsFrame (d : Displayed) : Type 0 where
   pub sides : IsDisplaySize d.turns.size
   pub current : current d ≡ buffer_with d.turns.size (frame_on d)
   pub whole : length (frame_on d) ≡ pixel_count d.turns.size
 
--- so many rows of a frame of this width, from a row on
+-- so many rows of a frame with this width, from a row on
 abbrev pub rows_in : ℕ → ℕ → ℕ → List Colour → List Colour
 rows_in width from count pixels = take (count * width) (drop (from * width) pixels)

@@ -1,4 +1,4 @@
--- What a shelf in memory holds, and what its calls leave.
+-- The contents of a shelf in memory, and what its calls change.
 use Rattle.std.specs.Prelude.{ℕ, suc, ◌+◌, ◌-◌, ◌<◌, ◌≡◌, min, true, false, Option, Some, None, Result, Ok, Err, List, [], ◌∷◌, ◌++◌, length, drop, take, slice_get, slice_set, slice_index_or, map, Vec, String, string_bytes, if◌then◌else◌}
 use Rattle.std.specs.Option.{option_map, option_map_or}
 use Rattle.std.specs.Global.{Global}
@@ -16,40 +16,40 @@ use Rattle.vz_outside.specs.declared.shelf.ShelfError.TheVariants.{Failed, Memor
 abbrev pub File : Type 0
 File = Name × List ℕ
 
--- files as a program holds them
+-- the files of a program's list
 abbrev pub files_of : List (String Global × Vec ℕ Global) → List File
 files_of files = map (λ file. (string_bytes file.0, file.1.items)) files
 
--- what a shelf in memory holds
+-- a shelf in memory
 pub record InMemory : Type 0 where
-  -- the files; of those of one name only the first counts
+  -- the files; if several have one name, only the first counts
   pub files : List File
   -- the slots, in the order in which they were opened
   pub slots : List Slot
   -- the calls that were made, and those that fail
   pub calls : Numbered
-  -- how many bytes a call moves at most
+  -- the greatest number of bytes that a call moves
   pub piece : ℕ
 
 -- the file at a place
 abbrev pub file_at : List File → ℕ → File
 file_at files place = slice_index_or files place ([], [])
 
--- the place of the first file of a name
+-- the place of the first file with this name
 unfoldable pub first_named : List File → Name → Option ℕ
 first_named [] name = None
 first_named (file ∷ files) name = if bytes_eq file.0 name then Some 0 else option_map suc (first_named files name)
 
--- the bytes of the first file of a name
+-- the bytes of the first file with this name
 abbrev pub bytes_in : List File → Name → Option (List ℕ)
 bytes_in files name = option_map (λ place. (file_at files place).1) (first_named files name)
 
--- what a slot that stands there is open for
+-- what a slot with this place is open for
 abbrev pub mode_of : Place → Mode
 mode_of (At next) = Reading
 mode_of End = Writing
 
--- what was not yet read of some bytes by a slot that stands there
+-- the bytes after a slot's place, or none if it is open for writing
 abbrev pub unread : List ℕ → Place → List ℕ
 unread bytes (At next) = drop next bytes
 unread bytes End = []
@@ -62,7 +62,7 @@ slot_name files slot = (file_at files slot.file).0
 abbrev pub slot_rest : List File → Slot → List ℕ
 slot_rest files slot = unread (file_at files slot.file).1 slot.place
 
--- what can be known of a shelf in memory: everything
+-- what contracts know of a shelf in memory: everything
 abbrev pub shelved_of : InMemory → Shelved
 shelved_of shelf = record {
   mode = λ slot. option_map (λ open_slot. mode_of open_slot.place) (slice_get shelf.slots slot);
@@ -76,10 +76,10 @@ shelved_of shelf = record {
 
 -- what always holds of a shelf in memory
 pub record IsKept (shelf : InMemory) : Type 0 where
-  -- each slot's file is the first of its name
+  -- each slot's file is the first one with its name
   pub first : (k : ℕ) (slot : Slot) → slice_get shelf.slots k ≡ Some slot →
       first_named shelf.files (slot_name shelf.files slot) ≡ Some slot.file
-  -- a call can move a byte
+  -- a call can move at least one byte
   pub some : 0 < shelf.piece
 
 -- a slot for reading a file from one of its bytes on
@@ -90,19 +90,19 @@ reading_from file next = record { file = file; place = At next }
 abbrev pub writing_to : ℕ → Slot
 writing_to file = record { file = file; place = End }
 
--- after a call that changed nothing
+-- the shelf after a call that changed nothing
 abbrev pub after_call : InMemory → InMemory
 after_call shelf = record shelf { calls = after_one_call shelf.calls }
 
--- after a call that failed
+-- the shelf after a call that failed
 abbrev pub after_fault : InMemory → InMemory
 after_fault shelf = record shelf { calls = after_one_fault shelf.calls }
 
--- after a call that opened one more slot
+-- the shelf after a call that opened one more slot
 abbrev pub with_slot : InMemory → Slot → InMemory
 with_slot shelf slot = record shelf { slots = shelf.slots ++ slot ∷ []; calls = after_one_call shelf.calls }
 
--- the files with that of a name emptied, or made where it was not there
+-- the files with the one of this name emptied, or added if there was none
 abbrev pub emptied : List File → Name → List File
 emptied files name =
     option_map_or (λ place. slice_set files place (name, [])) (first_named files name) (files ++ (name, []) ∷ [])
@@ -111,12 +111,13 @@ emptied files name =
 abbrev pub extended : List File → ℕ → List ℕ → List File
 extended files place more = slice_set files place ((file_at files place).0, (file_at files place).1 ++ more)
 
--- what a call leaves that stops before its work: its number is one of those that fail, or there is no memory
+-- the shelf after a call that stops before it does anything: the call's number is one of those
+-- that fail, or there is no memory
 abbrev pub Stops : InMemory → ShelfError → InMemory → Type 0
 Stops old Failed new = (is_failing old.calls ≡ true) × (new ≡ after_fault old)
 Stops old Memory new = (is_failing old.calls ≡ false) × (new ≡ after_call old)
 
--- what an open of a name answers and leaves
+-- the result of opening a name, and the shelf after it
 abbrev pub Opens : InMemory → Name → Result ℕ ShelfError → InMemory → Type 0
 Opens old name (Ok slot) new =
     (is_failing old.calls ≡ false) × (slot ≡ length old.slots) ×
@@ -125,7 +126,7 @@ Opens old name (Err Failed) new =
     (is_failing old.calls ≡ false → first_named old.files name ≡ None) × (new ≡ after_fault old)
 Opens old name (Err Memory) new = Stops old Memory new × ((file : ℕ) × (first_named old.files name ≡ Some file))
 
--- what a create of a name answers and leaves
+-- the result of creating a name, and the shelf after it
 abbrev pub Creates : InMemory → Name → Result ℕ ShelfError → InMemory → Type 0
 Creates old name (Ok slot) new =
     (is_failing old.calls ≡ false) × (slot ≡ length old.slots) ×
@@ -135,7 +136,7 @@ Creates old name (Err error) new = Stops old error new
 
 -- so many bytes moved from a slot's file to the front of a piece
 pub record Moves (old : InMemory) (slot : ℕ) (room : ℕ) (piece : List ℕ) (n : ℕ) (new : InMemory) : Type 0 where
-  -- the slot's file, and the next byte of it
+  -- the slot's file, and its next byte
   pub file : ℕ
   pub next : ℕ
   pub passes : is_failing old.calls ≡ false
@@ -147,12 +148,12 @@ pub record Moves (old : InMemory) (slot : ℕ) (room : ℕ) (piece : List ℕ) (
     calls = after_one_call old.calls;
   }
 
--- what a read of a slot to a piece of so many bytes answers and leaves
+-- the result of reading from a slot into a piece of so many bytes, and the shelf after it
 abbrev pub Reads : InMemory → ℕ → ℕ → List ℕ → Result ℕ ShelfError → InMemory → Type 0
 Reads old slot room piece (Ok n) new = Moves old slot room piece n new
 Reads old slot room piece (Err error) new = Stops old error new
 
--- so many bytes of a piece were put at the end of a slot's file
+-- so many bytes of a piece were appended to a slot's file
 pub record Puts (old : InMemory) (slot : ℕ) (piece : List ℕ) (n : ℕ) (new : InMemory) : Type 0 where
   -- the slot's file
   pub file : ℕ
@@ -161,19 +162,19 @@ pub record Puts (old : InMemory) (slot : ℕ) (piece : List ℕ) (n : ℕ) (new 
   pub many : n ≡ min old.piece (length piece)
   pub left : new ≡ record old { files = extended old.files file (take n piece); calls = after_one_call old.calls }
 
--- what a write of a piece to a slot answers and leaves
+-- the result of writing a piece to a slot, and the shelf after it
 abbrev pub Writes : InMemory → ℕ → List ℕ → Result ℕ ShelfError → InMemory → Type 0
 Writes old slot piece (Ok n) new = Puts old slot piece n new
 Writes old slot piece (Err error) new = Stops old error new
 
--- what a sink in memory holds
+-- a sink in memory
 pub record Collected : Type 0 where
   -- the bytes that it took
   pub bytes : List ℕ
   -- the calls that were made, and those that fail
   pub calls : Numbered
 
--- what can be known of a sink in memory: everything
+-- what contracts know of a sink in memory: everything
 abbrev pub sunk_of : Collected → Sunk
 sunk_of sink = record {
   is_known = true;
@@ -182,7 +183,7 @@ sunk_of sink = record {
   is_faultless = is_faultless sink.calls;
 }
 
--- what a write of a piece to a sink in memory answers and leaves
+-- the result of writing a piece to a sink in memory, and the sink after it
 abbrev pub Collects : Collected → List ℕ → Result ℕ ShelfError → Collected → Type 0
 Collects old piece (Ok n) new =
     (is_failing old.calls ≡ false) × (n ≡ length piece) ×

@@ -1,4 +1,4 @@
--- What an error reads as.
+-- The texts of errors.
 use Rattle.std.specs.Prelude.{ℕ, List, codes}
 use Rattle.vz_outside.specs.declared.shelf.ShelfError.{ShelfError}
 use Rattle.vz_outside.specs.declared.shelf.ShelfError.TheVariants.{Failed, Memory}

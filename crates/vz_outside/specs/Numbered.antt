@@ -12,15 +12,15 @@ pub record Numbered : Type 0 where
   -- how many faults there were
   pub faults : ℕ
 
--- no call was made yet, and those of these numbers will fail
+-- no call was made yet, and the calls with these numbers will fail
 abbrev pub numbered_from_1 : List ℕ → Numbered
 numbered_from_1 failing = record { failing = failing; next = 1; faults = 0 }
 
--- the calls after one more of them
+-- the state after one more call
 abbrev pub after_one_call : Numbered → Numbered
 after_one_call calls = record calls { next = one_more calls.next }
 
--- the calls after one more of them, which failed
+-- the state after one more call, which failed
 abbrev pub after_one_fault : Numbered → Numbered
 after_one_fault calls = record calls { next = one_more calls.next; faults = one_more calls.faults }
 
@@ -28,6 +28,6 @@ after_one_fault calls = record calls { next = one_more calls.next; faults = one_
 abbrev pub is_failing : Numbered → Bool
 is_failing calls = list_any (λ n. n == calls.next) calls.failing
 
--- no call to come is one of those that fail, and the count of faults can rise
+-- no later call is one of those that fail, and the count of faults is not at its greatest value
 abbrev pub is_faultless : Numbered → Bool
 is_faultless calls = list_all (λ n. nat_lt n calls.next) calls.failing && nat_lt calls.faults greatest_count

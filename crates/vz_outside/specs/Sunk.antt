@@ -1,10 +1,10 @@
--- What can be known of a sink, and what a call may change of it.
+-- What contracts know of a sink, and what a call may change of it.
 use Rattle.std.specs.Prelude.{◌≡◌, ℕ, Bool, List, ◌≤◌, ◌++◌, length, take, IsTrue, Result, IsErrOf}
 use Rattle.vz_outside.specs.Faults.{HasCause}
 use Rattle.vz_outside.specs.declared.shelf.ShelfError.{ShelfError}
 use Rattle.vz_outside.specs.declared.shelf.ShelfError.TheVariants.{Failed}
 
--- what can be known of a sink
+-- what contracts know of a sink
 pub record Sunk : Type 0 where
   -- whether its bytes are known
   pub is_known : Bool
@@ -15,34 +15,34 @@ pub record Sunk : Type 0 where
   -- whether no call fails
   pub is_faultless : Bool
 
--- what is said of the bytes of a sink holds where they are known
+-- a statement about the bytes of a sink, which holds if they are known
 abbrev pub IfKnown : Sunk → Type 0 → Type 0
 IfKnown sink P = IsTrue sink.is_known → P
 
--- the bytes stay
+-- the sink keeps its bytes
 abbrev pub KeepsBytes : Sunk → Sunk → Type 0
 KeepsBytes old new = IfKnown old (new.bytes ≡ old.bytes)
 
--- these bytes stand behind those that it had taken
+-- the sink's bytes are the old ones followed by these
 abbrev pub Takes : List ℕ → Sunk → Sunk → Type 0
 Takes more old new = IfKnown old (new.bytes ≡ old.bytes ++ more)
 
--- a front part of these bytes stands behind those that it had taken
+-- the sink's bytes are the old ones followed by a front part of these
 abbrev pub TakesFront : List ℕ → Sunk → Sunk → Type 0
 TakesFront all old new = IfKnown old ((n : ℕ) × (n ≤ length all) × (new.bytes ≡ old.bytes ++ take n all))
 
--- it is faultless still, and the count is as before
+-- the sink is still faultless, and its count is as before
 pub record StaysFaultless (old new : Sunk) : Type 0 where
   pub faultless : IsTrue new.is_faultless
   pub faults : new.faults ≡ old.faults
 
--- what holds of every call, and of several calls of which none but the last failed
+-- what holds of every call, and of several calls of which only the last may fail
 pub record Behaves {T : Type 0} (old new : Sunk) (result : Result T ShelfError) : Type 0 where
-  -- the bytes are known where they were before
+  -- the bytes are known exactly if they were known before
   pub known : new.is_known ≡ old.is_known
-  -- what the answer says of the count of faults
+  -- what the result says of the count of faults
   pub cause : HasCause old.faults new.faults result
   -- a faultless sink does not fail
   pub works : IsTrue old.is_faultless → IsErrOf result Failed → ⊥
-  -- and stays so
+  -- a faultless sink stays faultless
   pub stays : IsTrue old.is_faultless → StaysFaultless old new

@@ -1,4 +1,4 @@
--- Where a painter stands in a scene.
+-- Which surface is being painted, and with what around it.
 use Rattle.std.specs.Prelude.{ℕ, List, reverse}
 use Rattle.vz_ids.specs.declared.SurfaceId.{SurfaceId}
 use Rattle.vz_frame.specs.declared.blend.Blend.{Blend}
@@ -10,37 +10,38 @@ use Rattle.vz_rules.specs.World.{FrameData}
 use Rattle.vz_rules.specs.Paint.{Named, Embedding, Content, groups, embeds, pix}
 use Rattle.vz_rules.specs.Paint.{material_painted, pass_painted, group_laid, content_at}
 
--- a painter in the frame of a frame, behind the surfaces of a path and with so many surfaces left
+-- a painter in a frame, with the surfaces of the path above it, and how many more the path may
+-- have
 pub record Painter : Type 0 where
   pub active : List FrameData
   pub levels : ℕ
   pub path : List SurfaceId
   pub submitted : FrameData
 
--- what a surface leaves that is embedded here
+-- the colour that a surface embedded here leaves
 abbrev pub embedded : Painter → Content
 embedded p = pix p.levels p.active
 
--- what a range does here
+-- what a range here does with a colour
 abbrev pub ranges : Painter → Embedding
 ranges p = embeds (embedded p) p.active p.path
 
--- what these passes do by their ids
+-- what these passes here do with a colour, by their ids
 abbrev pub passes_in : Painter → List RenderPass → Named
 passes_in p passes = groups p.submitted (ranges p) (reverse passes)
 
--- what a quad that covers a point does here, over these passes
+-- what a quad here that covers the point does with a colour, with these passes to draw
 abbrev pub quad_here : Painter → List RenderPass → DrawQuad → Point → Colour → Colour
 quad_here p earlier quad = material_painted p.submitted (passes_in p earlier) (ranges p) quad
 
--- what a pass does here, over these
+-- what a pass here does with a colour, with these passes to draw
 abbrev pub pass_here : Painter → List RenderPass → RenderPass → Point → Colour → Colour
 pass_here p earlier pass = pass_painted p.submitted (passes_in p earlier) (ranges p) pass
 
--- what a pass does here as a group, over these
+-- what a pass here does with a colour as a group, with these passes to draw
 abbrev pub group_here : Painter → List RenderPass → RenderPass → Blend → ℕ → Point → Colour → Colour
 group_here p earlier pass = group_laid p.submitted (passes_in p earlier) (ranges p) pass
 
--- what the content of a shown surface does here, over a background
+-- what the content of a shown surface here does with a colour, with this background
 abbrev pub content_here : Painter → Colour → FrameData → Point → Colour → Colour
 content_here p background i = content_at (embedded p) p.path background i

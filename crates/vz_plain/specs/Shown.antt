@@ -6,7 +6,7 @@ use Rattle.vz_pixels.specs.Colour.{Colour, black}
 use Rattle.vz_rules.specs.World.{FrameData}
 use Rattle.vz_rules.specs.Paint.{full}
 
--- the colour at a point, black where there is no root
+-- the colour at a point, or black if there is no root
 abbrev pub colour_of : List FrameData → Option SurfaceId → Point → Colour
 colour_of active None p = black
 colour_of active (Some root) p = full (record { root = root; active = active }) p

@@ -7,12 +7,12 @@ use Rattle.vz_rules.specs.declared.entry.Reply.{Reply}
 use Rattle.vz_rules.specs.declared.entry.Reply.TheVariants.{Drawn}
 use Rattle.vz_machine.specs.Pictured.{Pixelled}
 
--- where something is drawn, its damage is on the display
+-- if something is drawn, its damage is on the display
 abbrev pub CoversDamage : Size → Reply → Type 0
 CoversDamage size (Drawn damage) = Covers (sized size) damage
 CoversDamage size _ = Unit {0}
 
--- the picture of these pixels, where an answer says that something is drawn
+-- the picture with these pixels, if the reply says that something is drawn
 abbrev pub pictured : Size → Reply → Option (List Colour) → Option Pixelled
 pictured size (Drawn damage) (Some pixels) = Some (record { size = size; pixels = pixels; changed = damage })
 pictured size _ _ = None

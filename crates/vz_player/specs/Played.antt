@@ -1,4 +1,4 @@
--- What a player has done.
+-- The state of a player.
 use Rattle.std.specs.Prelude.{◌≡◌, ℕ, ◌+◌, ◌-◌, ◌^◌, ◌≤◌, Bool, true, false, Option, Some, None, ◌⊎◌, List, [], ◌∷◌, ◌++◌, length, min, ◌==◌, count_by}
 use Rattle.vz_base.specs.declared.limits.TheConstants.{MOST_FILES}
 use Rattle.vz_geom.specs.Display.{IsDisplaySize}
@@ -13,55 +13,57 @@ use Rattle.vz_rules.specs.Frames.{written, painted}
 use Rattle.vz_machine.specs.Pictured.{Pictured}
 use Rattle.vz_display.specs.Displayed.{Displayed, display_at, shown, steps_for}
 
--- the plan, the history so far, how many buffers the display has, and whether want of memory kept the last drawing off it
+-- the plan, the history so far, how many buffers the display has, and whether want of memory kept
+-- the last drawing from the display
 pub record Played : Type 0 where
   pub plan : Plan
   pub history : List Entry
   pub buffers : ℕ
   pub stopped : Bool
 
--- behind this history, with want of memory nowhere
+-- the player after this history, with enough memory throughout
 abbrev pub played_at : Plan → List Entry → ℕ → Played
 played_at p h count = record { plan = p; history = h; buffers = count; stopped = false }
 
--- before the first event
+-- the player before its first event
 abbrev pub first_played : Plan → ℕ → Played
 first_played p count = record { plan = p; history = []; buffers = count; stopped = false }
 
--- the plan and the world behind the history
+-- the machine with this plan, in the world after the history
 abbrev pub machine_of : Played → Machine
 machine_of p = record { plan = p.plan; world = world p.plan p.history }
 
--- the entry that an event makes next
+-- the entry that an event would make next
 abbrev pub next_entry : Played → Event → Entry
 next_entry p e = entry_in p.plan (world p.plan p.history) e
 
--- an event was taken: the history has its entry more
+-- the player after an event: its history has one more entry
 unfoldable pub played_on : Played → Event → Played
 played_on p e = record p { history = p.history ++ next_entry p e ∷ [] }
 
--- the frames that are written
+-- the frames that the player has written
 abbrev pub frames_of : Played → List (List Colour)
 frames_of p = written p.plan p.history p.buffers
 
--- the points that are painted
+-- the number of points that the player has painted
 abbrev pub painted_by : Played → ℕ
 painted_by p = painted p.plan p.history p.buffers
 
--- the display
+-- the player's display
 abbrev pub display_of : Played → Displayed
 display_of p = display_at p.plan p.history p.buffers
 
--- one frame more is written, or none
+-- one more frame is written, or none
 abbrev pub Writes : Played → Played → Bool → Type 0
 Writes old new true = (frame : List Colour) × (frames_of new ≡ frames_of old ++ frame ∷ [])
 Writes old new false = frames_of new ≡ frames_of old
 
--- want of memory came before the step, and changed nothing, or after it
+-- memory ran out before the step, which changed nothing, or after it
 unfoldable pub StopsAt : Played → Event → Played → Type 0
 StopsAt old e new = (new ≡ old) ⊎ (new ≡ record (played_on old e) { stopped = true })
 
--- what a player keeps: its machine stands behind the history, which is legal, and so does its display where it was not stopped
+-- what always holds of a player: its machine is in the world after the history, the history is
+-- legal, and unless the player was stopped, the display shows that history
 pub record IsPlayed (m : Machine) (d : Displayed) (p : Played) : Type 0 where
   pub behind : m ≡ machine_of p
   pub legal : Legal p.plan p.history
@@ -70,36 +72,36 @@ pub record IsPlayed (m : Machine) (d : Displayed) (p : Played) : Type 0 where
   pub some : 1 ≤ p.buffers
   pub shows : p.stopped ≡ false → d ≡ display_of p
 
--- a display with a picture more, where there is one
+-- the display after one more picture, if there is one
 abbrev pub shown_with : Displayed → Option Pictured → Displayed
 shown_with d None = d
 shown_with d (Some p) = shown d p
 
--- the steps for it
+-- the steps for showing that picture
 abbrev pub steps_with : Displayed → Option Pictured → ℕ
 steps_with d None = 0
 steps_with d (Some p) = steps_for d p.changed
 
--- a number more, which stands still at the greatest of 64 bits
+-- the next number, which stays at the greatest one of 64 bits
 abbrev pub next_number : ℕ → ℕ
 next_number n = min (n + 1) (2 ^ 64 - 1)
 
--- whose step an event is: the display's, which is 0, or a client's
+-- who takes the step of an event: the display, which is 0, or a client
 abbrev pub actor_in : Event → ℕ
 actor_in (event.Client c) = c
 actor_in _ = 0
 
--- an event is one of the display, and no drawing
+-- the event is one of the display, other than Draw
 abbrev pub is_plain : Event → Bool
 is_plain event.Begin = true
 is_plain event.Done = true
 is_plain event.Over = true
 is_plain _ = false
 
--- an entry is a step of an actor
+-- the entry is a step of this actor
 abbrev pub is_step_of : ℕ → Entry → Bool
 is_step_of actor e = actor_in e.event == actor
 
--- how many of these entries are steps of an actor, at most the greatest of 64 bits
+-- how many of these entries are steps of this actor, at most the greatest number of 64 bits
 abbrev pub steps_of : List Entry → ℕ → ℕ
 steps_of h actor = min (count_by (is_step_of actor) h) (2 ^ 64 - 1)

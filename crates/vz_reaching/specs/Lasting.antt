@@ -1,4 +1,5 @@
--- Which surfaces last although nothing references them, and when what is kept of references is that of the machine's state.
+-- Which surfaces stay although nothing references them, and when the reference part represents the
+-- machine's state.
 use Rattle.std.specs.Prelude.{◌≡◌, ◌+◌, Bool, false, not, ◌&&◌, ◌||◌, ◌⊎◌, nat_lt, IsTrue, Option, Some, None, List, if◌then◌else◌}
 use Rattle.std.specs.List.{Contains, list_any}
 use Rattle.vz_base.specs.declared.limits.TheConstants.{TEMPORARY_TICKS}
@@ -10,17 +11,17 @@ use Rattle.vz_refs.specs.Referring.{Temporary}
 use Rattle.vz_refs.specs.Referring.{Referring, Ranged, is_set, ranges_of}
 use Rattle.vz_refs.specs.Meaning.{AreReferences}
 
--- a surface is temporary, once what is named now is named: it exists, nothing named it, its client is not closed, and it is
--- younger than the time of one
+-- a surface is temporary, after naming: it exists, no reference has named it, its client has not
+-- closed, and fewer than 16 begin-frames have passed since its creation
 unfoldable pub lasts : World → Created → Bool
 lasts w c = not c.destroyed && not (c.named || is_named_now w c.id) && not (has_closed w c.client) && nat_lt w.tick (c.born + TEMPORARY_TICKS)
 
--- a surface is this one, if there is one
+-- the surface is this one, if there is one
 abbrev pub is_one : Option SurfaceId → SurfaceId → Bool
 is_one None id = false
 is_one (Some new) id = same_surface new id
 
--- a surface is kept as temporary
+-- the surface is in the list of temporary ones
 abbrev pub has_kept : List Temporary → SurfaceId → Bool
 has_kept kept id = list_any (λ t. same_surface t.id id) kept
 
@@ -28,21 +29,23 @@ has_kept kept id = list_any (λ t. same_surface t.id id) kept
 abbrev pub names_it : SurfaceId → Submission → Bool
 names_it id s = list_any (names id) s.submitted.frame.metadata.references
 
--- what an active submission names is named, where another waits on its surface and may follow it; but for a new surface
+-- each surface that an active submission names is named, if that submission may be replaced by one
+-- that waits on its surface; a new or a destroyed surface is an exception
 abbrev pub AreNoted : World → Option SurfaceId → Type 0
 AreNoted w but =
     (s t : Submission) (c : Created) → Contains w.subs s → Contains w.subs t → Contains w.surfaces c → IsTrue (is_active s) → IsTrue (is_waiting t)
     → IsTrue (same_surface s.submitted.id t.submitted.id) → IsTrue (names_it c.id s) → IsTrue c.named ⊎ IsTrue c.destroyed ⊎ IsTrue (is_one but c.id)
 
--- each entry is the one that is found for its surface
+-- each surface is set at most once
 abbrev pub AreOwn : List Ranged → Type 0
 AreOwn sets = (s : Ranged) → Contains sets s → ranges_of sets s.id ≡ s.ranges
 
--- a temporary surface that was created, and the tick up to which it lasts
+-- a temporary surface was created, and this is the tick until which it lasts
 abbrev pub IsKeptFor : List Created → Temporary → Type 0
 IsKeptFor surfaces t = (c : Created) × Contains surfaces c × (c.id ≡ t.id) × (t.until ≡ c.born + TEMPORARY_TICKS)
 
--- the references of active frames are set, and the temporary surfaces are those that last, but for a new surface that is to be kept still
+-- the references of active frames are set, and the temporary surfaces are those that last, except
+-- for a new one that is yet to be kept
 pub record AreKept (w : World) (but : Option SurfaceId) (r : Referring) : Type 0 where
   pub sets : AreReferences w r.sets
   pub own : AreOwn r.sets
@@ -57,6 +60,6 @@ abbrev pub if_exists : World → Option SurfaceId → Option SurfaceId
 if_exists w None = None
 if_exists w (Some id) = if exists w id then Some id else None
 
--- the root, where it exists
+-- the root, if it exists
 abbrev pub root_of : World → Option SurfaceId
 root_of w = if_exists w w.root

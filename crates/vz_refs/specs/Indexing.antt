@@ -1,4 +1,4 @@
--- What is set, range by range, and the indexes that know it.
+-- The set references, one range at a time, and the indexes over them.
 use Rattle.std.specs.Prelude.{◌≡◌, ℕ, ◌-◌, Bool, false, ◌==◌, ◌&&◌, Option, Some, None, List, [], ◌∷◌, ◌++◌, length, take, map, if◌then◌else◌, slice_get}
 use Rattle.std.specs.Option.{option_map, option_map_or}
 use Rattle.vz_ids.specs.declared.SurfaceId.{SurfaceId}
@@ -18,23 +18,23 @@ use Rattle.vz_refs.specs.Seated.{IsSeated}
 abbrev pub change_one : (List SurfaceRange → List SurfaceRange) → SurfaceId → Ranged → Ranged
 change_one f id s = if same_surface s.id id then record { id = s.id; ranges = f s.ranges } else s
 
--- the ranges of a surface change, where it is set
+-- the ranges of a surface change, if the surface is set
 unfoldable pub changing : (List SurfaceRange → List SurfaceRange) → SurfaceId → List Ranged → List Ranged
 changing f id sets = map (change_one f id) sets
 
--- one range more at the end
+-- the ranges with one more at the end
 abbrev pub one_more : SurfaceRange → List SurfaceRange → List SurfaceRange
 one_more range ranges = ranges ++ range ∷ []
 
--- the last range is gone
+-- the ranges without the last one
 abbrev pub but_last : List SurfaceRange → List SurfaceRange
 but_last ranges = take (length ranges - 1) ranges
 
--- a surface is set from now on, without ranges unless it has some
+-- a surface is set from now on; it keeps its ranges if it has some
 unfoldable pub opening : SurfaceId → List Ranged → List Ranged
 opening id sets = if is_set sets id then sets else sets ++ record { id = id; ranges = [] } ∷ []
 
--- what is set after these changes
+-- the set references after these changes
 unfoldable pub listed : Changes → List Ranged
 listed Nothing = []
 listed (Opened' id mark below) = opening id (listed below)
@@ -42,15 +42,15 @@ listed (Longer' id range mark below) = changing (one_more range) id (listed belo
 listed (Shorter' id mark below) = changing but_last id (listed below)
 listed (Removed' id mark below) = removing id (listed below)
 
--- the same place among the ranges of the same surface
+-- both are the same place among the ranges of the same surface
 abbrev pub same_nth : Nth → Nth → Bool
 same_nth a b = same_surface a.of b.of && (a.nth == b.nth)
 
--- the same sink with the same token
+-- both are the same sink with the same token
 abbrev pub same_key : Group → Group → Bool
 same_key a b = same_sink a.sink b.sink && (a.token.0 == b.token.0)
 
--- the same place in the same group
+-- both are the same place in the same group
 abbrev pub same_place : Place → Place → Bool
 same_place a b = same_key a.group b.group && (a.at == b.at)
 
@@ -62,17 +62,19 @@ key_of id = record { sink = id.sink; token = id.local.token }
 abbrev pub place_of : Edge → Place
 place_of e = record { group = key_of e.range.end; at = e.at }
 
--- a number, and 0 where there is none
+-- the number, or 0 if there is none
 abbrev pub or_zero : Option ℕ → ℕ
 or_zero o = option_map_or (λ n. n) o 0
 
--- what is set, as contracts see it: by the order in which it was set, by the order of the index, and the room that was made before
+-- the set references as contracts see them, in the order in which they were set; the same in the
+-- order of the index; and the reserved room
 pub record Known : Type 0 where
   pub list : List Ranged
   pub keys : List SurfaceId
   pub spare : ℕ
 
--- the indexes know what is set: how many ranges a surface has, each of them, and in each group those whose ends are in it
+-- the indexes agree with what is set: how many ranges each surface has, each of these ranges, and
+-- for each group the ranges whose end is in it
 pub record IsIndexed (sets : List Ranged) (count : SurfaceId → Option ℕ) (edge : Nth → Option Edge) (ends : Place → Option Nth) (size : Group → Option ℕ) : Type 0 where
   pub counted : (id : SurfaceId) → count id ≡ (if is_set sets id then Some (length (ranges_of sets id)) else None)
   pub ranged : (n : Nth) → option_map (λ e. e.range) (edge n) ≡ slice_get (ranges_of sets n.of) n.nth

@@ -1,9 +1,9 @@
--- What is kept stands in its group, one after the other.
+-- How the elements of each group are kept, one after the other.
 use Rattle.std.specs.Prelude.{◌≡◌, ℕ, ◌<◌, Option, Some, IsTrue, is_some}
 use Rattle.vz_refs.specs.declared.sets.Group.{Group}
 use Rattle.vz_refs.specs.declared.sets.Place.{Place}
 
--- each that is kept stands at its place, and in each group the places from 0 up to its size are taken
+-- each element is at its place, and in each group exactly the places below its size are taken
 pub record IsSeated {K E : Type 0} (place : E → Place) (kept : K → Option E) (at : Place → Option K) (size : Group → ℕ) : Type 0 where
   pub placed : (x : K) (e : E) → kept x ≡ Some e → (at (place e) ≡ Some x) × ((place e).at < size (place e).group)
   pub held : (p : Place) (x : K) → at p ≡ Some x → (e : E) × (kept x ≡ Some e) × (place e ≡ p)

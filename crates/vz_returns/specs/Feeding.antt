@@ -1,44 +1,44 @@
--- Submissions that wait for feedback.
+-- Submissions that await feedback.
 use Rattle.std.specs.Prelude.{◌≡◌, ℕ, Bool, true, not, ◌&&◌, ◌||◌, ◌==◌, nat_lt, List, [], ◌∷◌, filter, count_by, insert, if◌then◌else◌}
 use Rattle.std.specs.List.{list_any, list_all}
 use Rattle.vz_ids.specs.declared.Sub.{Sub}
 use Rattle.vz_ids.specs.Ids.{same_sub}
 use Rattle.vz_rules.specs.World.{Submission, sub_of}
 
--- those that wait, with the room made before
+-- the submissions that await feedback, with reserved room
 pub record Unfed : Type 0 where
   pub list : List Sub
   pub spare : ℕ
 
--- one comes before another, by client and ordinal
+-- one submission comes before another, by client and ordinal
 abbrev pub before : Sub → Sub → Bool
 before a b = nat_lt a.client b.client || ((a.client == b.client) && nat_lt a.ordinal b.ordinal)
 
--- each comes before those that follow it
+-- each submission comes before those that follow it
 unfoldable pub in_order : List Sub → Bool
 in_order [] = true
 in_order (s ∷ list) = list_all (before s) list && in_order list
 
--- a submission waits for feedback
+-- the submission awaits feedback
 abbrev pub is_open : List Sub → Sub → Bool
 is_open list s = list_any (λ t. same_sub t s) list
 
--- how many come before a submission
+-- how many submissions come before this one
 abbrev pub place_in : List Sub → Sub → ℕ
 place_in list s = count_by (λ t. before t s) list
 
--- one more waits, behind those that come before it
+-- one more submission awaits feedback, at its place in the order
 abbrev pub opened : Sub → List Sub → List Sub
 opened s list = insert list (place_in list s) s
 
--- one has got its feedback
+-- a submission got its feedback
 abbrev pub fed : Sub → List Sub → List Sub
 fed s list = filter (λ t. not (same_sub t s)) list
 
--- those that wait are those of the machine's state that have no feedback
+-- these are the submissions of the machine's state that have no feedback
 abbrev pub AreUnfed : List Submission → List Sub → Type 0
 AreUnfed subs list = (t : Sub) → is_open list t ≡ list_any (λ s. not s.fed && same_sub (sub_of s) t) subs
 
--- a submission has got its feedback
+-- the submission is marked as having got its feedback
 abbrev pub mark_of : Sub → Submission → Submission
 mark_of f s = if same_sub (sub_of s) f then record s { fed = true } else s

@@ -1,4 +1,4 @@
--- Counts that a map has, as the list by rising ids.
+-- The counts of a map, as a list by rising ids.
 use Rattle.std.specs.Prelude.{ℕ, List, [], ◌∷◌}
 use Rattle.vz_returns.specs.declared.counts.Counts.{Counts}
 use Rattle.vz_returns.specs.Holding.{Counted, put_in}
@@ -7,7 +7,7 @@ use Rattle.vz_returns.specs.Holding.{Counted, put_in}
 abbrev pub counted_of : ℕ → Counts → Counted
 counted_of id c = record { id = id; received = c.received; alive = c.alive }
 
--- the counts of a map, by rising ids
+-- the counts of a map by rising ids
 unfoldable pub in_order : List (ℕ × Counts) → List Counted
 in_order [] = []
 in_order (e ∷ entries) = put_in (counted_of e.0 e.1) (in_order entries)

@@ -1,4 +1,4 @@
--- What the end of a drawn frame leaves, where nothing becomes active and no surface is destroyed.
+-- What Done changes, as long as nothing becomes active and no surface is destroyed.
 use Rattle.std.specs.Prelude.{None, List, []}
 use Rattle.vz_ids.specs.declared.Sub.{Sub}
 use Rattle.vz_rules.specs.declared.entry.Reply.TheVariants as reply
@@ -6,11 +6,12 @@ use Rattle.vz_rules.specs.World.{World}
 use Rattle.vz_rules.specs.Returns.{give_back, returned_in, feed, fed_in}
 use Rattle.vz_rules.specs.Step.{Outcome}
 
--- the world in which no frame is in flight any more
+-- the world without a frame in flight
 abbrev pub landed : World → World
 landed w = record w { in_flight = None }
 
--- the submissions of the drawn frame are presented: what nothing holds any more goes back, and feedback is given
+-- the submissions of the drawn frame are presented: resources that nothing holds any more go back,
+-- and feedback is given
 abbrev pub presenting : List Sub → World → Outcome
 presenting drawn w =
     record {

@@ -1,4 +1,4 @@
--- What a refused message leaves as it was.
+-- What a refused message does not change.
 use Rattle.std.specs.Prelude.{◌≡◌, ℕ, if◌then◌else◌}
 use Rattle.vz_rules.specs.declared.entry.Refusal.{Refusal}
 use Rattle.vz_rules.specs.declared.entry.Reply.TheVariants as reply
@@ -8,12 +8,12 @@ use Rattle.vz_rules.specs.Step.{Outcome}
 use Rattle.vz_rules.specs.Whole.{is_in_time}
 use Rattle.vz_rules.specs.Kept.{no_effects}
 
--- the world in which a client took a message, and nothing else changed
+-- the world after a client took a message, with nothing else changed
 abbrev pub after_taking : ℕ → World → World
 after_taking c w = record w { clients = change_client took c w.clients }
 
--- a refusal of a client's message has no effects. It leaves the world but for the message taken, and wholly where the
--- message came too early or there was none
+-- a refusal of a client's message has no effects; the world does not change, except that the
+-- message is taken; after NotYet and NoMessage not even that
 pub record ChangesNothing (w : World) (c : ℕ) (r : Refusal) (o : Outcome) : Type 0 where
   pub effects : o.effects ≡ no_effects
   pub world : o.world ≡ (if is_in_time (reply.Refused r) then after_taking c w else w)

@@ -1,4 +1,4 @@
--- Orders of surfaces, submissions, ranges and frames, and what trees in these orders have.
+-- Orders of surfaces, submissions, ranges and frames, and the contents of trees in these orders.
 use Rattle.std.specs.Prelude.{◌≡◌, List, find, IfSome}
 use Rattle.std.specs.Option.{option_map}
 use Rattle.std.specs.BTreeMap.{BTreeMap, get}
@@ -18,19 +18,19 @@ use Rattle.vz_scene.specs.contracts.key.FrameKeyOrd.TheImpl as frame_ord
 use Rattle.vz_scene.specs.declared.key.RangeKey.{RangeKey}
 use Rattle.vz_scene.specs.contracts.key.RangeKeyOrd.TheImpl as range_ord
 
--- by client and ordinal
+-- the order of submissions, by client and ordinal
 abbrev pub by_sub : Sub → Sub → Ordering
 by_sub = (sub_ord.ghosts).cmp
 
--- by sink and local id
+-- the order of surfaces, by sink and local id
 abbrev pub by_surface : SurfaceId → SurfaceId → Ordering
 by_surface = (surface_ord.ghosts).cmp
 
--- by start and end
+-- the order of ranges, by start and end
 abbrev pub by_range : RangeKey → RangeKey → Ordering
 by_range = (range_ord.ghosts).cmp
 
--- by surface and number
+-- the order of frames, by surface and number
 abbrev pub by_frame : FrameKey → FrameKey → Ordering
 by_frame = (frame_ord.ghosts).cmp
 
@@ -42,14 +42,15 @@ frame_key i = record { id = i.id; index = i.index }
 abbrev pub key_of : SurfaceRange → RangeKey
 key_of r = record { start = r.start; end = r.end }
 
--- a map has the number of the first pair of each surface
+-- the map has, for each surface, the number in its first pair
 abbrev pub HasNumbers : {A : Type 0} → BTreeMap SurfaceId A → List (SurfaceId × A) → Type 0
 HasNumbers {A} m pairs = (id : SurfaceId) → get by_surface m id ≡ option_map (λ (x : SurfaceId × A). x.1) (find (λ (x : SurfaceId × A). same_surface x.0 id) pairs)
 
--- a map has what the first pair of each range says
+-- the map has, for each range, the value in its first pair
 abbrev pub HasShown : {A : Type 0} → BTreeMap RangeKey A → List (SurfaceRange × A) → Type 0
 HasShown {A} m pairs = (r : SurfaceRange) → get by_range m (key_of r) ≡ option_map (λ (x : SurfaceRange × A). x.1) (find (λ (x : SurfaceRange × A). same_range x.0 r) pairs)
 
--- what a map has for a frame is the damage on its surface since an aggregation, where these frames were accepted
+-- the map has, for each frame, the damage on its surface since an aggregation, if these frames
+-- were accepted
 abbrev pub AreDamages : Aggregation → List FrameData → BTreeMap FrameKey Rectangle → Type 0
 AreDamages last accepted m = (i : FrameData) → IfSome (get by_frame m (frame_key i)) (λ (r : Rectangle). (r ≡ damage_since last accepted i) × IsInReach r)

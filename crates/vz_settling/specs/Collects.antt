@@ -1,4 +1,4 @@
--- The surfaces and what waits, as marked surfaces that are not reached are destroyed.
+-- The surfaces and what waits, while marked surfaces that are not reached are destroyed.
 use Rattle.std.specs.Prelude.{◌≡◌, ◌≤◌, ◌<◌, ◌+◌, Option, None, List, [], length}
 use Rattle.vz_base.specs.declared.limits.TheConstants.{MOST_FILES}
 use Rattle.vz_ids.specs.declared.SurfaceId.{SurfaceId}
@@ -10,14 +10,15 @@ use Rattle.vz_settling.specs.declared.settling.Settling.{Settling}
 use Rattle.vz_settling.specs.declared.lists.Lists.{Lists}
 use Rattle.vz_settling.specs.Settles.{AreSettling}
 
--- a collection begins, once what is named now is named: this is the root, and there are as many clients as a plan may have
+-- a collection begins, after naming; this is the root, and there are at most as many clients as a
+-- plan may have
 pub record IsToCollect (w : World) (root : Option SurfaceId) (v : Settling) : Type 0 where
   pub stands : AreSettling w None v
   pub named : naming w ≡ w
   pub is_root : root ≡ w.root
   pub few : length w.clients ≤ MOST_FILES
 
--- surfaces are to be destroyed: these are marked and exist, and those are reached
+-- surfaces are being destroyed: these are marked and exist, and these are reached
 pub record IsDestroying (w : World) (marked reached : List SurfaceId) (v : Settling) : Type 0 where
   pub stands : AreSettling w None v
   pub named : naming w ≡ w
@@ -25,7 +26,8 @@ pub record IsDestroying (w : World) (marked reached : List SurfaceId) (v : Settl
   pub are_marked : marked ≡ marked_to 16 (stored_of w)
   pub are_reached : (id : SurfaceId) → has_id reached id ≡ has_id (reach w) id
 
--- the lists of a collection are empty and have room: for the surfaces that exist, and for all that may be reached
+-- the lists of a collection are empty, and have room for all surfaces that exist and for all that
+-- may be reached
 pub record HaveRoom (v : Settling) (lists : Lists) : Type 0 where
   pub none_marked : lists.marked.list ≡ []
   pub none_reached : lists.reached.list ≡ []

@@ -1,4 +1,4 @@
--- The surfaces and what waits, as submissions become active round by round.
+-- The surfaces and what waits, while submissions become active round by round.
 use Rattle.std.specs.Prelude.{◌≡◌, Option, List, map}
 use Rattle.vz_ids.specs.declared.SurfaceId.{SurfaceId}
 use Rattle.vz_ids.specs.declared.Sub.{Sub}
@@ -9,23 +9,24 @@ use Rattle.vz_waiting.specs.Awaiting.{AreWaiting}
 use Rattle.vz_live.specs.Living.{Live, AreLive}
 use Rattle.vz_settling.specs.declared.settling.Settling.{Settling}
 
--- both stand for a state: the surfaces but for a new one that is to be kept still, and those that wait and are not ready
+-- both represent a state: the surfaces, except that a new one is yet to be kept; and the
+-- submissions that wait and are not ready
 pub record AreSettling (w : World) (but : Option SurfaceId) (v : Settling) : Type 0 where
   pub always : KeepsAlways w
   pub live : AreLive w but v.live
   pub waiting : AreWaiting w v.waiting
 
--- these are the names of those that are ready, in the order of acceptance
+-- these are the names of the ready submissions, in the order of acceptance
 abbrev pub AreReady : World → List Sub → Type 0
 AreReady w subs = subs ≡ map sub_of (ready w)
 
--- a round begins: these are ready
+-- a round begins, and these submissions are ready
 pub record IsRound (w : World) (but : Option SurfaceId) (subs : List Sub) (v : Live) : Type 0 where
   pub always : KeepsAlways w
   pub live : AreLive w but v
   pub ready : AreReady w subs
 
--- settling begins: these are ready
+-- settling begins, and these submissions are ready
 pub record IsToSettle (w : World) (but : Option SurfaceId) (v : Settling) (subs : List Sub) : Type 0 where
   pub stands : AreSettling w but v
   pub ready : AreReady w subs

@@ -1,4 +1,4 @@
--- What a refusal of a relation reads as.
+-- The texts of refused relations.
 use Rattle.std.specs.Prelude.{ℕ, List, codes}
 use Rattle.vz_sinks.specs.declared.refusals.SinkError.{SinkError}
 use Rattle.vz_sinks.specs.declared.refusals.SinkError.TheVariants.{Loop, UnknownSink, ParentOfOther, Memory}

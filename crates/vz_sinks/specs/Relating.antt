@@ -21,7 +21,7 @@ pub record Related : Type 0 where
 abbrev pub new_seat : ℕ → FrameSinkId → Seat
 new_seat n sink = record { number = n; sink = sink; closed = false; delivered = None }
 
--- the clients of these sinks, numbered from n on
+-- the clients with these sinks, numbered from n
 unfoldable pub seats_from : ℕ → List FrameSinkId → List Seat
 seats_from n [] = []
 seats_from n (sink ∷ sinks) = new_seat n sink ∷ seats_from (n + 1) sinks
@@ -30,7 +30,7 @@ seats_from n (sink ∷ sinks) = new_seat n sink ∷ seats_from (n + 1) sinks
 abbrev pub is_known_in : List Seat → FrameSinkId → Bool
 is_known_in seats sink = list_any (λ s. same_sink s.sink sink) seats
 
--- a test holds of the client of this number
+-- the test holds for the client with this number
 unfoldable pub holds_of : (Seat → Bool) → List Seat → ℕ → Bool
 holds_of test [] c = false
 holds_of test (s ∷ seats) c = if s.number == c then test s else holds_of test seats c
@@ -39,21 +39,22 @@ holds_of test (s ∷ seats) c = if s.number == c then test s else holds_of test 
 unfoldable pub is_own : List Seat → ℕ → FrameSinkId → Bool
 is_own seats c sink = holds_of (λ s. same_sink sink s.sink) seats c
 
--- why a relation is refused, if it is: by whether it closes a loop, whether both sinks are known and whether the parent is the client's
+-- why a relation is refused, or None: by whether it closes a loop, whether both sinks are known,
+-- and whether the parent is the client's
 unfoldable pub refusal_for : Bool → Bool → Bool → Option SinkError
 refusal_for is_loop are_known is_own =
     first_some (when is_loop error.Loop ∷ when (not are_known) error.UnknownSink ∷ when (not is_own) error.ParentOfOther ∷ [])
 
--- why a relation that a client asks for is refused, if it is
+-- why the relation that a client asks for is refused, or None
 unfoldable pub refusal_in : Related → ℕ → FrameSinkId → FrameSinkId → Option SinkError
 refusal_in h c parent child =
     refusal_for (reaches h.relations child parent) (is_known_in h.seats parent && is_known_in h.seats child) (is_own h.seats c parent)
 
--- a client is attached: the first client's sink reaches its sink
+-- a client is attached: relations lead from the first client's sink to its sink
 unfoldable pub attached_in : Related → ℕ → Bool
 attached_in h c = holds_of (λ s. reaches h.relations h.first s.sink) h.seats c
 
--- a begin-frame is delivered where a test holds of the sink and the client is not closed
+-- a begin-frame is delivered to a client if the test holds for its sink and it is not closed
 abbrev pub deliver_to : Bool → ℕ → Seat → Seat
 deliver_to test n s = if test && not s.closed then record s { delivered = Some n } else s
 
@@ -61,7 +62,7 @@ deliver_to test n s = if test && not s.closed then record s { delivered = Some n
 unfoldable pub delivered_to : Related → ℕ → List Seat
 delivered_to h n = map (λ s. deliver_to (reaches h.relations h.first s.sink) n s) h.seats
 
--- the begin-frame of a client that stands untaken
+-- the pending begin-frame of a client
 unfoldable pub standing : List Seat → ℕ → Option ℕ
 standing [] c = None
 standing (s ∷ seats) c = if s.number == c then s.delivered else standing seats c
@@ -74,7 +75,7 @@ take_one c s = if s.number == c then record s { delivered = None } else s
 abbrev pub close_one : ℕ → Seat → Seat
 close_one c s = if s.number == c then record s { closed = true } else s
 
--- what is said of a relation that is asked for
+-- the refusal in the reply to a relation
 abbrev pub refusal_of : SinkError → Option Refusal
 refusal_of error.Loop = Some refusal.Loop
 refusal_of error.UnknownSink = Some refusal.UnknownSink
@@ -85,6 +86,6 @@ refusal_of error.Memory = None
 abbrev pub seat_of : Client → Seat
 seat_of c = record { number = c.number; sink = c.sink; closed = c.closed; delivered = c.delivered }
 
--- the hierarchy of the machine's state, where the first client has this sink
+-- the hierarchy of the machine's state, if the first client has this sink
 abbrev pub related_in : FrameSinkId → World → Related
 related_in first w = record { first = first; seats = map seat_of w.clients; relations = w.relations }

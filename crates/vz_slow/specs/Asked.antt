@@ -1,4 +1,4 @@
--- What is asked of a machine between steps.
+-- Questions to a machine between steps.
 use Rattle.std.specs.Prelude.{◌≡◌, ◌≤◌, ℕ, Bool, false, Option, Some, None, IsTrue, List, length}
 use Rattle.std.specs.List.{Contains}
 use Rattle.vz_base.specs.declared.limits.TheConstants.{MOST_FILES}
@@ -12,16 +12,16 @@ use Rattle.vz_rules.specs.Step.{is_attached}
 use Rattle.vz_rules.specs.Course.{waits, is_idle, has_answered}
 use Rattle.vz_slow.specs.declared.asked.Asked.{Asked}
 
--- a test of a client, false where there is none of this number
+-- a test of a client; false if there is no client with this number
 abbrev pub tested : Option Client → (Client → Bool) → Bool
 tested None test = false
 tested (Some x) test = test x
 
--- the next answer of a client would be NotYet
+-- the next reply to a client would be NotYet
 abbrev pub waits_at : Machine → ℕ → Bool
 waits_at m c = tested (client_at m.world c) (waits m.plan m.world)
 
--- a client is closed, has no message left or waits
+-- a client is closed, has no message left, or waits
 abbrev pub idle_at : Machine → ℕ → Bool
 idle_at m c = tested (client_at m.world c) (is_idle m.plan m.world)
 
@@ -33,7 +33,7 @@ answered_at m c = tested (client_at m.world c) (has_answered m.world)
 abbrev pub attached_at : Machine → ℕ → Bool
 attached_at m c = tested (client_at m.world c) (is_attached m.plan m.world)
 
--- how many resources a message's frame lists, 0 where it has none
+-- how many resources a message's frame lists; 0 if it has no frame
 abbrev pub listed_in : Option Message → ℕ
 listed_in (Some (Submit local frame)) = length frame.resources
 listed_in _ = 0
@@ -42,7 +42,7 @@ listed_in _ = 0
 abbrev pub listed_at : Machine → ℕ → ℕ
 listed_at m c = elim (client_at m.world c) [ Some x ↦ listed_in (next_message m.plan x) | None ↦ 0 ]
 
--- what is asked of a client
+-- the answers to all questions about a client
 abbrev pub asked_of : Plan → World → Client → Asked
 asked_of p w c = record {
   sink = c.sink;
@@ -52,17 +52,17 @@ asked_of p w c = record {
   listed = listed_in (next_message p c);
 }
 
--- the first client's sink reaches a sink
+-- relations lead from the first client's sink to this sink
 abbrev pub is_below : Plan → List (FrameSinkId × FrameSinkId) → FrameSinkId → Bool
 is_below p relations sink = elim (first_sink p) [ Some first ↦ reaches relations first sink | None ↦ false ]
 
--- a sink, and each that is related as a child, is among so few as a plan has files
+-- a sink and all children of relations are among at most as many sinks as a plan has files
 pub record AreFew (relations : List (FrameSinkId × FrameSinkId)) (from : FrameSinkId) : Type 0 where
   pub all : List FrameSinkId
   pub few : length all ≤ MOST_FILES
   pub first : IsTrue (has_sink all from)
   pub children : (r : FrameSinkId × FrameSinkId) → Contains relations r → IsTrue (has_sink all r.1)
 
--- so it is from the first client's sink on
+-- the same, from the first client's sink on
 abbrev pub AreFewFrom : Plan → List (FrameSinkId × FrameSinkId) → Type 0
 AreFewFrom p relations = (first : FrameSinkId) → first_sink p ≡ Some first → AreFew relations first

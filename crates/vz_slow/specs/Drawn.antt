@@ -7,7 +7,7 @@ use Rattle.vz_rules.specs.Plan.{Plan}
 use Rattle.vz_rules.specs.World.{World}
 use Rattle.vz_rules.specs.Whole.{picture_in}
 
--- the picture of what can be seen in a world, where an answer says that it is drawn
+-- the picture of a world, if the reply says that it is drawn
 abbrev pub drawn_picture : Plan → World → Reply → Option (List Colour)
 drawn_picture p w (reply.Drawn damage) = Some (picture_in p w)
 drawn_picture p w _ = None

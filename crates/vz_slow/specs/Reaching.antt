@@ -1,4 +1,4 @@
--- Where the plain machine stands, and the room that it keeps.
+-- The state of the plain machine, and the room that it keeps.
 use Rattle.std.specs.Prelude.{◌≡◌, ◌≤◌, true, is_some, []}
 use Rattle.vz_frame.specs.Roomy.{Roomy}
 use Rattle.vz_rules.specs.Plan.{Plan, IsPlan}
@@ -13,34 +13,34 @@ use Rattle.vz_slow.specs.declared.slow.Stage.{Stage}
 use Rattle.vz_slow.specs.declared.slow.Stage.TheVariants as stage
 use Rattle.vz_state.specs.Outs.{all_outs, unfed}
 
--- the world of a stage: the opening one, with the Over mark or without it, or another one
+-- the world of a stage: the opening one, in which begin-frames have ended or not, or another one
 abbrev pub world_at : Plan → Stage → World
 world_at p (stage.Opening over) = record (opening p) { over = over }
 world_at p (stage.Running w) = w
 
--- a plan leads to a world: what is kept between steps holds of it
+-- the world is one that a plan can lead to: everything that is kept between steps holds
 pub record IsReached (p : Plan) (w : World) : Type 0 where
   pub plan : IsPlan p
   pub keeps : Keeps w
   pub keeps_plan : KeepsPlan p w
   pub keeps_messages : KeepsMessages w
 
--- there is room for all that is out and unfed, and nothing is in it yet
+-- there is room for all outstanding references and all outstanding feedback
 pub record IsRoom (w : World) (r : Roomy Returned) (f : Roomy Fed) : Type 0 where
   pub returned : all_outs w.clients ≤ r.spare
   pub fed : unfed w.subs ≤ f.spare
 
--- so it is while a frame is in flight
+-- the same while a frame is in flight; and the lists are empty
 pub record HasRoom (w : World) (r : Roomy Returned) (f : Roomy Fed) : Type 0 where
   pub room : is_some w.in_flight ≡ true → IsRoom w r f
   pub no_returned : r.list ≡ []
   pub no_fed : f.list ≡ []
 
--- what the plain machine keeps
+-- what always holds of the plain machine
 pub record IsSlow (p : Plan) (w : World) (r : Roomy Returned) (f : Roomy Fed) : Type 0 where
   pub reached : IsReached p w
   pub has_room : HasRoom w r f
 
--- a reply, effects and a world are those of an outcome
+-- the reply, the effects and the world are those of the outcome
 abbrev pub IsOutcome : Outcome → Reply × Effects → World → Type 0
 IsOutcome o answer w = record { reply = answer.0; effects = answer.1; world = w } ≡ o

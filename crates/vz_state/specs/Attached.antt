@@ -1,4 +1,4 @@
--- Which clients are attached, by the sinks that the first file's sink reaches.
+-- Which clients are attached, by the sinks that the first client's sink reaches.
 use Rattle.std.specs.Prelude.{ℕ, ◌&&◌, not, Option, Some, None, List, [], ◌∷◌, length, if◌then◌else◌}
 use Rattle.vz_ids.specs.declared.FrameSinkId.{FrameSinkId}
 use Rattle.vz_ids.specs.Ids.{same_sink}
@@ -7,12 +7,12 @@ use Rattle.vz_rules.specs.World.{World, Client, first_sink}
 use Rattle.vz_rules.specs.Closure.{closure}
 use Rattle.vz_rules.specs.Messages.{children}
 
--- the sinks that a sink reaches, if there is one
+-- the sinks that a sink reaches, if there is a sink
 abbrev pub sinks_from : List (FrameSinkId × FrameSinkId) → Option FrameSinkId → List FrameSinkId
 sinks_from relations None = []
 sinks_from relations (Some sink) = closure same_sink (children relations) (length relations) (sink ∷ [])
 
--- the sinks that the first file's sink reaches
+-- the sinks that the first client's sink reaches
 abbrev pub attached_sinks : Plan → World → List FrameSinkId
 attached_sinks p w = sinks_from w.relations (first_sink p)
 

@@ -1,4 +1,4 @@
--- What a message changes of its client, beside that it is taken.
+-- What a message changes of its client, besides being taken.
 use Rattle.std.specs.Prelude.{true, None, map}
 use Rattle.vz_rules.specs.World.{Client}
 use Rattle.vz_rules.specs.Messages.{put_resource, lend, answer_tick, reclaim}

@@ -1,10 +1,11 @@
--- What holds resources, and what feedback is due, by the parts of a world that tell it.
+-- Which submissions hold resources, and which feedback is due, by the parts of a world that
+-- determine it.
 use Rattle.std.specs.Prelude.{◌&&◌, ◌||◌, not, true, false, Option, None, Some, is_none, List, [], if◌then◌else◌}
 use Rattle.vz_ids.specs.declared.Sub.{Sub}
 use Rattle.vz_rules.specs.World.{World, Submission, Created, has_sub, is_in_flight, is_ended, sub_of}
 use Rattle.vz_rules.specs.declared.entry.Fed.{Fed}
 
--- a world of these submissions and surfaces, with these in flight
+-- a world with these submissions and surfaces, and these submissions in flight
 abbrev pub holding : List Submission → List Created → Option (List Sub) → World
 holding submissions surfaces in_flight =
     record {
@@ -27,6 +28,6 @@ feedback_by in_flight presented s =
     else (if is_ended s && not (is_in_flight in_flight (sub_of s)) then Some (record { sub = sub_of s; presented = false })
     else None))
 
--- a submission that gets feedback now has it from now on
+-- a submission that gets feedback now is marked as having had it
 abbrev pub fed_by : Option (List Sub) → List Sub → Submission → Submission
 fed_by in_flight presented s = record s { fed = s.fed || not (is_none (feedback_by in_flight presented s)) }

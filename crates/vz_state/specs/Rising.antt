@@ -1,4 +1,4 @@
--- What is found of a round before it changes anything.
+-- What is computed of a round before it changes anything.
 use Rattle.std.specs.Prelude.{◌≡◌, ◌==◌, nat_lt, Bool, ◌&&◌, List, map}
 use Rattle.std.specs.List.{list_any}
 use Rattle.vz_ids.specs.declared.SurfaceId.{SurfaceId}
@@ -9,31 +9,32 @@ use Rattle.vz_rules.specs.Settle.{number_of, is_ready, ready}
 use Rattle.vz_state.specs.declared.risen.Risen.{Risen}
 use Rattle.vz_state.specs.declared.risen.Signs.{Signs}
 
--- a submission was active on a surface or a newer one of its group
+-- the submission was ever active, on this surface or a newer one of its group
 abbrev pub meets : SurfaceId → Submission → Bool
 meets d s = s.was_active && at_least s.submitted.id d
 
--- some surfaces reach those that a submission was active on, or on a newer one of the group
+-- some surfaces meet exactly the dependencies that these submissions meet
 abbrev pub IsMetBy : List SurfaceId → List Submission → Type 0
 IsMetBy met subs = (d : SurfaceId) → is_reached met d ≡ list_any (meets d) subs
 
--- one that rose is on a surface or a newer one of its group
+-- an activated submission is on this surface or a newer one of its group
 abbrev pub rises_to : SurfaceId → Risen → Bool
 rises_to d r = at_least r.id d
 
--- what is noted of a submission: its surface, its name, and the number of the surface among those of its client
+-- what is noted of an activated submission: its surface, its name, and the surface's number at its
+-- client
 abbrev pub risen_of : List Created → Submission → Risen
 risen_of surfaces s = record { id = s.submitted.id; sub = s.submitted.sub; number = number_of surfaces s }
 
--- one that rose is on the surface of a submission
+-- an activated submission is on the surface of this submission
 abbrev pub on_same : List Risen → Submission → Bool
 on_same rs s = list_any (λ (r : Risen). same_surface r.id s.submitted.id) rs
 
--- one that rose is on a later surface of the client
+-- an activated submission is on a later surface of the same client
 abbrev pub on_later : List Risen → Created → Bool
 on_later rs c = list_any (λ (r : Risen). (c.client == r.sub.client) && nat_lt c.number r.number) rs
 
--- what becomes active, and what each submission and each surface has to do with it
+-- what becomes active in a round, and how that affects each submission and each surface
 pub record AreSigns (w : World) (s : Signs) : Type 0 where
   pub risen : s.risen.items ≡ map (risen_of w.surfaces) (ready w)
   pub becomes : s.becomes.items ≡ map (is_ready w) w.subs

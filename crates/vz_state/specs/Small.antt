@@ -1,23 +1,23 @@
--- Worlds whose numbers are small, as those are that a plan leads to.
+-- Worlds whose numbers are small. Every world that a plan leads to is one.
 use Rattle.std.specs.Prelude.{◌≤◌, ◌*◌, List, length}
 use Rattle.std.specs.List.{Contains}
 use Rattle.vz_base.specs.declared.limits.TheConstants.{LAST_TICK, MOST_FILES, MOST_MESSAGES}
 use Rattle.vz_rules.specs.World.{World, Client, Resource}
 
--- no resource was lent more often than a client has messages
+-- no resource was lent more often than a client can have messages
 abbrev pub AreSmallResources : List Resource → Type 0
 AreSmallResources resources = (r : Resource) → Contains resources r → r.lent ≤ MOST_MESSAGES
 
--- a client took few messages
+-- a client has few messages, and its resources are small
 pub record IsSmallClient (c : Client) : Type 0 where
   pub taken : c.taken ≤ MOST_MESSAGES
   pub resources : AreSmallResources c.resources
 
--- so it is with each
+-- the same for each of these clients
 abbrev pub AreSmallClients : List Client → Type 0
 AreSmallClients clients = (c : Client) → Contains clients c → IsSmallClient c
 
--- few submissions were accepted and few surfaces created, and the tick is none of the last ones
+-- few submissions were accepted, few surfaces were created, and the tick is not one of the last
 pub record IsSmall (w : World) : Type 0 where
   pub tick : w.tick ≤ LAST_TICK
   pub clients : AreSmallClients w.clients

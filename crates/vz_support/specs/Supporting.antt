@@ -1,4 +1,4 @@
--- What is kept for the clients, and when it is as the machine's state has it.
+-- What is kept for the clients, and when it represents the machine's state.
 use Rattle.std.specs.Prelude.{◌≡◌, ℕ, Bool, true, false, Option, Some, List}
 use Rattle.vz_ids.specs.declared.SurfaceId.{SurfaceId}
 use Rattle.vz_frame.specs.declared.message.Message.{Message}
@@ -12,8 +12,8 @@ use Rattle.vz_clients.specs.Changed.{ChangesOne}
 use Rattle.vz_clients.specs.Sending.{AreSenders}
 use Rattle.vz_sinks.specs.Relating.{Related, related_in}
 
--- the clients with what they have still to send, their sinks with the begin-frames that stand untaken, the tick, the root, and
--- whether it is over
+-- the clients with what they have still to send, their sinks with pending begin-frames, the tick,
+-- the root, and whether it is over
 pub record Supported : Type 0 where
   pub clients : List Sender
   pub sinks : Related
@@ -21,7 +21,7 @@ pub record Supported : Type 0 where
   pub root : Option SurfaceId
   pub over : Bool
 
--- what is kept for the clients of the machine's state
+-- this represents the clients of the machine's state
 pub record IsSupport (p : Plan) (w : World) (v : Supported) : Type 0 where
   pub clients : AreSenders p w v.clients
   pub first : first_sink p ≡ Some v.sinks.first
@@ -30,7 +30,8 @@ pub record IsSupport (p : Plan) (w : World) (v : Supported) : Type 0 where
   pub root : v.root ≡ w.root
   pub over : v.over ≡ w.over
 
--- the client of a number, and the message that it takes next, in a state with all that always holds
+-- the client with this number takes this message next, in a state in which everything holds that
+-- always does
 pub record Sends (p : Plan) (w : World) (c : ℕ) (x : Client) (m : Message) : Type 0 where
   pub keeps : KeepsAlways w
   pub here : client_at w c ≡ Some x
@@ -45,7 +46,7 @@ pub record HasTaken (c : ℕ) (old new : Supported) : Type 0 where
   pub changes : ChangesOne c taking_one old.clients new.clients
   pub kept : new ≡ record old { clients = new.clients }
 
--- a message awaits a begin-frame
+-- the message is an Await
 abbrev pub is_await : Option Message → Bool
 is_await (Some Await) = true
 is_await _ = false

@@ -1,4 +1,4 @@
--- What memory keeps of a store, and what it stands for.
+-- What memory has of a store, and what that represents.
 use Rattle.std.specs.Prelude.{◌≡◌, ℕ, ◌+◌, ◌-◌, ◌≤◌, ◌<◌, ◌&&◌, Bool, true, IsTrue, IsSome, Option, Some, None, is_some, List, length, find, count_by, get_or, nat_le, if◌then◌else◌}
 use Rattle.std.specs.Option.{option_map, option_and_then}
 use Rattle.std.specs.List.{Contains, list_any}
@@ -26,33 +26,33 @@ use Rattle.vz_surfaces.specs.declared.owners.Owners.{Owners}
 use Rattle.vz_surfaces.specs.Stored.{Stored, named_in}
 use Rattle.vz_surfaces.specs.Reading.{standing, existing_count, held_of, last_of}
 
--- the test of keys that tables make: sink and local id are equal
+-- the test of keys in tables: sink and local id are equal
 abbrev pub is_key : SurfaceId → SurfaceId → Bool
 is_key = surface_eq.it
 
--- the key of an id, if the table has it
+-- the key of an id in the table, if it is there
 abbrev pub key_at : Table → SurfaceId → Option ℕ
 key_at t id = lookup (is_key id) t.keys.entries
 
--- the surface under a key, if there is one
+-- the surface with this key, if there is one
 abbrev pub under : Table → ℕ → Option Surface
 under t key = get t.surfaces key
 
--- the surface of an id, if the table has it
+-- the surface with this id, if the table has it
 abbrev pub look : Table → SurfaceId → Option Surface
 look t id = option_and_then (under t) (key_at t id)
 
--- there is a surface under each key that an id has, and no two ids have one key
+-- the key of each id leads to a surface, and no two ids have the same key
 pub record IsKeyed (t : Table) : Type 0 where
   pub there : (id : SurfaceId) (key : ℕ) → key_at t id ≡ Some key → IsSome (under t key)
   pub apart : (a b : SurfaceId) (key : ℕ) → key_at t a ≡ Some key → key_at t b ≡ Some key → is_key a b ≡ true
 
--- two tables have the same surfaces under the same keys
+-- both tables have the same surfaces with the same keys
 pub record HasSame (old new : Table) : Type 0 where
   pub keys : new.keys.entries ≡ old.keys.entries
   pub slots : new.surfaces.slots ≡ old.surfaces.slots
 
--- there is room for one surface more
+-- there is room for one more surface
 pub record HasSpare (t : Table) : Type 0 where
   pub surfaces : HasRoomFor t.surfaces 1
   pub keys : 0 < spare t.keys
@@ -65,15 +65,15 @@ holding sub frame blocks s =
       waiting = Some (record { sub = sub; index = s.accepted + 1; frame = frame; blocks = blocks });
     }
 
--- a surface after its waiting submission has become active
+-- a surface after its waiting submission became active
 abbrev pub raised : Surface → Surface
 raised s = record s { waiting = None; active = s.waiting }
 
--- the first submission on a surface that passes a test, as it is kept
+-- the first submission on a surface that passes a test, as memory has it
 abbrev pub held_in : (Submission → Bool) → SurfaceId → List Submission → Option Held
 held_in test id subs = option_map (λ (s : Submission). held_of s.submitted) (find (λ s. test s && is_on id s) subs)
 
--- what is kept of a surface that was created
+-- a created surface, as memory has it
 abbrev pub kept_of : SurfaceId → List Submission → Created → Surface
 kept_of id subs c =
     record {
@@ -84,17 +84,17 @@ kept_of id subs c =
       active = held_in is_active id subs;
     }
 
--- what is kept of a surface, if it exists
+-- a surface, as memory has it, if it exists
 unfoldable pub surface_at : Stored → SurfaceId → Option Surface
 surface_at st id = option_map (kept_of id st.subs) (standing id st.surfaces)
 
--- a table has exactly the surfaces that exist
+-- the table has exactly the surfaces that exist
 pub record KeepsTable (t : Table) (st : Stored) : Type 0 where
   pub surfaces : (id : SurfaceId) → look t id ≡ surface_at st id
   pub count : length t.keys.entries ≡ existing_count st
   pub keyed : IsKeyed t
 
--- the test of names that the index makes: client and ordinal are equal
+-- the test of names in the index: client and ordinal are equal
 abbrev pub is_name : Sub → Sub → Bool
 is_name = sub_eq.it
 
@@ -102,28 +102,28 @@ is_name = sub_eq.it
 abbrev pub waits_on : Waits → Sub → Option SurfaceId
 waits_on w sub = lookup (is_name sub) w.surfaces.entries
 
--- a submission of this name waits
+-- the submission with this name waits
 unfoldable pub is_waiting_in : Stored → Sub → Bool
 is_waiting_in st sub = list_any (λ s. is_waiting s && same_sub (sub_of s) sub) st.subs
 
--- each submission that waits is found, and no other name is
+-- each waiting submission is found, and no other name is
 pub record FindsWaiting (w : Waits) (st : Stored) : Type 0 where
   pub found : (s : Submission) → Contains st.subs s → IsTrue (is_waiting s) → waits_on w (sub_of s) ≡ Some s.submitted.id
   pub only : (sub : Sub) → IsTrue (is_some (waits_on w sub)) → IsTrue (is_waiting_in st sub)
 
--- nothing was accepted of a client
+-- the counts of a client without submissions
 abbrev pub no_owner : Owner
 no_owner = record { accepted = 0; created = 0; last = None; marked_to = 0 }
 
--- what is counted of the client of a number
+-- the counts of the client with this number
 abbrev pub owner_at : Owners → ℕ → Owner
 owner_at o c = get_or o.owners (c - 1) no_owner
 
--- a client has one of the numbers that plans have
+-- the client's number is one that plans can have
 abbrev pub HasNumber : ℕ → Type 0
 HasNumber c = (1 ≤ c) × (c ≤ 16)
 
--- clients are counted
+-- the counts of all clients are right
 pub record KeepsOwners (o : Owners) (st : Stored) : Type 0 where
   pub accepted : (c : ℕ) → HasNumber c → (owner_at o c).accepted ≡ count_by (is_by c) st.subs
   pub created : (c : ℕ) → HasNumber c → (owner_at o c).created ≡ count_by (is_surface_of c) st.surfaces
@@ -133,12 +133,12 @@ pub record KeepsOwners (o : Owners) (st : Stored) : Type 0 where
 abbrev pub empty_surface : ℕ → ℕ → Surface
 empty_surface c number = record { client = c; number = number; accepted = 0; waiting = None; active = None }
 
--- the local id is that of the last created surface
+-- the local id is that of the client's last surface
 abbrev pub is_named_last : Option (LocalSurfaceId × Size) → LocalSurfaceId → Bool
 is_named_last None local = Bool.false
 is_named_last (Some p) local = same_local p.0 local
 
--- what is counted of a client after one more submission, on the last surface or on a new one
+-- the counts of a client after one more submission, on its last surface or on a new one
 abbrev pub counting : Bool → LocalSurfaceId → Size → Owner → Owner
 counting last local size o =
     record {
@@ -148,24 +148,24 @@ counting last local size o =
       marked_to = o.marked_to;
     }
 
--- a client's surfaces are marked up to a number
+-- a client's surfaces are marked up to this number
 abbrev pub marked_up : ℕ → Owner → Owner
 marked_up number o = if nat_le number o.marked_to then o else record o { marked_to = number }
 
--- the client and the ordinal of the submission that waits on a surface, if one does
+-- the name of the waiting submission on a surface, if there is one
 unfoldable pub waiting_on : Stored → SurfaceId → Option Sub
 waiting_on st id = option_map (λ (s : Submission). sub_of s) (find (λ s. is_waiting s && is_on id s) st.subs)
 
--- the sink is that of each surface that the client created, and of no other client's
+-- the sink is that of every surface that the client created, and of no other client's surface
 pub record IsSinkOf (c : ℕ) (sink : FrameSinkId) (st : Stored) : Type 0 where
   pub own : (s : Created) → Contains st.surfaces s → s.client ≡ c → s.id.sink ≡ sink
   pub alone : (s : Created) → Contains st.surfaces s → s.id.sink ≡ sink → s.client ≡ c
 
--- the client and the ordinal of the active submission of a surface, if it has one
+-- the name of the active submission on a surface, if there is one
 unfoldable pub acting_on : Stored → SurfaceId → Option Sub
 acting_on st id = option_map (λ (s : Submission). sub_of s) (find (λ s. is_active s && is_on id s) st.subs)
 
--- the one that becomes past where the submission of this name becomes active
+-- the submission that is past once the one with this name becomes active
 unfoldable pub past_by : Stored → Sub → Option Sub
 past_by st sub = elim (named_in sub st.subs) [ Some s ↦ acting_on st s.submitted.id | None ↦ None ]
 
@@ -176,7 +176,7 @@ pub record KeepsMarks (o : Owners) (st : Stored) : Type 0 where
   pub marks : (s : Created) → Contains st.surfaces s → s.marked ≡ nat_le s.number (owner_at o s.client).marked_to
   pub created : (c : ℕ) → HasNumber c → (owner_at o c).marked_to ≤ (owner_at o c).created
 
--- what memory keeps is that of a store
+-- the memory represents a store
 pub record Keeps (t : Table) (w : Waits) (o : Owners) (st : Stored) : Type 0 where
   pub table : KeepsTable t st
   pub waits : FindsWaiting w st

@@ -1,4 +1,4 @@
--- What the names inside a frame lead to: the pass of a pass quad, the listing of a tile.
+-- What the ids inside a frame refer to: the pass of a pass quad, the listing of a tile.
 use Rattle.std.specs.Prelude.{◌≡◌, ℕ, Bool, false, Option, Some, None, List, map, filter, slice_get}
 use Rattle.std.specs.List.{last_or, position, range_with_len}
 use Rattle.vz_pixels.specs.Block.{Block}
@@ -9,23 +9,23 @@ use Rattle.vz_frame.specs.declared.frame.DrawQuad.{DrawQuad}
 use Rattle.vz_frame.specs.declared.frame.Material.TheVariants.{Tile, Pass}
 use Rattle.vz_frame.specs.Frame.{lists, names_pass}
 
--- there is a pass at a place, and it has this id
+-- there is a pass at this place, and it has this id
 abbrev pub has_id_at : ℕ → List RenderPass → ℕ → Bool
 has_id_at id passes k = elim (slice_get passes k) [ Some pass ↦ names_pass id pass | None ↦ false ]
 
--- the places before a place, in their order
+-- the places below a place, in order
 abbrev pub places_before : ℕ → List ℕ
 places_before k = range_with_len 0 k
 
--- the last of the places before a place at which the pass has an id, if there is one
+-- the last of the places below a place whose pass has this id, if there is one
 unfoldable pub pass_place : ℕ → List RenderPass → ℕ → Option ℕ
 pass_place id passes k = last_or None (filter (has_id_at id passes) (places_before k))
 
--- the first place at which a resource is listed, if there is one
+-- the first place at which the resource is listed, if it is listed
 unfoldable pub listing_place : ℕ → List Listing → Option ℕ
 listing_place id listings = position (lists id) listings
 
--- the place to which the name in a quad of the pass at a place leads, if it has one that leads to something
+-- the place that the id in a quad of the pass at a place refers to, if it refers to one
 unfoldable pub place_named : CompositorFrame → ℕ → DrawQuad → Option ℕ
 place_named frame k quad =
     elim quad.material [
@@ -34,11 +34,11 @@ place_named frame k quad =
       | _ ↦ None
     ]
 
--- the places to which the names in quads of the pass at a place lead
+-- the places that the ids in quads of the pass at a place refer to
 abbrev pub places_in : CompositorFrame → ℕ → List DrawQuad → List (Option ℕ)
 places_in frame k quads = map (place_named frame k) quads
 
--- these are the places to which the names in the quads of each pass lead
+-- these are the places that the ids in the quads of each pass refer to
 pub record AreNamed (frame : CompositorFrame) (places : List (List (Option ℕ))) : Type 0 where
   pub there : (k : ℕ) (pass : RenderPass) → slice_get frame.passes k ≡ Some pass → slice_get places k ≡ Some (places_in frame k pass.quads)
 

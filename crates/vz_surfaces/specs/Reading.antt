@@ -1,4 +1,4 @@
--- What is read of a store.
+-- What can be read from a store.
 use Rattle.std.specs.Prelude.{ℕ, zero, suc, ◌+◌, Bool, not, ◌&&◌, ◌==◌, Option, Some, None, List, [], ◌++◌, map, filter, find, count_by}
 use Rattle.std.specs.Option.{option_map}
 use Rattle.std.specs.List.{list_any}
@@ -13,11 +13,11 @@ use Rattle.vz_rules.specs.Kept.{last_in, stands_in}
 use Rattle.vz_surfaces.specs.declared.held.Held.{Held}
 use Rattle.vz_surfaces.specs.Stored.{Stored}
 
--- the surface of an id exists
+-- the surface with this id exists
 unfoldable pub stands : Stored → SurfaceId → Bool
 stands st id = stands_in st.surfaces id
 
--- the surface of an id that exists, if it does
+-- the surface with this id, if it exists
 abbrev pub standing : SurfaceId → List Created → Option Created
 standing id surfaces = find (λ s. same_surface s.id id && not s.destroyed) surfaces
 
@@ -25,7 +25,7 @@ standing id surfaces = find (λ s. same_surface s.id id && not s.destroyed) surf
 unfoldable pub existing_count : Stored → ℕ
 existing_count st = count_by (λ (s : Created). not s.destroyed) st.surfaces
 
--- a surface exists and is marked
+-- the surface exists and is marked
 unfoldable pub has_mark : Stored → SurfaceId → Bool
 has_mark st id = elim (standing id st.surfaces) [ Some c ↦ c.marked | None ↦ Bool.false ]
 
@@ -33,7 +33,7 @@ has_mark st id = elim (standing id st.surfaces) [ Some c ↦ c.marked | None ↦
 unfoldable pub marked_of : ℕ → Stored → List SurfaceId
 marked_of c st = map (λ s. s.id) (filter (λ (s : Created). (s.client == c) && s.marked && not s.destroyed) st.surfaces)
 
--- those of the first so many clients, by client
+-- the same for the first so many clients, client by client
 unfoldable pub marked_to : ℕ → Stored → List SurfaceId
 marked_to zero st = []
 marked_to (suc n) st = marked_to n st ++ marked_of (n + 1) st
@@ -42,19 +42,19 @@ marked_to (suc n) st = marked_to n st ++ marked_of (n + 1) st
 unfoldable pub last_of : ℕ → Stored → Option (LocalSurfaceId × Size)
 last_of c st = option_map (λ (s : Created). (s.id.local, s.size)) (last_in st.surfaces c)
 
--- the active frames on surfaces that exist, in the order of acceptance
+-- the active frames on existing surfaces, in the order of acceptance
 abbrev pub seen_frames : Stored → List FrameData
 seen_frames st = filter (λ i. stands_in st.surfaces i.id) (active_frames st.subs)
 
--- the active frame on a surface that exists
+-- the active frame on a surface, if the surface exists
 unfoldable pub active_on : Stored → SurfaceId → Option FrameData
 active_on st id = frame_on id (seen_frames st)
 
--- what a store keeps of a frame
+-- a frame, as a store has it
 abbrev pub held_of : FrameData → Held
 held_of i = record { sub = i.sub; index = i.index; frame = i.frame; blocks = i.blocks }
 
--- the frame that waits on a surface that exists
+-- the waiting frame on a surface, if the surface exists
 unfoldable pub waiting_at : Stored → SurfaceId → Option FrameData
 waiting_at st id =
     elim (standing id st.surfaces) [
@@ -62,7 +62,7 @@ waiting_at st id =
       | None ↦ None
     ]
 
--- what is kept of a frame on a surface, as it is seen
+-- the frame that a store has on a surface, with that surface's id
 abbrev pub frame_at : SurfaceId → Held → FrameData
 frame_at id h = record { id = id; sub = h.sub; index = h.index; frame = h.frame; blocks = h.blocks }
 
@@ -70,6 +70,6 @@ frame_at id h = record { id = id; sub = h.sub; index = h.index; frame = h.frame;
 unfoldable pub shown_in : Stored → SurfaceRange → Option SurfaceId
 shown_in st range = id_of_frame (shown_frame (seen_frames st) range)
 
--- some submission on a surface of a group, at this surface or newer, was active at some time
+-- some submission on this surface, or on a newer one of its group, was ever active
 unfoldable pub was_reached : Stored → SurfaceId → Bool
 was_reached st d = list_any (λ s. s.was_active && at_least s.submitted.id d) st.subs

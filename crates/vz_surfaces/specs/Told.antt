@@ -1,4 +1,4 @@
--- The changes that a store was told of.
+-- The changes that were made to a store.
 use Rattle.std.specs.Prelude.{List, [], ◌∷◌}
 use Rattle.vz_surfaces.specs.declared.told.Told.{Told}
 use Rattle.vz_surfaces.specs.declared.told.Told.TheVariants as told
@@ -16,6 +16,6 @@ unfoldable pub changed_by : Stored → List Told → Stored
 changed_by st [] = st
 changed_by st (t ∷ ts) = changed_by (changed st t) ts
 
--- what a store stands for that was told of these changes, the first of them first
+-- the store after these changes to the empty store, in their order
 unfoldable pub stored : List Told → Stored
 stored ts = changed_by nothing_stored ts

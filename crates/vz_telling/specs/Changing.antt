@@ -14,19 +14,20 @@ use Rattle.vz_rules.specs.Walk.{walk_of, too_much}
 use Rattle.vz_rules.specs.Messages.{submit_refusal}
 use Rattle.vz_damage.specs.Accepted.{scene_from}
 
--- a client that is not closed submits, and is not refused
+-- a client that has not closed submits a frame, which is not refused
 pub record IsAllowed (w : World) (c : Client) (local : LocalSurfaceId) (frame : CompositorFrame) : Type 0 where
   pub known : Contains w.clients c
   pub stays : IsFalse c.closed
   pub allowed : submit_refusal (last_created w c.number) c.resources local frame ≡ None
 
--- a drawing walks from this root: no frame is in flight, something can be seen from there, and it is not too much
+-- a drawing walks from this root: no frame is in flight, the root shows something, and the walk is
+-- not too much
 pub record Draws (p : Plan) (w : World) (root : SurfaceId) : Type 0 where
   pub free : IsFalse (is_some w.in_flight)
   pub seen : scene_of w ≡ Some (scene_from root w)
   pub fits : IsFalse (too_much (walk_of p.size (scene_from root w)))
 
--- what a drawing that walked answers where this changed
+-- the reply to a drawing that walked, by what changed
 abbrev pub drawn_reply : Option Rectangle → Reply
 drawn_reply None = Unchanged
 drawn_reply (Some damage) = Drawn damage

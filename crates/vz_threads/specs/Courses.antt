@@ -1,4 +1,4 @@
--- What a run with a thread for each client comes to.
+-- What a run with a thread for each client gives.
 use Rattle.std.specs.Prelude.{ℕ, Bool, IsTrue, List, map, length}
 use Rattle.vz_frame.specs.declared.message.ClientFile.{ClientFile}
 use Rattle.vz_rules.specs.Plan.{Plan}
@@ -8,8 +8,8 @@ use Rattle.vz_rules.specs.Course.{IsDisplayPart, IsPaced}
 use Rattle.vz_rules.specs.Whole.{TakesAll, AllInTime}
 use Rattle.vz_rules.specs.Frames.{written, frames_bytes}
 
--- a legal history in which the display makes so many rounds, paced where that is asked, and then ends, and each client's messages
--- are all taken, none of them too early and none past the last
+-- a run's history: it is legal; the display makes so many rounds, paced if that is asked, and then
+-- ends; and all messages of each client are taken, with no NotYet and no NoMessage
 pub record IsRun (p : Plan) (rounds : ℕ) (paced : Bool) (h : List Entry) : Type 0 where
   pub legal : Legal p h
   pub display : IsDisplayPart p h rounds

@@ -1,4 +1,4 @@
--- What a client's end is while its messages are taken, by a thread or after all threads have ended.
+-- The end of a client while its messages are taken, by its thread or after all threads have ended.
 use Rattle.std.specs.Prelude.{◌≡◌, ℕ, ◌-◌, ◌≤◌, true, ◌⊎◌, All, Some, List, map, reverse, length, slice_index}
 use Rattle.atomic_table.specs.Seated.{TableId}
 use Rattle.vz_rules.specs.Plan.{Plan}
@@ -9,12 +9,12 @@ use Rattle.vz_threads.specs.Courses.{message_counts}
 use Rattle.vz_threads.specs.declared.crew.Started.{Started}
 use Rattle.vz_threads.specs.declared.crew.Started.TheVariants.{Running, Here}
 
--- how many messages the file of a client has, with the messages of each file
+-- how many messages the file of a client has, by the counts of all files
 abbrev pub messages_of : List ℕ → ℕ → ℕ
 messages_of counts c = slice_index counts (c - 1)
 
--- an end of a client at work: it is of this desk and this plan, which has the client, each of its calls took a message, and it took
--- no more than its file has
+-- a client's end at work: it is of this desk and this plan, which has the client; each of its
+-- calls took a message; and it took at most as many as its file has
 pub record IsAtWork (id : TableId) (p : Plan) (o : Owner Totals) : Type 0 where
   pub desk : o.desk ≡ id
   pub plan : o.plan ≡ Some p
@@ -28,7 +28,7 @@ pub record MayTake (id : TableId) (count : ℕ) (o : Owner Totals) : Type 0 wher
   pub work : IsAtWork id plan o
   pub all : count ≡ messages_of (message_counts plan) o.number
 
--- it is the same client's end, and is at work where it was
+-- both are the same client's end, and if the old one was at work, the new one is
 pub record WorksOn (old new : Owner Totals) : Type 0 where
   pub number : new.number ≡ old.number
   pub work : (id : TableId) (p : Plan) → IsAtWork id p old → IsAtWork id p new
@@ -39,7 +39,7 @@ pub record IsCrew (id : TableId) (messages : List ℕ) (os : List (Owner Totals)
   pub work : All (IsAtWork id plan) os
   pub counts : messages ≡ message_counts plan
 
--- they are the ends of the same clients, and all are at work where they were
+-- both are the ends of the same clients, and if the old ones were at work, the new ones are
 pub record CrewWorksOn (old new : List (Owner Totals)) : Type 0 where
   pub numbers : map (λ (o : Owner Totals). o.number) new ≡ map (λ (o : Owner Totals). o.number) old
   pub work : (id : TableId) (p : Plan) → All (IsAtWork id p) old → All (IsAtWork id p) new
@@ -48,26 +48,26 @@ pub record CrewWorksOn (old new : List (Owner Totals)) : Type 0 where
 abbrev pub HasTakenAll : List ℕ → Owner Totals → Type 0
 HasTakenAll messages o = o.totals.taken ≡ messages_of messages o.number
 
--- an end took so many messages, or its client is idle in the world behind what it has seen
+-- an end took so many messages, or its client is idle in the world after what the end has seen
 abbrev pub IsServed : ℕ → Owner Totals → Type 0
 IsServed count o = (o.totals.taken ≡ count) ⊎ TellsIdle o true
 
--- an end of the crew, with what the crew knows of the files
+-- an end is one of the crew's, and these are the counts of messages of all files
 pub record IsInCrew (id : TableId) (messages : List ℕ) (o : Owner Totals) : Type 0 where
   pub plan : Plan
   pub work : IsAtWork id plan o
   pub counts : messages ≡ message_counts plan
 
--- the end that a thread was given, or that is still here
+-- the end that was given to a thread, or that stayed with the display
 abbrev pub end_of : {M D : Type 0} → Started M D → Owner Totals
 end_of (Running handle) = handle.promise.given.value
 end_of (Here end) = end
 
--- the ends of those that were started, the last started first
+-- the ends of all that were started; the one started last comes first in the list
 abbrev pub crew_of : {M D : Type 0} → List (Started M D) → List (Owner Totals)
 crew_of started = map end_of (reverse started)
 
--- an end that is here took all messages of its file, or its client is idle
+-- an end that stayed with the display took all messages of its file, or its client is idle
 abbrev pub IsServedHere : {M D : Type 0} → List ℕ → Started M D → Type 0
 IsServedHere messages (Running handle) = Unit {0}
 IsServedHere messages (Here end) = IsServed (messages_of messages end.number) end

@@ -8,14 +8,15 @@ use Rattle.vz_machine.specs.Pictured.{Pictured}
 use Rattle.vz_display.specs.Displayed.{Displayed, shown, steps_for}
 use Rattle.vz_outputs.specs.Shown.{ShowsFrame, frame_on}
 
--- what stays of an outlet: the file's slot, the size of the frames, and which shelf and counter it borrows
+-- the fixed part of an outlet: the file's slot, the size of the frames, and which shelf and
+-- counter it borrows
 pub record Fixed : Type 0 where
   pub slot : ℕ
   pub size : Size
   pub shelf : ℕ
   pub steps : ℕ
 
--- how an outlet stands: what stays of it, the display, the shelf of the file, and the steps so far
+-- the state of an outlet: its fixed part, the display, the file's shelf, and the steps so far
 pub record Outlook : Type 0 where
   pub fixed : Fixed
   pub display : Displayed
@@ -26,23 +27,24 @@ pub record Outlook : Type 0 where
 abbrev pub file_of : Outlook → Name
 file_of s = s.shelf.name s.fixed.slot
 
--- the bytes of the frame that a display has
+-- the bytes of the frame that a display shows
 abbrev pub frame_bytes : Displayed → List ℕ
 frame_bytes d = flat_map pixel_bytes (frame_on d)
 
--- an outlet may show a picture: it has the display's size, the display then shows a frame of the file's size, and the file is open
+-- an outlet can show a picture: the picture has the display's size, the display then shows a frame
+-- of the file's size, and the file is open
 pub record MayShow (s : Outlook) (x : Pictured) : Type 0 where
   pub same : x.size ≡ s.display.turns.size
   pub shows : ShowsFrame (shown s.display x)
   pub size : (shown s.display x).turns.size ≡ s.fixed.size
   pub opened : s.shelf.mode s.fixed.slot ≡ Some Writing
 
--- a picture is shown: its points are counted, and the frame is written
+-- the outlet shows a picture: its points are counted, and the frame is written
 pub record Shows (x : Pictured) (old new : Outlook) : Type 0 where
   pub display : new.display ≡ shown old.display x
   pub counted : new.steps ≡ old.steps + steps_for old.display x.changed
   pub written : Appends (frame_bytes new.display) (file_of old) old.shelf new.shelf
 
--- a front part of its frame is written, maybe none of it
+-- a front part of the picture's frame is written, possibly nothing of it
 abbrev pub BeginsFrame : Pictured → Outlook → Outlook → Type 0
 BeginsFrame x old new = AppendsFront (frame_bytes (shown old.display x)) (file_of old) old.shelf new.shelf

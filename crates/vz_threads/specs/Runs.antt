@@ -1,4 +1,4 @@
--- What stands once all threads of a run have ended.
+-- What holds once all threads of a run have ended.
 use Rattle.std.specs.Prelude.{◌≡◌, ℕ, ◌+◌, ◌≤◌, Bool, IsTrue, List, [], ◌∷◌, ◌++◌, Result, Ok, Err, OnOk, OnErr, length}
 use Rattle.atomic_table.specs.Seated.{TableId}
 use Rattle.vz_pixels.specs.Colour.{Colour}
@@ -20,12 +20,13 @@ use Rattle.vz_threads.specs.Outlets.{Outlook, file_of}
 use Rattle.vz_threads.specs.Rounds.{Setup, MayBegin, AreShown}
 use Rattle.vz_threads.specs.Tails.{TookAll, IsTail}
 
--- an outlet that may show a run, and has shown nothing yet
+-- an outlet can show a run, and has shown nothing yet
 pub record IsReady (k : Setup) (start : Outlook) : Type 0 where
   pub begins : MayBegin k start
   pub display : start.display ≡ display_at k.plan [] k.buffers
 
--- the display's rounds are over, and each client's messages are all taken: what is left of a run is its tail
+-- the display's rounds are over, and all messages of each client are taken; only the tail of the
+-- run is missing
 pub record IsUpToTail (k : Setup) (rounds : ℕ) (paced : Bool) (start now : Outlook) (h : List Entry) : Type 0 where
   pub first : List Entry
   pub over : Entry
@@ -43,37 +44,40 @@ pub record IsCutThere (k : Setup) (start now : Outlook) (h : List Entry) (result
   pub others : KeepsOthers (file_of start) start.shelf now.shelf
   pub behaves : Behaves start.shelf now.shelf result
 
--- a desk that was opened on a plan whose files have so many messages, with the ends of its callers
+-- a desk was opened for a plan whose files have so many messages, and these are the ends of its
+-- callers
 pub record IsOpened (p : Plan) (messages : List ℕ) (id : TableId) (callers : ℕ) (ends : List (Owner Totals)) (display : Owner DisplayTotals) : Type 0 where
   pub counts : messages ≡ message_counts p
   pub callers_are : callers ≡ length messages + 1
   pub ends_are : ends ≡ fresh_from id p 1 (length messages)
   pub display_is : display ≡ fresh id p no_display_totals 0
 
--- what comes of an answer once what is left was taken: an error stays, and want of memory may come
+-- the result after the remaining messages were taken: an error stays, and otherwise only want of
+-- memory may come
 abbrev pub IsRestOf : Result (Unit {0}) ShelfError → Result (Unit {0}) ShelfError → Type 0
 IsRestOf (Ok x) result = OnErr result (result ≡ Err Memory)
 IsRestOf (Err error) result = result ≡ Err error
 
--- all threads of a run have ended, and this is its history: whole but for its tail, or cut short
+-- all threads of a run have ended, and this is its history: whole except for its tail, or cut
+-- short
 pub record HasRun (k : Setup) (rounds : ℕ) (paced : Bool) (start now : Outlook) (h : List Entry) (result : Result (Unit {0}) ShelfError) : Type 0 where
   pub legal : Legal k.plan h
   pub whole : OnOk result (IsUpToTail k rounds paced start now h)
   pub cut : OnErr result (IsCutThere k start now h result)
 
--- a history with the tail of a run behind it
+-- a history followed by the tail of a run
 pub record EndsWithTail (p : Plan) (h g : List Entry) : Type 0 where
   pub begins : List Entry
   pub last : List Entry
   pub all : g ≡ h ++ (begins ++ last)
   pub tail : IsTail p h begins last
 
--- the frames of a longer history stand at the end of a file
+-- the frames that a longer history adds are appended to a file
 abbrev pub WritesMore : Plan → ℕ → Name → List Entry → List Entry → Shelved → Shelved → Type 0
 WritesMore p buffers name h g before after =
     (more : List (List Colour)) × (written p g buffers ≡ written p h buffers ++ more) × Appends (frames_bytes more) name before after
 
--- or a front part of them does
+-- a front part of the frames that a longer history adds is appended to a file
 abbrev pub WritesMoreFront : Plan → ℕ → Name → List Entry → List Entry → Shelved → Shelved → Type 0
 WritesMoreFront p buffers name h g before after =
     (more : List (List Colour)) × (written p g buffers ≡ written p h buffers ++ more) × AppendsFront (frames_bytes more) name before after

@@ -1,4 +1,4 @@
--- The submissions of the machine's state that wait to become active.
+-- The submissions that wait to become active.
 use Rattle.std.specs.Prelude.{◌≡◌, ℕ, Bool, not, ◌&&◌, ◌||◌, Option, List, map, filter, find}
 use Rattle.std.specs.Option.{option_map}
 use Rattle.vz_ids.specs.declared.LocalSurfaceId.{LocalSurfaceId}
@@ -14,29 +14,29 @@ use Rattle.vz_deadlines.specs.declared.due.Due.{Due}
 use Rattle.vz_deadlines.specs.Timing.{waits, due_of}
 use Rattle.vz_waiting.specs.declared.arrival.Arrival.{Arrival}
 
--- those that wait, in the order of acceptance: what each of them lacks, and its deadline
+-- the waiting submissions, in the order of acceptance: the unmet dependencies of each, and its
+-- deadline
 pub record Waits : Type 0 where
   pub blocked : List Blocked
   pub due : List Due
-  -- there is room for one more that lacks fewer dependencies than this
+  -- there is room for one more submission with fewer unmet dependencies than this
   pub spare : ℕ
 
--- they are those of a state. At the beginning of a round those that become active in it are no longer
--- among them
+-- these are the waiting submissions of a state, without those that are ready
 pub record AreWaiting (w : World) (a : Waits) : Type 0 where
   pub blocked : a.blocked ≡ blocked_by (is_met w) (filter (λ s. not (is_ready w s)) w.subs)
   pub due : a.due ≡ map due_of (filter (λ s. is_waiting s && not (is_ready w s)) w.subs)
 
--- a submission is among them
+-- the submission is one of these
 abbrev pub is_among : Waits → Sub → Bool
 is_among a s = is_blocked a.blocked s || waits a.due s
 
--- the submission that waits on a surface, if one does
+-- the waiting submission on a surface, if there is one
 unfoldable pub waiting_on : World → SurfaceId → Option Sub
 waiting_on w id = option_map (λ s. sub_of s) (find (λ s. is_waiting s && is_on id s) w.subs)
 
--- what is told of a client's new submission: its name, its deadline, the one that waits on its surface, the tick that it
--- comes at, and its dependencies that are not met
+-- the arrival of a client's submission: its name, its deadline, the one that waits on its surface,
+-- the current tick, and its unmet dependencies
 pub record Tells (w : World) (c : Client) (local : LocalSurfaceId) (frame : CompositorFrame) (a : Arrival) (now : ℕ)
     (lacks : List SurfaceId) : Type 0 where
   pub sub : a.sub ≡ sub_of (new_submission w c local frame)

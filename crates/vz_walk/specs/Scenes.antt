@@ -11,6 +11,6 @@ use Rattle.vz_surfaces.specs.Reading.{seen_frames}
 abbrev pub scene_in : SurfaceId → Stored → Scene
 scene_in root st = record { root = root; active = seen_frames st }
 
--- what a walk through it meets, on a display of a size
+-- the visits of a walk through what a store shows from a root, on a display of this size
 abbrev pub walked_in : Size → SurfaceId → Stored → List Visit
 walked_in size root st = walk_of size (scene_in root st)

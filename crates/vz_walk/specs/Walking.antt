@@ -1,4 +1,4 @@
--- Where a walk stands, and what is to be met from there on.
+-- Where a walk is, and which visits it makes from there.
 use Rattle.std.specs.Prelude.{◌≡◌, ℕ, ◌+◌, true, false, Option, Some, None, List, [], ◌∷◌, take, reverse, length, slice_get}
 use Rattle.vz_base.specs.declared.limits.TheConstants.{MOST_ON_PATH}
 use Rattle.vz_geom.specs.Rectangle.{minus, corner}
@@ -20,53 +20,55 @@ abbrev pub ids : Path → List SurfaceId
 ids Start = []
 ids (Behind' id p before) = id ∷ ids before
 
--- where a walk stands: in a frame, behind the surfaces of a path and with so many surfaces left
+-- where a walk is: in a frame, with the surfaces of a path above it, and how many more the path
+-- may have
 pub record Stand : Type 0 where
   pub active : List FrameData
   pub levels : ℕ
   pub path : List SurfaceId
   pub frame : CompositorFrame
 
--- a store keeps what it always does, the frame fits, and no surface too many is on the path or left
+-- everything holds that always holds of a store, the frame fits, and the path and what it may
+-- still have are within the limit
 pub record IsStanding (st : Stored) (levels : ℕ) (path : List SurfaceId) (frame : CompositorFrame) : Type 0 where
   pub keeps : KeepsStored st
   pub frames : KeepsFrames st
   pub deep : length path + levels ≡ MOST_ON_PATH + 1
   pub fits : FitsFile frame
 
--- what is met at a range here
+-- the visits at a range here
 abbrev pub ranges_of : Stand → WalkRange
 ranges_of it = range_walked (walk it.levels it.active) it.active it.path
 
--- what is met in the passes before a place, by their ids
+-- the visits in the passes before a place of the frame, by their ids
 abbrev pub named_of : Stand → ℕ → WalkNamed
 named_of it k = groups_walked (ranges_of it) (reverse (take k it.frame.passes))
 
--- what is met in a quad of the pass at a place
+-- the visits at a quad of the pass at a place of the frame
 abbrev pub quad_of : Stand → ℕ → RenderPass → Placement → DrawQuad → List Visit
 quad_of it k pass place quad = quad_walked (named_of it k) (ranges_of it) pass place quad
 
--- what is met in a pass, if one is given, over those before a place
+-- the visits in a pass, if there is one, with the passes before a place to draw
 abbrev pub pass_in : WalkRange → List RenderPass → ℕ → Placement → Option RenderPass → List Visit
 pass_in ranges passes k place None = []
 pass_in ranges passes k place (Some pass) = pass_walked (groups_walked ranges (reverse (take k passes))) ranges pass place
 
--- what is met in the pass at a place
+-- the visits in the pass at a place of the frame
 abbrev pub pass_of : Stand → ℕ → Placement → List Visit
 pass_of it k place = pass_in (ranges_of it) it.frame.passes k place (slice_get it.frame.passes k)
 
--- what is met in a pass, seen as a group from a place
+-- the visits in a pass that is drawn as a group, if there is one
 abbrev pub group_in : WalkRange → List RenderPass → ℕ → Placement → Option RenderPass → List Visit
 group_in ranges passes k place None = []
 group_in ranges passes k place (Some pass) = pass_in ranges passes k (record place { shift = minus place.shift (corner pass.output) })
     (Some pass)
 
--- what is met in the pass at a place, if one is given, as a group
+-- the visits in the pass at a place of the frame, drawn as a group, if there is one
 abbrev pub group_at : WalkRange → List RenderPass → Placement → Option ℕ → List Visit
 group_at ranges passes place None = []
 group_at ranges passes place (Some k) = group_in ranges passes k place (slice_get passes k)
 
--- what is met of a surface that a range shows here, nothing where it is on the path
+-- the visits at a surface that a range shows here; none if it is on the path
 abbrev pub shown_at : Stand → FrameData → Placement → List Visit
 shown_at it i place = elim (on_path it.path i) [
   | true ↦ []

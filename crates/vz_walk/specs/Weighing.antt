@@ -1,4 +1,4 @@
--- How many quads were met, and whether that is too much.
+-- How many quads a walk met, and whether that is too much.
 use Rattle.std.specs.Prelude.{◌≡◌, ℕ, true, false, MatchOption, Option, List}
 use Rattle.vz_rules.specs.Walk.{Visit, weight, too_much}
 
@@ -11,6 +11,6 @@ pub record IsWeighed (count : ℕ) (visits : List Visit) : Type 0 where
 abbrev pub IsHeavy : List Visit → Type 0
 IsHeavy visits = too_much visits ≡ true
 
--- the weight of visits, and none where they are too much
+-- the weight of visits, or None if they are too much
 abbrev pub IsWeightOf : List Visit → Option ℕ → Type 0
 IsWeightOf visits o = MatchOption o (too_much visits ≡ true) (λ n. (n ≡ weight visits) × (too_much visits ≡ false))

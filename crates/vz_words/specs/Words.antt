@@ -1,4 +1,4 @@
--- The words of the command line, and what is read in front of them.
+-- The words of the command line, and how the first of them are read.
 use Rattle.std.specs.Prelude.{ℕ, ◌≡◌, ◌+◌, Bool, true, false, not, is_some, ◌==◌, ◌&&◌, nat_le, IsTrue, List, map, codes, [], ◌∷◌, ◌++◌, Option}
 use Rattle.std.specs.Fmt.{decimal}
 use Rattle.std.specs.declared.string.String.{String}
@@ -23,29 +23,31 @@ abbrev pub begins : Word → List Word → Bool
 begins name [] = false
 begins name (word ∷ words) = same_text word name
 
--- the option without a value stands in front of the words or not, and the rest behind it
+-- the words begin with this option, which has no value, or they do not; and these words follow
 abbrev pub IsFlag : (name : Word) (words : List Word) (given : Bool) (rest : List Word) → Type 0
 IsFlag name words given rest = (words ≡ flag_words name given ++ rest) × (given ≡ begins name words)
 
--- the option for the number of buffers stands in front of the words or not, and the rest behind it
+-- the words begin with the option for the number of buffers, or they do not; and these words
+-- follow
 abbrev pub IsBuffers : (words : List Word) (buffers : Option ℕ) (rest : List Word) → Type 0
 IsBuffers words buffers rest =
     (words ≡ buffer_words buffers ++ rest) × (is_some buffers ≡ begins (codes "--buffers") words) × IsTrue (buffers_fit buffers)
 
--- the sides of a display stand in front of the words, and the rest behind them
+-- the words begin with the sides of a display, and these words follow
 abbrev pub IsDisplay : (words : List Word) (w h : ℕ) (rest : List Word) → Type 0
 IsDisplay words w h rest = (words ≡ decimal w ∷ decimal h ∷ rest) × IsTrue (are_sides w h)
 
--- so many begin-frames of a display of this size are made and drawn
+-- there are at most so many ticks as the limit, and the frames of all their drawings and of a last
+-- one fit
 abbrev pub ticks_fit : ℕ → ℕ → ℕ → Bool
 ticks_fit w h ticks = nat_le ticks MOST_TICKS && frames_fit w h (ticks + 1)
 
--- the sides of a display and the begin-frames stand in front of the words, and the rest behind them
+-- the words begin with the sides of a display and the ticks, and these words follow
 abbrev pub IsTimed : (words : List Word) (w h ticks : ℕ) (rest : List Word) → Type 0
 IsTimed words w h ticks rest =
     (words ≡ decimal w ∷ decimal h ∷ decimal ticks ∷ rest) × IsTrue (are_sides w h) × IsTrue (ticks_fit w h ticks)
 
--- the command that a command of the code is
+-- the command of the definitions for a command of the code
 abbrev pub command_of : Asked → Command
 command_of (asked.Run w) = Run w.paced w.buffers w.pipe w.width w.height w.ticks w.frames.now w.log.now (texts w.files.now)
 command_of (asked.Step w) = Step w.width w.height w.schedule.now w.frames.now w.log.now (texts w.files.now)
