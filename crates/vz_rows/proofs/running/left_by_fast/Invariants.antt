@@ -1,5 +1,0 @@
-use Rattle.vz_rows.proofs.running.left_by_fast.Given as goal
-
--- the ledger is the new one
-abbrev pub ghosts-counted : goal.ghosts-counted
-ghosts-counted a = record { name = a.blank.name; parts = a.blank.parts }

@@ -1,0 +1,44 @@
+//! The gates of the tests, as one type: the program is built once for each type of gate.
+use crate::meeting::MeetingGate;
+use crate::order::OrderGate;
+use vz_outside::Gate;
+
+/// On which side of a step a gate is called.
+#[derive(Clone, Copy, PartialEq, Eq)]
+pub enum Side {
+    Before,
+    After,
+}
+
+/// A gate of a test.
+#[derive(Drop)]
+pub enum TestGate {
+    Order(OrderGate),
+    Meeting(MeetingGate),
+}
+
+impl TestGate {
+    /// Whether it saw what must be.
+    pub fn is_content(&self) -> bool {
+        match self {
+            TestGate::Order(gate) => gate.is_told(),
+            TestGate::Meeting(gate) => gate.all_met(),
+        }
+    }
+}
+
+impl Gate for TestGate {
+    fn before(&self, actor: u32, turn: u64) {
+        match self {
+            TestGate::Order(gate) => gate.call(actor, turn, Side::Before),
+            TestGate::Meeting(gate) => gate.before(actor, turn),
+        }
+    }
+
+    fn after(&self, actor: u32, turn: u64) {
+        match self {
+            TestGate::Order(gate) => gate.call(actor, turn, Side::After),
+            TestGate::Meeting(_) => {}
+        }
+    }
+}

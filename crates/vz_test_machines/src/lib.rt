@@ -1,0 +1,22 @@
+//! Tests of what no clause says of the machines and of the gate. Both machines play the files by
+//! rule and tell the same, and the plain one leaves the plain pictures. The gate is told of each
+//! step of the program, and two clients can be before their first step at once. A bell wakes who
+//! waits.
+#![tactic(auto)]
+
+#[cfg(test)]
+mod bell;
+#[cfg(test)]
+mod call;
+#[cfg(test)]
+mod gate;
+#[cfg(test)]
+mod meeting;
+#[cfg(test)]
+mod order;
+#[cfg(test)]
+mod pictures;
+#[cfg(test)]
+mod plans;
+#[cfg(test)]
+mod told;
