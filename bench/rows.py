@@ -1,124 +1,19 @@
 #!/usr/bin/env python3
-"""Writes the table of worked rows of `vz_call_rows`: rows.py > ../crates/vz_call_rows/data/rows.txt
+"""Writes the table of worked rows of `vz_test_calls`: rows.py > ../crates/vz_test_calls/data/rows.txt
 
 Each row is a call of the program: its words, the files that it is given, and what must come, which
-is written here by hand. Client files are spelled from messages. README.md says more.
+is written here by hand, or for the cases stands in their folders. Client files are spelled from
+messages (spelling.py). README.md says more.
 """
-import struct
+from pathlib import Path
 
-RED, GREEN, BLUE, WHITE = (255, 0, 0, 255), (0, 255, 0, 255), (0, 0, 255, 255), (255,) * 4
-BLACK, GREY, DARK = (0, 0, 0, 255), (128, 128, 128, 255), (128, 0, 0, 255)
-PIXELS = {"r": RED, "g": GREEN, "b": BLUE, "w": WHITE, ".": BLACK, "h": GREY, "d": DARK}
-OVER, SRC, DST_IN = 0, 1, 2
-CLIENTS = "abcdeghijkmnopqr"      # the names of clients' files; f, l and s stand for others
+from spelling import (
+    AWAIT, BLUE, CLIENTS, CLOSE, DST_IN, GREEN, GREY, LISTED, NO_SINK, ONE_QUAD, OVER, RECLAIM, RED,
+    RED_QUAD, ROOT, SRC, UPLOAD, WHITE, client, embed, frame, group, local, picture,
+    produced_nothing, quad, reach, relation, render_pass, root, schedule, sink, solid, submit,
+    surface, tile, upload)
 
-# ---------------------------------------------------------------- spelling of client files
-
-
-def sink(k):
-    return struct.pack("<II", k, 1)
-
-
-NO_SINK = struct.pack("<II", 9, 9)
-
-
-def local(parent, child, token=1):
-    return struct.pack("<II", parent, child) + token.to_bytes(16, "little")
-
-
-def surface(k, parent=1, child=1, token=1):
-    return sink(k) + local(parent, child, token)
-
-
-def reach(end, start=None):
-    """A range of surfaces."""
-    return b"\0" + end if start is None else b"\1" + start + end
-
-
-def rect(r):
-    return struct.pack("<iiii", *r)
-
-
-def solid(colour):
-    return b"\1" + bytes(colour)
-
-
-def tile(resource):
-    return b"\2" + struct.pack("<IHH", resource, 0, 0)
-
-
-def embed(shown, background=BLACK):
-    return b"\3" + shown + bytes(background)
-
-
-def group(number):
-    return b"\4" + struct.pack("<I", number)
-
-
-def quad(material, area, offset=(0, 0), visible=None, clip=None, opacity=255, mode=None):
-    """A quad. It has a mode in files of format 2 alone."""
-    return (struct.pack("<ii", *offset) + rect(area) + rect(visible or area)
-            + (b"\0" if clip is None else b"\1" + rect(clip)) + bytes([opacity])
-            + (b"" if mode is None else bytes([mode])) + material)
-
-
-RED_QUAD = quad(solid(RED), (1, 0, 2, 2))
-
-
-def render_pass(number, size, quads, damage=None):
-    whole = (0, 0, *size)
-    return (struct.pack("<I", number) + rect(whole) + rect(damage or whole)
-            + struct.pack("<H", len(quads)) + b"".join(quads))
-
-
-def frame(size=(4, 2), quads=(RED_QUAD,), damage=None, passes=None, waits=(), references=(),
-          resources=(), deadline=255, token=7, answers=0):
-    passes = [render_pass(1, size, quads, damage)] if passes is None else passes
-    listed = [struct.pack("<IHH", *r) for r in resources]
-    parts = [[len(part)] + list(part) for part in (waits, references, listed, passes)]
-    return struct.pack("<IIB", token, answers, deadline) + b"".join(
-        bytes(head[:1]) + b"".join(head[1:]) for head in parts)
-
-
-def submit(parent, child, token=1, **parts):
-    return b"\2" + local(parent, child, token) + frame(**parts)
-
-
-def upload(number, size, colour):
-    w, h = size
-    return b"\1" + struct.pack("<IHH", number, w, h) + bytes(colour) * (w * h)
-
-
-def produced_nothing(number):
-    return b"\3" + struct.pack("<I", number)
-
-
-def root(token=1):
-    return b"\5" + local(1, 1, token)
-
-
-def relation(parent, child):
-    return b"\6" + parent + child
-
-
-RECLAIM, AWAIT, CLOSE = b"\4", b"\7", b"\x08"
-UPLOAD, ROOT = upload(1, (1, 1), RED), root()
-LISTED = [(1, 1, 1)]
-
-
-def client(k, *messages, form=1):
-    return b"VIZC" + struct.pack("<H", form) + sink(k) + struct.pack("<I", len(messages)) + b"".join(
-        messages)
-
-
-def schedule(words):
-    codes = {"begin": 0x11, "draw": 0x12, "done": 0x13, "over": 0x14}
-    return bytes(codes[word] if word in codes else int(word[1:]) for word in words.split())
-
-
-def picture(rows):
-    return b"".join(bytes(PIXELS[letter]) for row in rows for letter in row)
-
+CASES = Path(__file__).resolve().parent.parent / "crates/vz_test_calls/data"
 
 # ---------------------------------------------------------------- rows
 
@@ -167,15 +62,6 @@ def refused(name, line, data=None, events=None, size=(4, 2), **more):
         3, line, **more)
 
 
-ONE_QUAD = bytes.fromhex(
-    "56495a43" "0100" "0100000001000000" "02000000" "02"
-    "0100000001000000" "01000000000000000000000000000000"
-    "07000000" "00000000" "ff" "000000" "01" "01000000"
-    "00000000000000000400000002000000" "00000000000000000400000002000000" "0100"
-    "0000000000000000" "01000000000000000200000002000000" "01000000000000000200000002000000"
-    "00" "ff" "01" "ff0000ff" "05"
-    "0100000001000000" "01000000000000000000000000000000")
-assert client(1, submit(1, 1), ROOT) == ONE_QUAD and len(ONE_QUAD) == 166
 EVENTS = bytes.fromhex("01011213")
 QUAD_PICTURE = bytes.fromhex("000000ffff0000ffff0000ff000000ff" * 2)
 QUAD_LOG = ["c1 accepted 1 1 +1.1", "c1 rooted", "draw drawn 0 0 4 2", "done shown p1.1"]
@@ -627,7 +513,85 @@ def failing():
     put("failing_devices", "step 4 2 s f l a b", [("s", EVENTS), ("a", b"")], 4)
 
 
+# ---------------------------------------------------------------- cases
+
+
+# Worked histories, and cases that an independent reading of the rules made at random (the number is the
+# seed): the width and the height of the display, the clients, and the folders of the cases of these.
+BY_DISPLAY = {
+    (4, 2, 1): """
+        one_opaque_quad empty_schedule every_draw_but_the_last every_draw_and_done_answer
+        wrong_size_refused older_id_refused temporary_reference_ends
+        three_references_one_return deadline_of_0 deadline_of_64 upload_while_lent
+        begin_frame_delivery malformed_frames malformed_root dishonest_client format_two_1""",
+    (1, 1, 1): """
+        blend_over half_white group_of_two blend_modes_1 blend_modes_2 blend_modes_3
+        blend_modes_4 blend_modes_5""",
+    (8, 4, 1): "skipped_frame_damage",
+    (8, 8, 2): """
+        embedding_without_references root_of_the_second_client switch_and_gutter""",
+    (16, 16, 2): "clip_after_move_first clip_after_move",
+    (8, 8, 1): "stale_rectangles",
+    (4, 2, 3): "cycle_of_closed_clients cycle_is_drawn",
+    (4, 2, 2): "deadlock_broken_by_deadline hierarchy_refusals",
+    (4, 2, 16): "weight_limit_passed",
+    (4, 2, 15): "weight_limit_kept",
+    (2, 5, 2): "ranges_13",
+    (19, 21, 4): "waiting_47",
+    (4, 9, 2): "storm_98",
+    (11, 10, 3): "passing_100",
+    (2, 1, 14): "heavy_118 heavy_432 heavy_461",
+    (6, 2, 4): "waiting_185",
+    (5, 4, 4): "ring_224",
+    (5, 4, 3): "ring_279 ring_728",
+    (1, 6, 2): "page_317",
+    (1, 7, 3): "frames_342",
+    (13, 18, 2): "frames_354",
+    (13, 9, 5): "storm_380",
+    (9, 20, 3): "waiting_488",
+    (3, 3, 4): "gates_575",
+    (8, 14, 2): "storm_610",
+    (8, 8, 4): "waiting_649",
+    (4, 6, 3): "groups_654",
+    (3, 3, 6): "gates_678",
+    (2, 9, 1): "returns_800",
+    (4, 8, 1): "groups_813",
+    (18, 9, 4): "frames_822",
+    (3, 3, 5): "gates_868",
+    (7, 4, 2): "frames_946",
+    (9, 6, 2): "groups_1031",
+    (12, 9, 3): "claims_1043",
+    (16, 11, 3): "frames_1142",
+    (16, 9, 3): "cycle_1169",
+}
+
+
+# Of clients that change more than their damage says, what the independent reading says of the frames.
+VERDICTS = {"dishonest_client": "no 9 Frame", "frames_946": "no 16 Frame", "groups_1031": "no 41 Frame",
+            "claims_1043": "no 22 Frame"}
+
+
+def cases():
+    """Each case of a folder by `step`, and its log and frames judged by `check`."""
+    for (w, h, clients), names in BY_DISPLAY.items():
+        for name in names.split():
+            case(name, w, h, [str(k) for k in range(1, clients + 1)])
+
+
+def case(name, w, h, clients):
+    log = (CASES / name / "log").read_text(encoding="ascii").splitlines()
+    entries = [part for part in log if not part.startswith(("held", "open", "end"))]
+    frames = (CASES / name / "frames").stat().st_size // (4 * w * h)
+    TABLE.append("\n".join([
+        "row case " + name, "words step %d %d s f l %s" % (w, h, " ".join(clients)),
+        "read s %s/schedule" % name, *("read %s %s/%s.viz" % (k, name, k) for k in clients),
+        "must f %s/frames" % name, "must l %s/log" % name, "entries %d" % len(entries),
+        "line done %d entries %d frames" % (len(entries), frames),
+        "judge check %d %d f l %s" % (w, h, " ".join(clients)),
+        *(["verdict " + VERDICTS[name]] if name in VERDICTS else [])]))
+
+
 for part in (one_client, runs, colours, submissions, waiting, damages, embeddings, cycles, paths,
-             by_rule, page_run, refused_files, refused_words, verdicts, failing):
+             by_rule, page_run, refused_files, refused_words, verdicts, failing, cases):
     part()
 print("\n\n".join(TABLE))

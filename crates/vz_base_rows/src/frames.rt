@@ -1,4 +1,0 @@
-//! What no clause says: calls that take memory, and worked frames.
-
-mod lists;
-mod rules;

@@ -1,4 +1,0 @@
-//! Logs written and read.
-
-mod reading;
-mod writing;

@@ -1,5 +1,0 @@
-use Rattle.vz_call_rows.proofs.main.Given as goal
-
--- the ledger is the new one
-abbrev pub ghosts-run : goal.ghosts-run
-ghosts-run g a = record { name = a.blank.name; parts = a.blank.parts }
