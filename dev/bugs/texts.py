@@ -1,6 +1,7 @@
 """Bugs as they are written: which files they change, and in which functions."""
 import re
-from dataclasses import dataclass
+import shutil
+from dataclasses import dataclass, replace
 from pathlib import Path
 
 FN = re.compile(r"( *)(?:pub(?:\([^)]*\))? )?(?:const )?fn (\w+)")
@@ -102,3 +103,13 @@ def read_bug(folder, file):
 def bugs_in(folder, crate):
     """The bugs that lie in a folder, by name."""
     return [read_bug(crate, file) for file in sorted(folder.glob("*.edit"))]
+
+
+def copies_of(bugs, room):
+    """The same bugs, read from copies of their files in a room."""
+    found = []
+    for bug in bugs:
+        file = Path(room) / "bugs" / bug.crate / bug.file.name
+        file.parent.mkdir(parents=True, exist_ok=True)
+        found.append(replace(bug, file=Path(shutil.copyfile(bug.file, file))))
+    return found

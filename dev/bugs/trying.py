@@ -63,7 +63,10 @@ def try_one(crate, seed, bug):
 
 
 def try_batch(crate, seed, bugs):
-    """What checks with several of these bugs refused, by bug: why. Those that one does not settle are tried again without the others."""
+    """What checks with several of these bugs refused, by bug: why.
+
+    Those that a check does not settle are tried again without the others.
+    """
     texts, made = texts_of(crate, bugs)
     if len(made) < 2:
         return {}
@@ -84,7 +87,10 @@ def try_all(crate, seed, bugs, tell):
 
 
 def seed_of(crate, start, jobs):
-    """A folder with what a check of the crate as it is proved, begun with what is in `start`. None where it is not proved."""
+    """A folder with what a check of the crate as it is proved, begun with what is in `start`.
+
+    None where the crate is not proved.
+    """
     return rt.seeded(crate, ["--jobs", str(jobs)], start if os.path.isdir(start) else None)
 
 
@@ -98,6 +104,9 @@ def add_tasks(tasks, crate, start, bugs, tell):
             return try_all(crate, given[seed], batch, tell)
         return [tell(bug, NOT_TRIED, "the crate as it is was not proved") for bug in batch]
 
+    keys = []
     for number, batch in enumerate(make_batches(bugs)):
+        keys.append((crate.name, "edits", number))
         call = lambda given, jobs, batch=batch: work(batch, given)
-        tasks[crate.name, "edits", number] = ([seed], lines, rt.OVER * needs, call)
+        tasks[keys[-1]] = ([seed], lines, rt.OVER * needs, call)
+    tasks[crate.name, "end"] = (keys, 0, 0, lambda given, jobs: shutil.rmtree(given[seed] or "", ignore_errors=True))

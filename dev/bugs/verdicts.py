@@ -44,12 +44,15 @@ def errors_in(said, folder):
 
 
 def open_goal(said, function):
-    """What is left unproved of a function: a goal, or an error in its written proof. None where nothing is, or it cannot be told."""
+    """What is left unproved of a function: a goal, or an error in its written proof.
+
+    None where nothing is, or where it cannot be told.
+    """
     found = lines_of(said, function)
     if len(found) != 1:
         return None
     name, verdict = found[0]
-    if "did not prove" in verdict:
+    if "did not prove" in verdict and "it calls" not in verdict:
         return f"{name}: {verdict.split('; ')[-1]}"
     if not verdict.startswith("not proved"):
         return None
