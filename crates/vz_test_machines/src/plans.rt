@@ -72,7 +72,10 @@ fn put_event(plan: &Plan, byte: u8, all: &mut Vec<Event>) -> bool
     ensures { All (NamesClient plan.now) all.new.items }
 {
     match event_of(byte) {
-        Some(event) if is_of_plan(plan, event) => all.push(event).is_ok(),
+        Some(event) if is_of_plan(plan, event) => match all.push(event) {
+            Ok(()) => true,
+            Err(_) => false,
+        },
         _ => false,
     }
 }

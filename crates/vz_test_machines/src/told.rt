@@ -262,7 +262,7 @@ fn tell_the_same(alloc: Global, plan: Plan, events: &[Event]) -> bool
     by_plain & by_fast & plain.is_same(&fast)
 }
 
-/// An event of the page or of its two children, or of the display; the end of all begin-frames comes
+/// An event of the page, of its two children or of the display; the end of all begin-frames comes
 /// seldom.
 fn some_event(draws: &mut Draws) -> u8 {
     match draws.below(128) {
