@@ -94,10 +94,10 @@ def seed_of(crate, start, jobs):
     return rt.seeded(crate, ["--jobs", str(jobs)], start if os.path.isdir(start) else None)
 
 
-def add_tasks(tasks, crate, start, bugs, tell):
-    """Adds to the kit's tasks those that try the bugs of a crate."""
-    lines, needs, seed = crate.count(rb"\n"), rt.need(crate), (crate.name, "seed")
-    tasks[seed] = ([], lines, needs, lambda given, jobs: seed_of(crate, start, jobs))
+def add_tasks(tasks, crate, start, bugs, rank, tell):
+    """Adds to the kit's tasks those that try the bugs of a crate, which come before those of a smaller rank."""
+    needs, seed = rt.need(crate), (crate.name, "seed")
+    tasks[seed] = ([], 0, needs, lambda given, jobs: seed_of(crate, start, jobs))
 
     def work(batch, given):
         if given[seed]:
@@ -108,5 +108,5 @@ def add_tasks(tasks, crate, start, bugs, tell):
     for number, batch in enumerate(make_batches(bugs)):
         keys.append((crate.name, "edits", number))
         call = lambda given, jobs, batch=batch: work(batch, given)
-        tasks[keys[-1]] = ([seed], lines, rt.OVER * needs, call)
+        tasks[keys[-1]] = ([seed], rank, rt.OVER * needs, call)
     tasks[crate.name, "end"] = (keys, 0, 0, lambda given, jobs: shutil.rmtree(given[seed] or "", ignore_errors=True))
