@@ -1,5 +1,5 @@
 use Rattle.std.proofs.Common.{◌≡◌}
-use Rattle.vz_test_machines.proofs.told.take_all.Given as goal
+use Rattle.vz_test_machines.proofs.told.Told.take_all.Given as goal
 
 -- the machine has the plan that it had
 abbrev pub invariant-loop-event : goal.invariant-loop-event
