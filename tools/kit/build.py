@@ -207,3 +207,21 @@ def scene(name):
         except UnicodeDecodeError:
             raise Wrong("no UTF-8 text") from None
         return Scene(source.replace("\r\n", "\n"), Path(name).parent)
+
+
+def store(made, folder):
+    """Writes a scene's files into a folder, and removes those that another scene left; the words to run it, or None."""
+    folder = Path(folder)
+    with file(folder):
+        folder.mkdir(parents=True, exist_ok=True)
+        for old in folder.iterdir():
+            if re.fullmatch(r"c([1-9]|1[0-6])\.viz|schedule", old.name):
+                old.unlink()
+        names_ = [folder / ("c%d.viz" % k) for k in range(1, len(made.files) + 1)]
+        for name, data in zip(names_, made.files):
+            name.write_bytes(data)
+        if made.schedule is not None:
+            (folder / "schedule").write_bytes(made.schedule)
+    if not made.display or made.schedule is None:
+        return None
+    return ["step", *map(str, (*made.display, *(folder / name for name in ("schedule", "frames", "log")), *names_))]

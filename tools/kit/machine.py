@@ -103,7 +103,7 @@ class Machine:
         refuse_if(resource and resource.lent > resource.reclaimed, 6)
         if resource is None:
             resource = client.resources[message["id"]] = Resource()
-        resource.size = message["size"]
+        resource.size, resource.pixels = message["size"], message["pixels"]
         return "stored", (), ()
 
     def submit_message(self, client, message):
@@ -120,7 +120,9 @@ class Machine:
         world.subs.append(s)
         world.waiting.append(s)
         for listed in message["resources"]:
-            client.resources[listed["id"]].lent += 1
+            resource = client.resources[listed["id"]]
+            resource.lent += 1
+            s.blocks[listed["id"]] = resource.size, resource.pixels
         self.hold(s)
         self.answer(client, message["answers"])
         return "accepted", (s.ordinal, s.index), ()

@@ -272,13 +272,18 @@ def whole(end, value):
 
 def read(data):
     """The file that the bytes spell."""
+    try:
+        return located(data)
+    except Wrong as wrong:
+        raise Wrong(wrong.what) from None
+
+
+def located(data):
+    """The same; an error has the message and the field in its places."""
     if len(data) > FILE_LIMIT:
         raise Wrong("refused at %d: Long" % FILE_LIMIT)
     end = Reader(data)
-    try:
-        got = whole(end, None)
-    except Wrong as wrong:
-        raise Wrong(wrong.what) from None
+    got = whole(end, None)
     if end.place != len(data):
         raise Wrong("refused at %d: Trailing" % end.place)
     return got

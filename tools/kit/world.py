@@ -8,7 +8,8 @@ TEMPORARY_TICKS, DEFAULT_DEADLINE, LAST_TICK = 16, 4, 4294967231
 
 class Resource:
     def __init__(self):
-        self.size, self.lent, self.queued, self.reclaimed, self.holders = None, 0, 0, 0, 0
+        self.size = self.pixels = None
+        self.lent = self.queued = self.reclaimed = self.holders = 0
 
 
 class Client:
@@ -40,6 +41,7 @@ class Submission:
         self.state, self.in_flight, self.fed, self.holding = "waiting", False, False, False
         self.active_at = self.ended_at = self.fed_at = self.presented = self.why = None
         self.passes = {one["id"]: one for one in frame["passes"]}
+        self.blocks = {}          # the size and the pixels of each listed resource
 
     @property
     def name(self):
