@@ -210,7 +210,9 @@ def commands(folder):
     (folder / "a.toml").write_text('display = [4, 2]\n[[client]]\nmessages = ["awake"]\n')
     yield says("play", ["--viz", VIZ, "--out", folder / "o", folder / "a.toml"], 1, "a.toml: line 3: client 1, message 1: 'awake'")
     (folder / "a.toml").write_text('display = [4, 2]\n[[client]]\nmessages = ["await"]\n')
-    yield says("play", ["--viz", VIZ, "--out", folder / "o", folder / "a.toml"], 1, "a.toml: it has no schedule; --run TICKS")
+    yield says("play", ["--viz", VIZ, "--quiet", "--out", folder / "o", folder / "a.toml"], 0, " entries 0 frames; ")
+    (folder / "a.toml").write_text('[[client]]\nmessages = ["await"]\n')
+    yield says("play", ["--viz", VIZ, "--out", folder / "o", folder / "a.toml"], 1, "a.toml: it has no display")
 
 
 PARTS = (("help of the tools", helps), ("schedules of logs", schedules), ("painted frames", painted), ("faults explained", explained),

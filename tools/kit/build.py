@@ -8,12 +8,14 @@ try:
 except ModuleNotFoundError:
     raise SystemExit("the tools need Python 3.11 or a later one") from None
 
-from . import colours, names, png, wire
+from . import colours, names, png, repeat, until, wire
 from .frame import Frames
 from .lines import Lines
 from .table import Table, expect, text, whole, whole_numbers
 from .words import schedule_bytes, unfold
 from .wrong import Wrong, file, inside
+
+TICKS = 60           # how many rounds a scene without a schedule is run
 
 
 class Scene:
@@ -59,7 +61,8 @@ class Scene:
         self.schedule = None
         if schedule is not None:
             with inside("schedule", "schedule"):
-                self.schedule = schedule_bytes(schedule, len(clients), self.numbers, self.display)
+                self.schedule = schedule_bytes(schedule, len(clients), self.numbers, self.display,
+                                               lambda: until.Waits(self.files, self.display or (1, 1)))
 
     def own_colours(self, value):
         for name, colour in expect(value, dict).items():
@@ -116,15 +119,36 @@ class Client:
     def __init__(self, scene, table, sink):
         form = table.take("format", message_format, None)
         self.scene, self.sink, self.frames = scene, sink, Frames(scene, form)
-        self.messages = table.items("messages", self.message, "message", [])
+        self.messages = [one for some in table.items("messages", self.item, "message", []) for one in some]
         table.end()
         self.form = form if form is not None else 2 if self.frames.blends else 1
 
     def bytes(self):
         return wire.write({"format": self.form, "sink": self.sink, "messages": self.messages})
 
+    def item(self, value):
+        """The messages of an item of the list: one, or more if it repeats."""
+        if not isinstance(value, dict) or "repeat" not in value:
+            return [self.message(value)]
+        table = Table(value)
+        count = table.take("repeat", whole)
+        if not 1 <= count <= repeat.MOST:
+            with inside("repeat", "repeat"):
+                raise Wrong("%d: not 1 to %d" % (count, repeat.MOST))
+        got = []
+        for i in range(1, count + 1):
+            with inside("i = %d" % i):
+                if table.has("messages"):
+                    made = Table(repeat.put(table.left, i))
+                    got += made.items("messages", self.message, "message")
+                    made.end()
+                else:
+                    got.append(self.message(repeat.put(table.left, i)))
+        return got
+
     def message(self, value):
         got = self.one(value)
+        self.frames.awaits += got["kind"] == "await"
         wire.trial(wire.MESSAGE, got)
         return got
 
@@ -210,7 +234,8 @@ def scene(name):
 
 
 def store(made, folder):
-    """Writes a scene's files into a folder, and removes those that another scene left; the words to run it, or None."""
+    """Writes a scene's files into a folder, and removes those that another scene left; the words to run it: by its schedule, or, if it
+    has none, on threads; None if it has no display."""
     folder = Path(folder)
     with file(folder):
         folder.mkdir(parents=True, exist_ok=True)
@@ -222,6 +247,8 @@ def store(made, folder):
             name.write_bytes(data)
         if made.schedule is not None:
             (folder / "schedule").write_bytes(made.schedule)
-    if not made.display or made.schedule is None:
+    if not made.display:
         return None
+    if made.schedule is None:
+        return ["run", "--paced", *map(str, (*made.display, TICKS, folder / "frames", folder / "log", *names_))]
     return ["step", *map(str, (*made.display, *(folder / name for name in ("schedule", "frames", "log")), *names_))]

@@ -12,13 +12,14 @@ class Frames:
         self.scene = scene
         self.form = form          # the format that the client names, or None
         self.blocks = {}          # the size of the last upload of each id
+        self.awaits = 0           # how often the client awaited a begin-frame before
         self.blends = False       # some quad has a mode that format 1 does not have
 
     def submit(self, table):
         frame = {"kind": "submit",
                  "local": table.take("submit", lambda v: names.local(text(v))),
                  "token": table.take("token", whole, 0),
-                 "answers": table.take("answers", whole, 0),
+                 "answers": table.take("answers", self.answers, 0),
                  "deadline": table.take("deadline", whole, None),
                  "dependencies": table.items("dependencies", self.scene.surface, "dependency",
                                              [])}
@@ -32,6 +33,10 @@ class Frames:
         if not said[1]:
             frame["resources"] = [self.listed(i) for i in tiled(frame["passes"])]
         return frame
+
+    def answers(self, value):
+        """A number, or "latest": as many as the client awaited."""
+        return self.awaits if value == "latest" else whole(value)
 
     def listing(self, value):
         """A resource: its id alone, with the size of its upload, or `ID WxH`."""
@@ -107,6 +112,11 @@ class Frames:
             number = table.take("pass", whole)
             material = {"pass": number}
             area = (0, 0, *outputs[number][2:]) if number in outputs else None
+        if area is None and not table.has("area"):
+            raise Wrong("key 'area' is missing, and " + (
+                "no upload of resource %d before it gives the tile its size" % number if kind == "tile" and number not in self.blocks
+                else "(%d, %d) is outside resource %d" % (tx, ty, number) if kind == "tile"
+                else "pass %d is no earlier pass of this frame" % number))
         area = table.take("area", rectangle, *(() if area is None else (area,)))
         blend = table.take("blend", self.blend_mode, 0)
         self.blends |= blend != 0
