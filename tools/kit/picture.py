@@ -1,6 +1,6 @@
 """Pictures of frames: scaled up, with outlines, and laid beside each other."""
 
-from . import png
+from . import digits, png
 from .wrong import Wrong, file
 
 GROUND = bytes((200, 200, 200, 255))
@@ -51,6 +51,16 @@ class Picture:
             rows.append(made)
         return Picture(self.w // n, self.h // n, rows)
 
+    def fitted(self, most):
+        """The picture as large as fits into so many pixels of width: each pixel as a square, or squares as one pixel."""
+        if self.w > most:
+            n = -(-self.w // most)
+            w, h = self.w // n * n, max(n, self.h // n * n)
+            rows = [row[:w * 4] for row in self.rows[:h]]
+            return Picture(w, len(rows), rows).shrunk(n) if len(rows) >= n else self
+        scale = min(64, most // self.w)
+        return Picture.of(self.w, self.h, b"".join(self.rows), scale)
+
     def lay(self, other, x, y):
         for place, row in enumerate(other.rows):
             self.put(x, y + place, row)
@@ -61,16 +71,20 @@ class Picture:
             name.write_bytes(png.write(self.w, self.h, b"".join(self.rows)))
 
 
-def strip(pictures):
-    """All pictures in one, in as many columns as fit."""
-    w, h = pictures[0].w + GAP, pictures[0].h + GAP
+def strip(pictures, numbers=None):
+    """All pictures in one, in as many columns as fit, each with its number above it if there are numbers."""
+    head = digits.HIGH + GAP if numbers else 0
+    w, h = pictures[0].w + GAP, pictures[0].h + GAP + head
     columns = max(1, min(len(pictures), (STRIP_WIDTH - GAP) // w))
     rows = -(-len(pictures) // columns)
     if (columns * w + GAP) * (rows * h + GAP) > MOST:
         raise Wrong("the picture of %d frames would be too large" % len(pictures))
     whole = Picture.ground(columns * w + GAP, rows * h + GAP)
     for place, picture in enumerate(pictures):
-        whole.lay(picture, GAP + place % columns * w, GAP + place // columns * h)
+        x, y = GAP + place % columns * w, GAP + place // columns * h
+        if numbers:
+            digits.put(whole, x, y, numbers[place])
+        whole.lay(picture, x, y + head)
     return whole
 
 

@@ -1,7 +1,10 @@
 """Errors that say where something is wrong, and what."""
 
+import os
 import sys
 from contextlib import contextmanager
+
+VERSION = "1.1"
 
 
 class Wrong(Exception):
@@ -49,20 +52,33 @@ def file(name):
 def program(main, words, about):
     """Runs a tool: its status, its help, and its errors as one line. Status 1 is an error of an input, 2 of the
     words."""
-    if any(word in ("--help", "-h") for word in words):
-        print(about.strip())
-        sys.exit(0)
     try:
-        sys.exit(main(words))
+        status = asked(words, about) or main(words)
+        sys.stdout.flush()
+        sys.exit(status)
     except Usage as usage:
         sys.stderr.write("%s\n(--help says how it is used)\n" % usage)
         sys.exit(2)
     except Wrong as wrong:
         sys.stderr.write("%s\n" % wrong)
         sys.exit(1)
-    except BrokenPipeError:
-        sys.stderr.close()
-        sys.exit(1)
+    except OSError as error:
+        if not isinstance(error, BrokenPipeError):
+            sys.stderr.write("%s: %s\n" % (error.filename or "standard output", error.strerror or error))
+        sys.stdout = None             # what is left in it cannot be written either
+        os._exit(1)
+
+
+def asked(words, about):
+    """Prints the help or the version if it is asked for, and ends."""
+    if any(word in ("--help", "-h") for word in words):
+        print(about.strip())
+    elif words == ["--version"]:
+        print("%s of viz's tools, %s" % (os.path.basename(sys.argv[0]), VERSION))
+    else:
+        return None
+    sys.stdout.flush()
+    sys.exit(0)
 
 
 class Usage(Wrong):

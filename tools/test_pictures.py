@@ -1,0 +1,91 @@
+"""Tests of `frames` with fitted, numbered and animated pictures, and of what is refused before it works."""
+
+import struct
+import subprocess
+from pathlib import Path
+
+from kit import png
+
+TOOLS = Path(__file__).resolve().parent
+
+
+def frames(*words):
+    return subprocess.run([TOOLS / "frames", *map(str, words)], capture_output=True, text=True)
+
+
+def size(name):
+    return png.read(name.read_bytes())[:2]
+
+
+def fitted(folder):
+    """Pictures as large as fits, with numbers, and some of the frames."""
+    data = folder / "frames"
+    data.write_bytes(bytes((0, 0, 0, 255)) * (50 * 30 * 12))
+    for words, want in ((("--strip", "--fit", 320, "--only", "1-2"), (2 * 304 + 4, 184 + 4)),
+                        (("--strip", "--fit", 25), (12 * 29 + 4, 15 + 8)), (("--strip", "--fit", 20), (12 * 20 + 4, 10 + 8)),
+                        (("--strip", "--numbers", "--only", "3,5-7"), (4 * 54 + 4, 30 + 4 + 4 + 14))):
+        made = frames(*words, 50, 30, data, folder / "p.png")
+        yield "%s: %s%s" % (words, made.stderr, want), made.returncode == 0 and size(folder / "p.png")[0] == want[0]
+    frames("--strip", "--numbers", "--fit", "16", "--only", "7", 50, 30, data, folder / "n.png")
+    w, _, pixels = png.read((folder / "n.png").read_bytes())
+    ink = [(k % w, k // w) for k in range(len(pixels) // 4) if pixels[k * 4:k * 4 + 3] == bytes((60, 60, 60))]
+    yield "a seven", min(ink) == (4, 4) and len(ink) == 4 * (3 + 1 + 1 + 1 + 1)
+
+
+def animated(folder):
+    """An animated picture: as many frames as there are, the first one whole, of the others the rows that changed."""
+    data = bytearray(bytes((0, 0, 0, 255)) * (4 * 6 * 3))
+    data[4 * 6 * 4 + 32:4 * 6 * 4 + 36] = b"\xff\0\0\xff"
+    (folder / "a").write_bytes(data)
+    made = frames("--animate", 250, 4, 6, folder / "a", folder / "a.png")
+    yield made.stderr or "made", made.returncode == 0
+    whole = (folder / "a.png").read_bytes()
+    parts = list(png.chunks(whole))
+    yield "first frame", png.read(whole) == (4, 6, bytes(data[:96]))
+    yield "count", [struct.unpack(">II", body) for name, body in parts if name == b"acTL"] == [(3, 0)]
+    controls = [struct.unpack(">IIIIIHHBB", body) for name, body in parts if name == b"fcTL"]
+    yield "rows that changed: %s" % controls, [c[1:7] for c in controls] == [
+        (4, 6, 0, 0, 250, 1000), (4, 1, 0, 2, 250, 1000), (4, 1, 0, 2, 250, 1000)]
+    numbers = [struct.unpack(">I", body[:4])[0] for name, body in parts if name in (b"fcTL", b"fdAT")]
+    yield "numbers rise", numbers == list(range(5))
+
+
+def refused(folder):
+    (folder / "f").write_bytes(bytes(4 * 2 * 4))
+    (folder / "log").write_text("draw drawn 0 0 4 2\nend\n")
+    for words, status, said in (
+            (("--buffers", 9, 4, 2), 2, "--buffers is 1 to 4"), (("--fit", 8, 4, 2), 2, "--fit is 16 to 2048"),
+            (("--fit", 32, "--scale", 2, 4, 2), 2, "without --scale"), (("--only", "2-1", 4, 2), 2, "a frame's number is 1 to 1"),
+            (("--strip", 4, 2), 2, "its name ends in .png"), (("--animate", 0, 4, 2), 2, "--animate is 1 to"),
+            (("--damage", folder / "log", 2, 4), 1, "W and H are swapped"), ((2, 4), 0, "are W and H swapped?"), ((4, 2), 0, "")):
+        made = frames(*words, folder / "f", folder / "o.jpg")
+        yield "%s: %d %s" % (words, made.returncode, made.stderr), made.returncode == status and said in made.stderr
+    yield "no picture in a JPEG name", not (folder / "o.jpg").is_file()
+
+
+def story(*words):
+    return subprocess.run([TOOLS / "story", *map(str, words)], capture_output=True, text=True)
+
+
+def timelines(folder):
+    """A range of a timeline; a late answer; wrong words of `story`."""
+    waiting = TOOLS.parent / "examples" / "waiting"
+    made = story("--range", "9-14", "--scene", waiting / "scene.toml", "--svg", folder / "t.svg", waiting / "log")
+    picture = (folder / "t.svg").read_text(encoding="utf-8")
+    yield "a range", made.stdout.count("\n") == 6 and picture.count(">9. ") == 1 and ">8. " not in picture and ">15. " not in picture
+    whole = (waiting / "timeline.svg").read_text(encoding="utf-8")
+    yield "paler", "had its feedback and is still active" in whole
+    (folder / "late.toml").write_text('display = [4, 2]\nschedule = "c1 2*begin c1 c1 begin c1"\n[[client]]\nmessages = ["set-root 1.1", "await", '
+                                      '{ submit = "1.1", answers = 1 }, "did-not-produce 3"]\n')
+    (folder / "log").write_text("c1 rooted\nbegin ticked 1\nbegin ticked 2\nc1 began 2\nc1 accepted 1 1 +1.1\nbegin ticked 3\nc1 noted\nopen 1.1\nend\n")
+    story("--scene", folder / "late.toml", "--svg", folder / "l.svg", folder / "log")
+    yield "late", (folder / "l.svg").read_text(encoding="utf-8").count("a newer begin-frame is there") == 1
+    for words, said in ((("--names", "a,a,a"), "different names"), (("--names", "a,,b"), "different names"), (("--range", "9-3"), "after the last"),
+                        (("--range", "1-99"), "is 1 to 20"), (("--names", "a", "--scene", waiting / "scene.toml"), "wants 3 names")):
+        made = story(*words, waiting / "log")
+        yield "%s: %s" % (words, made.stderr), made.returncode == 2 and said in made.stderr
+    full = subprocess.run("'%s' --help > /dev/full" % (TOOLS / "story"), shell=True, capture_output=True, text=True)
+    yield "a full output: %s" % full.stderr, full.returncode == 1 and full.stderr.count("\n") == 1
+
+
+PARTS = (("timelines", timelines), ("fitted pictures", fitted), ("animated pictures", animated), ("words of frames", refused))
