@@ -29,8 +29,8 @@ def says(name, words, status, *parts):
 
 
 def helps(_folder):
-    for name in ("view", "replay", "why", "diff", "viz", "reftest", "play"):
-        yield name + " --help", tool(name, "--help").stdout.count("\n") > 8
+    for name in ("view", "replay", "why", "diff", "viz", "reftest", "play", "man"):
+        yield name + " --help", tool(name, "--help").stdout.count("\n") > 6
 
 
 def schedules(folder):
@@ -167,6 +167,18 @@ def differences(folder):
     yield says("diff", [case, other], 1, "not whole frames of 8 by 8")
 
 
+def manual(folder):
+    """The man page has the commands, the words and the statuses of README."""
+    (folder / "README.md").write_text("| words | what |\n|---|---|\n| `step W H` | take the events |\n\n| word | what |\n|---|---|\n"
+                                      "| W | a side |\n\n| status | means | printed |\n|---|---|---|\n| 0 | it is done | `yes` |\n")
+    yield says("man", [folder / "README.md", "-o", folder / "viz.1"], 0, "viz.1")
+    made = (folder / "viz.1").read_text()
+    for part in ("step W H", "take the events", "a side", "it is done; \\fByes\\fR", ".SH EXIT STATUS"):
+        yield part, part in made
+    (folder / "none.md").write_text("nothing\n")
+    yield says("man", [folder / "none.md", "-o", folder / "viz.1"], 1, "it has no table whose first column is 'words'")
+
+
 def wrapped(folder):
     """Words are looked at before the program is called, and a refused input is explained."""
     (folder / "s").write_bytes(b"\1")
@@ -216,4 +228,4 @@ def commands(folder):
 
 
 PARTS = (("help of the tools", helps), ("schedules of logs", schedules), ("painted frames", painted), ("faults explained", explained),
-         ("verdicts of check", verdicts), ("runs compared", differences), ("words of the program", wrapped), ("play and reftest", commands))
+         ("verdicts of check", verdicts), ("runs compared", differences), ("words of the program", wrapped), ("man page", manual), ("play and reftest", commands))
