@@ -162,6 +162,7 @@ def differences(folder):
                "frame 2: 1 of 64 pixels differ, within 1 by 1 at (5, 0), by at most 255")
     yield "a picture", png.read((folder / "d.png").read_bytes())[:2] == (208, 72)
     yield says("diff", [case, folder / "none"], 1, "No such file")
+    yield says("diff", ["--picture", folder / "d.jpg", case, other], 1, "its name ends in .png")
     yield says("diff", [case], 2, "two folders")
     (other / "frames").write_bytes(data[1:])
     yield says("diff", [case, other], 1, "not whole frames of 8 by 8")

@@ -67,6 +67,8 @@ class Picture:
 
     def save(self, name):
         with file(name):
+            if name.suffix.lower() != ".png":
+                raise Wrong("a picture is a PNG file, so its name ends in .png")
             name.parent.mkdir(parents=True, exist_ok=True)
             name.write_bytes(png.write(self.w, self.h, b"".join(self.rows)))
 

@@ -94,7 +94,7 @@ const view = {
   // a click: the front quad under the cursor is marked in the list of quads
   pick() {
     if (this.moved || !this.cursor) return;
-    const under = now.drawnWalk.list.findIndex(item => item.kind === "quad" && holds(item.rect, ...this.cursor));
+    const under = now.walk.list.findIndex(item => item.kind === "quad" && holds(item.rect, ...this.cursor));
     if (under >= 0) { showTab("quads"); panels.quadsMark(under); }
   },
 
