@@ -1,4 +1,5 @@
-"""Drives the page in a real browser, Chromium without a window, and leaves pictures of it: `test --browser FOLDER`."""
+"""Drives the page in a real browser, Chromium without a window, and leaves pictures of it: `test
+--browser FOLDER`."""
 
 import html
 import json
@@ -54,7 +55,8 @@ def call(browser, size, *words):
 
 
 def pages(folder):
-    """Pages of worked histories take all keys as they do without a browser, show no error, and look like something."""
+    """Pages of worked histories take all keys as they do without a browser, show no error, and look like
+    something."""
     browser = chromium()
     if browser is None:
         yield "no browser is there: %s" % ", ".join(NAMES), False

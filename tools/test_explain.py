@@ -1,4 +1,5 @@
-"""Tests of `replay`, `why`, `diff`, `viz`, `reftest` and `play`. Those that need the program are made if `VIZ` names it."""
+"""Tests of `replay`, `why`, `diff`, `viz`, `reftest` and `play`. Those that need the program are made if
+`VIZ` names it."""
 
 import random
 import subprocess
@@ -34,7 +35,8 @@ def helps(_folder):
 
 
 def schedules(folder):
-    """The schedule of each worked log is the one that it was made with; a log with too many entries is refused."""
+    """The schedule of each worked log is the one that it was made with; a log with too many entries is
+    refused."""
     for name, size, files, log_name in cases():
         made = folder / "made"
         tool("replay", log_name, made)
@@ -61,7 +63,8 @@ def played_again(folder):
 
 
 def painted(_folder):
-    """The painter paints the frames of the worked histories, but for what a dishonest client left in a buffer."""
+    """The painter paints the frames of the worked histories, but for what a dishonest client left in a
+    buffer."""
     for name, size, files, log_name in cases():
         if name.startswith(HEAVY):
             continue

@@ -33,7 +33,8 @@ def fitted(folder):
 
 
 def animated(folder):
-    """An animated picture: as many frames as there are, the first one whole, of the others the rows that changed."""
+    """An animated picture: as many frames as there are, the first one whole, of the others the rows that
+    changed."""
     data = bytearray(bytes((0, 0, 0, 255)) * (4 * 6 * 3))
     data[4 * 6 * 4 + 32:4 * 6 * 4 + 36] = b"\xff\0\0\xff"
     (folder / "a").write_bytes(data)

@@ -1,5 +1,5 @@
-"""Tests of `view`: the machine in Python beside the logs of all samples, and the page beside the machine. The page's
-script is run by `node`, without a browser, if there is one (test_page/drive.js)."""
+"""Tests of `view`: the machine in Python beside the logs of all samples, and the page beside the machine.
+The page's script is run by `node`, without a browser, if there is one (test_page/drive.js)."""
 
 import json
 import shutil

@@ -1,4 +1,5 @@
-"""Rows of premultiplied pixels, blended as the display does: the product of two channels is (a * b + 127) / 255."""
+"""Rows of premultiplied pixels, blended as the display does: the product of two channels is (a * b + 127)
+/ 255."""
 
 from functools import lru_cache
 

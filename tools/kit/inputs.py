@@ -10,7 +10,8 @@ PARTS = re.compile(r"c?([1-9]|1[0-6])\.viz")
 
 
 def options(words, known, switches=(), anywhere=False):
-    """The options at the start of a line (or anywhere in it), each with the word after it, and the other words."""
+    """The options at the start of a line (or anywhere in it), each with the word after it, and the other
+    words."""
     given, others, words = {}, [], list(words)
     while words:
         word = words.pop(0)
@@ -87,7 +88,8 @@ def display(given, read):
 
 
 class Run:
-    """A run as its files say: `log` is read, `files` are the messages, and `frames` reads the frames one by one."""
+    """A run as its files say: `log` is read, `files` are the messages, and `frames` reads the frames one
+    by one."""
 
     def __init__(self, given, words):
         self.log_name, self.frames_name = words[0], words[1]

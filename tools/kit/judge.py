@@ -1,5 +1,5 @@
-"""Judges a log and its frames by the clients' files as `check` does, and says why. A `Verdict` has the entry, the word
-that `check` prints, and sentences."""
+"""Judges a log and its frames by the clients' files as `check` does, and says why. A `Verdict` has the
+entry, the word that `check` prints, and sentences."""
 
 from . import log as logs
 from .machine import Machine

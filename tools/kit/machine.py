@@ -1,5 +1,5 @@
-"""The machine in Python: it takes events, and makes the entries that the program must log. docs/RULES.md has its rules.
-It does not paint. `replay` compares the entries of a log with those of the machine."""
+"""The machine in Python: it takes events, and makes the entries that the program must log. docs/RULES.md
+has its rules. It does not paint. `replay` compares the entries of a log with those of the machine."""
 
 from .broken import first_broken
 from .log import Entry
@@ -215,7 +215,8 @@ class Machine:
         return True
 
     def activate(self, s):
-        """Note that submissions of one round do not see each other: `has_come` was asked of all of them before."""
+        """Note that submissions of one round do not see each other: `has_come` was asked of all of them
+        before."""
         world, surface = self.world, s.surface
         world.waiting.remove(s)
         if surface.active:

@@ -1,4 +1,5 @@
-"""Paints what can be seen, as docs/RULES.md says it ('Painting'), into a rectangle of the display. It is plain and slow."""
+"""Paints what can be seen, as docs/RULES.md says it ('Painting'), into a rectangle of the display. It is
+plain and slow."""
 
 import hashlib
 
@@ -31,8 +32,8 @@ class Canvas:
 
 
 class Painter:
-    """Paints the active frames of a world. With `alone` embedded surfaces are painted as one colour for each range and
-    place, so that two submissions can be compared."""
+    """Paints the active frames of a world. With `alone` embedded surfaces are painted as one colour for
+    each range and place, so that two submissions can be compared."""
 
     def __init__(self, world, alone=False):
         self.world, self.alone = world, alone
@@ -137,8 +138,8 @@ def around(rect, hole):
 
 
 def dishonest(world, before):
-    """The submissions that were accepted before a place in the log and change something outside their damage: each with the
-    first such point."""
+    """The submissions that were accepted before a place in the log and change something outside their
+    damage: each with the first such point."""
     for surface in world.surfaces:
         painter, earlier = Painter(world, alone=True), None
         for s in surface.frames:

@@ -1,5 +1,6 @@
-"""What a run was, as plain lists that a page can show: entries, submissions, surfaces, resources and drawings with the
-places of the entries at which each changed. The machine of `machine` follows the log, so the log must be its files'."""
+"""What a run was, as plain lists that a page can show: entries, submissions, surfaces, resources and
+drawings with the places of the entries at which each changed. The machine of `machine` follows the log,
+so the log must be its files'."""
 
 import json
 

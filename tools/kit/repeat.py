@@ -1,5 +1,5 @@
-"""Messages that a scene repeats: `{ repeat = 64, submit = "1.1", answers = "i", .. }`, with the number i of the repeat in
-numbers (`"8 * i % 900"`) and in texts (`"1.{i}"`)."""
+"""Messages that a scene repeats: `{ repeat = 64, submit = "1.1", answers = "i", .. }`, with the number i
+of the repeat in numbers (`"8 * i % 900"`) and in texts (`"1.{i}"`)."""
 
 import ast
 import operator

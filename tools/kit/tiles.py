@@ -1,5 +1,6 @@
-"""Frames as changed tiles: the display is cut in squares of 8 by 8 pixels, each content of a square is kept once, and a
-frame is the squares that differ from the frame before. So a frame in which little changes takes little room."""
+"""Frames as changed tiles: the display is cut in squares of 8 by 8 pixels, each content of a square is
+kept once, and a frame is the squares that differ from the frame before. So a frame in which little
+changes takes little room."""
 
 import zlib
 
@@ -7,8 +8,9 @@ SIDE = 8
 
 
 class Tiles:
-    """Takes frames one after the other. `changes` are bytes: of each frame the number of its changes, and for each the
-    square's place after the last one and its content's number, all as numbers of seven bits a byte."""
+    """Takes frames one after the other. `changes` are bytes: of each frame the number of its changes, and
+    for each the square's place after the last one and its content's number, all as numbers of seven bits
+    a byte."""
 
     def __init__(self, w, h):
         self.w, self.h, self.row = w, h, w * 4

@@ -1,4 +1,5 @@
-"""How many messages a client takes until it would wait: a machine takes the events of a schedule while it is made."""
+"""How many messages a client takes until it would wait: a machine takes the events of a schedule while it
+is made."""
 
 from . import wire
 from .machine import Machine
@@ -6,7 +7,8 @@ from .words import STEPS
 
 
 class Waits:
-    """Follows the bytes of a schedule; `events` are those of a client until it would wait or has no message left."""
+    """Follows the bytes of a schedule; `events` are those of a client until it would wait or has no
+    message left."""
 
     def __init__(self, files, size):
         self.machine, self.played = Machine([wire.read(data) for data in files], size), 0

@@ -1,5 +1,5 @@
-"""The walk through what can be seen: each quad and each surface on each path to it, with their parts of the display; and
-the claims, from which the damage comes."""
+"""The walk through what can be seen: each quad and each surface on each path to it, with their parts of
+the display; and the claims, from which the damage comes."""
 
 import sys
 
@@ -14,9 +14,9 @@ class TooMuch(Exception):
 
 
 class Claim:
-    """A rectangle of the display that is repainted, and why: `first` (nothing was drawn before), `root` (another root),
-    `damage` (frames `since` to `until` of a surface's submission), or a range that `none` (shows no surface), `new` (was
-    not met then) or `other` (shows another surface now)."""
+    """A rectangle of the display that is repainted, and why: `first` (nothing was drawn before), `root`
+    (another root), `damage` (frames `since` to `until` of a surface's submission), or a range that `none`
+    (shows no surface), `new` (was not met then) or `other` (shows another surface now)."""
 
     def __init__(self, kind, rect, submission=None, since=0, span=None, then=None):
         self.kind, self.rect, self.submission, self.since = kind, rect, submission, since
@@ -36,7 +36,8 @@ def aggregation(world, drawing):
 
 
 class Drawing:
-    """A walk from the root: its claims, its damage, the submissions that it enters and the ranges that it meets."""
+    """A walk from the root: its claims, its damage, the submissions that it enters and the ranges that it
+    meets."""
 
     def __init__(self, world, size):
         self.world, self.last = world, world.last
@@ -91,7 +92,8 @@ class Drawing:
             self.enter(path, shown, x, y, window)
 
     def range(self, span, window):
-        """The submission that a range shows; claims the window if the range shows another surface than before."""
+        """The submission that a range shows; claims the window if the range shows another surface than
+        before."""
         shown = self.world.shown(span)
         name = shown.surface.id if shown else None
         self.ranges.setdefault(span, name)

@@ -1,4 +1,5 @@
-"""One page of HTML that shows a run: what `record` and `tiles` made, with the script and the style of `page/`."""
+"""One page of HTML that shows a run: what `record` and `tiles` made, with the script and the style of
+`page/`."""
 
 import base64
 import json

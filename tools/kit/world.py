@@ -1,5 +1,5 @@
-"""The state of the machine: clients, surfaces, submissions and resources. `at` and what ends in `_at` are the places of
-log entries, from 0 on, at which something came to be so; None if it did not."""
+"""The state of the machine: clients, surfaces, submissions and resources. `at` and what ends in `_at` are
+the places of log entries, from 0 on, at which something came to be so; None if it did not."""
 
 from .shapes import at_least, group
 
@@ -111,8 +111,8 @@ class World:
         return sorted(live, key=lambda s: s.at)
 
     def reached(self):
-        """The surfaces that the root and the temporary ones reach, each with what reaches it first: None, or the
-        surface whose active frame references it."""
+        """The surfaces that the root and the temporary ones reach, each with what reaches it first: None,
+        or the surface whose active frame references it."""
         found, todo = {}, []
         if self.root is not None and self.root in self.by_id and not self.by_id[self.root].destroyed:
             todo.append(self.by_id[self.root])
