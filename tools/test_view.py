@@ -92,11 +92,11 @@ ASK = """(() => lines.map((_, e) => {
     state.waiting.map(s => run.subs[s].slice(0, 2)).sort(order)];
 }))()"""
 PIXELS = """(() => run.drawn.map((_, n) => {
-  frames.shown = -1;
-  frames.draw(n, new Uint8ClampedArray(run.size[0] * run.size[1] * 4));
+  tiles.shown = -1;
+  tiles.draw(n, new Uint8ClampedArray(run.size[0] * run.size[1] * 4));
   let text = "";
   for (let y = 0; y < run.size[1]; y++) for (let x = 0; x < run.size[0]; x++)
-    text += frames.pixel(x, y).map(v => v.toString(16).padStart(2, "0")).join("");
+    text += tiles.pixel(x, y).map(v => v.toString(16).padStart(2, "0")).join("");
   return text;
 }))()"""
 KEYS = ("Home", "ArrowRight", "ArrowRight", "PageDown", "ArrowLeft", "PageUp", "End", "1", "2", "3", "4", "5", "d", "s", "q", "u",

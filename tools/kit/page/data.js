@@ -29,7 +29,7 @@ async function load() {
   run.subs.forEach((sub, place) => run.subsOf[sub[SURFACE]].push(place));
   run.subOf = new Map(run.subs.map((sub, place) => [sub[CLIENT] + "." + sub[ORDINAL], place]));
   run.lanes = lanesOf();
-  frames.load(await unpacked("contents"), await unpacked("changes"));
+  tiles.load(await unpacked("contents"), await unpacked("changes"));
 }
 
 function split(text) {

@@ -102,7 +102,7 @@ const view = {
     const label = $("pixel");
     if (!this.cursor) { label.textContent = now.frame < 0 ? "no frame is drawn yet" : "point at the frame to read a pixel"; return; }
     if (now.frame < 0) return;
-    const [x, y] = this.cursor, colour = frames.pixel(x, y);
+    const [x, y] = this.cursor, colour = tiles.pixel(x, y);
     const under = now.drawnWalk.list.filter(item => item.kind === "quad" && item.quad[6] !== "pass" && holds(item.rect, x, y));
     label.replaceChildren(element("span", "place", "(" + x + ", " + y + ")"), swatch(colour),
       element("span", "code", colourText(colour) + "  r " + colour[0] + "  g " + colour[1] + "  b " + colour[2] + "  a " + colour[3]),
@@ -115,8 +115,8 @@ const view = {
     c.setTransform(this.scale, 0, 0, this.scale, 0, 0);
     c.fillStyle = colour("--well");
     c.fillRect(0, 0, this.width, this.height);
-    if (now.frame < 0 || !frames.deltas.length) { this.nothing(c); return; }
-    frames.draw(now.frame, this.image.data);
+    if (now.frame < 0 || !tiles.deltas.length) { this.nothing(c); return; }
+    tiles.draw(now.frame, this.image.data);
     this.buffer.getContext("2d").putImageData(this.image, 0, 0);
     c.imageSmoothingEnabled = this.zoom < 1;
     c.drawImage(this.buffer, this.x, this.y, w * this.zoom, h * this.zoom);
@@ -128,7 +128,7 @@ const view = {
     c.fillStyle = colour("--dim");
     c.font = "13px system-ui, sans-serif";
     c.textAlign = "center";
-    c.fillText(frames.deltas.length ? "nothing is drawn yet" : "no frames", this.width / 2, this.height / 2);
+    c.fillText(tiles.deltas.length ? "nothing is drawn yet" : "no frames", this.width / 2, this.height / 2);
     c.textAlign = "left";
   },
 

@@ -3,7 +3,7 @@
 
 const SIDE = 8, EVERY = 16;
 
-const frames = {
+const tiles = {
   columns: 0, count: 0, planes: null, deltas: [], grids: [], grid: null, shown: -1, image: null, squares: 0,
 
   load(planes, changes) {
