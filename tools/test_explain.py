@@ -99,6 +99,8 @@ def explained(folder):
     (folder / "wrong").write_bytes(bytes(data))
     yield says("why", words(good, folder / "wrong"), 1, "no 4 Frame", "frame 1 differs in 1 of 64 pixels", "the first is (5, 0)")
     yield "a picture", png.read((folder / "why.png").read_bytes())[:2] == (3 * 64 + 16, 64 + 8)
+    (folder / "log").write_text("".join(line + "\n" for line in good))
+    yield says("why", [8, 8, case / "frames", folder / "log", *files[::-1]], 1, "no 3 Reply", "in another order: %s %s" % (*files,))
     yield from others(folder)
 
 
