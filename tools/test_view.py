@@ -6,13 +6,13 @@ import shutil
 import subprocess
 from pathlib import Path
 
-from kit import build, log, wire
+from kit import build, inputs, log, wire
 from kit.machine import Differs, replay
 from kit.shapes import meet, moved
 from kit.walk import Drawing, TooMuch, seen
 
 TOOLS = Path(__file__).resolve().parent
-CASES = TOOLS.parent / "crates" / "vz_cases" / "data"
+CASES = next((TOOLS.parent / "crates").glob("*/data/switch_and_gutter")).parent
 EXAMPLES = TOOLS.parent / "examples"
 DRIVE = TOOLS / "test_page" / "drive.js"
 SHOWN = ("switch_and_gutter", "stale_rectangles", "dishonest_client", "cycle_is_drawn", "ranges_13", "frames_946", "returns_800",
@@ -20,11 +20,10 @@ SHOWN = ("switch_and_gutter", "stale_rectangles", "dishonest_client", "cycle_is_
 
 
 def cases():
-    """The worked histories: name, size, message files, log."""
-    for line in (CASES / "cases.txt").read_text(encoding="utf-8").splitlines():
-        name, w, h, count = line.split()
-        folder = CASES / name
-        yield name, (int(w), int(h)), [folder / ("%d.viz" % k) for k in range(1, int(count) + 1)], folder / "log"
+    """The worked histories: name, size of the display (1 by 1 if nothing is drawn), message files, log."""
+    for log_name in sorted(CASES.glob("*/log")):
+        files = sorted(log_name.parent.glob("*.viz"), key=lambda name: int(name.stem))
+        yield log_name.parent.name, inputs.display({}, log.read(log_name.read_bytes())), files, log_name
 
 
 def replays(_folder):
@@ -120,8 +119,7 @@ def pages(folder):
         if name not in SHOWN:
             continue
         page = folder / (name + ".html")
-        given = ("--size", "%dx%d" % size) if name == "empty_schedule" else ()
-        made = view(*given, log_name, log_name.parent / "frames", *files, "-o", page)
+        made = view(log_name, log_name.parent / "frames", *files, "-o", page)
         yield name + " is made: " + made.stderr.strip(), made.returncode == 0
         if shutil.which("node"):
             yield from shows(name, page, size, files, log_name)
