@@ -1,0 +1,196 @@
+//! The sender's end, and what it leaves.
+ghost use Rattle.std.specs.Prelude.{◌≡◌, ◌++◌, ◌∷◌, [], true, false, ◌⊎◌, OnOk, OnErr, length};
+ghost use Rattle.crossbeam_channel.specs.Ends.{sends_on};
+ghost use Rattle.crossbeam_channel.specs.Claims.{view as known};
+ghost use Rattle.vz_pipe.specs.Rule.{frames, has_end};
+ghost use Rattle.vz_pipe.specs.Ends.{IsSending, pipe_of};
+
+use crate::parcel::Parcel;
+use crate::plays::{Inlet, Puts, SidePass};
+use std::collections::VecDeque;
+use std::marker::Model;
+use std::sync::Wait;
+use vz_base::Memory;
+
+/// The end that sends frames. Contracts see in it which pipe it belongs to, the frames that were
+/// sent, oldest first, those of them that wait in its list, and whether it is shut
+/// (`specs/Ends.antt`). It cannot be dropped: `end` turns it into a `Sent`.
+pub struct Sender<T: Drop> {
+    inlet: Inlet<T>,
+    pass: SidePass<T>,
+    list: VecDeque<T>,
+    shut: bool,
+}
+
+impl<T: Drop> Model for Sender<T> {
+    ghost use Rattle.std.specs.Prelude.{◌≡◌, false, [], ◌++◌};
+    ghost use Rattle.crossbeam_channel.specs.Ends.{sends_on};
+    ghost use Rattle.crossbeam_channel.specs.Claims.{view as known};
+    ghost use Rattle.vz_pipe.specs.Rule.{frames, has_end};
+    ghost use Rattle.vz_pipe.specs.Ends.{Sending, pipe_of, IsSending};
+
+    ghost Value = { Sending T };
+
+    ghost view = { λ s. record {
+      pipe = pipe_of (sends_on s.inlet);
+      sent = frames (known s.pass).put ++ s.list.items;
+      waiting = s.list.items;
+      shut = s.shut;
+    } };
+
+    ghost invariant = { λ s. IsSending (sends_on s.inlet) [] s.pass
+        × (s.shut ≡ false → has_end (known s.pass).put ≡ false) };
+}
+
+/// What a sender leaves: the frames of its list, and its side of the channel. Contracts see in
+/// it which pipe it belongs to, the frames that were sent, oldest first, and those of them that
+/// wait in the list. `Receiver::left` needs it.
+#[derive(Drop)]
+pub struct Sent<T: Drop> {
+    pub(crate) inlet: Inlet<T>,
+    pub(crate) pass: SidePass<T>,
+    pub(crate) list: VecDeque<T>,
+}
+
+impl<T: Drop> Model for Sent<T> {
+    ghost use Rattle.std.specs.Prelude.{◌++◌};
+    ghost use Rattle.crossbeam_channel.specs.Ends.{sends_on};
+    ghost use Rattle.crossbeam_channel.specs.Claims.{view as known};
+    ghost use Rattle.vz_pipe.specs.Rule.{frames};
+    ghost use Rattle.vz_pipe.specs.Ends.{Remaining, pipe_of, IsSending};
+
+    ghost Value = { Remaining T };
+
+    ghost view = { λ s. record {
+      pipe = pipe_of (sends_on s.inlet);
+      sent = frames (known s.pass).put ++ ((known s.pass).gave ++ s.list.items);
+      waiting = s.list.items;
+    } };
+
+    ghost invariant = { λ s. IsSending (sends_on s.inlet) (known s.pass).gave s.pass };
+}
+
+// Puts the frames of the list into the channel, the first one first, and waits for room. If the
+// channel hands a frame back, that frame becomes the first of the list again, and the call ends.
+// Returns whether all frames went into the channel.
+fn pour<T: Drop, R: Wait>(
+    rt: &R,
+    inlet: &Inlet<T>,
+    pass: &mut SidePass<T>,
+    list: &mut VecDeque<T>,
+) -> bool
+    requires pass { IsSending (sends_on inlet.now) [] pass.old }
+    requires unmarked { has_end (known pass.old).put ≡ false }
+    ensures pass { IsSending (sends_on inlet.now) [] pass.new }
+    ensures unmarked { has_end (known pass.new).put ≡ false }
+    ensures all { frames (known pass.new).put ++ list.new.items
+        ≡ frames (known pass.old).put ++ list.old.items }
+    ensures whole { result ≡ true → list.new.items ≡ [] }
+{
+    while let Some(frame) = list.pop_front() {
+        match inlet.send_as::<Puts, R>(rt, pass, Parcel::Frame(frame)) {
+            Ok(()) => {}
+            Err(error) => {
+                match error.into_inner() {
+                    Parcel::Frame(frame) => list.push_front_reserved(frame),
+                    Parcel::End => unreachable!(),
+                }
+                return false;
+            }
+        }
+    }
+    true
+}
+
+// Puts the mark of the end into the channel, and waits for room.
+fn mark<T: Drop, R: Wait>(rt: &R, inlet: &Inlet<T>, pass: &mut SidePass<T>)
+    requires pass { IsSending (sends_on inlet.now) [] pass.old }
+    requires unmarked { has_end (known pass.old).put ≡ false }
+    ensures pass { IsSending (sends_on inlet.now) [] pass.new }
+    ensures frames { frames (known pass.new).put ≡ frames (known pass.old).put }
+{
+    let _ = inlet.send_as::<Puts, R>(rt, pass, Parcel::End);
+}
+
+impl<T: Drop> Sender<T> {
+    // Makes a sender that has sent nothing.
+    pub(crate) fn new(inlet: Inlet<T>, pass: SidePass<T>, list: VecDeque<T>) -> Sender<T>
+        requires pass { IsSending (sends_on inlet) [] pass }
+        requires unmarked { (known pass).put ≡ [] }
+        requires empty { list.items ≡ [] }
+        ensures pipe { result.pipe ≡ pipe_of (sends_on inlet) }
+        ensures sent { result.sent ≡ [] }
+        ensures waiting { result.waiting ≡ [] }
+        ensures shut { result.shut ≡ false }
+    {
+        Sender {
+            inlet,
+            pass,
+            list,
+            shut: false,
+        }
+    }
+
+    /// Sends a frame. The frame becomes the last of the sender's list. If `go` is true and the
+    /// sender is not shut, the frames of the list then go into the channel, the first one first,
+    /// and the call waits for room, until the list is empty or the channel hands a frame back.
+    /// That frame becomes the first of the list again, and the sender is shut.
+    ///
+    /// The only error is `Memory`, if the list cannot grow; then the frame is lost, and nothing
+    /// changed.
+    pub fn send<R: Wait>(&mut self, rt: &R, frame: T, go: bool) -> Result<(), Memory>
+        ensures pipe { self.new.pipe ≡ self.old.pipe }
+        ensures sent { OnOk result (self.new.sent ≡ self.old.sent ++ frame ∷ []) }
+        ensures kept { OnErr result (self.new ≡ self.old) }
+        ensures waits { go ≡ false
+            → OnOk result (self.new.waiting ≡ self.old.waiting ++ frame ∷ []) }
+        ensures goes { go ≡ true
+            → OnOk result ((self.new.waiting ≡ []) ⊎ (self.new.shut ≡ true)) }
+    {
+        self.list.push_back(frame)?;
+        if go && !self.shut {
+            let whole = pour(rt, &self.inlet, &mut self.pass, &mut self.list);
+            self.shut = !whole;
+        }
+        Ok(())
+    }
+
+    /// Shuts the sender: the mark of the end goes into the channel after the last frame there,
+    /// so that the receiver waits no longer. The call waits for room, as `send` does. Frames
+    /// that are sent later stay in the list. A sender that is shut stays as it is. It takes no
+    /// memory.
+    pub fn shut<R: Wait>(&mut self, rt: &R)
+        ensures shut { self.new ≡ record self.old { shut = true } }
+    {
+        if !self.shut {
+            mark(rt, &self.inlet, &mut self.pass);
+            self.shut = true;
+        }
+    }
+
+    /// Ends the sender, and returns what it leaves. If the sender is not shut, this shuts it
+    /// first, and may wait for room. It takes no memory.
+    pub fn end<R: Wait>(mut self, rt: &R) -> Sent<T>
+        ensures pipe { result.pipe ≡ self.pipe }
+        ensures sent { result.sent ≡ self.sent }
+        ensures waiting { result.waiting ≡ self.waiting }
+    {
+        self.shut(rt);
+        let Sender {
+            inlet,
+            pass,
+            list,
+            shut: _,
+        } = self;
+        Sent { inlet, pass, list }
+    }
+}
+
+impl<T: Drop> Sent<T> {
+    /// How many frames wait in the sender's list.
+    pub fn waiting(&self) -> usize
+        ensures { result ≡ length self.now.waiting }
+    {
+        self.list.len()
+    }
+}
