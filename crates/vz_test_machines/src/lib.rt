@@ -1,7 +1,7 @@
 //! Tests of what no clause says of the machines and of the gate. Both machines play the files by
 //! rule and tell the same, and the plain one leaves the plain pictures. The gate is told of each
 //! step of the program, and two clients can be before their first step at once. A bell wakes who
-//! waits.
+//! waits. Callers of a hub meet, and make calls from threads.
 #![tactic(auto)]
 
 #[cfg(test)]
@@ -19,4 +19,8 @@ mod pictures;
 #[cfg(test)]
 mod plans;
 #[cfg(test)]
+mod row;
+#[cfg(test)]
 mod told;
+#[cfg(test)]
+mod turns;

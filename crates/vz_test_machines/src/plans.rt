@@ -22,7 +22,7 @@ fn display() -> Size
 }
 
 /// Whether every number of these files is in its range.
-fn all_fit(files: &[ClientFile]) -> bool
+pub(crate) fn all_fit(files: &[ClientFile]) -> bool
     ensures { result ≡ list_all fits_file files.now }
 {
     files.iter().all(|file| vz_codec::fits(file))

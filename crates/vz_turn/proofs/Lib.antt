@@ -1,0 +1,4 @@
+pub mod Keeping
+pub mod Counting
+pub mod Owned
+pub mod Turning

@@ -1,0 +1,4 @@
+pub mod Briefs
+pub mod Calls
+pub mod Own
+pub mod Registers
