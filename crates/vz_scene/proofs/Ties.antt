@@ -3,13 +3,14 @@ use Rattle.std.proofs.Common.{◌≡◌, ℕ, ◌+◌, ◌<◌, ◌==◌, Bool, 
 use Rattle.std.specs.List.{list_any}
 use Rattle.std.specs.Option.{option_map, option_cmp}
 use Rattle.std.specs.BTreeMap.{BTreeMap, get}
-use Rattle.std.specs.BTreeSet.{BTreeSet, contains}
+use Rattle.std.specs.Bool.{OnFalse}
+use Rattle.std.specs.BTreeMap.{is_at}
+use Rattle.std.specs.BTreeSet.{BTreeSet, contains, IsUnchanged}
 use Rattle.std.proofs.lemmas.List.{drop_more}
 use Rattle.std.proofs.lemmas.List.Folds.{list_any-append}
 use Rattle.vz_rules.specs.World.{FrameData, Aggregation}
 use Rattle.vz_rules.specs.Damage.{of_same_range, shows_other, is_switched}
 use Rattle.vz_rules.specs.Closure.{adding}
-use Rattle.vz_scene.specs.declared.key.RangeKey.{RangeKey}
 use Rattle.std.specs.Ordering.{is_eq, ordering_then, nat_cmp}
 use Rattle.std.specs.declared.cmp.Ordering.{Ordering}
 use Rattle.std.specs.declared.cmp.Ordering.TheVariants.{Less, Equal, Greater}
@@ -17,9 +18,10 @@ use Rattle.std.specs.Cmp.{unsigned_ties}
 use Rattle.std.proofs.lemmas.Bool.Decides.{nat_tests}
 use Rattle.vz_ids.specs.declared.SurfaceId.{SurfaceId}
 use Rattle.vz_ids.specs.declared.SurfaceRange.{SurfaceRange}
+use Rattle.vz_ids.specs.contracts.SurfaceIdPartialEq.TheImpl as surface_eq
 use Rattle.vz_ids.specs.Ids.{same_sink, same_local, same_surface, same_start, same_range, same_group}
 use Rattle.vz_scene.specs.Groups.{by_group, group_of}
-use Rattle.vz_scene.specs.Order.{by_surface, by_range, by_frame, frame_key, key_of, HasNumbers, HasShown}
+use Rattle.vz_scene.specs.Order.{by_surface, by_range, by_frame, frame_key, HasNumbers, HasShown}
 
 then_ties : (x y : Ordering) → is_eq (ordering_then x y) ≡ (is_eq x && is_eq y)
 then_ties Less y = refl
@@ -62,7 +64,7 @@ start_ties (Some a) None = refl
 start_ties (Some a) (Some b) = surface_ties a b
 
 -- by start and end
-pub range_ties : (a b : SurfaceRange) → is_eq (by_range (key_of a) (key_of b)) ≡ same_range a b
+pub range_ties : (a b : SurfaceRange) → is_eq (by_range a b) ≡ same_range a b
 range_ties a b = both_tie _ _ _ _ (start_ties a.start b.start) (surface_ties a.end b.end)
 
 -- what the first of a pair says, where one more pair stands in front
@@ -84,13 +86,12 @@ numbers_more {A} old new pairs k m d e h updates has id =
     ∙ (pair_step (same_surface x.0 id) x (find test (drop k pairs)) ∙ ap (option_map (λ (p : SurfaceId × A). p.1)) (sym (find_more test pairs k m d e h)))))
 
 -- and a range
-pub shown_more : {A : Type 0} (old new : BTreeMap RangeKey A) (pairs : List (SurfaceRange × A)) (k m : ℕ) (d : SurfaceRange × A) (key : RangeKey) → m + 1 ≡ k → m < length pairs → key ≡ key_of (get_or pairs m d).0
-    → ((q : RangeKey) → get by_range new q ≡ cond (is_eq (by_range key q)) (Some (get_or pairs m d).1) (get by_range old q)) → HasShown old (drop k pairs) → HasShown new (drop m pairs)
-shown_more {A} old new pairs k m d key e h is updates has r =
+pub shown_more : {A : Type 0} (old new : BTreeMap SurfaceRange A) (pairs : List (SurfaceRange × A)) (k m : ℕ) (d : SurfaceRange × A) → m + 1 ≡ k → m < length pairs
+    → ((r : SurfaceRange) → get by_range new r ≡ cond (is_eq (by_range (get_or pairs m d).0 r)) (Some (get_or pairs m d).1) (get by_range old r)) → HasShown old (drop k pairs) → HasShown new (drop m pairs)
+shown_more {A} old new pairs k m d e h updates has r =
     let x = get_or pairs m d in
     let test = λ (p : SurfaceRange × A). same_range p.0 r in
-    updates (key_of r) ∙ (ap (λ t. cond t (Some x.1) (get by_range old (key_of r))) (ap (λ y. is_eq (by_range y (key_of r))) is ∙ range_ties x.0 r)
-    ∙ (ap (λ o. cond (same_range x.0 r) (Some x.1) o) (has r) ∙ (pair_step (same_range x.0 r) x (find test (drop k pairs)) ∙ ap (option_map (λ (p : SurfaceRange × A). p.1)) (sym (find_more test pairs k m d e h)))))
+    updates r ∙ (ap (λ t. cond t (Some x.1) (get by_range old r)) (range_ties x.0 r) ∙ (ap (λ o. cond (same_range x.0 r) (Some x.1) o) (has r) ∙ (pair_step (same_range x.0 r) x (find test (drop k pairs)) ∙ ap (option_map (λ (p : SurfaceRange × A). p.1)) (sym (find_more test pairs k m d e h)))))
 
 eq_sym : (a b : ℕ) → (a == b) ≡ (b == a)
 eq_sym a b = grind (arith, nat_tests)
@@ -103,6 +104,14 @@ surface_sym a b =
     ∙ (ap (λ t. same_sink b.sink a.sink && ((b.local.parent == a.local.parent) && t && (a.local.token.0 == b.local.token.0))) (eq_sym a.local.child b.local.child)
     ∙ ap (λ t. same_sink b.sink a.sink && ((b.local.parent == a.local.parent) && (b.local.child == a.local.child) && t)) (eq_sym a.local.token.0 b.local.token.0))))
 
+-- the derived test of surfaces is that of the definitions
+pub compared : (a b : SurfaceId) → (surface_eq.ghosts).eq a b ≡ same_surface a b
+compared a b = grouped (same_sink a.sink b.sink) (a.local.parent == b.local.parent) (a.local.child == b.local.child) (a.local.token.0 == b.local.token.0)
+  where
+    grouped : (s p c t : Bool) → (s && (p && (c && t))) ≡ (s && ((p && c) && t))
+    grouped s true c t = refl
+    grouped s false c t = refl
+
 start_sym : (a b : Option SurfaceId) → same_start a b ≡ same_start b a
 start_sym None None = refl
 start_sym None (Some b) = refl
@@ -113,13 +122,13 @@ range_sym : (a b : SurfaceRange) → same_range a b ≡ same_range b a
 range_sym a b = ap (λ t. t && same_surface a.end b.end) (start_sym a.start b.start) ∙ ap (λ t. same_start b.start a.start && t) (surface_sym a.end b.end)
 
 -- a range that was not seen is added
-pub seen_more : {A : Type 0} (old new : BTreeSet RangeKey) (once : List (SurfaceRange × A)) (x : SurfaceRange × A) (key : RangeKey) → key ≡ key_of x.0
-    → ((q : RangeKey) → contains by_range new q ≡ cond (is_eq (by_range key q)) true (contains by_range old q))
-    → ((q : SurfaceRange × A) → contains by_range old (key_of q.0) ≡ list_any (λ (y : SurfaceRange × A). same_range q.0 y.0) once)
-    → (q : SurfaceRange × A) → contains by_range new (key_of q.0) ≡ list_any (λ (y : SurfaceRange × A). same_range q.0 y.0) (once ++ x ∷ [])
-seen_more {A} old new once x key is updates seen q =
+pub seen_more : {A : Type 0} (old new : BTreeSet SurfaceRange) (once : List (SurfaceRange × A)) (x : SurfaceRange × A)
+    → ((r : SurfaceRange) → contains by_range new r ≡ cond (is_eq (by_range x.0 r)) true (contains by_range old r))
+    → ((q : SurfaceRange × A) → contains by_range old q.0 ≡ list_any (λ (y : SurfaceRange × A). same_range q.0 y.0) once)
+    → (q : SurfaceRange × A) → contains by_range new q.0 ≡ list_any (λ (y : SurfaceRange × A). same_range q.0 y.0) (once ++ x ∷ [])
+seen_more {A} old new once x updates seen q =
     let test = λ (y : SurfaceRange × A). same_range q.0 y.0 in
-    updates (key_of q.0) ∙ (ap (λ t. cond t true (contains by_range old (key_of q.0))) (ap (λ y. is_eq (by_range y (key_of q.0))) is ∙ (range_ties x.0 q.0 ∙ range_sym x.0 q.0))
+    updates q.0 ∙ (ap (λ t. cond t true (contains by_range old q.0)) (range_ties x.0 q.0 ∙ range_sym x.0 q.0)
     ∙ (ap (λ t. cond (same_range q.0 x.0) true t) (seen q) ∙ (turned (same_range q.0 x.0) (list_any test once) ∙ sym (list_any-append test once (x ∷ [])))))
   where
     turned : (a b : Bool) → cond a true b ≡ (b || (a || false))
@@ -147,6 +156,11 @@ pub filter_same : {A : Type 0} (p q : A → Bool) (xs : List A) → ((x : A) →
 filter_same p q [] h = refl
 filter_same p q (x ∷ xs) h = ap (λ t. cond t (x ∷ filter p xs) (filter p xs)) (h x) ∙ ap (λ l. cond (q x) (x ∷ l) l) (filter_same p q xs h)
 
+-- and find the same
+pub any_same : {A : Type 0} (p q : A → Bool) (xs : List A) → ((x : A) → p x ≡ q x) → list_any p xs ≡ list_any q xs
+any_same p q [] h = refl
+any_same p q (x ∷ xs) h = ap (λ t. t || list_any p xs) (h x) ∙ ap (λ t. q x || t) (any_same p q xs h)
+
 -- a range with what it showed
 abbrev pub Shown : Type 0
 Shown = SurfaceRange × Option SurfaceId
@@ -156,24 +170,35 @@ not_true false e = refl
 not_true true e = absurd (cc)
 
 -- a pair whose range was not seen is added
-pub once_added : (all once newer pairs : List Shown) (seen : BTreeSet RangeKey) (k : ℕ) (d : Shown) (key : RangeKey) (added : Bool) → newer ≡ once ++ get_or pairs k d ∷ [] → k < length pairs → key ≡ key_of (get_or pairs k d).0
-    → added ≡ not (contains by_range seen key) → added ≡ true → ((q : Shown) → contains by_range seen (key_of q.0) ≡ list_any (of_same_range q) once)
+pub once_added : (all once newer pairs : List Shown) (seen : BTreeSet SurfaceRange) (k : ℕ) (d : Shown) (added : Bool) → newer ≡ once ++ get_or pairs k d ∷ [] → k < length pairs
+    → added ≡ not (contains by_range seen (get_or pairs k d).0) → added ≡ true → ((q : Shown) → contains by_range seen q.0 ≡ list_any (of_same_range q) once)
     → all ≡ adding of_same_range once (drop k pairs) → all ≡ adding of_same_range newer (drop (k + 1) pairs)
-once_added all once newer pairs seen k d key added new h is told new_one has e =
-    let fresh : list_any (of_same_range (get_or pairs k d)) once ≡ false = sym (has (get_or pairs k d)) ∙ (ap (contains by_range seen) (sym is) ∙ not_true _ (sym told ∙ new_one)) in
+once_added all once newer pairs seen k d added new h told new_one has e =
+    let fresh : list_any (of_same_range (get_or pairs k d)) once ≡ false = sym (has (get_or pairs k d)) ∙ not_true _ (sym told ∙ new_one) in
     added_more of_same_range all once pairs k d h fresh e ∙ ap (λ l. adding of_same_range l (drop (k + 1) pairs)) (sym new)
 
 -- and was then seen
-pub once_seen : (once newer pairs : List Shown) (old new : BTreeSet RangeKey) (k : ℕ) (d : Shown) (key : RangeKey) → newer ≡ once ++ get_or pairs k d ∷ [] → key ≡ key_of (get_or pairs k d).0
-    → ((q : RangeKey) → contains by_range new q ≡ cond (is_eq (by_range key q)) true (contains by_range old q)) → ((q : Shown) → contains by_range old (key_of q.0) ≡ list_any (of_same_range q) once)
-    → (q : Shown) → contains by_range new (key_of q.0) ≡ list_any (of_same_range q) newer
-once_seen once newer pairs old new k d key e is updates seen q = seen_more old new once (get_or pairs k d) key is updates seen q ∙ ap (list_any (of_same_range q)) (sym e)
+pub once_seen : (once newer pairs : List Shown) (old new : BTreeSet SurfaceRange) (k : ℕ) (d : Shown) → newer ≡ once ++ get_or pairs k d ∷ []
+    → ((r : SurfaceRange) → contains by_range new r ≡ cond (is_eq (by_range (get_or pairs k d).0 r)) true (contains by_range old r)) → ((q : Shown) → contains by_range old q.0 ≡ list_any (of_same_range q) once)
+    → (q : Shown) → contains by_range new q.0 ≡ list_any (of_same_range q) newer
+once_seen once newer pairs old new k d e updates seen q = seen_more old new once (get_or pairs k d) updates seen q ∙ ap (list_any (of_same_range q)) (sym e)
+
+not_false : (t : Bool) → not t ≡ false → t ≡ true
+not_false true e = refl
+not_false false e = absurd (cc)
 
 -- a pair whose range was seen is not added
-pub once_again : (all once pairs : List Shown) (seen : BTreeSet RangeKey) (k : ℕ) (d : Shown) (key : RangeKey) → k < length pairs → key ≡ key_of (get_or pairs k d).0 → contains by_range seen key ≡ true
-    → ((q : Shown) → contains by_range seen (key_of q.0) ≡ list_any (of_same_range q) once) → all ≡ adding of_same_range once (drop k pairs) → all ≡ adding of_same_range once (drop (k + 1) pairs)
-once_again all once pairs seen k d key h is there has e =
-    added_again of_same_range all once pairs k d h (sym (has (get_or pairs k d)) ∙ (ap (contains by_range seen) (sym is) ∙ there)) e
+pub once_again : (all once pairs : List Shown) (seen : BTreeSet SurfaceRange) (k : ℕ) (d : Shown) (added : Bool) → k < length pairs
+    → added ≡ not (contains by_range seen (get_or pairs k d).0) → added ≡ false → ((q : Shown) → contains by_range seen q.0 ≡ list_any (of_same_range q) once)
+    → all ≡ adding of_same_range once (drop k pairs) → all ≡ adding of_same_range once (drop (k + 1) pairs)
+once_again all once pairs seen k d added h told old_one has e =
+    added_again of_same_range all once pairs k d h (sym (has (get_or pairs k d)) ∙ not_false _ (sym told ∙ old_one)) e
+
+-- and the same ranges were seen then
+pub still_seen : (once : List Shown) (old new : BTreeSet SurfaceRange) (added : Bool) → OnFalse added (IsUnchanged old new) → added ≡ false
+    → ((q : Shown) → contains by_range old q.0 ≡ list_any (of_same_range q) once) → (q : Shown) → contains by_range new q.0 ≡ list_any (of_same_range q) once
+still_seen once old new true kept e seen q = absurd (cc)
+still_seen once old new false kept e seen q = ap (list_any (is_at (by_range q.0))) kept ∙ seen q
 
 found_shows : (o : Option Shown) (before : Option SurfaceId) (now : Option FrameData) → Some before ≡ option_map (λ (x : Shown). x.1) o → shows_other before now ≡ (elim o [ Some x ↦ shows_other x.1 now | None ↦ true ])
 found_shows None before now e = absurd (cc)
@@ -183,6 +208,6 @@ found_shows (Some x) before now e = ap (λ b. shows_other b now) (some_same e)
     some_same f = cc
 
 -- whether a range is switched, by what was found of it
-pub switched_is : (a : Aggregation) (shown : BTreeMap RangeKey (Option SurfaceId)) (r : SurfaceRange) (key : RangeKey) (before : Option SurfaceId) (now : Option FrameData) → HasShown shown a.ranges → key ≡ key_of r
-    → Some before ≡ get by_range shown key → shows_other before now ≡ is_switched a r now
-switched_is a shown r key before now has is e = found_shows (find (λ (x : Shown). same_range x.0 r) a.ranges) before now (e ∙ (ap (get by_range shown) is ∙ has r))
+pub switched_is : (a : Aggregation) (shown : BTreeMap SurfaceRange (Option SurfaceId)) (r : SurfaceRange) (before : Option SurfaceId) (now : Option FrameData) → HasShown shown a.ranges
+    → Some before ≡ get by_range shown r → shows_other before now ≡ is_switched a r now
+switched_is a shown r before now has e = found_shows (find (λ (x : Shown). same_range x.0 r) a.ranges) before now (e ∙ has r)

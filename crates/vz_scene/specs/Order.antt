@@ -8,6 +8,7 @@ use Rattle.vz_ids.specs.declared.SurfaceId.{SurfaceId}
 use Rattle.vz_ids.specs.declared.SurfaceRange.{SurfaceRange}
 use Rattle.vz_ids.specs.contracts.SubOrd.TheImpl as sub_ord
 use Rattle.vz_ids.specs.contracts.SurfaceIdOrd.TheImpl as surface_ord
+use Rattle.vz_ids.specs.contracts.SurfaceRangeOrd.TheImpl as range_ord
 use Rattle.vz_ids.specs.Ids.{same_surface, same_range}
 use Rattle.vz_geom.specs.Rectangle.{Rectangle}
 use Rattle.vz_rules.specs.World.{FrameData, Aggregation}
@@ -15,8 +16,6 @@ use Rattle.vz_rules.specs.Damage.{damage_since}
 use Rattle.vz_scene.specs.Limits.{IsInReach}
 use Rattle.vz_scene.specs.declared.key.FrameKey.{FrameKey}
 use Rattle.vz_scene.specs.contracts.key.FrameKeyOrd.TheImpl as frame_ord
-use Rattle.vz_scene.specs.declared.key.RangeKey.{RangeKey}
-use Rattle.vz_scene.specs.contracts.key.RangeKeyOrd.TheImpl as range_ord
 
 -- the order of submissions, by client and ordinal
 abbrev pub by_sub : Sub → Sub → Ordering
@@ -27,7 +26,7 @@ abbrev pub by_surface : SurfaceId → SurfaceId → Ordering
 by_surface = (surface_ord.ghosts).cmp
 
 -- the order of ranges, by start and end
-abbrev pub by_range : RangeKey → RangeKey → Ordering
+abbrev pub by_range : SurfaceRange → SurfaceRange → Ordering
 by_range = (range_ord.ghosts).cmp
 
 -- the order of frames, by surface and number
@@ -38,17 +37,13 @@ by_frame = (frame_ord.ghosts).cmp
 abbrev pub frame_key : FrameData → FrameKey
 frame_key i = record { id = i.id; index = i.index }
 
--- the key of a range
-abbrev pub key_of : SurfaceRange → RangeKey
-key_of r = record { start = r.start; end = r.end }
-
 -- the map has, for each surface, the number in its first pair
 abbrev pub HasNumbers : {A : Type 0} → BTreeMap SurfaceId A → List (SurfaceId × A) → Type 0
 HasNumbers {A} m pairs = (id : SurfaceId) → get by_surface m id ≡ option_map (λ (x : SurfaceId × A). x.1) (find (λ (x : SurfaceId × A). same_surface x.0 id) pairs)
 
 -- the map has, for each range, the value in its first pair
-abbrev pub HasShown : {A : Type 0} → BTreeMap RangeKey A → List (SurfaceRange × A) → Type 0
-HasShown {A} m pairs = (r : SurfaceRange) → get by_range m (key_of r) ≡ option_map (λ (x : SurfaceRange × A). x.1) (find (λ (x : SurfaceRange × A). same_range x.0 r) pairs)
+abbrev pub HasShown : {A : Type 0} → BTreeMap SurfaceRange A → List (SurfaceRange × A) → Type 0
+HasShown {A} m pairs = (r : SurfaceRange) → get by_range m r ≡ option_map (λ (x : SurfaceRange × A). x.1) (find (λ (x : SurfaceRange × A). same_range x.0 r) pairs)
 
 -- the map has, for each frame, the damage on its surface since an aggregation, if these frames
 -- were accepted

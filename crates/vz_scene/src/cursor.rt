@@ -90,7 +90,7 @@ fn behind(
 fn is_on_path(path: &[SurfaceId], submitted: &SubmittedFrame<'_>) -> bool
     ensures { result ≡ on_path path.now submitted.now }
 {
-    path.iter().any(|id| submitted.id == *id)
+    path.contains(&submitted.id)
 }
 
 /// The cursor for the root pass of a surface, with the surfaces on the path and how many more it

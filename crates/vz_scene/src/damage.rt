@@ -17,7 +17,6 @@ ghost use Rattle.vz_scene.specs.Limits.{IsInReach};
 
 use crate::aggregation::Aggregation;
 use crate::index::Index;
-use crate::key::key_of;
 use crate::place::nothing;
 use crate::submitted::SubmittedFrame;
 use crate::visit::{Kind, Visit};
@@ -147,7 +146,7 @@ fn entered_subs(alloc: Global, visits: &[Visit<'_, '_>]) -> Result<BTreeSet<Sub>
     Ok(subs)
 }
 
-/// The frames that are in a set.
+/// The submissions of the frames that are in a set.
 fn subs_in(
     alloc: Global,
     active: &[SubmittedFrame<'_>],
@@ -157,11 +156,13 @@ fn subs_in(
         ≡ map (λ (i : FrameData). i.sub)
         (filter (λ (i : FrameData). contains by_sub subs.now i.sub) active.now)) }
 {
-    active
-        .iter()
-        .filter(|submitted| subs.contains(&submitted.sub))
-        .map(|submitted| submitted.sub)
-        .collect(alloc)
+    let mut found = Vec::new(alloc);
+    for submitted in active {
+        if subs.contains(&submitted.sub) {
+            found.push(submitted.sub)?;
+        }
+    }
+    Ok(found)
 }
 
 /// The active submissions of the surfaces walked, each once, in the order of acceptance.
@@ -188,7 +189,7 @@ fn each_once(
     let mut once = Vec::new(alloc);
     let mut seen = BTreeSet::new(alloc);
     for pair in pairs {
-        if !seen.insert(key_of(&pair.0))? {
+        if !seen.insert(pair.0)? {
             continue;
         }
         once.push(*pair)?;

@@ -5,7 +5,6 @@ ghost use Rattle.vz_rules.specs.Damage.{index_in, shows_other, is_switched};
 ghost use Rattle.vz_scene.specs.Order.{HasNumbers, HasShown};
 
 use crate::aggregation::Aggregation;
-use crate::key::{RangeKey, key_of};
 use crate::submitted::SubmittedFrame;
 use std::alloc::{AllocError, Global};
 use std::collections::BTreeMap;
@@ -18,7 +17,7 @@ use vz_ids::{SurfaceId, SurfaceRange};
 pub(crate) struct Index<'l> {
     last: &'l Aggregation,
     numbers: BTreeMap<SurfaceId, u32>,
-    shown: BTreeMap<RangeKey, Option<SurfaceId>>,
+    shown: BTreeMap<SurfaceRange, Option<SurfaceId>>,
 }
 
 impl<'l> Model for Index<'l> {
@@ -53,7 +52,7 @@ fn numbers_of(
 fn shown_of(
     alloc: Global,
     pairs: &[(SurfaceRange, Option<SurfaceId>)],
-) -> Result<BTreeMap<RangeKey, Option<SurfaceId>>, AllocError>
+) -> Result<BTreeMap<SurfaceRange, Option<SurfaceId>>, AllocError>
     ensures { IfOk result (λ m. HasShown m pairs.now) }
 {
     let mut shown = BTreeMap::new(alloc);
@@ -61,7 +60,7 @@ fn shown_of(
     while k > 0 {
         k -= 1;
         let pair = &pairs[k];
-        shown.insert(key_of(&pair.0), pair.1)?;
+        shown.insert(pair.0, pair.1)?;
     }
     Ok(shown)
 }
@@ -107,7 +106,7 @@ impl<'l> Index<'l> {
     pub(crate) fn is_switched(&self, range: &SurfaceRange, now: Option<&SubmittedFrame<'_>>) -> bool
         ensures { result ≡ is_switched self.now range.now (option_copied now.entry) }
     {
-        match self.shown.get(&key_of(range)) {
+        match self.shown.get(range) {
             None => true,
             Some(before) => shows_other(*before, now),
         }

@@ -1,30 +1,13 @@
-//! Sort keys for ranges, groups and frames.
+//! Sort keys for groups and frames.
 ghost use Rattle.std.specs.Prelude.{◌≡◌};
 ghost use Rattle.vz_scene.specs.Groups.{group_of};
-ghost use Rattle.vz_scene.specs.Order.{key_of, frame_key};
+ghost use Rattle.vz_scene.specs.Order.{frame_key};
 
 use crate::submitted::SubmittedFrame;
-use vz_ids::{EmbedToken, FrameSinkId, SurfaceId, SurfaceRange};
-
-/// The key of a range: its start and its end.
-#[derive(Clone, Copy, Debug, PartialEq, Eq, PartialOrd, Ord)]
-pub(crate) struct RangeKey {
-    start: Option<SurfaceId>,
-    end: SurfaceId,
-}
-
-/// The key of a range.
-pub(crate) fn key_of(range: &SurfaceRange) -> RangeKey
-    ensures { result ≡ key_of range.now }
-{
-    RangeKey {
-        start: range.start,
-        end: range.end,
-    }
-}
+use vz_ids::{EmbedToken, FrameSinkId, SurfaceId};
 
 /// The key of a group of surfaces: its sink and its token.
-#[derive(Clone, Copy, Debug, PartialEq, Eq, PartialOrd, Ord)]
+#[derive(PartialEq, Eq, PartialOrd, Ord, Drop)]
 pub(crate) struct GroupKey {
     sink: FrameSinkId,
     token: EmbedToken,
@@ -41,7 +24,7 @@ pub(crate) fn group_of(id: &SurfaceId) -> GroupKey
 }
 
 /// The key of a frame: its surface and its number among the frames of that surface.
-#[derive(Clone, Copy, Debug, PartialEq, Eq, PartialOrd, Ord)]
+#[derive(PartialEq, Eq, PartialOrd, Ord, Drop)]
 pub(crate) struct FrameKey {
     id: SurfaceId,
     index: u32,

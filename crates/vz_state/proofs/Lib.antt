@@ -8,3 +8,4 @@ pub mod Rooming
 pub mod Activating
 pub mod Ends
 pub mod Meets
+pub mod Among

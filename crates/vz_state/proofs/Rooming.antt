@@ -37,6 +37,21 @@ pub given_more : {A B : Type 0} (f : A → Option B) (xs : List A) (k : ℕ) (d 
 given_more f xs k d h =
     ap (filter_map f) (take_next xs k d h) ∙ (filter_map-append f (take k xs) (get_or xs k d ∷ []) ∙ ap (λ l. filter_map f (take k xs) ++ l) (one_given (f (get_or xs k d))))
 
+-- one element more gives nothing: all that was appended is what the elements so far give
+pub none_more : {A B : Type 0} (f : A → Option B) (initial now : List B) (xs : List A) (k : ℕ) (x : A) → k < length xs → x ≡ get_or xs k x → f x ≡ None
+    → now ≡ initial ++ filter_map f (take k xs) → now ≡ initial ++ filter_map f (take (k + 1) xs)
+none_more f initial now xs k x h at none so =
+    so ∙ ap (λ l. initial ++ l) (sym (given_more f xs k x h ∙ (ap (λ o. filter_map f (take k xs) ++ option_to_list o) (ap f (sym at) ∙ none) ∙ append-nil (filter_map f (take k xs)))))
+
+-- one element more gives a value, which is appended
+pub some_more : {A B : Type 0} (f : A → Option B) (initial now next : List B) (xs : List A) (k : ℕ) (x : A) (y : B) → k < length xs → x ≡ get_or xs k x → f x ≡ Some y
+    → now ≡ initial ++ filter_map f (take k xs) → next ≡ now ++ y ∷ [] → next ≡ initial ++ filter_map f (take (k + 1) xs)
+some_more f initial now next xs k x y h at some so put =
+    put
+    ∙ (ap (λ l. l ++ y ∷ []) so
+    ∙ (append_assoc initial (filter_map f (take k xs)) (y ∷ [])
+    ∙ ap (λ l. initial ++ l) (sym (given_more f xs k x h ∙ ap (λ o. filter_map f (take k xs) ++ option_to_list o) (ap f (sym at) ∙ some)))))
+
 pub listed_more : {A B : Type 0} (f : A → List B) (xs : List A) (k : ℕ) (d : A) → k < length xs
     → flat_map f (take (k + 1) xs) ≡ flat_map f (take k xs) ++ f (get_or xs k d)
 listed_more f xs k d h = ap (flat_map f) (take_next xs k d h) ∙ (flat_map-append f (take k xs) (get_or xs k d ∷ []) ∙ ap (λ l. flat_map f (take k xs) ++ l) (one f (get_or xs k d)))

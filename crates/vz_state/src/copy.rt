@@ -32,10 +32,11 @@ fn copy_resources<'a>(
 ) -> Result<Vec<Resource<'a>>, AllocError>
     ensures { IfOk result (λ v. v.items ≡ resources.now) }
 {
-    resources
-        .iter()
-        .map(|resource| resource.copy())
-        .collect(alloc)
+    let mut copies = Vec::with_capacity(alloc, resources.len())?;
+    for resource in resources {
+        copies.push(resource.copy())?;
+    }
+    Ok(copies)
 }
 
 /// A copy of the queue, with room for `spare` more.

@@ -1,5 +1,5 @@
 //! What is outstanding at the end of a run.
-ghost use Rattle.std.specs.Prelude.{◌≡◌, ◌&&◌, ◌==◌, not, IfOk};
+ghost use Rattle.std.specs.Prelude.{◌≡◌, ◌&&◌, ◌==◌, ◌++◌, not, IfOk, OnOk};
 ghost use Rattle.std.specs.List.{flat_map, filter_map};
 ghost use Rattle.vz_rules.specs.World.{Client as ClientState};
 ghost use Rattle.vz_rules.specs.Log.{held_resource};
@@ -27,16 +27,18 @@ impl<'a> Resource<'a> {
     }
 }
 
-/// The references of a client that are lent and not returned, by resource id.
-fn held_by(alloc: Global, client: &Client<'_>) -> Result<Vec<Returned>, AllocError>
-    ensures { IfOk result (λ v. v.items
-        ≡ filter_map (held_resource client.now.number) client.now.resources) }
+/// Appends the references of a client that are lent and not returned, by resource id.
+fn add_held(all: &mut Vec<Returned>, client: &Client<'_>) -> Result<(), AllocError>
+    ensures { OnOk result (all.new.items
+        ≡ all.old.items ++ filter_map (held_resource client.now.number) client.now.resources) }
 {
-    client
-        .resources
-        .iter()
-        .filter_map(|resource| resource.held(client.number))
-        .collect(alloc)
+    for resource in client.resources() {
+        let Some(returned) = resource.held(client.number) else {
+            continue;
+        };
+        all.push(returned)?;
+    }
+    Ok(())
 }
 
 /// The references that are lent and not returned, by client and resource id.
@@ -46,8 +48,7 @@ pub fn all_held(alloc: Global, clients: &[Client<'_>]) -> Result<Vec<Returned>, 
 {
     let mut all = Vec::new(alloc);
     for client in clients {
-        let mut some = held_by(alloc, client)?;
-        all.append(&mut some)?;
+        add_held(&mut all, client)?;
     }
     Ok(all)
 }

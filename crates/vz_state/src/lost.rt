@@ -1,12 +1,12 @@
 //! Surfaces that are destroyed as nothing keeps them, and the submissions on them.
-ghost use Rattle.std.specs.Prelude.{◌≡◌, ◌==◌, map, if◌then◌else◌, Some, None, IfOk};
+ghost use Rattle.std.specs.Prelude.{◌≡◌, ◌==◌, ◌++◌, map, if◌then◌else◌, Some, None, IfOk, OnOk};
 ghost use Rattle.std.specs.List.{list_any, flat_map};
 ghost use Rattle.vz_rules.specs.World.{is_on};
 ghost use Rattle.vz_rules.specs.Reach.{is_lost, destroy, drop_on, lost_of};
 
 use crate::client::Client;
 use crate::submission::Submission;
-use crate::surface::Surface;
+use crate::surface::{Surface, surface_of};
 use std::alloc::{AllocError, Global};
 use vz_rules::{Lost, State};
 use vz_scene::SurfaceSet;
@@ -58,7 +58,7 @@ pub fn destroy_all(surfaces: &mut [Surface], kept: &SurfaceSet)
 fn is_on_one(submission: &Submission<'_>, surfaces: &[Surface]) -> bool
     ensures { result ≡ list_any (λ c. is_on c.id submission.now) surfaces.now }
 {
-    surfaces.iter().any(|surface| submission.is_on(&surface.id))
+    surface_of(surfaces, submission).is_some()
 }
 
 impl<'a> Submission<'a> {
@@ -66,7 +66,7 @@ impl<'a> Submission<'a> {
     fn drop_on(&mut self, lost: &[Surface])
         ensures { self.new ≡ drop_on lost.now self.old }
     {
-        if (self.is_waiting() || self.is_active()) && is_on_one(self, lost) {
+        if self.is_current() && is_on_one(self, lost) {
             self.state = State::Dropped;
         }
     }
@@ -81,13 +81,17 @@ pub fn drop_all(submissions: &mut [Submission<'_>], lost: &[Surface])
     }
 }
 
-/// The lost surfaces of a client, in the order of creation.
-fn lost_of(alloc: Global, lost: &[Surface], client: &Client<'_>) -> Result<Vec<Lost>, AllocError>
-    ensures { IfOk result (λ v. v.items ≡ lost_of lost.now client.now) }
+/// Appends the lost surfaces of a client, in the order of creation.
+fn add_lost(all: &mut Vec<Lost>, lost: &[Surface], client: &Client<'_>) -> Result<(), AllocError>
+    ensures { OnOk result (all.new.items ≡ all.old.items ++ lost_of lost.now client.now) }
 {
-    lost.iter()
-        .filter_map(|surface| surface.name_of(client.number))
-        .collect(alloc)
+    for surface in lost {
+        let Some(name) = surface.name_of(client.number) else {
+            continue;
+        };
+        all.push(name)?;
+    }
+    Ok(())
 }
 
 /// The lost surfaces, by client and then in the order of creation.
@@ -100,8 +104,7 @@ pub fn by_client(
 {
     let mut all = Vec::new(alloc);
     for client in clients {
-        let mut some = lost_of(alloc, lost, client)?;
-        all.append(&mut some)?;
+        add_lost(&mut all, lost, client)?;
     }
     Ok(all)
 }

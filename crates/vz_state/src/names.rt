@@ -24,17 +24,6 @@ impl Surface {
     }
 }
 
-/// For each surface, whether it exists and is named by these ends.
-fn flags_by(alloc: Global, surfaces: &[Surface], ends: &Newest) -> Result<Vec<bool>, AllocError>
-    ensures { IfOk result
-        (λ v. v.items ≡ map (is_named_by ends.now) surfaces.now) }
-{
-    surfaces
-        .iter()
-        .map(|surface| surface.is_named_by(ends))
-        .collect(alloc)
-}
-
 /// For each surface, whether it exists and one of the ends is it or a newer one of its group.
 pub fn named_flags(
     alloc: Global,
@@ -44,7 +33,11 @@ pub fn named_flags(
     ensures { IfOk result (λ v. v.items ≡ map (is_named_by ends.now) surfaces.now) }
 {
     let newest = Newest::of(alloc, ends)?;
-    Ok(flags_by(alloc, surfaces, &newest)?)
+    let mut flags = Vec::with_capacity(alloc, surfaces.len())?;
+    for surface in surfaces {
+        flags.push(surface.is_named_by(&newest))?;
+    }
+    Ok(flags)
 }
 
 /// The surface that a range shows.

@@ -115,19 +115,11 @@ pub(crate) fn is_listed(id: u32, listings: &[Listing]) -> bool
     listings.iter().any(|listing| listing.id == id)
 }
 
-/// Whether a listing has a stored block of its size.
-fn is_served(resources: &[Resource<'_>], listing: &Listing) -> bool
-    ensures { result ≡ list_any (λ (s : ResourceState). (s.id == listing.now.id)
-        && (s.block.w == listing.now.w) && (s.block.h == listing.now.h)) resources.now }
-{
-    resources.iter().any(|resource| resource.serves(listing))
-}
-
 /// Whether a listing has no stored block of its size.
 pub(crate) fn is_unknown(resources: &[Resource<'_>], listing: &Listing) -> bool
     ensures { result ≡ is_unknown resources.now listing.now }
 {
-    !is_served(resources, listing)
+    !resources.iter().any(|resource| resource.serves(listing))
 }
 
 /// Lends one reference for each listing. Condition: the counts are within the limits.

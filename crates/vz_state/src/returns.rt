@@ -5,7 +5,7 @@ ghost use Rattle.vz_frame.specs.Frame.{lists};
 ghost use Rattle.vz_state.specs.Outs.{outs, is_out, all_outs, unfed, IsPutInto};
 ghost use Rattle.std.specs.Option.{option_to_list};
 ghost use Rattle.vz_rules.specs.World.{has_sub, is_in_flight};
-ghost use Rattle.vz_rules.specs.Returns.{holds, is_held, goes_back, return_of, queue_resource, returns_of, queue_returns};
+ghost use Rattle.vz_rules.specs.Returns.{holds, is_held, return_of, queue_resource, returns_of, queue_returns};
 ghost use Rattle.vz_state.specs.Holding.{holding, feedback_by, fed_by};
 
 use crate::client::Client;
@@ -22,7 +22,7 @@ use vz_rules::{Fed, Returned};
 fn has_sub(subs: &[Sub], sub: Sub) -> bool
     ensures { result ≡ has_sub subs.now sub }
 {
-    subs.iter().any(|other| sub == *other)
+    subs.contains(&sub)
 }
 
 /// Whether a submission is in the drawn frame that is not done yet.
@@ -72,8 +72,7 @@ impl<'b, 'a> Holders<'b, 'a> {
     fn holds(&self, submission: &Submission<'_>) -> bool
         ensures { result ≡ holds self.now submission.now }
     {
-        ((submission.is_waiting() || submission.is_active())
-            && exists(self.surfaces, &submission.id()))
+        (submission.is_current() && exists(self.surfaces, &submission.id()))
             || is_in_flight(self.in_flight, submission.sub())
     }
 
@@ -98,19 +97,12 @@ impl<'b, 'a> Holders<'b, 'a> {
             .any(|submission| self.holds_of(submission, c, id))
     }
 
-    /// Whether a resource is returned now: more of its references were lent than returned, and
+    /// The return of a resource now, if it is returned: references of it are outstanding, and
     /// nothing holds it.
-    fn goes_back(&self, c: u32, resource: &Resource<'_>) -> bool
-        ensures { result ≡ goes_back self.now c resource.now }
-    {
-        resource.queued < resource.lent && !self.is_held(c, resource.id)
-    }
-
-    /// The return of a resource now, if it is returned.
     fn return_of(&self, c: u32, resource: &Resource<'_>) -> Option<Returned>
         ensures { result ≡ return_of self.now c resource.now }
     {
-        if self.goes_back(c, resource) {
+        if resource.is_out() && !self.is_held(c, resource.id) {
             Some(Returned {
                 client: c,
                 id: resource.id,
@@ -247,7 +239,7 @@ impl<'a> Submission<'a> {
                 presented: true,
             });
         }
-        if !self.is_waiting() && !self.is_active() && !is_in_flight(in_flight, self.sub()) {
+        if !self.is_current() && !is_in_flight(in_flight, self.sub()) {
             return Some(Fed {
                 sub: self.sub(),
                 presented: false,

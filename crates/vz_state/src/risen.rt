@@ -12,7 +12,7 @@ use vz_ids::{Sub, SurfaceId};
 use vz_scene::Newest;
 
 /// What is noted of a submission that becomes active in a round.
-#[derive(Clone, Copy, Debug, PartialEq, Eq)]
+#[derive(Clone, Copy)]
 pub struct Risen {
     /// The surface that it is on.
     pub id: SurfaceId,

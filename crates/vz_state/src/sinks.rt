@@ -1,5 +1,5 @@
 //! Which sinks a sink reaches, over the relations from parent to child.
-ghost use Rattle.std.specs.Prelude.{◌≡◌, length, OnOk, IfOk, [], ◌∷◌};
+ghost use Rattle.std.specs.Prelude.{◌≡◌, ◌++◌, length, OnOk, IfOk, [], ◌∷◌};
 ghost use Rattle.vz_ids.specs.Ids.{same_sink};
 ghost use Rattle.std.specs.List.{flat_map};
 ghost use Rattle.vz_rules.specs.Plan.{has_sink};
@@ -13,7 +13,7 @@ use vz_ids::FrameSinkId;
 pub fn has_sink(sinks: &[FrameSinkId], a: FrameSinkId) -> bool
     ensures { result ≡ has_sink sinks.now a }
 {
-    sinks.iter().any(|sink| a == *sink)
+    sinks.contains(&a)
 }
 
 /// Appends the sinks that the list does not have yet.
@@ -28,19 +28,20 @@ fn add_all(sinks: &mut Vec<FrameSinkId>, others: &[FrameSinkId]) -> Result<(), A
     Ok(())
 }
 
-/// The children of a sink, in the order in which their relations were registered.
-fn children(
-    alloc: Global,
+/// Appends the children of a sink, in the order in which their relations were registered.
+fn add_children(
+    all: &mut Vec<FrameSinkId>,
     relations: &[(FrameSinkId, FrameSinkId)],
     a: FrameSinkId,
-) -> Result<Vec<FrameSinkId>, AllocError>
-    ensures { IfOk result (λ v. v.items ≡ children relations.now a) }
+) -> Result<(), AllocError>
+    ensures { OnOk result (all.new.items ≡ all.old.items ++ children relations.now a) }
 {
-    relations
-        .iter()
-        .filter(|relation| relation.0 == a)
-        .map(|relation| relation.1)
-        .collect(alloc)
+    for relation in relations {
+        if relation.0 == a {
+            all.push(relation.1)?;
+        }
+    }
+    Ok(())
 }
 
 /// The children of sinks.
@@ -53,8 +54,7 @@ fn all_children(
 {
     let mut all = Vec::new(alloc);
     for sink in sinks {
-        let mut some = children(alloc, relations, *sink)?;
-        all.append(&mut some)?;
+        add_children(&mut all, relations, *sink)?;
     }
     Ok(all)
 }

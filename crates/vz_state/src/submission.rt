@@ -78,6 +78,18 @@ impl<'a> Submission<'a> {
         }
     }
 
+    /// Whether it waits or is active.
+    pub(crate) fn is_current(&self) -> bool
+        ensures { result ≡ (is_waiting self.now || is_active self.now) }
+    {
+        match self.state {
+            State::Waiting => true,
+            State::Active => true,
+            State::Past => false,
+            State::Dropped => false,
+        }
+    }
+
     /// Whether it is on this surface.
     pub(crate) fn is_on(&self, id: &SurfaceId) -> bool
         ensures { result ≡ is_on id.now self.now }

@@ -151,8 +151,11 @@ pub fn last_created(surfaces: &[Surface], c: u32) -> Option<&Surface>
     last_of(surfaces, c)
 }
 
-/// The surface of a submission.
-fn surface_of<'b>(surfaces: &'b [Surface], submission: &Submission<'_>) -> Option<&'b Surface>
+/// The surface of a submission, if it is one of these.
+pub(crate) fn surface_of<'b>(
+    surfaces: &'b [Surface],
+    submission: &Submission<'_>,
+) -> Option<&'b Surface>
     ensures { option_copied result
         ≡ find (λ c. same_surface c.id submission.now.submitted.id) surfaces.now }
 {
