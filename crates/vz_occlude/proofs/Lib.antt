@@ -1,0 +1,13 @@
+pub mod Acted
+pub mod Points_laid
+pub mod Occluded
+pub mod Same
+pub mod Shaped
+pub mod Parsed
+pub mod Lists
+pub mod Ends_of_lists
+pub mod Read_texels
+pub mod Keeping
+pub mod Walked
+pub mod Taken
+pub mod Valued

@@ -1,0 +1,8 @@
+pub mod Items
+pub mod Occluders
+pub mod Occlusion
+pub mod Worked
+pub mod Rows
+pub mod Roles
+pub mod Standing
+pub mod Pictures

@@ -1,0 +1,13 @@
+//! Draw occlusion: items of a picture that lie wholly behind an opaque one are not painted.
+#![tactic(auto)]
+
+mod bound;
+mod culler;
+pub mod laws;
+mod occluder;
+mod picture;
+mod role;
+mod texels;
+
+pub use bound::MOST_OCCLUDERS;
+pub use picture::{FlatPicture, Thin, occlude};

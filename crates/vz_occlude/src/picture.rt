@@ -1,0 +1,153 @@
+//! The picture of a drawing as operations, before and after occluded items are removed.
+ghost use Rattle.std.specs.Prelude.{◌≡◌, ◌≤◌, IfOk};
+ghost use Rattle.vz_geom.specs.declared.Point.{Point};
+ghost use Rattle.vz_geom.specs.Rectangle.{Covers, sized};
+ghost use Rattle.vz_geom.specs.Display.{IsDisplaySize};
+ghost use Rattle.vz_pixels.specs.Colour.{Colour};
+ghost use Rattle.vz_flat.specs.Ops.{value, deepest};
+ghost use Rattle.vz_occlude.specs.Occlusion.{kept as kept_of, gone as gone_of};
+
+use crate::culler::remove_occluded;
+use std::alloc::Global;
+use std::marker::Model;
+use vz_base::Memory;
+use vz_flat::Ops;
+use vz_geom::{Rect, Size};
+
+/// A picture of a display as operations on opaque black, with the rectangle that changed since the
+/// picture before, in display pixels.
+#[derive(Drop)]
+pub struct FlatPicture {
+    size: Size,
+    ops: Ops,
+    damage: Rect,
+}
+
+impl Model for FlatPicture {
+    ghost use Rattle.vz_occlude.specs.Pictures.{Flattened, IsFlattened};
+
+    ghost Value = { Flattened };
+
+    ghost view = { λ p. record { size = p.size; ops = p.ops; damage = p.damage } };
+
+    ghost invariant = { λ p. IsFlattened (record {
+      size = p.size;
+      ops = p.ops;
+      damage = p.damage;
+    }) };
+}
+
+impl FlatPicture {
+    /// Makes a picture. Conditions: a size that a display may have, and a damage on that display.
+    pub fn new(size: Size, ops: Ops, damage: Rect) -> FlatPicture
+        requires size { IsDisplaySize size }
+        requires inside { Covers (sized size) damage }
+        ensures { result ≡ record { size = size; ops = ops; damage = damage } }
+    {
+        FlatPicture { size, ops, damage }
+    }
+
+    /// The operations, occluded ones included.
+    pub fn ops(&self) -> &Ops
+        ensures { result.now ≡ self.now.ops }
+    {
+        &self.ops
+    }
+
+    /// The rectangle that changed since the picture before. It may be empty.
+    pub fn damage(&self) -> Rect
+        ensures { result ≡ self.now.damage }
+    {
+        self.damage
+    }
+
+    /// The size of the display in pixels.
+    pub fn size(&self) -> Size
+        ensures { result ≡ self.now.size }
+    {
+        self.size
+    }
+}
+
+/// A picture without its occluded items, which only `occlude` makes.
+#[derive(Drop)]
+pub struct Thin {
+    size: Size,
+    ops: Ops,
+    damage: Rect,
+    gone: u64,
+}
+
+impl Model for Thin {
+    ghost use Rattle.vz_occlude.specs.Pictures.{Thinned, IsThinned};
+
+    ghost Value = { Thinned };
+
+    ghost view = { λ p. record {
+      size = p.size;
+      ops = p.ops;
+      damage = p.damage;
+      gone = p.gone;
+    } };
+
+    ghost invariant = { λ p. IsThinned (record {
+      size = p.size;
+      ops = p.ops;
+      damage = p.damage;
+      gone = p.gone;
+    }) };
+}
+
+impl Thin {
+    /// The operations that were kept.
+    pub fn ops(&self) -> &Ops
+        ensures { result.now ≡ self.now.ops }
+    {
+        &self.ops
+    }
+
+    /// How many items were removed. A group that was removed counts once.
+    pub fn gone(&self) -> u64
+        ensures { result ≡ self.now.gone }
+    {
+        self.gone
+    }
+
+    /// The rectangle that changed since the picture before. It may be empty.
+    pub fn damage(&self) -> Rect
+        ensures { result ≡ self.now.damage }
+    {
+        self.damage
+    }
+
+    /// The size of the display in pixels.
+    pub fn size(&self) -> Size
+        ensures value { result ≡ self.now.size }
+        ensures display { IsDisplaySize self.now.size }
+        ensures inside { Covers (sized self.now.size) self.now.damage }
+    {
+        self.size
+    }
+}
+
+/// Removes the items of a picture that lie wholly behind one occluder: a later item of the same
+/// list, one of the last `MOST_OCCLUDERS` that leave nothing of what is behind them. Every pixel
+/// keeps its colour. The only error is `Memory`, and then the picture is given up.
+pub fn occlude(alloc: Global, p: FlatPicture) -> Result<Thin, Memory>
+    ensures ops { IfOk result (λ thin. thin.ops ≡ kept_of p.ops) }
+    ensures gone { IfOk result (λ thin. thin.gone ≡ gone_of p.ops) }
+    ensures damage { IfOk result (λ thin. thin.damage ≡ p.damage) }
+    ensures size { IfOk result (λ thin. thin.size ≡ p.size) }
+    ensures same { (q : Point) (d : Colour) → IfOk result
+        (λ thin. value thin.ops q d ≡ value p.ops q d) }
+    ensures deep { IfOk result (λ thin. deepest 0 thin.ops ≤ deepest 0 p.ops) }
+{
+    let FlatPicture { size, ops, damage } = p;
+    let (ops, gone) = remove_occluded(alloc, ops)?;
+    Ok(Thin {
+        size,
+        ops,
+        damage,
+        gone,
+    })
+}
