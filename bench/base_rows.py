@@ -308,6 +308,7 @@ check 1 1 f l a
 gen 1000 a b c
 demo 1
 hit 4 2 s 3 1 a
+hit 2048 2048 s 2047 0 1 2 3 4 5 6 7 8 9 10 11 12 13 14 15 16
 turns 4 2 256 a"""
 REFUSED = """
 --pipe run 4 2 0 f l a
@@ -328,7 +329,16 @@ run 4 2 257 f l a
 run 2048 2048 64 f l a
 gen 1001 a b c
 demo 0
-hit 4 2 s 4 1 a"""
+hit 4 2 s 4 1 a
+hit 4 2 s 3 2 a
+hit 4 2 s 03 1 a
+hit 4 2 s 3 01 a
+hit 4 2 s 3 a
+hit 4 2 s 3 1
+hit 4 2 s 3 1 s
+hit 4 2 s 3 1 -a
+hit 4 2 s 3 1 1 2 3 4 5 6 7 8 9 10 11 12 13 14 15 16 17
+hit 2049 2 s 3 1 a"""
 
 
 def others():

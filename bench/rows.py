@@ -7,6 +7,7 @@ messages (spelling.py). README.md says more.
 """
 from case_rows import cases
 from file_rows import by_rule, failing, page_run, refused_files, refused_words, verdicts
+from hit_rows import hits
 from spelling import (
     AWAIT, BLUE, CLIENTS, CLOSE, DST_IN, GREEN, LISTED, NO_SINK, ONE_QUAD, OVER, RECLAIM, RED,
     RED_QUAD, ROOT, SRC, UPLOAD, WHITE, client, embed, group, local, picture, produced_nothing,
@@ -274,6 +275,6 @@ def paths():
 
 
 for part in (one_client, runs, colours, submissions, waiting, damages, embeddings, cycles, paths,
-             by_rule, page_run, refused_files, refused_words, verdicts, failing, cases):
+             by_rule, page_run, refused_files, refused_words, verdicts, failing, hits, cases):
     part()
 print("\n\n".join(TABLE))

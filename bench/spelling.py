@@ -62,8 +62,9 @@ def quad(material, area, offset=(0, 0), visible=None, clip=None, opacity=255, mo
 RED_QUAD = quad(solid(RED), (1, 0, 2, 2))
 
 
-def render_pass(number, size, quads, damage=None):
-    whole = (0, 0, *size)
+def render_pass(number, size, quads, damage=None, at=(0, 0)):
+    """A pass whose output has this size, with its first pixel at a point."""
+    whole = (*at, *size)
     return (struct.pack("<I", number) + rect(whole) + rect(damage or whole)
             + struct.pack("<H", len(quads)) + b"".join(quads))
 

@@ -3,13 +3,15 @@ from spelling import CLIENTS, GREEN, ONE_QUAD, ROOT, client, pieces, quad, sched
 
 
 def put(name, words, given=(), status=0, line="", log=None, left=(), entries=0, steps=0, ones=(),
-        piece=None, turns=False, others=(), packed=(), judge=""):
+        piece=None, turns=False, others=(), packed=(), judge="", reads=()):
     """Prints a row. `others` are logs that may be left in the place of `log`; `packed` are files of
-    pieces; `judge` has the words of a second call that must print `yes`."""
+    pieces; `reads` are files of the folder `data`, with their paths there; `judge` has the words of a
+    second call that must print `yes`."""
     out = ["row " + name, "words " + words]
     out += ["given %s %s" % (n, b.hex()) for n, b in given]
     out += ["ones %s %d" % o for o in ones]
     out += ["packed %s %s" % (n, " ".join(pieces)) for n, pieces in packed]
+    out += ["read %s %s" % r for r in reads]
     out += ["piece %d" % piece] if piece else []
     out += ["turns"] if turns else []
     out += ["status %d" % status] if status else []

@@ -1,4 +1,4 @@
--- When the inputs of `step` are accepted, and when one is refused.
+-- When the inputs of a command with a schedule are accepted, and when one is refused.
 use Rattle.std.proofs.Common.{rules, ◌≡◌, ℕ, Option, Some, None, Result, Ok, Err, IsErrOf, IsErrAnd, IsTrue, pos, List, [], ◌∷◌, ◌++◌, refl, sym, ap, ◌∙◌, subst, inl, inr}
 use Rattle.std.proofs.lemmas.List.{append-nil}
 use Rattle.std.specs.List.{flat_map}
@@ -11,9 +11,13 @@ use Rattle.vz_inputs.specs.Schedule.{events_of, schedule_refused}
 use Rattle.vz_inputs.specs.declared.refused.Refused.{Refused}
 use Rattle.vz_inputs.specs.declared.refused.InputError.{InputError}
 use Rattle.vz_inputs.specs.declared.refused.InputError.TheVariants as input_error
-use Rattle.vz_rules.specs.Command.{Word, Step}
-use Rattle.viz_run.specs.Inputs.{Inputs, AreRead, first_some, first_refused}
-use Rattle.viz_run.specs.Stepped.{refused_of}
+use Rattle.vz_rules.specs.Command.{Word, Step, Hit}
+use Rattle.vz_rules.specs.Plan.{Plan}
+use Rattle.vz_rules.specs.declared.entry.Event.{Event}
+use Rattle.viz_run.specs.Causes.{RefusesFor}
+use Rattle.viz_run.specs.Inputs.{Inputs, AreRead, AreAccepted, first_some}
+use Rattle.viz_run.specs.Scheduled.{AreTaken, AreGiven, refused_among}
+use Rattle.viz_run.specs.Stepped.{refused_of, Makes}
 use Rattle.viz_run.specs.Stops.{stop_for}
 use Rattle.viz_run.specs.declared.stop.Stop.{Stop}
 use Rattle.viz_run.specs.declared.stop.Stop.TheVariants as stop
@@ -25,15 +29,15 @@ read_first limit name bytes a b ran same read known =
     let found = read (subst IsTrue (sym ran.call.known) known) in
     (found.0, sym (same known name) ∙ found.1, found.2)
 
--- the inputs of `step`, as they were read
+-- the inputs, as they were read
 abbrev pub inputs_with : List (List ℕ) → List ℕ → Inputs
 inputs_with files schedule = record { files = files; schedules = schedule ∷ []; logs = []; frames = [] }
 
--- they were read for it
-pub are_read :
-    (w h : ℕ) (s f l : Word) (names : List Word) (files : List (List ℕ)) (schedule : List ℕ) (a b : Shelved) → Ran a b → SameFiles a b
-    → AreReadUpto MOST_FILE_BYTES names files a → IsReadUpto MOST_EVENTS s schedule b → AreRead a (Step w h s f l names) (inputs_with files schedule)
-are_read w h s f l names files schedule a b ran same first then = record {
+-- they were read
+pub are_taken :
+    (s : Word) (names : List Word) (files : List (List ℕ)) (schedule : List ℕ) (a b : Shelved) → Ran a b → SameFiles a b
+    → AreReadUpto MOST_FILE_BYTES names files a → IsReadUpto MOST_EVENTS s schedule b → AreTaken a s names (inputs_with files schedule)
+are_taken s names files schedule a b ran same first then = record {
   files = first;
   schedules = (read_first MOST_EVENTS s schedule a b ran same then, tt);
   logs = tt;
@@ -41,11 +45,8 @@ are_read w h s f l names files schedule a b ran same first then = record {
 }
 
 -- the first that is refused
-pub first_of : (w h : ℕ) (s f l : Word) (names : List Word) (size : Size) (files : List (List ℕ)) (schedule : List ℕ)
-    → size ≡ record { w = pos w; h = pos h } → first_refused (Step w h s f l names) (inputs_with files schedule) ≡ refused_of size files schedule
-first_of w h s f l names size files schedule is =
-    by_files (file_refused files) (schedule_refused (plan_read (record { w = pos w; h = pos h }) files) schedule)
-    ∙ ap (λ (z : Size). refused_of z files schedule) (sym is)
+pub first_of : (size : Size) (files : List (List ℕ)) (schedule : List ℕ) → refused_among size (inputs_with files schedule) ≡ refused_of size files schedule
+first_of size files schedule = by_files (file_refused files) (schedule_refused (plan_read size files) schedule)
   where
     by_schedule : (o : Option Refused) → first_some (elim o [ Some r ↦ Some r | None ↦ None ]) None ≡ o
     by_schedule None = refl
@@ -55,6 +56,46 @@ first_of w h s f l names size files schedule is =
         (first_some o (first_some (elim told [ Some r ↦ Some r | None ↦ None ]) None)) (elim o [ Some r ↦ Some r | None ↦ told ])
     by_files None told = by_schedule told
     by_files (Some r) told = refl
+
+-- What was given is what the command reads
+
+module _ (w h : ℕ) (s f l : Word) (names : List Word) (size : Size) (a : Shelved) (is : size ≡ record { w = pos w; h = pos h }) where
+  step_read : (i : Inputs) → AreTaken a s names i → AreRead a (Step w h s f l names) i
+  step_read i taken = record { files = taken.files; schedules = taken.schedules; logs = taken.logs; frames = taken.frames }
+
+  pub step_given :
+      (p : Plan) (es : List Event) → (i : Inputs) × AreGiven a size s names i p es
+      → (i : Inputs) × AreAccepted a (Step w h s f l names) i × Makes (Step w h s f l names) i p es
+  step_given p es given =
+      let i = given.0 in
+      let all = given.1 in (
+        i,
+        record { read = step_read i all.read; good = ap (λ (z : Size). refused_among z i) (sym is) ∙ all.good },
+        (all.plan ∙ ap (λ (z : Size). plan_read z i.files) is, all.events),
+      )
+
+  pub step_refused : (r : Refused) → (i : Inputs) × AreTaken a s names i × (refused_among size i ≡ Some r) → RefusesFor (Step w h s f l names) a r
+  step_refused r found =
+      let i = found.0 in (i, record { read = step_read i found.1; first = ap (λ (z : Size). refused_among z i) (sym is) ∙ found.2 })
+
+module _ (w h : ℕ) (s : Word) (x y : ℕ) (names : List Word) (size : Size) (a : Shelved) (is : size ≡ record { w = pos w; h = pos h }) where
+  hit_read : (i : Inputs) → AreTaken a s names i → AreRead a (Hit w h s x y names) i
+  hit_read i taken = record { files = taken.files; schedules = taken.schedules; logs = taken.logs; frames = taken.frames }
+
+  pub hit_given :
+      (p : Plan) (es : List Event) → (i : Inputs) × AreGiven a size s names i p es
+      → (i : Inputs) × AreAccepted a (Hit w h s x y names) i × Makes (Hit w h s x y names) i p es
+  hit_given p es given =
+      let i = given.0 in
+      let all = given.1 in (
+        i,
+        record { read = hit_read i all.read; good = ap (λ (z : Size). refused_among z i) (sym is) ∙ all.good },
+        (all.plan ∙ ap (λ (z : Size). plan_read z i.files) is, all.events),
+      )
+
+  pub hit_refused : (r : Refused) → (i : Inputs) × AreTaken a s names i × (refused_among size i ≡ Some r) → RefusesFor (Hit w h s x y names) a r
+  hit_refused r found =
+      let i = found.0 in (i, record { read = hit_read i found.1; first = ap (λ (z : Size). refused_among z i) (sym is) ∙ found.2 })
 
 -- the events of one schedule
 pub one_schedule : (bytes : List ℕ) → flat_map events_of (bytes ∷ []) ≡ events_of bytes

@@ -99,7 +99,7 @@ asked_part (Step w t s f l names) i h is = all_played (plan_of (Step w t s f l n
 asked_part (Check w t f l names) i h is = all_played (plan_of (Check w t f l names) i) [] h is
 asked_part (Gen n first second third) i h is = all_played (plan_of (Gen n first second third) i) [] h is
 asked_part (Demo n) i h is = all_played (plan_of (Demo n) i) (events_for (Demo n) i) h is
-asked_part (Hit w t s x y names) i h is = all_played (plan_of (Hit w t s x y names) i) [] h is
+asked_part (Hit w t s x y names) i h is = all_played (plan_of (Hit w t s x y names) i) (events_for (Hit w t s x y names) i) h is
 asked_part (Turns w t ticks names) i h is = all_played (plan_of (Turns w t ticks names) i) [] h is
 
 -- what was done was done in part

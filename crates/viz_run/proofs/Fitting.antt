@@ -1,13 +1,14 @@
--- What the words of `step`, `check` and `run` say of the display, of the names and of the buffers.
-use Rattle.std.proofs.Common.{◌≡◌, ℕ, ◌+◌, ◌≤◌, pos, Option, Some, None, List, [], ◌∷◌, length, Bool, true, false, not, ◌||◌, ◌&&◌, leb, IsTrue, sym, ap, ◌∙◌, arith}
-use Rattle.std.proofs.lemmas.Bool.{and_parts, leb-true}
+-- What the words of `step`, `hit`, `check` and `run` say of the display, of the names and of the buffers.
+use Rattle.std.proofs.Common.{◌≡◌, ℕ, ◌+◌, ◌≤◌, ◌<◌, nat_lt, pos, Option, Some, None, List, [], ◌∷◌, length, Bool, true, false, not, ◌||◌, ◌&&◌, leb, IsTrue, sym, ap, ◌∙◌, arith}
+use Rattle.std.proofs.lemmas.Bool.{and_parts, leb-true, ltb-true}
 use Rattle.std.proofs.lemmas.Int.{ints}
 use Rattle.std.specs.List.{list_any, list_all}
-use Rattle.vz_base.specs.declared.limits.TheConstants.{MOST_FILES, MOST_BUFFERS, MOST_TICKS}
+use Rattle.vz_base.specs.declared.limits.TheConstants.{MOST_FILES, MOST_BUFFERS, MOST_TICKS, GREATEST_DISPLAY_SIDE}
 use Rattle.vz_frame.specs.Fits.{within}
 use Rattle.vz_frame.specs.Frame.{has_repeat}
 use Rattle.vz_geom.specs.Display.{IsDisplaySize}
-use Rattle.vz_rules.specs.Command.{Word, Run, Step, Check, fits_command, buffers_fit, buffer_count, frames_fit, are_sides, are_files, is_name, are_names, same_text}
+use Rattle.vz_geom.specs.Rectangle.{has, sized}
+use Rattle.vz_rules.specs.Command.{Word, Run, Step, Check, Hit, fits_command, buffers_fit, buffer_count, frames_fit, are_sides, are_files, is_name, are_names, same_text}
 
 in_range : (low high n : ℕ) → within low high n ≡ true → (low ≤ n) × (n ≤ high)
 in_range low high n is =
@@ -55,6 +56,45 @@ module _ (w h : ℕ) (s f l : Word) (files : List Word) (fits : IsTrue (fits_com
       let named = and_parts (list_all is_name (s ∷ f ∷ l ∷ files)) (not (has_repeat same_text (s ∷ f ∷ l ∷ files))) fit_parts.2 in
       let again : same_text f l ≡ true = ap (same_text f) (sym same) ∙ same_text_self f in
       repeats (list_any (same_text s) (f ∷ l ∷ files)) (same_text f l) _ _ again named.1
+
+module _ (w h : ℕ) (s : Word) (x y : ℕ) (files : List Word) (fits : IsTrue (fits_command (Hit w h s x y files))) where
+  hit_parts : (are_sides w h ≡ true) × (nat_lt x w ≡ true) × (nat_lt y h ≡ true) × (are_files files ≡ true)
+  unfolding fits_command
+  hit_parts =
+      let most = and_parts (are_sides w h && nat_lt x w && nat_lt y h && are_files files) (are_names (s ∷ files)) fits in
+      let three = and_parts (are_sides w h && nat_lt x w && nat_lt y h) (are_files files) most.0 in
+      let two = and_parts (are_sides w h && nat_lt x w) (nat_lt y h) three.0 in
+      let one = and_parts (are_sides w h) (nat_lt x w) two.0 in
+      (one.0, one.1, two.1, three.1)
+
+  pub hit_sides_fit : IsTrue (are_sides w h)
+  hit_sides_fit = hit_parts.0
+
+  pub hit_files_fit : (1 ≤ length files) × (length files ≤ MOST_FILES)
+  hit_files_fit = in_range 1 MOST_FILES (length files) hit_parts.3
+
+  pub column_fits : x < w
+  column_fits = ltb-true x w hit_parts.1
+
+  pub row_fits : y < h
+  row_fits = ltb-true y h hit_parts.2
+
+  pub column_near : x < GREATEST_DISPLAY_SIDE
+  column_near =
+      let across = wide w h hit_parts.0 in
+      let column = column_fits in omega (arith, column)
+
+  pub row_near : y < GREATEST_DISPLAY_SIDE
+  row_near =
+      let down = high w h hit_parts.0 in
+      let row = row_fits in omega (arith, row)
+
+  -- the point is on the display
+  pub point_fits : has (sized (record { w = pos w; h = pos h })) (record { x = pos x; y = pos y }) ≡ true
+  point_fits =
+      let column = column_fits in
+      let row = row_fits in
+      grind (arith, ints)
 
 module _ (w h : ℕ) (f l : Word) (files : List Word) (fits : IsTrue (fits_command (Check w h f l files))) where
   judged_parts : (are_sides w h ≡ true) × (are_files files ≡ true)

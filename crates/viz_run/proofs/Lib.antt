@@ -15,4 +15,5 @@ mod Asked_names
 mod Takes
 mod Demonstrated
 mod Run_done
+mod Hit_done
 mod Opened

@@ -22,7 +22,7 @@ use Rattle.viz_run.specs.Inputs.{Inputs, no_inputs, AreAccepted, plan_of}
 use Rattle.vz_demo.specs.Planned.{demo_plan}
 use Rattle.viz_run.specs.Demo.{demo_events}
 use Rattle.viz_run.specs.Causes.{DoesFor, LeavesFor, KeepsOthers, FindsInputs}
-use Rattle.viz_run.specs.Ends.{IsHistory, IsAsked, IsDone, TellsEnd, outputs_of, named_files}
+use Rattle.viz_run.specs.Ends.{IsHistory, IsAsked, IsDone, TellsEnd, outputs_of, points_of, named_files}
 use Rattle.viz_run.specs.Lines.{made_line, end_line}
 use Rattle.viz_run.specs.Site.{site}
 use Rattle.viz_run.specs.Stops.{Behaves, IsRefusal, stop_of}
@@ -35,6 +35,11 @@ use Rattle.viz_run.specs.declared.stop.Stop.TheVariants as stop
 pub if_ok : {T E : Type 0} (r : Result T E) (P Q : T → Type 0) → ((x : T) → P x → Q x) → IfOk r P → IfOk r Q
 if_ok (Ok x) P Q follows is = follows x is
 if_ok (Err e) P Q follows is = tt
+
+-- what follows of an error
+pub if_err : {T E : Type 0} (r : Result T E) (P Q : E → Type 0) → ((e : E) → P e → Q e) → IfErr r P → IfErr r Q
+if_err (Ok x) P Q follows is = tt
+if_err (Err e) P Q follows is = follows e is
 
 -- what follows at an error
 pub at_err : {T E : Type 0} (r : Result T E) (P Q : Type 0) → (P → Q) → OnErr r P → OnErr r Q
@@ -120,12 +125,12 @@ none_written p k = refl
 
 -- nothing happened, and nothing is written
 done_nothing :
-    (c : Command) (i : Inputs) (a b : Shelved) (steps : ℕ) → IsAsked c i [] → AreWhole (outputs_of c (plan_of c i) []) b
+    (c : Command) (i : Inputs) (a b : Shelved) (steps : ℕ) → points_of c (plan_of c i) [] ≡ 0 → IsAsked c i [] → AreWhole (outputs_of c (plan_of c i) []) b
     → IsDone c i [] (site a steps) (site b steps)
-done_nothing c i a b steps asked whole = record {
+done_nothing c i a b steps none asked whole = record {
   history = asked;
   outputs = whole;
-  counted = (let none = none_painted (plan_of c i) (buffers_of c) in omega (arith, none));
+  counted = omega (arith, none);
   whole = λ honest. none_written (plan_of c i) (buffers_of c);
 }
 
@@ -137,8 +142,13 @@ pub check_does :
     → history ≡ [] → (i : Inputs) → AreAccepted a (Check w h frames log files) i → TellsEnd (Check w h frames log files) i [] line status
     → DoesFor (Check w h frames log files) history (site a steps) (site b steps) line status
 check_does w h frames log files history a b steps line status empty i accepted tells =
-    subst (λ (h' : List Entry). DoesFor (Check w h frames log files) h' (site a steps) (site b steps) line status) (sym empty)
-    (i, accepted, done_nothing (Check w h frames log files) i a b steps (none_of (plan_of (Check w h frames log files) i)) tt, tells)
+    subst (λ (h' : List Entry). DoesFor (Check w h frames log files) h' (site a steps) (site b steps) line status) (sym empty) (
+      i,
+      accepted,
+      done_nothing (Check w h frames log files) i a b steps (none_painted (plan_of (Check w h frames log files) i) DEFAULT_BUFFERS)
+          (none_of (plan_of (Check w h frames log files) i)) tt,
+      tells,
+    )
 
 -- Of `gen`
 
@@ -153,8 +163,12 @@ module _ (n : ℕ) (first second third : Word) where
       → AreWhole (named_files (first ∷ second ∷ third ∷ []) (make n)) b → line ≡ made_line
       → DoesFor (Gen n first second third) h (site a steps) (site b steps) line 0
   gen_does h a b steps line empty whole is =
-      subst (λ (h : List Entry). DoesFor (Gen n first second third) h (site a steps) (site b steps) line 0) (sym empty)
-      (no_inputs, gen_accepted a, done_nothing (Gen n first second third) no_inputs a b steps (none_of (demo_plan n)) whole, (is, refl))
+      subst (λ (h : List Entry). DoesFor (Gen n first second third) h (site a steps) (site b steps) line 0) (sym empty) (
+        no_inputs,
+        gen_accepted a,
+        done_nothing (Gen n first second third) no_inputs a b steps (none_painted (demo_plan n) DEFAULT_BUFFERS) (none_of (demo_plan n)) whole,
+        (is, refl),
+      )
 
   -- or they are begun
   pub gen_leaves :

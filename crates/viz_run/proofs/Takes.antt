@@ -1,4 +1,4 @@
--- What a player has taken, event by event.
+-- What a player or a tester has taken, event by event.
 use Rattle.std.proofs.Common.{◌≡◌, ℕ, suc, ◌+◌, ◌<◌, false, List, [], ◌∷◌, ◌++◌, length, take, get_or, refl, sym, ap, subst, ◌∙◌, inl, inr, append_assoc, arith}
 use Rattle.std.proofs.Math.Seq.{take-suc}
 use Rattle.std.proofs.lemmas.List.{append-nil, map-append}
@@ -7,10 +7,11 @@ use Rattle.vz_player.specs.Played.{Played, first_played, played_on, next_entry, 
 use Rattle.vz_rules.specs.Plan.{Plan}
 use Rattle.vz_rules.specs.declared.entry.Event.{Event}
 use Rattle.vz_rules.specs.declared.entry.Entry.{Entry}
-use Rattle.vz_rules.specs.Step.{entry_in}
+use Rattle.vz_rules.specs.Step.{entry_in, world}
 use Rattle.vz_rules.specs.Frames.{painted, painted_of, drawn_frames, drawn_frames_from}
+use Rattle.vz_player.specs.Tested.{Tested, tested_on}
 use Rattle.viz_run.specs.Ends.{events_in}
-use Rattle.viz_run.specs.Taken.{HasTaken}
+use Rattle.viz_run.specs.Taken.{HasTaken, HasTested}
 
 -- none was taken
 pub none_taken : (p : Played) → HasTaken [] p p
@@ -59,6 +60,23 @@ module _ (es : List Event) (i : ℕ) (d : Event) (p q r : Played) (in_range : i 
   stopped_at (inl same) = (i, subst (HasTaken (take i es) p) (sym same) before)
   stopped_at (inr is) =
       (i + 1, entry_more (ap (λ (x : Played). x.plan) is) (ap (λ (x : Played). x.buffers) is) (ap (λ (x : Played). x.history) is))
+
+-- a tester took one more
+pub one_tested :
+    (es : List Event) (i : ℕ) (d : Event) (p q r : Tested) → i < length es → HasTested (take i es) p q → r ≡ tested_on q (get_or es i d)
+    → HasTested (take (i + 1) es) p r
+unfolding tested_on entry_in
+one_tested es i d p q r in_range before is =
+    let e : Event = get_or es i d in
+    let next : Entry = entry_in q.plan (world q.plan q.history) e in
+    record {
+      plan = ap (λ (x : Tested). x.plan) is ∙ before.plan;
+      point = ap (λ (x : Tested). x.point) is ∙ before.point;
+      history = ap (λ (x : Tested). events_in x.history) is ∙ map-append (λ (x : Entry). x.event) q.history (next ∷ [])
+          ∙ ap (λ (xs : List Event). xs ++ e ∷ []) before.history
+          ∙ append_assoc (events_in p.history) (take i es) (e ∷ [])
+          ∙ ap (λ (xs : List Event). events_in p.history ++ xs) (sym (front_more es i d in_range));
+    }
 
 -- the display says how many points were painted for what it shows
 shown_points : (q : Played) → (display_of q).painted ≡ upto_most (painted_by q)

@@ -1,7 +1,7 @@
 -- The commands that the program has, and which names they read and write.
 use Rattle.std.specs.Prelude.{ℕ, Bool, true, false, not, IsTrue, List, [], ◌∷◌, ◌++◌}
 use Rattle.vz_base.specs.declared.limits.TheConstants.{DEFAULT_BUFFERS}
-use Rattle.vz_rules.specs.Command.{Word, Command, Run, Step, Check, Gen, Demo, IsCommand, buffer_count}
+use Rattle.vz_rules.specs.Command.{Word, Command, Run, Step, Check, Gen, Demo, Hit, IsCommand, buffer_count}
 
 -- the program has the command; it refuses the words of the others, and of a run whose frames a
 -- writer thread would write
@@ -11,6 +11,7 @@ is_built (Step w h schedule frames log files) = true
 is_built (Check w h frames log files) = true
 is_built (Gen n first second third) = true
 is_built (Demo n) = true
+is_built (Hit w h schedule x y files) = true
 is_built _ = false
 
 -- the words ask for a command that the program has
@@ -26,11 +27,13 @@ abbrev pub client_names : Command → List Word
 client_names (Run paced buffers pipe w h ticks frames log files) = files
 client_names (Step w h schedule frames log files) = files
 client_names (Check w h frames log files) = files
+client_names (Hit w h schedule x y files) = files
 client_names _ = []
 
 -- the name of the schedule, if the command has one
 abbrev pub schedule_names : Command → List Word
 schedule_names (Step w h schedule frames log files) = schedule ∷ []
+schedule_names (Hit w h schedule x y files) = schedule ∷ []
 schedule_names _ = []
 
 -- the name of the log to judge, if there is one

@@ -9,7 +9,7 @@ use Rattle.vz_rules.specs.Plan.{Plan}
 use Rattle.vz_check.specs.Verdict.{IsVerdict}
 use Rattle.vz_check.specs.declared.verdict.Verdict.{Verdict}
 use Rattle.vz_inputs.specs.Refusals.{plan_read}
-use Rattle.vz_rules.specs.Command.{Word, Command, Run, Step, Check, Gen}
+use Rattle.vz_rules.specs.Command.{Word, Command, Run, Step, Check, Gen, Hit}
 use Rattle.vz_rules.specs.declared.entry.Event.{Event}
 use Rattle.vz_rules.specs.declared.entry.Entry.{Entry}
 use Rattle.vz_rules.specs.Step.{Legal}
@@ -68,6 +68,11 @@ outputs_of (Step w h schedule frames log files) p history =
 outputs_of (Gen n first second third) p history = named_files (first ∷ second ∷ third ∷ []) (make n)
 outputs_of _ p history = []
 
+-- how many points a command paints for a history of a plan; `hit` paints none
+abbrev pub points_of : Command → Plan → List Entry → ℕ
+points_of (Hit w h schedule x y files) p history = 0
+points_of c p history = painted p history (buffers_of c)
+
 -- this is the right verdict on a log and its frames
 abbrev pub IsSaid : Plan → List (List ℕ) → List (List ℕ) → Verdict → Type 0
 IsSaid p (log ∷ []) (frames ∷ []) verdict = IsVerdict p log frames verdict
@@ -86,7 +91,7 @@ TellsEnd c i history line status = (line ≡ end_line c (plan_of c i) history) �
 pub record IsDone (c : Command) (i : Inputs) (h : List Entry) (before after : Site) : Type 0 where
   pub history : IsAsked c i h
   pub outputs : AreWhole (outputs_of c (plan_of c i) h) after.shelf
-  pub counted : after.steps ≡ before.steps + painted (plan_of c i) h (buffers_of c)
+  pub counted : after.steps ≡ before.steps + points_of c (plan_of c i) h
   pub whole : Honest (plan_of c i) h → written (plan_of c i) h (buffers_of c) ≡ frames (plan_of c i) h
 
 -- the work was cut short: a part of such a history happened, and the files have a front part of

@@ -8,6 +8,7 @@ pub mod Taken
 pub mod Causes
 pub mod Stops
 pub mod Stepped
+pub mod Scheduled
 pub mod Judged
 pub mod Made
 pub mod Ran

@@ -1,5 +1,5 @@
 -- The lines that are printed.
-use Rattle.std.specs.Prelude.{ℕ, codes, List, [], ◌++◌, length, count_by, sum_by}
+use Rattle.std.specs.Prelude.{ℕ, pos, nat_abs, Some, None, codes, List, [], ◌++◌, length, count_by, sum_by}
 use Rattle.vz_base.specs.declared.limits.TheConstants.{DEFAULT_BUFFERS}
 use Rattle.vz_codec.specs.declared.fault.FileRule.TheVariants as rule
 use Rattle.vz_check.specs.declared.verdict.What.{What}
@@ -9,12 +9,14 @@ use Rattle.vz_check.specs.declared.verdict.Verdict.TheVariants as verdict
 use Rattle.vz_inputs.specs.declared.refused.Reason.{Reason}
 use Rattle.vz_inputs.specs.declared.refused.Reason.TheVariants as reason
 use Rattle.vz_inputs.specs.declared.refused.Refused.{Refused}
-use Rattle.vz_rules.specs.Command.{Command, Run, Step, Gen, Demo}
+use Rattle.vz_rules.specs.Command.{Command, Run, Step, Gen, Demo, Hit}
 use Rattle.vz_rules.specs.declared.entry.Entry.{Entry}
 use Rattle.vz_rules.specs.Course.{is_drawn}
 use Rattle.vz_rules.specs.Frames.{painted}
+use Rattle.vz_rules.specs.Hit.{Target}
 use Rattle.vz_rules.specs.Log.{then_number}
 use Rattle.vz_rules.specs.Plan.{Plan}
+use Rattle.vz_rules.specs.Whole.{hit_last}
 use Rattle.vz_display.specs.Displayed.{upto_most}
 
 -- the number of drawn entries
@@ -35,6 +37,15 @@ unfoldable pub demo_text : ℕ → ℕ → ℕ → ℕ → List ℕ
 demo_text entries frames returns painted =
     codes "entries" ++ then_number entries ++ codes " frames" ++ then_number frames
     ++ codes " returns" ++ then_number returns ++ codes " painted" ++ then_number painted ++ codes "\n"
+
+-- what is hit: the client and the sink of the surface, its parent and child number and its token,
+-- and the point from its top left corner
+unfoldable pub hit_text : Target → List ℕ
+hit_text None = codes "hit none\n"
+hit_text (Some (id, local)) =
+    codes "hit" ++ then_number id.sink.client_id ++ then_number id.sink.sink_id ++ then_number id.local.parent
+    ++ then_number id.local.child ++ then_number id.local.token.0 ++ then_number (nat_abs local.x)
+    ++ then_number (nat_abs local.y) ++ codes "\n"
 
 -- the line that says that the files by rule are written
 unfoldable pub made_line : List ℕ
@@ -87,4 +98,5 @@ end_line (Gen n first second third) p history = made_line
 end_line (Demo n) p history =
     demo_text (length history) (drawn_count history) (upto_most (return_count history))
     (upto_most (painted p history DEFAULT_BUFFERS))
+end_line (Hit w h schedule x y files) p history = hit_text (hit_last p history (record { x = pos x; y = pos y }))
 end_line _ p history = []

@@ -5,6 +5,8 @@ mod coursing;
 mod demo;
 mod end;
 mod events;
+mod given;
+mod hit;
 mod judging;
 mod lines;
 mod make;

@@ -1,15 +1,18 @@
 //! The lines that the commands print.
-ghost use Rattle.std.specs.Prelude.{◌≡◌, ◌+◌, IfOk, string_bytes, length};
+ghost use Rattle.std.specs.Prelude.{◌≡◌, ◌+◌, Some, None, IfOk, string_bytes, length};
 ghost use Rattle.vz_check.specs.declared.verdict.Verdict.TheVariants as verdicts;
 ghost use Rattle.vz_display.specs.Displayed.{upto_most};
 ghost use Rattle.vz_rules.specs.Course.{is_drawn};
-ghost use Rattle.viz_run.specs.Lines.{done_text, demo_text, refused_line, reason_text, made_line};
+ghost use Rattle.viz_run.specs.Lines.{done_text, demo_text, hit_text, refused_line, reason_text};
+ghost use Rattle.viz_run.specs.Lines.{made_line};
 ghost use Rattle.viz_run.specs.Lines.{drawn_count, return_count, verdict_line, what_text};
 
 use std::alloc::Global;
 use vz_base::Memory;
 use vz_check::{Verdict, What};
 use vz_codec::FileRule;
+use vz_geom::Point;
+use vz_ids::{EmbedToken, FrameSinkId, LocalSurfaceId, SurfaceId};
 use vz_inputs::{Reason, Refused};
 use vz_rules::{Entry, Reply};
 
@@ -18,6 +21,9 @@ pub const WORDS_LINE: &str = "words refused\n";
 
 /// The line if a log and its frames are those that the machine makes.
 const YES_LINE: &str = "yes\n";
+
+/// The line of `hit` if nothing is hit.
+const NOTHING_HIT_LINE: &str = "hit none\n";
 
 /// The line after the generated files are written.
 pub const MADE_LINE: &str = "made 3 files\n";
@@ -53,6 +59,53 @@ pub fn demo_line(alloc: Global, history: &[Entry], painted: u64) -> Result<Strin
     write!(text, " returns {returns}")?;
     write!(text, " painted {painted}")?;
     text.push_str("\n")?;
+    Ok(text)
+}
+
+/// The line of `hit`: the surface with the point from its top left, or that nothing is hit.
+pub fn hit_line(alloc: Global, hit: &Option<(SurfaceId, Point)>) -> Result<String, Memory>
+    ensures { IfOk result (λ text. string_bytes text ≡ hit_text hit.now) }
+{
+    match hit {
+        Some((id, local)) => surface_text(alloc, id, *local),
+        None => nothing_text(alloc),
+    }
+}
+
+/// The line if a surface is hit: its client and sink, the numbers and the token of its local id,
+/// and the point from its top left.
+#[tactic(auto, unfolding(crate::specs::Lines::hit_text))]
+fn surface_text(alloc: Global, id: &SurfaceId, local: Point) -> Result<String, Memory>
+    ensures { IfOk result (λ text. string_bytes text ≡ hit_text (Some (id.now, local))) }
+{
+    let FrameSinkId { client_id, sink_id } = id.sink;
+    let LocalSurfaceId {
+        parent,
+        child,
+        token,
+    } = id.local;
+    let EmbedToken(token) = token;
+    let x = local.x.unsigned_abs();
+    let y = local.y.unsigned_abs();
+    let mut text = String::new(alloc);
+    write!(text, "hit {client_id}")?;
+    write!(text, " {sink_id}")?;
+    write!(text, " {parent}")?;
+    write!(text, " {child}")?;
+    write!(text, " {token}")?;
+    write!(text, " {x}")?;
+    write!(text, " {y}")?;
+    text.push_str("\n")?;
+    Ok(text)
+}
+
+/// The line if nothing is hit.
+#[tactic(auto, unfolding(crate::specs::Lines::hit_text))]
+fn nothing_text(alloc: Global) -> Result<String, Memory>
+    ensures { IfOk result (λ text. string_bytes text ≡ hit_text None) }
+{
+    let mut text = String::new(alloc);
+    text.push_str(NOTHING_HIT_LINE)?;
     Ok(text)
 }
 

@@ -11,6 +11,7 @@ ghost use Rattle.viz_run.specs.declared.stop.Stop.TheVariants as stops;
 
 use crate::demo::demo;
 use crate::end::End;
+use crate::hit::hit;
 use crate::judging::check_log;
 use crate::make::make_files;
 use crate::running::run;
@@ -73,7 +74,7 @@ where
             line: demo(rt.alloc(), rounds, gate, steps, history)?,
             status: 0,
         }),
-        Some(Command::Hit(_)) => Err(Stop::Words),
+        Some(Command::Hit(words)) => hit(rt, &words, shelf, gate, history),
         Some(Command::Turns(_)) => Err(Stop::Words),
         None => Err(Stop::Words),
     }

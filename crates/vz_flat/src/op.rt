@@ -99,6 +99,14 @@ impl Ops {
         self.list.as_slice()
     }
 
+    /// The operations as a list, from back to front. It takes no memory.
+    pub fn into_list(self) -> List<Op>
+        ensures value { result ≡ self }
+        ensures whole { IsTrue (is_whole self) }
+    {
+        self.list
+    }
+
     /// The greatest number of groups that are open at once. A painter needs that many rows of
     /// colours besides its own.
     pub fn deepest(&self) -> u32

@@ -1,5 +1,7 @@
 -- What a step of a machine returns and how it changes its world.
-use Rattle.std.specs.Prelude.{◌≡◌, ℕ, Bool, false, Option, Some, None, length}
+use Rattle.std.specs.Prelude.{◌≡◌, ℕ, Bool, false, Option, Some, None, length, IsTrue}
+use Rattle.vz_geom.specs.declared.Point.{Point}
+use Rattle.vz_geom.specs.Rectangle.{has, sized}
 use Rattle.vz_frame.specs.declared.message.Message.{Message}
 use Rattle.vz_frame.specs.declared.message.Message.TheVariants.{Submit}
 use Rattle.vz_rules.specs.declared.entry.Event.{Event}
@@ -17,6 +19,10 @@ use Rattle.vz_machine.specs.declared.machine.Step.{Step}
 -- the plan has a client with this number
 abbrev pub HasClient : Machine → ℕ → Type 0
 HasClient m c = NamesClient m.plan (event.Client c)
+
+-- a point is on the display of the plan
+abbrev pub IsOnDisplay : Machine → Point → Type 0
+IsOnDisplay m p = IsTrue (has (sized m.plan.size) p)
 
 -- a step returns what the definitions answer
 pub record Answers (m : Machine) (e : Event) (s : Step) : Type 0 where

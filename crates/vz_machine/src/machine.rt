@@ -5,11 +5,15 @@ ghost use Rattle.vz_rules.specs.declared.entry.Event.TheVariants.{Client, Begin,
 ghost use Rattle.vz_rules.specs.World.{Machine as State};
 ghost use Rattle.vz_rules.specs.Course.{some_waits};
 ghost use Rattle.vz_rules.specs.Log.{rest_in};
-ghost use Rattle.vz_machine.specs.Stepping.{Answers, Goes, HasClient, waits_at, idle_at, answered_at, attached_at, listed_at, ShowsDrawn};
+ghost use Rattle.vz_rules.specs.Whole.{hit_in};
+ghost use Rattle.vz_machine.specs.Stepping.{Answers, Goes, HasClient, IsOnDisplay, waits_at};
+ghost use Rattle.vz_machine.specs.Stepping.{idle_at, answered_at, attached_at, listed_at, ShowsDrawn};
 
 use crate::Picture;
 use std::alloc::Global;
 use vz_base::Memory;
+use vz_geom::Point;
+use vz_ids::SurfaceId;
 use vz_rules::{Effects, Reply, Rest};
 
 /// What an event is answered, and what follows from it.
@@ -99,6 +103,15 @@ pub trait Machine {
     /// Whether some submission waits to become active.
     fn waiting(&self) -> bool
         ensures { result ≡ some_waits (state self.now).world };
+
+    /// What is hit at a point, in pixels from the top left of the display: the topmost surface
+    /// there in the scene that a drawing would show if no frame were in flight, and the same point
+    /// from the top left of that surface. None if nothing is there, if nothing can be seen, or if
+    /// a drawing would answer TooMuch. An embedder sends an input event to the surface that it
+    /// hits. Condition: the point is on the display. The only error is `Memory`.
+    fn hit(&self, alloc: Global, p: Point) -> Result<Option<(SurfaceId, Point)>, Memory>
+        requires { IsOnDisplay (state self.now) p }
+        ensures { IfOk result (λ h. h ≡ hit_in (state self.now).plan (state self.now).world p) };
 
     /// What is outstanding: the references that were not given back, and the submissions without
     /// feedback. The only error is `Memory`.

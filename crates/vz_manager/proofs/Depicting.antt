@@ -78,10 +78,10 @@ module _ (p : Plan) (w : World) (root : Option SurfaceId) (size : Size) (v : Liv
   pub display_is : IsDisplaySize size
   display_is = subst IsDisplaySize h.sized_as h.plan.sizes
 
-  scene_is : (root : SurfaceId) (st : Stored) → st ≡ v.store → scene_in root st ≡ scene_from root w
+  pub scene_is : (root : SurfaceId) (st : Stored) → st ≡ v.store → scene_in root st ≡ scene_from root w
   scene_is root st e = ap (λ (l : List FrameData). record { root = root; active = l }) (frames_are st e)
 
-  walked_is : (root : SurfaceId) (st : Stored) → st ≡ v.store → walked_in size root st ≡ walk_of p.size (scene_from root w)
+  pub walked_is : (root : SurfaceId) (st : Stored) → st ≡ v.store → walked_in size root st ≡ walk_of p.size (scene_from root w)
   walked_is root st e = λ i. walk_of (sym h.sized_as i) (scene_is root st e i)
 
 module _ (p : Plan) (w : World) (root : SurfaceId) (size : Size) (v : Live) (h : IsShowing p w root size v) where

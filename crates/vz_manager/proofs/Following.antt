@@ -31,7 +31,7 @@ use Rattle.vz_live.specs.Living.{Live, AreLive}
 use Rattle.vz_live.specs.Changes.{KeepsHolding}
 use Rattle.vz_settling.specs.Settles.{AreSettling}
 use Rattle.vz_support.specs.Supporting.{Supported, IsSupport, Sends}
-use Rattle.vz_manager.specs.Serving.{Served, Serves, CanLand, IsStepOf, IsSending, HasNone, IsClosed}
+use Rattle.vz_manager.specs.Serving.{Served, Serves, CanLand, IsStepOf, IsSending, HasNone, IsClosed, IsRefused}
 
 -- Answers
 
@@ -50,11 +50,15 @@ unfolding answer_to client_answer known_client_answer
 none_answer p w c x h = ap (client_by p w) h.here ∙ ap (λ o. known_by w x o x.closed) h.none
 
 -- the client is closed
-pub closed_answer : (p : Plan) (w : World) (c : ℕ) (x : Client) (m : Message) → IsClosed p w c x m
+closed_answer : (p : Plan) (w : World) (c : ℕ) (x : Client) (m : Message) → IsClosed p w c x m
     → answer_to p w (event.Client c) ≡ refused w x refusal.AlreadyClosed
 unfolding answer_to client_answer known_client_answer
 closed_answer p w c x m h =
     ap (client_by p w) h.here ∙ (ap (λ o. known_by w x o x.closed) h.next ∙ ap (λ t. known_by w x (Some m) t) h.closed)
+
+pub closed_refused : (p : Plan) (w : World) (c : ℕ) (x : Client) (m : Message) → IsClosed p w c x m
+    → IsRefused p w c x m refusal.AlreadyClosed
+closed_refused p w c x m h = record { here = h.here; next = h.next; answer = closed_answer p w c x m h }
 
 -- the client is not closed
 pub sent_answer : (p : Plan) (w : World) (c : ℕ) (x : Client) (m : Message) → IsSending p w c x m

@@ -18,3 +18,4 @@ pub mod Taken_in
 pub mod Arrived_new
 pub mod Carried
 pub mod Crossing
+pub mod Hitting

@@ -6,3 +6,4 @@ pub mod Kinds
 pub mod Picturing
 pub mod Judging
 pub mod Submitted
+pub mod Hitting

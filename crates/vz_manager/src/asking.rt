@@ -1,11 +1,10 @@
 //! Questions about the machine between steps.
-ghost use Rattle.std.specs.Prelude.{◌≡◌, ◌≤◌, None, length, IfOk};
+ghost use Rattle.std.specs.Prelude.{◌≡◌, None, IfOk};
 ghost use Rattle.vz_rules.specs.Plan.{Plan};
-ghost use Rattle.vz_rules.specs.World.{World, Machine};
+ghost use Rattle.vz_rules.specs.World.{World};
 ghost use Rattle.vz_rules.specs.Course.{some_waits};
 ghost use Rattle.vz_rules.specs.Log.{rest_in};
 ghost use Rattle.vz_rules.specs.Kept.{Keeps, KeepsAlways};
-ghost use Rattle.vz_machine.specs.Stepping.{waits_at, idle_at, answered_at, attached_at, listed_at};
 ghost use Rattle.vz_live.specs.Living.{AreLive};
 ghost use Rattle.vz_manager.specs.Serving.{Serves};
 
@@ -42,54 +41,6 @@ fn unfed(alloc: Global, live: &LiveSurfaces) -> Result<List<Sub>, Memory>
 }
 
 impl Parts {
-    /// Whether a client's next reply would be NotYet. Condition: the client exists.
-    pub(crate) fn waits(&self, c: u32) -> bool
-        requires some { 1 ≤ c }
-        requires known { c ≤ length self.now.support.clients }
-        ensures { (m : Machine) → Serves m.plan m.world self.now → result ≡ waits_at m c }
-    {
-        self.support.waits(c)
-    }
-
-    /// Whether a client is idle: it is closed, has no message left, or its next reply would be
-    /// NotYet. Condition: the client exists.
-    pub(crate) fn idle(&self, c: u32) -> bool
-        requires some { 1 ≤ c }
-        requires known { c ≤ length self.now.support.clients }
-        ensures { (m : Machine) → Serves m.plan m.world self.now → result ≡ idle_at m c }
-    {
-        self.support.idle(c)
-    }
-
-    /// Whether a client has answered the current tick. Condition: the client exists.
-    pub(crate) fn answered(&self, c: u32) -> bool
-        requires some { 1 ≤ c }
-        requires known { c ≤ length self.now.support.clients }
-        ensures { (m : Machine) → Serves m.plan m.world self.now → result ≡ answered_at m c }
-    {
-        self.support.answered(c)
-    }
-
-    /// Whether a client is attached: the first client's sink reaches its sink. Condition: the
-    /// client exists.
-    pub(crate) fn attached(&self, c: u32) -> bool
-        requires some { 1 ≤ c }
-        requires known { c ≤ length self.now.support.clients }
-        ensures { (m : Machine) → Serves m.plan m.world self.now → result ≡ attached_at m c }
-    {
-        self.support.attached(c)
-    }
-
-    /// How many resources the next message of a client lists; 0 if it has no message left or that
-    /// is no submission. Condition: the client exists.
-    pub(crate) fn listed(&self, c: u32) -> u64
-        requires some { 1 ≤ c }
-        requires known { c ≤ length self.now.support.clients }
-        ensures { (m : Machine) → Serves m.plan m.world self.now → result ≡ listed_at m c }
-    {
-        self.support.listed(c)
-    }
-
     /// Whether some submission is waiting to become active.
     pub(crate) fn waiting(&self) -> bool
         ensures { (p : Plan) (w : World) → Serves p w self.now → result ≡ some_waits w }

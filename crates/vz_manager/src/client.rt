@@ -8,8 +8,10 @@ ghost use Rattle.vz_manager.specs.Serving.{Serves, IsStepOf};
 
 use crate::kind::{Kind, kind_of};
 use crate::parts::Parts;
+use crate::quiet::nothing_follows;
 use vz_base::Memory;
 use vz_machine::Step;
+use vz_rules::{Refusal, Reply};
 
 impl Parts {
     /// Takes the next message of a client. It returns `Memory` if an allocation fails; then the
@@ -29,8 +31,11 @@ impl Parts {
             → OnErr result (Serves p w self.new) }
     {
         match kind_of(&self.support, c) {
-            Kind::Nothing => Ok(self.no_message()),
-            Kind::Closed => Ok(self.refuse_closed(c)),
+            Kind::Nothing => {
+                let reply = Reply::Refused(Refusal::NoMessage);
+                Ok(nothing_follows(self.alloc, reply))
+            }
+            Kind::Closed => Ok(self.refuse(c, Refusal::AlreadyClosed)),
             Kind::Upload => self.upload(c),
             Kind::Submit => self.submit(c),
             Kind::DidNotProduce => Ok(self.did_not_produce(c)),

@@ -1,28 +1,52 @@
 //! A draw.
-ghost use Rattle.std.specs.Prelude.{◌≡◌, Some, None, IfOk, OnOk, OnErr};
-ghost use Rattle.vz_geom.specs.Rectangle.{Rectangle};
-ghost use Rattle.vz_ids.specs.declared.SurfaceId.{SurfaceId as Id};
+ghost use Rattle.std.specs.Prelude.{◌≡◌, ◌≤◌, IfOk, OnOk, OnErr};
 ghost use Rattle.vz_rules.specs.declared.entry.Event.TheVariants as event;
 ghost use Rattle.vz_rules.specs.Plan.{Plan};
 ghost use Rattle.vz_rules.specs.World.{World};
 ghost use Rattle.vz_rules.specs.Step.{step_in};
-ghost use Rattle.vz_live.specs.Drawing.{Measures, Flies};
+ghost use Rattle.vz_lending.specs.Lent.{resources_out};
+ghost use Rattle.vz_live.specs.Drawing.{IsShowing, Measures, Flies};
 ghost use Rattle.vz_manager.specs.Serving.{Serves, IsStepOf};
-ghost use Rattle.vz_manager.specs.Picturing.{IsPainted};
+ghost use Rattle.vz_manager.specs.Picturing.{LookLike, IsPainted};
 ghost use Rattle.vz_manager.specs.Showing.{IsToMeasure, IsToShow};
 
 use crate::parts::Parts;
 use crate::picture::{FlatPicture, operations, picture_of};
 use crate::quiet::nothing_follows;
+use std::alloc::Global;
 use vz_base::Memory;
 use vz_damage::Measured;
+use vz_flat::Ops;
 use vz_flight::Flight;
+use vz_frame::Room;
+use vz_geom::Size;
 use vz_ids::SurfaceId;
-use vz_live::Look;
+use vz_live::{LiveSurfaces, Look};
 use vz_machine::Step;
-use vz_rules::Reply;
+use vz_rules::{Reply, Returned};
 use vz_support::laws::support_stays_at_ends;
 use vz_waiting::laws::waiting_ones_stay;
+
+/// What a draw needs before it shows a frame, since it cannot be undone: the drawing operations,
+/// and room in `returned` for the end of the frame. The only error is `Memory`, if an allocation
+/// fails. Condition: a draw walks from this root.
+fn ready_to_show(
+    alloc: Global,
+    live: &LiveSurfaces,
+    root: &SurfaceId,
+    size: Size,
+    returned: &mut Room<Returned>,
+) -> Result<Ops, Memory>
+    requires shows { (p : Plan) × (w : World) × IsShowing p w root.now size live.now }
+    ensures look { (p : Plan) (w : World) → IsShowing p w root.now size live.now
+        → IfOk result (λ ops. LookLike p w ops) }
+    ensures list { returned.new.list ≡ returned.old.list }
+    ensures room { OnOk result (resources_out live.now.lent ≤ returned.new.spare) }
+{
+    live.make_room(0, returned)?;
+    let ops = operations(alloc, live, root, size)?;
+    Ok(ops)
+}
 
 impl Parts {
     /// Draws from the root, with a picture if something is drawn. The only error is `Memory`, if
@@ -92,48 +116,17 @@ impl Parts {
         ensures err { (p : Plan) (w : World) → Serves p w self.old
             → OnErr result (Serves p w self.new) }
     {
+        waiting_ones_stay();
+        support_stays_at_ends();
         let Some(damage) = measured.changed() else {
-            self.leave(measured);
+            self.settling.live.leave(measured);
             return Ok((nothing_follows(self.alloc, Reply::Unchanged), None));
         };
         let size = self.size;
-        let ops = operations(self.alloc, &self.settling.live, root, size)?;
-        self.show(measured, flight)?;
+        let live = &self.settling.live;
+        let ops = ready_to_show(self.alloc, live, root, size, &mut self.returned)?;
+        self.settling.live.show(measured, flight, &mut self.fed)?;
         let step = nothing_follows(self.alloc, Reply::Drawn(damage));
         Ok((step, Some(picture_of(size, ops, damage))))
-    }
-
-    /// Ends a draw that walked and found no change: the measured aggregation is remembered. It
-    /// allocates nothing.
-    fn leave(&mut self, measured: Measured)
-        ensures serves { (p : Plan) (w : World) (root : Id) → IsToShow p w root self.old
-            → Measures root self.old.size self.old.settling.live measured
-            → measured.changed ≡ None → Serves p (step_in p w event.Draw).world self.new }
-    {
-        waiting_ones_stay();
-        support_stays_at_ends();
-        self.settling.live.leave(measured);
-    }
-
-    /// Ends a draw that walked and found a change: the frame is drawn, and there is room for its
-    /// end. Condition: the draw walked from a root, and `measure` found this.
-    ///
-    /// The only error is `Memory`, if an allocation fails; then the state does not change.
-    fn show(&mut self, measured: Measured, flight: Flight) -> Result<(), Memory>
-        requires shows { (p : Plan) × (w : World) × (root : Id) × IsToShow p w root self.old
-            × Flies root self.old.size self.old.settling.live flight }
-        ensures serves { (p : Plan) (w : World) (root : Id) (damage : Rectangle)
-            → IsToShow p w root self.old → Flies root self.old.size self.old.settling.live flight
-            → Measures root self.old.size self.old.settling.live measured
-            → measured.changed ≡ Some damage
-            → OnOk result (Serves p (step_in p w event.Draw).world self.new) }
-        ensures err { (p : Plan) (w : World) → Serves p w self.old
-            → OnErr result (Serves p w self.new) }
-    {
-        waiting_ones_stay();
-        support_stays_at_ends();
-        self.settling.live.make_room(0, &mut self.returned)?;
-        self.settling.live.show(measured, flight, &mut self.fed)?;
-        Ok(())
     }
 }

@@ -6,23 +6,18 @@ ghost use Rattle.vz_ids.specs.declared.LocalSurfaceId.{LocalSurfaceId as Local};
 ghost use Rattle.vz_ids.specs.Ids.{is_raised};
 ghost use Rattle.vz_frame.specs.declared.frame.CompositorFrame.{CompositorFrame as Frame};
 ghost use Rattle.vz_frame.specs.declared.message.Message.TheVariants.{Submit};
-ghost use Rattle.vz_rules.specs.declared.entry.Event.TheVariants as event;
 ghost use Rattle.vz_rules.specs.Plan.{Plan};
 ghost use Rattle.vz_rules.specs.World.{World, Client, client_at, next_message};
 ghost use Rattle.vz_rules.specs.Settle.{is_met};
-ghost use Rattle.vz_rules.specs.Step.{step_in};
 ghost use Rattle.vz_live.specs.Asking.{violates_named, has_other_size_named};
 ghost use Rattle.vz_support.specs.Supporting.{IsNext, IsSupport};
-ghost use Rattle.vz_manager.specs.Serving.{Serves, IsStepOf, IsSending};
 ghost use Rattle.vz_manager.specs.Judging.{shape_refusal, refusal_in, deadline_of, AreAsked};
 
-use crate::parts::Parts;
 use vz_base::limits::DEFAULT_DEADLINE;
 use vz_frame::{CompositorFrame, Message, Room, check};
 use vz_geom::Size;
 use vz_ids::{LocalSurfaceId, SurfaceId};
 use vz_live::LiveSurfaces;
-use vz_machine::Step;
 use vz_rules::Refusal;
 use vz_support::Support;
 
@@ -167,24 +162,4 @@ pub(crate) fn due(tick: u32, frame: &CompositorFrame) -> u32
     ensures { result ≡ tick + deadline_of frame.now }
 {
     tick + u32::from(frame.metadata.deadline.unwrap_or(DEFAULT_DEADLINE))
-}
-
-impl Parts {
-    /// Refuses a client's submission for a reason: it is taken, and nothing else changes.
-    /// Conditions: the client exists, and its next message is a submission.
-    pub(crate) fn refuse_submission(&mut self, c: u32, refusal: Refusal) -> Step
-        requires some { 1 ≤ c }
-        requires known { c ≤ length self.old.support.clients }
-        requires next { (local : Local) × (frame : Frame)
-            × IsNext self.old.support c (Submit local frame) }
-        ensures step { (p : Plan) (w : World) (x : Client) (local : Local) (frame : Frame)
-            → Serves p w self.old → IsSending p w c x (Submit local frame)
-            → refusal_in w x local frame ≡ Some refusal → IsStepOf p w (event.Client c) result }
-        ensures serves { (p : Plan) (w : World) (x : Client) (local : Local) (frame : Frame)
-            → Serves p w self.old → IsSending p w c x (Submit local frame)
-            → refusal_in w x local frame ≡ Some refusal
-            → Serves p (step_in p w (event.Client c)).world self.new }
-    {
-        self.refuse(c, refusal)
-    }
 }

@@ -20,6 +20,7 @@ mod outcome;
 mod parts;
 mod picture;
 mod quiet;
+mod regions;
 mod room;
 mod submitting;
 

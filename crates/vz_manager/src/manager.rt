@@ -1,14 +1,23 @@
 //! The incremental machine, as an implementation of the trait `Machine`.
-ghost use Rattle.std.specs.Prelude.{◌≡◌, IfOk};
+ghost use Rattle.std.specs.Prelude.{◌≡◌, ◌↔◌, false, None, IfOk};
+ghost use Rattle.vz_geom.specs.declared.Point.{Point as DisplayPoint};
+ghost use Rattle.vz_geom.specs.Rectangle.{has, sized};
 ghost use Rattle.vz_rules.specs.World.{opening};
+ghost use Rattle.vz_rules.specs.Whole.{drawable_in, hit_in};
+ghost use Rattle.vz_machine.specs.Stepping.{IsOnDisplay};
+ghost use Rattle.vz_manager.specs.Hitting.{found_in};
 
 use crate::parts::Parts;
 use crate::picture::FlatPicture;
+use crate::regions::hit_in_regions;
 use std::alloc::Global;
 use std::marker::Model;
 use std::snapshot::Snapshot;
 use vz_base::Memory;
+use vz_geom::Point;
 use vz_ghost::GhostList;
+use vz_hit::Regions;
+use vz_ids::SurfaceId;
 use vz_machine::{Machine, Step};
 use vz_rules::{Event, Plan, Rest};
 
@@ -53,6 +62,24 @@ impl Manager {
             told: GhostList::new(),
         })
     }
+
+    /// The regions of the display in which surfaces are hit, from front to back, in the scene that
+    /// a drawing would show if no frame were in flight. None exactly if that drawing would answer
+    /// NoRoot or TooMuch. An embedder keeps the regions of a drawing, and sends each input event
+    /// to the surface that `Regions::find` names at its point: no walk is needed for an event. The
+    /// only error is `Memory`, if an allocation fails.
+    ///
+    /// At each point of the display they answer what `hit` answers, and outside it nothing.
+    pub fn regions(&self, alloc: Global) -> Result<Option<Regions>, Memory>
+        ensures none { IfOk result (λ r. (r ≡ None)
+            ↔ (drawable_in self.now.plan self.now.world ≡ None)) }
+        ensures hit { (p : DisplayPoint) → IsOnDisplay self.now p
+            → IfOk result (λ r. found_in r p ≡ hit_in self.now.plan self.now.world p) }
+        ensures outside { (p : DisplayPoint) → has (sized self.now.plan.size) p ≡ false
+            → IfOk result (λ r. found_in r p ≡ None) }
+    {
+        self.parts.regions(alloc)
+    }
 }
 
 impl Machine for Manager {
@@ -91,27 +118,34 @@ impl Machine for Manager {
     }
 
     fn waits(&self, c: u32) -> bool {
-        self.parts.waits(c)
+        self.parts.support.waits(c)
     }
 
     fn idle(&self, c: u32) -> bool {
-        self.parts.idle(c)
+        self.parts.support.idle(c)
     }
 
     fn answered(&self, c: u32) -> bool {
-        self.parts.answered(c)
+        self.parts.support.answered(c)
     }
 
     fn attached(&self, c: u32) -> bool {
-        self.parts.attached(c)
+        self.parts.support.attached(c)
     }
 
     fn listed(&self, c: u32) -> u64 {
-        self.parts.listed(c)
+        self.parts.support.listed(c)
     }
 
     fn waiting(&self) -> bool {
         self.parts.waiting()
+    }
+
+    fn hit(&self, alloc: Global, p: Point) -> Result<Option<(SurfaceId, Point)>, Memory> {
+        match self.regions(alloc)? {
+            None => Ok(None),
+            Some(regions) => Ok(hit_in_regions(&regions, p)),
+        }
     }
 
     fn rest(&self, alloc: Global) -> Result<Rest, Memory> {

@@ -11,8 +11,7 @@ ghost use Rattle.vz_rules.specs.World.{World, Client, client_at, next_message};
 ghost use Rattle.vz_rules.specs.Step.{step_in};
 ghost use Rattle.vz_rules.specs.Kept.{no_effects};
 ghost use Rattle.vz_support.specs.Supporting.{IsNext, IsSupport};
-ghost use Rattle.vz_manager.specs.Serving.{Serves, IsStepOf, IsSending, HasNone, IsClosed};
-ghost use Rattle.vz_manager.specs.Serving.{IsRefused};
+ghost use Rattle.vz_manager.specs.Serving.{Serves, IsStepOf, IsSending, IsRefused};
 
 use crate::parts::Parts;
 use std::alloc::Global;
@@ -60,16 +59,6 @@ fn uploaded(support: &Support, c: u32) -> u32
 }
 
 impl Parts {
-    /// The step of a client that has no message left. Nothing changes.
-    pub(crate) fn no_message(&self) -> Step
-        ensures step { (p : Plan) (w : World) (c : ℕ) (x : Client) → Serves p w self.now
-            → HasNone p w c x → IsStepOf p w (event.Client c) result }
-        ensures serves { (p : Plan) (w : World) (c : ℕ) (x : Client) → Serves p w self.now
-            → HasNone p w c x → Serves p (step_in p w (event.Client c)).world self.now }
-    {
-        nothing_follows(self.alloc, Reply::Refused(Refusal::NoMessage))
-    }
-
     /// Refuses a client's next message for a reason: it is taken, and nothing else changes.
     /// Conditions: the client exists, and it has a message.
     pub(crate) fn refuse(&mut self, c: u32, refusal: Refusal) -> Step
@@ -86,20 +75,6 @@ impl Parts {
         waiting_ones_stay();
         self.support.refuse(c);
         nothing_follows(self.alloc, Reply::Refused(refusal))
-    }
-
-    /// Refuses the next message of a closed client. Conditions: the client exists, and it has a
-    /// message.
-    pub(crate) fn refuse_closed(&mut self, c: u32) -> Step
-        requires some { 1 ≤ c }
-        requires known { c ≤ length self.old.support.clients }
-        requires next { (m : Sent) × IsNext self.old.support c m }
-        ensures step { (p : Plan) (w : World) (x : Client) (m : Sent) → Serves p w self.old
-            → IsClosed p w c x m → IsStepOf p w (event.Client c) result }
-        ensures serves { (p : Plan) (w : World) (x : Client) (m : Sent) → Serves p w self.old
-            → IsClosed p w c x m → Serves p (step_in p w (event.Client c)).world self.new }
-    {
-        self.refuse(c, Refusal::AlreadyClosed)
     }
 
     /// A client answers a begin-frame without a frame (`DidNotProduceFrame`). Conditions: the

@@ -261,7 +261,7 @@ impl Parts {
             → OnErr result (Serves p w self.new) }
     {
         match self.judge(c) {
-            Some(refusal) => Ok(self.refuse_submission(c, refusal)),
+            Some(refusal) => Ok(self.refuse(c, refusal)),
             None => self.accept(c),
         }
     }

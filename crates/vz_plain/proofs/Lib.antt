@@ -1,2 +1,3 @@
 pub mod Pointing
 pub mod Filling
+pub mod Searching

@@ -2,3 +2,4 @@ pub mod Paths
 pub mod Points
 pub mod Painting
 pub mod Shown
+pub mod Finding

@@ -44,7 +44,7 @@ impl<'b, 'i, 'a> Model for Painter<'b, 'i, 'a> {
 }
 
 /// Whether a point is inside the size of a submitted frame.
-fn is_inside(submitted: &SubmittedFrame<'_>, point: Point) -> bool
+pub(crate) fn is_inside(submitted: &SubmittedFrame<'_>, point: Point) -> bool
     ensures { result ≡ has (sized (frame_size submitted.now.frame)) point }
 {
     match submitted.frame().root_pass() {
@@ -88,7 +88,7 @@ fn is_in_clip(clip: &Option<Rect>, point: Point) -> bool
 
 /// The point relative to the top left point of a quad's rectangle, if the quad covers it.
 #[tactic(auto, unfolding(vz_rules::specs::Paint::covers))]
-fn point_of(pass: &RenderPass, quad: &DrawQuad, point: Point) -> Option<Point>
+pub(crate) fn point_of(pass: &RenderPass, quad: &DrawQuad, point: Point) -> Option<Point>
     ensures { MatchOption result (covers pass.now quad.now point ≡ false)
         (λ l. (covers pass.now quad.now point ≡ true)
         × (l ≡ local_point quad.now point) × IsClose l) }

@@ -6,6 +6,8 @@ use crate::picture::picture_of;
 use std::alloc::Global;
 use std::marker::Model;
 use vz_base::Memory;
+use vz_geom::Point;
+use vz_ids::SurfaceId;
 use vz_machine::{Machine, PixelPicture, Step};
 use vz_rules::{Event, Plan, Rest};
 use vz_slow::Slow;
@@ -89,6 +91,10 @@ impl<'a> Machine for PlainMachine<'a> {
 
     fn waiting(&self) -> bool {
         self.slow.waiting()
+    }
+
+    fn hit(&self, _alloc: Global, p: Point) -> Result<Option<(SurfaceId, Point)>, Memory> {
+        self.slow.hit(p)
     }
 
     fn rest(&self, _alloc: Global) -> Result<Rest, Memory> {

@@ -2,3 +2,4 @@ mod Undrawn
 mod Counting
 pub mod Frames
 mod Playing
+mod Testing

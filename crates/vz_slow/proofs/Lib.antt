@@ -8,6 +8,7 @@ pub mod Named
 pub mod Returning
 pub mod Following
 pub mod Drawing
+pub mod Hitting
 pub mod Reaching
 pub mod Replaying
 pub mod Asked_once

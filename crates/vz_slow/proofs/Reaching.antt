@@ -1,5 +1,6 @@
 -- The worlds that a plan leads to: the first one, each next one, and how small their numbers are.
-use Rattle.std.proofs.Common.{◌≡◌, Bool, true, false, Option, Some, None, is_some, List, [], refl, sym, ap, ◌∙◌, subst}
+use Rattle.std.proofs.Common.{◌≡◌, ℕ, ◌+◌, ◌==◌, ◌&&◌, ◌++◌, ◌∷◌, not, map, filter, Bool, true, false, Option, Some, None, is_some, List, [], refl, sym, ap, ◌∙◌, subst}
+use Rattle.std.specs.List.{flat_map, filter_map}
 use Rattle.vz_ids.specs.declared.Sub.{Sub}
 use Rattle.vz_frame.specs.Roomy.{Roomy}
 use Rattle.vz_rules.specs.Plan.{Plan, IsPlan}
@@ -11,7 +12,9 @@ use Rattle.vz_rules.specs.declared.entry.Effects.{Effects}
 use Rattle.vz_rules.specs.declared.entry.Lost.{Lost}
 use Rattle.vz_rules.specs.declared.entry.Returned.{Returned}
 use Rattle.vz_rules.specs.declared.entry.Fed.{Fed}
-use Rattle.vz_rules.specs.World.{World, Machine, opening, active_frames}
+use Rattle.vz_frame.specs.declared.message.ClientFile.{ClientFile}
+use Rattle.vz_rules.specs.World.{World, Machine, Client, Submission, opening, active_frames, new_clients, sub_of}
+use Rattle.vz_rules.specs.Log.{held_resource, unfed_of, rest_in}
 use Rattle.vz_rules.specs.Kept.{Keeps, no_effects}
 use Rattle.vz_rules.specs.Ends.{landed}
 use Rattle.vz_rules.specs.Returns.{give_back, returned_in, feed, fed_in}
@@ -162,3 +165,17 @@ opening_done p over e is none =
 pub opening_frames : (p : Plan) (over : Bool) → active_frames (record (opening p) { over = over }).subs ≡ []
 unfolding opening
 opening_frames p over = refl
+
+nothing_held : (n : ℕ) (files : List ClientFile) → flat_map (λ (c : Client). filter_map (held_resource c.number) c.resources) (new_clients n files) ≡ []
+nothing_held n [] = refl
+nothing_held n (file ∷ files) = nothing_held (n + 1) files
+
+nothing_unfed : (w : World) (n : ℕ) (files : List ClientFile) → w.subs ≡ [] → flat_map (unfed_of w) (new_clients n files) ≡ []
+nothing_unfed w n [] e = refl
+nothing_unfed w n (file ∷ files) e =
+    ap (λ l. map sub_of (filter (λ (s : Submission). (s.submitted.sub.client == n) && not s.fed) l) ++ flat_map (unfed_of w) (new_clients (n + 1) files)) e ∙ nothing_unfed w (n + 1) files e
+
+-- and nothing is outstanding
+pub opening_rest : (p : Plan) (over : Bool) → rest_in (record (opening p) { over = over }) ≡ record { held = []; unfed = [] }
+unfolding rest_in opening
+opening_rest p over = λ i. record { held = nothing_held 1 p.files i; unfed = nothing_unfed (record (opening p) { over = over }) 1 p.files refl i }

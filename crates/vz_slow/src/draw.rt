@@ -1,16 +1,21 @@
 //! A draw: what is drawn, or why nothing is.
 ghost use Rattle.std.specs.Prelude.{◌≡◌, ◌&&◌, is_some, IfOk};
+ghost use Rattle.vz_geom.specs.Display.{IsDisplaySize};
 ghost use Rattle.vz_geom.specs.Rectangle.{is_empty_rect};
+ghost use Rattle.vz_rules.specs.Damage.{drawn_damage};
 ghost use Rattle.vz_rules.specs.Messages.{says};
-ghost use Rattle.vz_rules.specs.Step.{scene_answer, draw_answer};
+ghost use Rattle.vz_rules.specs.Step.{accepted_frames as accepted_in, scene_answer, draw_answer};
+ghost use Rattle.vz_slow.specs.Drawn.{shown_by, walked_answer};
 
 use crate::world::World;
 use std::alloc::AllocError;
 use vz_frame::List;
-use vz_geom::Rect;
-use vz_ids::SurfaceId;
+use vz_geom::{Rect, Size};
+use vz_ids::{Sub, SurfaceId};
 use vz_rules::{Plan, Reply};
-use vz_scene::{ActiveFrames, Aggregation, drawn_damage, remember, walk_of, walked_subs};
+use vz_scene::{
+    ActiveFrames, Aggregation, SubmittedFrame, Visit, drawn_damage, remember, walk_of, walked_subs,
+};
 use vz_state::{accepted_frames, active_frames};
 
 /// Whether there was an aggregation before and the damage is empty.
@@ -24,6 +29,55 @@ fn is_unchanged(last: &Option<Aggregation>, damage: &Rect) -> bool
 }
 
 impl<'a> World<'a> {
+    /// The damage of what a walk visits. Condition: the size is that of a display.
+    fn damage(
+        &self,
+        size: Size,
+        root: &SurfaceId,
+        visits: &[Visit<'_, '_>],
+    ) -> Result<Rect, AllocError>
+        requires { IsDisplaySize size }
+        ensures { IfOk result (λ r. r ≡ drawn_damage size self.now.last
+            (accepted_in self.now) root.now visits.now) }
+    {
+        let accepted = accepted_frames(self.alloc, &self.subs)?;
+        Ok(drawn_damage(self.alloc, size, &self.last, &accepted, root, visits)?)
+    }
+
+    /// Remembers an aggregation, and draws its submissions unless nothing has changed since the
+    /// one before.
+    fn show(&mut self, damage: Rect, aggregation: Aggregation, subs: Vec<Sub>) -> Reply
+        ensures { says result self.new
+            ≡ shown_by self.old damage aggregation subs.items }
+    {
+        let unchanged = is_unchanged(&self.last, &damage);
+        self.last = Some(aggregation);
+        if unchanged {
+            return Reply::Unchanged;
+        }
+        self.in_flight = Some(List::from_vec(subs));
+        Reply::Drawn(damage)
+    }
+
+    /// Draws what a walk visits. Condition: the size is that of a display.
+    #[tactic(auto, unfolding(vz_rules::specs::Walk::walked_subs))]
+    fn draw_walked(
+        &mut self,
+        size: Size,
+        root: SurfaceId,
+        active: &[SubmittedFrame<'a>],
+        visits: &[Visit<'_, 'a>],
+    ) -> Result<Reply, AllocError>
+        requires { IsDisplaySize size }
+        ensures { IfOk result (λ r. says r self.new ≡ walked_answer size self.old
+            (record { root = root; active = active.now }) visits.now) }
+    {
+        let damage = self.damage(size, &root, visits)?;
+        let aggregation = remember(self.alloc, root, active, visits)?;
+        let subs = walked_subs(self.alloc, active, visits)?;
+        Ok(self.show(damage, aggregation, subs))
+    }
+
     /// Draws a scene, or says why nothing is drawn.
     fn draw_scene(
         &mut self,
@@ -38,19 +92,8 @@ impl<'a> World<'a> {
         match walk_of(self.alloc, active, &root, size)? {
             None => Ok(Reply::TooMuch),
             Some(walked) => {
-                let visits = walked.visits();
-                let accepted = accepted_frames(self.alloc, &self.subs)?;
-                let damage = drawn_damage(self.alloc, size, &self.last, &accepted, &root, visits)?;
                 let active = active.as_slice();
-                let aggregation = remember(self.alloc, root, active, visits)?;
-                let subs = walked_subs(self.alloc, active, visits)?;
-                if is_unchanged(&self.last, &damage) {
-                    self.last = Some(aggregation);
-                    return Ok(Reply::Unchanged);
-                }
-                self.last = Some(aggregation);
-                self.in_flight = Some(List::from_vec(subs));
-                Ok(Reply::Drawn(damage))
+                Ok(self.draw_walked(size, root, active, walked.visits())?)
             }
         }
     }

@@ -12,6 +12,7 @@ mod copy;
 mod display;
 mod draw;
 mod drawn;
+mod hits;
 mod laws;
 mod messages;
 mod naming;

@@ -30,11 +30,13 @@ impl<'a> World<'a> {
         ensures { IfOk result (λ v. v.items
             ≡ map (λ c. c.id) (filter (is_temporary self.now) self.now.surfaces)) }
     {
-        self.surfaces
-            .iter()
-            .filter(|surface| self.is_temporary(surface))
-            .map(|surface| surface.id())
-            .collect(self.alloc)
+        let mut ids = Vec::new(self.alloc);
+        for surface in &self.surfaces {
+            if self.is_temporary(surface) {
+                ids.push(surface.id())?;
+            }
+        }
+        Ok(ids)
     }
 
     /// The root, if it exists; otherwise none.

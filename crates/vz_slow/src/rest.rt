@@ -1,5 +1,5 @@
 //! The opening world, and what is outstanding at the end.
-ghost use Rattle.std.specs.Prelude.{◌≡◌, IfOk};
+ghost use Rattle.std.specs.Prelude.{◌≡◌, ◌++◌, IfOk, OnOk};
 ghost use Rattle.std.specs.List.{flat_map};
 ghost use Rattle.vz_rules.specs.World.{opening};
 ghost use Rattle.vz_rules.specs.Log.{unfed_of, rest_in};
@@ -32,15 +32,17 @@ impl<'a> World<'a> {
         })
     }
 
-    /// The submissions of a client that have no feedback yet, by ordinal.
-    fn unfed_of(&self, client: &Client<'_>) -> Result<Vec<Sub>, AllocError>
-        ensures { IfOk result (λ v. v.items ≡ unfed_of self.now client.now) }
+    /// Appends the submissions of a client that have no feedback yet, by ordinal.
+    fn add_unfed(&self, client: &Client<'_>, unfed: &mut Vec<Sub>) -> Result<(), AllocError>
+        ensures { OnOk result (unfed.new.items
+            ≡ unfed.old.items ++ unfed_of self.now client.now) }
     {
-        self.subs
-            .iter()
-            .filter(|submission| submission.is_unfed(client.number()))
-            .map(|submission| submission.sub())
-            .collect(self.alloc)
+        for submission in &self.subs {
+            if submission.is_unfed(client.number()) {
+                unfed.push(submission.sub())?;
+            }
+        }
+        Ok(())
     }
 
     /// The submissions of these clients that have no feedback yet, by client and ordinal.
@@ -49,8 +51,7 @@ impl<'a> World<'a> {
     {
         let mut all = Vec::new(self.alloc);
         for client in clients {
-            let mut some = self.unfed_of(client)?;
-            all.append(&mut some)?;
+            self.add_unfed(client, &mut all)?;
         }
         Ok(all)
     }

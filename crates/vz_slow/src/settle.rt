@@ -1,7 +1,8 @@
 //! Activation, in rounds.
-ghost use Rattle.std.specs.Prelude.{◌≡◌, ◌==◌, ◌&&◌, nat_lt, map, [], length, IsTrue, IfOk, OnOk};
+ghost use Rattle.std.specs.Prelude.{◌≡◌, ◌==◌, ◌&&◌, ◌++◌, ◌∷◌, nat_lt, map, [], cond, length, IsTrue, IsFalse, IfOk, OnOk};
 ghost use Rattle.std.specs.List.{list_any, list_all};
 ghost use Rattle.vz_ids.specs.Ids.{same_surface};
+ghost use Rattle.vz_rules.specs.World.{sub_of};
 ghost use Rattle.vz_rules.specs.Settle.{is_met, has_come, is_ready, ready, round, settle, activated_in};
 ghost use Rattle.vz_state.specs.Rising.{risen_of, AreSigns, IsMetBy};
 
@@ -68,39 +69,47 @@ impl<'w, 'a> Round<'w, 'a> {
         submission.is_waiting() && self.has_come(submission)
     }
 
-    /// The submissions that become active in the round.
-    #[tactic(auto, unfolding(vz_rules::specs::Settle::ready))]
-    fn risen(&self) -> Result<Vec<Risen>, AllocError>
-        ensures { IfOk result (λ v. v.items
-            ≡ map (risen_of self.now.surfaces) (ready self.now)) }
+    /// Notes whether a submission becomes active in the round, and if so, what it is.
+    fn note(
+        &self,
+        submission: &Submission<'_>,
+        becomes: &mut Vec<bool>,
+        risen: &mut Vec<Risen>,
+    ) -> Result<(), AllocError>
+        ensures becomes { OnOk result (becomes.new.items
+            ≡ becomes.old.items ++ is_ready self.now submission.now ∷ []) }
+        ensures risen { OnOk result (risen.new.items
+            ≡ risen.old.items ++ cond (is_ready self.now submission.now)
+            (risen_of self.now.surfaces submission.now ∷ []) []) }
     {
-        let world = self.world;
-        world
-            .subs
-            .iter()
-            .filter(|submission| self.is_ready(submission))
-            .map(|submission| world.risen_of(submission))
-            .collect(world.alloc)
+        let ready = self.is_ready(submission);
+        becomes.push(ready)?;
+        if ready {
+            risen.push(self.world.risen_of(submission))?;
+        }
+        Ok(())
     }
 
-    /// For each submission, whether it becomes active in the round.
-    fn ready_flags(&self) -> Result<Vec<bool>, AllocError>
-        ensures { IfOk result (λ v. v.items ≡ map (is_ready self.now) self.now.subs) }
+    /// For each submission, whether it becomes active in the round; and those that do.
+    #[tactic(auto, unfolding(vz_rules::specs::Settle::ready))]
+    fn notes(&self) -> Result<(Vec<bool>, Vec<Risen>), AllocError>
+        ensures { IfOk result (λ n. (n.0.items ≡ map (is_ready self.now) self.now.subs)
+            × (n.1.items ≡ map (risen_of self.now.surfaces) (ready self.now))) }
     {
         let world = self.world;
-        world
-            .subs
-            .iter()
-            .map(|submission| self.is_ready(submission))
-            .collect(world.alloc)
+        let mut becomes = Vec::new(world.alloc);
+        let mut risen = Vec::new(world.alloc);
+        for submission in &world.subs {
+            self.note(submission, &mut becomes, &mut risen)?;
+        }
+        Ok((becomes, risen))
     }
 
     /// What is computed of the round before it changes anything.
     fn signs(&self) -> Result<Signs, AllocError>
         ensures { IfOk result (λ s. AreSigns self.now s) }
     {
-        let risen = self.risen()?;
-        let becomes = self.ready_flags()?;
+        let (becomes, risen) = self.notes()?;
         let replaced = self.world.replaced_flags(&risen)?;
         let marked = self.world.marked_flags(&risen)?;
         Ok(Signs {
@@ -169,6 +178,27 @@ impl<'a> World<'a> {
         mark_by(&mut self.surfaces, &signs.marked);
     }
 
+    /// Does one round, and notes what becomes active in it: the surfaces in `ever_active`, and the
+    /// submissions in `all`. Returns whether something becomes active. Condition: `ever_active`
+    /// has the surfaces on which a submission was ever active.
+    fn settle_once(
+        &mut self,
+        ever_active: &mut Newest,
+        all: &mut Vec<Sub>,
+    ) -> Result<bool, AllocError>
+        requires { IsMetBy ever_active.old self.old.subs }
+        ensures world { OnOk result (self.new ≡ round self.old) }
+        ensures met { OnOk result (IsMetBy ever_active.new self.new.subs) }
+        ensures all { OnOk result (all.new.items ≡ all.old.items ++ map sub_of (ready self.old)) }
+        ensures end { IfOk result (λ some. IsFalse some → map sub_of (ready self.old) ≡ []) }
+    {
+        let signs = self.signs(&*ever_active)?;
+        self.round(&signs);
+        add_risen(ever_active, &signs.risen)?;
+        all.append(&mut subs_of(self.alloc, &signs.risen)?)?;
+        Ok(!is_none(&signs.risen))
+    }
+
     /// How many submissions were accepted.
     fn accepted(&self) -> usize
         ensures { result ≡ length self.now.subs }
@@ -187,13 +217,9 @@ impl<'a> World<'a> {
         let mut left = self.accepted();
         while left > 0 {
             left -= 1;
-            let signs = self.signs(&ever_active)?;
-            self.round(&signs);
-            if is_none(&signs.risen) {
+            if !self.settle_once(&mut ever_active, &mut all)? {
                 return Ok(all);
             }
-            add_risen(&mut ever_active, &signs.risen)?;
-            all.append(&mut subs_of(self.alloc, &signs.risen)?)?;
         }
         Ok(all)
     }

@@ -267,21 +267,11 @@ impl<'a> Slow<'a> {
     pub fn rest(&self) -> Result<Rest, Memory>
         ensures { IfOk result (λ r. r ≡ rest_in self.now.world) }
     {
-        match self.rest_of_world() {
-            Ok(rest) => Ok(rest),
-            Err(_) => Err(Memory),
-        }
-    }
-
-    /// As `rest`, with the error of the allocator.
-    fn rest_of_world(&self) -> Result<Rest, AllocError>
-        ensures { IfOk result (λ r. r ≡ rest_in self.now.world) }
-    {
         match &self.stage {
-            Stage::Opening { .. } => {
-                let world = self.copy()?;
-                Ok(world.rest()?)
-            }
+            Stage::Opening { .. } => Ok(Rest {
+                held: List::new(self.alloc),
+                unfed: List::new(self.alloc),
+            }),
             Stage::Running(world) => Ok(world.rest()?),
         }
     }

@@ -75,7 +75,7 @@ pub fn is_judged<L: Ledger, R: Threads + Wait + AllocGlobal + Sync>(
 }
 
 /// The words of a line that are parted by blanks.
-fn words_of(alloc: Global, line: &str) -> Result<Vec<String>, AllocError> {
+pub fn words_of(alloc: Global, line: &str) -> Result<Vec<String>, AllocError> {
     let mut words = Vec::new(alloc);
     for word in line.split_ascii_whitespace() {
         words.push(String::from_str(alloc, word)?)?;

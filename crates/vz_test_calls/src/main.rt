@@ -3,7 +3,9 @@
 //!
 //! The one word of the command line names the table. Its rows are parted by blank lines, and each
 //! line of a row has a key and a value; `Row` says which there are. For each row a line is printed,
-//! its name and `same` or the first difference, and the status is 1 where there is one.
+//! its name and `same` or the first difference, and the status is 1 where there is one. The events
+//! of a row of `step` or `hit` are also given to both machines, which must answer the same when they
+//! are asked what is hit at each point of the display, after each event.
 #![tactic(auto)]
 
 ghost use Rattle.std.specs.Prelude.{◌≡◌, ◌<◌};
@@ -12,6 +14,7 @@ mod call;
 mod compare;
 mod failing;
 mod file;
+mod hits;
 mod playing;
 mod row;
 

@@ -2,6 +2,7 @@
 use crate::call::{Failing, Left, is_judged, left_by};
 use crate::compare::difference;
 use crate::failing::calls_of_shelf;
+use crate::hits::are_hit_alike;
 use crate::row::Row;
 use std::rt::Files;
 use std::sync::Wait;
@@ -57,6 +58,9 @@ fn compared<L: Ledger, R: Threads + Wait + AllocGlobal + Sync>(
 ) -> How {
     if let Some(what) = difference(row, &left) {
         return How::Differs(what);
+    }
+    if !are_hit_alike(rt, row) {
+        return How::Differs("hits");
     }
     match is_judged(rt, row, left.shelf, steps) {
         Ok(true) => in_turn(rt, row, steps),

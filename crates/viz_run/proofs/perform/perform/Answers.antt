@@ -4,7 +4,7 @@ use Rattle.vz_outputs.proofs.Behaving.{on_err}
 use Rattle.vz_outside.proofs.Calls.{ran_none, ran_one}
 use Rattle.vz_words.specs.Words.{texts}
 use Rattle.viz_run.proofs.Stopping.{stops_at, stops_after}
-use Rattle.viz_run.proofs.Performing.{if_ok, at_err, behaves_for, ok_at_err, unrefused, unrefused_memory, none_refused, none_at_memory, memory_no_fault, ok_no_fault}
+use Rattle.viz_run.proofs.Performing.{if_ok, if_err, at_err, behaves_for, ok_at_err, unrefused, unrefused_memory, none_refused, none_at_memory, memory_no_fault, ok_no_fault}
 use Rattle.viz_run.proofs.Performing.{check_does, others_of, misses_of, gen_does, gen_leaves, demo_does, demo_leaves, demo_few, asked_fits, asks_for, unbuilt_found, unasked}
 use Rattle.viz_run.proofs.Stepping.{holds_at_err}
 use Rattle.viz_run.specs.declared.stop.Stop.TheVariants as stop
@@ -170,9 +170,36 @@ returns-then-words-clause-words g c =
 pub run-requires-clause-fits : goal.run-requires-clause-fits
 run-requires-clause-fits g c = λ _ _. asked_fits _ _ (asks_for (texts c.args.words.now) _ _ c.in-Some-Run.field-0-is c.in-Some-Run.ensures.found (ap not c.if-words.false)).0
 
+pub hit-requires-clause-fits : goal.hit-requires-clause-fits
+hit-requires-clause-fits g c = λ _ _. asked_fits _ _ (asks_for (texts c.args.words.now) _ _ c.in-Some-Hit.field-0-is c.in-Some-Hit.ensures.found refl).0
+
+pub returns-in-Some-Hit-clause-done : goal.returns-in-Some-Hit-clause-done
+returns-in-Some-Hit-clause-done g c =
+    if_ok c.hit.result _ _ (λ line does. (_, (asks_for (texts c.args.words.now) _ _ c.in-Some-Hit.field-0-is c.in-Some-Hit.ensures.found refl), does c.args.steps.now)) c.hit.ensures.done
+
 pub returns-in-Some-Hit-clause-words : goal.returns-in-Some-Hit-clause-words
 returns-in-Some-Hit-clause-words g c =
-    λ is. unbuilt_found (texts c.args.words.now) _ _ c.in-Some-Hit.field-0-is c.in-Some-Hit.ensures.found refl
+    λ is. absurd (c.hit.ensures.words is)
+
+pub returns-in-Some-Hit-clause-input : goal.returns-in-Some-Hit-clause-input
+returns-in-Some-Hit-clause-input g c =
+    λ r is. (_, (asks_for (texts c.args.words.now) _ _ c.in-Some-Hit.field-0-is c.in-Some-Hit.ensures.found refl), c.hit.ensures.input r is)
+
+pub returns-in-Some-Hit-clause-unbegun : goal.returns-in-Some-Hit-clause-unbegun
+returns-in-Some-Hit-clause-unbegun g c =
+    if_err c.hit.result _ _ (λ s unbegun refusal. unbegun refusal c.args.steps.now) c.hit.ensures.unbegun
+
+pub returns-in-Some-Hit-clause-front : goal.returns-in-Some-Hit-clause-front
+returns-in-Some-Hit-clause-front g c =
+    at_err c.hit.result _ _ (λ leaves. inr (_, (asks_for (texts c.args.words.now) _ _ c.in-Some-Hit.field-0-is c.in-Some-Hit.ensures.found refl), leaves c.args.steps.now)) c.hit.ensures.front
+
+pub returns-in-Some-Hit-clause-others : goal.returns-in-Some-Hit-clause-others
+returns-in-Some-Hit-clause-others g c =
+    λ told name none. c.hit.ensures.files told name
+
+pub returns-in-Some-Hit-clause-behaves : goal.returns-in-Some-Hit-clause-behaves
+returns-in-Some-Hit-clause-behaves g c =
+    behaves_for c.hit.result _ _ (misses_of (texts c.args.words.now) _ (asks_for (texts c.args.words.now) _ _ c.in-Some-Hit.field-0-is c.in-Some-Hit.ensures.found refl) _) c.hit.ensures.behaves
 
 pub returns-in-Some-Turns-clause-words : goal.returns-in-Some-Turns-clause-words
 returns-in-Some-Turns-clause-words g c =

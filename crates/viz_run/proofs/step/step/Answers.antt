@@ -1,4 +1,7 @@
-use Rattle.std.proofs.Common.{rules, ◌∙◌, All, List, refl, sym, ap, subst, inl}
+use Rattle.std.proofs.Common.{rules, ◌≡◌, ◌∙◌, All, List, length, refl, sym, ap, subst, inl, arith}
+use Rattle.std.proofs.lemmas.List.{length-map}
+use Rattle.std.specs.String.{string_bytes}
+use Rattle.std.specs.declared.string.String.{String}
 use Rattle.vz_outside.proofs.Calls.{ran_one, ran_then_ran}
 use Rattle.vz_outside.specs.declared.shelf.ShelfError.TheVariants as shelf_error
 use Rattle.vz_inputs.specs.Read.{texts}
@@ -13,12 +16,41 @@ use Rattle.viz_run.specs.Site.{site}
 use Rattle.viz_run.specs.Stepped.{command_of, Makes}
 use Rattle.viz_run.specs.declared.stop.Stop.TheVariants as stop
 use Rattle.viz_run.proofs.Demonstrated.{all_played}
-use Rattle.viz_run.proofs.Fitting.{names_differ}
+use Rattle.viz_run.proofs.Admitting.{step_given, step_refused}
+use Rattle.viz_run.proofs.Fitting.{files_fit, sides_fit, names_differ}
 use Rattle.viz_run.proofs.Opened.{its_plan, its_world, of_its_plan}
 use Rattle.viz_run.proofs.Stopping.{stops_at, stops_after}
 use Rattle.viz_run.proofs.Stepping.{begun_since, others_since, all_begun, does_for, cut_short}
-use Rattle.viz_run.proofs.Stepping.{is_none, no_words, no_input, refuses_none, ok_is_none, went_through, holds_at_err, stays_at}
+use Rattle.viz_run.proofs.Stepping.{is_none, no_words, no_input, refuses_none, ok_is_none, went_through, holds_at_err, same_err, stays_at}
 use Rattle.viz_run.proofs.step.step.Goals as goal
+
+-- there are as many texts as names
+long : {A : Type 0} (names : List (String A)) → length (texts names) ≡ length names
+long names = length-map names string_bytes
+
+pub size_of-size-requires : goal.size_of-size-requires
+size_of-size-requires g c =
+    let w = c.args.words.now in
+    sides_fit w.width w.height w.schedule.now w.frames.now w.log.now (texts w.files.now) c.requires.fits
+
+pub admit-requires-clause-some : goal.admit-requires-clause-some
+admit-requires-clause-some g c =
+    let w = c.args.words.now in
+    let fit = files_fit w.width w.height w.schedule.now w.frames.now w.log.now (texts w.files.now) c.requires.fits in
+    λ _ _. omega (arith, long w.files.now, fit.0)
+
+pub admit-requires-clause-few : goal.admit-requires-clause-few
+admit-requires-clause-few g c =
+    let w = c.args.words.now in
+    let fit = files_fit w.width w.height w.schedule.now w.frames.now w.log.now (texts w.files.now) c.requires.fits in
+    λ _ _. omega (arith, long w.files.now, fit.1)
+
+pub returns-in_err-plan-clause-input : goal.returns-in_err-plan-clause-input
+returns-in_err-plan-clause-input g c x this =
+    let a = g.F.Shelf.shelved c.args.shelf.now in
+    let w = c.args.words.now in
+    step_refused w.width w.height w.schedule.now w.frames.now w.log.now (texts w.files.now) _ a c.size_of-size.ensures.size x
+    (c.in_err-plan.ensures.input x (same_err _ (stop.Input x) c.from_residual.result c.from_residual.ensures.1 this))
 
 pub play-requires-clause-opening : goal.play-requires-clause-opening
 play-requires-clause-opening g c = its_world c.in_ok-machine.machine c.in_ok-plan.field-0.plan c.in_ok-machine.ensures
@@ -29,8 +61,8 @@ play-requires-clause-plan g c =
 
 pub play-requires-clause-size : goal.play-requires-clause-size
 play-requires-clause-size g c =
-    ap (λ (p : Plan). p.size) (its_plan c.in_ok-machine.machine c.in_ok-plan.field-0.plan c.in_ok-machine.ensures)
-    ∙ sym c.size-size.ensures.value
+    ap (λ (p : Plan). p.size)
+    (its_plan c.in_ok-machine.machine c.in_ok-plan.field-0.plan c.in_ok-machine.ensures ∙ c.in_ok-plan.ensures.accepted.1.plan)
 
 pub play-requires-clause-named : goal.play-requires-clause-named
 play-requires-clause-named g c =
@@ -84,9 +116,10 @@ returns-in_err-play-clause-front g c =
     let d = g.F.Shelf.shelved c.play.new.shelf in
     let w = c.args.words.now in
     let asked = command_of w in
-    let got = c.in_ok-plan.ensures.accepted in
     let m = c.in_ok-machine.machine in
     let made = c.in_ok-plan.field-0 in
+    let got = step_given w.width w.height w.schedule.now w.frames.now w.log.now (texts w.files.now) _ a c.size_of-size.ensures.size made.plan
+    made.events.items c.in_ok-plan.ensures.accepted in
     let p = m.plan in
     let es = c.deref.result.now in
     let makes : Makes asked got.0 p es = (its_plan m made.plan c.in_ok-machine.ensures ∙ got.2.0, c.deref.ensures.value ∙ got.2.1) in
@@ -124,9 +157,10 @@ returns-in_err-done_line-clause-front g c =
     let d = g.F.Shelf.shelved c.play.new.shelf in
     let w = c.args.words.now in
     let asked = command_of w in
-    let got = c.in_ok-plan.ensures.accepted in
     let m = c.in_ok-machine.machine in
     let made = c.in_ok-plan.field-0 in
+    let got = step_given w.width w.height w.schedule.now w.frames.now w.log.now (texts w.files.now) _ a c.size_of-size.ensures.size made.plan
+    made.events.items c.in_ok-plan.ensures.accepted in
     let p = m.plan in
     let es = c.deref.result.now in
     let makes : Makes asked got.0 p es = (its_plan m made.plan c.in_ok-machine.ensures ∙ got.2.0, c.deref.ensures.value ∙ got.2.1) in
@@ -159,9 +193,10 @@ returns-clause-done g c =
     let d = g.F.Shelf.shelved c.play.new.shelf in
     let w = c.args.words.now in
     let asked = command_of w in
-    let got = c.in_ok-plan.ensures.accepted in
     let m = c.in_ok-machine.machine in
     let made = c.in_ok-plan.field-0 in
+    let got = step_given w.width w.height w.schedule.now w.frames.now w.log.now (texts w.files.now) _ a c.size_of-size.ensures.size made.plan
+    made.events.items c.in_ok-plan.ensures.accepted in
     let p = m.plan in
     let es = c.deref.result.now in
     let makes : Makes asked got.0 p es = (its_plan m made.plan c.in_ok-machine.ensures ∙ got.2.0, c.deref.ensures.value ∙ got.2.1) in

@@ -1,6 +1,11 @@
-use Rattle.std.proofs.Common.{sym, subst}
+use Rattle.std.proofs.Common.{refl, sym, subst}
+use Rattle.vz_rules.specs.declared.entry.Event.TheVariants as event
+use Rattle.vz_rules.specs.declared.entry.Reply.TheVariants as reply
+use Rattle.vz_rules.specs.declared.entry.Refusal.TheVariants as refusal
+use Rattle.vz_rules.specs.Messages.{says}
 use Rattle.vz_manager.specs.declared.kind.Kind.TheVariants as kind
 use Rattle.vz_manager.specs.Serving.{Serves}
+use Rattle.vz_manager.proofs.Following.{none_answer, closed_refused, step_of, serves_on}
 use Rattle.vz_manager.proofs.Comings.{found, stays_at_want}
 use Rattle.vz_manager.proofs.parts.Parts.client.Goals as goal
 
@@ -8,25 +13,27 @@ pub returns-in-Nothing-clause-step : goal.returns-in-Nothing-clause-step
 returns-in-Nothing-clause-step c p w x old here =
     let h = subst (Serves p w) (sym c.self.view_is) old in
     let f = found p w c.args.c x kind.Nothing here (c.in-Nothing.ensures.kind p w x h.support here) in
-    c.no_message.ensures.step p w c.args.c x old f
+    step_of p w (event.Client c.args.c) (says (reply.Refused refusal.NoMessage) w) c.nothing_follows.result (none_answer p w c.args.c x f) refl old.keeps
+    c.nothing_follows.ensures.reply c.nothing_follows.ensures.effects
 
 pub returns-in-Nothing-clause-serves : goal.returns-in-Nothing-clause-serves
 returns-in-Nothing-clause-serves c p w x old here =
     let h = subst (Serves p w) (sym c.self.view_is) old in
     let f = found p w c.args.c x kind.Nothing here (c.in-Nothing.ensures.kind p w x h.support here) in
-    c.no_message.ensures.serves p w c.args.c x old f
+    serves_on p w (event.Client c.args.c) (says (reply.Refused refusal.NoMessage) w) c.args.self.now c.args.self.now.support old
+    (none_answer p w c.args.c x f) refl old.keeps old.support old.settling.live old.settling.waiting
 
 pub returns-in-Closed-clause-step : goal.returns-in-Closed-clause-step
 returns-in-Closed-clause-step c p w x old here =
     let h = subst (Serves p w) (sym c.self.view_is) old in
     let f = found p w c.args.c x kind.Closed here (c.in-Closed.ensures.kind p w x h.support here) in
-    c.refuse_closed.ensures.step p w x f.0 old f.1
+    c.refuse.ensures.step p w x f.0 old (closed_refused p w c.args.c x f.0 f.1)
 
 pub returns-in-Closed-clause-serves : goal.returns-in-Closed-clause-serves
 returns-in-Closed-clause-serves c p w x old here =
     let h = subst (Serves p w) (sym c.self.view_is) old in
     let f = found p w c.args.c x kind.Closed here (c.in-Closed.ensures.kind p w x h.support here) in
-    c.refuse_closed.ensures.serves p w x f.0 old f.1
+    c.refuse.ensures.serves p w x f.0 old (closed_refused p w c.args.c x f.0 f.1)
 
 pub returns-in-Upload-clause-step : goal.returns-in-Upload-clause-step
 returns-in-Upload-clause-step c p w x old here =

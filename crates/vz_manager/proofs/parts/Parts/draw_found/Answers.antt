@@ -1,9 +1,11 @@
-use Rattle.std.proofs.Common.{sym, ◌∙◌, subst}
-use Rattle.vz_live.specs.Drawing.{Measures}
+use Rattle.std.proofs.Common.{None, is_some, sym, ◌∙◌, subst, ap, arith}
+use Rattle.vz_live.specs.Living.{Live}
+use Rattle.vz_live.specs.Drawing.{Measures, Flies}
 use Rattle.vz_live.proofs.Drawn.{reply_is}
-use Rattle.vz_manager.specs.Serving.{Served}
+use Rattle.vz_manager.specs.Serving.{Served, Serves}
 use Rattle.vz_manager.specs.Showing.{IsToShow}
-use Rattle.vz_manager.proofs.Showing.{on_err, step_unchanged, step_changed}
+use Rattle.vz_manager.proofs.Showing.{on_err, none_flying, step_unchanged, step_changed}
+use Rattle.vz_manager.proofs.Showing.{serves_unchanged, serves_drawn, serves_still}
 use Rattle.vz_manager.proofs.Depicting.{answered_so, painted_so, unpainted}
 use Rattle.vz_manager.proofs.parts.Parts.draw_found.Goals as goal
 
@@ -18,27 +20,51 @@ returns-in_default-clause-picture c p w old = unpainted p w _ c.nothing_follows.
 
 pub returns-in_default-clause-serves : goal.returns-in_default-clause-serves
 returns-in_default-clause-serves c p w old =
-    c.leave.ensures.serves p w c.args.root.now old c.requires.measured (sym c.changed.ensures ∙ c.in_default.is)
+    let h = subst (IsToShow p w c.args.root.now) (sym c.self.view_is) old in
+    let m = subst (λ (v : Served). Measures c.args.root.now v.size v.settling.live c.args.measured) (sym c.self.view_is) c.requires.measured in
+    serves_unchanged p w c.args.root.now _ c.leave.new.self h c.leave.ensures.rest (c.support_stays_at_ends.ensures.draw p w _ h.serves.support)
+    (c.leave.ensures.live p w c.args.root.now _ h.shows m (sym c.changed.ensures ∙ c.in_default.is))
+    (c.waiting_ones_stay.ensures.draw p w _ h.serves.settling.waiting)
 
-pub operations-requires : goal.operations-requires
-operations-requires c =
+pub ready_to_show-requires : goal.ready_to_show-requires
+ready_to_show-requires c =
     let x = c.requires.shows in
-    let h = subst (IsToShow x.0 x.1 c.args.root.now) (sym c.self-2.view_is) x.2 in
+    let h = subst (IsToShow x.0 x.1 c.args.root.now) (sym c.self.view_is) x.2 in
     record { shows = (x.0, x.1, h.shows) }
+
+pub returns-in_err-ops-clause-err : goal.returns-in_err-ops-clause-err
+returns-in_err-ops-clause-err c p w old =
+    let x = c.requires.shows in
+    let now = subst (IsToShow x.0 x.1 c.args.root.now) (sym c.self.view_is) x.2 in
+    let h = subst (Serves p w) (sym c.self.view_is) old in
+    on_err c.from_residual.result _
+    (serves_still p w _ c.self.inside.settling.live c.ready_to_show.new.returned c.self.inside.fed h
+    (none_flying x.0 x.1 _ c.args.root.now now) h.settling.live h.released
+    (c.ready_to_show.ensures.list ∙ h.lands.none_returned) h.lands.none_fed)
 
 pub show-requires : goal.show-requires
 show-requires c =
     let x = c.requires.shows in
-    record { shows = (x.0, x.1, c.args.root.now, x.2, c.requires.flown) }
+    let h = subst (IsToShow x.0 x.1 c.args.root.now) (sym c.self.view_is) x.2 in
+    let flown = subst (λ (v : Served). Flies c.args.root.now v.size v.settling.live c.args.flight) (sym c.self.view_is) c.requires.flown in
+    record { shows = (x.0, x.1, c.args.root.now, _, h.shows, flown) }
 
 pub returns-in_err-show-clause-err : goal.returns-in_err-show-clause-err
-returns-in_err-show-clause-err c p w old = on_err c.from_residual-in_err-show.result _ (c.in_err-show.ensures.err p w old)
+returns-in_err-show-clause-err c p w old =
+    let x = c.requires.shows in
+    let now = subst (IsToShow x.0 x.1 c.args.root.now) (sym c.self.view_is) x.2 in
+    let h = subst (Serves p w) (sym c.self.view_is) old in
+    on_err c.from_residual-in_err-show.result _
+    (serves_still p w _ c.show.new.self c.ready_to_show.new.returned c.show.new.fed h
+    (ap (λ (v : Live). is_some v.flight) c.in_err-show.ensures.err ∙ none_flying x.0 x.1 _ c.args.root.now now)
+    (c.in_err-show.ensures.kept w None h.settling.live) c.show.ensures.released
+    (c.ready_to_show.ensures.list ∙ h.lands.none_returned) (c.show.ensures.list ∙ h.lands.none_fed))
 
 pub picture_of-requires : goal.picture_of-requires
 picture_of-requires c =
     let x = c.requires.shows in
-    let h = subst (IsToShow x.0 x.1 c.args.root.now) (sym c.self-2.view_is) x.2 in
-    let m = subst (λ (v : Served). Measures c.args.root.now v.size v.settling.live c.args.measured) (sym c.self-2.view_is) c.requires.measured in
+    let h = subst (IsToShow x.0 x.1 c.args.root.now) (sym c.self.view_is) x.2 in
+    let m = subst (λ (v : Served). Measures c.args.root.now v.size v.settling.live c.args.measured) (sym c.self.view_is) c.requires.measured in
     record {
       answered = (
         x.0,
@@ -50,16 +76,16 @@ picture_of-requires c =
 
 pub returns-clause-step : goal.returns-clause-step
 returns-clause-step c p w old =
-    let h = subst (IsToShow p w c.args.root.now) (sym c.self-2.view_is) old in
-    let m = subst (λ (v : Served). Measures c.args.root.now v.size v.settling.live c.args.measured) (sym c.self-2.view_is) c.requires.measured in
+    let h = subst (IsToShow p w c.args.root.now) (sym c.self.view_is) old in
+    let m = subst (λ (v : Served). Measures c.args.root.now v.size v.settling.live c.args.measured) (sym c.self.view_is) c.requires.measured in
     step_changed p w _ c.args.measured.changed c.in-Some.damage h.serves.keeps
     (reply_is p w c.args.root.now _ _ h.shows c.args.measured m)
     (sym c.changed.ensures ∙ c.in-Some.is) c.nothing_follows-step.ensures.reply c.nothing_follows-step.ensures.effects
 
 pub returns-clause-picture : goal.returns-clause-picture
 returns-clause-picture c p w old =
-    let h = subst (IsToShow p w c.args.root.now) (sym c.self-2.view_is) old in
-    let m = subst (λ (v : Served). Measures c.args.root.now v.size v.settling.live c.args.measured) (sym c.self-2.view_is) c.requires.measured in
+    let h = subst (IsToShow p w c.args.root.now) (sym c.self.view_is) old in
+    let m = subst (λ (v : Served). Measures c.args.root.now v.size v.settling.live c.args.measured) (sym c.self.view_is) c.requires.measured in
     painted_so p w _ c.in-Some.damage _ c.nothing_follows-step.ensures.reply
     (c.picture_of.ensures.painted p w (answered_so p w c.args.root.now _ _ c.args.measured.changed c.in-Some.damage h.shows
     (reply_is p w c.args.root.now _ _ h.shows c.args.measured m) (sym c.changed.ensures ∙ c.in-Some.is))
@@ -67,5 +93,12 @@ returns-clause-picture c p w old =
 
 pub returns-clause-serves : goal.returns-clause-serves
 returns-clause-serves c p w old =
-    c.in_ok-show.ensures.serves p w c.args.root.now c.in-Some.damage old c.requires.flown c.requires.measured
-    (sym c.changed.ensures ∙ c.in-Some.is)
+    let h = subst (IsToShow p w c.args.root.now) (sym c.self.view_is) old in
+    let flown = subst (λ (v : Served). Flies c.args.root.now v.size v.settling.live c.args.flight) (sym c.self.view_is) c.requires.flown in
+    let m = subst (λ (v : Served). Measures c.args.root.now v.size v.settling.live c.args.measured) (sym c.self.view_is) c.requires.measured in
+    serves_drawn p w _ c.show.new.self c.ready_to_show.new.returned c.show.new.fed h.serves
+    (c.support_stays_at_ends.ensures.draw p w _ h.serves.support)
+    (c.in_ok-show.ensures.live p w c.args.root.now _ c.in-Some.damage h.shows flown m (sym c.changed.ensures ∙ c.in-Some.is))
+    (c.waiting_ones_stay.ensures.draw p w _ h.serves.settling.waiting) c.show.ensures.released
+    (c.ready_to_show.ensures.list ∙ h.serves.lands.none_returned) (c.show.ensures.list ∙ h.serves.lands.none_fed)
+    (omega (arith, c.in_ok-ops.ensures.room, c.show.ensures.out)) c.in_ok-show.ensures.room

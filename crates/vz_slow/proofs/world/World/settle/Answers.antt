@@ -1,10 +1,9 @@
-use Rattle.std.proofs.Common.{◌-◌, ◌++◌, List, sym, ap, ◌∙◌, map, arith}
+use Rattle.std.proofs.Common.{◌-◌, ◌++◌, refl, sym, ap, ◌∙◌, map, arith}
 use Rattle.std.specs.List.{list_any}
 use Rattle.vz_rules.specs.World.{World, sub_of}
 use Rattle.vz_rules.specs.Settle.{settle, activated_in, rounds, activated_over, ready}
-use Rattle.vz_state.specs.declared.risen.Risen.{Risen}
 use Rattle.vz_state.specs.Rising.{meets}
-use Rattle.vz_slow.proofs.Rounds.{rounds_next, activated_next, rounds_end, activated_end, none_risen, subs_noted, append_none, rounds_zero, activated_zero, joined, round_meets}
+use Rattle.vz_slow.proofs.Rounds.{rounds_next, activated_next, rounds_end, activated_end, append_none, rounds_zero, activated_zero, joined}
 use Rattle.vz_slow.proofs.world.World.settle.Goals as goal
 
 pub loop-left-init : goal.loop-left-init
@@ -16,28 +15,25 @@ loop-left-init c =
       active = ap (λ n. activated_over n c.args.self.now) (sym c.accepted-left.ensures) ∙ ap (λ l. l ++ activated_over c.accepted-left.result c.args.self.now) (sym c.new-all.ensures.items);
     }
 
-pub returns-then-is_none-clause-activated : goal.returns-then-is_none-clause-activated
-returns-then-is_none-clause-activated c =
-    let w = c.loop-left.self in
-    let none = none_risen w.surfaces (ready w) _ c.in_ok-signs.ensures.risen (sym c.deref-in-loop-left.ensures.value ∙ c.is_none.ensures c.if-is_none.true) in
-    sym (c.loop-left.invariant.active ∙ (ap (λ l. c.loop-left.all.items ++ l) (activated_end c.loop-left.left w none) ∙ append_none c.loop-left.all.items))
+pub returns-then-not-branch-clause-activated : goal.returns-then-not-branch-clause-activated
+returns-then-not-branch-clause-activated c =
+    let none = c.in_ok-settle_once.ensures.end c.if-not-branch.true in
+    c.in_ok-settle_once.ensures.all
+    ∙ (ap (λ l. c.loop-left.all.items ++ l) none ∙ sym (c.loop-left.invariant.active ∙ ap (λ l. c.loop-left.all.items ++ l) (activated_end c.loop-left.left c.loop-left.self none)))
 
-pub returns-then-is_none-clause-world : goal.returns-then-is_none-clause-world
-returns-then-is_none-clause-world c =
-    let w = c.loop-left.self in
-    let none = none_risen w.surfaces (ready w) _ c.in_ok-signs.ensures.risen (sym c.deref-in-loop-left.ensures.value ∙ c.is_none.ensures c.if-is_none.true) in
-    c.round.ensures ∙ sym (c.loop-left.invariant.same ∙ rounds_end c.loop-left.left w none)
+pub returns-then-not-branch-clause-world : goal.returns-then-not-branch-clause-world
+returns-then-not-branch-clause-world c =
+    c.in_ok-settle_once.ensures.world ∙ sym (c.loop-left.invariant.same ∙ rounds_end c.loop-left.left c.loop-left.self (c.in_ok-settle_once.ensures.end c.if-not-branch.true))
 
 pub loop-left-preserved : goal.loop-left-preserved
 loop-left-preserved c =
     let w = c.loop-left.self in
     record {
-      met = round_meets w c.round.new.self c.loop-left.ever_active c.add_risen.new.met c.deref-in-loop-left-2.result.now c.round.ensures (c.deref-in-loop-left-2.ensures.value ∙ c.in_ok-signs.ensures.risen) c.in_ok-add_risen.ensures c.loop-left.invariant.met;
-      same = c.loop-left.invariant.same ∙ (rounds_next c.loop-left.left w (omega arith) ∙ ap (rounds (c.loop-left.left - 1)) (sym c.round.ensures));
-      active = joined c.loop-left.all.items (map sub_of (ready w)) c.in_ok-subs_of.field-0.items _ _ _ c.in_ok-append.ensures.items
-          (c.in_ok-subs_of.ensures ∙ (ap (λ (l : List Risen). map (λ (r : Risen). r.sub) l) (c.deref-in-loop-left-3.ensures.value ∙ c.in_ok-signs.ensures.risen) ∙ subs_noted w.surfaces (ready w)))
+      met = c.in_ok-settle_once.ensures.met;
+      same = c.loop-left.invariant.same ∙ (rounds_next c.loop-left.left w (omega arith) ∙ ap (rounds (c.loop-left.left - 1)) (sym c.in_ok-settle_once.ensures.world));
+      active = joined c.loop-left.all.items (map sub_of (ready w)) (map sub_of (ready w)) _ _ _ c.in_ok-settle_once.ensures.all refl
           (c.loop-left.invariant.active ∙ ap (λ l. c.loop-left.all.items ++ l) (activated_next c.loop-left.left w (omega arith)
-          ∙ ap (λ x. map sub_of (ready w) ++ activated_over (c.loop-left.left - 1) x) (sym c.round.ensures)));
+          ∙ ap (λ x. map sub_of (ready w) ++ activated_over (c.loop-left.left - 1) x) (sym c.in_ok-settle_once.ensures.world)));
     }
 
 pub returns-clause-activated : goal.returns-clause-activated
