@@ -181,8 +181,19 @@ def manual(folder):
     made = (folder / "viz.1").read_text()
     for part in ("step W H", "take the events", "a side", "it is done; \\fByes\\fR", ".SH EXIT STATUS"):
         yield part, part in made
+    yield says("man", ["-o", folder / "all.1"], 0, "all.1")
+    for command in calling.FORMS:
+        yield command, ".B viz\n%s " % command in (folder / "all.1").read_text()
     (folder / "none.md").write_text("nothing\n")
     yield says("man", [folder / "none.md", "-o", folder / "viz.1"], 1, "it has no table whose first column is 'words'")
+
+
+def completed(_folder):
+    """Options are completed to those that --help lists."""
+    for name, begun, want in (("frames", "--h", "--help --hit"), ("replay", "--h", "--help"), ("view", "--na", "--names")):
+        done = subprocess.run(["bash", "-c", '. tools/completion.bash; COMP_WORDS=("tools/$0" "$1"); COMP_CWORD=1; _viz_tools; '
+                               'echo "${COMPREPLY[@]}"', name, begun], cwd=TOOLS.parent, capture_output=True, text=True)
+        yield "%s %s: %s%s" % (name, begun, done.stdout, done.stderr), done.stdout.split() == want.split()
 
 
 def wrapped(folder):
@@ -199,6 +210,8 @@ def wrapped(folder):
             (["run", "--fast", 4, 2, 3, *rest[1:]], 2, "--fast"), (["step", 4, 2, *rest, rest[3]], 1, "named twice"),
             (["step", 4, 2, rest[0], folder / "no" / "f", *rest[2:]], 1, "its folder is not there"),
             (["step", 4, 2, rest[0], folder, *rest[2:]], 1, "a folder, not a file"),
+            (["hit", 4, 2, rest[0], 4, 0, rest[3]], 2, "X is 0 to 3"), (["hit", 4, 2, rest[0], 3, 2, rest[3]], 2, "Y is 0 to 1"),
+            (["hit", 4, 2, rest[0], 3, 1], 2, "hit wants W H SCHEDULE X Y FILE.."),
             (["--viz", folder / "s", "demo", 1], 1, "no program is there")):
         yield says("viz", words, status, said)
     try:
@@ -209,6 +222,7 @@ def wrapped(folder):
     if VIZ:
         yield says("viz", ["--viz", VIZ, "step", 4, 2, *rest], 3, "status 3: an input is refused: ", "message 1, pass 1, quad 1, area")
         yield says("viz", ["--viz", VIZ, "demo", 2], 0, "entries 26 frames 2")
+        yield says("viz", ["--viz", VIZ, "hit", 4, 2, rest[0], 3, 1, ONE_QUAD], 0, "hit none")
 
 
 def commands(folder):
@@ -234,4 +248,5 @@ def commands(folder):
 
 
 PARTS = (("help of the tools", helps), ("schedules of logs", schedules), ("painted frames", painted), ("faults explained", explained),
-         ("verdicts of check", verdicts), ("runs compared", differences), ("words of the program", wrapped), ("man page", manual), ("play and reftest", commands))
+         ("verdicts of check", verdicts), ("runs compared", differences), ("words of the program", wrapped), ("man page", manual), ("completion", completed),
+         ("play and reftest", commands))

@@ -1,12 +1,13 @@
-"""Tests of `frames` with fitted, numbered and animated pictures, and of what is refused before it works."""
+"""Tests of `frames` with fitted, numbered and animated pictures, of points in them, and of what is refused before it
+works."""
 
 import struct
 import subprocess
 from pathlib import Path
 
 from kit import png
-
-TOOLS = Path(__file__).resolve().parent
+import test_explain
+from test_view import CASES, TOOLS
 
 
 def frames(*words):
@@ -64,6 +65,62 @@ def refused(folder):
     yield "no picture in a JPEG name", not (folder / "o.jpg").is_file()
 
 
+ASKED = """#!/bin/sh
+echo "$* $(od -An -tx1 "$4" | tr -d ' \\n')" >> "$(dirname "$0")/asked"
+[ "$5" = 0 ] && echo 'hit none' || echo 'hit 2 1 3 4 9 2 1'
+"""
+
+
+def hits(folder):
+    """A program in the place of ours is asked for each frame, with the events up to it; its answers are told by the
+    clients' names, and the pixel is marked."""
+    case, asked = CASES / "switch_and_gutter", folder / "asked"
+    (folder / "program").write_text(ASKED)
+    (folder / "program").chmod(0o755)
+    words = ["--viz", folder / "program", "--scale", 4]
+    made = frames("--hit", "3,2", *words, "--names", "page,child", 8, 8, case / "frames", folder)
+    yield made.stdout + made.stderr, made.stdout == (
+        "frame 1: (3, 2) hits child/3.4#9 at (2, 1)\nframe 2: (3, 2) hits child/3.4#9 at (2, 1)\n2 frames\n")
+    whole, calls = (case / "schedule").read_bytes(), asked.read_text().splitlines()
+    drawn = [k for k, line in enumerate((case / "log").read_text().splitlines(), 1) if line.startswith("draw drawn")]
+    yield "asked: %s" % calls, [(c.split()[:3], c.split()[4:6], c.split()[-1]) for c in calls] == [
+        (["hit", "8", "8"], ["3", "2"], whole[:k].hex()) for k in drawn]
+    w, h, pixels = png.read((folder / "001.png").read_bytes())
+    plain = case / "frames"
+    frames("--scale", 4, 8, 8, plain, folder / "plain")
+    _, _, before = png.read((folder / "plain" / "001.png").read_bytes())
+    marked = {(k % w, k // w) for k in range(w * h) if pixels[k * 4:k * 4 + 4] != before[k * 4:k * 4 + 4]}
+    yield "four arms: %s" % sorted(marked), all(13 <= x <= 15 or 9 <= y <= 11 for x, y in marked) and not any(
+        11 <= x <= 16 and 7 <= y <= 12 for x, y in marked) and {(10, 10), (17, 10), (14, 6), (14, 13)} <= marked
+    made = frames("--hit", "0,7", *words, "--only", "2", 8, 8, case / "frames", folder)
+    yield made.stdout + made.stderr, made.stdout == "frame 2: (0, 7) hits nothing\n1 frames\n"
+    other = folder / "other"
+    other.mkdir()
+    for name, source in (("log", "log"), ("c1.viz", "2.viz"), ("c2.viz", "1.viz")):
+        (other / name).write_bytes((case / source).read_bytes())
+    (folder / "f").write_bytes((case / "frames").read_bytes())
+    for given, said in ((["--hit", "8,0"], "at most 7,7"), (["--hit", "3"], "at most 7,7"), (["--run", "x"], "--run stands with --hit"),
+                        (["--hit", "0,0", "--names", "a,a"], "--names wants 2 different names")):
+        made = frames(*given, *([] if given[0] == "--run" else words), 8, 8, case / "frames", folder)
+        yield "%s: %s" % (given, made.stderr), made.returncode == 2 and said in made.stderr
+    for given, said in (([], "it has not the message files"), (["--run", folder / "none"], "none: No such file"),
+                        (["--run", other], "tools/why says more"), (["--run", CASES / "stale_rectangles"], "4 frames are drawn"),
+                        (["--run", case, "--viz", folder / "f"], "no program is there")):
+        made = frames("--hit", "0,0", *words, *given, 8, 8, folder / "f", folder)
+        yield "%s: %s" % (given, made.stderr), made.returncode == 1 and said in made.stderr
+    if test_explain.VIZ:
+        yield from hits_told(case, folder)
+
+
+def hits_told(case, folder):
+    """What the program itself says: inside an embedded surface, in its gutter, and on what is transparent."""
+    for at, said in (("3,3", ("c2/1.1 at (2, 2)", "c2/2.1 at (2, 2)")), ("6,6", ("c1/1.1 at (6, 6)", "c2/2.1 at (5, 5)")),
+                     ("0,0", ("nothing", "nothing"))):
+        made = frames("--hit", at, "--viz", test_explain.VIZ, "--strip", 8, 8, case / "frames", folder / "x.png")
+        got = [line.rpartition(" hits ")[2] for line in made.stdout.splitlines() if " hits " in line]
+        yield "%s: %s %s" % (at, got, made.stderr), got == list(said)
+
+
 def story(*words):
     return subprocess.run([TOOLS / "story", *map(str, words)], capture_output=True, text=True)
 
@@ -89,4 +146,5 @@ def timelines(folder):
     yield "a full output: %s" % full.stderr, full.returncode == 1 and full.stderr.count("\n") == 1
 
 
-PARTS = (("timelines", timelines), ("fitted pictures", fitted), ("animated pictures", animated), ("words of frames", refused))
+PARTS = (("timelines", timelines), ("fitted pictures", fitted), ("animated pictures", animated), ("what is hit", hits),
+         ("words of frames", refused))

@@ -11,14 +11,16 @@ from .wrong import Usage, Wrong
 ROOT = Path(__file__).resolve().parents[2]
 PLACES = (ROOT / "out" / "viz", ROOT / "crates" / "viz" / "out" / "viz")
 FORMS = {  # the words of each command: names of numbers with their limits, names of what is read, names of what is written
-    "step": ("W H SCHEDULE FRAMES LOG FILE..", "H SCHEDULE FILE", "FRAMES LOG"),
+    "step": ("W H SCHEDULE FRAMES LOG FILE..", "SCHEDULE FILE", "FRAMES LOG"),
     "run": ("W H TICKS FRAMES LOG FILE..", "FILE", "FRAMES LOG"),
     "check": ("W H FRAMES LOG FILE..", "FRAMES LOG FILE", ""),
     "gen": ("N FILE1 FILE2 FILE3", "", "FILE1 FILE2 FILE3"),
     "demo": ("N", "", ""),
+    "hit": ("W H SCHEDULE X Y FILE..", "SCHEDULE FILE", ""),
 }
-MOST = {"W": 2048, "H": 2048, "TICKS": 256, "N": 1000}
-LEAST = {"TICKS": 0}
+MOST = {"W": 2048, "H": 2048, "TICKS": 256, "N": 1000, "X": 2047, "Y": 2047}
+LEAST = {"TICKS": 0, "X": 0, "Y": 0}
+BELOW = {"X": "W", "Y": "H"}
 STATUS = {1: "check says no", 2: "the words are those of no command", 3: "an input is refused",
           4: "a file could not be read or written", 5: "the memory did not suffice"}
 
@@ -60,7 +62,9 @@ def look(words):
     pairs = named(words)
     _, read, written = FORMS[words[0]]
     for name, word in pairs:
-        if name in MOST:
+        if name in BELOW:
+            number(name, word, min(MOST[name], int(dict(pairs)[BELOW[name]]) - 1), LEAST[name])
+        elif name in MOST:
             number(name, word, MOST[name], LEAST.get(name, 1))
         elif name in read.split():
             if not Path(word).is_file():

@@ -50,15 +50,22 @@ def clients(words):
     return files
 
 
-def in_folder(folder):
-    """The log, the frames and the message files of a folder."""
-    parts = sorted((int(PARTS.fullmatch(p.name)[1]), p) for p in folder.iterdir() if PARTS.fullmatch(p.name))
+def parts_in(folder):
+    """The message files of a folder."""
+    with file(folder):
+        parts = sorted((int(PARTS.fullmatch(p.name)[1]), p) for p in folder.iterdir() if PARTS.fullmatch(p.name))
     if [k for k, _ in parts] != list(range(1, len(parts) + 1)) or not parts:
         raise Wrong("%s: it has not the message files c1.viz, c2.viz, .. of a run" % folder)
+    return [p for _, p in parts]
+
+
+def in_folder(folder):
+    """The log, the frames and the message files of a folder."""
+    parts = parts_in(folder)
     for name in ("log", "frames"):
         if not (folder / name).is_file():
             raise Wrong("%s: there is no %s; run the program first" % (folder, name))
-    return [folder / "log", folder / "frames", *(p for _, p in parts)]
+    return [folder / "log", folder / "frames", *parts]
 
 
 def client_names(given, words, count):

@@ -3,7 +3,7 @@
 from . import digits, png
 from .wrong import Wrong, file
 
-GROUND = bytes((200, 200, 200, 255))
+GROUND, BLACK, WHITE = bytes((200, 200, 200, 255)), bytes((0, 0, 0, 255)), bytes((255, 255, 255, 255))
 GAP, STRIP_WIDTH, MOST = 4, 1292, 67108864
 
 
@@ -39,6 +39,21 @@ class Picture:
         for row in range(y, y + h):
             self.put(x, row, colour)
             self.put(x + w - 1, row, colour)
+
+    def cross(self, x, y, side):
+        """Marks the square of a pixel by four arms beside it, white with a black edge."""
+        for edge, colour in ((1, BLACK), (0, WHITE)):
+            long, wide, middle = 2 * side + 4 + 2 * edge, 1 + 2 * edge, side // 2 - edge
+            for start in (-2 * side - 6 - edge, side + 2 - edge):
+                self.fill((x + start, y + middle, long, wide), colour)
+                self.fill((x + middle, y + start, wide, long), colour)
+
+    def fill(self, rect, colour):
+        """A rectangle in one colour, as far as it is in the picture."""
+        x, y, w, h = rect
+        left, right = max(0, x), min(self.w, x + w)
+        for row in range(max(0, y), min(self.h, y + h)):
+            self.put(left, row, colour * (right - left))
 
     def shrunk(self, n):
         """The picture with each square of n by n pixels as one, their average."""
