@@ -92,7 +92,8 @@ def hits(folder):
     marked = {(k % w, k // w) for k in range(w * h) if pixels[k * 4:k * 4 + 4] != before[k * 4:k * 4 + 4]}
     yield "four arms: %s" % sorted(marked), all(13 <= x <= 15 or 9 <= y <= 11 for x, y in marked) and not any(
         11 <= x <= 16 and 7 <= y <= 12 for x, y in marked) and {(10, 10), (17, 10), (14, 6), (14, 13)} <= marked
-    made = frames("--hit", "0,7", *words, "--only", "2", 8, 8, case / "frames", folder)
+    run = ",".join(str(case / name) for name in ("log", "1.viz", "2.viz"))
+    made = frames("--hit", "0,7", *words, "--run", run, "--only", "2", 8, 8, case / "frames", folder)
     yield made.stdout + made.stderr, made.stdout == "frame 2: (0, 7) hits nothing\n1 frames\n"
     other = folder / "other"
     other.mkdir()

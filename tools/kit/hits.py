@@ -3,6 +3,7 @@ frame's drawing as the schedule."""
 
 import re
 import tempfile
+from pathlib import Path
 
 from . import calling, inputs, log, words
 from .machine import Differs, replay
@@ -34,16 +35,24 @@ def surface(line):
     return ((client, sink), (parent, child, token)), (x, y)
 
 
+def parts(run):
+    """The log and the message files of a run: LOG,FILE,FILE,.. or a folder."""
+    if Path(run).is_dir() or "," not in str(run):
+        return Path(run) / "log", inputs.parts_in(Path(run))
+    name, *files = map(Path, run.split(","))
+    return name, files
+
+
 class Hits:
     """The program, asked what is hit at one point of the frames of a run."""
 
-    def __init__(self, given, folder, size, at):
+    def __init__(self, given, run, size, at):
         self.viz, self.size, self.at = calling.find(given.get("--viz")), size, at
-        self.files = inputs.parts_in(folder)
+        self.log, self.files = parts(run)
         files = inputs.clients(self.files)
         self.names = Names(files, inputs.client_names(given, self.files, len(files)))
-        with file(folder / "log"):
-            read = log.read((folder / "log").read_bytes())
+        with file(self.log):
+            read = log.read(self.log.read_bytes())
             self.schedule, self.ends = words.schedule_of(read.entries), drawings(read.entries)
             try:
                 replay(read, files, size)
