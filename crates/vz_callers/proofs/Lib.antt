@@ -1,0 +1,6 @@
+pub mod Called
+pub mod Rounds
+pub mod Crewing
+pub mod Sorting
+pub mod Ended
+pub mod Played

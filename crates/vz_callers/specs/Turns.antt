@@ -1,0 +1,32 @@
+-- What the callers of a plan leave.
+use Rattle.std.specs.Prelude.{◌≡◌, ℕ, zero, suc, ◌≤◌, List, [], ◌∷◌, ◌++◌, map, length, Some}
+use Rattle.vz_frame.specs.declared.message.ClientFile.{ClientFile}
+use Rattle.vz_rules.specs.Plan.{Plan}
+use Rattle.vz_rules.specs.World.{file_of}
+use Rattle.vz_rules.specs.Step.{Legal}
+use Rattle.vz_rules.specs.Course.{displayed}
+use Rattle.vz_rules.specs.Whole.{mine}
+use Rattle.vz_rules.specs.declared.entry.Entry.{Entry}
+use Rattle.vz_rules.specs.declared.entry.Event.{Event}
+use Rattle.vz_rules.specs.declared.entry.Event.TheVariants as event
+use Rattle.vz_callers.specs.Callers.{events_in}
+
+-- the events of a round of the display
+abbrev pub round : List Event
+round = event.Begin ∷ event.Draw ∷ event.Done ∷ []
+
+-- the events of so many rounds
+abbrev pub rounds : ℕ → List Event
+rounds zero = []
+rounds (suc n) = round ++ rounds n
+
+-- how many messages each client's file has
+abbrev pub message_counts : Plan → List ℕ
+message_counts p = map (λ (file : ClientFile). length file.messages) p.files
+
+-- a legal history in which the display's events are so many rounds, and each client has as many
+-- entries as its file has messages
+pub record IsTurns (p : Plan) (ticks : ℕ) (h : List Entry) : Type 0 where
+  pub legal : Legal p h
+  pub display : events_in (displayed h) ≡ rounds ticks
+  pub clients : (c : ℕ) (file : ClientFile) → 1 ≤ c → file_of p c ≡ Some file → length (mine h c) ≡ length file.messages
