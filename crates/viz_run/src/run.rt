@@ -27,7 +27,8 @@ pub struct Run {
     /// 0: done. 1: a log or its frames have a fault. 2: the words are refused. 3: an input is
     /// refused. 4: the shelf or the sink had a fault. 5: an allocation failed.
     pub status: u8,
-    /// The entries that `run`, `step` and `demo` made, in order. It is empty if none was made.
+    /// The entries that `run`, `step`, `demo` and `hit` made, in order. It is empty if none was
+    /// made.
     pub history: List<Entry>,
 }
 
