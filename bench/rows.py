@@ -15,6 +15,7 @@ from spelling import (
 from table import (
     DISHONEST, DISHONEST_LOG, EVENTS, PLAIN, QUAD_LOG, QUAD_PICTURE, TABLE, judged, put,
     refused, step)
+from turn_rows import all_turns
 
 
 def one_client():
@@ -275,6 +276,7 @@ def paths():
 
 
 for part in (one_client, runs, colours, submissions, waiting, damages, embeddings, cycles, paths,
-             by_rule, page_run, refused_files, refused_words, verdicts, failing, hits, cases):
+             by_rule, page_run, refused_files, refused_words, verdicts, failing, hits,
+             all_turns, cases):
     part()
 print("\n\n".join(TABLE))

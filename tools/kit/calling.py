@@ -17,6 +17,7 @@ FORMS = {  # the words of each command: names of numbers with their limits, name
     "gen": ("N FILE1 FILE2 FILE3", "", "FILE1 FILE2 FILE3"),
     "demo": ("N", "", ""),
     "hit": ("W H SCHEDULE X Y FILE..", "SCHEDULE FILE", ""),
+    "turns": ("W H TICKS FILE..", "FILE", ""),
 }
 MOST = {"W": 2048, "H": 2048, "TICKS": 256, "N": 1000, "X": 2047, "Y": 2047}
 LEAST = {"TICKS": 0, "X": 0, "Y": 0}

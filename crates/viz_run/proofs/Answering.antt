@@ -100,7 +100,7 @@ asked_part (Check w t f l names) i h is = all_played (plan_of (Check w t f l nam
 asked_part (Gen n first second third) i h is = all_played (plan_of (Gen n first second third) i) [] h is
 asked_part (Demo n) i h is = all_played (plan_of (Demo n) i) (events_for (Demo n) i) h is
 asked_part (Hit w t s x y names) i h is = all_played (plan_of (Hit w t s x y names) i) (events_for (Hit w t s x y names) i) h is
-asked_part (Turns w t ticks names) i h is = all_played (plan_of (Turns w t ticks names) i) [] h is
+asked_part (Turns w t ticks names) i h is = is.legal
 
 -- what was done was done in part
 pub done_front : (words : List Word) (h : List Entry) (before after : Site) (line : List ℕ) (status : ℕ) → DoesAll words h before after line status → LeavesFront words h before after

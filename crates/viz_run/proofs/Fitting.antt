@@ -1,4 +1,4 @@
--- What the words of `step`, `hit`, `check` and `run` say of the display, of the names and of the buffers.
+-- What the words of `step`, `hit`, `check`, `turns` and `run` say of the display, of the names and of the buffers.
 use Rattle.std.proofs.Common.{◌≡◌, ℕ, ◌+◌, ◌≤◌, ◌<◌, nat_lt, pos, Option, Some, None, List, [], ◌∷◌, length, Bool, true, false, not, ◌||◌, ◌&&◌, leb, IsTrue, sym, ap, ◌∙◌, arith}
 use Rattle.std.proofs.lemmas.Bool.{and_parts, leb-true, ltb-true}
 use Rattle.std.proofs.lemmas.Int.{ints}
@@ -8,7 +8,7 @@ use Rattle.vz_frame.specs.Fits.{within}
 use Rattle.vz_frame.specs.Frame.{has_repeat}
 use Rattle.vz_geom.specs.Display.{IsDisplaySize}
 use Rattle.vz_geom.specs.Rectangle.{has, sized}
-use Rattle.vz_rules.specs.Command.{Word, Run, Step, Check, Hit, fits_command, buffers_fit, buffer_count, frames_fit, are_sides, are_files, is_name, are_names, same_text}
+use Rattle.vz_rules.specs.Command.{Word, Run, Step, Check, Hit, Turns, fits_command, buffers_fit, buffer_count, frames_fit, are_sides, are_files, is_name, are_names, same_text}
 
 in_range : (low high n : ℕ) → within low high n ≡ true → (low ≤ n) × (n ≤ high)
 in_range low high n is =
@@ -108,6 +108,21 @@ module _ (w h : ℕ) (f l : Word) (files : List Word) (fits : IsTrue (fits_comma
 
   pub judged_files_fit : (1 ≤ length files) × (length files ≤ MOST_FILES)
   judged_files_fit = in_range 1 MOST_FILES (length files) judged_parts.1
+
+module _ (w h ticks : ℕ) (files : List Word) (fits : IsTrue (fits_command (Turns w h ticks files))) where
+  turns_parts : (are_sides w h ≡ true) × (are_files files ≡ true)
+  unfolding fits_command
+  turns_parts =
+      let most = and_parts (are_sides w h && leb ticks MOST_TICKS && frames_fit w h (ticks + 1) && are_files files) (are_names files) fits in
+      let four = and_parts (are_sides w h && leb ticks MOST_TICKS && frames_fit w h (ticks + 1)) (are_files files) most.0 in
+      let three = and_parts (are_sides w h && leb ticks MOST_TICKS) (frames_fit w h (ticks + 1)) four.0 in
+      ((and_parts (are_sides w h) (leb ticks MOST_TICKS) three.0).0, four.1)
+
+  pub turns_sides_fit : IsTrue (are_sides w h)
+  turns_sides_fit = turns_parts.0
+
+  pub turns_files_fit : (1 ≤ length files) × (length files ≤ MOST_FILES)
+  turns_files_fit = in_range 1 MOST_FILES (length files) turns_parts.1
 
 first_repeats : (t y z : Bool) → t ≡ true → not ((t || y) || z) ≡ true → ⊥
 first_repeats true y z is none = cc

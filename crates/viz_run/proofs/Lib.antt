@@ -14,6 +14,8 @@ mod Making
 mod Asked_names
 mod Takes
 mod Demonstrated
+mod Files_given
 mod Run_done
+mod Turns_done
 mod Hit_done
 mod Opened

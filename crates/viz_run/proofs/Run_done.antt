@@ -1,13 +1,8 @@
 -- From what a run came to to what `run` answers.
-use Rattle.std.proofs.Common.{◌≡◌, ℕ, ◌+◌, ◌<◌, ◌≤◌, Bool, Option, Some, None, List, [], ◌∷◌, ◌++◌, length, take, get_or, refl, sym, ap, subst, ◌∙◌, inr}
+use Rattle.std.proofs.Common.{◌≡◌, ℕ, ◌+◌, ◌<◌, ◌≤◌, Bool, Option, List, [], ◌∷◌, ◌++◌, length, take, get_or, sym, ap, subst, ◌∙◌, inr}
 use Rattle.std.proofs.lemmas.Grind.{take_at_read}
 use Rattle.std.proofs.lemmas.List.{map-append}
-use Rattle.vz_base.specs.declared.limits.TheConstants.{MOST_FILE_BYTES}
 use Rattle.vz_frame.specs.declared.message.ClientFile.{ClientFile}
-use Rattle.vz_inputs.specs.Read.{AreReadUpto}
-use Rattle.vz_inputs.specs.Refusals.{file_refused}
-use Rattle.vz_inputs.specs.declared.refused.Refused.{Refused}
-use Rattle.vz_outside.specs.Shelved.{Shelved}
 use Rattle.vz_outputs.specs.Written.{AreWhole, AreBegun}
 use Rattle.vz_rules.proofs.Chained.{written_is}
 use Rattle.vz_rules.specs.Command.{Word, Run, buffer_count}
@@ -18,7 +13,7 @@ use Rattle.vz_rules.specs.declared.entry.Entry.{Entry}
 use Rattle.vz_threads.specs.Courses.{IsRun}
 use Rattle.viz_run.specs.Causes.{DoesFor, LeavesFor}
 use Rattle.viz_run.specs.Ends.{TellsEnd, outputs_of}
-use Rattle.viz_run.specs.Inputs.{Inputs, AreRead, AreAccepted, first_some, first_refused, plan_of}
+use Rattle.viz_run.specs.Inputs.{Inputs, AreAccepted, plan_of}
 use Rattle.viz_run.specs.Ran.{counts_of}
 use Rattle.viz_run.specs.Site.{Site}
 
@@ -37,57 +32,41 @@ pub none_legal : (p : Plan) (h : List Entry) → h ≡ [] → Legal p h
 unfolding Legal LegalFrom
 none_legal p h empty = subst (Legal p) (sym empty) tt
 
--- the inputs of `run`, as they were read
-abbrev pub inputs_of : List (List ℕ) → Inputs
-inputs_of files = record { files = files; schedules = []; logs = []; frames = [] }
+module _
+    (paced : Bool) (buffers : Option ℕ) (pipe : Bool) (w t ticks : ℕ) (f l : Word) (names : List Word)
+    (i : Inputs) (p : Plan) (makes : p ≡ plan_of (Run paced buffers pipe w t ticks f l names) i) (h : List Entry) (before after : Site)
+    (accepted : AreAccepted before.shelf (Run paced buffers pipe w t ticks f l names) i)
+  where
+    -- all was done
+    pub run_does :
+        (line : List ℕ) (status : ℕ) → IsPlan p → 1 ≤ buffer_count buffers → IsRun p ticks paced h
+        → AreWhole (outputs_of (Run paced buffers pipe w t ticks f l names) p h) after.shelf
+        → after.steps ≡ before.steps + painted p h (buffer_count buffers)
+        → TellsEnd (Run paced buffers pipe w t ticks f l names) i h line status
+        → DoesFor (Run paced buffers pipe w t ticks f l names) h before after line status
+    run_does line status is some ran whole counted tells = (
+      i,
+      accepted,
+      record {
+        history = subst (λ (x : Plan). IsRun x ticks paced h) makes ran;
+        outputs = subst (λ (x : Plan). AreWhole (outputs_of (Run paced buffers pipe w t ticks f l names) x h) after.shelf) makes whole;
+        counted = counted ∙ ap (λ (x : Plan). before.steps + painted x h (buffer_count buffers)) makes;
+        whole = subst (λ (x : Plan). Honest x h → written x h (buffer_count buffers) ≡ frames x h) makes
+            (λ honest. written_is p h (buffer_count buffers) is ran.legal honest some);
+      },
+      tells,
+    )
 
-module _ (paced : Bool) (buffers : Option ℕ) (pipe : Bool) (w t ticks : ℕ) (f l : Word) (names : List Word) where
-  -- they were read for it
-  pub run_read : (files : List (List ℕ)) (s : Shelved) → AreReadUpto MOST_FILE_BYTES names files s → AreRead s (Run paced buffers pipe w t ticks f l names) (inputs_of files)
-  run_read files s read = record { files = read; schedules = tt; logs = tt; frames = tt }
-
-  -- the first that is refused
-  pub run_first : (files : List (List ℕ)) → first_refused (Run paced buffers pipe w t ticks f l names) (inputs_of files) ≡ file_refused files
-  run_first files = alone (file_refused files)
-    where
-      alone : (o : Option Refused) → first_some o None ≡ o
-      alone None = refl
-      alone (Some r) = refl
-
-  module _
-      (i : Inputs) (p : Plan) (makes : p ≡ plan_of (Run paced buffers pipe w t ticks f l names) i) (h : List Entry) (before after : Site)
-      (accepted : AreAccepted before.shelf (Run paced buffers pipe w t ticks f l names) i)
-    where
-      -- all was done
-      pub run_does :
-          (line : List ℕ) (status : ℕ) → IsPlan p → 1 ≤ buffer_count buffers → IsRun p ticks paced h
-          → AreWhole (outputs_of (Run paced buffers pipe w t ticks f l names) p h) after.shelf
-          → after.steps ≡ before.steps + painted p h (buffer_count buffers)
-          → TellsEnd (Run paced buffers pipe w t ticks f l names) i h line status
-          → DoesFor (Run paced buffers pipe w t ticks f l names) h before after line status
-      run_does line status is some ran whole counted tells = (
-        i,
-        accepted,
-        record {
-          history = subst (λ (x : Plan). IsRun x ticks paced h) makes ran;
-          outputs = subst (λ (x : Plan). AreWhole (outputs_of (Run paced buffers pipe w t ticks f l names) x h) after.shelf) makes whole;
-          counted = counted ∙ ap (λ (x : Plan). before.steps + painted x h (buffer_count buffers)) makes;
-          whole = subst (λ (x : Plan). Honest x h → written x h (buffer_count buffers) ≡ frames x h) makes
-              (λ honest. written_is p h (buffer_count buffers) is ran.legal honest some);
-        },
-        tells,
-      )
-
-      -- it was cut short
-      pub run_cut :
-          Legal p h → AreBegun (outputs_of (Run paced buffers pipe w t ticks f l names) p h) before.shelf after.shelf
-          → LeavesFor (Run paced buffers pipe w t ticks f l names) h before after
-      run_cut legal begun =
-          inr (
-            i,
-            accepted,
-            record {
-              history = subst (λ (x : Plan). Legal x h) makes legal;
-              outputs = subst (λ (x : Plan). AreBegun (outputs_of (Run paced buffers pipe w t ticks f l names) x h) before.shelf after.shelf) makes begun;
-            },
-          )
+    -- it was cut short
+    pub run_cut :
+        Legal p h → AreBegun (outputs_of (Run paced buffers pipe w t ticks f l names) p h) before.shelf after.shelf
+        → LeavesFor (Run paced buffers pipe w t ticks f l names) h before after
+    run_cut legal begun =
+        inr (
+          i,
+          accepted,
+          record {
+            history = subst (λ (x : Plan). Legal x h) makes legal;
+            outputs = subst (λ (x : Plan). AreBegun (outputs_of (Run paced buffers pipe w t ticks f l names) x h) before.shelf after.shelf) makes begun;
+          },
+        )

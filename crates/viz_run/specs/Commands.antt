@@ -1,18 +1,13 @@
 -- The commands that the program has, and which names they read and write.
-use Rattle.std.specs.Prelude.{ℕ, Bool, true, false, not, IsTrue, List, [], ◌∷◌, ◌++◌}
+use Rattle.std.specs.Prelude.{ℕ, Bool, true, not, IsTrue, List, [], ◌∷◌, ◌++◌}
 use Rattle.vz_base.specs.declared.limits.TheConstants.{DEFAULT_BUFFERS}
-use Rattle.vz_rules.specs.Command.{Word, Command, Run, Step, Check, Gen, Demo, Hit, IsCommand, buffer_count}
+use Rattle.vz_rules.specs.Command.{Word, Command, Run, Step, Check, Gen, Hit, Turns, IsCommand, buffer_count}
 
--- the program has the command; it refuses the words of the others, and of a run whose frames a
--- writer thread would write
+-- the program has the command; it refuses the words of a run whose frames a writer thread would
+-- write
 abbrev pub is_built : Command → Bool
 is_built (Run paced buffers pipe w h ticks frames log files) = not pipe
-is_built (Step w h schedule frames log files) = true
-is_built (Check w h frames log files) = true
-is_built (Gen n first second third) = true
-is_built (Demo n) = true
-is_built (Hit w h schedule x y files) = true
-is_built _ = false
+is_built _ = true
 
 -- the words ask for a command that the program has
 abbrev pub Asks : List Word → Command → Type 0
@@ -28,6 +23,7 @@ client_names (Run paced buffers pipe w h ticks frames log files) = files
 client_names (Step w h schedule frames log files) = files
 client_names (Check w h frames log files) = files
 client_names (Hit w h schedule x y files) = files
+client_names (Turns w h ticks files) = files
 client_names _ = []
 
 -- the name of the schedule, if the command has one

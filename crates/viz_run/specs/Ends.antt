@@ -9,13 +9,14 @@ use Rattle.vz_rules.specs.Plan.{Plan}
 use Rattle.vz_check.specs.Verdict.{IsVerdict}
 use Rattle.vz_check.specs.declared.verdict.Verdict.{Verdict}
 use Rattle.vz_inputs.specs.Refusals.{plan_read}
-use Rattle.vz_rules.specs.Command.{Word, Command, Run, Step, Check, Gen, Hit}
+use Rattle.vz_rules.specs.Command.{Word, Command, Run, Step, Check, Gen, Hit, Turns}
 use Rattle.vz_rules.specs.declared.entry.Event.{Event}
 use Rattle.vz_rules.specs.declared.entry.Entry.{Entry}
 use Rattle.vz_rules.specs.Step.{Legal}
 use Rattle.vz_rules.specs.Frames.{frames, written, painted, Honest}
 use Rattle.vz_rules.specs.Log.{log_text, rest_of}
 use Rattle.vz_threads.specs.Courses.{IsRun, frames_of}
+use Rattle.vz_callers.specs.Turns.{IsTurns}
 use Rattle.viz_run.specs.Commands.{buffers_of}
 use Rattle.viz_run.specs.Inputs.{Inputs, plan_of, events_for}
 use Rattle.viz_run.specs.Lines.{end_line, verdict_line, verdict_status}
@@ -31,18 +32,21 @@ pub record IsHistory (p : Plan) (events : List Event) (h : List Entry) : Type 0 
   pub all : events_in h ≡ events
 
 -- the history that a command asks for: for `run`, a legal one in which the display makes its
--- rounds, paced if that is asked, and all messages of each client are taken in time; for the other
--- commands, the legal one of exactly their events
+-- rounds, paced if that is asked, and all messages of each client are taken in time; for `turns`, a
+-- legal one of the display's rounds and of as many entries of each client as its file has messages;
+-- for the other commands, the legal one of exactly their events
 abbrev pub IsAsked : Command → Inputs → List Entry → Type 0
 IsAsked (Run paced buffers pipe w h ticks frames log files) i history =
     IsRun (plan_read (record { w = pos w; h = pos h }) i.files) ticks paced history
+IsAsked (Turns w h ticks files) i history = IsTurns (plan_read (record { w = pos w; h = pos h }) i.files) ticks history
 IsAsked c i history = IsHistory (plan_of c i) (events_for c i) history
 
--- a part of such a history: for `run`, a legal history; for the others, a legal history of a front
--- part of their events
+-- a part of such a history: for `run` and `turns`, a legal history; for the others, a legal history
+-- of a front part of their events
 abbrev pub IsPart : Command → Inputs → List Entry → Type 0
 IsPart (Run paced buffers pipe w h ticks frames log files) i history =
     Legal (plan_read (record { w = pos w; h = pos h }) i.files) history
+IsPart (Turns w h ticks files) i history = Legal (plan_read (record { w = pos w; h = pos h }) i.files) history
 IsPart c i history = (n : ℕ) × IsHistory (plan_of c i) (take n (events_for c i)) history
 
 -- the text of a history and of what is outstanding after it
@@ -68,9 +72,10 @@ outputs_of (Step w h schedule frames log files) p history =
 outputs_of (Gen n first second third) p history = named_files (first ∷ second ∷ third ∷ []) (make n)
 outputs_of _ p history = []
 
--- how many points a command paints for a history of a plan; `hit` paints none
+-- how many points a command paints for a history of a plan; `hit` and `turns` paint none
 abbrev pub points_of : Command → Plan → List Entry → ℕ
 points_of (Hit w h schedule x y files) p history = 0
+points_of (Turns w h ticks files) p history = 0
 points_of c p history = painted p history (buffers_of c)
 
 -- this is the right verdict on a log and its frames

@@ -4,7 +4,7 @@ use Rattle.std.specs.List.{flat_map}
 use Rattle.vz_base.specs.declared.limits.TheConstants.{MOST_FILE_BYTES, MOST_EVENTS, MOST_LOG_BYTES}
 use Rattle.vz_outside.specs.Shelved.{Shelved, Holds}
 use Rattle.vz_rules.specs.Plan.{Plan}
-use Rattle.vz_rules.specs.Command.{Word, Command, Run, Step, Check, Gen, Demo, Hit}
+use Rattle.vz_rules.specs.Command.{Word, Command, Run, Step, Check, Gen, Demo, Hit, Turns}
 use Rattle.vz_rules.specs.declared.entry.Event.{Event}
 use Rattle.vz_inputs.specs.Read.{AreReadUpto}
 use Rattle.vz_inputs.specs.Refusals.{file_refused, plan_read}
@@ -49,10 +49,10 @@ plan_of (Check w h frames log files) i = plan_read (record { w = pos w; h = pos 
 plan_of (Gen n first second third) i = demo_plan n
 plan_of (Demo n) i = demo_plan n
 plan_of (Hit w h schedule x y files) i = plan_read (record { w = pos w; h = pos h }) i.files
-plan_of _ i = record { files = []; size = record { w = pos 1; h = pos 1 } }
+plan_of (Turns w h ticks files) i = plan_read (record { w = pos w; h = pos h }) i.files
 
--- the events: those of the schedule, or of the demonstration; the events of a run are not known
--- beforehand
+-- the events: those of the schedule, or of the demonstration; the events of clients on threads are
+-- not known beforehand
 abbrev pub events_for : Command → Inputs → List Event
 events_for (Step w h schedule frames log files) i = flat_map events_of i.schedules
 events_for (Demo n) i = demo_events n

@@ -12,3 +12,5 @@ pub mod Scheduled
 pub mod Judged
 pub mod Made
 pub mod Ran
+pub mod Turned
+pub mod Planning

@@ -9,7 +9,7 @@ use Rattle.vz_check.specs.declared.verdict.Verdict.TheVariants as verdict
 use Rattle.vz_inputs.specs.declared.refused.Reason.{Reason}
 use Rattle.vz_inputs.specs.declared.refused.Reason.TheVariants as reason
 use Rattle.vz_inputs.specs.declared.refused.Refused.{Refused}
-use Rattle.vz_rules.specs.Command.{Command, Run, Step, Gen, Demo, Hit}
+use Rattle.vz_rules.specs.Command.{Command, Run, Step, Gen, Demo, Hit, Turns}
 use Rattle.vz_rules.specs.declared.entry.Entry.{Entry}
 use Rattle.vz_rules.specs.Course.{is_drawn}
 use Rattle.vz_rules.specs.Frames.{painted}
@@ -99,4 +99,5 @@ end_line (Demo n) p history =
     demo_text (length history) (drawn_count history) (upto_most (return_count history))
     (upto_most (painted p history DEFAULT_BUFFERS))
 end_line (Hit w h schedule x y files) p history = hit_text (hit_last p history (record { x = pos x; y = pos y }))
+end_line (Turns w h ticks files) p history = done_text (length history) (drawn_count history)
 end_line _ p history = []

@@ -11,6 +11,7 @@ mod judging;
 mod lines;
 mod make;
 mod perform;
+mod planning;
 mod playing;
 mod run;
 mod running;
@@ -18,5 +19,6 @@ mod sides;
 mod step;
 mod stop;
 mod telling;
+mod turns;
 
 pub use run::{Run, viz};

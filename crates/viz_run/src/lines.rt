@@ -28,7 +28,7 @@ const NOTHING_HIT_LINE: &str = "hit none\n";
 /// The line after the generated files are written.
 pub const MADE_LINE: &str = "made 3 files\n";
 
-/// The line of `run` and `step`: how many entries the history has, and how many frames.
+/// The line of `run`, `step` and `turns`: how many entries the history has, and how many frames.
 #[tactic(auto, unfolding(crate::specs::Lines::done_text))]
 pub fn done_line(alloc: Global, history: &[Entry]) -> Result<String, Memory>
     ensures { IfOk result (λ text. string_bytes text

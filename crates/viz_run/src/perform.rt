@@ -17,6 +17,7 @@ use crate::make::make_files;
 use crate::running::run;
 use crate::step::step;
 use crate::stop::Stop;
+use crate::turns::turns;
 use std::sync::Wait;
 use std::sync::ledger::Ledger;
 use std::thread::Threads;
@@ -75,7 +76,7 @@ where
             status: 0,
         }),
         Some(Command::Hit(words)) => hit(rt, &words, shelf, gate, history),
-        Some(Command::Turns(_)) => Err(Stop::Words),
+        Some(Command::Turns(words)) => turns(rt, &words, shelf, gate, history),
         None => Err(Stop::Words),
     }
 }

@@ -27,15 +27,16 @@ pub struct Run {
     /// 0: done. 1: a log or its frames have a fault. 2: the words are refused. 3: an input is
     /// refused. 4: the shelf or the sink had a fault. 5: an allocation failed.
     pub status: u8,
-    /// The entries that `run`, `step`, `demo` and `hit` made, in order. It is empty if none was
-    /// made.
+    /// The entries that `run`, `step`, `demo`, `hit` and `turns` made, in order. It is empty if
+    /// none was made.
     pub history: List<Entry>,
 }
 
 /// Runs the program. `words` are those of the command line after the program's name, `shelf` has
 /// the files that they name, and `out` gets the line that reports how it ended. `gate` is called
 /// before and after each step, and `steps` counts each pixel that is made or painted. `rt` gives
-/// memory, and the threads of `run`, for which this call waits; no clause says that they end.
+/// memory, and the threads of `run` and `turns`, for which this call waits; no clause says that
+/// they end.
 pub fn viz<F: Shelf + Send, O: Sink, G: Gate + Sync, L: Ledger, R>(
     rt: &R,
     words: &[String],

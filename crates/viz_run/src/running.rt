@@ -4,13 +4,11 @@ ghost use Rattle.std.specs.Prelude.{IfOk, IfErr, OnErr, IsErrOf};
 ghost use Rattle.vz_inputs.specs.Read.{MissesOne};
 ghost use Rattle.vz_inputs.specs.declared.refused.Refused.{Refused as Refusal};
 ghost use Rattle.vz_outputs.specs.Written.{KeepsAllBut};
-ghost use Rattle.vz_outside.specs.Shelved.{SameFiles};
 ghost use Rattle.vz_rules.specs.Command.{fits_command};
 ghost use Rattle.viz_run.specs.Commands.{input_names, output_names};
-ghost use Rattle.viz_run.specs.Inputs.{Inputs, AreAccepted, plan_of};
 ghost use Rattle.viz_run.specs.Causes.{DoesFor, RefusesFor, LeavesFor};
 ghost use Rattle.viz_run.specs.Ends.{IsUnbegun};
-ghost use Rattle.viz_run.specs.Ran.{command_of, counts_of};
+ghost use Rattle.viz_run.specs.Ran.{command_of};
 ghost use Rattle.viz_run.specs.Site.{site};
 ghost use Rattle.viz_run.specs.Stops.{Behaves, IsRefusal};
 ghost use Rattle.viz_run.specs.declared.stop.Stop.TheVariants as stops;
@@ -18,20 +16,17 @@ ghost use Rattle.viz_run.specs.declared.stop.Stop.TheVariants as stops;
 use crate::coursing::play_run;
 use crate::end::End;
 use crate::lines::done_line;
+use crate::planning::{message_counts, read_plan};
 use crate::sides::size_of;
 use crate::stop::Stop;
-use std::alloc::Global;
 use std::sync::Wait;
 use std::sync::ledger::Ledger;
 use std::thread::Threads;
-use vz_base::Memory;
-use vz_base::limits::MOST_FILE_BYTES;
 use vz_buffers::Steps;
-use vz_frame::{ClientFile, List};
-use vz_inputs::{plan_of, read_files};
+use vz_frame::List;
 use vz_manager::Manager;
 use vz_outside::{Gate, Shelf};
-use vz_rules::{Entry, Plan};
+use vz_rules::Entry;
 use vz_words::RunWords;
 
 /// Runs the clients' files, each on a thread of its own beside the display, writes the frames and
@@ -65,7 +60,8 @@ where
         (MissesOne (input_names (command_of words.now)) (F.shelved shelf.old))
         (F.shelved shelf.old) (F.shelved shelf.new) result }
 {
-    let plan = admit(rt, shelf, words)?;
+    let size = size_of(words.width, words.height);
+    let plan = read_plan(rt, shelf, size, words.files)?;
     let counts = message_counts(rt.alloc(), plan.files())?;
     let machine = Manager::open(rt.alloc(), plan)?;
     play_run(rt, machine, &counts, words, shelf, gate, steps, history)?;
@@ -73,37 +69,4 @@ where
         line: done_line(rt.alloc(), history.as_slice())?,
         status: 0,
     })
-}
-
-/// Reads the clients' files before it tests any of them, and returns the plan that they make.
-fn admit<F: Shelf, R: Threads + AllocGlobal + Sync>(
-    rt: &R,
-    shelf: &mut F,
-    words: &RunWords<'_>,
-) -> Result<Plan, Stop>
-    requires { IsTrue (fits_command (command_of words.now)) }
-    ensures accepted { IfOk result (λ plan. (i : Inputs)
-        × AreAccepted (F.shelved shelf.old) (command_of words.now) i
-        × (plan ≡ plan_of (command_of words.now) i)) }
-    ensures words { IsErrOf result stops.Words → ⊥ }
-    ensures input { (r : Refusal) → IsErrOf result (stops.Input r)
-        → RefusesFor (command_of words.now) (F.shelved shelf.old) r }
-    ensures files { SameFiles (F.shelved shelf.old) (F.shelved shelf.new) }
-    ensures behaves { Behaves
-        (MissesOne (input_names (command_of words.now)) (F.shelved shelf.old))
-        (F.shelved shelf.old) (F.shelved shelf.new) result }
-{
-    let files = read_files(rt.alloc(), shelf, words.files, MOST_FILE_BYTES)?;
-    Ok(plan_of(rt, size_of(words.width, words.height), &files)?)
-}
-
-/// How many messages each client's file has, in the order of the files.
-fn message_counts(alloc: Global, files: &[ClientFile]) -> Result<Vec<u64>, Memory>
-    ensures counts { IfOk result (λ counts. counts.items ≡ counts_of files.now) }
-{
-    let mut counts = Vec::new(alloc);
-    for file in files {
-        counts.push(file.messages.as_slice().len() as u64)?;
-    }
-    Ok(counts)
 }

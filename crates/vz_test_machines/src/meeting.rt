@@ -8,7 +8,10 @@ use std::thread;
 const MOST_TURNS: u32 = 100_000;
 
 /// A `run` of two files.
-const LINE: &str = "run 4 2 0 f l a b";
+const RUN: &str = "run 4 2 0 f l a b";
+
+/// The `turns` of two files.
+const TURNS: &str = "turns 4 2 0 a b";
 
 /// The file of client 1, with the sink (1, 1) and one message, a Reclaim.
 const FIRST: [u8; 19] = [
@@ -76,6 +79,14 @@ fn came(mark: &AtomicBool) -> bool {
 fn each_client_has_a_thread(rt: HostRuntime) {
     let files = [("a", FIRST.as_slice()), ("b", SECOND.as_slice())];
     let gate = TestGate::Meeting(MeetingGate::new());
-    let status = status_through(&rt, LINE, files.as_slice(), &gate);
+    let status = status_through(&rt, RUN, files.as_slice(), &gate);
+    assert!(rt; status == Some(0) && gate.is_content());
+}
+
+#[test]
+fn each_client_of_turns_has_a_thread(rt: HostRuntime) {
+    let files = [("a", FIRST.as_slice()), ("b", SECOND.as_slice())];
+    let gate = TestGate::Meeting(MeetingGate::new());
+    let status = status_through(&rt, TURNS, files.as_slice(), &gate);
     assert!(rt; status == Some(0) && gate.is_content());
 }

@@ -201,9 +201,36 @@ pub returns-in-Some-Hit-clause-behaves : goal.returns-in-Some-Hit-clause-behaves
 returns-in-Some-Hit-clause-behaves g c =
     behaves_for c.hit.result _ _ (misses_of (texts c.args.words.now) _ (asks_for (texts c.args.words.now) _ _ c.in-Some-Hit.field-0-is c.in-Some-Hit.ensures.found refl) _) c.hit.ensures.behaves
 
+pub turns-requires-clause-fits : goal.turns-requires-clause-fits
+turns-requires-clause-fits g c = λ _ _. asked_fits _ _ (asks_for (texts c.args.words.now) _ _ c.in-Some-Turns.field-0-is c.in-Some-Turns.ensures.found refl).0
+
+pub returns-in-Some-Turns-clause-done : goal.returns-in-Some-Turns-clause-done
+returns-in-Some-Turns-clause-done g c =
+    if_ok c.turns.result _ _ (λ line does. (_, (asks_for (texts c.args.words.now) _ _ c.in-Some-Turns.field-0-is c.in-Some-Turns.ensures.found refl), does c.args.steps.now)) c.turns.ensures.done
+
 pub returns-in-Some-Turns-clause-words : goal.returns-in-Some-Turns-clause-words
 returns-in-Some-Turns-clause-words g c =
-    λ is. unbuilt_found (texts c.args.words.now) _ _ c.in-Some-Turns.field-0-is c.in-Some-Turns.ensures.found refl
+    λ is. absurd (c.turns.ensures.words is)
+
+pub returns-in-Some-Turns-clause-input : goal.returns-in-Some-Turns-clause-input
+returns-in-Some-Turns-clause-input g c =
+    λ r is. (_, (asks_for (texts c.args.words.now) _ _ c.in-Some-Turns.field-0-is c.in-Some-Turns.ensures.found refl), c.turns.ensures.input r is)
+
+pub returns-in-Some-Turns-clause-unbegun : goal.returns-in-Some-Turns-clause-unbegun
+returns-in-Some-Turns-clause-unbegun g c =
+    if_err c.turns.result _ _ (λ s unbegun refusal. unbegun refusal c.args.steps.now) c.turns.ensures.unbegun
+
+pub returns-in-Some-Turns-clause-front : goal.returns-in-Some-Turns-clause-front
+returns-in-Some-Turns-clause-front g c =
+    at_err c.turns.result _ _ (λ leaves. inr (_, (asks_for (texts c.args.words.now) _ _ c.in-Some-Turns.field-0-is c.in-Some-Turns.ensures.found refl), leaves c.args.steps.now)) c.turns.ensures.front
+
+pub returns-in-Some-Turns-clause-others : goal.returns-in-Some-Turns-clause-others
+returns-in-Some-Turns-clause-others g c =
+    λ told name none. c.turns.ensures.files told name
+
+pub returns-in-Some-Turns-clause-behaves : goal.returns-in-Some-Turns-clause-behaves
+returns-in-Some-Turns-clause-behaves g c =
+    behaves_for c.turns.result _ _ (misses_of (texts c.args.words.now) _ (asks_for (texts c.args.words.now) _ _ c.in-Some-Turns.field-0-is c.in-Some-Turns.ensures.found refl) _) c.turns.ensures.behaves
 
 pub returns-in-None-clause-words : goal.returns-in-None-clause-words
 returns-in-None-clause-words g c =

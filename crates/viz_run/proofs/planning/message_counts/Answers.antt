@@ -1,7 +1,7 @@
 use Rattle.std.proofs.Common.{◌∙◌, ap, take_all, length}
 use Rattle.viz_run.specs.Ran.{counts_of}
 use Rattle.viz_run.proofs.Run_done.{counts_more}
-use Rattle.viz_run.proofs.running.message_counts.Goals as goal
+use Rattle.viz_run.proofs.planning.message_counts.Goals as goal
 
 pub loop-file-preserved : goal.loop-file-preserved
 loop-file-preserved c =

@@ -1,6 +1,6 @@
 use Rattle.std.proofs.Common.{◌≡◌, take}
 use Rattle.viz_run.specs.Ran.{counts_of}
-use Rattle.viz_run.proofs.running.message_counts.Given as goal
+use Rattle.viz_run.proofs.planning.message_counts.Given as goal
 
 -- the counts of the first files
 abbrev pub invariant-loop-file : goal.invariant-loop-file

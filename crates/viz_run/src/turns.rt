@@ -1,0 +1,69 @@
+//! The command `turns`: clients and the display call one hub on threads, without painting.
+ghost use Rattle.std.specs.Prelude.{◌≡◌, ◌≤◌, ℕ, [], IsTrue, string_bytes};
+ghost use Rattle.std.specs.Prelude.{IfOk, IfErr, OnErr, IsErrOf};
+ghost use Rattle.vz_inputs.specs.Read.{MissesOne};
+ghost use Rattle.vz_inputs.specs.declared.refused.Refused.{Refused as Refusal};
+ghost use Rattle.vz_outside.specs.Shelved.{SameFiles};
+ghost use Rattle.vz_rules.specs.Command.{fits_command};
+ghost use Rattle.viz_run.specs.Commands.{input_names};
+ghost use Rattle.viz_run.specs.Causes.{DoesFor, RefusesFor, LeavesFor};
+ghost use Rattle.viz_run.specs.Ends.{IsUnbegun};
+ghost use Rattle.viz_run.specs.Site.{site};
+ghost use Rattle.viz_run.specs.Stops.{Behaves, IsRefusal};
+ghost use Rattle.viz_run.specs.Turned.{command_of};
+ghost use Rattle.viz_run.specs.declared.stop.Stop.TheVariants as stops;
+
+use crate::end::End;
+use crate::lines::done_line;
+use crate::planning::{message_counts, read_plan};
+use crate::sides::size_of;
+use crate::stop::Stop;
+use std::sync::Wait;
+use std::thread::Threads;
+use vz_callers::play_turns;
+use vz_frame::List;
+use vz_manager::Manager;
+use vz_outside::{Gate, Shelf};
+use vz_rules::Entry;
+use vz_words::TurnsWords;
+
+/// Lets a thread of each client call one hub for each of its messages, while this thread makes the
+/// rounds of the display, and returns the line that tells how many entries and frames there were.
+/// It paints nothing and writes no file, so no count of steps changes.
+pub fn turns<F: Shelf, G: Gate + Sync, R>(
+    rt: &R,
+    words: &TurnsWords<'_>,
+    shelf: &mut F,
+    gate: &G,
+    history: &mut List<Entry>,
+) -> Result<End, Stop>
+where
+    R: Threads + Wait + AllocGlobal + Sync,
+    requires fits { IsTrue (fits_command (command_of words.now)) }
+    requires empty { history.old ≡ [] }
+    ensures done { IfOk result (λ ended. (steps : ℕ) → DoesFor (command_of words.now) history.new
+        (site (F.shelved shelf.old) steps) (site (F.shelved shelf.new) steps)
+        (string_bytes ended.line) ended.status) }
+    ensures low { IfOk result (λ ended. ended.status ≤ 1) }
+    ensures words { IsErrOf result stops.Words → ⊥ }
+    ensures input { (r : Refusal) → IsErrOf result (stops.Input r)
+        → RefusesFor (command_of words.now) (F.shelved shelf.old) r }
+    ensures unbegun { IfErr result (λ stop. IsRefusal stop → (steps : ℕ) → IsUnbegun history.new
+        (site (F.shelved shelf.old) steps) (site (F.shelved shelf.new) steps)) }
+    ensures front { OnErr result ((steps : ℕ) → LeavesFor (command_of words.now) history.new
+        (site (F.shelved shelf.old) steps) (site (F.shelved shelf.new) steps)) }
+    ensures files { SameFiles (F.shelved shelf.old) (F.shelved shelf.new) }
+    ensures behaves { Behaves
+        (MissesOne (input_names (command_of words.now)) (F.shelved shelf.old))
+        (F.shelved shelf.old) (F.shelved shelf.new) result }
+{
+    let size = size_of(words.width, words.height);
+    let plan = read_plan(rt, shelf, size, words.files)?;
+    let counts = message_counts(rt.alloc(), plan.files())?;
+    let machine = Manager::open(rt.alloc(), plan)?;
+    play_turns(rt, machine, &counts, words.ticks, gate, history)?;
+    Ok(End {
+        line: done_line(rt.alloc(), history.as_slice())?,
+        status: 0,
+    })
+}
