@@ -3,6 +3,7 @@
 
 import random
 import subprocess
+import sys
 from pathlib import Path
 
 from kit import build, calling, log, png
@@ -46,6 +47,9 @@ def schedules(folder):
     yield says("replay", [folder / "long"], 2, "LOG SCHEDULE")
     case = CASES / "switch_and_gutter"
     yield says("replay", [case / "log", folder / "o", 8, 8, case / "1.viz"], 1, "more than 1 clients")
+    yield says("replay", [case / "log", folder / "o", 8, 9, case / "1.viz"], 1, "has 8 by 8 pixels, not 8 by 9")
+    yield says("replay", [folder / "long", folder / "long"], 1, "it is read too")
+    yield says("replay", [case / "log", folder / "long" / "s"], 1, "long: a file, not a folder")
     if VIZ:
         yield from played_again(folder)
 
@@ -84,6 +88,7 @@ def explained(folder):
         (folder / "log").write_text("".join(line + "\n" for line in lines))
         return ["--picture", folder / "why.png", 8, 8, frames, folder / "log", *files]
     yield says("why", words(good), 0, "yes")
+    yield says("why", ["--picture", folder / "why.jpg", *words(good)[2:]], 2, "its name ends in .png")
     yield says("why", words(["draw busy", *good[1:]]), 1, "no 1 Reply", "found:    draw busy", "expected: draw noroot")
     yield says("why", words([*good[:6], "done shown p2.1", *good[7:]]), 1, "no 7 Reply", "expected: done nothing")
     yield says("why", words([good[0], "c9 left", *good[2:]]), 1, "no 2 Reply", "there are 2 clients")
@@ -167,7 +172,8 @@ def differences(folder):
                "frame 2: 1 of 64 pixels differ, within 1 by 1 at (5, 0), by at most 255")
     yield "a picture", png.read((folder / "d.png").read_bytes())[:2] == (208, 72)
     yield says("diff", [case, folder / "none"], 1, "No such file")
-    yield says("diff", ["--picture", folder / "d.jpg", case, other], 1, "its name ends in .png")
+    yield says("diff", ["--picture", folder / "d.jpg", case, case], 2, "its name ends in .png")
+    yield says("diff", ["--size", "8x9", case, case], 1, "has 8 by 8 pixels, not 8 by 9")
     yield says("diff", [case], 2, "two folders")
     (other / "frames").write_bytes(data[1:])
     yield says("diff", [case, other], 1, "not whole frames of 8 by 8")
@@ -185,12 +191,14 @@ def manual(folder):
     for command in calling.FORMS:
         yield command, ".B viz\n%s " % command in (folder / "all.1").read_text()
     (folder / "none.md").write_text("nothing\n")
+    yield says("man", [folder / "none.md", "-o", folder / "none.md"], 1, "it is read too")
     yield says("man", [folder / "none.md", "-o", folder / "viz.1"], 1, "it has no table whose first column is 'words'")
 
 
 def completed(_folder):
     """Options are completed to those that --help lists."""
-    for name, begun, want in (("frames", "--h", "--help --hit"), ("replay", "--h", "--help"), ("view", "--na", "--names")):
+    for name, begun, want in (("frames", "--h", "--help --hit"), ("replay", "--h", "--help"), ("view", "--na", "--names"),
+                              ("viz", "", "check demo gen hit run step turns"), ("viz", "tu", "turns"), ("scene", "s", "show")):
         done = subprocess.run(["bash", "-c", '. tools/completion.bash; COMP_WORDS=("tools/$0" "$1"); COMP_CWORD=1; _viz_tools; '
                                'echo "${COMPREPLY[@]}"', name, begun], cwd=TOOLS.parent, capture_output=True, text=True)
         yield "%s %s: %s%s" % (name, begun, done.stdout, done.stderr), done.stdout.split() == want.split()
@@ -225,6 +233,19 @@ def wrapped(folder):
         yield says("viz", ["--viz", VIZ, "hit", 4, 2, rest[0], 3, 1, ONE_QUAD], 0, "hit none")
 
 
+def samples(folder):
+    """The words of the samples are looked at before one runs."""
+    for name, words, status, said in (
+            ("run", [ONE_QUAD, "pgae"], 2, "pgae: no sample; there are browser, dishonest"), ("run", ["pgae"], 2, "pgae: no such program"),
+            ("run", ["--out", ONE_QUAD, ONE_QUAD, "page"], 1, "a file, not a folder"), ("run", ["--fast"], 2, "--out FOLDER"),
+            ("browser/run", [folder / "none"], 1, "none: no such program"), ("browser/run", [ONE_QUAD, folder / "p.jpg"], 2, "its name ends in .png")):
+        yield says("../examples/" + name, words, status, said)
+    yield says("test", ["--only"], 2, "--only wants a word after it")
+    done = subprocess.run([sys.executable, TOOLS / "test", "--browser", folder], capture_output=True, text=True, env={"PATH": str(folder)})
+    yield "no browser: %s" % done.stderr, done.returncode == 1 and done.stderr.startswith("--browser: no browser is in PATH") and done.stderr.count("\n") == 1
+    yield says("scene", ["build", EXAMPLES / "page", folder / "page"], 0, "step 128 72")
+
+
 def commands(folder):
     """`play` and `reftest` with the program, and their errors."""
     scene = EXAMPLES / "resize" / "scene.toml"
@@ -247,6 +268,7 @@ def commands(folder):
     yield says("play", ["--viz", VIZ, "--out", folder / "o", folder / "a.toml"], 1, "a.toml: it has no display")
 
 
-PARTS = (("help of the tools", helps), ("schedules of logs", schedules), ("painted frames", painted), ("faults explained", explained),
-         ("verdicts of check", verdicts), ("runs compared", differences), ("words of the program", wrapped), ("man page", manual), ("completion", completed),
-         ("play and reftest", commands))
+PARTS = (("help of the tools", helps), ("schedules of logs", schedules), ("painted frames", painted),
+         ("faults explained", explained), ("verdicts of check", verdicts), ("runs compared", differences),
+         ("words of the program", wrapped), ("man page", manual), ("completion", completed),
+         ("words of the samples", samples), ("play and reftest", commands))

@@ -59,7 +59,7 @@ def refused(folder):
             (("--buffers", 9, 4, 2), 2, "--buffers is 1 to 4"), (("--fit", 8, 4, 2), 2, "--fit is 16 to 2048"),
             (("--fit", 32, "--scale", 2, 4, 2), 2, "without --scale"), (("--only", "2-1", 4, 2), 2, "a frame's number is 1 to 1"),
             (("--strip", 4, 2), 2, "its name ends in .png"), (("--animate", 0, 4, 2), 2, "--animate is 1 to"),
-            (("--damage", folder / "log", 2, 4), 1, "W and H are swapped"), ((2, 4), 0, "are W and H swapped?"), ((4, 2), 0, "")):
+            (("--damage", folder / "log", 2, 4), 1, "W and H are swapped"), ((2, 4), 1, "W and H are swapped"), ((4, 2), 0, "")):
         made = frames(*words, folder / "f", folder / "o.jpg")
         yield "%s: %d %s" % (words, made.returncode, made.stderr), made.returncode == status and said in made.stderr
     yield "no picture in a JPEG name", not (folder / "o.jpg").is_file()
@@ -139,13 +139,41 @@ def timelines(folder):
     (folder / "log").write_text("c1 rooted\nbegin ticked 1\nbegin ticked 2\nc1 began 2\nc1 accepted 1 1 +1.1\nbegin ticked 3\nc1 noted\nopen 1.1\nend\n")
     story("--scene", folder / "late.toml", "--svg", folder / "l.svg", folder / "log")
     yield "late", (folder / "l.svg").read_text(encoding="utf-8").count("a newer begin-frame is there") == 1
-    for words, said in ((("--names", "a,a,a"), "different names"), (("--names", "a,,b"), "different names"), (("--range", "9-3"), "after the last"),
+    for words, said in ((("--svg", folder / "t.png"), "its name ends in .svg"),
+                        (("--names", "a,a,a"), "different names"), (("--names", "a,,b"), "different names"), (("--range", "9-3"), "after the last"),
                         (("--range", "1-99"), "is 1 to 20"), (("--names", "a", "--scene", waiting / "scene.toml"), "wants 3 names")):
         made = story(*words, waiting / "log")
         yield "%s: %s" % (words, made.stderr), made.returncode == 2 and said in made.stderr
-    full = subprocess.run("'%s' --help > /dev/full" % (TOOLS / "story"), shell=True, capture_output=True, text=True)
-    yield "a full output: %s" % full.stderr, full.returncode == 1 and full.stderr.count("\n") == 1
+    (folder / "d.svg").mkdir()
+    made = story("--svg", folder / "d.svg", waiting / "log")
+    yield "a folder: %s" % made.stderr, made.returncode == 1 and "a folder, not a file" in made.stderr
 
 
-PARTS = (("timelines", timelines), ("fitted pictures", fitted), ("animated pictures", animated), ("what is hit", hits),
+def full(_folder):
+    """A full output is one line, of each tool and sample."""
+    for name in ("story", "scene", "test", "man", "../examples/run", "../examples/browser/run"):
+        done = subprocess.run("'%s' --help > /dev/full" % (TOOLS / name), shell=True, capture_output=True, text=True)
+        yield "%s: %s" % (name, done.stderr), done.returncode == 1 and done.stderr.count("\n") == 1 and "No space" in done.stderr
+
+
+def small(folder):
+    """An outline is whole in a picture that is smaller than the frame, and wide enough to be seen in a larger one."""
+    (folder / "small").mkdir()
+    (folder / "small" / "log").write_text("draw drawn 0 0 60 30\ndraw drawn 9 8 20 10\nend\n")
+    (folder / "small" / "frames").write_bytes(bytes((0, 0, 0, 255)) * (60 * 30 * 2))
+    for words, want, corners in ((("--fit", 20), (20, 10), ((3, 2), (9, 5))), (("--shrink", 2), (30, 15), ((4, 4), (14, 8))),
+                                 (("--fit", 125), (120, 60), ((18, 16), (57, 35))), (("--scale", 3, "--shrink", 2), (90, 45), ((13, 12), (43, 26)))):
+        frames(*words, "--damage", folder / "small" / "log", 60, 30, folder / "small" / "frames", folder / "out")
+        w, h, pixels = png.read((folder / "out" / "002.png").read_bytes())
+        ink = [(k % w, k // w) for k in range(w * h) if pixels[k * 4:k * 4 + 3] == bytes((255, 0, 255))]
+        yield "%s: %s to %s" % (words, min(ink), max(ink)), (w, h) == want and (min(ink), max(ink)) == corners
+    for sides, said in ((("30", "60"), "not 30 by 60; W and H are swapped"), (("90", "20"), "not 90 by 20\n")):
+        made = frames(*sides, folder / "small" / "frames", folder / "out")
+        yield "%s: %s" % (sides, made.stderr), made.returncode == 1 and said in made.stderr
+    for words, status, said in ((("--strip", folder / "p.jpg"), 2, "its name ends in .png"), ((folder / "small" / "log",), 1, "a file, not a folder")):
+        made = frames(*words[:-1], 60, 30, folder / "small" / "frames", words[-1])
+        yield "%s: %s" % (words, made.stderr), made.returncode == status and said in made.stderr
+
+
+PARTS = (("a full output", full), ("small pictures", small), ("timelines", timelines), ("fitted pictures", fitted), ("animated pictures", animated), ("what is hit", hits),
          ("words of frames", refused))

@@ -2,8 +2,10 @@
 The page's script is run by `node`, without a browser, if there is one (test_page/drive.js)."""
 
 import json
+import re
 import shutil
 import subprocess
+from html.parser import HTMLParser
 from pathlib import Path
 
 from kit import build, inputs, log, wire
@@ -139,6 +141,104 @@ def shows(name, page, size, files, log_name):
     yield name + " has all pixels", "".join(json.loads(answers[1])) == data
 
 
+class Tags(HTMLParser):
+    """The elements of a page: which are open, their ids, and what is wrong."""
+
+    def __init__(self, text):
+        super().__init__()
+        self.opened, self.ids, self.faults, self.names = [], [], [], set()
+        self.feed(text)
+        self.close()
+
+    def handle_starttag(self, tag, attrs):
+        names = [name for name, _ in attrs]
+        self.ids += [value for name, value in attrs if name == "id"]
+        self.names.update(names)
+        if len(set(names)) < len(names):
+            self.faults.append("<%s> has an attribute twice" % tag)
+        if tag not in ("meta", "link", "input"):
+            self.opened.append(tag)
+
+    def handle_endtag(self, tag):
+        if not self.opened or self.opened.pop() != tag:
+            self.faults.append("</%s> at line %d" % (tag, self.getpos()[0]))
+
+
+ABROAD = (r"https?:", r"\bsrc\s*=", r"@import", r"\burl\(", r"\bfetch\(", r"XMLHttpRequest", r"WebSocket", r"\bimport\(", r"EventSource", r"sendBeacon")
+
+
+def alone(folder):
+    """The page is well formed, whatever its title and its names are, and refers to nothing outside itself."""
+    case, page = CASES / "switch_and_gutter", folder / "page.html"
+    made = view("-o", page, "--title", "</title><b>&\"'", "--names", "a</script>,<i>&b", case / "log", case / "frames", case / "1.viz", case / "2.viz")
+    yield made.stderr or "made", made.returncode == 0
+    text = page.read_text(encoding="utf-8")
+    tags = Tags(text)
+    yield "well formed: %s %s" % (tags.faults, tags.opened), not tags.faults and not tags.opened
+    yield "ids", len(set(tags.ids)) == len(tags.ids)
+    yield "ids of the script", set(re.findall(r'\$\("([a-z-]+)"\)', text)) <= set(tags.ids)
+    yield "no attribute acts: %s" % tags.names, not any(name.startswith("on") for name in tags.names)
+    plain = re.sub(r'<script type="text/plain".*?</script>', "", text, flags=re.DOTALL)
+    for word in ABROAD:
+        yield "nothing outside: %s" % word, not re.search(word, plain)
+    yield "links", re.findall(r'href="[^"]*"', plain) == ['href="data:,"']
+
+
+GROW = """(() => {
+  const size = lines.length, times = Math.ceil(60000 / size), subs = run.subs.slice(), draws = run.draws.slice();
+  const shifted = (e, by) => e < 0 ? e : e + by;
+  for (let k = 1; k < times; k++) {
+    const by = k * size;
+    for (let e = 0; e < size; e++) { lines.push(lines[e]); sentences.push(sentences[e]); }
+    for (const sub of subs) {
+      const made = sub.slice();
+      for (const column of [AT, ACTIVE, ENDED, FED]) made[column] = shifted(made[column], by);
+      if (made[ENDED] < 0) made[ENDED] = by + size - 1;
+      run.subs.push(made);
+    }
+    for (const draw of draws) run.draws.push([draw[0] + by, ...draw.slice(1)]);
+  }
+  clientOf = new Uint8Array(lines.length);
+  lines.forEach((line, e) => { clientOf[e] = line[0] === "c" ? parseInt(line.slice(1), 10) : 0; });
+  run.lanes = lanesOf();
+  filter.update();
+  let calls = 0;
+  const counting = new Proxy({}, { get: () => () => { calls++; }, set: () => true });
+  timeline.context = counting;
+  timeline.whole();
+  const found = {}, cpu = () => { const used = process.cpuUsage(); return (used.user + used.system) / 1000; };
+  const timed = (name, act) => {
+    act();
+    calls = 0;
+    const start = cpu();
+    for (let k = 0; k < 3; k++) act();
+    found[name] = [Math.round((cpu() - start) / 3), Math.round(calls / 3)];
+  };
+  timed("all of the timeline", () => timeline.paint());
+  for (const step of [0.1, 1, 4, 30]) timed("columns of " + step, () => { timeline.step = step; timeline.start_ = lines.length / 3; timeline.paint(); });
+  TABS.forEach((tab, k) => { showTab(tab); timed("an entry, tab " + tab, () => goTo(Math.floor(lines.length * (0.3 + 0.1 * k)))); });
+  timed("a search", () => { filter.text = "accepted"; refilter(); });
+  timed("the next that is found", () => goTo(filter.next(1000, 1)));
+  return [lines.length, run.subs.length, found];
+})()"""
+
+
+def quick(folder):
+    """At 60,000 entries nothing that the page does takes long: milliseconds of a processor, and calls of the canvas."""
+    if not shutil.which("node"):
+        return
+    for name in ("storm_610", "frames_946"):
+        case, page = CASES / name, folder / (name + ".html")
+        view(case / "log", case / "frames", *sorted(case.glob("*.viz"), key=lambda p: int(p.stem)), "-o", page)
+        answers = drive(page, "ask:" + GROW)
+        yield "%s: %s" % (name, answers), answers[0] != "error"
+        if answers[0] != "error":
+            entries, subs, found = json.loads(answers[0])
+            yield "%d entries, %d frames" % (entries, subs), entries >= 60000
+            for what, (spent, calls) in found.items():
+                yield "%s, %s: %d ms, %d calls" % (name, what, spent, calls), spent < 150 and calls < 40000
+
+
 def refused(folder):
     """Wrong inputs are told in a line."""
     case = CASES / "switch_and_gutter"
@@ -155,9 +255,14 @@ def refused(folder):
             (("-o", folder / "p", "--names", "a,a", case / "log", case / "frames", *files), 2, "2 different names"),
             (("-o", folder / "p", folder / "empty"), 1, "it has not the message files"),
             (("-o", folder / "p", case / "nolog", case / "frames", *files), 1, "No such file"),
+            (("-o", folder, case / "log", case / "frames", *files), 1, "a folder, not a file"),
+            (("-o", folder / "less" / "p", case / "log", case / "frames", *files), 1, "less: a file, not a folder"),
+            (("-o", folder / "other", folder / "other", "-", *files), 1, "it is read too"), (("-o", folder / "p", folder / "none"), 1, "none: no such folder"),
+            (("-o", folder / "p", "--size", "8", case / "log", "-", *files), 2, "--size: '8' is no size"),
+            (("-o", folder / "p", "--size", "9x8", case / "log", "-", *files), 1, "the first drawn frame has 8 by 8 pixels, not 9 by 8"),
             (("-o", folder / "no" / "p" / "", case / "log", case / "frames", *files), 0, "")):
         done = view(*words)
         yield "%s: %s" % (words, done.stderr), (done.returncode, said in done.stderr) == (status, True) and done.stderr.count("\n") <= 2
 
 
-PARTS = (("replays", replays), ("pages", pages), ("words of view", refused))
+PARTS = (("replays", replays), ("pages", pages), ("the page alone", alone), ("the page at 60,000 entries", quick), ("words of view", refused))

@@ -223,7 +223,8 @@ class Client:
 
 
 def scene(name):
-    """The scene of a file."""
+    """The scene of a file, or of `scene.toml` in a folder."""
+    name = Path(name) / "scene.toml" if Path(name).is_dir() else name
     with file(name):
         data = Path(name).read_bytes()
         try:

@@ -1,4 +1,5 @@
-"""What the tools read from a command line: options, and a run with its log, its frames and its message files."""
+"""What the tools read from a command line: options, names of what is written, and a run with its log, its frames and
+its message files."""
 
 import re
 from pathlib import Path
@@ -22,7 +23,7 @@ def options(words, known, switches=(), anywhere=False):
                 raise Usage("%s wants a word after it" % word)
             given[word] = words.pop(0)
         elif word.startswith("-") and word != "-":
-            raise Usage("%s is no option here; there are %s" % (word, ", ".join((*known, *switches))))
+            raise Usage("%s is no option here; there are %s" % (word, ", ".join((*known, *switches)) or "none"))
         else:
             others.append(word)
             if not anywhere:
@@ -35,6 +36,28 @@ def number(word, most, what, least=1):
     if not re.fullmatch(r"0|[1-9][0-9]{0,9}", word) or not least <= int(word) <= most:
         raise Usage("%s is %d to %d, not %r" % (what, least, most, word))
     return int(word)
+
+
+def room(name):
+    """A folder that is to be written, if it may be: what stands there, or first above it, is a folder."""
+    above = next(one for one in (Path(name), *Path(name).absolute().parents) if one.exists())
+    if not above.is_dir():
+        raise Wrong("%s: a file, not a folder" % above)
+    return Path(name)
+
+
+def target(name, suffix="", read=()):
+    """A file that is to be written, looked at before the work is done: its name ends in `suffix`, and it is none of the
+    files that are read."""
+    if not name.lower().endswith(suffix):
+        kind = {".png": "a PNG file", ".svg": "an SVG file"}[suffix]
+        raise Usage("%s: the picture is %s, so its name ends in %s" % (name, kind, suffix))
+    if Path(name).is_dir():
+        raise Wrong("%s: a folder, not a file" % name)
+    room(Path(name).absolute().parent)
+    if any(Path(name).resolve() == Path(one).resolve() for one in read):
+        raise Wrong("%s: it is read too, so it is not written" % name)
+    return Path(name)
 
 
 def clients(words):
@@ -85,13 +108,24 @@ def client_names(given, words, count):
     return found if len(set(found)) == count else ["c%d" % k for k in range(1, count + 1)]
 
 
+def is_drawn(read, size):
+    """An error if a log is not of a display of this size: the first drawn frame is the whole of it."""
+    drawn = next((entry.numbers[2:] for entry in read.entries if entry.reply == "drawn"), size)
+    if drawn != size:
+        swapped = "; W and H are swapped" if drawn == size[::-1] else ""
+        raise Wrong("the first drawn frame has %d by %d pixels, not %d by %d%s" % (*drawn, *size, swapped))
+
+
 def display(given, read):
-    """The size of the display: the first drawn frame is the whole of it."""
-    if "--size" in given:
-        with file("--size"):
-            return build.display_size(list(names.size(given["--size"])))
-    drawn = next((entry.numbers for entry in read.entries if entry.reply == "drawn"), None)
-    return drawn[2:] if drawn else (1, 1)
+    """The size of the display: the one that is given, or that of the first drawn frame."""
+    if "--size" not in given:
+        return next((entry.numbers[2:] for entry in read.entries if entry.reply == "drawn"), (1, 1))
+    try:
+        size = build.display_size(list(names.size(given["--size"])))
+    except Wrong as wrong:
+        raise Usage("--size: %s" % wrong) from None
+    is_drawn(read, size)
+    return size
 
 
 class Run:
@@ -99,13 +133,13 @@ class Run:
     by one."""
 
     def __init__(self, given, words):
-        self.log_name, self.frames_name = words[0], words[1]
+        self.log_name, self.frames_name, self.read = words[0], words[1], words
         with file(self.log_name):
             data = Path(self.log_name).read_bytes()
             self.log, self.text = log.read(data), data.decode("ascii")
+            self.size = display(given, self.log)
         self.files = clients(words[2:])
         self.names = client_names(given, words[2:], len(self.files))
-        self.size = display(given, self.log)
         self.title = "viz: " + ", ".join(self.names[:4]) + (" .." if len(self.names) > 4 else "")
 
     def frames(self, count):
@@ -126,6 +160,8 @@ def run(given, words):
     """The run of LOG FRAMES FILE.., or of a folder."""
     if len(words) == 1 and Path(words[0]).is_dir():
         words = in_folder(Path(words[0]))
+    elif len(words) == 1 and not Path(words[0]).exists():
+        raise Wrong("%s: no such folder" % words[0])
     elif len(words) < 3:
         raise Usage("LOG FRAMES FILE.. are wanted, or a folder with them (%s)" % (", ".join(words) or "nothing is given"))
     return Run(given, list(map(str, words)))

@@ -34,11 +34,8 @@ class Picture:
     def outline(self, rect, colour):
         """The border of a rectangle, inside it."""
         x, y, w, h = rect
-        for row in (y, y + h - 1):
-            self.put(x, row, colour * w)
-        for row in range(y, y + h):
-            self.put(x, row, colour)
-            self.put(x + w - 1, row, colour)
+        for part in ((x, y, w, 1), (x, y + h - 1, w, 1), (x, y, 1, h), (x + w - 1, y, 1, h)):
+            self.fill(part, colour)
 
     def cross(self, x, y, side):
         """Marks the square of a pixel by four arms beside it, white with a black edge."""

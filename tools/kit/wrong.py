@@ -43,6 +43,8 @@ def file(name):
     """The same for a file, whose name stands first."""
     try:
         yield
+    except Usage:
+        raise
     except Wrong as wrong:
         raise Wrong("%s: %s" % (name, wrong)) from None
     except OSError as error:
@@ -51,7 +53,7 @@ def file(name):
 
 def program(main, words, about):
     """Runs a tool: its status, its help, and its errors as one line. Status 1 is an error of an input, 2 of the
-    words."""
+    words, 130 an end by Ctrl-C."""
     try:
         status = asked(words, about) or main(words)
         sys.stdout.flush()
@@ -62,6 +64,8 @@ def program(main, words, about):
     except Wrong as wrong:
         sys.stderr.write("%s\n" % wrong)
         sys.exit(1)
+    except KeyboardInterrupt:
+        os._exit(130)
     except OSError as error:
         if not isinstance(error, BrokenPipeError):
             sys.stderr.write("%s: %s\n" % (error.filename or "standard output", error.strerror or error))

@@ -67,6 +67,11 @@ class Context {
         for (let c = 0; c < 3; c++) this.data[(py * width + px) * 3 + c] = image.data[(sy * image.width + sx) * 4 + c];
       }
   }
+  getImageData() {
+    const data = new Uint8ClampedArray(this.data.length / 3 * 4).fill(255);
+    for (let k = 0; 3 * k < this.data.length; k++) for (let c = 0; c < 3; c++) data[4 * k + c] = this.data[3 * k + c];
+    return { data };
+  }
   png() {
     const { width, height } = this.canvas, rows = Buffer.alloc(height * (width * 3 + 1));
     for (let y = 0; y < height; y++) this.data.copy(rows, y * (width * 3 + 1) + 1, y * width * 3, (y + 1) * width * 3);

@@ -42,6 +42,11 @@ class Element extends Node {
   send(name, event = {}) {
     for (const act of [...this.listeners[name] || []]) act({ target: this, preventDefault() {}, deltaX: 0, ...event });
   }
+  dispatchEvent(event) {
+    this.send(event.type, { ...event, target: this });
+    if (event.bubbles && this.parentElement) this.parentElement.send(event.type, { ...event, target: this });
+  }
+  click() { this.send("click"); }
   getBoundingClientRect() { return { left: 0, top: 0 }; }
   getContext() { return this.context = this.context || new Context(this); }
   scrollIntoView() {}

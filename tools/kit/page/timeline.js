@@ -45,7 +45,7 @@ const timeline = {
   },
 
   clamp() {
-    this.start_ = Math.max(0, Math.min(this.start_, lines.length - this.columns() / 2));
+    this.start_ = Math.max(0, Math.min(this.start_, lines.length + 1 - this.columns()));
   },
 
   zoomBy(factor, x = this.mid(now.entry)) {
@@ -128,7 +128,10 @@ const timeline = {
       c.fillStyle = colour("--" + paint);
       c.globalAlpha = filter.dims(e) ? 0.25 : 1;
       c.fillRect(x, HEAD, w, h);
-      if (this.step >= 26) this.word(c, kind + (kind === "begin" ? " " + lines[e].slice(13).split(" ")[0] : ""), x + w / 2, HEAD + 11);
+      if (this.step >= 26) {
+        const full = kind === "begin" ? "begin " + lines[e].slice(13).split(" ")[0] : kind;
+        this.word(c, full.length * 5.5 <= this.step ? full : kind, x + w / 2, HEAD + 11);
+      }
       c.globalAlpha = 1;
     }
     const gap = [1, 2, 5, 10, 20, 50, 100, 200, 500, 1000, 2000, 5000, 10000, 20000].find(n => n * this.step >= 56) || 50000;
