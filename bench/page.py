@@ -83,6 +83,7 @@ def write(folder, name, client, messages):
 
 
 def main(folder, events="256"):
+    os.makedirs(folder, exist_ok=True)
     first = page()
     rounds = (int(events) - len(first)) // 5
     write(folder, "page.viz", 1, first)

@@ -189,7 +189,7 @@ GROW = """(() => {
   const shifted = (e, by) => e < 0 ? e : e + by;
   for (let k = 1; k < times; k++) {
     const by = k * size;
-    for (let e = 0; e < size; e++) { lines.push(lines[e]); sentences.push(sentences[e]); }
+    for (let e = 0; e < size; e++) { lines.push(lines[e]); sentences.push(sentences[e]); replies.push(replies[e]); }
     for (const sub of subs) {
       const made = sub.slice();
       for (const column of [AT, ACTIVE, ENDED, FED]) made[column] = shifted(made[column], by);
@@ -203,7 +203,7 @@ GROW = """(() => {
   run.lanes = lanesOf();
   filter.update();
   let calls = 0;
-  const counting = new Proxy({}, { get: () => () => { calls++; }, set: () => true });
+  const counting = new Proxy({}, { get: () => () => { calls++; return { width: 0 }; }, set: () => true });
   timeline.context = counting;
   timeline.whole();
   const found = {}, cpu = () => { const used = process.cpuUsage(); return (used.user + used.system) / 1000; };

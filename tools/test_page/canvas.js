@@ -47,8 +47,9 @@ class Context {
     this.fillRect(x - t / 2, y - t / 2, t, h + t, c);
     this.fillRect(x + w - t / 2, y - t / 2, t, h + t, c);
   }
+  measureText(text) { return { width: text.length * parseInt(this.font, 10) * 0.52 }; }
   fillText(text, x, y) {
-    const size = parseInt(this.font, 10), w = text.length * size * 0.52, left = this.textAlign === "center" ? x - w / 2 : x;
+    const w = this.measureText(text).width, size = parseInt(this.font, 10), left = this.textAlign === "center" ? x - w / 2 : x;
     this.texts.push({ text, left, right: left + w, y });
     for (let k = 0; k < text.length; k++) if (text[k] !== " ") this.fillRect(left + k * size * 0.52, y - size * 0.6, Math.max(1, size * 0.36), size * 0.6);
   }

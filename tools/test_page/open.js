@@ -25,7 +25,7 @@ function open(name, width, height = 420) {
   page.byId.times.clientWidth = width;
   page.byId.list.clientHeight = 300;
   Object.assign(globalThis, {
-    document, window, Node,
+    document, window, Node, location: { hash: "" },
     getComputedStyle: () => ({ getPropertyValue: key => { if (!colours[key]) throw new Error("no colour " + key); return colours[key]; } }),
     ResizeObserver: class { constructor(act) { this.act = act; } observe() { this.act(); } },
     KeyboardEvent: class { constructor(type, rest) { Object.assign(this, { type, shiftKey: false }, rest); } },

@@ -3,6 +3,7 @@
 
 let run = null;
 const lines = [], sentences = [];
+const replies = [];           // what each entry answered: accepted, drawn, ..
 let clientOf = null;          // the client of each entry, 0 for the display
 
 async function unpacked(id) {
@@ -19,7 +20,10 @@ async function load() {
   lines.push(...split(run.log));
   sentences.push(...split(run.said));
   clientOf = new Uint8Array(lines.length);
-  lines.forEach((line, e) => { clientOf[e] = line[0] === "c" ? parseInt(line.slice(1), 10) : 0; });
+  lines.forEach((line, e) => {
+    clientOf[e] = line[0] === "c" ? parseInt(line.slice(1), 10) : 0;
+    replies.push(line.split(" ", 2)[1]);
+  });
   run.ticks = [];
   lines.forEach((line, e) => {
     if (line.startsWith("begin ")) run.ticks.push([e, parseInt(line.slice(13), 10)]);

@@ -13,14 +13,14 @@ const filter = {
 
   passes(e) {
     if (!this.clients.has(clientOf[e])) return false;
-    const reply = lines[e].split(" ", 2)[1];
-    if (!this.replies.has(reply)) return false;
+    if (!this.replies.has(replies[e])) return false;
     return !this.text || (lines[e] + " " + sentences[e]).toLowerCase().includes(this.text);
   },
 
   update() {
     this.replies = new Set([...this.kinds].flatMap(kind => KINDS[kind]));
     const all = this.clients.size === run.names.length + 1 && this.kinds.size === Object.keys(KINDS).length && !this.text;
+    $("filter-all").hidden = all;
     this.found = [];
     this.mask = all ? null : new Uint8Array(lines.length);
     for (let e = 0; e < lines.length; e++) {
@@ -31,6 +31,15 @@ const filter = {
   },
 
   dims(e) { return this.mask !== null && !this.mask[e]; },
+
+  // lets all entries pass again
+  reset() {
+    [0, ...run.names.keys()].forEach((_, number) => this.clients.add(number));
+    Object.keys(KINDS).forEach(kind => this.kinds.add(kind));
+    this.text = $("search").value = "";
+    marks.forEach(mark => mark());
+    refilter();
+  },
 
   // the next entry that passes, from an entry on
   next(e, by) {
@@ -53,6 +62,7 @@ const events = {
     });
     chips.append(element("span", "gap"));
     Object.keys(KINDS).forEach(kind => chips.append(chip(kind, filter.kinds, kind, null)));
+    $("filter-all").addEventListener("click", () => filter.reset());
     $("search").addEventListener("input", () => { filter.text = $("search").value.trim().toLowerCase(); refilter(); });
     $("list").addEventListener("scroll", () => this.rows());
     filter.update();
@@ -82,6 +92,7 @@ const events = {
       line.addEventListener("click", () => goTo(e));
       made.push(line);
     }
+    if (!filter.found.length) made.push(note("No entry passes the filter."));
     $("rows").replaceChildren(...made);
   },
 };
@@ -91,21 +102,24 @@ function who(e) {
   return element("span", "event " + lines[e].slice(0, lines[e].indexOf(" ")), lines[e].slice(0, lines[e].indexOf(" ")));
 }
 
-// a button that puts a value into a set and takes it out; with the Alt key it leaves that value alone
+const marks = [];             // for each button of the filter, what shows whether it is on
+
+// a button that puts a value into a set and takes it out; a double click leaves that value alone
 function chip(text, set, value, own) {
   const made = element("button", "chip on", text);
   made.type = "button";
+  made.title = "on or off; twice: " + text + " alone";
   if (own) made.style.setProperty("--own", own);
   made.addEventListener("click", event => {
-    if (event.altKey || event.detail === 2) { set.clear(); set.add(value); } else if (!set.delete(value)) set.add(value);
-    [...made.parentElement.children].forEach(other => { if (other.mark) other.mark(); });
+    if (event.detail === 2) { set.clear(); set.add(value); } else if (!set.delete(value)) set.add(value);
+    marks.forEach(mark => mark());
     refilter();
   });
-  made.mark = () => {
+  marks.push(() => {
     made.classList.toggle("on", set.has(value));
     made.setAttribute("aria-pressed", String(set.has(value)));
-  };
-  made.mark();
+  });
+  marks.at(-1)();
   return made;
 }
 

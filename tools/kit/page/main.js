@@ -36,7 +36,6 @@ function goTo(e) {
     now.walked = now.frame;
     now.drawnWalk = now.frame < 0 ? { list: [], cut: false } : walk(stateAt(run.drawn[now.frame][0]));
   }
-  panels.quadsMarked = -1;
   view.hot = null;
   timeline.follow();
   paint();
@@ -50,8 +49,9 @@ function paint() {
   const count = run.drawn.length;
   $("frame").value = String(Math.max(0, now.frame + 1));
   $("frameof").textContent = (now.frame < 0 ? "none" : String(now.frame + 1)) + " of " + count;
-  $("entryof").textContent = (now.entry + 1).toLocaleString("en") + " of " + lines.length.toLocaleString("en");
-  $("sentence").textContent = sentences[now.entry] || "";
+  $("entry").value = String(now.entry + 1);
+  $("entryof").textContent = "of " + lines.length.toLocaleString("en");
+  $("sentence").textContent = $("sentence").title = sentences[now.entry] || "";
   $("line").textContent = lines[now.entry] || "";
   view.paint();
   view.pixel();
@@ -61,6 +61,7 @@ function paint() {
 
 function showTab(tab) {
   now.tab = tab;
+  view.hot = null;
   TABS.forEach(name => {
     $("tab-" + name).setAttribute("aria-selected", String(name === tab));
     $("panel-" + name).hidden = name !== tab;
@@ -80,6 +81,25 @@ function theme() {
   paint();
 }
 
+let playing = null;           // the timer while frames follow each other by themselves
+
+// shows a frame after the other until the last one; from the first one if it is the last
+function play() {
+  const stop = () => { clearInterval(playing); playing = null; $("play").textContent = "play"; };
+  if (playing !== null) { stop(); return; }
+  if (now.frame === run.drawn.length - 1) goToFrame(0);
+  $("play").textContent = "stop";
+  playing = setInterval(() => {
+    if (now.frame < run.drawn.length - 1) goToFrame(now.frame + 1); else stop();
+  }, 100);
+}
+
+// the entry that a link names: page.html#89
+function linked() {
+  const found = /^#([1-9][0-9]*)$/.exec(location.hash);
+  return found ? Number(found[1]) - 1 : -1;
+}
+
 const KEYS = {
   ArrowRight: event => goTo(now.entry + (event.shiftKey ? 10 : 1)),
   ArrowLeft: event => goTo(now.entry - (event.shiftKey ? 10 : 1)),
@@ -89,6 +109,10 @@ const KEYS = {
   End: () => goTo(lines.length - 1),
   n: () => goTo(filter.next(now.entry, 1)),
   p: () => goTo(filter.next(now.entry, -1)),
+  ArrowDown: () => pinNext(1),
+  ArrowUp: () => pinNext(-1),
+  " ": () => play(),
+  g: () => { $("entry").focus(); $("entry").select(); },
   d: () => toggle("damage"),
   s: () => toggle("stale"),
   q: () => toggle("quads"),
@@ -110,11 +134,11 @@ TABS.forEach((tab, k) => { KEYS[k + 1] = () => showTab(tab); });
 function press(event) {
   if (event.ctrlKey || event.metaKey || event.altKey) return;
   if (event.target.tagName === "INPUT" && event.target.type !== "range") {
-    if (event.key === "Escape") event.target.blur();
+    if (event.key === "Escape" || event.key === "Enter") event.target.blur();
     return;
   }
   const act = KEYS[event.key];
-  if (!act) return;
+  if (!act || event.key === " " && event.target.tagName === "BUTTON") return;
   event.preventDefault();
   act(event);
 }
@@ -131,6 +155,8 @@ function controls() {
   $("frame").addEventListener("input", () => goToFrame(Number($("frame").value) - 1));
   $("frame-back").addEventListener("click", KEYS.PageUp);
   $("frame-on").addEventListener("click", KEYS.PageDown);
+  $("play").addEventListener("click", play);
+  $("entry").addEventListener("change", () => { if (parseInt($("entry").value, 10) > 0) goTo(parseInt($("entry").value, 10) - 1); else paint(); });
   $("entry-back").addEventListener("click", () => goTo(now.entry - 1));
   $("entry-on").addEventListener("click", () => goTo(now.entry + 1));
   $("zoom-in").addEventListener("click", () => view.zoomBy(true));
@@ -142,6 +168,8 @@ function controls() {
   $("theme").addEventListener("click", theme);
   $("help-open").addEventListener("click", help);
   $("help-close").addEventListener("click", help);
+  $("help").addEventListener("click", event => { if (event.target === $("help")) help(); });
+  window.addEventListener("hashchange", () => { if (linked() >= 0) goTo(linked()); });
   window.addEventListener("keydown", press);
   window.matchMedia("(prefers-color-scheme: dark)").addEventListener("change", () => { colours = new Map(); paint(); });
 }
@@ -159,7 +187,7 @@ async function main() {
   events.start();
   view.start();
   timeline.start();
-  goTo(run.drawn.length ? run.drawn[0][0] : 0);
+  goTo(linked() >= 0 ? linked() : run.drawn.length ? run.drawn[0][0] : 0);
   showTab("repaint");
   document.documentElement.dataset.ready = "yes";
 }

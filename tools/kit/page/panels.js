@@ -2,9 +2,10 @@
 // The tabs at the right: why a frame was repainted, surfaces, quads, clients. `events.js` has the list of entries.
 
 const panels = {
-  quadsMarked: -1,
+  quadsRows: [],
 
   paint() {
+    pin(null);
     ({ repaint: () => this.repaint(), surfaces: () => this.surfaces(), quads: () => this.quads(),
        clients: () => this.clients(), events: () => events.paint() })[now.tab]();
   },
@@ -30,13 +31,13 @@ const panels = {
     const [w, h] = run.size, n = run.drawn.findIndex(draw => draw[2] === rect), stale = run.stale[n];
     const share = r => (100 * r[2] * r[3] / (w * h)).toFixed(1) + " % of the display";
     parts.push(table(["", "claim", "rectangle"], claims.map(([kind, said, area]) =>
-      hot(row([swatch(null, "claim-" + kind), said, element("span", "code", rectText(area))]), area))));
-    parts.push(table(["", "together", "rectangle"], [
+      hot(row([swatch(null, "claim-" + kind), element("span", "long", said), element("span", "code", rectText(area))]), area)).concat([
+      heads(["", "together", "rectangle"]),
       hot(row([swatch(null, "damage"), "damage: the smallest rectangle round the claims, " + share(rect),
         element("span", "code", rectText(rect))]), rect),
       hot(row([swatch(null, "stale"), "painted again in buffer " + (n % run.buffers + 1) + " of " + run.buffers + ": " +
         (n < run.buffers ? "its first use" : "the damages since its last use, frames " + (n - run.buffers + 2) + " to " + (n + 1)) +
-        ", " + share(stale), element("span", "code", rectText(stale))]), stale)]));
+        ", " + share(stale), element("span", "code", rectText(stale))]), stale)])));
   },
 
   // ---------------------------------------------------------------- surfaces
@@ -73,41 +74,31 @@ const panels = {
     const waits = state.waiting.filter(one => run.subs[one][SURFACE] === place);
     const shows = [sub === undefined ? "none active" : "frame " + run.subs[sub][ORDINAL]];
     waits.forEach(one => shows.push("frame " + run.subs[one][ORDINAL] + " waits"));
-    return row([named(place), surface[S_W] + " × " + surface[S_H], shows.join(", "), why.join("; ")]);
+    return row([named(place), element("span", "tight", surface[S_W] + " × " + surface[S_H]), shows.join(", "), element("span", "long", why.join("; "))]);
   },
 
   // ---------------------------------------------------------------- quads
 
   quads() {
-    const { list, cut } = now.walk, items = list.filter(item => item.kind === "surface" || item.quad);
-    const parts = [heading("Quads, front to back", list.filter(item => item.kind === "quad").length + (cut ? " and more" : ""))];
-    const rows = items.map(item => {
+    const { list, cut } = now.walk, count = list.filter(item => item.kind === "quad").length + (cut ? " and more" : "");
+    const parts = [heading("Quads, front to back", count + ", at entry " + (now.entry + 1))];
+    const rows = list.map(item => {
       if (item.kind === "surface") {
-        const line = row([indent(item.depth, run.surfaces[item.surface][S_NAME], "strong"),
+        const line = row([indent(item.depth, run.surfaces[item.surface][S_NAME], "long strong"),
           "frame " + run.subs[item.sub][ORDINAL], element("span", "code", rectText(item.rect))]);
         return hot(line, item.rect);
       }
       const kind = item.quad[6], given = item.quad[7];
-      const what = element("span", "");
+      const what = element("span", "long");
       if (kind === "solid") what.append(swatch(given[0]));
       what.append(quadText(item));
-      const line = hot(row([indent(item.depth, (item.root ? "" : "pass " + item.pass + ", ") + "quad " + item.place), what,
+      const line = hot(row([indent(item.depth, (item.root ? "" : "pass " + item.pass + ", ") + "quad " + item.place, "tight"), what,
         element("span", "code" + (item.rect[2] ? "" : " dim"), item.rect[2] ? rectText(item.rect) : "not seen")]), item.rect);
       return line;
     });
     parts.push(table(["", "what", "seen"], rows));
     box("quads", parts);
     this.quadsRows = rows;
-    this.quadsMark(this.quadsMarked, false);
-  },
-
-  quadsMark(place, scroll = true) {
-    this.quadsMarked = place;
-    (this.quadsRows || []).forEach((line, k) => line.classList.toggle("marked", k === place));
-    const line = (this.quadsRows || [])[place];
-    if (line && scroll) { line.scrollIntoView({ block: "nearest" }); }
-    view.hot = place >= 0 && now.walk.list[place] ? now.walk.list[place].rect : null;
-    view.paint();
   },
 
   // ---------------------------------------------------------------- clients
@@ -188,24 +179,49 @@ function row(cells) {
   return made;
 }
 
-function table(heads, rows) {
-  const made = element("table"), head = element("tr"), top = element("thead"), body = element("tbody");
-  heads.forEach(text => head.append(element("th", "", text)));
-  top.append(head);
-  body.append(...rows);
-  made.append(top, body);
+function heads(texts) {
+  const made = element("tr");
+  texts.forEach(text => made.append(element("th", "", text)));
   return made;
 }
 
-// a row that marks a rectangle on the frame while the cursor is on it
+function table(texts, rows) {
+  const made = element("table"), body = element("tbody");
+  body.append(heads(texts), ...rows);
+  made.append(body);
+  return made;
+}
+
+// a row that marks a rectangle on the frame while the cursor is on it; a click keeps the mark
 function hot(line, rect) {
   line.classList.add("hot");
+  line.rect = rect;
   line.addEventListener("pointerenter", () => { view.hot = rect; view.paint(); });
   line.addEventListener("pointerleave", () => { view.hot = null; view.paint(); });
+  line.addEventListener("click", () => pin(line === pinned ? null : line));
   return line;
 }
 
-function indent(depth, text, name = "") {
+let pinned = null;            // the row whose rectangle is marked on the frame
+
+function pin(line) {
+  if (pinned) pinned.classList.remove("marked");
+  const before = pinned;
+  pinned = line;
+  view.pinned = line ? line.rect : null;
+  if (line) { line.classList.add("marked"); line.scrollIntoView({ block: "nearest" }); }
+  if (line !== before) view.paint();
+}
+
+// keeps the mark of the next row of the tab, or of the one before
+function pinNext(by) {
+  if (now.tab === "events") { goTo(filter.next(now.entry, by)); return; }
+  const rows = [...document.querySelectorAll("#panel-" + now.tab + " tr.hot")];
+  const place = rows.indexOf(pinned), next = place < 0 ? (by > 0 ? 0 : rows.length - 1) : place + by;
+  if (rows[next]) pin(rows[next]);
+}
+
+function indent(depth, text, name = "long") {
   const made = element("span", name, text);
   made.style.paddingLeft = Math.min(depth, 12) * 14 + "px";
   return made;

@@ -130,13 +130,14 @@ const timeline = {
       c.fillRect(x, HEAD, w, h);
       if (this.step >= 26) {
         const full = kind === "begin" ? "begin " + lines[e].slice(13).split(" ")[0] : kind;
-        this.word(c, full.length * 5.5 <= this.step ? full : kind, x + w / 2, HEAD + 11);
+        this.word(c, full.length * 5.5 <= this.step ? full : kind, x + w / 2, HEAD + 11, colour("--text"));
       }
       c.globalAlpha = 1;
     }
     const gap = [1, 2, 5, 10, 20, 50, 100, 200, 500, 1000, 2000, 5000, 10000, 20000].find(n => n * this.step >= 56) || 50000;
     c.fillStyle = colour("--dim");
-    for (let n = Math.ceil((first + 1) / gap) * gap; n <= last + 1; n += gap) this.word(c, String(n), this.mid(n - 1), 11);
+    for (let n = Math.ceil((first + 1) / gap) * gap; n <= last + 1; n += gap)
+      if (Math.min(this.mid(n - 1) - LEFT, this.width - this.mid(n - 1)) > 3 * String(n).length) this.word(c, String(n), this.mid(n - 1), 11);
   },
 
   word(c, text, x, y, fill = colour("--dim")) {
@@ -189,16 +190,38 @@ const timeline = {
 
   // what clients did: a word where there is room, otherwise a tick
   signs(c, first, last) {
-    if (this.step < 0.5) return;
+    if (this.step < 0.5) {
+      this.runs(c, first, last, e => !filter.dims(e), colour("--dim"), 0.5);
+      this.runs(c, first, last, e => replies[e] === "refused" && !filter.dims(e), colour("--bad"), 1);
+      return;
+    }
     for (let e = first; e <= last; e++) {
       if (!clientOf[e]) continue;
-      const row = this.rows[clientOf[e] - 1], reply = lines[e].split(" ", 2)[1], said = SIGNS[reply];
+      const row = this.rows[clientOf[e] - 1], reply = replies[e], said = SIGNS[reply];
       c.globalAlpha = filter.dims(e) ? 0.25 : 1;
       const x = this.mid(e), fill = colour(reply === "refused" ? "--bad" : "--dim");
       if (said && this.step >= 26) this.word(c, said, x, row.y + 11, fill);
       else { c.fillStyle = reply === "accepted" ? clientColour(clientOf[e]) : fill; c.fillRect(x - 0.5, row.y + 4, Math.max(1, Math.min(3, this.step / 3)), 8); }
       c.globalAlpha = 1;
     }
+  },
+
+  // where columns are thinner than half a pixel: the entries of a client that touch are one rectangle
+  runs(c, first, last, wanted, fill, alpha) {
+    const open = this.rows.map(() => null);
+    c.fillStyle = fill;
+    c.globalAlpha = alpha;
+    const close = k => { if (open[k]) c.fillRect(open[k][0], this.rows[k].y + 4, open[k][1] - open[k][0], 8); };
+    for (let e = first; e <= last; e++) {
+      const k = clientOf[e] - 1;
+      if (k < 0 || !wanted(e)) continue;
+      const x = Math.floor(this.mid(e));
+      if (open[k] && x <= open[k][1]) { open[k][1] = x + 1; continue; }
+      close(k);
+      open[k] = [x, x + 1];
+    }
+    this.rows.forEach((_, k) => close(k));
+    c.globalAlpha = 1;
   },
 
   cursor(c) {
@@ -208,6 +231,14 @@ const timeline = {
     c.fillRect(x - w / 2, 0, w, this.height);
     c.globalAlpha = 1;
     c.fillRect(Math.round(x) - 1, 0, 2, this.height);
+  },
+
+  // a text as far as it fits
+  cut(c, text, room) {
+    if (c.measureText(text).width <= room) return text;
+    let most = text.length;
+    while (most > 1 && c.measureText(text.slice(0, most) + "…").width > room) most--;
+    return text.slice(0, most) + "…";
   },
 
   labels(c) {
@@ -222,7 +253,7 @@ const timeline = {
       c.fillStyle = clientColour(k + 1);
       c.fillRect(8, row.y + 4, 8, 8);
       c.fillStyle = colour("--text");
-      c.fillText(run.names[k].slice(0, 10), 21, row.y + 12);
+      c.fillText(this.cut(c, run.names[k], LEFT - 28), 21, row.y + 12);
       c.fillStyle = colour("--line");
       c.fillRect(0, row.y - 2, this.width, 1);
     });

@@ -2,7 +2,7 @@
 // The picture of the frame: zoom and place, rectangles over it, and the pixel under the cursor.
 
 const view = {
-  canvas: null, context: null, buffer: null, image: null, zoom: 0, x: 0, y: 0, fits: true, cursor: null, hot: null,
+  canvas: null, context: null, buffer: null, image: null, zoom: 0, x: 0, y: 0, fits: true, cursor: null, hot: null, pinned: null,
 
   start() {
     const [w, h] = run.size;
@@ -11,6 +11,7 @@ const view = {
     this.buffer = document.createElement("canvas");
     this.buffer.width = w;
     this.buffer.height = h;
+    this.canvas.parentElement.style.setProperty("--sides", w + " / " + h);
     this.image = this.buffer.getContext("2d").createImageData(w, h);
     this.canvas.addEventListener("wheel", event => this.wheel(event), { passive: false });
     this.canvas.addEventListener("pointerdown", event => this.drag(event));
@@ -42,6 +43,7 @@ const view = {
 
   label() {
     $("zoom").textContent = (this.zoom >= 1 ? this.zoom + " ×" : Math.round(this.zoom * 100) + " %") + (this.fits ? " · fit" : "");
+    this.canvas.style.touchAction = this.fits ? "pan-y" : "none";     // a finger scrolls the page until there is something to move
   },
 
   // zooms round a place of the canvas, by default its middle
@@ -94,8 +96,10 @@ const view = {
   // a click: the front quad under the cursor is marked in the list of quads
   pick() {
     if (this.moved || !this.cursor) return;
-    const under = now.walk.list.findIndex(item => item.kind === "quad" && holds(item.rect, ...this.cursor));
-    if (under >= 0) { showTab("quads"); panels.quadsMark(under); }
+    const under = now.walk.list.findIndex(item => paints(item, ...this.cursor));
+    if (under < 0) return;
+    showTab("quads");
+    pin(panels.quadsRows[under]);
   },
 
   pixel() {
@@ -103,11 +107,12 @@ const view = {
     if (!this.cursor) { label.textContent = now.frame < 0 ? "no frame is drawn yet" : "point at the frame to read a pixel"; return; }
     if (now.frame < 0) return;
     const [x, y] = this.cursor, colour = tiles.pixel(x, y);
-    const under = now.drawnWalk.list.filter(item => item.kind === "quad" && item.quad[6] !== "pass" && holds(item.rect, x, y));
+    const under = now.drawnWalk.list.filter(item => paints(item, x, y));
+    const more = under.length > 1 ? ", over " + (under.length - 1) + " more" : "";
+    const said = under.length ? quadText(under[0]) + " of " + run.surfaces[under[0].surface][S_NAME] + more : "no quad";
     label.replaceChildren(element("span", "place", "(" + x + ", " + y + ")"), swatch(colour),
-      element("span", "code", colourText(colour) + "  r " + colour[0] + "  g " + colour[1] + "  b " + colour[2] + "  a " + colour[3]),
-      element("span", "dim", under.length ? under.length + " quads here, in front " + quadText(under[0]) + " of " +
-        run.surfaces[under[0].surface][S_NAME] : "no quad here"));
+      element("span", "code", colourText(colour) + "  " + colour.join(" ")), element("span", "dim quads", said));
+    label.title = said;
   },
 
   paint() {
@@ -139,7 +144,8 @@ const view = {
         if (toggled[item.kind + "s"] && item.rect[2]) this.rectangle(item.rect, colour(item.kind === "quad" ? "--quad" : "--surface"), 1, 0);
     if (toggled.stale) this.rectangle(run.stale[now.frame], colour("--stale"), 2, 0);
     if (toggled.damage) this.rectangle(draw[2], colour("--damage"), 2, 0);
-    if (this.hot) this.rectangle(this.hot, colour("--hot"), 2, 0.25);
+    const marked = this.hot || this.pinned;
+    if (marked) this.rectangle(marked, colour("--hot"), 2, 0.25);
   },
 
   // an outline inside a rectangle of the display, with a fill of some opacity

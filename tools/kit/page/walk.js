@@ -77,8 +77,16 @@ function embed(at, item, x, y) {
   if (at.path.includes(place)) { item.how = "cycle"; return; }
   const surface = run.surfaces[place], size = [x, y, surface[S_W], surface[S_H]];
   const outside = meet(item.rect, size).join() !== item.rect.join();
+  item.inside = size;
   if (outside) item.how = sameId(surface[S_ID], range[1]) ? "absent" : "gutter";
   enter(at.state, at.items, at.path, place, x, y, item.rect, item);
+}
+
+// whether a quad paints a pixel itself: an embedding does only where its surface is not
+function paints(item, x, y) {
+  if (item.kind !== "quad" || !holds(item.rect, x, y)) return false;
+  if (item.quad[6] !== "surface") return item.quad[6] !== "pass";
+  return item.how === "background" || item.how === "gutter" && !holds(item.inside, x, y);
 }
 
 function colourText(c) {
