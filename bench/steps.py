@@ -88,16 +88,21 @@ def returns(count):
     return uploads + [submission(k, listings=[k]) for k in range(1, count + 1)]
 
 
-def main(kind, count, name):
+def client(kind, count):
+    """The bytes of the file."""
     kinds = dict(plain=plain, draw=draw, chain=chain, waits=waits, path=path, names=names, returns=returns)
-    made = kinds[kind](int(count))
-    root = int(count) if kind == "draw" else 1
-    made.append(b"\5" + local(root, 1))
+    made = kinds[kind](count)
+    made.append(b"\5" + local(count if kind == "draw" else 1, 1))
     if kind in ("chain", "waits"):
         made.insert(0, made.pop())
     head = b"VIZC" + struct.pack("<H", 2) + struct.pack("<II", *SINK) + struct.pack("<I", len(made))
+    return head + b"".join(made)
+
+
+def main(kind, count, name):
     with open(name, "wb") as file:
-        file.write(head + b"".join(made))
+        file.write(client(kind, int(count)))
 
 
-main(*sys.argv[1:])
+if __name__ == "__main__":
+    main(*sys.argv[1:])

@@ -1,12 +1,13 @@
 """Tests of `replay`, `why`, `diff`, `viz`, `reftest` and `play`. Those that need the program are made if
 `VIZ` names it."""
 
+import os
 import random
 import subprocess
 import sys
 from pathlib import Path
 
-from kit import build, calling, log, png
+from kit import build, calling, log, paths, png
 from kit.blend import BLACK
 from kit.painter import Painter
 from kit.wrong import Wrong
@@ -233,6 +234,27 @@ def wrapped(folder):
         yield says("viz", ["--viz", VIZ, "hit", 4, 2, rest[0], 3, 1, ONE_QUAD], 0, "hit none")
 
 
+def one_file(folder):
+    """One file by two names, links and pipes are warned of, and the program is called all the same."""
+    for name in ("a", "s", "f"):
+        (folder / name).write_bytes(ONE_QUAD.read_bytes() if name == "a" else b"\1")
+    (folder / "link").symlink_to("a")
+    (folder / "far").symlink_to("nowhere")
+    (folder / "hard").hardlink_to(folder / "f")
+    os.mkfifo(folder / "pipe")
+    for f, log, a, said in (("f", "./f", "a", "are one file: both are written"), ("link", "l", "a", "which is read: its content is lost"),
+                            ("far", "l", "a", "nowhere"), ("hard", "l", "a", "has other names too"), ("./new", "new", "a", "are one file"),
+                            ("f", "l", "../%s/s" % folder.name, "are one file, which is read twice"), ("f", "pipe", "a", "is a pipe")):
+        words = ["step", "4", "2", folder / "s", *("%s/%s" % (folder, name) for name in (f, log, a))]
+        heard = list(paths.warnings([str(words[3]), words[6]], words[4:6]))
+        yield "%s %s %s: %s" % (f, log, a, heard), len(heard) >= 1 and any(said in one for one in heard)
+    yield "nothing", not list(paths.warnings([str(folder / "a"), str(folder / "s")], [str(folder / "l"), str(folder / "m")]))
+    if VIZ:
+        words = ["step", 4, 2, folder / "s", folder / "l", "%s/./l" % folder, folder / "a"]
+        yield says("viz", ["--viz", VIZ, *words], 0, "done 1 entries 0 frames", "warning: ")
+    yield says("replay", [folder / "f", folder / "hard"], 1, "it is read too")
+
+
 def samples(folder):
     """The words of the samples are looked at before one runs."""
     for name, words, status, said in (
@@ -270,5 +292,5 @@ def commands(folder):
 
 PARTS = (("help of the tools", helps), ("schedules of logs", schedules), ("painted frames", painted),
          ("faults explained", explained), ("verdicts of check", verdicts), ("runs compared", differences),
-         ("words of the program", wrapped), ("man page", manual), ("completion", completed),
+         ("words of the program", wrapped), ("one file by two names", one_file), ("man page", manual), ("completion", completed),
          ("words of the samples", samples), ("play and reftest", commands))

@@ -3,9 +3,10 @@
 import os
 import re
 import subprocess
+import sys
 from pathlib import Path
 
-from . import wire
+from . import paths, wire
 from .wrong import Usage, Wrong
 
 ROOT = Path(__file__).resolve().parents[2]
@@ -59,7 +60,8 @@ def number(name, word, most, least):
 
 
 def look(words):
-    """Looks at numbers and paths before the program is called; the names with their words."""
+    """Looks at numbers and files before the program is called, and warns of what is easily not meant; the names with
+    their words."""
     pairs = named(words)
     _, read, written = FORMS[words[0]]
     for name, word in pairs:
@@ -68,17 +70,16 @@ def look(words):
         elif name in MOST:
             number(name, word, MOST[name], LEAST.get(name, 1))
         elif name in read.split():
-            if not Path(word).is_file():
-                raise Wrong("%s: %s" % (word, "a folder, not a file" if Path(word).is_dir() else "no such file"))
+            paths.readable(word)
         elif name in written.split():
-            if Path(word).is_dir():
-                raise Wrong("%s: a folder, not a file" % word)
-            if not Path(word).absolute().parent.is_dir():
-                raise Wrong("%s: its folder is not there" % word)
+            paths.writable(word)
     files = [word for name, word in pairs if name not in MOST]
     twice = next((word for word in files if files.count(word) > 1), None)
     if twice:
         raise Wrong("%s: named twice" % twice)
+    sides = [[word for name, word in pairs if name in some.split()] for some in (read, written)]
+    for text in paths.warnings(*sides):
+        sys.stderr.write("warning: %s\n" % text)
     return pairs
 
 

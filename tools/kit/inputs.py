@@ -4,7 +4,7 @@ its message files."""
 import re
 from pathlib import Path
 
-from . import build, log, names, wire
+from . import build, log, names, paths, wire
 from .wrong import Usage, Wrong, file
 
 PARTS = re.compile(r"c?([1-9]|1[0-6])\.viz")
@@ -55,7 +55,7 @@ def target(name, suffix="", read=()):
     if Path(name).is_dir():
         raise Wrong("%s: a folder, not a file" % name)
     room(Path(name).absolute().parent)
-    if any(Path(name).resolve() == Path(one).resolve() for one in read):
+    if any(paths.is_same(name, one) for one in read):
         raise Wrong("%s: it is read too, so it is not written" % name)
     return Path(name)
 
