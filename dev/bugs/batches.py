@@ -18,9 +18,9 @@ def put_in(batches, bug):
 
 
 def make_batches(bugs):
-    """Batches of those bugs of which the functions are known; each of the others is one of its own."""
+    """Batches of those bugs that can share a check; each of the others is one of its own."""
     batches = []
     for bug in bugs:
-        if bug.functions:
+        if bug.can_share():
             put_in(batches, bug)
-    return batches + [[bug] for bug in bugs if not bug.functions]
+    return batches + [[bug] for bug in bugs if not bug.can_share()]

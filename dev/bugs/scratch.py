@@ -20,7 +20,7 @@ def crates_in(root):
 
 
 def build_below(crates):
-    """Builds the libraries below these crates where they are not built, and returns those crates for which that failed."""
+    """Builds the libraries below these crates where they are missing, and returns the crates for which that failed."""
     held = rt.rtlib.lock([it for crate in crates for it in [crate, *crate.below()]])
     failed = [crate for crate in crates if any(it.build_rlib(["--jobs", "2"], anew=False) for it in crate.below())]
     for it in held:

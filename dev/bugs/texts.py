@@ -8,27 +8,45 @@ FN = re.compile(r"( *)(?:pub(?:\([^)]*\))? )?(?:const )?fn (\w+)")
 IMPL = re.compile(r"impl(?:<.*?>)? (?:(\S+?)(?:<.*>)? for )?&?(?:'\w+ )?(\w+)")
 
 
+def module_of(path):
+    """The module of a file: `a::b` of `src/a/b.rt`."""
+    parts = list(Path(path).with_suffix("").parts[1:])
+    return [] if parts in (["lib"], ["main"]) else parts
+
+
 @dataclass(frozen=True)
 class Function:
-    """A function by its file, the type and the trait of its impl ('' for none), and its name."""
+    """A function by its file, the type and the trait of its impl ('' for none), and its name.
+
+    The functions of a cycle of calls have one proof.
+    """
 
     path: str
     type: str
     trait: str
     name: str
+    is_in_cycle: bool = False
+
+    def said(self):
+        """Its name below the crate, or the end of it that fits it alone, as a check takes it."""
+        return "::".join([self.type + self.trait, self.name] if self.type else [*module_of(self.path), self.name])
 
 
 @dataclass(frozen=True)
 class Bug:
     """A bug: its crate's name, its own name, its file, and the functions in which it changes something.
 
-    `functions` is empty where they cannot be told, for one that changes something outside of functions.
+    `functions` is empty for one that changes something outside of functions.
     """
 
     crate: str
     name: str
     file: Path
     functions: frozenset
+
+    def can_share(self):
+        """Whether a check of several bugs can tell what becomes of it."""
+        return bool(self.functions) and not any(function.is_in_cycle for function in self.functions)
 
 
 def pairs_of(text):
@@ -71,13 +89,13 @@ def is_in_cycle(lines, head):
 
 
 def function_at(path, text, place):
-    """The function around a place of a text that has a proof of its own, None where there is none."""
+    """The function around a place of a text, None where there is none."""
     lines = text.split("\n")
     at = text.count("\n", 0, place)
     for head, match in heads_before(lines[: at + 1], FN)[:1]:
-        if is_inside(lines, head, at, match[1]) and not is_in_cycle(lines, head):
+        if is_inside(lines, head, at, match[1]):
             name_of_type, trait = impl_of(lines, head)
-            return Function(path, name_of_type, trait, match[2])
+            return Function(path, name_of_type, trait, match[2], is_in_cycle(lines, head))
     return None
 
 

@@ -1,15 +1,15 @@
-"""The bugs of a crate, tried on the copy of it, over what a check of the crate as it is proved."""
+"""The bugs of a crate, tried on the copy of it: by checks of the changed functions alone wherever these tell."""
 import os
 import re
 import shutil
+import subprocess
 import tempfile
 from pathlib import Path
 
 from batches import make_batches
 from scratch import rt
-from verdicts import refusal
+from verdicts import LET_THROUGH, NO_PROGRAM, NOT_TRIED, REFUSED, refusal, verdict
 
-REFUSED, LET_THROUGH, NO_PROGRAM, NOT_TRIED = "refused", "let through", "no program", "not tried"
 FLAGS = ["--jobs", "1"]
 KINDS = {
     rt.REFUSED: REFUSED,
@@ -32,81 +32,77 @@ def apply_all(room, bugs):
     return made
 
 
-def texts_of(crate, bugs):
-    """The texts of the crate's files with these bugs in them, and those bugs that could be put into them."""
+def copy_parts(crate, room):
+    """Copies the files of a crate to a room."""
+    for part in rt.rtlib.PARTS:
+        if os.path.isdir(f"{crate.folder}/{part}"):
+            shutil.copytree(f"{crate.folder}/{part}", f"{room}/{part}")
+
+
+def check_changed(crate, bugs, shared):
+    """The status and the words of a check of the functions that these bugs change, and of those that they call.
+
+    Also the bugs that could be made. `shared` is the folder with what the crate's earlier checks of this kind proved.
+    """
     with tempfile.TemporaryDirectory(prefix=f"rt-edit-{os.getpid()}-") as room:
-        shutil.copytree(f"{crate.folder}/src", f"{room}/src")
+        copy_parts(crate, room)
         made = apply_all(room, bugs)
-        paths = {function.path for bug in made for function in bug.functions}
-        return {path: Path(room, path).read_text(encoding="utf-8") for path in paths}, made
+        words = [rt.rtlib.RATTLE, "check", *crate.words(FLAGS, keeps=False), "--incremental", shared]
+        for name in sorted({function.said() for bug in made for function in bug.functions}):
+            words += ["--only", name]
+        how = {"stdin": subprocess.DEVNULL, "stdout": subprocess.PIPE, "stderr": subprocess.STDOUT, "errors": "replace"}
+        ran = subprocess.run([*rt.rtlib.guarded(), *words], cwd=room, check=False, **how)
+        return ran.returncode, ran.stdout, made
 
 
-def over(seed, call):
-    """What a call gives of a copy of what was proved, of None where nothing was."""
-    if not seed:
-        return call(None)
+def try_batch(crate, bugs, shared, tell):
+    """Tries several bugs by one check, and returns those that it does not settle."""
+    _, said, made = check_changed(crate, bugs, shared)
+    why = {bug: refusal(said, bug) for bug in made}
+    for bug in made:
+        if why[bug]:
+            tell(bug, REFUSED, why[bug])
+    return [bug for bug in bugs if not why.get(bug)]
+
+
+def try_one(crate, bug, shared, tell):
+    """Tries a bug by a check of its own, and returns whether that settled it."""
+    status, said, made = check_changed(crate, [bug], shared)
+    found = verdict(status, said) if made and bug.functions else None
+    if found:
+        tell(bug, REFUSED, found)
+    return bool(found)
+
+
+def try_whole(crate, seed, bug):
+    """What a bug comes to in a check of the whole crate, over a copy of what was proved of it as it is."""
     room = tempfile.mkdtemp(prefix=f"rt-edit-{os.getpid()}-")
     try:
         rt.linked(f"{seed}/seed", f"{room}/seed")
-        return call(f"{room}/seed")
+        kind, said = rt.must_fail(crate, str(bug.file), FLAGS, f"{room}/seed")
     finally:
         shutil.rmtree(room, ignore_errors=True)
-
-
-def try_one(crate, seed, bug):
-    """What a bug comes to where it is tried by itself, and what was said."""
-    kind, said = over(seed, lambda kept: rt.must_fail(crate, str(bug.file), FLAGS, kept))
     said = re.sub(r"^(rt: )?must-fail \S+: ", "", said)
     if "only because a proof file names" in said:
         return NO_PROGRAM, said
     return KINDS[kind], re.sub(r"^refused, as it must be:? ?", "", said)
 
 
-def try_batch(crate, seed, bugs):
-    """What checks with several of these bugs refused, by bug: why.
-
-    Those that a check does not settle are tried again without the others.
-    """
-    texts, made = texts_of(crate, bugs)
-    if len(made) < 2:
-        return {}
-    said = over(seed, lambda kept: rt.checked(crate, texts, FLAGS, kept)).stdout
-    if re.search(r"\berror\[[\w-]+\]", said):
-        half = len(made) // 2
-        return try_batch(crate, seed, made[:half]) | try_batch(crate, seed, made[half:])
-    found = {bug: why for bug in made if (why := refusal(said, bug))}
-    left = [bug for bug in made if bug not in found]
-    return found | (try_batch(crate, seed, left) if found else {})
-
-
-def try_all(crate, seed, bugs, tell):
-    """Tries a batch, then by themselves those that it does not settle, and tells what each came to."""
-    refused = try_batch(crate, seed, bugs)
+def try_on_seed(crate, start, bugs, tell):
+    """Tries bugs by checks of the whole crate, which is proved as it is before, begun with what is in `start`."""
+    seed = rt.seeded(crate, FLAGS, start if os.path.isdir(start) else None)
     for bug in bugs:
-        tell(bug, *((REFUSED, refused[bug]) if bug in refused else try_one(crate, seed, bug)))
+        found = try_whole(crate, seed, bug) if seed else (NOT_TRIED, "the crate as it is was not proved")
+        tell(bug, *found)
+    shutil.rmtree(seed or "", ignore_errors=True)
 
 
-def seed_of(crate, start, jobs):
-    """A folder with what a check of the crate as it is proved, begun with what is in `start`.
-
-    None where the crate is not proved.
-    """
-    return rt.seeded(crate, ["--jobs", str(jobs)], start if os.path.isdir(start) else None)
-
-
-def add_tasks(tasks, crate, start, bugs, rank, tell):
-    """Adds to the kit's tasks those that try the bugs of a crate, which come before those of a smaller rank."""
-    needs, seed = rt.need(crate), (crate.name, "seed")
-    tasks[seed] = ([], 0, needs, lambda given, jobs: seed_of(crate, start, jobs))
-
-    def work(batch, given):
-        if given[seed]:
-            return try_all(crate, given[seed], batch, tell)
-        return [tell(bug, NOT_TRIED, "the crate as it is was not proved") for bug in batch]
-
-    keys = []
-    for number, batch in enumerate(make_batches(bugs)):
-        keys.append((crate.name, "edits", number))
-        call = lambda given, jobs, batch=batch: work(batch, given)
-        tasks[keys[-1]] = ([seed], rank, rt.OVER * needs, call)
-    tasks[crate.name, "end"] = (keys, 0, 0, lambda given, jobs: shutil.rmtree(given[seed] or "", ignore_errors=True))
+def try_all(crate, start, bugs, tell):
+    """Tries the bugs of a crate: several at a time, then one by one, and what is left by checks of the whole crate."""
+    left = []
+    with tempfile.TemporaryDirectory(prefix=f"rt-only-{os.getpid()}-") as shared:
+        for batch in make_batches(bugs):
+            left += try_batch(crate, batch, shared, tell) if len(batch) > 1 else batch
+        left = [bug for bug in left if not try_one(crate, bug, shared, tell)]
+    if left:
+        try_on_seed(crate, start, left, tell)

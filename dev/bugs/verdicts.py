@@ -1,10 +1,17 @@
 """What a check said of a function."""
 import re
-from pathlib import Path
+
+from texts import module_of
+
+REFUSED, LET_THROUGH, NO_PROGRAM, NOT_TRIED = "refused", "let through", "no program", "not tried"
 
 # A proof file that names what an edit took away, or what was not proved for that: it says nothing of a contract.
 NAMES = re.compile(r"has no field|is not in scope|has no `|was not admitted")
 LINE = re.compile(r"^fn (\S+): (.*)$", re.M)
+# The last line of a check of some functions: how many were asked for, and how many of them are proved.
+COUNTS = re.compile(r"^only=(\d+) proved=(\d+)", re.M)
+# A place in a file, and what is said of it.
+PLACED = re.compile(r"^(?:note: )?(\S+):\d+:\d+: (.*)$", re.M)
 
 
 def is_named(function, name):
@@ -19,12 +26,6 @@ def is_named(function, name):
     if function.type:
         return len(parts) > 2 and parts[-2] == function.type + function.trait
     return parts[1:-1] == module_of(function.path)
-
-
-def module_of(path):
-    """The module of a file: `a::b` of `src/a/b.rt`."""
-    parts = list(Path(path).with_suffix("").parts[1:])
-    return [] if parts in (["lib"], ["main"]) else parts
 
 
 def lines_of(said, function):
@@ -63,3 +64,19 @@ def open_goal(said, function):
 def refusal(said, bug):
     """Why a check refuses a bug of its batch, None where it cannot be told."""
     return next(filter(None, (open_goal(said, function) for function in bug.functions)), None)
+
+
+def complaints(said):
+    """What a check said of places in files, but for missing names in proofs, and of functions with open goals."""
+    placed = [(path, text) for path, text in PLACED.findall(said) if "error" in text or "not proved" in text]
+    told = [text for path, text in placed if not ("proofs/" in path and NAMES.search(text))]
+    return told + [f"{name}: {text}" for name, text in LINE.findall(said) if "did not prove" in text]
+
+
+def verdict(status, said):
+    """Why a check of a bug's functions alone refuses it, None where it does not or where that cannot be told."""
+    counts = COUNTS.findall(said)
+    if status != 1 or not counts or re.search(r"\berror\[[\w-]+\]", said):
+        return None
+    asked, proved = map(int, counts[-1])
+    return next(iter(complaints(said)), None) if proved < asked else None
