@@ -1,9 +1,9 @@
-"""Writes the files of a page of 1,280 by 720 pixels: `page.py FOLDER [EVENTS]`.
+"""Writes the files of a page of 1,280 by 720 pixels: `page.py FOLDER [EVENTS [hidden]]`.
 
 Client 1 is the page: a background, fifteen tiles of 256 by 240 pixels, a toolbar of eight coloured buttons, and two embedded
 children. Client 2 is a tab that moves a bar of 64 by 720 pixels at each begin-frame; client 3 is a caret of 2 by 20 that
 blinks. The schedule has at most EVENTS events (256 by default): the page's messages, then rounds of Begin, a frame of each
-child, Draw and Done.
+child, Draw and Done. With the word `hidden` an opaque quad of the page lies in front of everything.
 """
 
 import os
@@ -48,7 +48,7 @@ def submission(client, answered, damage, quads, listings=()):
     return b"".join(parts)
 
 
-def page():
+def page(hidden):
     """The page's messages: a tile for each place, its frame, the children below its sink, and the root."""
     side, high = 256, 240
     places = [(x, y) for y in range(0, HIGH, high) for x in range(0, WIDE, side)]
@@ -59,6 +59,8 @@ def page():
     quads += [quad(300, 200, 64, 64, surface(3)), quad(128, 60, 1024, 640, surface(2))]
     quads += [quad(x, y, side, high, tile(k + 1)) for k, (x, y) in enumerate(places)]
     quads.append(quad(0, 0, WIDE, HIGH, solid(255, 255, 255)))
+    if hidden:
+        quads.insert(0, quad(0, 0, WIDE, HIGH, solid(30, 60, 90)))
     listings = [(k + 1, side, high) for k in range(len(places))]
     related = [b"\6" + struct.pack("<IIII", *SINKS[1], *SINKS[k]) for k in (2, 3)]
     return uploads + [submission(1, 0, (0, 0, WIDE, HIGH), quads, listings)] + related + [b"\5" + local(1)]
@@ -82,9 +84,9 @@ def write(folder, name, client, messages):
         file.write(head + b"".join(messages))
 
 
-def main(folder, events="256"):
+def main(folder, events="256", front=""):
     os.makedirs(folder, exist_ok=True)
-    first = page()
+    first = page(front == "hidden")
     rounds = (int(events) - len(first)) // 5
     write(folder, "page.viz", 1, first)
     write(folder, "tab.viz", 2, [tab(k) for k in range(1, rounds + 1)])

@@ -10,6 +10,7 @@ from pathlib import Path
 
 from kit import build, inputs, log, wire
 from kit.machine import Differs, replay
+from kit.occlusion import Flattener, Item, removed
 from kit.shapes import meet, moved
 from kit.walk import Drawing, TooMuch, seen
 
@@ -45,6 +46,34 @@ def is_replayed(read, files, size):
     except Differs:
         return False
     return (sorted(held), sorted(opened)) == (sorted(read.held), sorted(read.open))
+
+
+ALL, LEFT = (0, 0, 4, 2), (0, 0, 2, 2)
+LISTS = (  # items from back to front, and how many are kept and removed
+    ("nothing", [], (0, 0)),
+    ("the front covers all", [Item(ALL, True), Item(ALL, True)], (1, 1)),
+    ("the front covers a part", [Item(ALL, True), Item(LEFT, True)], (2, 0)),
+    ("the front is not opaque", [Item(ALL, True), Item(ALL, False)], (2, 0)),
+    ("a group behind", [Item(LEFT, False, [Item(LEFT, True), Item(LEFT, True)]), Item(ALL, True)], (1, 1)),
+    ("a group in front", [Item(ALL, True), Item(ALL, False, [Item(ALL, True)])], (3, 0)),
+    ("inside a group", [Item(ALL, False, [Item(LEFT, False), Item(ALL, True)])], (2, 1)),
+    ("no more than 64", [Item(LEFT, False), Item(ALL, True)] + [Item((3, 0, 1, 1), True)] * 64, (3, 63)),
+)
+SAMPLES = {"windows": [[6, 54], [12, 48], [13, 48]]}
+
+
+def occluded(_folder):
+    """What is removed of worked lists, and of the drawings of a sample."""
+    for name, items, numbers in LISTS:
+        yield name, removed(items) == numbers
+    for name, numbers in SAMPLES.items():
+        scene, found = build.scene(EXAMPLES / name / "scene.toml"), []
+
+        def note(machine, entry):
+            if entry.reply == "drawn":
+                found.append(list(removed(Flattener(machine.world).display(scene.display))))
+        replay(log.read((EXAMPLES / name / "log").read_bytes()), [wire.read(f) for f in scene.files], scene.display, note)
+        yield "%s: %s" % (name, found), found == numbers
 
 
 class Quads(Drawing):
@@ -265,4 +294,4 @@ def refused(folder):
         yield "%s: %s" % (words, done.stderr), (done.returncode, said in done.stderr) == (status, True) and done.stderr.count("\n") <= 2
 
 
-PARTS = (("replays", replays), ("pages", pages), ("the page alone", alone), ("the page at 60,000 entries", quick), ("words of view", refused))
+PARTS = (("replays", replays), ("occluded items", occluded), ("pages", pages), ("the page alone", alone), ("the page at 60,000 entries", quick), ("words of view", refused))

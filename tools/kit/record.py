@@ -6,6 +6,7 @@ import json
 
 from . import names
 from .machine import replay
+from .occlusion import Flattener, removed
 from .picture import stale
 
 
@@ -51,6 +52,7 @@ class Recorder:
         self.draws, self.roots, self.relations = [], [], []
         self.begins, self.answers = [[] for _ in files], [[] for _ in files]
         self.resources, self.before = [[] for _ in files], [(None, 0)] * len(files)
+        self.flattener = None
         self.machine = replay(log, files, size, self.seen)
 
     def seen(self, machine, entry):
@@ -85,8 +87,12 @@ class Recorder:
             self.resources[number_ - 1].append([machine.at, r, *one.size, one.lent, one.queued, one.reclaimed])
 
     def draw(self, machine, entry):
-        claims = [self.claim(claim) for claim in machine.drawing.claims] if entry.reply == "drawn" else []
-        self.draws.append([machine.at, entry.reply, list(entry.numbers), claims])
+        claims, items = [], [0, 0]
+        if entry.reply == "drawn":
+            self.flattener = self.flattener or Flattener(machine.world)
+            claims = [self.claim(claim) for claim in machine.drawing.claims]
+            items = list(removed(self.flattener.display(self.size)))
+        self.draws.append([machine.at, entry.reply, list(entry.numbers), claims, items])
 
     def claim(self, claim):
         return [claim.kind, said(claim, self.names), list(claim.rect)]
@@ -120,7 +126,7 @@ class Recorder:
     def run(self):
         world = self.machine.world
         surfaces = {surface: place for place, surface in enumerate(world.surfaces)}
-        rects = [numbers for _, reply, numbers, _ in self.draws if reply == "drawn"]
+        rects = [numbers for _, reply, numbers, *_ in self.draws if reply == "drawn"]
         return {
             "size": self.size, "buffers": self.buffers,
             "surfaces": [[s.client.number, self.names.surface(s.id), *s.size, s.at, s.born, number(s.named_at),

@@ -43,7 +43,7 @@ pub fn play_run<M: Machine + Send + Drop, F: Shelf, G: Gate + Sync, L: Ledger, R
     history: &mut List<Entry>,
 ) -> Result<(), ShelfError>
 where
-    M::FrameData: Drop + Send,
+    M::Picture: Drop + Send,
     R: Threads + Wait + AllocGlobal + Sync,
     requires fits { IsTrue (fits_command (command_of words.now)) }
     requires opening { (M.state machine).world ≡ opening (M.state machine).plan }
@@ -97,7 +97,7 @@ fn show_run<M: Machine + Send + Drop, F: Shelf, G: Gate + Sync, L: Ledger, R>(
     history: &mut List<Entry>,
 ) -> Result<Rest, ShelfError>
 where
-    M::FrameData: Drop + Send,
+    M::Picture: Drop + Send,
     R: Threads + Wait + AllocGlobal + Sync,
     requires fits { IsTrue (fits_command (command_of words.now)) }
     requires opening { (M.state machine).world ≡ opening (M.state machine).plan }

@@ -75,7 +75,7 @@ fn play_all<M: Machine + Drop, G: Gate, L: Ledger>(
     history: &mut List<Entry>,
 ) -> Result<u64, Memory>
 where
-    M::FrameData: Drop,
+    M::Picture: Drop,
     requires opening { (M.state machine).world ≡ opening (M.state machine).plan }
     requires plan { IsPlan (M.state machine).plan }
     requires size { (M.state machine).plan.size ≡ size }
@@ -112,7 +112,7 @@ fn take_all<M: Machine + Drop, G: Gate, L: Ledger>(
     steps: &mut Steps<L>,
 ) -> Result<(), Memory>
 where
-    M::FrameData: Drop,
+    M::Picture: Drop,
     requires going { player.old.stopped ≡ false }
     requires named { All (NamesClient player.old.plan) events.now }
     ensures taken { OnOk result (HasTaken events.now player.old player.new) }

@@ -89,7 +89,7 @@ fn find_hit<M: Machine + Drop, G: Gate>(
     history: &mut List<Entry>,
 ) -> Result<Option<(SurfaceId, Point)>, Memory>
 where
-    M::FrameData: Drop,
+    M::Picture: Drop,
     requires opening { (M.state machine).world ≡ opening (M.state machine).plan }
     requires files { length (M.state machine).plan.files ≤ MOST_FILES }
     requires point { IsOnDisplay (M.state machine) point }
@@ -116,7 +116,7 @@ fn take_all<M: Machine + Drop, G: Gate>(
     gate: &G,
 ) -> Result<(), Memory>
 where
-    M::FrameData: Drop,
+    M::Picture: Drop,
     requires named { All (NamesClient tester.old.plan) events.now }
     ensures taken { OnOk result (HasTested events.now tester.old tester.new) }
     ensures front { OnErr result ((n : ℕ)

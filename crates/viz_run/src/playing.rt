@@ -44,7 +44,7 @@ pub fn play<M: Machine + Drop, F: Shelf, G: Gate, L: Ledger>(
     history: &mut List<Entry>,
 ) -> Result<(), ShelfError>
 where
-    M::FrameData: Drop,
+    M::Picture: Drop,
     requires opening { (M.state machine).world ≡ opening (M.state machine).plan }
     requires plan { IsPlan (M.state machine).plan }
     requires size { (M.state machine).plan.size ≡ size }
@@ -96,7 +96,7 @@ fn show<M: Machine + Drop, F: Shelf, G: Gate, L: Ledger>(
     history: &mut List<Entry>,
 ) -> Result<Rest, ShelfError>
 where
-    M::FrameData: Drop,
+    M::Picture: Drop,
     requires opening { (M.state machine).world ≡ opening (M.state machine).plan }
     requires plan { IsPlan (M.state machine).plan }
     requires size { (M.state machine).plan.size ≡ size }

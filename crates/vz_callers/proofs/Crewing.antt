@@ -15,26 +15,26 @@ use Rattle.vz_callers.specs.Crews.{messages_of, HasFile, HasCalledAll, numbers_o
 
 -- The numbers
 
-module _ {M D : Type 0} where
-  first_at_work : (started : List (Started M D)) (s : Started M D) → numbers_at_work (started ++ s ∷ []) ≡ number_of s ∷ numbers_at_work started
+module _ {M D T : Type 0} where
+  first_at_work : (started : List (Started M D T)) (s : Started M D T) → numbers_at_work (started ++ s ∷ []) ≡ number_of s ∷ numbers_at_work started
   first_at_work started s = ap (map number_of) (reverse-append started (s ∷ []))
 
   -- a pass goes from the end of one list to the end of the other
-  pub numbers_move : (passes left : List (Caller Plan Entry)) (x : Caller Plan Entry) (started more : List (Started M D)) (s : Started M D) → passes ≡ left ++ x ∷ [] → more ≡ started ++ s ∷ []
+  pub numbers_move : (passes left : List (Caller Plan Entry)) (x : Caller Plan Entry) (started more : List (Started M D T)) (s : Started M D T) → passes ≡ left ++ x ∷ [] → more ≡ started ++ s ∷ []
       → number_of s ≡ x.number → numbers_of left ++ numbers_at_work more ≡ numbers_of passes ++ numbers_at_work started
   numbers_move passes left x started more s taken put same =
-      ap (λ (l : List (Started M D)). numbers_of left ++ numbers_at_work l) put
+      ap (λ (l : List (Started M D T)). numbers_of left ++ numbers_at_work l) put
       ∙ ap (λ (l : List ℕ). numbers_of left ++ l) (first_at_work started s ∙ ap (λ (n : ℕ). n ∷ numbers_at_work started) same)
       ∙ sym (append_assoc (numbers_of left) (x.number ∷ []) (numbers_at_work started))
       ∙ ap (λ (l : List ℕ). l ++ numbers_at_work started) (sym (map-append (λ (t : Caller Plan Entry). t.number) left (x ∷ [])) ∙ ap numbers_of (sym taken))
 
-  pub none_at_work : (passes : List (Caller Plan Entry)) (started : List (Started M D)) → started ≡ [] → numbers_of passes ++ numbers_at_work started ≡ numbers_of passes
-  none_at_work passes started none = ap (λ (l : List (Started M D)). numbers_of passes ++ numbers_at_work l) none ∙ append-nil (numbers_of passes)
+  pub none_at_work : (passes : List (Caller Plan Entry)) (started : List (Started M D T)) → started ≡ [] → numbers_of passes ++ numbers_at_work started ≡ numbers_of passes
+  none_at_work passes started none = ap (λ (l : List (Started M D T)). numbers_of passes ++ numbers_at_work l) none ∙ append-nil (numbers_of passes)
 
-  pub none_waits : (passes : List (Caller Plan Entry)) (started : List (Started M D)) (numbers : List ℕ) → passes ≡ [] → numbers_of passes ++ numbers_at_work started ≡ numbers → numbers_at_work started ≡ numbers
+  pub none_waits : (passes : List (Caller Plan Entry)) (started : List (Started M D T)) (numbers : List ℕ) → passes ≡ [] → numbers_of passes ++ numbers_at_work started ≡ numbers → numbers_at_work started ≡ numbers
   none_waits passes started numbers none all = ap (λ (l : List (Caller Plan Entry)). numbers_of l ++ numbers_at_work started) (sym none) ∙ all
 
-  pub all_back : (passes : List (Caller Plan Entry)) (started : List (Started M D)) (numbers : List ℕ) → started ≡ [] → numbers_of passes ++ numbers_at_work started ≡ numbers → numbers_of passes ≡ numbers
+  pub all_back : (passes : List (Caller Plan Entry)) (started : List (Started M D T)) (numbers : List ℕ) → started ≡ [] → numbers_of passes ++ numbers_at_work started ≡ numbers → numbers_of passes ≡ numbers
   all_back passes started numbers none all = sym (none_at_work passes started none) ∙ all
 
 -- Lists from whose end one is taken, or at whose end one is put

@@ -25,17 +25,17 @@ abbrev pub numbers_of : List (Caller Plan Entry) → List ℕ
 numbers_of ts = map (λ (t : Caller Plan Entry). t.number) ts
 
 -- the number of the client whose calls these are
-abbrev pub number_of : {M D : Type 0} → Started M D → ℕ
+abbrev pub number_of : {M D T : Type 0} → Started M D T → ℕ
 number_of (Running handle) = handle.promise.given.value.number
 number_of (Here called) = called.pass.number
 
 -- a thread has the pass of a client that made no call yet, or the calls were made here
-abbrev pub IsAtWork : {M D : Type 0} → TableId → Plan → Started M D → Type 0
+abbrev pub IsAtWork : {M D T : Type 0} → TableId → Plan → Started M D T → Type 0
 IsAtWork id p (Running handle) = HasCalled id p handle.promise.given.value 0
 IsAtWork id p (Here called) = HasCalled id p called.pass called.made
 
 -- the numbers of the clients, the one started last first
-abbrev pub numbers_at_work : {M D : Type 0} → List (Started M D) → List ℕ
+abbrev pub numbers_at_work : {M D T : Type 0} → List (Started M D T) → List ℕ
 numbers_at_work started = map number_of (reverse started)
 
 -- no client made a call yet, and there are as many files as counts of messages
@@ -44,7 +44,7 @@ pub record IsCrew (id : TableId) (p : Plan) (messages : List ℕ) (ts : List (Ca
   pub new : All (λ t. HasCalled id p t 0) ts
 
 -- all of these are at work, and there are as many files as counts of messages
-pub record IsGoing {M D : Type 0} (id : TableId) (p : Plan) (messages : List ℕ) (started : List (Started M D)) : Type 0 where
+pub record IsGoing {M D T : Type 0} (id : TableId) (p : Plan) (messages : List ℕ) (started : List (Started M D T)) : Type 0 where
   pub counts : length messages ≡ length p.files
   pub work : All (IsAtWork id p) started
 

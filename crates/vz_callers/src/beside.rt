@@ -48,7 +48,7 @@ pub(crate) fn play_beside<
     display: Pass<M>,
 ) -> Beside<M>
 where
-    M::FrameData: Send + Drop,
+    M::Picture: Send + Drop,
     requires crew { (p : Plan) × IsCrew hub.now.id p messages.now passes.items }
     requires room { (started.items ≡ []) × (vec_len passes ≤ vec_capacity started) }
     requires display { IsAtRest hub.now.id display }

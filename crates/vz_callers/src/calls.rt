@@ -35,7 +35,7 @@ fn make_call<M: Machine + Send, G: Gate, R: Wait + AllocGlobal>(
     event: Event,
 ) -> Result<(), Memory>
 where
-    M::FrameData: Send + Drop,
+    M::Picture: Send + Drop,
     requires ours { IsAtRest hub.now.id pass.old }
     requires client { ForSome pass.old.plan (λ p. NamesClient p event) }
     ensures stays { Stays pass.old pass.new }
@@ -63,7 +63,7 @@ pub(crate) fn make_calls<M: Machine + Send, G: Gate, R: Wait + AllocGlobal>(
     count: u64,
 ) -> Called<M>
 where
-    M::FrameData: Send + Drop,
+    M::Picture: Send + Drop,
     requires { MayCall hub.now.id pass }
     ensures { MakesCalls pass result.pass result.made }
 {
@@ -86,7 +86,7 @@ fn make_round<M: Machine + Send, G: Gate, R: Wait + AllocGlobal>(
     before: u32,
 ) -> Result<(), Memory>
 where
-    M::FrameData: Send + Drop,
+    M::Picture: Send + Drop,
     requires { IsAtRest hub.now.id pass.old }
     ensures stays { Stays pass.old pass.new }
     ensures ok { OnOk result (events_of pass.new ≡ events_of pass.old ++ round) }
@@ -107,7 +107,7 @@ pub(crate) fn make_rounds<M: Machine + Send, G: Gate, R: Wait + AllocGlobal>(
     ticks: u32,
 ) -> Result<(), Memory>
 where
-    M::FrameData: Send + Drop,
+    M::Picture: Send + Drop,
     requires { IsAtRest hub.now.id pass.old }
     ensures stays { Stays pass.old pass.new }
     ensures ok { OnOk result (events_of pass.new ≡ events_of pass.old ++ rounds ticks) }

@@ -40,7 +40,7 @@ pub(crate) enum Started<M: Machine + Send> {
 /// How many messages the file of the pass's client has.
 fn count_of<M: Machine + Send>(pass: &Pass<M>, messages: &[u64]) -> u64
 where
-    M::FrameData: Send,
+    M::Picture: Send,
     requires { HasFile messages.now pass.now }
     ensures { result ≡ messages_of messages.now pass.now.number }
 {
@@ -63,7 +63,7 @@ fn start<
     count: u64,
 ) -> Started<M>
 where
-    M::FrameData: Send + Drop + 's,
+    M::Picture: Send + Drop + 's,
     requires { MayCall hub.now.id pass }
     ensures number { number_of result ≡ pass.number }
     ensures work { (p : Plan) → HasCalled hub.now.id p pass 0 → IsAtWork hub.now.id p result }
@@ -87,7 +87,7 @@ where
 /// Waits for the calls of one client.
 fn finish<M: Machine + Send + Drop, R: Threads + Wait>(rt: &R, started: Started<M>) -> Called<M>
 where
-    M::FrameData: Send + Drop,
+    M::Picture: Send + Drop,
     ensures number { result.pass.number ≡ number_of started }
     ensures called { (id : TableId) (p : Plan) → IsAtWork id p started
         → HasCalled id p result.pass result.made }
@@ -117,7 +117,7 @@ pub(crate) fn start_all<
     started: &mut Vec<Started<M>>,
 )
 where
-    M::FrameData: Send + Drop + 's,
+    M::Picture: Send + Drop + 's,
     requires crew { (p : Plan) × IsCrew hub.now.id p messages.now passes.old.items }
     requires room { (started.old.items ≡ []) × (vec_len passes.old ≤ vec_capacity started.old) }
     ensures none { passes.new.items ≡ [] }
@@ -143,7 +143,7 @@ pub(crate) fn finish_all<M: Machine + Send + Drop, R: Threads + Wait>(
     passes: &mut Vec<Pass<M>>,
 ) -> bool
 where
-    M::FrameData: Send + Drop,
+    M::Picture: Send + Drop,
     requires going { (id : TableId) × (p : Plan)
         × IsGoing id p messages.now started.old.items }
     requires room { (passes.old.items ≡ []) × (vec_len started.old ≤ vec_capacity passes.old) }

@@ -31,7 +31,7 @@ pub(crate) fn open_turns<M: Machine + Send + Drop>(
     clients: usize,
 ) -> Result<Opened<M>, Memory>
 where
-    M::FrameData: Send,
+    M::Picture: Send,
     requires opening { (M.state machine).world ≡ opening (M.state machine).plan }
     requires few { clients ≤ MOST_FILES }
     ensures callers { IfOk result (λ o. o.hub.callers ≡ clients + 1) }

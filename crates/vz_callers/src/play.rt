@@ -36,7 +36,7 @@ pub fn play_turns<M: Machine + Send + Drop, G: Gate + Sync, R>(
     history: &mut List<Entry>,
 ) -> Result<(), Memory>
 where
-    M::FrameData: Send + Drop,
+    M::Picture: Send + Drop,
     R: Threads + Wait + AllocGlobal + Sync,
     requires opening { (M.state machine).world ≡ opening (M.state machine).plan }
     requires files { length (M.state machine).plan.files ≤ MOST_FILES }

@@ -20,7 +20,7 @@ pub record Draws (old new : Owner DisplayTotals) (picture : Option Pictured) : T
 
 -- the call drew a frame, whose token belongs to this desk; or it made an entry without drawing; or
 -- it made no entry
-abbrev pub IsDrawing : {M S P : Type 0} → (P → Pictured) → Owner DisplayTotals → Owner DisplayTotals → Drawing M S P → Type 0
+abbrev pub IsDrawing : {M S P T : Type 0} → (P → Pictured) → Owner DisplayTotals → Owner DisplayTotals → Drawing M S P T → Type 0
 IsDrawing pictured old new (Drawn hold picture) = (hold ≡ old.desk) × Draws old new (Some (pictured picture))
 IsDrawing pictured old new (Other note) = (d : Draws old new None) × (note ≡ noted_plainly d.displays.before)
 IsDrawing pictured old new (Stopped why) = MakesNone old new

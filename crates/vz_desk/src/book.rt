@@ -120,10 +120,10 @@ impl<M: Machine, S: Copy> Book<M, S> {
 
     /// Draws. It returns a picture exactly if the answer is Drawn. The only error is `Memory`,
     /// and then nothing changes.
-    pub fn draw(&mut self, alloc: Global) -> Result<Option<M::FrameData>, Memory>
+    pub fn draw(&mut self, alloc: Global) -> Result<Option<M::Picture>, Memory>
         ensures ok { OnOk result (self.new ≡ booked_on self.old event.Draw) }
         ensures picture { IfOk result (λ p. ShowsDrawn (machine_of self.old)
-            (next_entry self.old event.Draw).reply (option_map M.FrameData.pictured p)) }
+            (next_entry self.old event.Draw).reply (option_map M.Picture.pictured p)) }
         ensures err { OnErr result (self.new ≡ self.old) }
     {
         self.history.reserve(2)?;

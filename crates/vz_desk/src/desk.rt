@@ -31,7 +31,7 @@ impl<M: Machine + Send, S: Copy + Send + Sync> Model for Desk<M, S> {
 
 impl<M: Machine + Send, S: Copy + Send + Sync> Desk<M, S>
 where
-    M::FrameData: Send,
+    M::Picture: Send,
 {
     /// Keeps a reason, unless one is kept already, and rings the bell. It makes no entry.
     /// Condition: the end is of this desk.

@@ -26,7 +26,7 @@ pub(crate) fn plain_note(place: u64) -> Note
 
 impl<M: Machine + Send, S: Copy + Send + Sync> Desk<M, S>
 where
-    M::FrameData: Send,
+    M::Picture: Send,
 {
     /// Begins a frame: it makes one entry, and the bell rings. If the desk was stopped, it
     /// returns `Stopped` and makes none. The only error is `Memory`, and then it makes none.

@@ -48,7 +48,7 @@ impl<M: Machine + Send, S: Copy + Send + Sync> Model for DisplayEnd<M, S> {
 
 impl<M: Machine + Send, S: Copy + Send + Sync> DisplayEnd<M, S>
 where
-    M::FrameData: Send,
+    M::Picture: Send,
 {
     /// How many begin-frames the display made.
     pub fn begins(&self) -> u64

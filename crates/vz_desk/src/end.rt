@@ -28,7 +28,7 @@ impl<M: Machine + Send, S: Copy + Send + Sync> Model for End<M, S> {
 
 impl<M: Machine + Send, S: Copy + Send + Sync> End<M, S>
 where
-    M::FrameData: Send,
+    M::Picture: Send,
 {
     /// The number of the client, from 1 on.
     pub fn client(&self) -> u32

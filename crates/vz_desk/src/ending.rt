@@ -47,7 +47,7 @@ fn tokens_of<M: Machine + Send, S: Copy + Send + Sync>(
 
 impl<M: Machine + Send, S: Copy + Send + Sync> Desk<M, S>
 where
-    M::FrameData: Send,
+    M::Picture: Send,
 {
     /// Ends a desk, and returns its machine with the whole history. It takes no memory.
     /// Conditions: `ends` are all client ends of this desk, in any order, and there is a hold

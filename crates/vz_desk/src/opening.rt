@@ -14,7 +14,7 @@ use vz_machine::Machine;
 
 impl<M: Machine + Send + Drop, S: Copy + Send + Sync> Desk<M, S>
 where
-    M::FrameData: Send,
+    M::Picture: Send,
 {
     /// Makes a desk of a machine. It returns the desk, an end for each client by rising number,
     /// and the display's end. The only error is `Memory`, and then the machine is lost.
@@ -59,7 +59,7 @@ fn take_ends<M: Machine + Send, S: Copy + Send + Sync>(
     ends: &mut Vec<End<M, S>>,
 )
 where
-    M::FrameData: Send,
+    M::Picture: Send,
     requires some { 0 < length tokens.old.items }
     requires unused { All IsUnused (drop 1 tokens.old.items) }
     requires empty { ends.old.items ≡ [] }
@@ -81,7 +81,7 @@ where
 /// Makes the end of the client that this token belongs to.
 fn end_of<M: Machine + Send, S: Copy + Send + Sync>(token: Token<Book<M, S>>) -> End<M, S>
 where
-    M::FrameData: Send,
+    M::Picture: Send,
     requires unused { IsUnused token }
     ensures { result ≡ owner_of token no_totals }
 {
@@ -97,7 +97,7 @@ fn display_of<M: Machine + Send, S: Copy + Send + Sync>(
     room: Vec<Token<Book<M, S>>>,
 ) -> DisplayEnd<M, S>
 where
-    M::FrameData: Send,
+    M::Picture: Send,
     requires display { token.number ≡ 0 }
     requires unused { IsPlanned token }
     requires empty { room.items ≡ [] }

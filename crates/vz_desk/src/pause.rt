@@ -9,7 +9,7 @@ use vz_machine::Machine;
 
 impl<M: Machine + Send, S: Copy + Send + Sync> Desk<M, S>
 where
-    M::FrameData: Send,
+    M::Picture: Send,
 {
     // Looks at the desk once, without an entry: it returns the reason of the first stop as the
     // error, or else a client for which a pause has to wait, if there is one. Client `last` is

@@ -14,7 +14,7 @@ use vz_machine::Machine;
 
 impl<M: Machine + Send, S: Copy + Send + Sync> Desk<M, S>
 where
-    M::FrameData: Send,
+    M::Picture: Send,
 {
     /// Draws: it makes one entry, and the bell rings. If a frame is drawn, its token comes with
     /// it; while a frame is in flight none is drawn. If the desk was stopped, it returns
@@ -27,7 +27,7 @@ where
     ) -> Result<Drawing<M, S>, Memory>
         requires { d.old.desk ≡ self.now.id }
         ensures same { IsSameOwner d.old d.new }
-        ensures ok { IfOk result (λ x. IsDrawing M.FrameData.pictured d.old d.new x) }
+        ensures ok { IfOk result (λ x. IsDrawing M.Picture.pictured d.old d.new x) }
         ensures err { OnErr result (MakesNone d.old d.new) }
     {
         let mut book = self.lock.enter(rt, &mut d.token);

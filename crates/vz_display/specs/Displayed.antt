@@ -40,6 +40,11 @@ pub record IsDisplayed (d : Displayed) : Type 0 where
   pub stales : AreOn d.turns.size d.turns.stales
   pub sizes : HaveSize d.turns.size d.kept
 
+-- what a display shows, and how many occluded items were removed of the pictures that it showed
+pub record DisplayState : Type 0 where
+  pub shown : Displayed
+  pub removed : ℕ
+
 -- so many buffers that were never made
 abbrev pub first_displayed : Size → ℕ → Displayed
 first_displayed size count = record { turns = first_turns size count; kept = replicate count None; painted = 0 }

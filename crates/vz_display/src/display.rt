@@ -3,7 +3,7 @@ ghost use Rattle.std.specs.Prelude.{◌≡◌, ◌+◌, ◌-◌, ◌^◌, ◌≤
 ghost use Rattle.std.specs.List.{flat_map};
 ghost use Rattle.vz_geom.specs.Display.{IsDisplaySize};
 ghost use Rattle.vz_rules.specs.Frames.{pixel_bytes};
-ghost use Rattle.vz_display.specs.Displayed.{HaveSize, current, row_at, first_displayed, last_in, pixels_in, making_in, shown, steps_for};
+ghost use Rattle.vz_display.specs.Displayed.{HaveSize, current, row_at, first_displayed, last_in, pixels_in, making_in, shown, steps_for, upto_most};
 
 use arrayvec::ArrayVec;
 use std::alloc::Global;
@@ -13,7 +13,7 @@ use vz_base::Memory;
 use vz_base::limits::MOST_BUFFERS;
 use vz_buffers::{Buffer, Queue, Steps};
 use vz_geom::Size;
-use vz_machine::Picture;
+use vz_machine::ThinPicture;
 use vz_pixels::Pixel;
 
 /// A display with 1 to `MOST_BUFFERS` buffers that are painted in turn. It makes a buffer at its
@@ -24,15 +24,19 @@ pub struct Display {
     queue: Queue,
     kept: ArrayVec<Option<Buffer>, MOST_BUFFERS>,
     painted: u64,
+    removed: u64,
 }
 
 impl Model for Display {
-    ghost use Rattle.vz_display.specs.Displayed.{Displayed, IsDisplayed};
+    ghost use Rattle.vz_display.specs.Displayed.{DisplayState, IsDisplayed};
     ghost use Rattle.std.specs.Prelude.{◌≡◌};
 
-    ghost Value = { Displayed };
+    ghost Value = { DisplayState };
 
-    ghost view = { λ d. record { turns = d.queue; kept = d.kept.items; painted = d.painted } };
+    ghost view = { λ d. record {
+      shown = record { turns = d.queue; kept = d.kept.items; painted = d.painted };
+      removed = d.removed;
+    } };
 
     ghost invariant = { λ d. IsDisplayed (record {
       turns = d.queue;
@@ -48,30 +52,34 @@ impl Display {
         requires from { 1 ≤ buffers }
         requires upto { buffers ≤ MOST_BUFFERS }
         requires size { IsDisplaySize size }
-        ensures { result ≡ first_displayed size buffers }
+        ensures shown { result.shown ≡ first_displayed size buffers }
+        ensures removed { result.removed ≡ 0 }
     {
         Display {
             size,
             queue: Queue::new(buffers, size),
             kept: never_made(buffers),
             painted: 0,
+            removed: 0,
         }
     }
 
-    /// Shows a picture. It adds the picture's damage to the stale rectangle of each buffer,
-    /// paints the stale rectangle of the next buffer, and makes that buffer the current one.
-    /// Condition: the picture has the display's size. The only error is `Memory`; the display may
-    /// not be used after it.
-    pub fn show<P: Picture, L: Ledger>(
+    /// Shows a picture whose occluded items were removed. It adds the picture's damage to the
+    /// stale rectangle of each buffer, paints the stale rectangle of the next buffer, and makes
+    /// that buffer the current one. Condition: the picture has the display's size. The only error
+    /// is `Memory`; the display may not be used after it.
+    pub fn show<P: ThinPicture, L: Ledger>(
         &mut self,
         alloc: Global,
         p: &P,
         steps: &mut Steps<L>,
     ) -> Result<(), Memory>
-        requires { (P.pictured p.now).size ≡ self.old.turns.size }
-        ensures shown { OnOk result (self.new ≡ shown self.old (P.pictured p.now)) }
+        requires { (P.pictured p.now).size ≡ self.old.shown.turns.size }
+        ensures shown { OnOk result (self.new.shown ≡ shown self.old.shown (P.pictured p.now)) }
         ensures counted { OnOk result
-            (steps.new ≡ steps.old + steps_for self.old (P.pictured p.now).changed) }
+            (steps.new ≡ steps.old + steps_for self.old.shown (P.pictured p.now).changed) }
+        ensures removed { OnOk result
+            (self.new.removed ≡ upto_most (self.old.removed + P.gone p.now)) }
     {
         let _proper = p.size();
         let damage = p.damage();
@@ -85,6 +93,7 @@ impl Display {
             .painted
             .saturating_add(made)
             .saturating_add(area.area());
+        self.removed = self.removed.saturating_add(p.gone());
         Ok(())
     }
 
@@ -92,11 +101,12 @@ impl Display {
     /// Conditions: a picture was shown, the row is one of the display, and `into` has four bytes
     /// for each pixel of the row.
     pub fn row(&self, y: i32, into: &mut [u8])
-        requires current { IsSome (current self.now) }
+        requires current { IsSome (current self.now.shown) }
         requires top { pos 0 ≤ℤ y }
-        requires bottom { y <ℤ self.now.turns.size.h }
-        requires bytes { length into.old ≡ 4 * nat_abs self.now.turns.size.w }
-        ensures { IfSome (current self.now) (λ b. into.new ≡ flat_map pixel_bytes (row_at b y)) }
+        requires bottom { y <ℤ self.now.shown.turns.size.h }
+        requires bytes { length into.old ≡ 4 * nat_abs self.now.shown.turns.size.w }
+        ensures { IfSome (current self.now.shown)
+            (λ b. into.new ≡ flat_map pixel_bytes (row_at b y)) }
     {
         if let Some(Some(buffer)) = self.kept.first() {
             copy_row(buffer, &self.size, y, into);
@@ -105,9 +115,17 @@ impl Display {
 
     /// How many steps the pictures shown so far took, or `u64::MAX` if there are more.
     pub fn painted(&self) -> u64
-        ensures { result ≡ self.now.painted }
+        ensures { result ≡ self.now.shown.painted }
     {
         self.painted
+    }
+
+    /// How many occluded items were removed of the pictures shown so far, or `u64::MAX` if there
+    /// are more. A group that was removed counts once.
+    pub fn removed(&self) -> u64
+        ensures { result ≡ self.now.removed }
+    {
+        self.removed
     }
 }
 

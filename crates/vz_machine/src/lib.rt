@@ -7,5 +7,5 @@ mod picture;
 mod pixels;
 
 pub use machine::{Machine, Step};
-pub use picture::Picture;
+pub use picture::{Picture, ThinPicture};
 pub use pixels::PixelPicture;

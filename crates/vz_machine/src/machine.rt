@@ -33,7 +33,7 @@ pub trait Machine {
     ghost state: { Self → State };
 
     /// The type of the pictures that drawings give.
-    type FrameData: Picture;
+    type Picture: Picture;
 
     /// Takes the next message of a client. Condition: the plan has that client. The only error is
     /// `Memory`, and then nothing changes.
@@ -53,10 +53,10 @@ pub trait Machine {
     /// Draws the active surfaces. It returns a picture exactly if the answer is Drawn. The
     /// picture has the size of the plan's display, the colours of the scene and the damage of the
     /// answer. The only error is `Memory`, and then nothing changes.
-    fn draw(&mut self, alloc: Global) -> Result<(Step, Option<Self::FrameData>), Memory>
+    fn draw(&mut self, alloc: Global) -> Result<(Step, Option<Self::Picture>), Memory>
         ensures answer { IfOk result (λ d. Answers (state self.old) Draw d.0) }
         ensures picture { IfOk result (λ d. ShowsDrawn (state self.old) d.0.reply
-            (option_map Self.FrameData.pictured d.1)) }
+            (option_map Self.Picture.pictured d.1)) }
         ensures world { OnOk result (Goes (state self.old) Draw (state self.new)) }
         ensures err { OnErr result (state self.new ≡ state self.old) };
 

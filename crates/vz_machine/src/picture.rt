@@ -1,5 +1,5 @@
-//! The picture that a display is to show.
-ghost use Rattle.std.specs.Prelude.{◌≡◌, ◌+◌, OnOk};
+//! The pictures of drawings, and what a display shows of them.
+ghost use Rattle.std.specs.Prelude.{◌≡◌, ◌+◌, ℕ, IfOk, OnOk};
 ghost use Rattle.vz_geom.specs.Rectangle.{Covers, sized, points_of, area_of};
 ghost use Rattle.vz_rules.specs.Frames.{patched};
 ghost use Rattle.vz_machine.specs.Pictured.{Pictured, IsPictured, colours_in};
@@ -10,11 +10,33 @@ use vz_base::Memory;
 use vz_buffers::{Buffer, Steps};
 use vz_geom::{Rect, Size};
 
-/// What a display is to show: a colour for each of its points, and the damage, which is the
-/// rectangle of the points that changed since the picture before.
+/// The picture of a drawing, before its occluded items are removed. A display shows what `occlude`
+/// makes of it, and nothing else.
 pub trait Picture {
     /// What contracts know of the picture.
     ghost pictured: { Self → Pictured };
+
+    /// How many items of the picture are occluded.
+    ghost occluded: { Self → ℕ };
+
+    /// What a display shows of such a picture.
+    type Thin: ThinPicture + Drop + Send;
+
+    /// Removes what is occluded: each point keeps its colour, and size and damage stay. The only
+    /// error is `Memory`, and then the picture is given up.
+    fn occlude(self, alloc: Global) -> Result<Self::Thin, Memory>
+        ensures pictured { IfOk result (λ thin. Self.Thin.pictured thin ≡ pictured self) }
+        ensures gone { IfOk result (λ thin. Self.Thin.gone thin ≡ occluded self) };
+}
+
+/// What a display is to show: a colour for each of its points, and the damage, which is the
+/// rectangle of the points that changed since the picture before. Occluded items were removed.
+pub trait ThinPicture {
+    /// What contracts know of the picture.
+    ghost pictured: { Self → Pictured };
+
+    /// How many occluded items were removed of the picture.
+    ghost gone: { Self → ℕ };
 
     /// The size of the display in pixels.
     fn size(&self) -> Size
@@ -24,6 +46,10 @@ pub trait Picture {
     /// The rectangle of the points that changed since the picture before. It may be empty.
     fn damage(&self) -> Rect
         ensures { result ≡ (pictured self.now).changed };
+
+    /// How many occluded items were removed. A group that was removed counts once.
+    fn gone(&self) -> u64
+        ensures { result ≡ gone self.now };
 
     /// Paints an area of a buffer: exactly the points of the area get their colours, and each
     /// counts as a step. Conditions: the buffer has the picture's size, and the area is inside

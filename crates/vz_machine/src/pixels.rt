@@ -7,7 +7,7 @@ ghost use Rattle.vz_buffers.specs.Canvas.{IsCanvas, pixel_count, pixel_place};
 ghost use Rattle.vz_geom.specs.Display.{IsDisplaySize};
 ghost use Rattle.vz_machine.specs.Pictured.{IsInside, row_of};
 
-use crate::Picture;
+use crate::{Picture, ThinPicture};
 use std::alloc::Global;
 use std::marker::Model;
 use std::sync::ledger::Ledger;
@@ -60,12 +60,33 @@ impl Picture for PixelPicture {
 
     ghost pictured = { picture_with };
 
+    ghost occluded = { λ p. 0 };
+
+    type Thin = PixelPicture;
+
+    /// A picture of pixels has no items that could be removed.
+    fn occlude(self, _alloc: Global) -> Result<PixelPicture, Memory> {
+        Ok(self)
+    }
+}
+
+impl ThinPicture for PixelPicture {
+    ghost use Rattle.vz_machine.specs.Pictured.{picture_with};
+
+    ghost pictured = { picture_with };
+
+    ghost gone = { λ p. 0 };
+
     fn size(&self) -> Size {
         self.size
     }
 
     fn damage(&self) -> Rect {
         self.changed
+    }
+
+    fn gone(&self) -> u64 {
+        0
     }
 
     fn paint<L: Ledger>(

@@ -13,7 +13,6 @@ use Rattle.vz_rules.specs.Plan.{Plan}
 use Rattle.vz_rules.specs.World.{World, Scene, FrameData, Submission, active_frames}
 use Rattle.vz_rules.specs.Paint.{full, picture}
 use Rattle.vz_rules.specs.Walk.{walk_of, too_much}
-use Rattle.vz_rules.specs.Frames.{patched}
 use Rattle.vz_rules.specs.Kept.{IsWhole}
 use Rattle.vz_rules.specs.Step.{draw_answer, answer_to, outcome_of, step_in, accepted_frames}
 use Rattle.vz_rules.proofs.Drawings.{Says, says_step}
@@ -30,10 +29,10 @@ use Rattle.vz_damage.specs.Accepted.{scene_from}
 use Rattle.vz_telling.specs.Changing.{drawn_reply}
 use Rattle.vz_live.specs.Living.{Live, AreWhole}
 use Rattle.vz_live.specs.Drawing.{IsDrawing, IsShowing}
-use Rattle.vz_machine.specs.Pictured.{colours_in}
 use Rattle.vz_flat.specs.declared.op.Op.{Op}
 use Rattle.vz_flat.specs.Ops.{value}
-use Rattle.vz_manager.specs.Picturing.{Flattened, IsFlattened, flat_picture, LookLike, IsAnswered, IsPainted}
+use Rattle.vz_occlude.specs.Pictures.{Flattened}
+use Rattle.vz_manager.specs.Picturing.{LookLike, IsAnswered, IsPainted}
 
 -- What is painted
 
@@ -43,18 +42,6 @@ same_each f g [] h = refl
 same_each f g (q ∷ qs) h =
     ap (λ (c : Colour). c ∷ map f qs) (h q (contains_here q qs))
     ∙ ap (λ (l : List Colour). g q ∷ l) (same_each f g qs (λ x m. h x (contains_there q x qs m)))
-
--- an area of a buffer is an area of the picture, where the two have the same size
-pub covers_there : (f : Flattened) (size : Size) (area : Rectangle) → size ≡ (flat_picture f).size
-    → Covers (sized (flat_picture f).size) area → Covers (sized size) area
-covers_there f size area same inside = subst (λ s. Covers (sized s) area) (sym same) inside
-
--- what is painted with the operations is painted with the picture's colours
-pub painted_with : (own f : Flattened) (size : Size) (area : Rectangle) (olds : List Colour) → own ≡ f → size ≡ (flat_picture f).size
-    → patched area (points_of size) (map (λ q. value own.ops q black) (points_of size)) olds
-    ≡ patched area (points_of (flat_picture f).size) (colours_in (flat_picture f)) olds
-painted_with own f size area olds is same =
-    λ i. patched area (points_of (same i)) (map (λ q. value (is i).ops q black) (points_of (same i))) olds
 
 -- What a drawing walks through
 
@@ -115,12 +102,12 @@ module _ (p : Plan) (w : World) (size : Size) (damage : Rectangle) (h : IsAnswer
   damage_inside : Covers (sized p.size) damage
   damage_inside = subst (Covers (sized p.size)) (sym said.2) (damage_covered p.size w.last (accepted_frames w) said.0)
 
-  pub flattened : (ops : List Op) → IsFlattened (record { size = size; ops = ops; changed = damage })
-  flattened ops =
-      record {
-        sides = subst IsDisplaySize h.sized_as h.plan.sizes;
-        inside = subst (λ s. Covers (sized s) damage) h.sized_as damage_inside;
-      }
+  -- and the size is that of a display
+  pub sides_are : IsDisplaySize size
+  sides_are = subst IsDisplaySize h.sized_as h.plan.sizes
+
+  pub inside_is : Covers (sized size) damage
+  inside_is = subst (λ s. Covers (sized s) damage) h.sized_as damage_inside
 
   colours_are : (ops : List Op) (look : LookLike p w ops)
       → map (λ q. value ops q black) (points_of p.size) ≡ picture p.size look.scene
@@ -130,7 +117,7 @@ module _ (p : Plan) (w : World) (size : Size) (damage : Rectangle) (h : IsAnswer
       (λ q m. look.colours q (in_display p.size q h.plan.sizes m))
 
   pub shows : (ops : List Op) → LookLike p w ops
-      → IsPainted p w (Drawn damage) (Some (record { size = size; ops = ops; changed = damage }))
+      → IsPainted p w (Drawn damage) (Some (record { size = size; ops = ops; damage = damage }))
   shows ops look = (
     look.scene,
     look.seen,

@@ -3,8 +3,7 @@ use Rattle.std.specs.Prelude.{◌≡◌, true, Option, Some, List}
 use Rattle.std.specs.Option.{option_map}
 use Rattle.vz_geom.specs.declared.Point.{Point}
 use Rattle.vz_geom.specs.declared.Size.{Size}
-use Rattle.vz_geom.specs.Rectangle.{Rectangle, Covers, has, sized}
-use Rattle.vz_geom.specs.Display.{IsDisplaySize}
+use Rattle.vz_geom.specs.Rectangle.{has, sized}
 use Rattle.vz_pixels.specs.Colour.{black}
 use Rattle.vz_rules.specs.declared.entry.Reply.{Reply}
 use Rattle.vz_rules.specs.Plan.{Plan, IsPlan}
@@ -12,25 +11,10 @@ use Rattle.vz_rules.specs.World.{World, Scene}
 use Rattle.vz_rules.specs.Scene.{scene_of}
 use Rattle.vz_rules.specs.Paint.{full}
 use Rattle.vz_rules.specs.Step.{draw_answer}
-use Rattle.vz_machine.specs.Pictured.{Pictured}
 use Rattle.vz_machine.specs.Stepping.{ShowsDrawn}
 use Rattle.vz_flat.specs.declared.op.Op.{Op}
 use Rattle.vz_flat.specs.Ops.{value}
-
--- the size of a display, the operations that are drawn on it, and the changed rectangle
-pub record Flattened : Type 0 where
-  pub size : Size
-  pub ops : List Op
-  pub changed : Rectangle
-
--- the size is that of a display, and the changed rectangle is on it
-pub record IsFlattened (f : Flattened) : Type 0 where
-  pub sides : IsDisplaySize f.size
-  pub inside : Covers (sized f.size) f.changed
-
--- the picture that operations paint on opaque black
-abbrev pub flat_picture : Flattened → Pictured
-flat_picture f = record { size = f.size; colour = λ q. value f.ops q black; changed = f.changed }
+use Rattle.vz_occlude.specs.Pictures.{Flattened, flat_picture}
 
 -- the state shows something, and at each point of the plan's display the operations give its
 -- colour

@@ -11,7 +11,7 @@ ghost use Rattle.vz_manager.specs.Picturing.{LookLike, IsPainted};
 ghost use Rattle.vz_manager.specs.Showing.{IsToMeasure, IsToShow};
 
 use crate::parts::Parts;
-use crate::picture::{FlatPicture, operations, picture_of};
+use crate::picture::{operations, picture_of};
 use crate::quiet::nothing_follows;
 use std::alloc::Global;
 use vz_base::Memory;
@@ -23,6 +23,7 @@ use vz_geom::Size;
 use vz_ids::SurfaceId;
 use vz_live::{LiveSurfaces, Look};
 use vz_machine::Step;
+use vz_occlude::FlatPicture;
 use vz_rules::{Reply, Returned};
 use vz_support::laws::support_stays_at_ends;
 use vz_waiting::laws::waiting_ones_stay;

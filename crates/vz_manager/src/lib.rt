@@ -25,4 +25,3 @@ mod room;
 mod submitting;
 
 pub use manager::Manager;
-pub use picture::FlatPicture;

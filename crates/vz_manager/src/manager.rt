@@ -8,7 +8,6 @@ ghost use Rattle.vz_machine.specs.Stepping.{IsOnDisplay};
 ghost use Rattle.vz_manager.specs.Hitting.{found_in};
 
 use crate::parts::Parts;
-use crate::picture::FlatPicture;
 use crate::regions::hit_in_regions;
 use std::alloc::Global;
 use std::marker::Model;
@@ -19,6 +18,7 @@ use vz_ghost::GhostList;
 use vz_hit::Regions;
 use vz_ids::SurfaceId;
 use vz_machine::{Machine, Step};
+use vz_occlude::FlatPicture;
 use vz_rules::{Event, Plan, Rest};
 
 /// The display compositor's machine over a plan. Contracts see the plan, and the world after the
@@ -85,7 +85,7 @@ impl Manager {
 impl Machine for Manager {
     ghost state = { λ m. m };
 
-    type FrameData = FlatPicture;
+    type Picture = FlatPicture;
 
     fn client(&mut self, _alloc: Global, c: u32) -> Result<Step, Memory> {
         let step = self.parts.client(c)?;

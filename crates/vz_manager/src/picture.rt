@@ -7,64 +7,12 @@ ghost use Rattle.vz_live.specs.Drawing.{IsShowing};
 ghost use Rattle.vz_manager.specs.Picturing.{LookLike, IsAnswered, IsPainted};
 
 use std::alloc::Global;
-use std::marker::Model;
-use std::sync::ledger::Ledger;
 use vz_base::Memory;
-use vz_buffers::{Buffer, Steps};
 use vz_flat::{Ops, flatten};
 use vz_geom::{Rect, Size};
 use vz_ids::SurfaceId;
 use vz_live::LiveSurfaces;
-use vz_machine::Picture;
-use vz_paint::paint;
-
-/// A picture of a display as drawing operations on opaque black, with the rectangle that changed,
-/// in display pixels. A pixel gets its colour only when it is painted.
-#[derive(Drop)]
-pub struct FlatPicture {
-    size: Size,
-    ops: Ops,
-    changed: Rect,
-}
-
-impl Model for FlatPicture {
-    ghost use Rattle.vz_manager.specs.Picturing.{Flattened, IsFlattened};
-
-    ghost Value = { Flattened };
-
-    ghost view = { λ p. record { size = p.size; ops = p.ops; changed = p.changed } };
-
-    ghost invariant = { λ p. IsFlattened (record {
-      size = p.size;
-      ops = p.ops;
-      changed = p.changed;
-    }) };
-}
-
-impl Picture for FlatPicture {
-    ghost use Rattle.vz_manager.specs.Picturing.{flat_picture};
-
-    ghost pictured = { flat_picture };
-
-    fn size(&self) -> Size {
-        self.size
-    }
-
-    fn damage(&self) -> Rect {
-        self.changed
-    }
-
-    fn paint<L: Ledger>(
-        &self,
-        alloc: Global,
-        area: Rect,
-        buffer: &mut Buffer,
-        steps: &mut Steps<L>,
-    ) -> Result<(), Memory> {
-        paint(alloc, &self.ops, buffer, area, steps)?;
-        Ok(())
-    }
-}
+use vz_occlude::FlatPicture;
 
 /// The drawing operations that give, at each point of a display, what can be seen from the root.
 /// They are made before the frame is drawn, as a draw cannot be undone. The only error is
@@ -90,9 +38,5 @@ pub(crate) fn picture_of(size: Size, ops: Ops, damage: Rect) -> FlatPicture
     ensures painted { (p : Plan) (w : World) → IsAnswered p w size (reply.Drawn damage)
         → LookLike p w ops → IsPainted p w (reply.Drawn damage) (Some result) }
 {
-    FlatPicture {
-        size,
-        ops,
-        changed: damage,
-    }
+    FlatPicture::new(size, ops, damage)
 }

@@ -7,7 +7,9 @@ pub mod Parsed
 pub mod Lists
 pub mod Ends_of_lists
 pub mod Read_texels
+pub mod Opaque_blocks
 pub mod Keeping
 pub mod Walked
 pub mod Taken
 pub mod Valued
+pub mod Painted

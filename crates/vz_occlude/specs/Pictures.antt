@@ -3,7 +3,11 @@ use Rattle.std.specs.Prelude.{ℕ, List}
 use Rattle.vz_geom.specs.declared.Size.{Size}
 use Rattle.vz_geom.specs.Rectangle.{Rectangle, Covers, sized}
 use Rattle.vz_geom.specs.Display.{IsDisplaySize}
+use Rattle.vz_pixels.specs.Colour.{black}
+use Rattle.vz_machine.specs.Pictured.{Pictured}
 use Rattle.vz_flat.specs.declared.op.Op.{Op}
+use Rattle.vz_flat.specs.Ops.{value}
+use Rattle.vz_occlude.specs.Occlusion.{gone}
 
 -- the size of a display, the operations that are drawn on it, and the rectangle that changed
 pub record Flattened : Type 0 where
@@ -16,6 +20,14 @@ pub record IsFlattened (p : Flattened) : Type 0 where
   pub sides : IsDisplaySize p.size
   pub inside : Covers (sized p.size) p.damage
 
+-- the picture that the operations paint on opaque black
+abbrev pub flat_picture : Flattened → Pictured
+flat_picture p = record { size = p.size; colour = λ q. value p.ops q black; changed = p.damage }
+
+-- how many of its items are occluded
+abbrev pub occluded_in : Flattened → ℕ
+occluded_in p = gone p.ops
+
 -- the same with the operations that were kept, and how many items were removed
 pub record Thinned : Type 0 where
   pub size : Size
@@ -27,3 +39,7 @@ pub record Thinned : Type 0 where
 pub record IsThinned (p : Thinned) : Type 0 where
   pub sides : IsDisplaySize p.size
   pub inside : Covers (sized p.size) p.damage
+
+-- the picture that the kept operations paint on opaque black
+abbrev pub thin_picture : Thinned → Pictured
+thin_picture p = record { size = p.size; colour = λ q. value p.ops q black; changed = p.damage }

@@ -10,9 +10,13 @@ ghost use Rattle.vz_occlude.specs.Occlusion.{kept as kept_of, gone as gone_of};
 use crate::culler::remove_occluded;
 use std::alloc::Global;
 use std::marker::Model;
+use std::sync::ledger::Ledger;
 use vz_base::Memory;
+use vz_buffers::{Buffer, Steps};
 use vz_flat::Ops;
 use vz_geom::{Rect, Size};
+use vz_machine::{Picture, ThinPicture};
+use vz_paint::paint;
 
 /// A picture of a display as operations on opaque black, with the rectangle that changed since the
 /// picture before, in display pixels.
@@ -66,6 +70,20 @@ impl FlatPicture {
         ensures { result ≡ self.now.size }
     {
         self.size
+    }
+}
+
+impl Picture for FlatPicture {
+    ghost use Rattle.vz_occlude.specs.Pictures.{flat_picture, occluded_in};
+
+    ghost pictured = { flat_picture };
+
+    ghost occluded = { occluded_in };
+
+    type Thin = Thin;
+
+    fn occlude(self, alloc: Global) -> Result<Thin, Memory> {
+        occlude(alloc, self)
     }
 }
 
@@ -127,6 +145,38 @@ impl Thin {
         ensures inside { Covers (sized self.now.size) self.now.damage }
     {
         self.size
+    }
+}
+
+/// A pixel gets its colour only when it is painted.
+impl ThinPicture for Thin {
+    ghost use Rattle.vz_occlude.specs.Pictures.{thin_picture};
+
+    ghost pictured = { thin_picture };
+
+    ghost gone = { λ p. p.gone };
+
+    fn size(&self) -> Size {
+        self.size
+    }
+
+    fn damage(&self) -> Rect {
+        self.damage
+    }
+
+    fn gone(&self) -> u64 {
+        self.gone
+    }
+
+    fn paint<L: Ledger>(
+        &self,
+        alloc: Global,
+        area: Rect,
+        buffer: &mut Buffer,
+        steps: &mut Steps<L>,
+    ) -> Result<(), Memory> {
+        paint(alloc, &self.ops, buffer, area, steps)?;
+        Ok(())
     }
 }
 

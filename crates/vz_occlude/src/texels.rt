@@ -51,6 +51,10 @@ pub(crate) fn is_opaque_blit(area: &Rect, block: &PixelBlock, tx: &i32, ty: &i32
     if area.is_empty() {
         return true;
     }
+    let _count = block.pixels().len();
+    if block.is_opaque() {
+        return true;
+    }
     let _sides = (block.w(), block.h());
     are_opaque_rows(
         block,

@@ -33,11 +33,11 @@ pub fn write_frame<F: Shelf>(
     piece: &mut Vec<u8>,
 ) -> Result<(), ShelfError>
     requires open { (F.shelved shelf.old).mode file.slot ≡ Some Writing }
-    requires size { display.now.turns.size ≡ file.size }
-    requires shows { ShowsFrame display.now }
-    ensures appended { OnOk result (Appends (flat_map pixel_bytes (frame_on display.now))
+    requires size { display.now.shown.turns.size ≡ file.size }
+    requires shows { ShowsFrame display.now.shown }
+    ensures appended { OnOk result (Appends (flat_map pixel_bytes (frame_on display.now.shown))
         ((F.shelved shelf.old).name file.slot) (F.shelved shelf.old) (F.shelved shelf.new)) }
-    ensures begun { OnErr result (AppendsFront (flat_map pixel_bytes (frame_on display.now))
+    ensures begun { OnErr result (AppendsFront (flat_map pixel_bytes (frame_on display.now.shown))
         ((F.shelved shelf.old).name file.slot) (F.shelved shelf.old) (F.shelved shelf.new)) }
     ensures others { KeepsOthers ((F.shelved shelf.old).name file.slot)
         (F.shelved shelf.old) (F.shelved shelf.new) }
@@ -60,13 +60,13 @@ fn write_pieces<F: Shelf>(
     piece: &mut [u8],
 ) -> Result<(), ShelfError>
     requires open { (F.shelved shelf.old).mode slot ≡ Some Writing }
-    requires shows { ShowsFrame display.now }
-    requires width { nat_abs display.now.turns.size.w ≡ width }
-    requires height { nat_abs display.now.turns.size.h ≡ height }
+    requires shows { ShowsFrame display.now.shown }
+    requires width { nat_abs display.now.shown.turns.size.w ≡ width }
+    requires height { nat_abs display.now.shown.turns.size.h ≡ height }
     requires some { (4 * width) ≤ length piece.old }
-    ensures appended { OnOk result (Appends (flat_map pixel_bytes (frame_on display.now))
+    ensures appended { OnOk result (Appends (flat_map pixel_bytes (frame_on display.now.shown))
         ((F.shelved shelf.old).name slot) (F.shelved shelf.old) (F.shelved shelf.new)) }
-    ensures begun { OnErr result (AppendsFront (flat_map pixel_bytes (frame_on display.now))
+    ensures begun { OnErr result (AppendsFront (flat_map pixel_bytes (frame_on display.now.shown))
         ((F.shelved shelf.old).name slot) (F.shelved shelf.old) (F.shelved shelf.new)) }
     ensures others { KeepsOthers ((F.shelved shelf.old).name slot)
         (F.shelved shelf.old) (F.shelved shelf.new) }
@@ -93,16 +93,17 @@ fn write_rows<F: Shelf>(
     piece: &mut [u8],
 ) -> Result<(), ShelfError>
     requires open { (F.shelved shelf.old).mode slot ≡ Some Writing }
-    requires shows { ShowsFrame display.now }
-    requires width { nat_abs display.now.turns.size.w ≡ width }
-    requires within { (from + count) ≤ nat_abs display.now.turns.size.h }
+    requires shows { ShowsFrame display.now.shown }
+    requires width { nat_abs display.now.shown.turns.size.w ≡ width }
+    requires within { (from + count) ≤ nat_abs display.now.shown.turns.size.h }
     requires bytes { (count * (4 * width)) ≤ length piece.old }
     ensures bytes { length piece.new ≡ length piece.old }
     ensures appended { OnOk result
-        (Appends (flat_map pixel_bytes (rows_in width from count (frame_on display.now)))
+        (Appends (flat_map pixel_bytes (rows_in width from count (frame_on display.now.shown)))
         ((F.shelved shelf.old).name slot) (F.shelved shelf.old) (F.shelved shelf.new)) }
     ensures begun { OnErr result
-        (AppendsFront (flat_map pixel_bytes (rows_in width from count (frame_on display.now)))
+        (AppendsFront
+        (flat_map pixel_bytes (rows_in width from count (frame_on display.now.shown)))
         ((F.shelved shelf.old).name slot) (F.shelved shelf.old) (F.shelved shelf.new)) }
     ensures others { KeepsOthers ((F.shelved shelf.old).name slot)
         (F.shelved shelf.old) (F.shelved shelf.new) }
@@ -116,11 +117,12 @@ fn write_rows<F: Shelf>(
 
 /// Copies the bytes of `count` rows from row `from` on.
 fn copy_rows(display: &Display, from: usize, count: usize, width: usize, into: &mut [u8])
-    requires shows { ShowsFrame display.now }
-    requires width { nat_abs display.now.turns.size.w ≡ width }
-    requires within { (from + count) ≤ nat_abs display.now.turns.size.h }
+    requires shows { ShowsFrame display.now.shown }
+    requires width { nat_abs display.now.shown.turns.size.w ≡ width }
+    requires within { (from + count) ≤ nat_abs display.now.shown.turns.size.h }
     requires bytes { length into.old ≡ count * (4 * width) }
-    ensures { into.new ≡ flat_map pixel_bytes (rows_in width from count (frame_on display.now)) }
+    ensures { into.new
+        ≡ flat_map pixel_bytes (rows_in width from count (frame_on display.now.shown)) }
 {
     for k in 0..count {
         copy_row(display, from + k, width, k * (4 * width), into);
@@ -129,12 +131,12 @@ fn copy_rows(display: &Display, from: usize, count: usize, width: usize, into: &
 
 /// Copies the bytes of row `y` to index `at`.
 fn copy_row(display: &Display, y: usize, width: usize, at: usize, into: &mut [u8])
-    requires shows { ShowsFrame display.now }
-    requires width { nat_abs display.now.turns.size.w ≡ width }
-    requires within { y < nat_abs display.now.turns.size.h }
+    requires shows { ShowsFrame display.now.shown }
+    requires width { nat_abs display.now.shown.turns.size.w ≡ width }
+    requires within { y < nat_abs display.now.shown.turns.size.h }
     requires bytes { (at + 4 * width) ≤ length into.old }
     ensures { into.new ≡ take at into.old
-        ++ flat_map pixel_bytes (rows_in width y 1 (frame_on display.now))
+        ++ flat_map pixel_bytes (rows_in width y 1 (frame_on display.now.shown))
         ++ drop (at + 4 * width) into.old }
 {
     display.row(y as i32, &mut into[at..at + 4 * width]);

@@ -32,7 +32,7 @@ pub fn play_frames<M: Machine + Drop, F: Shelf, G: Gate, L: Ledger>(
     steps: &mut Steps<L>,
 ) -> Result<(), ShelfError>
 where
-    M::FrameData: Drop,
+    M::Picture: Drop,
     requires going { player.old.stopped ≡ false }
     requires named { All (NamesClient player.old.plan) events.now }
     requires size { player.old.plan.size ≡ file.size }
@@ -70,7 +70,7 @@ fn play_one<M: Machine + Drop, F: Shelf, G: Gate, L: Ledger>(
     steps: &mut Steps<L>,
 ) -> Result<(), ShelfError>
 where
-    M::FrameData: Drop,
+    M::Picture: Drop,
     requires going { player.old.stopped ≡ false }
     requires named { NamesClient player.old.plan event }
     requires size { player.old.plan.size ≡ file.size }

@@ -3,3 +3,4 @@ pub mod Points
 pub mod Painting
 pub mod Shown
 pub mod Finding
+pub mod Rows

@@ -1,14 +1,15 @@
 -- Which surface is being painted, and with what around it.
-use Rattle.std.specs.Prelude.{ℕ, List, reverse}
+use Rattle.std.specs.Prelude.{ℕ, List, reverse, true, false}
 use Rattle.vz_ids.specs.declared.SurfaceId.{SurfaceId}
+use Rattle.vz_ids.specs.declared.SurfaceRange.{SurfaceRange}
 use Rattle.vz_frame.specs.declared.blend.Blend.{Blend}
 use Rattle.vz_frame.specs.declared.frame.DrawQuad.{DrawQuad}
 use Rattle.vz_frame.specs.declared.frame.RenderPass.{RenderPass}
 use Rattle.vz_geom.specs.declared.Point.{Point}
 use Rattle.vz_pixels.specs.Colour.{Colour}
 use Rattle.vz_rules.specs.World.{FrameData}
-use Rattle.vz_rules.specs.Paint.{Named, Embedding, Content, groups, embeds, pix}
-use Rattle.vz_rules.specs.Paint.{material_painted, pass_painted, group_laid, content_at}
+use Rattle.vz_rules.specs.Paint.{Named, Embedding, Content, groups, embeds, pix, covers, is_absent}
+use Rattle.vz_rules.specs.Paint.{material_painted, pass_painted, group_laid, content_at, content_laid}
 
 -- a painter in a frame, with the surfaces of the path above it, and how many more the path may
 -- have
@@ -45,3 +46,16 @@ group_here p earlier pass = group_laid p.submitted (passes_in p earlier) (ranges
 -- what the content of a shown surface here does with a colour, with this background
 abbrev pub content_here : Painter → Colour → FrameData → Point → Colour → Colour
 content_here p background i = content_at (embedded p) p.path background i
+
+-- what a quad here does with a colour: nothing at a point that it does not cover
+abbrev pub quad_covered : Painter → List RenderPass → RenderPass → DrawQuad → Point → Colour → Colour
+quad_covered p earlier pass quad q d = elim (covers pass quad q) [ true ↦ quad_here p earlier quad q d | false ↦ d ]
+
+-- what the content of a shown surface here does with a colour inside its size
+abbrev pub inside_here : Painter → FrameData → Blend → ℕ → Point → Colour → Colour
+inside_here p i m o l d = content_laid (embedded p p.path i l) m o d
+
+-- what a shown surface here that is not on the path does with a colour
+abbrev pub shown_here : Painter → SurfaceRange → Colour → FrameData → Blend → ℕ → Point → Colour → Colour
+shown_here p range background i m o l d =
+    elim (is_absent range i l) [ true ↦ d | false ↦ content_laid (content_here p background i l) m o d ]

@@ -1,6 +1,7 @@
 //! How a colour is blended with another.
 ghost use Rattle.std.specs.Prelude.{◌≡◌};
 ghost use Rattle.vz_frame.specs.Blending.{blend, laid};
+ghost use Rattle.vz_rules.specs.Paint.{is_straight};
 
 use vz_frame::Blend;
 use vz_pixels::Pixel;
@@ -23,4 +24,15 @@ pub(crate) fn laid(mode: Blend, colour: Pixel, opacity: u8, under: Pixel) -> Pix
     ensures { result ≡ laid mode colour opacity under }
 {
     blend(mode, colour.scale(opacity), under)
+}
+
+/// Whether a colour is drawn directly: with the mode `Over` and full opacity.
+pub(crate) fn is_straight(mode: Blend, opacity: u8) -> bool
+    ensures { result ≡ is_straight mode opacity }
+{
+    match mode {
+        Blend::Over => opacity == 255,
+        Blend::Src => false,
+        Blend::DstIn => false,
+    }
 }

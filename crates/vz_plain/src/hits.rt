@@ -8,9 +8,8 @@ ghost use Rattle.vz_plain.specs.Points.{IsClose};
 ghost use Rattle.vz_plain.specs.Finding.{ranges, passes_in, quads_here, quad_here, group_here};
 ghost use Rattle.vz_plain.specs.Finding.{shown_here};
 
-use crate::paint::{is_inside, point_of};
 use crate::path::Path;
-use crate::point::in_rectangle;
+use crate::point::{in_rectangle, is_inside, point_of};
 use std::alloc::{AllocError, Global};
 use std::marker::Model;
 use vz_frame::{DrawQuad, Material, RenderPass};

@@ -1,16 +1,20 @@
-//! The plain painter: the colour at each point of the display, by the definitions, and what is
-//! hit there.
+//! The plain painter: the colours of the display, by the definitions, and what is hit at a point.
 //!
-//! Each function is the definition of the same name over the frames of a scene. Only a whole
-//! picture allocates; the path through surfaces is on the call stack.
+//! A row is painted in pieces of at most 128 points. For example, a quad that covers the last 28
+//! points of a piece lays its colour on these: which points it covers, and what its material
+//! names, is found once for the piece. Each function leaves at each point what the definition of
+//! the same name does. Only a whole picture allocates; the path through surfaces and the pieces
+//! of groups are on the call stack.
 #![tactic(auto)]
 
 mod blending;
 mod hits;
+mod inks;
 mod paint;
 mod path;
 mod pictures;
 mod point;
+mod span;
 mod tile;
 
 pub use hits::hit_at;

@@ -1,21 +1,25 @@
-//! The colour at a point, over quads, passes and surfaces.
-ghost use Rattle.std.specs.Prelude.{◌≡◌, true, false, MatchOption};
-ghost use Rattle.vz_geom.specs.Rectangle.{has, sized};
-ghost use Rattle.vz_frame.specs.Frame.{frame_size};
-ghost use Rattle.vz_rules.specs.Paint.{covers, in_clip, local_point, content_laid, is_absent, is_straight};
-ghost use Rattle.vz_rules.specs.Paint.{full, pix};
+//! What quads, passes and surfaces leave in a piece of a row.
+ghost use Rattle.std.specs.Prelude.{◌≡◌, ◌<◌, ◌≤◌, ℕ, length, get_or};
+ghost use Rattle.vz_ids.specs.Ids.{same_surface};
+ghost use Rattle.vz_pixels.specs.Colour.{transparent, black};
+ghost use Rattle.vz_frame.specs.Blending.{laid};
+ghost use Rattle.vz_rules.specs.Paint.{local_point, full, pix};
+ghost use Rattle.vz_plain.specs.declared.span.TheConstants.{PIECE};
 ghost use Rattle.vz_plain.specs.Paths.{ids};
 ghost use Rattle.vz_plain.specs.Points.{IsClose};
-ghost use Rattle.vz_plain.specs.Painting.{ranges, passes_in};
-ghost use Rattle.vz_plain.specs.Painting.{quad_here, pass_here, group_here, content_here};
+ghost use Rattle.vz_plain.specs.Rows.{IsPainted};
+ghost use Rattle.vz_plain.specs.Painting.{embedded, ranges, passes_in, quad_here, pass_here, group_here};
+ghost use Rattle.vz_plain.specs.Painting.{quad_covered, inside_here, shown_here};
 
-use crate::blending::laid;
+use crate::blending::is_straight;
+use crate::inks::{Flat, Painted, lay, lay_outside};
 use crate::path::Path;
-use crate::point::{found_in, from_corner, in_rectangle};
-use crate::tile::tile_colour;
+use crate::point::{in_rectangle, point_of};
+use crate::span::{PIECE, covered, right_of, size_span, span_of};
+use crate::tile::lay_tile;
 use std::marker::Model;
 use vz_frame::{Blend, DrawQuad, Material, RenderPass};
-use vz_geom::{Point, Rect};
+use vz_geom::Point;
 use vz_ids::{SurfaceId, SurfaceRange};
 use vz_pixels::Pixel;
 use vz_scene::{ActiveFrames, LEVELS, SubmittedFrame};
@@ -43,67 +47,15 @@ impl<'b, 'i, 'a> Model for Painter<'b, 'i, 'a> {
     } };
 }
 
-/// Whether a point is inside the size of a submitted frame.
-pub(crate) fn is_inside(submitted: &SubmittedFrame<'_>, point: Point) -> bool
-    ensures { result ≡ has (sized (frame_size submitted.now.frame)) point }
+/// Whether a submitted frame is on the surface at the end of a range.
+fn is_at_end(range: &SurfaceRange, submitted: &SubmittedFrame<'_>) -> bool
+    ensures { result ≡ same_surface submitted.now.id range.now.end }
 {
-    match submitted.frame().root_pass() {
-        None => false,
-        Some(root) => {
-            (0 <= point.x && point.x < root.output.w())
-                && (0 <= point.y && point.y < root.output.h())
-        }
-    }
+    submitted.id() == range.end
 }
 
-/// Whether the shown surface has no content at a point: it is the end of the range, and the point
-/// is outside its size.
-#[tactic(auto, unfolding(vz_rules::specs::Paint::is_absent))]
-fn is_absent(range: &SurfaceRange, submitted: &SubmittedFrame<'_>, point: Point) -> bool
-    ensures { result ≡ is_absent range.now submitted.now point }
-{
-    !is_inside(submitted, point) && submitted.id() == range.end
-}
-
-/// Whether a colour is drawn directly: with the mode `Over` and full opacity.
-fn is_straight(mode: Blend, opacity: u8) -> bool
-    ensures { result ≡ is_straight mode opacity }
-{
-    match mode {
-        Blend::Over => opacity == 255,
-        Blend::Src => false,
-        Blend::DstIn => false,
-    }
-}
-
-/// Whether the clip contains a point, or there is no clip.
-fn is_in_clip(clip: &Option<Rect>, point: Point) -> bool
-    ensures { result ≡ in_clip clip.now point }
-{
-    match clip {
-        None => true,
-        Some(r) => r.contains(point),
-    }
-}
-
-/// The point relative to the top left point of a quad's rectangle, if the quad covers it.
-#[tactic(auto, unfolding(vz_rules::specs::Paint::covers))]
-pub(crate) fn point_of(pass: &RenderPass, quad: &DrawQuad, point: Point) -> Option<Point>
-    ensures { MatchOption result (covers pass.now quad.now point ≡ false)
-        (λ l. (covers pass.now quad.now point ≡ true)
-        × (l ≡ local_point quad.now point) × IsClose l) }
-{
-    if !pass.output.contains(point) || !is_in_clip(&quad.clip, point) {
-        return None;
-    }
-    match found_in(&quad.visible, point, quad.offset) {
-        None => None,
-        Some(found) => Some(from_corner(found, &quad.area)),
-    }
-}
-
-/// What a surface leaves at a point of its own, on the colour below it, with the surfaces on the
-/// path and how many more it may have.
+/// What a surface leaves in a row of its own, on the colours below it, with the surfaces on the
+/// path and how many more it may have. `start` is the row's first point.
 #[tactic(auto, unfolding(vz_rules::specs::Paint::pix, vz_rules::specs::Paint::root_painted))]
 #[cycle(paint)]
 pub(crate) fn pix<'a>(
@@ -111,13 +63,14 @@ pub(crate) fn pix<'a>(
     levels: u32,
     path: &Path<'_>,
     submitted: &SubmittedFrame<'a>,
-    point: Point,
-    under: Pixel,
-) -> Pixel
-    ensures { result ≡ pix levels active.now (ids path.now) submitted.now point under }
+    start: Point,
+    row: &mut [Pixel],
+)
+    requires { length row.old ≤ PIECE }
+    ensures { IsPainted (pix levels active.now (ids path.now) submitted.now) start row.old row.new }
 {
     if levels == 0 {
-        return under;
+        return;
     }
     let behind = Path::Behind {
         id: submitted.id(),
@@ -130,83 +83,94 @@ pub(crate) fn pix<'a>(
         submitted: &*submitted,
     };
     match submitted.frame().passes.as_slice().split_last() {
-        None => under,
-        Some((root, earlier)) => painter.pass(earlier, root, point, under),
+        None => {}
+        Some((root, earlier)) => painter.pass(earlier, root, start, row),
     }
 }
 
 impl<'b, 'i, 'a> Painter<'b, 'i, 'a> {
-    /// What a pass leaves at a point, on the colour below it. `earlier` has the passes before it.
+    /// What a pass leaves in a row, on the colours below it. `earlier` has the passes before it.
     #[tactic(auto, unfolding(vz_rules::specs::Paint::pass_painted, vz_rules::specs::Paint::quads_painted))]
     #[cycle(paint)]
-    fn pass(&self, earlier: &[RenderPass], pass: &RenderPass, point: Point, under: Pixel) -> Pixel
-        ensures { result ≡ pass_here self.now earlier.now pass.now point under }
+    fn pass(&self, earlier: &[RenderPass], pass: &RenderPass, start: Point, row: &mut [Pixel])
+        requires { length row.old ≤ PIECE }
+        ensures { IsPainted (pass_here self.now earlier.now pass.now) start row.old row.new }
     {
         let quads = pass.quads.as_slice();
-        let mut colour = under;
         let mut k = quads.len();
         while k > 0 {
             k -= 1;
-            colour = self.quad(earlier, pass, &quads[k], point, colour);
+            self.quad(earlier, pass, &quads[k], start, row);
         }
-        colour
     }
 
-    /// What a quad leaves at a point of its pass, on the colour below it. If the quad does not
-    /// cover the point, the colour does not change.
+    /// What a quad leaves in a row of its pass, on the colours below it. Where the quad does not
+    /// cover a point, the colour does not change.
     #[cycle(paint)]
     fn quad(
         &self,
         earlier: &[RenderPass],
         pass: &RenderPass,
         quad: &DrawQuad,
-        point: Point,
-        under: Pixel,
-    ) -> Pixel
-        ensures { result ≡ (elim (covers pass.now quad.now point) [
-          | true ↦ quad_here self.now earlier.now quad.now point under
-          | false ↦ under
-        ]) }
+        start: Point,
+        row: &mut [Pixel],
+    )
+        requires { length row.old ≤ PIECE }
+        ensures { IsPainted (quad_covered self.now earlier.now pass.now quad.now)
+            start row.old row.new }
     {
-        match point_of(pass, quad, point) {
-            None => under,
-            Some(local) => self.material(earlier, quad, point, local, under),
+        let here = covered(pass, quad, start, row.len());
+        if here.from < here.to {
+            let first = right_of(start, here.from);
+            match point_of(pass, quad, first) {
+                None => {}
+                Some(local) => {
+                    self.material(earlier, quad, first, local, &mut row[here.from..here.to])
+                }
+            }
         }
     }
 
-    /// What a quad leaves that covers a point of its pass, on the colour below it. Conditions:
-    /// the local point is relative to the top left point of the quad's rectangle, and is close to
-    /// it.
+    /// What a quad leaves in a row of points that it covers, on the colours below it. Conditions:
+    /// `local` is the row's first point relative to the top left point of the quad's rectangle,
+    /// and is close to it.
     #[tactic(auto, unfolding(vz_rules::specs::Paint::material_painted))]
     #[cycle(paint)]
     fn material(
         &self,
         earlier: &[RenderPass],
         quad: &DrawQuad,
-        point: Point,
+        first: Point,
         local: Point,
-        under: Pixel,
-    ) -> Pixel
-        requires local { local ≡ local_point quad.now point }
+        row: &mut [Pixel],
+    )
+        requires local { local ≡ local_point quad.now first }
         requires close { IsClose local }
-        ensures { result ≡ quad_here self.now earlier.now quad.now point under }
+        requires few { length row.old ≤ PIECE }
+        ensures { IsPainted (quad_here self.now earlier.now quad.now) first row.old row.new }
     {
         match quad.material {
-            Material::Solid(colour) => laid(quad.blend, colour, quad.opacity, under),
+            Material::Solid(colour) => lay(&Flat { colour }, quad.blend, quad.opacity, row),
             Material::Tile { resource, tx, ty } => {
-                let colour = tile_colour(self.submitted, resource, tx, ty, local);
-                laid(quad.blend, colour, quad.opacity, under)
+                lay_tile(
+                    self.submitted,
+                    resource,
+                    tx,
+                    ty,
+                    local,
+                    quad.blend,
+                    quad.opacity,
+                    row,
+                )
             }
             Material::Surface { range, background } => {
-                self.range(&range, background, quad.blend, quad.opacity, local, under)
+                self.range(&range, background, quad.blend, quad.opacity, local, row)
             }
-            Material::Pass(id) => {
-                self.named(earlier, id, quad.blend, quad.opacity, local, under)
-            }
+            Material::Pass(id) => self.named(earlier, id, quad.blend, quad.opacity, local, row),
         }
     }
 
-    /// What an earlier pass with an id leaves. Condition: the point is close.
+    /// What an earlier pass with an id leaves. Condition: the first point is close.
     #[tactic(auto, unfolding(vz_rules::specs::Paint::groups))]
     #[cycle(paint)]
     fn named(
@@ -216,19 +180,20 @@ impl<'b, 'i, 'a> Painter<'b, 'i, 'a> {
         mode: Blend,
         opacity: u8,
         local: Point,
-        under: Pixel,
-    ) -> Pixel
-        requires { IsClose local }
-        ensures { result ≡ passes_in self.now passes.now id mode opacity local under }
+        row: &mut [Pixel],
+    )
+        requires close { IsClose local }
+        requires few { length row.old ≤ PIECE }
+        ensures { IsPainted (passes_in self.now passes.now id mode opacity) local row.old row.new }
     {
         match passes.split_last() {
-            None => under,
+            None => {}
             Some((pass, earlier)) => {
                 if pass.id == id {
-                    let point = in_rectangle(local, &pass.output);
-                    self.group(earlier, pass, mode, opacity, point, under)
+                    let start = in_rectangle(local, &pass.output);
+                    self.group(earlier, pass, mode, opacity, start, row);
                 } else {
-                    self.named(earlier, id, mode, opacity, local, under)
+                    self.named(earlier, id, mode, opacity, local, row);
                 }
             }
         }
@@ -236,7 +201,6 @@ impl<'b, 'i, 'a> Painter<'b, 'i, 'a> {
 
     /// What a pass leaves as a group: it is painted on transparent, scaled by the opacity and
     /// then blended. Outside its output it leaves nothing.
-    #[tactic(auto, unfolding(vz_rules::specs::Paint::group_laid))]
     #[cycle(paint)]
     fn group(
         &self,
@@ -244,17 +208,46 @@ impl<'b, 'i, 'a> Painter<'b, 'i, 'a> {
         pass: &RenderPass,
         mode: Blend,
         opacity: u8,
-        point: Point,
-        under: Pixel,
-    ) -> Pixel
-        ensures { result ≡ group_here self.now earlier.now pass.now mode opacity point under }
+        start: Point,
+        row: &mut [Pixel],
+    )
+        requires { length row.old ≤ PIECE }
+        ensures { IsPainted (group_here self.now earlier.now pass.now mode opacity)
+            start row.old row.new }
     {
-        if pass.output.contains(point) {
-            let colour = self.pass(earlier, pass, point, Pixel::transparent());
-            laid(mode, colour, opacity, under)
-        } else {
-            under
+        let here = span_of(&pass.output, start, row.len());
+        if here.from < here.to {
+            let first = right_of(start, here.from);
+            self.inside_group(
+                earlier,
+                pass,
+                mode,
+                opacity,
+                first,
+                &mut row[here.from..here.to],
+            );
         }
+    }
+
+    /// The same in a row of points of the pass's output.
+    #[cycle(paint)]
+    fn inside_group(
+        &self,
+        earlier: &[RenderPass],
+        pass: &RenderPass,
+        mode: Blend,
+        opacity: u8,
+        first: Point,
+        row: &mut [Pixel],
+    )
+        requires { length row.old ≤ PIECE }
+        ensures { IsPainted (λ q d. laid mode (pass_here self.now earlier.now pass.now q transparent)
+            opacity d) first row.old row.new }
+    {
+        let mut room = [Pixel::transparent(); PIECE];
+        let own = &mut room[..row.len()];
+        self.pass(earlier, pass, first, own);
+        lay(&Painted { row: own }, mode, opacity, row);
     }
 
     /// What the surface that a range shows leaves; nothing if that surface is on the path.
@@ -267,86 +260,113 @@ impl<'b, 'i, 'a> Painter<'b, 'i, 'a> {
         mode: Blend,
         opacity: u8,
         local: Point,
-        under: Pixel,
-    ) -> Pixel
-        ensures { result ≡ ranges self.now range.now background mode opacity local under }
+        row: &mut [Pixel],
+    )
+        requires { length row.old ≤ PIECE }
+        ensures { IsPainted (ranges self.now range.now background mode opacity)
+            local row.old row.new }
     {
         match self.active.shown_frame(range) {
-            None => laid(mode, background, opacity, under),
+            None => lay(&Flat { colour: background }, mode, opacity, row),
             Some(submitted) => {
-                if self.path.has(&submitted.id()) || is_absent(range, submitted, local) {
-                    under
-                } else {
-                    self.shown(submitted, background, mode, opacity, local, under)
+                if !self.path.has(&submitted.id()) {
+                    self.shown(range, submitted, background, mode, opacity, local, row);
                 }
             }
         }
     }
 
-    /// What the content of a shown surface leaves: it is drawn directly, or painted on
-    /// transparent, scaled and blended.
-    #[tactic(auto, unfolding(vz_rules::specs::Paint::content_laid))]
+    /// What a shown surface that is not on the path leaves: its content inside its size, and
+    /// outside the background, or nothing if it is the end of the range.
     #[cycle(paint)]
     fn shown(
         &self,
+        range: &SurfaceRange,
         submitted: &SubmittedFrame<'a>,
         background: Pixel,
         mode: Blend,
         opacity: u8,
         local: Point,
-        under: Pixel,
-    ) -> Pixel
-        ensures { result
-            ≡ content_laid (content_here self.now background submitted.now local) mode opacity under }
+        row: &mut [Pixel],
+    )
+        requires { length row.old ≤ PIECE }
+        ensures { IsPainted (shown_here self.now range.now background submitted.now mode opacity)
+            local row.old row.new }
     {
-        if is_straight(mode, opacity) {
-            self.content(submitted, background, local, under)
-        } else {
-            let colour = self.content(submitted, background, local, Pixel::transparent());
-            laid(mode, colour, opacity, under)
+        let here = size_span(submitted, local, row.len());
+        let at_end = is_at_end(range, submitted);
+        lay_outside(at_end, here, background, mode, opacity, row);
+        if here.from < here.to {
+            let first = right_of(local, here.from);
+            self.content(
+                submitted,
+                mode,
+                opacity,
+                first,
+                &mut row[here.from..here.to],
+            );
         }
     }
 
-    /// The content of a shown surface at a point: its root pass inside its size, and the
-    /// background colour outside.
-    #[tactic(auto, unfolding(vz_rules::specs::Paint::content_at))]
+    /// What the content of a shown surface leaves in a row inside its size: it is drawn directly,
+    /// or painted on transparent, scaled and blended.
     #[cycle(paint)]
     fn content(
         &self,
         submitted: &SubmittedFrame<'a>,
-        background: Pixel,
-        local: Point,
-        under: Pixel,
-    ) -> Pixel
-        ensures { result ≡ content_here self.now background submitted.now local under }
+        mode: Blend,
+        opacity: u8,
+        first: Point,
+        row: &mut [Pixel],
+    )
+        requires { length row.old ≤ PIECE }
+        ensures { IsPainted (inside_here self.now submitted.now mode opacity) first row.old row.new }
     {
-        if is_inside(submitted, local) {
-            pix(self.active, self.levels, self.path, submitted, local, under)
+        if is_straight(mode, opacity) {
+            pix(self.active, self.levels, self.path, submitted, first, row);
         } else {
-            background.over(under)
+            self.inside_content(submitted, mode, opacity, first, row);
         }
+    }
+
+    /// The same if it is painted on transparent, scaled and blended.
+    #[cycle(paint)]
+    fn inside_content(
+        &self,
+        submitted: &SubmittedFrame<'a>,
+        mode: Blend,
+        opacity: u8,
+        first: Point,
+        row: &mut [Pixel],
+    )
+        requires { length row.old ≤ PIECE }
+        ensures { IsPainted (λ q d. laid mode (embedded self.now self.now.path submitted.now q transparent)
+            opacity d) first row.old row.new }
+    {
+        let mut room = [Pixel::transparent(); PIECE];
+        let own = &mut room[..row.len()];
+        pix(self.active, self.levels, self.path, submitted, first, own);
+        lay(&Painted { row: own }, mode, opacity, row);
     }
 }
 
-/// The colour at a point of the display; black if nothing can be seen there.
+/// The colours of a row of the display, black if nothing can be seen there. `start` is the row's
+/// first point. Condition: the row is black.
 #[tactic(auto, unfolding(vz_rules::specs::Paint::full, vz_rules::specs::Paint::levels))]
-pub(crate) fn full(active: &ActiveFrames<'_, '_>, root: &SurfaceId, point: Point) -> Pixel
-    ensures { result ≡ full (record { root = root.now; active = active.now }) point }
+pub(crate) fn full(active: &ActiveFrames<'_, '_>, root: &SurfaceId, start: Point, row: &mut [Pixel])
+    requires few { length row.old ≤ PIECE }
+    requires black { (i : ℕ) → i < length row.old → get_or row.old i transparent ≡ black }
+    ensures { IsPainted (λ q d. full (record { root = root.now; active = active.now }) q)
+        start row.old row.new }
 {
     match active.frame_on(root) {
-        None => Pixel::black(),
+        None => {}
         Some(submitted) => {
-            if is_inside(submitted, point) {
-                pix(
-                    active,
-                    LEVELS,
-                    &Path::Start,
-                    submitted,
-                    point,
-                    Pixel::black(),
-                )
-            } else {
-                Pixel::black()
+            let here = size_span(submitted, start, row.len());
+            if here.from < here.to {
+                let first = right_of(start, here.from);
+                let part = &mut row[here.from..here.to];
+                pix(active, LEVELS, &Path::Start, submitted, first, part);
             }
         }
     }

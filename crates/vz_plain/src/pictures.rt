@@ -1,5 +1,5 @@
 //! Whole pictures, row by row.
-ghost use Rattle.std.specs.Prelude.{◌≡◌, ◌≤◌, ◌++◌, pos, map, OnOk, IfOk};
+ghost use Rattle.std.specs.Prelude.{◌≡◌, ◌<◌, ◌≤◌, ◌++◌, ℕ, pos, map, length, get_or, OnOk, IfOk};
 ghost use Rattle.std.specs.Option.{option_and_then};
 ghost use Rattle.vz_base.specs.declared.limits.TheConstants.{GREATEST_DISPLAY_SIDE};
 ghost use Rattle.vz_geom.specs.Rectangle.{row_points, points_of};
@@ -7,9 +7,13 @@ ghost use Rattle.vz_ids.specs.declared.SurfaceId.{SurfaceId as Root};
 ghost use Rattle.vz_rules.specs.Scene.{scene_at};
 ghost use Rattle.vz_rules.specs.Frames.{picture_of};
 ghost use Rattle.vz_geom.specs.Display.{IsDisplaySize};
+ghost use Rattle.vz_pixels.specs.Colour.{transparent, black};
+ghost use Rattle.vz_plain.specs.declared.span.TheConstants.{PIECE};
+ghost use Rattle.vz_plain.specs.Rows.{IsPainted};
 ghost use Rattle.vz_plain.specs.Shown.{colour_of};
 
 use crate::paint::full;
+use crate::span::PIECE;
 use std::alloc::{AllocError, Global};
 use vz_geom::{Point, Size};
 use vz_ids::SurfaceId;
@@ -28,14 +32,49 @@ fn point_at(x: u32, y: u32) -> Point
     }
 }
 
-/// The colour at a point of the display; black if there is no root.
-fn colour_at(active: &ActiveFrames<'_, '_>, root: &Option<SurfaceId>, p: Point) -> Pixel
-    ensures { result ≡ colour_of active.now root.now p }
+/// Paints a piece of a row of the display, from a point on; it stays black if there is no root.
+fn paint(active: &ActiveFrames<'_, '_>, root: &Option<SurfaceId>, start: Point, piece: &mut [Pixel])
+    requires few { length piece.old ≤ PIECE }
+    requires black { (i : ℕ) → i < length piece.old → get_or piece.old i transparent ≡ black }
+    ensures { IsPainted (λ q d. colour_of active.now root.now q) start piece.old piece.new }
 {
     match root {
-        None => Pixel::black(),
-        Some(id) => full(active, id, p),
+        None => {}
+        Some(id) => full(active, id, start, piece),
     }
+}
+
+/// Appends the colours of a piece of a row, from column `x` on. Condition: it is within a row of
+/// a display.
+fn piece(
+    active: &ActiveFrames<'_, '_>,
+    root: &Option<SurfaceId>,
+    x: u32,
+    y: u32,
+    count: usize,
+    into: &mut Vec<Pixel>,
+) -> Result<(), AllocError>
+    requires across { x ≤ GREATEST_DISPLAY_SIDE }
+    requires down { y ≤ GREATEST_DISPLAY_SIDE }
+    requires few { count ≤ PIECE }
+    ensures { OnOk result (into.new.items ≡ into.old.items
+        ++ map (colour_of active.now root.now) (row_points count (pos x) (pos y))) }
+{
+    let mut room = [Pixel::black(); PIECE];
+    paint(active, root, point_at(x, y), &mut room[..count]);
+    into.extend_from_slice(&room[..count])?;
+    Ok(())
+}
+
+/// How many of the `left` columns of a row are painted next. Condition: some are left.
+fn next_count(left: u32) -> usize
+    requires { 0 < left }
+    ensures some { 0 < result }
+    ensures most { result ≤ left }
+    ensures few { result ≤ PIECE }
+{
+    let left = left as usize;
+    if left < PIECE { left } else { PIECE }
 }
 
 /// Appends the colours of a row, from column 0. Condition: it is a row of a display.
@@ -51,8 +90,11 @@ pub(crate) fn row(
     ensures { OnOk result (into.new.items
         ≡ into.old.items ++ map (colour_of active.now root.now) (row_points w (pos 0) (pos y))) }
 {
-    for x in 0..w {
-        into.push(colour_at(active, root, point_at(x, y)))?;
+    let mut x = 0;
+    while x < w {
+        let count = next_count(w - x);
+        piece(active, root, x, y, count, into)?;
+        x += count as u32;
     }
     Ok(())
 }

@@ -40,7 +40,7 @@ impl<'a> PlainMachine<'a> {
 impl<'a> Machine for PlainMachine<'a> {
     ghost state = { λ m. m };
 
-    type FrameData = PixelPicture;
+    type Picture = PixelPicture;
 
     fn client(&mut self, _alloc: Global, c: u32) -> Result<Step, Memory> {
         let (reply, effects) = self.slow.step(Event::Client(c))?;

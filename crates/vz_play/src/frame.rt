@@ -29,11 +29,11 @@ pub fn push_frame(
     size: Size,
     frames: &mut Vec<u8>,
 ) -> Result<(), Memory>
-    requires size { display.now.turns.size ≡ size }
+    requires size { display.now.shown.turns.size ≡ size }
     requires sides { IsDisplaySize size }
-    requires shown { IsSome (current display.now) }
+    requires shown { IsSome (current display.now.shown) }
     ensures frame { OnOk result
-        (PutsFrame size display.now frames.old.items frames.new.items) }
+        (PutsFrame size display.now.shown frames.old.items frames.new.items) }
 {
     let mut row = row_of(alloc, size)?;
     for y in 0..size.h {
@@ -52,12 +52,12 @@ fn push_row(
     row: &mut [u8],
     frames: &mut Vec<u8>,
 ) -> Result<(), Memory>
-    requires size { display.now.turns.size ≡ size }
-    requires shown { IsSome (current display.now) }
+    requires size { display.now.shown.turns.size ≡ size }
+    requires shown { IsSome (current display.now.shown) }
     requires top { pos 0 ≤ℤ y }
     requires bottom { y <ℤ size.h }
     requires bytes { length row.old ≡ 4 * nat_abs size.w }
-    ensures row { OnOk result (IfSome (current display.now)
+    ensures row { OnOk result (IfSome (current display.now.shown)
         (λ b. frames.new.items ≡ frames.old.items ++ flat_map pixel_bytes (row_at b y))) }
 {
     display.row(y, row);

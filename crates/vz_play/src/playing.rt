@@ -48,7 +48,7 @@ pub fn play<M: Machine + Drop, L: Ledger>(
     steps: &mut Steps<L>,
 ) -> Result<Results, Memory>
 where
-    M::FrameData: Drop,
+    M::Picture: Drop,
     requires opening { (M.state machine).world ≡ opening (M.state machine).plan }
     requires files { length (M.state machine).plan.files ≤ MOST_FILES }
     requires size { (M.state machine).plan.size ≡ size }
@@ -98,7 +98,7 @@ fn turn<M: Machine + Drop, L: Ledger>(
     steps: &mut Steps<L>,
 ) -> Result<Option<u64>, Memory>
 where
-    M::FrameData: Drop,
+    M::Picture: Drop,
     requires going { player.old.stopped ≡ false }
     requires named { NamesClient player.old.plan event }
     requires size { player.old.plan.size ≡ size }

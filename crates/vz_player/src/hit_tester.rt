@@ -74,7 +74,7 @@ impl<M: Machine + Drop> HitTester<M> {
     /// changes.
     pub fn turn<G: Gate>(&mut self, alloc: Global, gate: &G, event: Event) -> Result<(), Memory>
     where
-        M::FrameData: Drop,
+        M::Picture: Drop,
         requires { NamesClient self.old.plan event }
         ensures taken { OnOk result (self.new ≡ tested_on self.old event) }
         ensures err { OnErr result (self.new ≡ self.old) }
@@ -117,7 +117,7 @@ impl<M: Machine + Drop> HitTester<M> {
     // machine is asked before it draws, so that want of memory changes nothing.
     fn draw<G: Gate>(&mut self, alloc: Global, gate: &G) -> Result<(), Memory>
     where
-        M::FrameData: Drop,
+        M::Picture: Drop,
         ensures taken { OnOk result (self.new ≡ tested_on self.old event.Draw) }
         ensures err { OnErr result (self.new ≡ self.old) }
     {

@@ -50,7 +50,7 @@ impl<M: Machine + Drop> Model for Player<M> {
       stopped = p.stopped;
     } };
 
-    ghost invariant = { λ p. IsPlayed (M.state p.machine) p.display (record {
+    ghost invariant = { λ p. IsPlayed (M.state p.machine) p.display.shown (record {
       plan = (M.state p.machine).plan;
       history = p.history.list;
       buffers = p.buffers;
@@ -91,7 +91,7 @@ impl<M: Machine + Drop> Player<M> {
         requires files { length (M.state machine).plan.files ≤ MOST_FILES }
         requires sides { IsDisplaySize (M.state machine).plan.size }
         requires from { 1 ≤ buffers }
-        requires display { display ≡ display_at (M.state machine).plan history.list buffers }
+        requires display { display.shown ≡ display_at (M.state machine).plan history.list buffers }
         ensures { result ≡ played_at (M.state machine).plan history.list buffers }
     {
         let actors = Actors::after(history.as_slice());
@@ -118,7 +118,7 @@ impl<M: Machine + Drop> Player<M> {
         steps: &mut Steps<L>,
     ) -> Result<bool, Memory>
     where
-        M::FrameData: Drop,
+        M::Picture: Drop,
         requires going { self.old.stopped ≡ false }
         requires named { NamesClient self.old.plan event }
         ensures taken { OnOk result (self.new ≡ played_on self.old event) }
@@ -180,7 +180,7 @@ impl<M: Machine + Drop> Player<M> {
         steps: &mut Steps<L>,
     ) -> Result<bool, Memory>
     where
-        M::FrameData: Drop,
+        M::Picture: Drop,
         requires going { self.old.stopped ≡ false }
         ensures taken { OnOk result (self.new ≡ played_on self.old event.Draw) }
         ensures written { IfOk result (λ drawn. Writes self.old self.new drawn) }
@@ -218,11 +218,11 @@ impl<M: Machine + Drop> Player<M> {
     /// Condition: no failed allocation has stopped the player.
     pub fn display(&self) -> &Display
         requires { self.now.stopped ≡ false }
-        ensures value { result.now ≡ display_of self.now }
-        ensures size { result.now.turns.size ≡ self.now.plan.size }
+        ensures value { result.now.shown ≡ display_of self.now }
+        ensures size { result.now.shown.turns.size ≡ self.now.plan.size }
         ensures current { (earlier : Row (Row Colour)) (frame : Row Colour)
             → frames_of self.now ≡ earlier ++ frame ∷ []
-            → current result.now ≡ buffer_with self.now.plan.size frame }
+            → current result.now.shown ≡ buffer_with self.now.plan.size frame }
         ensures whole { (earlier : Row (Row Colour)) (frame : Row Colour)
             → frames_of self.now ≡ earlier ++ frame ∷ []
             → length frame ≡ pixel_count self.now.plan.size }

@@ -10,25 +10,27 @@ use vz_buffers::Steps;
 use vz_display::Display;
 use vz_machine::Picture;
 
-/// Shows a picture if there is one, and returns whether there was. Condition: it has the
-/// display's size. The only error is `Memory`; the display may not be used after it.
+/// Removes what is occluded in a picture and shows it, if there is one, and returns whether there
+/// was one. Condition: it has the display's size. The only error is `Memory`; the display may not
+/// be used after it.
 pub fn show_some<P: Picture + Drop, L: Ledger>(
     alloc: Global,
     picture: Option<P>,
     display: &mut Display,
     steps: &mut Steps<L>,
 ) -> Result<bool, Memory>
-    requires { IfSome picture (λ p. (P.pictured p).size ≡ display.old.turns.size) }
+    requires { IfSome picture (λ p. (P.pictured p).size ≡ display.old.shown.turns.size) }
     ensures display { OnOk result
-        (display.new ≡ shown_with display.old (option_map P.pictured picture)) }
+        (display.new.shown ≡ shown_with display.old.shown (option_map P.pictured picture)) }
     ensures counted { OnOk result
-        (steps.new ≡ steps.old + steps_with display.old (option_map P.pictured picture)) }
+        (steps.new ≡ steps.old + steps_with display.old.shown (option_map P.pictured picture)) }
     ensures drawn { IfOk result (λ drawn. drawn ≡ is_some (option_map P.pictured picture)) }
 {
     match picture {
         None => Ok(false),
         Some(picture) => {
-            display.show(alloc, &picture, steps)?;
+            let thin = picture.occlude(alloc)?;
+            display.show(alloc, &thin, steps)?;
             Ok(true)
         }
     }

@@ -107,11 +107,11 @@ pub fn draw_gated<M: Machine, G: Gate>(
     gate: &G,
     turn: Turn,
     machine: &mut M,
-) -> Result<(Entry, Option<M::FrameData>), Memory>
+) -> Result<(Entry, Option<M::Picture>), Memory>
     ensures entry { IfOk result (λ r.
         r.0 ≡ entry_in (M.state machine.old).plan (M.state machine.old).world event.Draw) }
     ensures picture { IfOk result (λ r. ShowsDrawn (M.state machine.old) r.0.reply
-        (option_map M.FrameData.pictured r.1)) }
+        (option_map M.Picture.pictured r.1)) }
     ensures world { OnOk result (Goes (M.state machine.old) event.Draw (M.state machine.new)) }
     ensures err { OnErr result (M.state machine.new ≡ M.state machine.old) }
 {
@@ -120,11 +120,11 @@ pub fn draw_gated<M: Machine, G: Gate>(
 
 /// Draws, and returns the entry, with the picture if there is one. The only error is `Memory`,
 /// and then the machine is unchanged.
-fn draw<M: Machine>(alloc: Global, machine: &mut M) -> Result<(Entry, Option<M::FrameData>), Memory>
+fn draw<M: Machine>(alloc: Global, machine: &mut M) -> Result<(Entry, Option<M::Picture>), Memory>
     ensures entry { IfOk result (λ r.
         r.0 ≡ entry_in (M.state machine.old).plan (M.state machine.old).world event.Draw) }
     ensures picture { IfOk result (λ r. ShowsDrawn (M.state machine.old) r.0.reply
-        (option_map M.FrameData.pictured r.1)) }
+        (option_map M.Picture.pictured r.1)) }
     ensures world { OnOk result (Goes (M.state machine.old) event.Draw (M.state machine.new)) }
     ensures err { OnErr result (M.state machine.new ≡ M.state machine.old) }
 {

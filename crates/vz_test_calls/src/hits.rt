@@ -140,7 +140,7 @@ fn events_alike(alloc: Global, plan: &Plan, same: Plan, events: &[Event]) -> Res
 /// Takes an event of a machine's plan.
 fn take<M: Machine>(alloc: Global, machine: &mut M, event: Event) -> Result<(), Memory>
 where
-    M::FrameData: Drop,
+    M::Picture: Drop,
     requires { NamesClient (M.state machine.old).plan event }
     ensures { OnOk result ((M.state machine.new).plan ≡ (M.state machine.old).plan) }
 {

@@ -15,7 +15,7 @@ use vz_buffers::{Buffer, Steps};
 use vz_draws::Draws;
 use vz_geom::{Rect, Size};
 use vz_ids::Sub;
-use vz_machine::{Machine, Picture};
+use vz_machine::{Machine, Picture, ThinPicture};
 use vz_manager::Manager;
 use vz_pixels::Pixel;
 use vz_plain_machine::PlainMachine;
@@ -91,7 +91,7 @@ impl Told {
     }
 
     /// Adds all pixels of a picture.
-    fn add_picture<P: Picture, L: Ledger>(
+    fn add_picture<P: ThinPicture, L: Ledger>(
         &mut self,
         alloc: Global,
         picture: &P,
@@ -113,12 +113,13 @@ impl Told {
         steps: &mut Steps<L>,
     ) -> Result<(), Memory>
     where
-        M::FrameData: Drop,
+        M::Picture: Drop,
         requires { NamesClient (M.state machine.old).plan event }
         ensures { OnOk result ((M.state machine.new).plan ≡ (M.state machine.old).plan) }
     {
         if let Some(picture) = taken(alloc, machine, event)? {
-            self.add_picture(alloc, &picture, steps)?;
+            let thin = picture.occlude(alloc)?;
+            self.add_picture(alloc, &thin, steps)?;
         }
         Ok(())
     }
@@ -134,7 +135,7 @@ impl Told {
         steps: &mut Steps<L>,
     ) -> Result<(), Memory>
     where
-        M::FrameData: Drop,
+        M::Picture: Drop,
         requires clients { clients ≤ length (M.state machine.old).plan.files }
         requires named { All (NamesClient (M.state machine.old).plan) events.now }
     {
@@ -173,7 +174,7 @@ fn taken<M: Machine>(
     alloc: Global,
     machine: &mut M,
     event: Event,
-) -> Result<Option<M::FrameData>, Memory>
+) -> Result<Option<M::Picture>, Memory>
     requires { NamesClient (M.state machine.old).plan event }
     ensures { OnOk result ((M.state machine.new).plan ≡ (M.state machine.old).plan) }
 {
@@ -212,7 +213,7 @@ fn tells<M: Machine + Drop, L: Ledger>(
     told: &mut Told,
 ) -> bool
 where
-    M::FrameData: Drop,
+    M::Picture: Drop,
     requires clients { clients ≤ length (M.state machine).plan.files }
     requires named { All (NamesClient (M.state machine).plan) events.now }
     requires name { blank.name ≡ L.name }

@@ -21,7 +21,7 @@ fn take<M: Machine + Send, R: Wait + AllocGlobal>(
     pass: &mut Pass<M>,
 ) -> Result<Told, Memory>
 where
-    M::FrameData: Send + Drop,
+    M::Picture: Send + Drop,
     requires ours { IsAtRest hub.now.id pass.old }
     requires client { ForSome pass.old.plan (λ p. 1 ≤ length p.files) }
     ensures rests { IsAtRest hub.now.id pass.new }
@@ -40,7 +40,7 @@ fn three_calls<M: Machine + Send, R: Wait + AllocGlobal>(
     second: &mut Pass<M>,
 ) -> Result<(Told, Told, Told), Memory>
 where
-    M::FrameData: Send + Drop,
+    M::Picture: Send + Drop,
     requires first { IsAtRest hub.now.id first.old }
     requires second { IsAtRest hub.now.id second.old }
     requires client { ForSome first.old.plan (λ p. 1 ≤ length p.files) }
@@ -108,7 +108,7 @@ fn display_calls<M: Machine + Send, R: Wait + AllocGlobal>(
     mut pass: Pass<M>,
 ) -> (Pass<M>, bool)
 where
-    M::FrameData: Send + Drop,
+    M::Picture: Send + Drop,
     requires { IsAtRest hub.now.id pass }
     ensures { IsAtRest hub.now.id result.0 }
 {
@@ -126,7 +126,7 @@ fn client_calls<M: Machine + Send, R: Wait + AllocGlobal>(
     mut pass: Pass<M>,
 ) -> (Pass<M>, bool)
 where
-    M::FrameData: Send + Drop,
+    M::Picture: Send + Drop,
     requires ours { IsAtRest hub.now.id pass }
     requires client { ForSome pass.plan (λ p. 1 ≤ length p.files) }
     ensures { IsAtRest hub.now.id result.0 }
@@ -156,7 +156,7 @@ fn at_once<M: Machine + Send + Drop, R: Threads + Wait + AllocGlobal + Sync>(
     second: Pass<M>,
 ) -> ((Pass<M>, bool), (Pass<M>, bool))
 where
-    M::FrameData: Send + Drop,
+    M::Picture: Send + Drop,
     requires first { IsAtRest hub.now.id first }
     requires second { IsAtRest hub.now.id second }
     requires client { ForSome second.plan (λ p. 1 ≤ length p.files) }

@@ -13,3 +13,9 @@ pub lies_inside : (area drawn screen : Rectangle) (size : Size) → ((q : Point)
 unfolding with_sides
 lies_inside area drawn screen size points is sides p h =
     ap (λ (s : Size). has (sized s) p) sides ∙ ap (λ (r : Rectangle). has r p) (sym is) ∙ second (has drawn p) (has screen p) (sym (points p) ∙ h)
+
+-- all of a display of four columns and two rows
+pub all_inside : (area : Rectangle) (size : Size) → area ≡ with_sides (pos 0) (pos 0) (pos 4) (pos 2)
+    → size ≡ record { w = pos 4; h = pos 2 } → (p : Point) → has area p ≡ true → has (sized size) p ≡ true
+unfolding with_sides
+all_inside area size is sides p h = ap (λ (s : Size). has (sized s) p) sides ∙ (ap (λ (r : Rectangle). has r p) (sym is) ∙ h)

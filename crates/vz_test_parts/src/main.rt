@@ -8,6 +8,7 @@
 mod deadlines;
 mod deps;
 mod holder;
+mod occluded;
 mod painted;
 mod references;
 mod sinks;
@@ -21,5 +22,6 @@ fn main(rt: HostRuntime) -> Result<()> {
     sinks::play(&rt)?;
     deps::play(&rt)?;
     references::play(&rt)?;
-    painted::play(&rt)
+    painted::play(&rt)?;
+    occluded::play(&rt)
 }

@@ -53,46 +53,46 @@ crew_one id messages before behind x c = record {
 pub in_crew_may : (id : TableId) (messages : List ℕ) (o : Owner Totals) (count : ℕ) → IsInCrew id messages o → count ≡ messages_of messages o.number → MayTake id count o
 in_crew_may id messages o count c e = record { plan = c.plan; work = c.work; all = e ∙ ap (λ (l : List ℕ). messages_of l o.number) c.counts }
 
-module _ {M D : Type 0} where
-  crew_split : (us vs : List (Started M D)) (s : Started M D) → crew_of (us ++ s ∷ vs) ≡ crew_of vs ++ end_of s ∷ crew_of us
+module _ {M P T : Type 0} where
+  crew_split : (us vs : List (Started M P T)) (s : Started M P T) → crew_of (us ++ s ∷ vs) ≡ crew_of vs ++ end_of s ∷ crew_of us
   crew_split us vs s =
-      ap (map end_of) (reverse-append us (s ∷ vs) ∙ ap (λ (l : List (Started M D)). l ++ reverse us) (reverse-append (s ∷ []) vs) ∙ append_assoc (reverse vs) (s ∷ []) (reverse us))
+      ap (map end_of) (reverse-append us (s ∷ vs) ∙ ap (λ (l : List (Started M P T)). l ++ reverse us) (reverse-append (s ∷ []) vs) ∙ append_assoc (reverse vs) (s ∷ []) (reverse us))
       ∙ map-append end_of (reverse vs) (s ∷ reverse us)
 
   -- One is started
 
-  pub start_begins : (all : List (Owner Totals)) (started : List (Started M D)) → started ≡ [] → CrewWorksOn all (all ++ crew_of started)
-  start_begins all started none = subst (λ (l : List (Owner Totals)). CrewWorksOn all l) (sym (ap (λ (ss : List (Started M D)). all ++ crew_of ss) none ∙ append-nil all)) (crew_same all)
+  pub start_begins : (all : List (Owner Totals)) (started : List (Started M P T)) → started ≡ [] → CrewWorksOn all (all ++ crew_of started)
+  start_begins all started none = subst (λ (l : List (Owner Totals)). CrewWorksOn all l) (sym (ap (λ (ss : List (Started M P T)). all ++ crew_of ss) none ∙ append-nil all)) (crew_same all)
 
-  start_split : (ends left : List (Owner Totals)) (x : Owner Totals) (started : List (Started M D)) → ends ≡ left ++ x ∷ [] → ends ++ crew_of started ≡ left ++ x ∷ crew_of started
+  start_split : (ends left : List (Owner Totals)) (x : Owner Totals) (started : List (Started M P T)) → ends ≡ left ++ x ∷ [] → ends ++ crew_of started ≡ left ++ x ∷ crew_of started
   start_split ends left x started is = ap (λ (l : List (Owner Totals)). l ++ crew_of started) is ∙ append_assoc left (x ∷ []) (crew_of started)
 
-  pub start_one : (id : TableId) (messages : List ℕ) (all ends left : List (Owner Totals)) (x : Owner Totals) (started : List (Started M D)) → IsCrew id messages all
+  pub start_one : (id : TableId) (messages : List ℕ) (all ends left : List (Owner Totals)) (x : Owner Totals) (started : List (Started M P T)) → IsCrew id messages all
       → CrewWorksOn all (ends ++ crew_of started) → ends ≡ left ++ x ∷ [] → IsInCrew id messages x
   start_one id messages all ends left x started c w is =
       crew_one id messages left (crew_of started) x (subst (IsCrew id messages) (start_split ends left x started is) (crew_on id messages all (ends ++ crew_of started) c w))
 
-  pub start_goes : (all ends left : List (Owner Totals)) (x : Owner Totals) (started more : List (Started M D)) (s : Started M D) → CrewWorksOn all (ends ++ crew_of started) → ends ≡ left ++ x ∷ []
+  pub start_goes : (all ends left : List (Owner Totals)) (x : Owner Totals) (started more : List (Started M P T)) (s : Started M P T) → CrewWorksOn all (ends ++ crew_of started) → ends ≡ left ++ x ∷ []
       → WorksOn x (end_of s) → more ≡ started ++ s ∷ [] → CrewWorksOn all (left ++ crew_of more)
   start_goes all ends left x started more s c is w more_is =
       crew_then all (left ++ x ∷ crew_of started) (left ++ crew_of more) (subst (CrewWorksOn all) (start_split ends left x started is) c)
       (subst (λ (l : List (Owner Totals)). CrewWorksOn (left ++ x ∷ crew_of started) (left ++ l)) (sym (ap crew_of more_is ∙ crew_split started [] s))
       (crew_changes left (crew_of started) x (end_of s) w))
 
-  pub start_ends : (all ends : List (Owner Totals)) (started : List (Started M D)) → CrewWorksOn all (ends ++ crew_of started) → ends ≡ [] → CrewWorksOn all (crew_of started)
+  pub start_ends : (all ends : List (Owner Totals)) (started : List (Started M P T)) → CrewWorksOn all (ends ++ crew_of started) → ends ≡ [] → CrewWorksOn all (crew_of started)
   start_ends all ends started c none = subst (λ (l : List (Owner Totals)). CrewWorksOn all (l ++ crew_of started)) none c
 
   -- One is waited for
 
-  pub finish_goes : (all ends more : List (Owner Totals)) (e : Owner Totals) (started left : List (Started M D)) (s : Started M D) → CrewWorksOn all (ends ++ crew_of started) → started ≡ left ++ s ∷ []
+  pub finish_goes : (all ends more : List (Owner Totals)) (e : Owner Totals) (started left : List (Started M P T)) (s : Started M P T) → CrewWorksOn all (ends ++ crew_of started) → started ≡ left ++ s ∷ []
       → WorksOn (end_of s) e → more ≡ ends ++ e ∷ [] → CrewWorksOn all (more ++ crew_of left)
   finish_goes all ends more e started left s c is w more_is =
       crew_then all (ends ++ end_of s ∷ crew_of left) (more ++ crew_of left)
       (subst (λ (l : List (Owner Totals)). CrewWorksOn all (ends ++ l)) (ap crew_of is ∙ crew_split left [] s) c)
       (subst (CrewWorksOn (ends ++ end_of s ∷ crew_of left)) (sym (start_split more ends e left more_is)) (crew_changes ends (crew_of left) (end_of s) e w))
 
-  pub finish_ends : (all ends : List (Owner Totals)) (started : List (Started M D)) → CrewWorksOn all (ends ++ crew_of started) → started ≡ [] → CrewWorksOn all ends
-  finish_ends all ends started c none = subst (CrewWorksOn all) (ap (λ (ss : List (Started M D)). ends ++ crew_of ss) none ∙ append-nil ends) c
+  pub finish_ends : (all ends : List (Owner Totals)) (started : List (Started M P T)) → CrewWorksOn all (ends ++ crew_of started) → started ≡ [] → CrewWorksOn all ends
+  finish_ends all ends started c none = subst (CrewWorksOn all) (ap (λ (ss : List (Started M P T)). ends ++ crew_of ss) none ∙ append-nil ends) c
 
 -- An end is changed where it stands
 
@@ -109,18 +109,18 @@ crew_set ends i d y l w =
 pub crew_at : (id : TableId) (messages : List ℕ) (ends : List (Owner Totals)) (i : ℕ) (d : Owner Totals) → i < length ends → IsCrew id messages ends → IsInCrew id messages (get_or ends i d)
 crew_at id messages ends i d l c = crew_one id messages (take i ends) (drop (suc i) ends) (get_or ends i d) (subst (IsCrew id messages) (split_there ends i d l) c)
 
-module _ {M D : Type 0} where
-  split_crew : (started : List (Started M D)) (i : ℕ) (d : Started M D) → i < length started
+module _ {M P T : Type 0} where
+  split_crew : (started : List (Started M P T)) (i : ℕ) (d : Started M P T) → i < length started
       → crew_of started ≡ crew_of (drop (suc i) started) ++ end_of (get_or started i d) ∷ crew_of (take i started)
   split_crew started i d l = ap crew_of (split_there started i d l) ∙ crew_split (take i started) (drop (suc i) started) (get_or started i d)
 
-  pub started_set : (started : List (Started M D)) (i : ℕ) (d s : Started M D) → i < length started → WorksOn (end_of (get_or started i d)) (end_of s) → CrewWorksOn (crew_of started) (crew_of (set started i s))
+  pub started_set : (started : List (Started M P T)) (i : ℕ) (d s : Started M P T) → i < length started → WorksOn (end_of (get_or started i d)) (end_of s) → CrewWorksOn (crew_of started) (crew_of (set started i s))
   started_set started i d s l w =
       subst (λ (x : List (Owner Totals) × List (Owner Totals)). CrewWorksOn x.0 x.1)
       (λ j. (sym (split_crew started i d l) j, sym (ap crew_of (set_split started i s l) ∙ crew_split (take i started) (drop (suc i) started) s) j))
       (crew_changes (crew_of (drop (suc i) started)) (crew_of (take i started)) (end_of (get_or started i d)) (end_of s) w)
 
-  pub started_at : (id : TableId) (messages : List ℕ) (started : List (Started M D)) (i : ℕ) (d : Started M D) → i < length started → IsCrew id messages (crew_of started)
+  pub started_at : (id : TableId) (messages : List ℕ) (started : List (Started M P T)) (i : ℕ) (d : Started M P T) → i < length started → IsCrew id messages (crew_of started)
       → IsInCrew id messages (end_of (get_or started i d))
   started_at id messages started i d l c =
       crew_one id messages (crew_of (drop (suc i) started)) (crew_of (take i started)) (end_of (get_or started i d)) (subst (IsCrew id messages) (split_crew started i d l) c)
@@ -150,7 +150,7 @@ module _ {A : Type 0} (P : A → Type 0) where
   holds_more (x ∷ xs) (suc i) y l before one zero d h = before 0 d (omega arith)
   holds_more (x ∷ xs) (suc i) y l before one (suc k) d h = holds_more xs i y (omega arith) (λ k d h. before (suc k) d (omega arith)) one k d (omega arith)
 
-module _ {M D : Type 0} where
-  pub started_goes : (given : List (Owner Totals)) (now : List (Started M D)) (i : ℕ) (d s : Started M D) → CrewWorksOn given (crew_of now) → i < length now → WorksOn (end_of (get_or now i d)) (end_of s)
+module _ {M P T : Type 0} where
+  pub started_goes : (given : List (Owner Totals)) (now : List (Started M P T)) (i : ℕ) (d s : Started M P T) → CrewWorksOn given (crew_of now) → i < length now → WorksOn (end_of (get_or now i d)) (end_of s)
       → CrewWorksOn given (crew_of (set now i s))
   started_goes given now i d s c l w = crew_then given (crew_of now) (crew_of (set now i s)) c (started_set now i d s l w)

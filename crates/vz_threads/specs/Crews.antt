@@ -59,15 +59,15 @@ pub record IsInCrew (id : TableId) (messages : List ℕ) (o : Owner Totals) : Ty
   pub counts : messages ≡ message_counts plan
 
 -- the end that was given to a thread, or that stayed with the display
-abbrev pub end_of : {M D : Type 0} → Started M D → Owner Totals
+abbrev pub end_of : {M P T : Type 0} → Started M P T → Owner Totals
 end_of (Running handle) = handle.promise.given.value
 end_of (Here end) = end
 
 -- the ends of all that were started; the one started last comes first in the list
-abbrev pub crew_of : {M D : Type 0} → List (Started M D) → List (Owner Totals)
+abbrev pub crew_of : {M P T : Type 0} → List (Started M P T) → List (Owner Totals)
 crew_of started = map end_of (reverse started)
 
 -- an end that stayed with the display took all messages of its file, or its client is idle
-abbrev pub IsServedHere : {M D : Type 0} → List ℕ → Started M D → Type 0
+abbrev pub IsServedHere : {M P T : Type 0} → List ℕ → Started M P T → Type 0
 IsServedHere messages (Running handle) = Unit {0}
 IsServedHere messages (Here end) = IsServed (messages_of messages end.number) end

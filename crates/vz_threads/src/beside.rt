@@ -48,7 +48,7 @@ pub(crate) fn play_beside<
     outlet: O,
 ) -> Beside<M, O>
 where
-    M::FrameData: Send + Drop,
+    M::Picture: Send + Drop,
     requires crew { IsCrew desk.now.id messages.now ends.items }
     requires flags { length refused.now ≡ length messages.now }
     requires room { (started.items ≡ []) × (vec_len ends ≤ vec_capacity started) }

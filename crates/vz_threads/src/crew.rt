@@ -37,7 +37,7 @@ pub(crate) enum Started<M: Machine + Send> {
 /// How many messages the file of the end's client has.
 pub(crate) fn count_of<M: Machine + Send>(end: &End<M, Halt>, messages: &[u64]) -> u64
 where
-    M::FrameData: Send,
+    M::Picture: Send,
     requires from { 1 ≤ end.now.number }
     requires upto { end.now.number ≤ length messages.now }
     ensures { result ≡ messages_of messages.now end.now.number }
@@ -55,7 +55,7 @@ fn work<M: Machine + Send, G: Gate, R: Wait + AllocGlobal>(
     count: u64,
 ) -> End<M, Halt>
 where
-    M::FrameData: Send,
+    M::Picture: Send,
     requires { MayTake desk.now.id count end }
     ensures { WorksOn end result }
 {
@@ -83,7 +83,7 @@ fn start<
     count: u64,
 ) -> Started<M>
 where
-    M::FrameData: Send + Drop + 's,
+    M::Picture: Send + Drop + 's,
     requires { MayTake desk.now.id count end }
     ensures { WorksOn end (end_of result) }
 {
@@ -115,7 +115,7 @@ fn serve<M: Machine + Send, G: Gate, R: Wait + AllocGlobal>(
     messages: &[u64],
 ) -> Result<(), Memory>
 where
-    M::FrameData: Send,
+    M::Picture: Send,
     requires { IsInCrew desk.now.id messages.now (end_of one.old) }
     ensures works { WorksOn (end_of one.old) (end_of one.new) }
     ensures served { OnOk result (IsServedHere messages.now one.new) }
@@ -133,7 +133,7 @@ where
 // Waits for the thread of one end.
 fn finish<M: Machine + Send + Drop, R: Threads + Wait>(rt: &R, started: Started<M>) -> End<M, Halt>
 where
-    M::FrameData: Send + Drop,
+    M::Picture: Send + Drop,
     ensures { WorksOn (end_of started) result }
 {
     match started {
@@ -163,7 +163,7 @@ pub(crate) fn start_all<
     started: &mut Vec<Started<M>>,
 )
 where
-    M::FrameData: Send + Drop + 's,
+    M::Picture: Send + Drop + 's,
     requires crew { IsCrew desk.now.id messages.now ends.old.items }
     requires flags { length refused.now ≡ length messages.now }
     requires room { (started.old.items ≡ []) × (vec_len ends.old ≤ vec_capacity started.old) }
@@ -190,7 +190,7 @@ pub(crate) fn serve_all<M: Machine + Send, G: Gate, R: Wait + AllocGlobal>(
     messages: &[u64],
 ) -> Result<(), Memory>
 where
-    M::FrameData: Send,
+    M::Picture: Send,
     requires { IsCrew desk.now.id messages.now (crew_of started.old.items) }
     ensures count { vec_len started.new ≡ vec_len started.old }
     ensures capacity { vec_capacity started.new ≡ vec_capacity started.old }
@@ -211,7 +211,7 @@ pub(crate) fn finish_all<M: Machine + Send + Drop, R: Threads + Wait>(
     ends: &mut Vec<End<M, Halt>>,
 )
 where
-    M::FrameData: Send + Drop,
+    M::Picture: Send + Drop,
     requires room { (ends.old.items ≡ []) × (vec_len started.old ≤ vec_capacity ends.old) }
     ensures none { started.new.items ≡ [] }
     ensures works { CrewWorksOn (crew_of started.old.items) ends.new.items }

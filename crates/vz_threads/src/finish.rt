@@ -39,12 +39,12 @@ pub(crate) fn finish_run<M: Machine + Drop, F: Shelf, G: Gate, L: Ledger>(
     history: &mut List<Entry>,
 ) -> Result<Rest, ShelfError>
 where
-    M::FrameData: Drop,
+    M::Picture: Drop,
     requires behind { (M.state machine).world ≡ world (M.state machine).plan gathered.list }
     requires plan { IsPlan (M.state machine).plan }
     requires legal { Legal (M.state machine).plan gathered.list }
     requires from { 1 ≤ buffers }
-    requires display { display ≡ display_at (M.state machine).plan gathered.list buffers }
+    requires display { display.shown ≡ display_at (M.state machine).plan gathered.list buffers }
     requires due { AllComeDue (world (M.state machine).plan gathered.list) }
     requires size { (M.state machine).plan.size ≡ file.size }
     requires open { (F.shelved shelf.old).mode file.slot ≡ Some Writing }

@@ -23,7 +23,7 @@ pub(crate) fn take_left<M: Machine + Send, G: Gate, R: Wait + AllocGlobal>(
     messages: &[u64],
 ) -> Result<(), Memory>
 where
-    M::FrameData: Send,
+    M::Picture: Send,
     requires { IsCrew desk.now.id messages.now ends.old.items }
     ensures count { vec_len ends.new ≡ vec_len ends.old }
     ensures capacity { vec_capacity ends.new ≡ vec_capacity ends.old }

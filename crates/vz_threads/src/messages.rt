@@ -20,7 +20,7 @@ fn take_next<M: Machine + Send, G: Gate, R: Wait + AllocGlobal>(
     count: u64,
 ) -> Result<(), Memory>
 where
-    M::FrameData: Send,
+    M::Picture: Send,
     requires may { MayTake desk.now.id count end.old }
     requires left { end.old.totals.taken < count }
     ensures works { WorksOn end.old end.new }
@@ -54,7 +54,7 @@ pub(crate) fn take_messages<M: Machine + Send, G: Gate, R: Wait + AllocGlobal>(
     count: u64,
 ) -> Result<(), Memory>
 where
-    M::FrameData: Send,
+    M::Picture: Send,
     requires { MayTake desk.now.id count end.old }
     ensures works { WorksOn end.old end.new }
     ensures all { OnOk result (end.new.totals.taken ≡ count) }
@@ -76,7 +76,7 @@ pub(crate) fn take_until_idle<M: Machine + Send, G: Gate, R: Wait + AllocGlobal>
     count: u64,
 ) -> Result<(), Memory>
 where
-    M::FrameData: Send,
+    M::Picture: Send,
     requires { MayTake desk.now.id count end.old }
     ensures works { WorksOn end.old end.new }
     ensures served { OnOk result (IsServed count end.new) }

@@ -32,7 +32,7 @@ pub(crate) fn open_run<M: Machine + Send + Drop>(
     messages: &[u64],
 ) -> Result<Opened<M>, Memory>
 where
-    M::FrameData: Send,
+    M::Picture: Send,
     requires opening { (M.state machine).world ≡ opening (M.state machine).plan }
     requires files { length (M.state machine).plan.files ≤ MOST_FILES }
     requires counts { messages.now ≡ message_counts (M.state machine).plan }

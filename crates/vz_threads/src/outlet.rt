@@ -18,9 +18,9 @@ pub trait Outlet {
     /// The state of the display, of the file and of the counter of steps.
     ghost stands: { Self → Outlook };
 
-    /// Shows a picture, and appends its frame to the file. The errors are those of the shelf, and
-    /// `Memory`. After an error a front part of the frame was written, possibly none, and the
-    /// display may not be used any more.
+    /// Removes what is occluded in a picture, shows it, and appends its frame to the file. The
+    /// errors are those of the shelf, and `Memory`. After an error a front part of the frame was
+    /// written, possibly none, and the display may not be used any more.
     fn show<P: Picture + Drop>(&mut self, alloc: Global, picture: P) -> Result<(), ShelfError>
         requires { MayShow (stands self.old) (P.pictured picture) }
         ensures fixed { (stands self.new).fixed ≡ (stands self.old).fixed }
@@ -52,13 +52,14 @@ impl<'a, F: Shelf, L: Ledger> Outlet for FrameOutlet<'a, F, L> {
         shelf = o.shelf.ghost_name;
         steps = o.steps.ghost_name;
       };
-      display = o.display;
+      display = o.display.shown;
       shelf = F.shelved o.shelf.now;
       steps = o.steps.now;
     } };
 
     fn show<P: Picture + Drop>(&mut self, alloc: Global, picture: P) -> Result<(), ShelfError> {
-        self.display.show(alloc, &picture, self.steps)?;
+        let thin = picture.occlude(alloc)?;
+        self.display.show(alloc, &thin, self.steps)?;
         write_frame(self.shelf, self.file, &self.display, &mut self.piece)?;
         Ok(())
     }

@@ -28,7 +28,7 @@ fn open_round<M: Machine + Send, G: Gate, R: Wait + AllocGlobal>(
     d: &mut DisplayEnd<M, Halt>,
 ) -> Result<(), Memory>
 where
-    M::FrameData: Send,
+    M::Picture: Send,
     requires desk { d.old.desk ≡ desk.now.id }
     requires crew { IsCrew desk.now.id messages.now (crew_of started.old.items) }
     ensures same { IsSameOwner d.old d.new }
@@ -56,7 +56,7 @@ fn play_round<M: Machine + Send, O: Outlet, G: Gate, R: Wait + AllocGlobal>(
     outlet: &mut O,
 ) -> Result<(), ShelfError>
 where
-    M::FrameData: Send + Drop,
+    M::Picture: Send + Drop,
     requires desk { d.old.desk ≡ desk.now.id }
     requires crew { IsCrew desk.now.id messages.now (crew_of started.old.items) }
     requires somewhere { IsSomewhere (O.stands outlet.old) d.old }
@@ -90,7 +90,7 @@ fn play_rounds<M: Machine + Send, O: Outlet, G: Gate, R: Wait + AllocGlobal>(
     outlet: &mut O,
 ) -> Result<(), ShelfError>
 where
-    M::FrameData: Send + Drop,
+    M::Picture: Send + Drop,
     requires desk { d.old.desk ≡ desk.now.id }
     requires crew { IsCrew desk.now.id messages.now (crew_of started.old.items) }
     requires begun { HasBegunPlay paced (O.stands outlet.old) d.old }
@@ -121,7 +121,7 @@ fn play_to_over<M: Machine + Send, O: Outlet, G: Gate, R: Wait + AllocGlobal>(
     outlet: &mut O,
 ) -> Result<(), ShelfError>
 where
-    M::FrameData: Send + Drop,
+    M::Picture: Send + Drop,
     requires desk { d.old.desk ≡ desk.now.id }
     requires crew { IsCrew desk.now.id messages.now (crew_of started.old.items) }
     requires begun { HasBegunPlay paced (O.stands outlet.old) d.old }
@@ -155,7 +155,7 @@ pub(crate) fn play<M: Machine + Send, O: Outlet, G: Gate, R: Wait + AllocGlobal>
     outlet: &mut O,
 ) -> Result<(), ShelfError>
 where
-    M::FrameData: Send + Drop,
+    M::Picture: Send + Drop,
     requires desk { d.old.desk ≡ desk.now.id }
     requires crew { IsCrew desk.now.id messages.now (crew_of started.old.items) }
     requires begun { HasBegunPlay paced (O.stands outlet.old) d.old }

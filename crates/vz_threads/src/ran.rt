@@ -38,7 +38,7 @@ fn take_rest<M: Machine + Send, G: Gate, R: Wait + AllocGlobal>(
     played: Result<(), ShelfError>,
 ) -> Result<(), ShelfError>
 where
-    M::FrameData: Send,
+    M::Picture: Send,
     requires { IsCrew desk.now.id messages.now ends.old.items }
     ensures works { CrewWorksOn ends.old.items ends.new.items }
     ensures all { OnOk result (All (HasTakenAll messages.now) ends.new.items) }
@@ -65,7 +65,7 @@ pub(crate) fn run_opened<M: Machine + Send + Drop, O: Outlet + Drop, G: Gate + S
     outlet: O,
 ) -> Ran<M, O>
 where
-    M::FrameData: Send + Drop,
+    M::Picture: Send + Drop,
     R: Threads + Wait + AllocGlobal + Sync,
     requires opened { (k : Setup) × IsReady k (O.stands outlet) × IsOpened k.plan messages.now
         opened.desk.id opened.desk.callers opened.ends.items opened.display }

@@ -20,7 +20,7 @@ use vz_player::Turn;
 /// The display's next step, as it is named to a gate.
 fn next_turn<M: Machine + Send>(d: &DisplayEnd<M, Halt>) -> Turn
 where
-    M::FrameData: Send,
+    M::Picture: Send,
 {
     let taken = d
         .begins()
@@ -40,7 +40,7 @@ pub(crate) fn begin_frame<M: Machine + Send, G: Gate, R: Wait + AllocGlobal>(
     d: &mut DisplayEnd<M, Halt>,
 ) -> Result<(), Memory>
 where
-    M::FrameData: Send,
+    M::Picture: Send,
     requires { d.old.desk ≡ desk.now.id }
     ensures same { IsSameOwner d.old d.new }
     ensures made { OnOk result (Displays d.old d.new event.Begin) }
@@ -64,7 +64,7 @@ pub(crate) fn tell_over<M: Machine + Send, G: Gate, R: Wait>(
     d: &mut DisplayEnd<M, Halt>,
 ) -> Result<(), Memory>
 where
-    M::FrameData: Send,
+    M::Picture: Send,
     requires { d.old.desk ≡ desk.now.id }
     ensures same { IsSameOwner d.old d.new }
     ensures made { OnOk result (Displays d.old d.new event.Over) }
@@ -89,7 +89,7 @@ fn pause<M: Machine + Send, R: Wait>(
     d: &mut DisplayEnd<M, Halt>,
 ) -> Result<(), Memory>
 where
-    M::FrameData: Send,
+    M::Picture: Send,
     requires { d.old.desk ≡ desk.now.id }
     ensures same { IsSameOwner d.old d.new }
     ensures none { MakesNone d.old d.new }
@@ -117,7 +117,7 @@ pub(crate) fn end_round<M: Machine + Send, O: Outlet, G: Gate, R: Wait + AllocGl
     outlet: &mut O,
 ) -> Result<(), ShelfError>
 where
-    M::FrameData: Send + Drop,
+    M::Picture: Send + Drop,
     requires desk { d.old.desk ≡ desk.now.id }
     requires somewhere { IsSomewhere (O.stands outlet.old) d.old }
     ensures same { IsSameOwner d.old d.new }
@@ -141,10 +141,10 @@ fn ask_drawing<M: Machine + Send, G: Gate, R: Wait + AllocGlobal>(
     d: &mut DisplayEnd<M, Halt>,
 ) -> Result<Drawing<M, Halt>, Memory>
 where
-    M::FrameData: Send,
+    M::Picture: Send,
     requires { d.old.desk ≡ desk.now.id }
     ensures same { IsSameOwner d.old d.new }
-    ensures drawing { IfOk result (λ x. IsDrawing M.FrameData.pictured d.old d.new x) }
+    ensures drawing { IfOk result (λ x. IsDrawing M.Picture.pictured d.old d.new x) }
     ensures none { OnErr result (MakesNone d.old d.new) }
 {
     let turn = next_turn(d);
@@ -165,7 +165,7 @@ pub(crate) fn show_drawing<M: Machine + Send, O: Outlet, G: Gate, R: Wait + Allo
     outlet: &mut O,
 ) -> Result<(), ShelfError>
 where
-    M::FrameData: Send + Drop,
+    M::Picture: Send + Drop,
     requires desk { d.old.desk ≡ desk.now.id }
     requires somewhere { IsSomewhere (O.stands outlet.old) d.old }
     ensures same { IsSameOwner d.old d.new }
@@ -198,7 +198,7 @@ fn end_frame<M: Machine + Send, G: Gate, R: Wait>(
     hold: Hold<M, Halt>,
 )
 where
-    M::FrameData: Send,
+    M::Picture: Send,
     requires end { d.old.desk ≡ desk.now.id }
     requires hold { hold ≡ desk.now.id }
     requires flies { d.old.totals.in_flight ≡ true }

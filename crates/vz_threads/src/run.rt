@@ -59,7 +59,7 @@ pub fn play_course<M: Machine + Send + Drop, F: Shelf, G: Gate + Sync, L: Ledger
     history: &mut List<Entry>,
 ) -> Result<Rest, ShelfError>
 where
-    M::FrameData: Drop + Send,
+    M::Picture: Drop + Send,
     R: Threads + Wait + AllocGlobal + Sync,
     requires opening { (M.state machine).world ≡ opening (M.state machine).plan }
     requires plan { IsPlan (M.state machine).plan }

@@ -32,7 +32,7 @@ pub(crate) fn play_tail<M: Machine + Drop, F: Shelf, G: Gate, L: Ledger>(
     steps: &mut Steps<L>,
 ) -> Result<(), ShelfError>
 where
-    M::FrameData: Drop,
+    M::Picture: Drop,
     requires going { player.old.stopped ≡ false }
     requires due { AllComeDue (world player.old.plan player.old.history) }
     requires size { player.old.plan.size ≡ file.size }
@@ -65,7 +65,7 @@ fn begin_awaited<M: Machine + Drop, F: Shelf, G: Gate, L: Ledger>(
     steps: &mut Steps<L>,
 ) -> Result<(), ShelfError>
 where
-    M::FrameData: Drop,
+    M::Picture: Drop,
     requires going { player.old.stopped ≡ false }
     requires due { AllComeDue (world player.old.plan player.old.history) }
     requires size { player.old.plan.size ≡ file.size }
@@ -99,7 +99,7 @@ fn play_show<M: Machine + Drop, F: Shelf, G: Gate, L: Ledger>(
     steps: &mut Steps<L>,
 ) -> Result<(), ShelfError>
 where
-    M::FrameData: Drop,
+    M::Picture: Drop,
     requires going { player.old.stopped ≡ false }
     requires size { player.old.plan.size ≡ file.size }
     requires sides { IsDisplaySize file.size }

@@ -33,7 +33,7 @@ impl<M: Machine + Send> Model for Hub<M> {
 
 impl<M: Machine + Send> Hub<M>
 where
-    M::FrameData: Send,
+    M::Picture: Send,
 {
     /// Makes a hub of a machine, and the passes of `n` callers, with the numbers from 0 on, in
     /// rising order. No caller has seen an entry. The only error is `Memory`, and then the
@@ -70,7 +70,7 @@ where
         event: Event,
     ) -> Result<Told, Memory>
     where
-        M::FrameData: Drop,
+        M::Picture: Drop,
         requires ours { IsAtRest self.now.id pass.old }
         requires client { ForSome pass.old.plan (λ p. NamesClient p event) }
         ensures rests { IsAtRest self.now.id pass.new }

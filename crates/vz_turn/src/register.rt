@@ -70,7 +70,7 @@ impl<M: Machine> Register<M> {
     /// of the plan.
     pub fn take(&mut self, alloc: Global, caller: u32, event: Event) -> Result<Told, Memory>
     where
-        M::FrameData: Drop,
+        M::Picture: Drop,
         requires client { NamesClient self.old.plan event }
         ensures ok { OnOk result (self.new ≡ registered_on self.old caller event) }
         ensures told { IfOk result (λ t. TellsNext self.old event t) }

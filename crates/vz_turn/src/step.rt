@@ -17,7 +17,7 @@ pub(crate) fn step_of<M: Machine>(
     event: Event,
 ) -> Result<Step, Memory>
 where
-    M::FrameData: Drop,
+    M::Picture: Drop,
     requires { NamesClient (M.state machine.old).plan event }
     ensures answer { IfOk result (λ s. Answers (M.state machine.old) event s) }
     ensures world { OnOk result (Goes (M.state machine.old) event (M.state machine.new)) }

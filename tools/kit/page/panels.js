@@ -15,19 +15,19 @@ const panels = {
   repaint() {
     const box = $("repaint"), place = lastAt(run.draws, now.entry);
     if (place < 0) { box.replaceChildren(note("No Draw came up to this entry.")); return; }
-    const [at, reply, rect, claims] = run.draws[place], parts = [];
+    const [at, reply, rect, claims, items] = run.draws[place], parts = [];
     parts.push(heading("Draw at entry " + (at + 1), reply));
     if (reply !== "drawn") parts.push(note(WHY_NOT[reply]));
-    if (reply === "drawn") this.claims(parts, rect, claims);
+    if (reply === "drawn") this.claims(parts, rect, claims, items);
     if (reply !== "drawn" && now.frame >= 0) {
       const drawn = run.drawn[now.frame];
       parts.push(heading("On the screen: frame " + (now.frame + 1), "drawn at entry " + (drawn[0] + 1)));
-      this.claims(parts, drawn[2], drawn[3]);
+      this.claims(parts, drawn[2], drawn[3], drawn[4]);
     }
     box.replaceChildren(...parts);
   },
 
-  claims(parts, rect, claims) {
+  claims(parts, rect, claims, [kept, gone]) {
     const [w, h] = run.size, n = run.drawn.findIndex(draw => draw[2] === rect), stale = run.stale[n];
     const share = r => (100 * r[2] * r[3] / (w * h)).toFixed(1) + " % of the display";
     parts.push(table(["", "claim", "rectangle"], claims.map(([kind, said, area]) =>
@@ -38,6 +38,8 @@ const panels = {
       hot(row([swatch(null, "stale"), "painted again in buffer " + (n % run.buffers + 1) + " of " + run.buffers + ": " +
         (n < run.buffers ? "its first use" : "the damages since its last use, frames " + (n - run.buffers + 2) + " to " + (n + 1)) +
         ", " + share(stale), element("span", "code", rectText(stale))]), stale)])));
+    parts.push(note(kept + (kept === 1 ? " item is painted" : " items are painted") + (gone === 0 ? "; none was removed." :
+      ", and " + gone + (gone === 1 ? " was" : " were") + " removed before, wholly behind an opaque one.")));
   },
 
   // ---------------------------------------------------------------- surfaces

@@ -22,19 +22,19 @@ returns-in_err-machine-clause-front g c =
     (none_played (demo_plan c.args.rounds) (demo_events c.args.rounds) c.args.history.now c.requires.empty)
 
 pub play_all-requires-clause-opening : goal.play_all-requires-clause-opening
-play_all-requires-clause-opening g c = its_world c.in_ok-machine.machine c.in_ok-plan.plan c.in_ok-machine.ensures
+play_all-requires-clause-opening g c = λ _ _. its_world c.in_ok-machine.machine c.in_ok-plan.plan c.in_ok-machine.ensures
 
 pub play_all-requires-clause-plan : goal.play_all-requires-clause-plan
-play_all-requires-clause-plan g c =
+play_all-requires-clause-plan g c = λ _ _.
     of_its_plan c.in_ok-machine.machine c.in_ok-plan.plan c.in_ok-machine.ensures IsPlan c.files.ensures.kept
 
 pub play_all-requires-clause-size : goal.play_all-requires-clause-size
-play_all-requires-clause-size g c =
+play_all-requires-clause-size g c = λ _ _.
     let opened = its_plan c.in_ok-machine.machine c.in_ok-plan.plan c.in_ok-machine.ensures in
     ap (λ (p : Plan). p.size) opened ∙ sym c.size-size.ensures.value
 
 pub play_all-requires-clause-named : goal.play_all-requires-clause-named
-play_all-requires-clause-named g c =
+play_all-requires-clause-named g c = λ _ _.
     let opened = its_plan c.in_ok-machine.machine c.in_ok-plan.plan c.in_ok-machine.ensures in
     let p = c.in_ok-machine.machine.plan in
     let es = c.deref.result.now in

@@ -9,16 +9,16 @@ use Rattle.viz_run.proofs.Takes.{points_shown, points_counted}
 use Rattle.viz_run.proofs.demo.play_all.Goals as goal
 
 pub new-player-requires-clause-files : goal.new-player-requires-clause-files
-new-player-requires-clause-files g c = c.requires.plan.few_files
+new-player-requires-clause-files g c = λ _ _. c.requires.plan.few_files
 
 pub new-player-requires-clause-sides : goal.new-player-requires-clause-sides
-new-player-requires-clause-sides g c = subst IsDisplaySize c.requires.size c.requires.plan.sizes
+new-player-requires-clause-sides g c = λ _ _. subst IsDisplaySize c.requires.size c.requires.plan.sizes
 
 pub take_all-requires-clause-going : goal.take_all-requires-clause-going
-take_all-requires-clause-going g c = ap (λ (x : Played). x.stopped) c.new-player.ensures
+take_all-requires-clause-going g c = λ _ _. ap (λ (x : Played). x.stopped) c.new-player.ensures
 
 pub take_all-requires-clause-named : goal.take_all-requires-clause-named
-take_all-requires-clause-named g c =
+take_all-requires-clause-named g c = λ _ _.
     subst (λ (p : Plan). All (NamesClient p) c.args.events.now) (sym (ap (λ (x : Played). x.plan) c.new-player.ensures)) c.requires.named
 
 pub returns-in-Ok-clause-painted : goal.returns-in-Ok-clause-painted

@@ -56,20 +56,20 @@ point_of-point-requires-clause-row g c =
     row_near w.width w.height w.schedule.now w.x w.y (texts w.files.now) c.requires.fits
 
 pub find_hit-requires-clause-opening : goal.find_hit-requires-clause-opening
-find_hit-requires-clause-opening g c = its_world c.in_ok-machine.machine c.in_ok-plan.field-0.plan c.in_ok-machine.ensures
+find_hit-requires-clause-opening g c = λ _ _. its_world c.in_ok-machine.machine c.in_ok-plan.field-0.plan c.in_ok-machine.ensures
 
 pub find_hit-requires-clause-files : goal.find_hit-requires-clause-files
-find_hit-requires-clause-files g c =
+find_hit-requires-clause-files g c = λ _ _.
     (of_its_plan c.in_ok-machine.machine c.in_ok-plan.field-0.plan c.in_ok-machine.ensures IsPlan c.files.ensures.kept).few_files
 
 pub find_hit-requires-clause-named : goal.find_hit-requires-clause-named
-find_hit-requires-clause-named g c =
+find_hit-requires-clause-named g c = λ _ _.
     let made = c.in_ok-plan.field-0.plan in
     of_its_plan c.in_ok-machine.machine made c.in_ok-machine.ensures (λ (p : Plan). All (NamesClient p) c.deref.result.now)
     (subst (All (NamesClient made)) (sym c.deref.ensures.value) c.in_ok-plan.ensures.named)
 
 pub find_hit-requires-clause-point : goal.find_hit-requires-clause-point
-find_hit-requires-clause-point g c =
+find_hit-requires-clause-point g c = λ _ _.
     let w = c.args.words.now in
     let opened = its_plan c.in_ok-machine.machine c.in_ok-plan.field-0.plan c.in_ok-machine.ensures in
     let size : c.in_ok-machine.machine.plan.size ≡ c.size_of-size.result = ap (λ (p : Plan). p.size) (opened ∙ c.in_ok-plan.ensures.accepted.1.plan) in

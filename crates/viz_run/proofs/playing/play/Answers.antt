@@ -27,7 +27,7 @@ returns-in_err-outputs-clause-begun g c =
     (g.F.Shelf.shelved c.args.shelf.now) (g.F.Shelf.shelved c.create_outputs.new.shelf) e.no_frames e.no_log e.others).begun
 
 pub show-requires-clause-open : goal.show-requires-clause-open
-show-requires-clause-open g c = c.in_ok-outputs.ensures.frames.writing
+show-requires-clause-open g c = λ _ _. c.in_ok-outputs.ensures.frames.writing
 
 pub returns-in_err-rest-clause-begun : goal.returns-in_err-rest-clause-begun
 returns-in_err-rest-clause-begun g c =

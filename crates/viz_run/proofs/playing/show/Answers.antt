@@ -13,23 +13,23 @@ use Rattle.viz_run.proofs.Takes.{points_counted}
 use Rattle.viz_run.proofs.playing.show.Goals as goal
 
 pub new-player-requires-clause-files : goal.new-player-requires-clause-files
-new-player-requires-clause-files g c = c.requires.plan.few_files
+new-player-requires-clause-files g c = λ _ _. c.requires.plan.few_files
 
 pub new-player-requires-clause-sides : goal.new-player-requires-clause-sides
-new-player-requires-clause-sides g c = subst IsDisplaySize c.requires.size c.requires.plan.sizes
+new-player-requires-clause-sides g c = λ _ _. subst IsDisplaySize c.requires.size c.requires.plan.sizes
 
 pub play_frames-requires-clause-going : goal.play_frames-requires-clause-going
-play_frames-requires-clause-going g c = ap (λ (x : Played). x.stopped) c.new-player.ensures
+play_frames-requires-clause-going g c = λ _ _. ap (λ (x : Played). x.stopped) c.new-player.ensures
 
 pub play_frames-requires-clause-named : goal.play_frames-requires-clause-named
-play_frames-requires-clause-named g c =
+play_frames-requires-clause-named g c = λ _ _.
     subst (λ (p : Plan). All (NamesClient p) c.args.events.now) (sym (ap (λ (x : Played). x.plan) c.new-player.ensures)) c.requires.named
 
 pub play_frames-requires-clause-size : goal.play_frames-requires-clause-size
-play_frames-requires-clause-size g c = ap (λ (x : Played). x.plan.size) c.new-player.ensures ∙ c.requires.size
+play_frames-requires-clause-size g c = λ _ _. ap (λ (x : Played). x.plan.size) c.new-player.ensures ∙ c.requires.size
 
 pub play_frames-requires-clause-sides : goal.play_frames-requires-clause-sides
-play_frames-requires-clause-sides g c = subst IsDisplaySize c.requires.size c.requires.plan.sizes
+play_frames-requires-clause-sides g c = λ _ _. subst IsDisplaySize c.requires.size c.requires.plan.sizes
 
 pub returns-in_err-rest-in-Ok-clause-front : goal.returns-in_err-rest-in-Ok-clause-front
 returns-in_err-rest-in-Ok-clause-front g c =

@@ -53,25 +53,25 @@ returns-in_err-plan-clause-input g c x this =
     (c.in_err-plan.ensures.input x (same_err _ (stop.Input x) c.from_residual.result c.from_residual.ensures.1 this))
 
 pub play-requires-clause-opening : goal.play-requires-clause-opening
-play-requires-clause-opening g c = its_world c.in_ok-machine.machine c.in_ok-plan.field-0.plan c.in_ok-machine.ensures
+play-requires-clause-opening g c = λ _ _. its_world c.in_ok-machine.machine c.in_ok-plan.field-0.plan c.in_ok-machine.ensures
 
 pub play-requires-clause-plan : goal.play-requires-clause-plan
-play-requires-clause-plan g c =
+play-requires-clause-plan g c = λ _ _.
     of_its_plan c.in_ok-machine.machine c.in_ok-plan.field-0.plan c.in_ok-machine.ensures IsPlan c.files.ensures.kept
 
 pub play-requires-clause-size : goal.play-requires-clause-size
-play-requires-clause-size g c =
+play-requires-clause-size g c = λ _ _.
     ap (λ (p : Plan). p.size)
     (its_plan c.in_ok-machine.machine c.in_ok-plan.field-0.plan c.in_ok-machine.ensures ∙ c.in_ok-plan.ensures.accepted.1.plan)
 
 pub play-requires-clause-named : goal.play-requires-clause-named
-play-requires-clause-named g c =
+play-requires-clause-named g c = λ _ _.
     let made = c.in_ok-plan.field-0.plan in
     of_its_plan c.in_ok-machine.machine made c.in_ok-machine.ensures (λ (p : Plan). All (NamesClient p) c.deref.result.now)
     (subst (All (NamesClient made)) (sym c.deref.ensures.value) c.in_ok-plan.ensures.named)
 
 pub play-requires-clause-apart : goal.play-requires-clause-apart
-play-requires-clause-apart g c =
+play-requires-clause-apart g c = λ _ _.
     let w = c.args.words.now in
     names_differ w.width w.height w.schedule.now w.frames.now w.log.now (texts w.files.now) c.requires.fits
 

@@ -1,13 +1,20 @@
-use Rattle.std.proofs.Common.{sym, subst, ◌∙◌, ◌≤◌, arith}
+use Rattle.std.proofs.Common.{ap, length, sym, subst, ◌∙◌, ◌≤◌, arith}
 use Rattle.std.proofs.lemmas.Int.{ints}
 use Rattle.vz_geom.proofs.Bounds.{of_full}
 use Rattle.vz_frame.specs.declared.blend.Blend.TheVariants.{Over}
+use Rattle.vz_occlude.proofs.Opaque_blocks.{blit_opaque}
 use Rattle.vz_occlude.proofs.Read_texels.{none_is, within, are_read, rows_read, span_read}
 use Rattle.vz_occlude.proofs.texels.is_opaque_blit.Goals as goal
 
 pub returns-then-is_empty : goal.returns-then-is_empty
 returns-then-is_empty c =
     sym (none_is c.args.area.now c.args.block.now c.args.tx.now c.args.ty.now c.is_empty.ensures.proper (sym c.is_empty.ensures.value ∙ c.if-is_empty.true))
+
+pub returns-then-is_opaque : goal.returns-then-is_opaque
+returns-then-is_opaque c =
+    let out = sym c.is_empty.ensures.value ∙ c.if-is_empty.false in
+    let full = ap length (sym c.pixels-count.ensures.value) ∙ c.pixels-count.ensures.counted in
+    sym (blit_opaque c.args.block.now (sym c.is_opaque.ensures ∙ c.if-is_opaque.true) full c.args.area.now c.args.tx.now c.args.ty.now 0 Over out (c.requires.inside 0 Over))
 
 pub overflow_cast-tx : goal.overflow_cast-tx
 overflow_cast-tx c =

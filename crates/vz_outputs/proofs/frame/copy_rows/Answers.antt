@@ -8,7 +8,7 @@ pub loop-k-preserved : goal.loop-k-preserved
 loop-k-preserved c =
     let r = c.requires in
     let k = c.loop-k.k in
-    let d = c.args.display.now in
+    let d = c.args.display.now.shown in
     let long = frame_long d c.args.width r.shows r.width in
     let here : k + 1 ≤ c.args.count = search rules in
     let rows : (k + 1) * (4 * c.args.width) ≤ c.args.count * (4 * c.args.width) = mul-le-mul_right (4 * c.args.width) here in

@@ -13,7 +13,7 @@ pub loop-y-init : goal.loop-y-init
 loop-y-init g c = (
   omega arith,
   refl,
-  subst (λ (l : List ℕ). HasAdded l c.args.slot (g.F.Shelf.shelved c.args.shelf.now) (g.F.Shelf.shelved c.args.shelf.now)) (sym (no_rows c.args.width (frame_on c.args.display.now)))
+  subst (λ (l : List ℕ). HasAdded l c.args.slot (g.F.Shelf.shelved c.args.shelf.now) (g.F.Shelf.shelved c.args.shelf.now)) (sym (no_rows c.args.width (frame_on c.args.display.now.shown)))
       (none_added c.args.slot (g.F.Shelf.shelved c.args.shelf.now) c.requires.open),
 )
 
@@ -22,7 +22,7 @@ write_rows-requires-clause-open g c = still_open c.args.slot _ _ (g.F.Shelf.shel
 
 pub returns-in_err-write_rows-clause-begun : goal.returns-in_err-write_rows-clause-begun
 returns-in_err-write_rows-clause-begun g c =
-    let d = c.args.display.now in
+    let d = c.args.display.now.shown in
     let r = c.requires in
     let within : c.loop-y.y + c.min-count.result ≤ c.args.height = search rules in
     let left = c.args.height - (c.loop-y.y + c.min-count.result) in
@@ -47,7 +47,7 @@ pub loop-y-smaller : goal.loop-y-smaller
 loop-y-smaller g c =
     let r = c.requires in
     let here : c.loop-y.y < c.args.height = search rules in
-    let some : 0 < c.min-count.result = some_rows (length c.args.piece.now) c.args.width (c.args.height - c.loop-y.y) _ (wide_is c.args.display.now c.args.width r.shows r.width) r.some (omega (arith, here)) c.min-count.ensures in
+    let some : 0 < c.min-count.result = some_rows (length c.args.piece.now) c.args.width (c.args.height - c.loop-y.y) _ (wide_is c.args.display.now.shown c.args.width r.shows r.width) r.some (omega (arith, here)) c.min-count.ensures in
     let within : c.loop-y.y + c.min-count.result ≤ c.args.height = search rules in
     fewer c.args.height c.loop-y.y c.min-count.result some within
 
@@ -57,12 +57,12 @@ loop-y-preserved g c =
       within,
       c.in_ok-write_rows.ensures.bytes ∙ c.loop-y.invariant.1,
       more_added c.args.slot _ _ _ _ c.loop-y.invariant.2 _ _ c.in_ok-write_rows.ensures.appended c.in_ok-write_rows.ensures.others (ran_one tt _ _ c.in_ok-write_rows.ensures.behaves)
-          (bytes_then_bytes c.args.width c.loop-y.y c.min-count.result (frame_on c.args.display.now)),
+          (bytes_then_bytes c.args.width c.loop-y.y c.min-count.result (frame_on c.args.display.now.shown)),
     )
 
 pub returns-clause-appended : goal.returns-clause-appended
 returns-clause-appended g c =
-    let d = c.args.display.now in
+    let d = c.args.display.now.shown in
     let r = c.requires in
     let end : c.loop-y.y ≡ c.args.height = search rules in
     let all : flat_map pixel_bytes (rows_in c.args.width 0 c.loop-y.y (frame_on d)) ≡ flat_map pixel_bytes (frame_on d) =

@@ -10,7 +10,7 @@ abbrev pub invariant-loop-y : goal.invariant-loop-y
 invariant-loop-y g l =
     (l.y ≤ l.height)
     × (length l.piece ≡ length l.initial.piece)
-    × HasAdded (flat_map pixel_bytes (rows_in l.width 0 l.y (frame_on l.display))) l.slot (g.F.Shelf.shelved l.initial.shelf) (g.F.Shelf.shelved l.shelf)
+    × HasAdded (flat_map pixel_bytes (rows_in l.width 0 l.y (frame_on l.display.shown))) l.slot (g.F.Shelf.shelved l.initial.shelf) (g.F.Shelf.shelved l.shelf)
 
 -- the rows that are left
 abbrev pub decreases-loop-y : goal.decreases-loop-y

@@ -12,18 +12,18 @@ pub loop-event-init : goal.loop-event-init
 loop-event-init g c = none_played c.args.file.slot c.args.player.now c.args.steps.now (g.F.Shelf.shelved c.args.shelf.now) c.requires.open
 
 pub play_one-requires-clause-going : goal.play_one-requires-clause-going
-play_one-requires-clause-going g c =
+play_one-requires-clause-going g c = λ κs within.
     let here : c.loop-event.event-index < length c.args.events.now = search rules in
     stopped_stays c.args.file.slot c.args.events.now c.loop-event.event-index (Client 0) here _ _ _ _ _ _ c.loop-event.invariant ∙ c.requires.going
 
 pub play_one-requires-clause-named : goal.play_one-requires-clause-named
-play_one-requires-clause-named g c =
+play_one-requires-clause-named g c = λ κs within.
     let here : c.loop-event.event-index < length c.args.events.now = search rules in
     let is = plan_stays c.args.file.slot c.args.events.now c.loop-event.event-index (Client 0) here _ _ _ _ _ _ c.loop-event.invariant in
     subst (λ p. NamesClient p (get_or c.args.events.now c.loop-event.event-index (Client 0))) (sym is) (c.requires.named c.loop-event.event-index (Client 0) here)
 
 pub play_one-requires-clause-size : goal.play_one-requires-clause-size
-play_one-requires-clause-size g c =
+play_one-requires-clause-size g c = λ κs within.
     let here : c.loop-event.event-index < length c.args.events.now = search rules in
     ap (λ p. p.size) (plan_stays c.args.file.slot c.args.events.now c.loop-event.event-index (Client 0) here _ _ _ _ _ _ c.loop-event.invariant) ∙ c.requires.size
 

@@ -15,7 +15,7 @@ loop-y-preserved c =
     let next = next_row c.args.size c.loop-y.y-bits c.requires.sides c.loop-y.invariant.0 c.loop-y-test.true in (
       next.1,
       next.2,
-      λ frame is. bytes_more c.args.size c.args.display.now frame _ _ c.args.frames.now.items c.loop-y.frames.items c.push_row.new.frames.items c.loop-y.invariant.0 next.0 is (c.loop-y.invariant.2 frame is) c.in_ok-push_row.ensures.row,
+      λ frame is. bytes_more c.args.size c.args.display.now.shown frame _ _ c.args.frames.now.items c.loop-y.frames.items c.push_row.new.frames.items c.loop-y.invariant.0 next.0 is (c.loop-y.invariant.2 frame is) c.in_ok-push_row.ensures.row,
     )
 
 pub returns : goal.returns

@@ -9,4 +9,4 @@ use Rattle.vz_play.proofs.frame.push_frame.Given as goal
 abbrev pub invariant-loop-y : goal.invariant-loop-y
 invariant-loop-y l =
     (pos 0 ≤ℤ l.y) × (l.y ≤ℤ l.fn.size.h)
-    × ((frame : List Colour) → current l.display ≡ buffer_with l.fn.size frame → l.frames.items ≡ l.fn.frames.items ++ flat_map pixel_bytes (take (nat_abs l.y * nat_abs l.fn.size.w) frame))
+    × ((frame : List Colour) → current l.display.shown ≡ buffer_with l.fn.size frame → l.frames.items ≡ l.fn.frames.items ++ flat_map pixel_bytes (take (nat_abs l.y * nat_abs l.fn.size.w) frame))

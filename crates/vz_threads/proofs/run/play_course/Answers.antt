@@ -21,44 +21,44 @@ returns-in_default-clause-legal g c = subst (Legal (g.M.Machine.state c.args.mac
 pub run_opened-machine-requires-clause-opened : goal.run_opened-machine-requires-clause-opened
 run_opened-machine-requires-clause-opened g c κs within =
     let k : Setup = record { plan = (g.M.Machine.state c.args.machine).plan; buffers = c.args.course.buffers } in
-    (k, is_ready k _ (record { sides = c.requires.plan.sizes; size = c.requires.size; some = c.requires.from; opened = c.requires.open }) c.new.ensures, c.in-Ok.ensures.opened)
+    (k, is_ready k _ (record { sides = c.requires.plan.sizes; size = c.requires.size; some = c.requires.from; opened = c.requires.open }) c.new.ensures.shown, c.in-Ok.ensures.opened)
 
 pub finish_run-requires-clause-plan : goal.finish_run-requires-clause-plan
-finish_run-requires-clause-plan g c =
+finish_run-requires-clause-plan g c = λ _ _.
     let k : Setup = record { plan = (g.M.Machine.state c.args.machine).plan; buffers = c.args.course.buffers } in
     subst IsPlan (sym (c.run_opened-machine.ensures.plan k c.in-Ok.ensures.opened)) c.requires.plan
 
 pub finish_run-requires-clause-legal : goal.finish_run-requires-clause-legal
-finish_run-requires-clause-legal g c =
+finish_run-requires-clause-legal g c = λ _ _.
     let k : Setup = record { plan = (g.M.Machine.state c.args.machine).plan; buffers = c.args.course.buffers } in
-    let run = c.run_opened-machine.ensures.run k (is_ready k _ (record { sides = c.requires.plan.sizes; size = c.requires.size; some = c.requires.from; opened = c.requires.open }) c.new.ensures) c.in-Ok.ensures.opened in
+    let run = c.run_opened-machine.ensures.run k (is_ready k _ (record { sides = c.requires.plan.sizes; size = c.requires.size; some = c.requires.from; opened = c.requires.open }) c.new.ensures.shown) c.in-Ok.ensures.opened in
     subst (λ (p : Plan). Legal p c.run_opened-machine.result.history.list) (sym (c.run_opened-machine.ensures.plan k c.in-Ok.ensures.opened)) run.legal
 
 pub finish_run-requires-clause-display : goal.finish_run-requires-clause-display
-finish_run-requires-clause-display g c =
+finish_run-requires-clause-display g c = λ _ _.
     let k : Setup = record { plan = (g.M.Machine.state c.args.machine).plan; buffers = c.args.course.buffers } in
-    let run = c.run_opened-machine.ensures.run k (is_ready k _ (record { sides = c.requires.plan.sizes; size = c.requires.size; some = c.requires.from; opened = c.requires.open }) c.new.ensures) c.in-Ok.ensures.opened in
+    let run = c.run_opened-machine.ensures.run k (is_ready k _ (record { sides = c.requires.plan.sizes; size = c.requires.size; some = c.requires.from; opened = c.requires.open }) c.new.ensures.shown) c.in-Ok.ensures.opened in
     let e = c.run_opened-machine.ensures.plan k c.in-Ok.ensures.opened in
     let w = whole_of k _ _ _ _ _ _ _ run c.in-Ok-played.is in
     w.shown.display ∙ ap (λ (p : Plan). display_at p c.run_opened-machine.result.history.list c.args.course.buffers) (sym e)
 
 pub finish_run-requires-clause-due : goal.finish_run-requires-clause-due
-finish_run-requires-clause-due g c =
+finish_run-requires-clause-due g c = λ _ _.
     let k : Setup = record { plan = (g.M.Machine.state c.args.machine).plan; buffers = c.args.course.buffers } in
-    let run = c.run_opened-machine.ensures.run k (is_ready k _ (record { sides = c.requires.plan.sizes; size = c.requires.size; some = c.requires.from; opened = c.requires.open }) c.new.ensures) c.in-Ok.ensures.opened in
+    let run = c.run_opened-machine.ensures.run k (is_ready k _ (record { sides = c.requires.plan.sizes; size = c.requires.size; some = c.requires.from; opened = c.requires.open }) c.new.ensures.shown) c.in-Ok.ensures.opened in
     let e = c.run_opened-machine.ensures.plan k c.in-Ok.ensures.opened in
     let w = whole_of k _ _ _ _ _ _ _ run c.in-Ok-played.is in
     subst (λ (p : Plan). AllComeDue (world p c.run_opened-machine.result.history.list)) (sym e) (comes_due k _ _ _ _ _ (record { sides = c.requires.plan.sizes; size = c.requires.size; some = c.requires.from; opened = c.requires.open }) run.legal w c.requires.plan c.requires.rounds)
 
 pub finish_run-requires-clause-size : goal.finish_run-requires-clause-size
-finish_run-requires-clause-size g c =
+finish_run-requires-clause-size g c = λ _ _.
     let k : Setup = record { plan = (g.M.Machine.state c.args.machine).plan; buffers = c.args.course.buffers } in
     ap (λ (p : Plan). p.size) (c.run_opened-machine.ensures.plan k c.in-Ok.ensures.opened) ∙ c.requires.size
 
 pub finish_run-requires-clause-open : goal.finish_run-requires-clause-open
-finish_run-requires-clause-open g c =
+finish_run-requires-clause-open g c = λ _ _.
     let k : Setup = record { plan = (g.M.Machine.state c.args.machine).plan; buffers = c.args.course.buffers } in
-    let run = c.run_opened-machine.ensures.run k (is_ready k _ (record { sides = c.requires.plan.sizes; size = c.requires.size; some = c.requires.from; opened = c.requires.open }) c.new.ensures) c.in-Ok.ensures.opened in
+    let run = c.run_opened-machine.ensures.run k (is_ready k _ (record { sides = c.requires.plan.sizes; size = c.requires.size; some = c.requires.from; opened = c.requires.open }) c.new.ensures.shown) c.in-Ok.ensures.opened in
     let e = c.run_opened-machine.ensures.plan k c.in-Ok.ensures.opened in
     let w = whole_of k _ _ _ _ _ _ _ run c.in-Ok-played.is in
     open_still k _ _ _ _ _ (record { sides = c.requires.plan.sizes; size = c.requires.size; some = c.requires.from; opened = c.requires.open }) run.legal w
@@ -66,7 +66,7 @@ finish_run-requires-clause-open g c =
 pub returns-in-Ok-played-clause-run : goal.returns-in-Ok-played-clause-run
 returns-in-Ok-played-clause-run g c =
     let k : Setup = record { plan = (g.M.Machine.state c.args.machine).plan; buffers = c.args.course.buffers } in
-    let run = c.run_opened-machine.ensures.run k (is_ready k _ (record { sides = c.requires.plan.sizes; size = c.requires.size; some = c.requires.from; opened = c.requires.open }) c.new.ensures) c.in-Ok.ensures.opened in
+    let run = c.run_opened-machine.ensures.run k (is_ready k _ (record { sides = c.requires.plan.sizes; size = c.requires.size; some = c.requires.from; opened = c.requires.open }) c.new.ensures.shown) c.in-Ok.ensures.opened in
     let e = c.run_opened-machine.ensures.plan k c.in-Ok.ensures.opened in
     let w = whole_of k _ _ _ _ _ _ _ run c.in-Ok-played.is in
     let good = subst (λ (p : Plan). Legal p c.finish_run.new.history) e c.finish_run.ensures.legal in
@@ -77,14 +77,14 @@ returns-in-Ok-played-clause-run g c =
 pub returns-in-Ok-played-clause-rest : goal.returns-in-Ok-played-clause-rest
 returns-in-Ok-played-clause-rest g c =
     let k : Setup = record { plan = (g.M.Machine.state c.args.machine).plan; buffers = c.args.course.buffers } in
-    let run = c.run_opened-machine.ensures.run k (is_ready k _ (record { sides = c.requires.plan.sizes; size = c.requires.size; some = c.requires.from; opened = c.requires.open }) c.new.ensures) c.in-Ok.ensures.opened in
+    let run = c.run_opened-machine.ensures.run k (is_ready k _ (record { sides = c.requires.plan.sizes; size = c.requires.size; some = c.requires.from; opened = c.requires.open }) c.new.ensures.shown) c.in-Ok.ensures.opened in
     let e = c.run_opened-machine.ensures.plan k c.in-Ok.ensures.opened in
     subst (λ (p : Plan). IfOk c.finish_run.result (λ rest. rest ≡ rest_of p c.finish_run.new.history)) e c.finish_run.ensures.rest
 
 pub returns-in-Ok-played-clause-written : goal.returns-in-Ok-played-clause-written
 returns-in-Ok-played-clause-written g c =
     let k : Setup = record { plan = (g.M.Machine.state c.args.machine).plan; buffers = c.args.course.buffers } in
-    let run = c.run_opened-machine.ensures.run k (is_ready k _ (record { sides = c.requires.plan.sizes; size = c.requires.size; some = c.requires.from; opened = c.requires.open }) c.new.ensures) c.in-Ok.ensures.opened in
+    let run = c.run_opened-machine.ensures.run k (is_ready k _ (record { sides = c.requires.plan.sizes; size = c.requires.size; some = c.requires.from; opened = c.requires.open }) c.new.ensures.shown) c.in-Ok.ensures.opened in
     let e = c.run_opened-machine.ensures.plan k c.in-Ok.ensures.opened in
     let w = whole_of k _ _ _ _ _ _ _ run c.in-Ok-played.is in
     let here : c.shelf-1.given.0 ≡ c.finish_run.new.shelf = c.shelf-1.given.1 (ap (λ (x : Fixed). x.shelf) (sym w.shown.fixed)) in
@@ -97,7 +97,7 @@ returns-in-Ok-played-clause-written g c =
 pub returns-in-Ok-played-clause-counted : goal.returns-in-Ok-played-clause-counted
 returns-in-Ok-played-clause-counted g c =
     let k : Setup = record { plan = (g.M.Machine.state c.args.machine).plan; buffers = c.args.course.buffers } in
-    let run = c.run_opened-machine.ensures.run k (is_ready k _ (record { sides = c.requires.plan.sizes; size = c.requires.size; some = c.requires.from; opened = c.requires.open }) c.new.ensures) c.in-Ok.ensures.opened in
+    let run = c.run_opened-machine.ensures.run k (is_ready k _ (record { sides = c.requires.plan.sizes; size = c.requires.size; some = c.requires.from; opened = c.requires.open }) c.new.ensures.shown) c.in-Ok.ensures.opened in
     let e = c.run_opened-machine.ensures.plan k c.in-Ok.ensures.opened in
     let w = whole_of k _ _ _ _ _ _ _ run c.in-Ok-played.is in
     let here : c.steps-1.given.0 ≡ c.finish_run.new.steps = c.steps-1.given.1 (ap (λ (x : Fixed). x.steps) (sym w.shown.fixed)) in
@@ -108,14 +108,14 @@ returns-in-Ok-played-clause-counted g c =
 pub returns-in-Ok-played-clause-legal : goal.returns-in-Ok-played-clause-legal
 returns-in-Ok-played-clause-legal g c =
     let k : Setup = record { plan = (g.M.Machine.state c.args.machine).plan; buffers = c.args.course.buffers } in
-    let run = c.run_opened-machine.ensures.run k (is_ready k _ (record { sides = c.requires.plan.sizes; size = c.requires.size; some = c.requires.from; opened = c.requires.open }) c.new.ensures) c.in-Ok.ensures.opened in
+    let run = c.run_opened-machine.ensures.run k (is_ready k _ (record { sides = c.requires.plan.sizes; size = c.requires.size; some = c.requires.from; opened = c.requires.open }) c.new.ensures.shown) c.in-Ok.ensures.opened in
     let e = c.run_opened-machine.ensures.plan k c.in-Ok.ensures.opened in
     subst (λ (p : Plan). Legal p c.finish_run.new.history) e c.finish_run.ensures.legal
 
 pub returns-in-Ok-played-clause-begun : goal.returns-in-Ok-played-clause-begun
 returns-in-Ok-played-clause-begun g c =
     let k : Setup = record { plan = (g.M.Machine.state c.args.machine).plan; buffers = c.args.course.buffers } in
-    let run = c.run_opened-machine.ensures.run k (is_ready k _ (record { sides = c.requires.plan.sizes; size = c.requires.size; some = c.requires.from; opened = c.requires.open }) c.new.ensures) c.in-Ok.ensures.opened in
+    let run = c.run_opened-machine.ensures.run k (is_ready k _ (record { sides = c.requires.plan.sizes; size = c.requires.size; some = c.requires.from; opened = c.requires.open }) c.new.ensures.shown) c.in-Ok.ensures.opened in
     let e = c.run_opened-machine.ensures.plan k c.in-Ok.ensures.opened in
     let w = whole_of k _ _ _ _ _ _ _ run c.in-Ok-played.is in
     let here : c.shelf-1.given.0 ≡ c.finish_run.new.shelf = c.shelf-1.given.1 (ap (λ (x : Fixed). x.shelf) (sym w.shown.fixed)) in
@@ -127,7 +127,7 @@ returns-in-Ok-played-clause-begun g c =
 pub returns-in-Ok-played-clause-others : goal.returns-in-Ok-played-clause-others
 returns-in-Ok-played-clause-others g c =
     let k : Setup = record { plan = (g.M.Machine.state c.args.machine).plan; buffers = c.args.course.buffers } in
-    let run = c.run_opened-machine.ensures.run k (is_ready k _ (record { sides = c.requires.plan.sizes; size = c.requires.size; some = c.requires.from; opened = c.requires.open }) c.new.ensures) c.in-Ok.ensures.opened in
+    let run = c.run_opened-machine.ensures.run k (is_ready k _ (record { sides = c.requires.plan.sizes; size = c.requires.size; some = c.requires.from; opened = c.requires.open }) c.new.ensures.shown) c.in-Ok.ensures.opened in
     let e = c.run_opened-machine.ensures.plan k c.in-Ok.ensures.opened in
     let w = whole_of k _ _ _ _ _ _ _ run c.in-Ok-played.is in
     let here : c.shelf-1.given.0 ≡ c.finish_run.new.shelf = c.shelf-1.given.1 (ap (λ (x : Fixed). x.shelf) (sym w.shown.fixed)) in
@@ -136,7 +136,7 @@ returns-in-Ok-played-clause-others g c =
 pub returns-in-Ok-played-clause-behaves : goal.returns-in-Ok-played-clause-behaves
 returns-in-Ok-played-clause-behaves g c =
     let k : Setup = record { plan = (g.M.Machine.state c.args.machine).plan; buffers = c.args.course.buffers } in
-    let run = c.run_opened-machine.ensures.run k (is_ready k _ (record { sides = c.requires.plan.sizes; size = c.requires.size; some = c.requires.from; opened = c.requires.open }) c.new.ensures) c.in-Ok.ensures.opened in
+    let run = c.run_opened-machine.ensures.run k (is_ready k _ (record { sides = c.requires.plan.sizes; size = c.requires.size; some = c.requires.from; opened = c.requires.open }) c.new.ensures.shown) c.in-Ok.ensures.opened in
     let e = c.run_opened-machine.ensures.plan k c.in-Ok.ensures.opened in
     let w = whole_of k _ _ _ _ _ _ _ run c.in-Ok-played.is in
     let here : c.shelf-1.given.0 ≡ c.finish_run.new.shelf = c.shelf-1.given.1 (ap (λ (x : Fixed). x.shelf) (sym w.shown.fixed)) in
@@ -145,13 +145,13 @@ returns-in-Ok-played-clause-behaves g c =
 pub returns-in-Err-clause-legal : goal.returns-in-Err-clause-legal
 returns-in-Err-clause-legal g c =
     let k : Setup = record { plan = (g.M.Machine.state c.args.machine).plan; buffers = c.args.course.buffers } in
-    let run = c.run_opened-machine.ensures.run k (is_ready k _ (record { sides = c.requires.plan.sizes; size = c.requires.size; some = c.requires.from; opened = c.requires.open }) c.new.ensures) c.in-Ok.ensures.opened in
+    let run = c.run_opened-machine.ensures.run k (is_ready k _ (record { sides = c.requires.plan.sizes; size = c.requires.size; some = c.requires.from; opened = c.requires.open }) c.new.ensures.shown) c.in-Ok.ensures.opened in
     subst (Legal k.plan) (sym c.into_list.ensures) run.legal
 
 pub returns-in-Err-clause-begun : goal.returns-in-Err-clause-begun
 returns-in-Err-clause-begun g c =
     let k : Setup = record { plan = (g.M.Machine.state c.args.machine).plan; buffers = c.args.course.buffers } in
-    let run = c.run_opened-machine.ensures.run k (is_ready k _ (record { sides = c.requires.plan.sizes; size = c.requires.size; some = c.requires.from; opened = c.requires.open }) c.new.ensures) c.in-Ok.ensures.opened in
+    let run = c.run_opened-machine.ensures.run k (is_ready k _ (record { sides = c.requires.plan.sizes; size = c.requires.size; some = c.requires.from; opened = c.requires.open }) c.new.ensures.shown) c.in-Ok.ensures.opened in
     let cut = cut_of k _ _ _ _ _ _ _ run c.in-Err.is in
     let here = c.in-Err.shelf-in-Err-played-1-own.given.1 (ap (λ (x : Fixed). x.shelf) (sym cut.fixed)) in
     subst (λ v. AppendsFront (frames_of k.plan c.into_list.result k.buffers) ((g.F.Shelf.shelved c.args.shelf.now).name c.args.file.slot) (g.F.Shelf.shelved c.args.shelf.now) (g.F.Shelf.shelved v)) (sym here)
@@ -160,7 +160,7 @@ returns-in-Err-clause-begun g c =
 pub returns-in-Err-clause-others : goal.returns-in-Err-clause-others
 returns-in-Err-clause-others g c =
     let k : Setup = record { plan = (g.M.Machine.state c.args.machine).plan; buffers = c.args.course.buffers } in
-    let run = c.run_opened-machine.ensures.run k (is_ready k _ (record { sides = c.requires.plan.sizes; size = c.requires.size; some = c.requires.from; opened = c.requires.open }) c.new.ensures) c.in-Ok.ensures.opened in
+    let run = c.run_opened-machine.ensures.run k (is_ready k _ (record { sides = c.requires.plan.sizes; size = c.requires.size; some = c.requires.from; opened = c.requires.open }) c.new.ensures.shown) c.in-Ok.ensures.opened in
     let cut = cut_of k _ _ _ _ _ _ _ run c.in-Err.is in
     let here = c.in-Err.shelf-in-Err-played-1-own.given.1 (ap (λ (x : Fixed). x.shelf) (sym cut.fixed)) in
     subst (λ v. KeepsOthers ((g.F.Shelf.shelved c.args.shelf.now).name c.args.file.slot) (g.F.Shelf.shelved c.args.shelf.now) (g.F.Shelf.shelved v)) (sym here) cut.others
@@ -168,7 +168,7 @@ returns-in-Err-clause-others g c =
 pub returns-in-Err-clause-behaves : goal.returns-in-Err-clause-behaves
 returns-in-Err-clause-behaves g c =
     let k : Setup = record { plan = (g.M.Machine.state c.args.machine).plan; buffers = c.args.course.buffers } in
-    let run = c.run_opened-machine.ensures.run k (is_ready k _ (record { sides = c.requires.plan.sizes; size = c.requires.size; some = c.requires.from; opened = c.requires.open }) c.new.ensures) c.in-Ok.ensures.opened in
+    let run = c.run_opened-machine.ensures.run k (is_ready k _ (record { sides = c.requires.plan.sizes; size = c.requires.size; some = c.requires.from; opened = c.requires.open }) c.new.ensures.shown) c.in-Ok.ensures.opened in
     let cut = cut_of k _ _ _ _ _ _ _ run c.in-Err.is in
     let here = c.in-Err.shelf-in-Err-played-1-own.given.1 (ap (λ (x : Fixed). x.shelf) (sym cut.fixed)) in
     subst (λ v. Behaves (g.F.Shelf.shelved c.args.shelf.now) (g.F.Shelf.shelved v) (Err c.in-Err.error)) (sym here) (cut_behaves c.in-Err.error (g.F.Shelf.shelved c.args.shelf.now) (g.F.Shelf.shelved c.run_opened-machine.result.outlet.shelf.now) cut.behaves)

@@ -21,15 +21,15 @@ returns-then-not-ends_drawn-clause-show g c =
     show_alone c.args.player.now c.play_frames.new.player c.ends_drawn.result c.in_ok-play_frames.ensures.played (λ h e at. c.ends_drawn.ensures h e (c.history.ensures.value ∙ at)) none
 
 pub play_frames-requires-2-clause-going : goal.play_frames-requires-2-clause-going
-play_frames-requires-2-clause-going g c =
+play_frames-requires-2-clause-going g c = λ _ _.
     ap (λ p. p.stopped) c.in_ok-play_frames.ensures.played ∙ (stopped_all c.args.player.now (Draw ∷ []) ∙ c.requires.going)
 
 pub play_frames-requires-2-clause-size : goal.play_frames-requires-2-clause-size
-play_frames-requires-2-clause-size g c =
+play_frames-requires-2-clause-size g c = λ _ _.
     ap (λ p. p.plan.size) c.in_ok-play_frames.ensures.played ∙ (ap (λ p. p.size) (plan_all c.args.player.now (Draw ∷ [])) ∙ c.requires.size)
 
 pub play_frames-requires-2-clause-open : goal.play_frames-requires-2-clause-open
-play_frames-requires-2-clause-open g c = c.in_ok-play_frames.ensures.behaves.call.slots c.args.file.slot Writing c.requires.open
+play_frames-requires-2-clause-open g c = λ _ _. c.in_ok-play_frames.ensures.behaves.call.slots c.args.file.slot Writing c.requires.open
 
 pub returns-in_err-play_frames-2-clause-stops : goal.returns-in_err-play_frames-2-clause-stops
 returns-in_err-play_frames-2-clause-stops g c =

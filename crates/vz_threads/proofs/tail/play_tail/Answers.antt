@@ -2,8 +2,13 @@ use Rattle.vz_outside.proofs.Calls.{ran_one}
 use Rattle.vz_outputs.specs.Taken.{AddsFramesFront}
 use Rattle.vz_outputs.proofs.Adding.{others_kept}
 use Rattle.vz_outputs.proofs.Behaving.{on_err, behaves_at, then_behaves}
+use Rattle.vz_outside.specs.Shelved.{Writing}
 use Rattle.vz_threads.proofs.Tailing.{one_written, then_written, all_written, front_written}
 use Rattle.vz_threads.proofs.tail.play_tail.Goals as goal
+
+pub play_show-requires-clause-open : goal.play_show-requires-clause-open
+play_show-requires-clause-open g c = λ κs within.
+    c.in_ok-begin_awaited.ensures.behaves.call.slots c.args.file.slot Writing c.requires.open
 
 pub returns-in_err-play_show-clause-begun : goal.returns-in_err-play_show-clause-begun
 returns-in_err-play_show-clause-begun g c =

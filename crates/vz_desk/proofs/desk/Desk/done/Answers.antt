@@ -1,3 +1,4 @@
+use denote.Param.Send.{param_send}
 use Rattle.std.proofs.Common.{◌+◌, arith, refl, ap, false, ◌∙◌}
 use Rattle.vz_rules.specs.declared.entry.Event.TheVariants as event
 use Rattle.vz_desk.specs.Totals.{is_done}
@@ -5,7 +6,7 @@ use Rattle.vz_desk.proofs.Displaying.{leaves_plan, leaves_entries, on_display, o
 use Rattle.vz_desk.proofs.desk.Desk.done.Goals as goal
 
 pub done-requires : goal.done-requires
-done-requires g c = let e = c.enter-book.ensures in (flies_there c.d.inside.token c.enter-book.new.token c.enter-book.result _ c.d.invariant.0 (record { first = e.same; planned = e.plan; found = e.seen; later = e.later; stays = e.mine; legal = c.places.ensures.legal }) ∙ ap (λ o. o.totals.in_flight) c.d.view_is ∙ c.requires.flies)
+done-requires g c = let e = c.enter-book.ensures in (param_send 3 _ c.type_bounds.send-M-Picture-Thin, flies_there c.d.inside.token c.enter-book.new.token c.enter-book.result _ c.d.invariant.0 (record { first = e.same; planned = e.plan; found = e.seen; later = e.later; stays = e.mine; legal = c.places.ensures.legal }) ∙ ap (λ o. o.totals.in_flight) c.d.view_is ∙ c.requires.flies)
 
 pub leave-requires-clause-plan : goal.leave-requires-clause-plan
 leave-requires-clause-plan g c = λ κs within. let e = c.enter-book.ensures in leaves_plan c.d.inside.token c.enter-book.new.token c.enter-book.result c.done.new.self event.Done _ c.d.invariant.0 (record { first = e.same; planned = e.plan; found = e.seen; later = e.later; stays = e.mine; legal = c.places.ensures.legal }) refl c.done.ensures

@@ -26,30 +26,30 @@ overflow_add-d g c = let place = c.places-place.type_inv in let e = c.enter-book
 
 pub overflow_add-d-in-Some-picture : goal.overflow_add-d-in-Some-picture
 overflow_add-d-in-Some-picture g c = let place = c.places-place.type_inv in let e = c.enter-book.ensures in let l = c.leave-in-Ok.ensures in
-    let few = counted_few draws_frame c.draw.new.self.history (c.d.inside.drawn + 1) _ (on_display c.d.inside.token c.enter-book.new.token c.enter-book.result c.draw.new.self event.Draw _ c.d.invariant.0 (record { first = e.same; planned = e.plan; found = e.seen; later = e.later; stays = e.mine; legal = c.reason.ensures.legal }) refl c.in-Ok.ensures.ok c.leave-in-Ok.new.token (record { second = l.same; rests = l.outside; seen = l.seen }) (record { begins = c.d.inside.begins; draws = c.d.inside.draws + 1; drawn = c.d.inside.drawn + 1; dones = c.d.inside.dones; in_flight = true }) (draw_counts _ c.enter-book.result (drew_some c.enter-book.result g.M.FrameData.Picture.pictured c.in-Ok.picture c.in-Ok.ensures.picture c.in-Some-picture.picture c.in-Some-picture.is))).counted.drawn c.places-place.ensures.value in omega arith
+    let few = counted_few draws_frame c.draw.new.self.history (c.d.inside.drawn + 1) _ (on_display c.d.inside.token c.enter-book.new.token c.enter-book.result c.draw.new.self event.Draw _ c.d.invariant.0 (record { first = e.same; planned = e.plan; found = e.seen; later = e.later; stays = e.mine; legal = c.reason.ensures.legal }) refl c.in-Ok.ensures.ok c.leave-in-Ok.new.token (record { second = l.same; rests = l.outside; seen = l.seen }) (record { begins = c.d.inside.begins; draws = c.d.inside.draws + 1; drawn = c.d.inside.drawn + 1; dones = c.d.inside.dones; in_flight = true }) (draw_counts _ c.enter-book.result (drew_some c.enter-book.result g.M.Picture.Picture.pictured c.in-Ok.picture c.in-Ok.ensures.picture c.in-Some-picture.picture c.in-Some-picture.is))).counted.drawn c.places-place.ensures.value in omega arith
 
 pub invariant_of-d-in-Some-picture : goal.invariant_of-d-in-Some-picture
 invariant_of-d-in-Some-picture g c = let e = c.enter-book.ensures in let l = c.leave-in-Ok.ensures in
-    (on_display c.d.inside.token c.enter-book.new.token c.enter-book.result c.draw.new.self event.Draw _ c.d.invariant.0 (record { first = e.same; planned = e.plan; found = e.seen; later = e.later; stays = e.mine; legal = c.reason.ensures.legal }) refl c.in-Ok.ensures.ok c.leave-in-Ok.new.token (record { second = l.same; rests = l.outside; seen = l.seen }) (record { begins = c.d.inside.begins; draws = c.d.inside.draws + 1; drawn = c.d.inside.drawn + 1; dones = c.d.inside.dones; in_flight = true }) (draw_counts _ c.enter-book.result (drew_some c.enter-book.result g.M.FrameData.Picture.pictured c.in-Ok.picture c.in-Ok.ensures.picture c.in-Some-picture.picture c.in-Some-picture.is)), c.d.invariant.1, c.d.invariant.2)
+    (on_display c.d.inside.token c.enter-book.new.token c.enter-book.result c.draw.new.self event.Draw _ c.d.invariant.0 (record { first = e.same; planned = e.plan; found = e.seen; later = e.later; stays = e.mine; legal = c.reason.ensures.legal }) refl c.in-Ok.ensures.ok c.leave-in-Ok.new.token (record { second = l.same; rests = l.outside; seen = l.seen }) (record { begins = c.d.inside.begins; draws = c.d.inside.draws + 1; drawn = c.d.inside.drawn + 1; dones = c.d.inside.dones; in_flight = true }) (draw_counts _ c.enter-book.result (drew_some c.enter-book.result g.M.Picture.Picture.pictured c.in-Ok.picture c.in-Ok.ensures.picture c.in-Some-picture.picture c.in-Some-picture.is)), c.d.invariant.1, c.d.invariant.2)
 
 pub invariant_of-d-in-None : goal.invariant_of-d-in-None
 invariant_of-d-in-None g c = let e = c.enter-book.ensures in let l = c.leave-in-Ok.ensures in
-    (on_display c.d.inside.token c.enter-book.new.token c.enter-book.result c.draw.new.self event.Draw _ c.d.invariant.0 (record { first = e.same; planned = e.plan; found = e.seen; later = e.later; stays = e.mine; legal = c.reason.ensures.legal }) refl c.in-Ok.ensures.ok c.leave-in-Ok.new.token (record { second = l.same; rests = l.outside; seen = l.seen }) (record { begins = c.d.inside.begins; draws = c.d.inside.draws + 1; drawn = c.d.inside.drawn; dones = c.d.inside.dones; in_flight = c.d.inside.in_flight }) (other_counts _ c.enter-book.result (drew_none c.enter-book.result g.M.FrameData.Picture.pictured c.in-Ok.picture c.in-Ok.ensures.picture c.in-None.is)), c.d.invariant.1, c.d.invariant.2)
+    (on_display c.d.inside.token c.enter-book.new.token c.enter-book.result c.draw.new.self event.Draw _ c.d.invariant.0 (record { first = e.same; planned = e.plan; found = e.seen; later = e.later; stays = e.mine; legal = c.reason.ensures.legal }) refl c.in-Ok.ensures.ok c.leave-in-Ok.new.token (record { second = l.same; rests = l.outside; seen = l.seen }) (record { begins = c.d.inside.begins; draws = c.d.inside.draws + 1; drawn = c.d.inside.drawn; dones = c.d.inside.dones; in_flight = c.d.inside.in_flight }) (other_counts _ c.enter-book.result (drew_none c.enter-book.result g.M.Picture.Picture.pictured c.in-Ok.picture c.in-Ok.ensures.picture c.in-None.is)), c.d.invariant.1, c.d.invariant.2)
 
 pub returns-in-Some-picture-clause-same : goal.returns-in-Some-picture-clause-same
 returns-in-Some-picture-clause-same g c = let e = c.enter-book.ensures in let l = c.leave-in-Ok.ensures in
-    on_same c.d.inside.token c.enter-book.new.token c.enter-book.result c.draw.new.self event.Draw _ c.d.invariant.0 (record { first = e.same; planned = e.plan; found = e.seen; later = e.later; stays = e.mine; legal = c.reason.ensures.legal }) refl c.in-Ok.ensures.ok c.leave-in-Ok.new.token (record { second = l.same; rests = l.outside; seen = l.seen }) (record { begins = c.d.inside.begins; draws = c.d.inside.draws + 1; drawn = c.d.inside.drawn + 1; dones = c.d.inside.dones; in_flight = true }) (draw_counts _ c.enter-book.result (drew_some c.enter-book.result g.M.FrameData.Picture.pictured c.in-Ok.picture c.in-Ok.ensures.picture c.in-Some-picture.picture c.in-Some-picture.is)) _ c.d.view_is
+    on_same c.d.inside.token c.enter-book.new.token c.enter-book.result c.draw.new.self event.Draw _ c.d.invariant.0 (record { first = e.same; planned = e.plan; found = e.seen; later = e.later; stays = e.mine; legal = c.reason.ensures.legal }) refl c.in-Ok.ensures.ok c.leave-in-Ok.new.token (record { second = l.same; rests = l.outside; seen = l.seen }) (record { begins = c.d.inside.begins; draws = c.d.inside.draws + 1; drawn = c.d.inside.drawn + 1; dones = c.d.inside.dones; in_flight = true }) (draw_counts _ c.enter-book.result (drew_some c.enter-book.result g.M.Picture.Picture.pictured c.in-Ok.picture c.in-Ok.ensures.picture c.in-Some-picture.picture c.in-Some-picture.is)) _ c.d.view_is
 
 pub returns-in-None-clause-same : goal.returns-in-None-clause-same
 returns-in-None-clause-same g c = let e = c.enter-book.ensures in let l = c.leave-in-Ok.ensures in
-    on_same c.d.inside.token c.enter-book.new.token c.enter-book.result c.draw.new.self event.Draw _ c.d.invariant.0 (record { first = e.same; planned = e.plan; found = e.seen; later = e.later; stays = e.mine; legal = c.reason.ensures.legal }) refl c.in-Ok.ensures.ok c.leave-in-Ok.new.token (record { second = l.same; rests = l.outside; seen = l.seen }) (record { begins = c.d.inside.begins; draws = c.d.inside.draws + 1; drawn = c.d.inside.drawn; dones = c.d.inside.dones; in_flight = c.d.inside.in_flight }) (other_counts _ c.enter-book.result (drew_none c.enter-book.result g.M.FrameData.Picture.pictured c.in-Ok.picture c.in-Ok.ensures.picture c.in-None.is)) _ c.d.view_is
+    on_same c.d.inside.token c.enter-book.new.token c.enter-book.result c.draw.new.self event.Draw _ c.d.invariant.0 (record { first = e.same; planned = e.plan; found = e.seen; later = e.later; stays = e.mine; legal = c.reason.ensures.legal }) refl c.in-Ok.ensures.ok c.leave-in-Ok.new.token (record { second = l.same; rests = l.outside; seen = l.seen }) (record { begins = c.d.inside.begins; draws = c.d.inside.draws + 1; drawn = c.d.inside.drawn; dones = c.d.inside.dones; in_flight = c.d.inside.in_flight }) (other_counts _ c.enter-book.result (drew_none c.enter-book.result g.M.Picture.Picture.pictured c.in-Ok.picture c.in-Ok.ensures.picture c.in-None.is)) _ c.d.view_is
 
 pub returns-in-Some-picture-clause-ok : goal.returns-in-Some-picture-clause-ok
 returns-in-Some-picture-clause-ok g c = let e = c.enter-book.ensures in let l = c.leave-in-Ok.ensures in (
   ap (λ t. t.lock) c.of.ensures ∙ l.same.0 ∙ e.same.0 ∙ ap (λ o. o.desk) c.d.view_is,
   record {
-    displays = on_displays c.d.inside.token c.enter-book.new.token c.enter-book.result c.draw.new.self event.Draw _ c.d.invariant.0 (record { first = e.same; planned = e.plan; found = e.seen; later = e.later; stays = e.mine; legal = c.reason.ensures.legal }) refl c.in-Ok.ensures.ok c.leave-in-Ok.new.token (record { second = l.same; rests = l.outside; seen = l.seen }) (record { begins = c.d.inside.begins; draws = c.d.inside.draws + 1; drawn = c.d.inside.drawn + 1; dones = c.d.inside.dones; in_flight = true }) (draw_counts _ c.enter-book.result (drew_some c.enter-book.result g.M.FrameData.Picture.pictured c.in-Ok.picture c.in-Ok.ensures.picture c.in-Some-picture.picture c.in-Some-picture.is)) _ c.d.view_is l.one;
-    shows = shows_some c.enter-book.result g.M.FrameData.Picture.pictured c.in-Ok.picture c.in-Ok.ensures.picture c.in-Some-picture.picture c.in-Some-picture.is;
+    displays = on_displays c.d.inside.token c.enter-book.new.token c.enter-book.result c.draw.new.self event.Draw _ c.d.invariant.0 (record { first = e.same; planned = e.plan; found = e.seen; later = e.later; stays = e.mine; legal = c.reason.ensures.legal }) refl c.in-Ok.ensures.ok c.leave-in-Ok.new.token (record { second = l.same; rests = l.outside; seen = l.seen }) (record { begins = c.d.inside.begins; draws = c.d.inside.draws + 1; drawn = c.d.inside.drawn + 1; dones = c.d.inside.dones; in_flight = true }) (draw_counts _ c.enter-book.result (drew_some c.enter-book.result g.M.Picture.Picture.pictured c.in-Ok.picture c.in-Ok.ensures.picture c.in-Some-picture.picture c.in-Some-picture.is)) _ c.d.view_is l.one;
+    shows = shows_some c.enter-book.result g.M.Picture.Picture.pictured c.in-Ok.picture c.in-Ok.ensures.picture c.in-Some-picture.picture c.in-Some-picture.is;
     free = λ lands. never_busy c.enter-book.result (flies_there c.d.inside.token c.enter-book.new.token c.enter-book.result _ c.d.invariant.0 (record { first = e.same; planned = e.plan; found = e.seen; later = e.later; stays = e.mine; legal = c.reason.ensures.legal }) ∙ ap (λ o. o.totals.in_flight) c.d.view_is ∙ lands);
   },
 )
@@ -57,8 +57,8 @@ returns-in-Some-picture-clause-ok g c = let e = c.enter-book.ensures in let l = 
 pub returns-in-None-clause-ok : goal.returns-in-None-clause-ok
 returns-in-None-clause-ok g c = let e = c.enter-book.ensures in let l = c.leave-in-Ok.ensures in (
   record {
-    displays = on_displays c.d.inside.token c.enter-book.new.token c.enter-book.result c.draw.new.self event.Draw _ c.d.invariant.0 (record { first = e.same; planned = e.plan; found = e.seen; later = e.later; stays = e.mine; legal = c.reason.ensures.legal }) refl c.in-Ok.ensures.ok c.leave-in-Ok.new.token (record { second = l.same; rests = l.outside; seen = l.seen }) (record { begins = c.d.inside.begins; draws = c.d.inside.draws + 1; drawn = c.d.inside.drawn; dones = c.d.inside.dones; in_flight = c.d.inside.in_flight }) (other_counts _ c.enter-book.result (drew_none c.enter-book.result g.M.FrameData.Picture.pictured c.in-Ok.picture c.in-Ok.ensures.picture c.in-None.is)) _ c.d.view_is l.one;
-    shows = shows_none c.enter-book.result g.M.FrameData.Picture.pictured c.in-Ok.picture c.in-Ok.ensures.picture c.in-None.is;
+    displays = on_displays c.d.inside.token c.enter-book.new.token c.enter-book.result c.draw.new.self event.Draw _ c.d.invariant.0 (record { first = e.same; planned = e.plan; found = e.seen; later = e.later; stays = e.mine; legal = c.reason.ensures.legal }) refl c.in-Ok.ensures.ok c.leave-in-Ok.new.token (record { second = l.same; rests = l.outside; seen = l.seen }) (record { begins = c.d.inside.begins; draws = c.d.inside.draws + 1; drawn = c.d.inside.drawn; dones = c.d.inside.dones; in_flight = c.d.inside.in_flight }) (other_counts _ c.enter-book.result (drew_none c.enter-book.result g.M.Picture.Picture.pictured c.in-Ok.picture c.in-Ok.ensures.picture c.in-None.is)) _ c.d.view_is l.one;
+    shows = shows_none c.enter-book.result g.M.Picture.Picture.pictured c.in-Ok.picture c.in-Ok.ensures.picture c.in-None.is;
     free = λ lands. never_busy c.enter-book.result (flies_there c.d.inside.token c.enter-book.new.token c.enter-book.result _ c.d.invariant.0 (record { first = e.same; planned = e.plan; found = e.seen; later = e.later; stays = e.mine; legal = c.reason.ensures.legal }) ∙ ap (λ o. o.totals.in_flight) c.d.view_is ∙ lands);
   },
   note_is c.enter-book.result c.draw.new.self event.Draw _ _ c.in-Ok.ensures.ok c.plain_note.ensures c.places-place.ensures.value,

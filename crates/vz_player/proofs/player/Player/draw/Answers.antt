@@ -23,19 +23,21 @@ pub show_some-requires : goal.show_some-requires
 show_some-requires g c =
     let old : Played = c.args.self.now in
     let m : Machine = g.M.Machine.state c.self.inside.machine in
-    let is : IsPlayed m c.self.inside.display old = subst (IsPlayed m c.self.inside.display) c.self.view_is c.self.invariant in
-    picture_fits g.M.FrameData.Picture.pictured m c.in_ok-entry.entry.reply c.in_ok-entry.picture c.self.inside.display.turns.size c.in_ok-entry.ensures.picture
-    (ap (λ (x : Machine). x.plan.size) is.behind ∙ sym (display_size m c.self.inside.display old is c.requires.going))
+    let is : IsPlayed m c.self.inside.display.shown old = subst (IsPlayed m c.self.inside.display.shown) c.self.view_is c.self.invariant in (
+      c.type_bounds.send-M-Picture-Thin,
+      picture_fits g.M.Picture.Picture.pictured m c.in_ok-entry.entry.reply c.in_ok-entry.picture c.self.inside.display.shown.turns.size c.in_ok-entry.ensures.picture
+          (ap (λ (x : Machine). x.plan.size) is.behind ∙ sym (display_size m c.self.inside.display.shown old is c.requires.going)),
+    )
 
 pub invariant_of-self-in_err-drawn : goal.invariant_of-self-in_err-drawn
 invariant_of-self-in_err-drawn g c =
     let old : Played = c.args.self.now in
     let m : Machine = g.M.Machine.state c.self.inside.machine in
     let n : Machine = g.M.Machine.state c.draw_gated.new.machine in
-    let is : IsPlayed m c.self.inside.display old = subst (IsPlayed m c.self.inside.display) c.self.view_is c.self.invariant in
-    let next = new_is m n c.self.inside.display old event.Draw c.in_ok-entry.entry c.reserve.new.self.list c.put.new.self.list c.self.inside.buffers true is c.in_ok-entry.ensures.entry c.in_ok-entry.ensures.world
+    let is : IsPlayed m c.self.inside.display.shown old = subst (IsPlayed m c.self.inside.display.shown) c.self.view_is c.self.invariant in
+    let next = new_is m n c.self.inside.display.shown old event.Draw c.in_ok-entry.entry c.reserve.new.self.list c.put.new.self.list c.self.inside.buffers true is c.in_ok-entry.ensures.entry c.in_ok-entry.ensures.world
     (c.in_ok-reserve.ensures.list ∙ ap (λ (p : Played). p.history) c.self.view_is) c.put.ensures.list (ap (λ (p : Played). p.buffers) c.self.view_is) in
-    played_is m n c.self.inside.display c.show_some.new.display old _ event.Draw c.in_ok-entry.entry (option_map g.M.FrameData.Picture.pictured c.in_ok-entry.picture) true is tt
+    played_is m n c.self.inside.display.shown c.show_some.new.display.shown old _ event.Draw c.in_ok-entry.entry (option_map g.M.Picture.Picture.pictured c.in_ok-entry.picture) true is tt
     c.in_ok-entry.ensures.entry c.in_ok-entry.ensures.world c.in_ok-entry.ensures.picture c.requires.going (λ t. absurd (true_not t)) next
   where
     true_not : true ≡ false → ⊥
@@ -46,8 +48,8 @@ returns-in_err-drawn-clause-err g c =
     let old : Played = c.args.self.now in
     let m : Machine = g.M.Machine.state c.self.inside.machine in
     let n : Machine = g.M.Machine.state c.draw_gated.new.machine in
-    let is : IsPlayed m c.self.inside.display old = subst (IsPlayed m c.self.inside.display) c.self.view_is c.self.invariant in
-    let next = new_is m n c.self.inside.display old event.Draw c.in_ok-entry.entry c.reserve.new.self.list c.put.new.self.list c.self.inside.buffers true is c.in_ok-entry.ensures.entry c.in_ok-entry.ensures.world
+    let is : IsPlayed m c.self.inside.display.shown old = subst (IsPlayed m c.self.inside.display.shown) c.self.view_is c.self.invariant in
+    let next = new_is m n c.self.inside.display.shown old event.Draw c.in_ok-entry.entry c.reserve.new.self.list c.put.new.self.list c.self.inside.buffers true is c.in_ok-entry.ensures.entry c.in_ok-entry.ensures.world
     (c.in_ok-reserve.ensures.list ∙ ap (λ (p : Played). p.history) c.self.view_is) c.put.ensures.list (ap (λ (p : Played). p.buffers) c.self.view_is) in
     on_err c.from_residual-in_err-drawn.result (StopsAt old event.Draw _) (stops_after old _ event.Draw next)
 
@@ -56,10 +58,10 @@ invariant_of-self-2 g c =
     let old : Played = c.args.self.now in
     let m : Machine = g.M.Machine.state c.self.inside.machine in
     let n : Machine = g.M.Machine.state c.draw_gated.new.machine in
-    let is : IsPlayed m c.self.inside.display old = subst (IsPlayed m c.self.inside.display) c.self.view_is c.self.invariant in
-    let next = new_is m n c.self.inside.display old event.Draw c.in_ok-entry.entry c.reserve.new.self.list c.put.new.self.list c.self.inside.buffers false is c.in_ok-entry.ensures.entry c.in_ok-entry.ensures.world
+    let is : IsPlayed m c.self.inside.display.shown old = subst (IsPlayed m c.self.inside.display.shown) c.self.view_is c.self.invariant in
+    let next = new_is m n c.self.inside.display.shown old event.Draw c.in_ok-entry.entry c.reserve.new.self.list c.put.new.self.list c.self.inside.buffers false is c.in_ok-entry.ensures.entry c.in_ok-entry.ensures.world
     (c.in_ok-reserve.ensures.list ∙ ap (λ (p : Played). p.history) c.self.view_is) c.put.ensures.list (ap (λ (p : Played). p.buffers) c.self.view_is) in
-    played_is m n c.self.inside.display c.show_some.new.display old _ event.Draw c.in_ok-entry.entry (option_map g.M.FrameData.Picture.pictured c.in_ok-entry.picture) false is tt
+    played_is m n c.self.inside.display.shown c.show_some.new.display.shown old _ event.Draw c.in_ok-entry.entry (option_map g.M.Picture.Picture.pictured c.in_ok-entry.picture) false is tt
     c.in_ok-entry.ensures.entry c.in_ok-entry.ensures.world c.in_ok-entry.ensures.picture c.requires.going (λ t. c.in_ok-drawn.ensures.display) next
 
 pub returns-clause-taken : goal.returns-clause-taken
@@ -67,9 +69,9 @@ returns-clause-taken g c =
     let old : Played = c.args.self.now in
     let m : Machine = g.M.Machine.state c.self.inside.machine in
     let n : Machine = g.M.Machine.state c.draw_gated.new.machine in
-    let is : IsPlayed m c.self.inside.display old = subst (IsPlayed m c.self.inside.display) c.self.view_is c.self.invariant in
+    let is : IsPlayed m c.self.inside.display.shown old = subst (IsPlayed m c.self.inside.display.shown) c.self.view_is c.self.invariant in
     going_is old _ event.Draw c.requires.going
-    (new_is m n c.self.inside.display old event.Draw c.in_ok-entry.entry c.reserve.new.self.list c.put.new.self.list c.self.inside.buffers false is c.in_ok-entry.ensures.entry c.in_ok-entry.ensures.world
+    (new_is m n c.self.inside.display.shown old event.Draw c.in_ok-entry.entry c.reserve.new.self.list c.put.new.self.list c.self.inside.buffers false is c.in_ok-entry.ensures.entry c.in_ok-entry.ensures.world
     (c.in_ok-reserve.ensures.list ∙ ap (λ (p : Played). p.history) c.self.view_is) c.put.ensures.list (ap (λ (p : Played). p.buffers) c.self.view_is))
 
 pub returns-clause-written : goal.returns-clause-written
@@ -77,11 +79,11 @@ returns-clause-written g c =
     let old : Played = c.args.self.now in
     let m : Machine = g.M.Machine.state c.self.inside.machine in
     let n : Machine = g.M.Machine.state c.draw_gated.new.machine in
-    let is : IsPlayed m c.self.inside.display old = subst (IsPlayed m c.self.inside.display) c.self.view_is c.self.invariant in
-    writes_is m c.self.inside.display old _ event.Draw c.in_ok-entry.entry (option_map g.M.FrameData.Picture.pictured c.in_ok-entry.picture) c.in_ok-drawn.drawn is c.in_ok-entry.ensures.entry c.in_ok-entry.ensures.picture
+    let is : IsPlayed m c.self.inside.display.shown old = subst (IsPlayed m c.self.inside.display.shown) c.self.view_is c.self.invariant in
+    writes_is m c.self.inside.display.shown old _ event.Draw c.in_ok-entry.entry (option_map g.M.Picture.Picture.pictured c.in_ok-entry.picture) c.in_ok-drawn.drawn is c.in_ok-entry.ensures.entry c.in_ok-entry.ensures.picture
     c.in_ok-drawn.ensures.drawn
     (going_is old _ event.Draw c.requires.going
-    (new_is m n c.self.inside.display old event.Draw c.in_ok-entry.entry c.reserve.new.self.list c.put.new.self.list c.self.inside.buffers false is c.in_ok-entry.ensures.entry c.in_ok-entry.ensures.world
+    (new_is m n c.self.inside.display.shown old event.Draw c.in_ok-entry.entry c.reserve.new.self.list c.put.new.self.list c.self.inside.buffers false is c.in_ok-entry.ensures.entry c.in_ok-entry.ensures.world
     (c.in_ok-reserve.ensures.list ∙ ap (λ (p : Played). p.history) c.self.view_is) c.put.ensures.list (ap (λ (p : Played). p.buffers) c.self.view_is)))
 
 pub returns-clause-counted : goal.returns-clause-counted
@@ -89,9 +91,9 @@ returns-clause-counted g c =
     let old : Played = c.args.self.now in
     let m : Machine = g.M.Machine.state c.self.inside.machine in
     let n : Machine = g.M.Machine.state c.draw_gated.new.machine in
-    let is : IsPlayed m c.self.inside.display old = subst (IsPlayed m c.self.inside.display) c.self.view_is c.self.invariant in
-    counted_is m c.self.inside.display old _ event.Draw c.in_ok-entry.entry (option_map g.M.FrameData.Picture.pictured c.in_ok-entry.picture) c.args.steps.now c.show_some.new.steps is c.in_ok-entry.ensures.entry
+    let is : IsPlayed m c.self.inside.display.shown old = subst (IsPlayed m c.self.inside.display.shown) c.self.view_is c.self.invariant in
+    counted_is m c.self.inside.display.shown old _ event.Draw c.in_ok-entry.entry (option_map g.M.Picture.Picture.pictured c.in_ok-entry.picture) c.args.steps.now c.show_some.new.steps is c.in_ok-entry.ensures.entry
     c.in_ok-entry.ensures.picture c.requires.going c.in_ok-drawn.ensures.counted
     (going_is old _ event.Draw c.requires.going
-    (new_is m n c.self.inside.display old event.Draw c.in_ok-entry.entry c.reserve.new.self.list c.put.new.self.list c.self.inside.buffers false is c.in_ok-entry.ensures.entry c.in_ok-entry.ensures.world
+    (new_is m n c.self.inside.display.shown old event.Draw c.in_ok-entry.entry c.reserve.new.self.list c.put.new.self.list c.self.inside.buffers false is c.in_ok-entry.ensures.entry c.in_ok-entry.ensures.world
     (c.in_ok-reserve.ensures.list ∙ ap (λ (p : Played). p.history) c.self.view_is) c.put.ensures.list (ap (λ (p : Played). p.buffers) c.self.view_is)))

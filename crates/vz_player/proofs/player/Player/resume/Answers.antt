@@ -15,4 +15,4 @@ after-actors-requires g c =
 pub invariant_of-result : goal.invariant_of-result
 invariant_of-result g c =
     let r = c.requires in
-    resumed_is (g.M.Machine.state c.args.machine) c.args.display c.args.history.list c.args.buffers r.behind r.legal r.files r.sides r.from r.display
+    resumed_is (g.M.Machine.state c.args.machine) c.args.display.shown c.args.history.list c.args.buffers r.behind r.legal r.files r.sides r.from r.display

@@ -22,10 +22,10 @@ invariant_of-self-2 g c =
     let old : Played = c.args.self.now in
     let m : Machine = g.M.Machine.state c.self.inside.machine in
     let n : Machine = g.M.Machine.state c.take_gated.new.machine in
-    let is : IsPlayed m c.self.inside.display old = subst (IsPlayed m c.self.inside.display) c.self.view_is c.self.invariant in
-    let next = new_is m n c.self.inside.display old c.args.event c.in_ok-plain.plain c.reserve.new.self.list c.put.new.self.list c.self.inside.buffers c.self.inside.stopped is c.in_ok-plain.ensures.entry c.in_ok-plain.ensures.world
+    let is : IsPlayed m c.self.inside.display.shown old = subst (IsPlayed m c.self.inside.display.shown) c.self.view_is c.self.invariant in
+    let next = new_is m n c.self.inside.display.shown old c.args.event c.in_ok-plain.plain c.reserve.new.self.list c.put.new.self.list c.self.inside.buffers c.self.inside.stopped is c.in_ok-plain.ensures.entry c.in_ok-plain.ensures.world
     (c.in_ok-reserve.ensures.list ∙ ap (λ (p : Played). p.history) c.self.view_is) c.put.ensures.list (ap (λ (p : Played). p.buffers) c.self.view_is) in
-    played_is m n c.self.inside.display c.self.inside.display old _ c.args.event c.in_ok-plain.plain None c.self.inside.stopped is c.requires.named
+    played_is m n c.self.inside.display.shown c.self.inside.display.shown old _ c.args.event c.in_ok-plain.plain None c.self.inside.stopped is c.requires.named
     c.in_ok-plain.ensures.entry c.in_ok-plain.ensures.world c.in_ok-plain.ensures.picture c.requires.going (λ t. refl) next
 
 pub returns-clause-taken : goal.returns-clause-taken
@@ -33,8 +33,8 @@ returns-clause-taken g c =
     let old : Played = c.args.self.now in
     let m : Machine = g.M.Machine.state c.self.inside.machine in
     let n : Machine = g.M.Machine.state c.take_gated.new.machine in
-    let is : IsPlayed m c.self.inside.display old = subst (IsPlayed m c.self.inside.display) c.self.view_is c.self.invariant in
-    let next = new_is m n c.self.inside.display old c.args.event c.in_ok-plain.plain c.reserve.new.self.list c.put.new.self.list c.self.inside.buffers c.self.inside.stopped is c.in_ok-plain.ensures.entry c.in_ok-plain.ensures.world
+    let is : IsPlayed m c.self.inside.display.shown old = subst (IsPlayed m c.self.inside.display.shown) c.self.view_is c.self.invariant in
+    let next = new_is m n c.self.inside.display.shown old c.args.event c.in_ok-plain.plain c.reserve.new.self.list c.put.new.self.list c.self.inside.buffers c.self.inside.stopped is c.in_ok-plain.ensures.entry c.in_ok-plain.ensures.world
     (c.in_ok-reserve.ensures.list ∙ ap (λ (p : Played). p.history) c.self.view_is) c.put.ensures.list (ap (λ (p : Played). p.buffers) c.self.view_is) in
     let stays : c.self.inside.stopped ≡ false = ap (λ (p : Played). p.stopped) c.self.view_is ∙ c.requires.going in
     let goes = going_is old _ c.args.event c.requires.going (next ∙ ap (λ (s : Bool). record (played_on old c.args.event) { stopped = s }) stays) in
@@ -45,23 +45,23 @@ returns-clause-written g c =
     let old : Played = c.args.self.now in
     let m : Machine = g.M.Machine.state c.self.inside.machine in
     let n : Machine = g.M.Machine.state c.take_gated.new.machine in
-    let is : IsPlayed m c.self.inside.display old = subst (IsPlayed m c.self.inside.display) c.self.view_is c.self.invariant in
-    let next = new_is m n c.self.inside.display old c.args.event c.in_ok-plain.plain c.reserve.new.self.list c.put.new.self.list c.self.inside.buffers c.self.inside.stopped is c.in_ok-plain.ensures.entry c.in_ok-plain.ensures.world
+    let is : IsPlayed m c.self.inside.display.shown old = subst (IsPlayed m c.self.inside.display.shown) c.self.view_is c.self.invariant in
+    let next = new_is m n c.self.inside.display.shown old c.args.event c.in_ok-plain.plain c.reserve.new.self.list c.put.new.self.list c.self.inside.buffers c.self.inside.stopped is c.in_ok-plain.ensures.entry c.in_ok-plain.ensures.world
     (c.in_ok-reserve.ensures.list ∙ ap (λ (p : Played). p.history) c.self.view_is) c.put.ensures.list (ap (λ (p : Played). p.buffers) c.self.view_is) in
     let stays : c.self.inside.stopped ≡ false = ap (λ (p : Played). p.stopped) c.self.view_is ∙ c.requires.going in
     let goes = going_is old _ c.args.event c.requires.going (next ∙ ap (λ (s : Bool). record (played_on old c.args.event) { stopped = s }) stays) in
-    writes_is m c.self.inside.display old _ c.args.event c.in_ok-plain.plain None false is c.in_ok-plain.ensures.entry c.in_ok-plain.ensures.picture refl goes
+    writes_is m c.self.inside.display.shown old _ c.args.event c.in_ok-plain.plain None false is c.in_ok-plain.ensures.entry c.in_ok-plain.ensures.picture refl goes
 
 pub returns-clause-counted : goal.returns-clause-counted
 returns-clause-counted g c =
     let old : Played = c.args.self.now in
     let m : Machine = g.M.Machine.state c.self.inside.machine in
     let n : Machine = g.M.Machine.state c.take_gated.new.machine in
-    let is : IsPlayed m c.self.inside.display old = subst (IsPlayed m c.self.inside.display) c.self.view_is c.self.invariant in
-    let next = new_is m n c.self.inside.display old c.args.event c.in_ok-plain.plain c.reserve.new.self.list c.put.new.self.list c.self.inside.buffers c.self.inside.stopped is c.in_ok-plain.ensures.entry c.in_ok-plain.ensures.world
+    let is : IsPlayed m c.self.inside.display.shown old = subst (IsPlayed m c.self.inside.display.shown) c.self.view_is c.self.invariant in
+    let next = new_is m n c.self.inside.display.shown old c.args.event c.in_ok-plain.plain c.reserve.new.self.list c.put.new.self.list c.self.inside.buffers c.self.inside.stopped is c.in_ok-plain.ensures.entry c.in_ok-plain.ensures.world
     (c.in_ok-reserve.ensures.list ∙ ap (λ (p : Played). p.history) c.self.view_is) c.put.ensures.list (ap (λ (p : Played). p.buffers) c.self.view_is) in
     let stays : c.self.inside.stopped ≡ false = ap (λ (p : Played). p.stopped) c.self.view_is ∙ c.requires.going in
     let goes = going_is old _ c.args.event c.requires.going (next ∙ ap (λ (s : Bool). record (played_on old c.args.event) { stopped = s }) stays) in
     let none : 0 ≡ 0 + 0 = omega arith in
-    let same = counted_is m c.self.inside.display old _ c.args.event c.in_ok-plain.plain None 0 0 is c.in_ok-plain.ensures.entry c.in_ok-plain.ensures.picture c.requires.going none goes in
+    let same = counted_is m c.self.inside.display.shown old _ c.args.event c.in_ok-plain.plain None 0 0 is c.in_ok-plain.ensures.entry c.in_ok-plain.ensures.picture c.requires.going none goes in
     omega (arith, same)
