@@ -82,7 +82,7 @@ def page_child(k, rounds, side, tiles):
     return client(k, *messages)
 
 
-def page_run():
+def page(name, words):
     """A browser page, paced: a toolbar and two children, each on its own thread."""
     shown = [reach(surface(k, token=k)) for k in (2, 3)]
     half = (0, 0, 640, 640)
@@ -91,8 +91,11 @@ def page_run():
     first = client(1, relation(sink(1), sink(2)), relation(sink(1), sink(3)),
                    submit(1, 1, size=(1280, 720), quads=quads, references=shown), ROOT)
     files = [("a", first), *((name, page_child(k, 8, 256, 3)) for name, k in (("b", 2), ("c", 3)))]
-    put("browser_page", "run --paced 1280 720 8 f l a b c",
-        packed=[(name, packed(data)) for name, data in files], judge="check 1280 720 f l a b c")
+    put(name, words, packed=[(file, packed(data)) for file, data in files], judge="check 1280 720 f l a b c")
+
+
+def page_run():
+    page("browser_page", "run --paced 1280 720 8 f l a b c")
 
 
 # ---------------------------------------------------------------- refusals
@@ -134,7 +137,7 @@ def refused_words():
             "step -- 4 2 s f l a", "--help", "--version", "run --buffers 5 4 2 0 f l a",
             "run --buffers=2 4 2 0 f l a", "run --buffers 0 4 2 0 f l a", "run --buffers 4 2 0 f l a",
             "run --buffers 2 --paced 4 2 0 f l a", "run --paced --paced 4 2 0 f l a",
-            "run --pipe 4 2 0 f l a", "run 4 2 f l a", "run 4 2 0 f l", "run 4 2 257 f l a",
+            "run 4 2 f l a", "run 4 2 0 f l", "run 4 2 257 f l a",
             "run 4 2 00 f l a", "run 4 2 0 f f a", "run 2048 2048 64 f l a", "gen 1 a b", "gen 1 a b b", "gen 0 a b c",
             "gen 1001 a b c", "gen 1 a b c d", "demo", "demo 0", "demo 1001", "demo 1 a"):
         put("refused_words", words, files, 2, "words refused")

@@ -8,13 +8,14 @@ messages (spelling.py). README.md says more.
 from case_rows import cases
 from file_rows import by_rule, failing, page_run, refused_files, refused_words, verdicts
 from hit_rows import hits
+from pipe_rows import piped
 from spelling import (
     AWAIT, BLUE, CLIENTS, CLOSE, DST_IN, GREEN, LISTED, NO_SINK, ONE_QUAD, OVER, RECLAIM, RED,
     RED_QUAD, ROOT, SRC, UPLOAD, WHITE, client, embed, group, local, picture, produced_nothing,
     quad, reach, relation, render_pass, sink, solid, submit, surface)
 from table import (
-    DISHONEST, DISHONEST_LOG, EVENTS, PLAIN, QUAD_LOG, QUAD_PICTURE, TABLE, judged, put,
-    refused, step)
+    DISHONEST, DISHONEST_LOG, EVENTS, ORDERS_OF_A_QUAD, PLAIN, QUAD_LOG, QUAD_PICTURE, TABLE,
+    answer, four_frames, judged, put, refused, run, step)
 from turn_rows import all_turns
 
 
@@ -38,25 +39,9 @@ def one_client():
              [QUAD_PICTURE], 16)
 
 
-def run(name, files, words, logs, frames=(), steps=0, size=(4, 2), ticks=0, **more):
-    """A `run` that goes well, and leaves one of the logs, which are without their last line."""
-    names = CLIENTS[:len(files)]
-    entries = sum(not part.startswith(("open", "held")) for part in logs[0])
-    put(name, " ".join(["run", *words, "%d %d %d f l" % (*size, ticks), *names]),
-        list(zip(names, files)), line="done %d entries %d frames" % (entries, len(frames)),
-        log=[*logs[0], "end"], others=[[*log, "end"] for log in logs[1:]],
-        left=[("f", b"".join(frames))], entries=entries, steps=steps, **more)
-
-
-def answer(number, **parts):
-    """A frame for the surface (1,1) that answers a begin-frame."""
-    return submit(1, 1, answers=number, **parts)
-
-
 def runs():
     over, first, second = "over ended", QUAD_LOG[0], QUAD_LOG[1]
-    orders = [[over, first, second], [first, over, second], [first, second, over]]
-    logs = [head + QUAD_LOG[2:] for head in orders]
+    logs = ORDERS_OF_A_QUAD
     run("run_in_three_orders", [ONE_QUAD], [], logs, [QUAD_PICTURE], 16, turns=True)
     run("run_in_three_orders", [ONE_QUAD], [], logs, [QUAD_PICTURE], 16, piece=1)
     run("run_without_a_message", [client(1)], [], [["over ended", "draw noroot"]])
@@ -66,19 +51,11 @@ def runs():
     orders = [[begin, first, second], [first, begin, second], [first, second, begin]]
     run("draw_behind_the_second_acceptance", [client(1, submit(1, 1), ROOT, AWAIT, answer(1))],
         ["--paced"], [head + [began] + paced for head in orders], [QUAD_PICTURE], 16, ticks=1)
-    square = dict(size=(8, 8))
-    hurts = [(0, 0, 8, 8), (0, 0, 2, 2), (0, 6, 2, 2), (6, 6, 1, 1)]
-    messages, log = [], []
-    for k, hurt in enumerate(hurts, 1):
-        messages += [AWAIT, *([ROOT] if k == 1 else []), answer(k, damage=hurt, **square)]
-        log += ["begin ticked %d" % k, "c1 began %d" % k, *([second] if k == 1 else []),
-                "c1 accepted %d %d +1.%d" % (k, k, k), "draw drawn %d %d %d %d" % hurt,
-                "done shown p1.%d" % k]
-    frames = 4 * [picture([".rr....."] * 2 + ["........"] * 6)]
+    messages, log, frames = four_frames()
     for words, steps in (([], 286), (["--buffers", "1"], 137), (["--buffers", "2"], 286),
                          (["--buffers", "3"], 440), (["--buffers", "4"], 512)):
         run("buffers_of_a_run", [client(1, *messages)], ["--paced", *words],
-            [log + [over, "draw unchanged"]], frames, steps, (8, 8), 4)
+            [log], frames, steps, (8, 8), 4)
     waiting = client(1, submit(1, 1, waits=[NO_SINK + local(1, 1)], deadline=2), ROOT)
     behind = ["begin ticked 1", "begin ticked 2 +1.1", "draw drawn 0 0 4 2", "done shown p1.1"]
     run("begins_until_nothing_waits", [waiting], [],
@@ -277,6 +254,6 @@ def paths():
 
 for part in (one_client, runs, colours, submissions, waiting, damages, embeddings, cycles, paths,
              by_rule, page_run, refused_files, refused_words, verdicts, failing, hits,
-             all_turns, cases):
+             all_turns, piped, cases):
     part()
 print("\n\n".join(TABLE))

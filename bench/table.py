@@ -1,5 +1,6 @@
 """The table of rows of calls that rows.py writes: what puts a row into it, and what several rows share."""
-from spelling import CLIENTS, GREEN, ONE_QUAD, ROOT, client, pieces, quad, schedule, solid, submit
+from spelling import (
+    AWAIT, CLIENTS, GREEN, ONE_QUAD, ROOT, client, picture, pieces, quad, schedule, solid, submit)
 
 
 def put(name, words, given=(), status=0, line="", log=None, left=(), entries=0, steps=0, ones=(),
@@ -58,6 +59,40 @@ DISHONEST = client(1, submit(1, 1), ROOT, submit(1, 1, **DOT),
 DISHONEST_LOG = QUAD_LOG + [
     "c1 accepted 2 2 +1.2", "draw drawn 0 0 1 1", "done shown p1.2", "c1 accepted 3 3 +1.3",
     "draw drawn 0 0 1 1", "done shown p1.3"]
+
+
+def run(name, files, words, logs, frames=(), steps=0, size=(4, 2), ticks=0, **more):
+    """A `run` that goes well, and leaves one of the logs, which are without their last line."""
+    names = CLIENTS[:len(files)]
+    entries = sum(not part.startswith(("open", "held")) for part in logs[0])
+    put(name, " ".join(["run", *words, "%d %d %d f l" % (*size, ticks), *names]),
+        list(zip(names, files)), line="done %d entries %d frames" % (entries, len(frames)),
+        log=[*logs[0], "end"], others=[[*log, "end"] for log in logs[1:]],
+        left=[("f", b"".join(frames))], entries=entries, steps=steps, **more)
+
+
+def answer(number, **parts):
+    """A frame for the surface (1,1) that answers a begin-frame."""
+    return submit(1, 1, answers=number, **parts)
+
+
+# The logs of a `run` of one quad, without their last line: Over comes before, between and after the
+# two messages.
+ORDERS_OF_A_QUAD = [head + QUAD_LOG[2:] for head in (
+    ["over ended", *QUAD_LOG[:2]], [QUAD_LOG[0], "over ended", QUAD_LOG[1]], [*QUAD_LOG[:2], "over ended"])]
+
+
+def four_frames():
+    """The messages of a client that answers four begin-frames with a frame of 8 by 8, the log of their
+    paced `run`, without its last line, and its frames."""
+    messages, log = [], []
+    for k, hurt in enumerate([(0, 0, 8, 8), (0, 0, 2, 2), (0, 6, 2, 2), (6, 6, 1, 1)], 1):
+        messages += [AWAIT, *([ROOT] if k == 1 else []), answer(k, damage=hurt, size=(8, 8))]
+        log += ["begin ticked %d" % k, "c1 began %d" % k, *(QUAD_LOG[1:2] if k == 1 else []),
+                "c1 accepted %d %d +1.%d" % (k, k, k), "draw drawn %d %d %d %d" % hurt,
+                "done shown p1.%d" % k]
+    frames = 4 * [picture([".rr....."] * 2 + ["........"] * 6)]
+    return messages, [*log, "over ended", "draw unchanged"], frames
 
 
 def judged(line, log=(*QUAD_LOG, "end"), frames=QUAD_PICTURE, files=(ONE_QUAD,), size=(4, 2), status=1,

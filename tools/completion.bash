@@ -6,7 +6,7 @@ _viz_tools() {
     COMPREPLY=()
     if [[ $word == -* ]]; then
         words=$("$tool" --help 2>/dev/null | grep -oE -- ' --?[a-z]+' | sort -u)
-        [[ $tool == *viz && " ${COMP_WORDS[*]} " == *" run "* ]] && words="--paced --buffers"
+        [[ $tool == *viz && " ${COMP_WORDS[*]} " == *" run "* ]] && words="--paced --buffers --pipe"
     elif [[ $tool == */viz && ($COMP_CWORD -eq 1 || ($COMP_CWORD -eq 3 && ${COMP_WORDS[1]} == --viz)) ]]; then
         words="check demo gen hit run step turns"
     elif [[ $tool == */scene && $COMP_CWORD -eq 1 ]]; then

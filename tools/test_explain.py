@@ -217,6 +217,7 @@ def wrapped(folder):
             (["step", 4, 2049, *rest], 2, "H is 1 to 2048"), (["stop"], 2, "stop is no command"), (["step", 4, 2], 2, "step wants W H"),
             (["run", "--buffers", 9, 4, 2, 3, *rest[1:]], 2, "--buffers is 1 to 4"), (["demo", 1001], 2, "N is 1 to 1000"),
             (["run", "--fast", 4, 2, 3, *rest[1:]], 2, "--fast"), (["step", 4, 2, *rest, rest[3]], 1, "named twice"),
+            (["run", "--pipe", "--paced", 4, 2, 3, *rest[1:]], 2, "--paced: run has"), (["run", "--pipe", 4, 2], 2, "run wants W H"),
             (["step", 4, 2, rest[0], folder / "no" / "f", *rest[2:]], 1, "its folder is not there"),
             (["step", 4, 2, rest[0], folder, *rest[2:]], 1, "a folder, not a file"),
             (["hit", 4, 2, rest[0], 4, 0, rest[3]], 2, "X is 0 to 3"), (["hit", 4, 2, rest[0], 3, 2, rest[3]], 2, "Y is 0 to 1"),
@@ -231,6 +232,7 @@ def wrapped(folder):
     if VIZ:
         yield says("viz", ["--viz", VIZ, "step", 4, 2, *rest], 3, "status 3: an input is refused: ", "message 1, pass 1, quad 1, area")
         yield says("viz", ["--viz", VIZ, "demo", 2], 0, "entries 26 frames 2")
+        yield says("viz", ["--viz", VIZ, "run", "--paced", "--pipe", 4, 2, 0, *rest[1:3], ONE_QUAD], 0, "done 5 entries 1 frames")
         yield says("viz", ["--viz", VIZ, "hit", 4, 2, rest[0], 3, 1, ONE_QUAD], 0, "hit none")
 
 

@@ -20,6 +20,7 @@ FORMS = {  # the words of each command: names of numbers with their limits, name
     "hit": ("W H SCHEDULE X Y FILE..", "SCHEDULE FILE", ""),
     "turns": ("W H TICKS FILE..", "FILE", ""),
 }
+OPTIONS = ("--paced", "--buffers", "--pipe")     # of run, each at most once and in this order
 MOST = {"W": 2048, "H": 2048, "TICKS": 256, "N": 1000, "X": 2047, "Y": 2047}
 LEAST = {"TICKS": 0, "X": 0, "Y": 0}
 BELOW = {"X": "W", "Y": "H"}
@@ -39,13 +40,14 @@ def named(words):
     """The words of a command with their names in its form."""
     if not words or words[0] not in FORMS:
         raise Usage("%s is no command: %s" % (words[0] if words else "nothing", ", ".join(FORMS)))
-    form, rest = FORMS[words[0]][0].split(), list(words[1:])
+    form, rest, left = FORMS[words[0]][0].split(), list(words[1:]), OPTIONS
     while words[0] == "run" and rest and rest[0].startswith("--"):
         option = rest.pop(0)
+        if option not in left:
+            raise Usage("%s: run has --paced, --buffers N and --pipe, each once and in this order" % option)
+        left = left[left.index(option) + 1:]
         if option == "--buffers":
             number("--buffers", rest.pop(0) if rest else "", 4, 1)
-        elif option != "--paced":
-            raise Usage("%s: run has --paced and --buffers N" % option)
     many = form[-1] == "FILE.."
     if len(rest) < len(form) or not many and len(rest) > len(form):
         raise Usage("%s wants %s, and has %d words" % (words[0], " ".join(form), len(rest)))

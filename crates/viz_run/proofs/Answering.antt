@@ -78,7 +78,7 @@ pub not_both :
     (words : List Word) (s : Shelved) (c d : Command) (i j : Inputs) (r : Refused) → IsTrue s.is_known
     → Asks words c → AreAccepted s c i → Asks words d → AreRefused s d j r → ⊥
 not_both words s c d i j r known asks accepted others refused =
-    let same = same_command words d c others.0 asks.0 in
+    let same = same_command words d c others asks in
     let there = subst (λ (x : Command). AreRefused s x j r) same refused in
     apart (sym accepted.good ∙ (ap (first_refused c) (inputs_once s c i j known accepted.read there.read) ∙ there.first))
   where

@@ -1,5 +1,5 @@
 -- From what a command does to what the words that ask for it do.
-use Rattle.std.proofs.Common.{rules, ◌≡◌, ℕ, ◌+◌, ◌≤◌, Result, Ok, Err, IfOk, IfErr, OnErr, IsErrOf, IsErrAnd, IsTrue, List, [], ◌∷◌, take, inr, refl, sym, ap, subst, ◌∙◌, true, false, arith}
+use Rattle.std.proofs.Common.{rules, ◌≡◌, ℕ, ◌+◌, ◌≤◌, Result, Ok, Err, IfOk, IfErr, OnErr, IsErrOf, IsErrAnd, IsTrue, List, [], ◌∷◌, take, inr, refl, sym, ap, subst, ◌∙◌, arith}
 use Rattle.vz_base.specs.declared.limits.TheConstants.{DEFAULT_BUFFERS, MOST_ROUNDS}
 use Rattle.vz_gen.specs.Make.{make}
 use Rattle.vz_inputs.specs.Read.{MissesOne}
@@ -14,10 +14,9 @@ use Rattle.vz_rules.specs.Frames.{frames, written, painted, written_of, painted_
 use Rattle.vz_rules.specs.Plan.{Plan, IsPlan}
 use Rattle.vz_rules.specs.Step.{Legal, LegalFrom}
 use Rattle.vz_rules.specs.declared.entry.Entry.{Entry}
-use Rattle.vz_words.proofs.One.{same_command}
 use Rattle.vz_words.specs.Words.{command_of}
 use Rattle.vz_words.specs.declared.commands.Command.{Command as Found}
-use Rattle.viz_run.specs.Commands.{Asks, AsksNothing, is_built, buffers_of, input_names, output_names}
+use Rattle.viz_run.specs.Commands.{Asks, AsksNothing, buffers_of, input_names, output_names}
 use Rattle.viz_run.specs.Inputs.{Inputs, no_inputs, AreAccepted, plan_of}
 use Rattle.vz_demo.specs.Planned.{demo_plan}
 use Rattle.viz_run.specs.Demo.{demo_events}
@@ -222,29 +221,10 @@ pub asked_fits : (words : List Word) (c : Command) → IsCommand words c → IsT
 unfolding IsCommand
 asked_fits words c is = is.0
 
--- the words of a command of the code ask for it, where the program has it
-pub asks_for :
-    (words : List Word) (found same : Found) → found ≡ same → IsCommand words (command_of found) → IsTrue (is_built (command_of same))
-    → Asks words (command_of same)
-asks_for words found same is command built = (subst (λ (x : Found). IsCommand words (command_of x)) is command, built)
+-- the words of a command of the code ask for it
+pub asks_for : (words : List Word) (found same : Found) → found ≡ same → IsCommand words (command_of found) → Asks words (command_of same)
+asks_for words found same is command = subst (λ (x : Found). IsCommand words (command_of x)) is command
 
--- Words of a command that the program does not have
-
--- of which there is no other command
-unbuilt : (words : List Word) (c : Command) → IsCommand words c → is_built c ≡ false → AsksNothing words
-unbuilt words c is other d asks =
-    apart (sym other ∙ ap is_built (same_command words c d is asks.0) ∙ asks.1)
-  where
-    apart : false ≡ true → ⊥
-    apart h = cc
-
--- and so of a command of the code that it does not have
-pub unbuilt_found :
-    (words : List Word) (found same : Found) → found ≡ same → IsCommand words (command_of found) → is_built (command_of same) ≡ false
-    → AsksNothing words
-unbuilt_found words found same is command other =
-    unbuilt words (command_of same) (subst (λ (x : Found). IsCommand words (command_of x)) is command) other
-
--- or of none
+-- Words of no command
 pub unasked : (words : List Word) → IsNoCommand words → AsksNothing words
-unasked words none c asks = none c asks.0
+unasked words none c asks = none c asks

@@ -1,19 +1,13 @@
 -- The commands that the program has, and which names they read and write.
-use Rattle.std.specs.Prelude.{ℕ, Bool, true, not, IsTrue, List, [], ◌∷◌, ◌++◌}
+use Rattle.std.specs.Prelude.{ℕ, List, [], ◌∷◌, ◌++◌}
 use Rattle.vz_base.specs.declared.limits.TheConstants.{DEFAULT_BUFFERS}
 use Rattle.vz_rules.specs.Command.{Word, Command, Run, Step, Check, Gen, Hit, Turns, IsCommand, buffer_count}
 
--- the program has the command; it refuses the words of a run whose frames a writer thread would
--- write
-abbrev pub is_built : Command → Bool
-is_built (Run paced buffers pipe w h ticks frames log files) = not pipe
-is_built _ = true
-
--- the words ask for a command that the program has
+-- the words ask for a command
 abbrev pub Asks : List Word → Command → Type 0
-Asks words c = IsCommand words c × IsTrue (is_built c)
+Asks words c = IsCommand words c
 
--- the words ask for no command that the program has
+-- the words ask for no command
 abbrev pub AsksNothing : List Word → Type 0
 AsksNothing words = (c : Command) → Asks words c → ⊥
 

@@ -32,7 +32,7 @@ use vz_words::RunWords;
 ///
 /// The error is `Failed` exactly if a fault was counted, and `Memory` if an allocation failed.
 /// After either error the history is legal, and a front part of what it writes is in each file.
-pub fn play_run<M: Machine + Send + Drop, F: Shelf, G: Gate + Sync, L: Ledger, R>(
+pub fn play_run<M: Machine + Send + Drop, F: Shelf + Send, G: Gate + Sync, L: Ledger, R>(
     rt: &R,
     machine: M,
     counts: &[u64],
@@ -85,7 +85,7 @@ where
 /// Runs a machine in the opening world of its plan, writes the frames to an open slot, and
 /// returns what is outstanding at the end. After an error the history is legal, and a front part
 /// of the bytes of its frames was written.
-fn show_run<M: Machine + Send + Drop, F: Shelf, G: Gate + Sync, L: Ledger, R>(
+fn show_run<M: Machine + Send + Drop, F: Shelf + Send, G: Gate + Sync, L: Ledger, R>(
     rt: &R,
     machine: M,
     counts: &[u64],
@@ -126,6 +126,7 @@ where
         rounds: words.ticks,
         paced: words.paced,
         buffers: buffer_count(words.buffers),
+        piped: words.pipe,
     };
     let size = size_of(words.width, words.height);
     let file = FrameFile { slot, size };

@@ -32,7 +32,7 @@ use vz_words::{Command, command};
 /// The error is `Words` if the program has no such command, and `Input` if an input is refused;
 /// after either nothing was begun. It is `Fault` exactly if the shelf counted a fault, and
 /// `Memory` if an allocation failed.
-pub fn perform<F: Shelf, G: Gate + Sync, L: Ledger, R>(
+pub fn perform<F: Shelf + Send, G: Gate + Sync, L: Ledger, R>(
     rt: &R,
     words: &[String],
     shelf: &mut F,
@@ -59,12 +59,7 @@ where
         (F.shelved shelf.old) (F.shelved shelf.new) result }
 {
     match command(words) {
-        Some(Command::Run(words)) => {
-            if words.pipe {
-                return Err(Stop::Words);
-            }
-            run(rt, &words, shelf, gate, steps, history)
-        }
+        Some(Command::Run(words)) => run(rt, &words, shelf, gate, steps, history),
         Some(Command::Step(words)) => step(rt, &words, shelf, gate, steps, history),
         Some(Command::Check(words)) => check_log(rt, &words, shelf),
         Some(Command::Gen(words)) => Ok(End {

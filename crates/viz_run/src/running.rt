@@ -30,8 +30,9 @@ use vz_rules::Entry;
 use vz_words::RunWords;
 
 /// Runs the clients' files, each on a thread of its own beside the display, writes the frames and
-/// the log, and returns how that ended. This thread writes the frames.
-pub fn run<F: Shelf, G: Gate + Sync, L: Ledger, R>(
+/// the log, and returns how that ended. If the words have `--pipe`, the frames of the rounds are
+/// written by a thread of their own, and otherwise by the display.
+pub fn run<F: Shelf + Send, G: Gate + Sync, L: Ledger, R>(
     rt: &R,
     words: &RunWords<'_>,
     shelf: &mut F,

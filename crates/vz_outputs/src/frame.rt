@@ -5,6 +5,7 @@ ghost use Rattle.vz_outside.specs.Shelved.{Writing, KeepsOthers, Appends, Append
 ghost use Rattle.vz_rules.specs.Frames.{pixel_bytes};
 ghost use Rattle.vz_outputs.specs.Shown.{ShowsFrame, frame_on, rows_in};
 
+use vz_base::Memory;
 use vz_display::Display;
 use vz_geom::Size;
 use vz_outside::{Shelf, ShelfError, write_all};
@@ -112,6 +113,21 @@ fn write_rows<F: Shelf>(
     let rows = &mut piece[..count * (4 * width)];
     copy_rows(display, from, count, width, rows);
     write_all(shelf, slot, rows)?;
+    Ok(())
+}
+
+/// Copies the frame that a display shows into a buffer, which then has the bytes of the frame
+/// alone, in the order in which `write_frame` writes them. The only error is `Memory`. Conditions:
+/// the display has this size, and it shows a frame.
+pub fn copy_frame(display: &Display, size: Size, into: &mut Vec<u8>) -> Result<(), Memory>
+    requires size { display.now.shown.turns.size ≡ size }
+    requires shows { ShowsFrame display.now.shown }
+    ensures { OnOk result (into.new.items ≡ flat_map pixel_bytes (frame_on display.now.shown)) }
+{
+    let width = size.w.unsigned_abs() as usize;
+    let height = size.h.unsigned_abs() as usize;
+    into.resize(4 * width * height, 0)?;
+    copy_rows(display, 0, height, width, into);
     Ok(())
 }
 

@@ -147,12 +147,40 @@ impl<T: Drop> Sender<T> {
         ensures goes { go ≡ true
             → OnOk result ((self.new.waiting ≡ []) ⊎ (self.new.shut ≡ true)) }
     {
+        self.add(frame)?;
+        if go {
+            self.pass_on(rt);
+        }
+        Ok(())
+    }
+
+    /// Sends a frame, and leaves it in the sender's list until `pass_on` or a later `send`. It
+    /// waits for nobody. The only error is `Memory`, if the list cannot grow; then the frame is
+    /// lost, and nothing changed.
+    pub fn add(&mut self, frame: T) -> Result<(), Memory>
+        ensures pipe { self.new.pipe ≡ self.old.pipe }
+        ensures sent { OnOk result (self.new.sent ≡ self.old.sent ++ frame ∷ []) }
+        ensures kept { OnErr result (self.new ≡ self.old) }
+        ensures waits { OnOk result (self.new.waiting ≡ self.old.waiting ++ frame ∷ []) }
+        ensures shut { self.new.shut ≡ self.old.shut }
+    {
         self.list.push_back(frame)?;
-        if go && !self.shut {
+        Ok(())
+    }
+
+    /// If the sender is not shut, the frames of its list go into the channel, the first one
+    /// first, and the call waits for room, until the list is empty or the channel hands a frame
+    /// back. That frame becomes the first of the list again, and the sender is shut. It takes no
+    /// memory.
+    pub fn pass_on<R: Wait>(&mut self, rt: &R)
+        ensures pipe { self.new.pipe ≡ self.old.pipe }
+        ensures sent { self.new.sent ≡ self.old.sent }
+        ensures goes { (self.new.waiting ≡ []) ⊎ (self.new.shut ≡ true) }
+    {
+        if !self.shut {
             let whole = pour(rt, &self.inlet, &mut self.pass, &mut self.list);
             self.shut = !whole;
         }
-        Ok(())
     }
 
     /// Shuts the sender: the mark of the end goes into the channel after the last frame there,

@@ -2,6 +2,7 @@
 ghost use Rattle.std.specs.Prelude.{◌≡◌, ◌<◌};
 
 use crate::gate::TestGate;
+use crate::shelf::TestShelf;
 use std::alloc::{AllocError, Global};
 use std::marker::Brand;
 use std::sync::Wait;
@@ -10,6 +11,13 @@ use std::thread::Threads;
 use viz_run::viz;
 use vz_buffers::Steps;
 use vz_outside::{MemoryShelf, MemorySink};
+
+/// What a call leaves: its status, and what it printed.
+#[derive(Drop)]
+pub struct Answer {
+    pub status: u8,
+    pub sink: MemorySink,
+}
 
 /// More bytes than any file has.
 const WHOLE: usize = 1 << 20;
@@ -46,24 +54,37 @@ pub fn status_through<R: Threads + Wait + AllocGlobal + Sync>(
     files: &[(&str, &[u8])],
     gate: &TestGate,
 ) -> Option<u8> {
+    Some(answer_through(rt, line, files, gate)?.status)
+}
+
+/// What a call leaves with the words of a line, through a gate, if there is memory for its words
+/// and its files.
+pub fn answer_through<R: Threads + Wait + AllocGlobal + Sync>(
+    rt: &R,
+    line: &str,
+    files: &[(&str, &[u8])],
+    gate: &TestGate,
+) -> Option<Answer> {
     let files = files_of(rt.alloc(), files).ok()?;
     let words = words_of(rt.alloc(), line).ok()?;
     let shelf = MemoryShelf::new(rt.alloc(), files, Vec::new(rt.alloc()), WHOLE);
+    let shelf = TestShelf { shelf, gate };
     Some(counted::<Brand, R>(rt, &words, shelf, gate, Blank::new(1)))
 }
 
 fn counted<L: Ledger, R: Threads + Wait + AllocGlobal + Sync>(
     rt: &R,
     words: &[String],
-    mut shelf: MemoryShelf,
+    mut shelf: TestShelf<'_>,
     gate: &TestGate,
     blank: Blank,
-) -> u8
+) -> Answer
     requires name { blank.name ≡ L.name }
     requires parts { blank.parts ≡ L.parts }
     requires some { 0 < L.parts }
 {
     let mut sink = MemorySink::new(rt.alloc(), Vec::new(rt.alloc()));
     let mut steps = Steps::<L>::new(blank);
-    viz(rt, words, &mut shelf, &mut sink, gate, &mut steps).status
+    let status = viz(rt, words, &mut shelf, &mut sink, gate, &mut steps).status;
+    Answer { status, sink }
 }

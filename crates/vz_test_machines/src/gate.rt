@@ -1,6 +1,7 @@
 //! The gates of the tests, as one type: the program is built once for each type of gate.
 use crate::meeting::MeetingGate;
 use crate::order::OrderGate;
+use crate::piped::PipedGate;
 use vz_outside::Gate;
 
 /// On which side of a step a gate is called.
@@ -15,6 +16,7 @@ pub enum Side {
 pub enum TestGate {
     Order(OrderGate),
     Meeting(MeetingGate),
+    Piped(PipedGate),
 }
 
 impl TestGate {
@@ -23,6 +25,16 @@ impl TestGate {
         match self {
             TestGate::Order(gate) => gate.is_told(),
             TestGate::Meeting(gate) => gate.all_met(),
+            TestGate::Piped(gate) => gate.all_met(),
+        }
+    }
+
+    /// Takes a call before a write to a file.
+    pub fn write(&self) {
+        match self {
+            TestGate::Order(_) => {}
+            TestGate::Meeting(_) => {}
+            TestGate::Piped(gate) => gate.write(),
         }
     }
 }
@@ -32,6 +44,7 @@ impl Gate for TestGate {
         match self {
             TestGate::Order(gate) => gate.call(actor, turn, Side::Before),
             TestGate::Meeting(gate) => gate.before(actor, turn),
+            TestGate::Piped(gate) => gate.before(actor, turn),
         }
     }
 
@@ -39,6 +52,7 @@ impl Gate for TestGate {
         match self {
             TestGate::Order(gate) => gate.call(actor, turn, Side::After),
             TestGate::Meeting(_) => {}
+            TestGate::Piped(_) => {}
         }
     }
 }

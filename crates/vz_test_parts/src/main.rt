@@ -13,6 +13,7 @@ mod painted;
 mod references;
 mod sinks;
 mod telling;
+mod thinned;
 
 use anyhow::Result;
 
@@ -23,5 +24,6 @@ fn main(rt: HostRuntime) -> Result<()> {
     deps::play(&rt)?;
     references::play(&rt)?;
     painted::play(&rt)?;
-    occluded::play(&rt)
+    occluded::play(&rt)?;
+    thinned::play(&rt)
 }

@@ -202,7 +202,7 @@ pub either_way : {E : Type 0} (r : Result (Unit {0}) E) (A B P : Type 0) → OnO
 either_way (Ok x) A B P a b f g = f a
 either_way (Err e) A B P a b f g = g b
 
-fresh_planned : (p : Plan) (id : TableId) (d0 d : Owner DisplayTotals) → d0 ≡ fresh id p no_display_totals 0 → IsSameOwner d0 d → d.plan ≡ Some p
+pub fresh_planned : (p : Plan) (id : TableId) (d0 d : Owner DisplayTotals) → d0 ≡ fresh id p no_display_totals 0 → IsSameOwner d0 d → d.plan ≡ Some p
 fresh_planned p id d0 d is same = same.plan ∙ ap (λ (o : Owner DisplayTotals). o.plan) is
 
 module _ (k : Setup) (rounds : ℕ) (paced : Bool) (start now : Outlook) (id : TableId) (callers : ℕ) (q : Plan) (messages : List ℕ) (ends0 ends2 : List (Owner Totals)) (d0 d : Owner DisplayTotals) (h : List Entry) where

@@ -15,3 +15,6 @@ pub mod Ends
 pub mod Following
 pub mod Gathered
 pub mod Finished
+pub mod Papers
+pub mod Through
+pub mod Renaming

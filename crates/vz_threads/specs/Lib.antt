@@ -4,3 +4,4 @@ pub mod Crews
 pub mod Outlets
 pub mod Rounds
 pub mod Runs
+pub mod Pipes

@@ -1,5 +1,7 @@
 -- Where pictures go: a display, a file of frames, and a counter of steps.
-use Rattle.std.specs.Prelude.{◌≡◌, ℕ, ◌+◌, Some, List}
+use Rattle.std.specs.Prelude.{◌≡◌, ℕ, ◌+◌, Option, Some, None, List}
+use Rattle.std.specs.Global.{Global}
+use Rattle.std.specs.declared.vec.Vec.{Vec}
 use Rattle.std.specs.List.{flat_map}
 use Rattle.vz_geom.specs.declared.Size.{Size}
 use Rattle.vz_outside.specs.Shelved.{Shelved, Name, Writing, Appends, AppendsFront}
@@ -7,14 +9,16 @@ use Rattle.vz_rules.specs.Frames.{pixel_bytes}
 use Rattle.vz_machine.specs.Pictured.{Pictured}
 use Rattle.vz_display.specs.Displayed.{Displayed, shown, steps_for}
 use Rattle.vz_outputs.specs.Shown.{ShowsFrame, frame_on}
+use Rattle.vz_pipe.specs.Ends.{PipeId}
 
--- the fixed part of an outlet: the file's slot, the size of the frames, and which shelf and
--- counter it borrows
+-- the fixed part of an outlet: the file's slot, the size of the frames, which shelf (or which
+-- sender) and which counter it borrows, and through which pipe the frames go, if there is one
 pub record Fixed : Type 0 where
   pub slot : ℕ
   pub size : Size
   pub shelf : ℕ
   pub steps : ℕ
+  pub pipe : Option (PipeId (Vec ℕ Global))
 
 -- the state of an outlet: its fixed part, the display, the file's shelf, and the steps so far
 pub record Outlook : Type 0 where
@@ -48,3 +52,13 @@ pub record Shows (x : Pictured) (old new : Outlook) : Type 0 where
 -- a front part of the picture's frame is written, possibly nothing of it
 abbrev pub BeginsFrame : Pictured → Outlook → Outlook → Type 0
 BeginsFrame x old new = AppendsFront (frame_bytes (shown old.display x)) (file_of old) old.shelf new.shelf
+
+-- the state of a display, of the file of a shelf to which its frames are written, and of a counter
+abbrev pub outlook : ℕ → Size → Displayed → Shelved → ℕ → Outlook
+outlook slot size display shelf steps =
+    record {
+      fixed = record { slot = slot; size = size; shelf = 0; steps = 0; pipe = None };
+      display = display;
+      shelf = shelf;
+      steps = steps;
+    }

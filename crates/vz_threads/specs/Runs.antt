@@ -14,10 +14,11 @@ use Rattle.vz_display.specs.Displayed.{display_at}
 use Rattle.vz_rules.specs.Frames.{written, frames_bytes}
 use Rattle.vz_desk.specs.declared.totals.Totals.{Totals}
 use Rattle.vz_desk.specs.Totals.{DisplayTotals, no_display_totals}
-use Rattle.vz_desk.specs.Owners.{Owner, fresh, fresh_from}
+use Rattle.vz_desk.specs.Owners.{Owner, fresh, fresh_from, IsSameOwner}
 use Rattle.vz_threads.specs.Courses.{frames_of, message_counts}
+use Rattle.vz_threads.specs.Crews.{CrewWorksOn}
 use Rattle.vz_threads.specs.Outlets.{Outlook, file_of}
-use Rattle.vz_threads.specs.Rounds.{Setup, MayBegin, AreShown}
+use Rattle.vz_threads.specs.Rounds.{Setup, MayBegin, AreShown, PlaysAll, IsCutShort}
 use Rattle.vz_threads.specs.Tails.{TookAll, IsTail}
 
 -- an outlet can show a run, and has shown nothing yet
@@ -51,6 +52,16 @@ pub record IsOpened (p : Plan) (messages : List ℕ) (id : TableId) (callers : �
   pub callers_are : callers ≡ length messages + 1
   pub ends_are : ends ≡ fresh_from id p 1 (length messages)
   pub display_is : display ≡ fresh id p no_display_totals 0
+
+-- a desk was opened with these ends, and after all threads of its run have ended these others are
+-- there: the clients' ends, the display's end, the outlet, and how the rounds ended
+pub record WasPlayed (k : Setup) (rounds : ℕ) (paced : Bool) (start now : Outlook) (messages : List ℕ) (id : TableId) (callers : ℕ) (ends ends' : List (Owner Totals)) (d d' : Owner DisplayTotals) (played : Result (Unit {0}) ShelfError) : Type 0 where
+  pub ready : IsReady k start
+  pub opened : IsOpened k.plan messages id callers ends d
+  pub works : CrewWorksOn ends ends'
+  pub same : IsSameOwner d d'
+  pub whole : OnOk played (PlaysAll paced start d now d' rounds)
+  pub cut : OnErr played (IsCutShort paced start d now d' played)
 
 -- the result after the remaining messages were taken: an error stays, and otherwise only want of
 -- memory may come

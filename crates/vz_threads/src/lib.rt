@@ -2,18 +2,26 @@
 //! writes the frames.
 #![tactic(auto)]
 
+mod back;
 mod beside;
+mod chosen;
 mod crew;
 mod finish;
 mod halt;
+mod joined;
 mod left;
 mod messages;
 mod opening;
 mod outlet;
+mod piped;
+mod piping;
 mod playing;
+mod progress;
 mod ran;
 mod rounds;
 mod run;
 mod tail;
+mod writer;
+mod writing;
 
 pub use run::{Course, play_course};

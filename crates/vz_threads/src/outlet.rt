@@ -1,9 +1,10 @@
 //! Where the display's pictures are shown and written.
-ghost use Rattle.std.specs.Prelude.{OnOk, OnErr, ◌≡◌};
+ghost use Rattle.std.specs.Prelude.{OnOk, OnErr, None, ◌≡◌};
 ghost use Rattle.vz_outside.specs.Shelved.{KeepsOthers, Behaves};
 ghost use Rattle.vz_threads.specs.Outlets.{MayShow, Shows, BeginsFrame, file_of};
 
 use std::alloc::Global;
+use std::sync::Wait;
 use std::sync::ledger::Ledger;
 use vz_buffers::Steps;
 use vz_display::Display;
@@ -31,6 +32,18 @@ pub trait Outlet {
         ensures others { KeepsOthers (file_of (stands self.old))
             (stands self.old).shelf (stands self.new).shelf }
         ensures behaves { Behaves (stands self.old).shelf (stands self.new).shelf result };
+
+    /// Passes on what was shown to whoever writes it. It may wait for room, and takes no memory.
+    fn pass_on<R: Wait>(&mut self, rt: &R)
+        ensures { stands self.new ≡ stands self.old };
+
+    /// Tells whoever writes that nothing more is shown, and waits until all that was passed on is
+    /// written, or cannot be. It takes no memory.
+    fn close<R: Wait>(&mut self, rt: &R)
+        ensures { stands self.new ≡ stands self.old };
+
+    /// Whether whoever writes met an error, so that nothing more is written.
+    fn is_cut<R: Wait>(&self, rt: &R) -> bool;
 }
 
 /// A display, the file of a shelf to which its frames are written, the buffer through which their
@@ -51,6 +64,7 @@ impl<'a, F: Shelf, L: Ledger> Outlet for FrameOutlet<'a, F, L> {
         size = o.file.size;
         shelf = o.shelf.ghost_name;
         steps = o.steps.ghost_name;
+        pipe = None;
       };
       display = o.display.shown;
       shelf = F.shelved o.shelf.now;
@@ -62,5 +76,13 @@ impl<'a, F: Shelf, L: Ledger> Outlet for FrameOutlet<'a, F, L> {
         self.display.show(alloc, &thin, self.steps)?;
         write_frame(self.shelf, self.file, &self.display, &mut self.piece)?;
         Ok(())
+    }
+
+    fn pass_on<R: Wait>(&mut self, _rt: &R) {}
+
+    fn close<R: Wait>(&mut self, _rt: &R) {}
+
+    fn is_cut<R: Wait>(&self, _rt: &R) -> bool {
+        false
     }
 }

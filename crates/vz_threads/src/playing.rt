@@ -108,7 +108,7 @@ where
     Ok(())
 }
 
-/// Makes the rounds, and then takes the event Over.
+/// Makes the rounds, takes the event Over, and closes the outlet.
 fn play_to_over<M: Machine + Send, O: Outlet, G: Gate, R: Wait + AllocGlobal>(
     rt: &R,
     desk: &Desk<M, Halt>,
@@ -137,12 +137,17 @@ where
     let Ok(()) = tell_over(rt, desk, gate, d) else {
         return Err(ShelfError::Memory);
     };
+    outlet.close(rt);
+    if outlet.is_cut(rt) {
+        return Err(ShelfError::Memory);
+    }
     Ok(())
 }
 
-/// Makes the rounds, and then takes the event Over. After an error the desk is stopped, and a
-/// front part of the bytes of the frames was written. Conditions: the end is of this desk, the
-/// display has made no round yet, and each call of an end without a thread took a message.
+/// Makes the rounds, takes the event Over, and closes the outlet. After an error the desk is
+/// stopped, and a front part of the bytes of the frames was written. Conditions: the end is of
+/// this desk, the display has made no round yet, and each call of an end without a thread took a
+/// message.
 pub(crate) fn play<M: Machine + Send, O: Outlet, G: Gate, R: Wait + AllocGlobal>(
     rt: &R,
     desk: &Desk<M, Halt>,
@@ -171,6 +176,7 @@ where
         Ok(()) => Ok(()),
         Err(error) => {
             desk.stop_display(rt, d, halt_for(error));
+            outlet.close(rt);
             Err(error)
         }
     }

@@ -1,9 +1,14 @@
 //! What is there after all threads of a run have ended.
-ghost use Rattle.std.specs.Prelude.{◌≡◌, ◌≤◌, [], length, vec_capacity, All, OnOk};
+ghost use Rattle.std.specs.Prelude.{◌≡◌, ◌≤◌, ℕ, Bool, List, Some, [], length, vec_capacity, All, OnOk};
+ghost use Rattle.vz_rules.specs.Plan.{Plan};
 ghost use Rattle.vz_rules.specs.Step.{world};
+ghost use Rattle.vz_desk.specs.declared.totals.Totals.{Totals};
+ghost use Rattle.vz_desk.specs.Owners.{Owner};
+ghost use Rattle.vz_desk.specs.Totals.{DisplayTotals};
 ghost use Rattle.vz_threads.specs.Crews.{IsCrew, CrewWorksOn, HasTakenAll};
+ghost use Rattle.vz_threads.specs.Outlets.{Outlook};
 ghost use Rattle.vz_threads.specs.Rounds.{Setup};
-ghost use Rattle.vz_threads.specs.Runs.{IsReady, IsOpened, IsRestOf, HasRun};
+ghost use Rattle.vz_threads.specs.Runs.{IsReady, IsOpened, WasPlayed, IsRestOf, HasRun};
 
 use crate::beside::{Beside, play_beside};
 use crate::halt::Halt;
@@ -21,6 +26,7 @@ use vz_outside::{Gate, ShelfError};
 use vz_rules::Entry;
 
 /// The machine with its history, the outlet, and whether the display stopped early.
+#[derive(Drop)]
 pub(crate) struct Ran<M, O> {
     pub(crate) machine: M,
     pub(crate) history: Room<Entry>,
@@ -50,6 +56,49 @@ where
             Err(_) => Err(ShelfError::Memory),
         },
         Err(error) => Err(error),
+    }
+}
+
+/// Takes the messages that are left after all threads of a run have ended, unless the display
+/// stopped early, and gathers the history. Condition: the desk was opened for a run, and this is
+/// what came of it.
+pub(crate) fn gather_run<M: Machine + Send + Drop, O, G: Gate, R: Wait + AllocGlobal>(
+    rt: &R,
+    desk: Desk<M, Halt>,
+    messages: &[u64],
+    gate: &G,
+    beside: Beside<M, O>,
+) -> Ran<M, O>
+where
+    M::Picture: Send + Drop,
+    O: Outlet,
+    requires { (k : Setup) × (rounds : ℕ) × (paced : Bool) × (start : Outlook)
+        × (ends : List (Owner Totals)) × (display : Owner DisplayTotals)
+        × WasPlayed k rounds paced start (O.stands beside.outlet) messages.now desk.id desk.callers
+        ends beside.ends.items display beside.display beside.played }
+    ensures behind { (M.state result.machine).world
+        ≡ world (M.state result.machine).plan result.history.list }
+    ensures plan { (p : Plan) → beside.display.plan ≡ Some p → (M.state result.machine).plan ≡ p }
+    ensures run { (k : Setup) (rounds : ℕ) (paced : Bool) (start : Outlook)
+        (ends : List (Owner Totals)) (display : Owner DisplayTotals)
+        → WasPlayed k rounds paced start (O.stands beside.outlet) messages.now desk.id desk.callers
+        ends beside.ends.items display beside.display beside.played
+        → HasRun k rounds paced start (O.stands result.outlet) result.history.list result.played }
+    ensures outlet { result.outlet ≡ beside.outlet }
+{
+    let Beside {
+        mut ends,
+        display,
+        outlet,
+        played,
+    } = beside;
+    let played = take_rest(rt, &desk, gate, &mut ends, messages, played);
+    let Gathered { machine, history } = desk.gather(ends, display, None);
+    Ran {
+        machine,
+        history,
+        outlet,
+        played,
     }
 }
 
@@ -88,12 +137,7 @@ where
         started,
         refused,
     } = opened;
-    let Beside {
-        mut ends,
-        display,
-        outlet,
-        played,
-    } = play_beside(
+    let beside = play_beside(
         rt,
         &desk,
         gate,
@@ -106,12 +150,5 @@ where
         display,
         outlet,
     );
-    let played = take_rest(rt, &desk, gate, &mut ends, messages, played);
-    let Gathered { machine, history } = desk.gather(ends, display, None);
-    Ran {
-        machine,
-        history,
-        outlet,
-        played,
-    }
+    gather_run(rt, desk, messages, gate, beside)
 }

@@ -81,12 +81,13 @@ where
 }
 
 /// If the run is paced, waits until each attached client is idle or has answered the current
-/// begin-frame. The error is `Memory` if the desk was stopped.
-fn pause<M: Machine + Send, R: Wait>(
+/// begin-frame. The error is `Memory` if the desk was stopped, or if nothing more is written.
+fn pause<M: Machine + Send, O: Outlet, R: Wait>(
     rt: &R,
     desk: &Desk<M, Halt>,
     paced: bool,
     d: &mut DisplayEnd<M, Halt>,
+    outlet: &O,
 ) -> Result<(), Memory>
 where
     M::Picture: Send,
@@ -96,6 +97,9 @@ where
     ensures calm { OnOk result (IsTrue paced → IsPaused d.new) }
     ensures stays { IsFalse paced → d.new ≡ d.old }
 {
+    if outlet.is_cut(rt) {
+        return Err(Memory);
+    }
     if !paced {
         return Ok(());
     }
@@ -105,9 +109,9 @@ where
     }
 }
 
-/// Ends a round that was begun: pauses if the run is paced, draws, and shows the picture. After
-/// an error a front part of the bytes of the frame was written. Conditions: the end is of this
-/// desk, and the display is somewhere in its run.
+/// Ends a round that was begun: pauses if the run is paced, draws, shows the picture, and passes
+/// its frame on. After an error a front part of the bytes of the frame was written. Conditions:
+/// the end is of this desk, and the display is somewhere in its run.
 pub(crate) fn end_round<M: Machine + Send, O: Outlet, G: Gate, R: Wait + AllocGlobal>(
     rt: &R,
     desk: &Desk<M, Halt>,
@@ -126,10 +130,11 @@ where
     ensures cut { OnErr result
         (IsCutFrom (O.stands outlet.old) d.old (O.stands outlet.new) d.new result) }
 {
-    let Ok(()) = pause(rt, desk, paced, d) else {
+    let Ok(()) = pause(rt, desk, paced, d, outlet) else {
         return Err(ShelfError::Memory);
     };
     show_drawing(rt, desk, gate, d, outlet)?;
+    outlet.pass_on(rt);
     Ok(())
 }
 

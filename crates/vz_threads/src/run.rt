@@ -9,10 +9,10 @@ ghost use Rattle.vz_rules.specs.Step.{Legal};
 ghost use Rattle.vz_rules.specs.World.{opening};
 ghost use Rattle.vz_threads.specs.Courses.{IsRun, frames_of, message_counts};
 
+use crate::chosen::run_chosen;
 use crate::finish::finish_run;
 use crate::opening::open_run;
-use crate::outlet::FrameOutlet;
-use crate::ran::{Ran, run_opened};
+use crate::ran::Ran;
 use std::alloc::AllocGlobal;
 use std::sync::Wait;
 use std::sync::ledger::Ledger;
@@ -35,19 +35,23 @@ pub struct Course {
     pub paced: bool,
     /// How many buffers it paints in turn, 1 to `MOST_BUFFERS`.
     pub buffers: u32,
+    /// Whether a thread of its own writes the frames of the rounds.
+    pub piped: bool,
 }
 
 /// Runs a plan. Each client has a thread that takes its messages, while this thread is the
-/// display: it makes its rounds, and appends each frame that is drawn to a file. `messages` has
-/// the number of messages of each client's file, in the order of the files. After the last round
-/// the display takes the messages that are left, begins frames until no submission waits, and
-/// draws once more. The answer is what is outstanding at the end; `history` gets the entries.
+/// display: it makes its rounds, and appends each frame that is drawn to a file. If the course is
+/// piped, another thread writes these frames, and the gate's `before` is called once for it, with
+/// actor 17 and turn 1. `messages` has the number of messages of each client's file, in the order
+/// of the files. After the last round the display takes the messages that are left, begins frames
+/// until no submission waits, and draws once more. The answer is what is outstanding at the end,
+/// and `history` gets the entries.
 ///
 /// Conditions: the machine is in the opening world of its plan, the frames have the plan's size,
 /// the slot is open for writing, and the history is empty. The error is `Failed` if writing a
 /// frame fails, and `Memory` if an allocation fails. After either error the history is legal, and
 /// a front part of the bytes of its frames was written.
-pub fn play_course<M: Machine + Send + Drop, F: Shelf, G: Gate + Sync, L: Ledger, R>(
+pub fn play_course<M: Machine + Send + Drop, F: Shelf + Send, G: Gate + Sync, L: Ledger, R>(
     rt: &R,
     machine: M,
     messages: &[u64],
@@ -89,27 +93,15 @@ where
     let Ok(opened) = open_run(rt.alloc(), machine, messages) else {
         return Err(ShelfError::Memory);
     };
-    let outlet = FrameOutlet {
-        display: Display::new(file.size, course.buffers),
-        shelf,
-        file,
-        piece: Vec::new(rt.alloc()),
-        steps,
-    };
+    let display = Display::new(file.size, course.buffers);
     let Ran {
         machine,
         history: gathered,
-        outlet,
+        outlet: display,
         played,
-    } = run_opened(rt, opened, messages, course, gate, outlet);
-    let FrameOutlet {
-        display,
-        shelf,
-        piece,
-        steps,
-        ..
-    } = outlet;
-    drop(piece);
+    } = run_chosen(
+        rt, opened, messages, course, gate, display, shelf, file, steps,
+    );
     match played {
         Ok(()) => finish_run(
             rt.alloc(),

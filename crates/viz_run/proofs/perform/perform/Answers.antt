@@ -1,18 +1,18 @@
-use Rattle.std.proofs.Common.{rules, not, ap, inl, inr, refl}
+use Rattle.std.proofs.Common.{rules, inl, inr, refl}
 use Rattle.vz_demo.proofs.Fitting.{planned}
 use Rattle.vz_outputs.proofs.Behaving.{on_err}
 use Rattle.vz_outside.proofs.Calls.{ran_none, ran_one}
 use Rattle.vz_words.specs.Words.{texts}
 use Rattle.viz_run.proofs.Stopping.{stops_at, stops_after}
 use Rattle.viz_run.proofs.Performing.{if_ok, if_err, at_err, behaves_for, ok_at_err, unrefused, unrefused_memory, none_refused, none_at_memory, memory_no_fault, ok_no_fault}
-use Rattle.viz_run.proofs.Performing.{check_does, others_of, misses_of, gen_does, gen_leaves, demo_does, demo_leaves, demo_few, asked_fits, asks_for, unbuilt_found, unasked}
+use Rattle.viz_run.proofs.Performing.{check_does, others_of, misses_of, gen_does, gen_leaves, demo_does, demo_leaves, demo_few, asked_fits, asks_for, unasked}
 use Rattle.viz_run.proofs.Stepping.{holds_at_err}
 use Rattle.viz_run.specs.declared.stop.Stop.TheVariants as stop
 use Rattle.viz_run.proofs.perform.perform.Goals as goal
 
 pub returns-in-Some-Step-clause-done : goal.returns-in-Some-Step-clause-done
 returns-in-Some-Step-clause-done g c =
-    if_ok c.step.result _ _ (λ line does. (_, (asks_for (texts c.args.words.now) _ _ c.in-Some-Step.field-0-is c.in-Some-Step.ensures.found refl), does)) c.step.ensures.done
+    if_ok c.step.result _ _ (λ line does. (_, (asks_for (texts c.args.words.now) _ _ c.in-Some-Step.field-0-is c.in-Some-Step.ensures.found), does)) c.step.ensures.done
 
 pub returns-in-Some-Step-clause-words : goal.returns-in-Some-Step-clause-words
 returns-in-Some-Step-clause-words g c =
@@ -20,7 +20,7 @@ returns-in-Some-Step-clause-words g c =
 
 pub returns-in-Some-Step-clause-input : goal.returns-in-Some-Step-clause-input
 returns-in-Some-Step-clause-input g c =
-    λ r is. (_, (asks_for (texts c.args.words.now) _ _ c.in-Some-Step.field-0-is c.in-Some-Step.ensures.found refl), c.step.ensures.input r is)
+    λ r is. (_, (asks_for (texts c.args.words.now) _ _ c.in-Some-Step.field-0-is c.in-Some-Step.ensures.found), c.step.ensures.input r is)
 
 pub returns-in-Some-Step-clause-unbegun : goal.returns-in-Some-Step-clause-unbegun
 returns-in-Some-Step-clause-unbegun g c =
@@ -28,19 +28,19 @@ returns-in-Some-Step-clause-unbegun g c =
 
 pub returns-in-Some-Step-clause-front : goal.returns-in-Some-Step-clause-front
 returns-in-Some-Step-clause-front g c =
-    at_err c.step.result _ _ (λ leaves. inr (_, (asks_for (texts c.args.words.now) _ _ c.in-Some-Step.field-0-is c.in-Some-Step.ensures.found refl), leaves)) c.step.ensures.front
+    at_err c.step.result _ _ (λ leaves. inr (_, (asks_for (texts c.args.words.now) _ _ c.in-Some-Step.field-0-is c.in-Some-Step.ensures.found), leaves)) c.step.ensures.front
 
 pub returns-in-Some-Step-clause-others : goal.returns-in-Some-Step-clause-others
 returns-in-Some-Step-clause-others g c =
-    others_of (texts c.args.words.now) _ (asks_for (texts c.args.words.now) _ _ c.in-Some-Step.field-0-is c.in-Some-Step.ensures.found refl) (g.F.Shelf.shelved c.args.shelf.now) (g.F.Shelf.shelved c.step.new.shelf) c.step.ensures.others
+    others_of (texts c.args.words.now) _ (asks_for (texts c.args.words.now) _ _ c.in-Some-Step.field-0-is c.in-Some-Step.ensures.found) (g.F.Shelf.shelved c.args.shelf.now) (g.F.Shelf.shelved c.step.new.shelf) c.step.ensures.others
 
 pub returns-in-Some-Step-clause-behaves : goal.returns-in-Some-Step-clause-behaves
 returns-in-Some-Step-clause-behaves g c =
-    behaves_for c.step.result _ _ (misses_of (texts c.args.words.now) _ (asks_for (texts c.args.words.now) _ _ c.in-Some-Step.field-0-is c.in-Some-Step.ensures.found refl) _) c.step.ensures.behaves
+    behaves_for c.step.result _ _ (misses_of (texts c.args.words.now) _ (asks_for (texts c.args.words.now) _ _ c.in-Some-Step.field-0-is c.in-Some-Step.ensures.found) _) c.step.ensures.behaves
 
 pub returns-in_ok-make_files-in-Some-Gen-clause-done : goal.returns-in_ok-make_files-in-Some-Gen-clause-done
 returns-in_ok-make_files-in-Some-Gen-clause-done g c =
-    (_, (asks_for (texts c.args.words.now) _ _ c.in-Some-Gen.field-0-is c.in-Some-Gen.ensures.found refl), gen_does _ _ _ _ _ _ _ _ _ c.requires c.in_ok-make_files-in-Some-Gen.ensures.whole c.in_ok-make_files-in-Some-Gen.ensures.line)
+    (_, (asks_for (texts c.args.words.now) _ _ c.in-Some-Gen.field-0-is c.in-Some-Gen.ensures.found), gen_does _ _ _ _ _ _ _ _ _ c.requires c.in_ok-make_files-in-Some-Gen.ensures.whole c.in_ok-make_files-in-Some-Gen.ensures.line)
 
 pub returns-in_ok-make_files-in-Some-Gen-clause-words : goal.returns-in_ok-make_files-in-Some-Gen-clause-words
 returns-in_ok-make_files-in-Some-Gen-clause-words g c =
@@ -48,7 +48,7 @@ returns-in_ok-make_files-in-Some-Gen-clause-words g c =
 
 pub returns-in_ok-make_files-in-Some-Gen-clause-others : goal.returns-in_ok-make_files-in-Some-Gen-clause-others
 returns-in_ok-make_files-in-Some-Gen-clause-others g c =
-    others_of (texts c.args.words.now) _ (asks_for (texts c.args.words.now) _ _ c.in-Some-Gen.field-0-is c.in-Some-Gen.ensures.found refl) (g.F.Shelf.shelved c.args.shelf.now) (g.F.Shelf.shelved c.make_files.new.shelf) c.in_ok-make_files-in-Some-Gen.ensures.others
+    others_of (texts c.args.words.now) _ (asks_for (texts c.args.words.now) _ _ c.in-Some-Gen.field-0-is c.in-Some-Gen.ensures.found) (g.F.Shelf.shelved c.args.shelf.now) (g.F.Shelf.shelved c.make_files.new.shelf) c.in_ok-make_files-in-Some-Gen.ensures.others
 
 pub returns-in_ok-make_files-in-Some-Gen-clause-behaves : goal.returns-in_ok-make_files-in-Some-Gen-clause-behaves
 returns-in_ok-make_files-in-Some-Gen-clause-behaves g c =
@@ -72,11 +72,11 @@ returns-in_err-make_files-in-Some-Gen-clause-unbegun g c =
 
 pub returns-in_err-make_files-in-Some-Gen-clause-front : goal.returns-in_err-make_files-in-Some-Gen-clause-front
 returns-in_err-make_files-in-Some-Gen-clause-front g c =
-    on_err c.from_residual.result _ (inr (_, (asks_for (texts c.args.words.now) _ _ c.in-Some-Gen.field-0-is c.in-Some-Gen.ensures.found refl), gen_leaves _ _ _ _ _ _ _ _ c.requires c.in_err-make_files-in-Some-Gen.ensures.begun))
+    on_err c.from_residual.result _ (inr (_, (asks_for (texts c.args.words.now) _ _ c.in-Some-Gen.field-0-is c.in-Some-Gen.ensures.found), gen_leaves _ _ _ _ _ _ _ _ c.requires c.in_err-make_files-in-Some-Gen.ensures.begun))
 
 pub returns-in_err-make_files-in-Some-Gen-clause-others : goal.returns-in_err-make_files-in-Some-Gen-clause-others
 returns-in_err-make_files-in-Some-Gen-clause-others g c =
-    others_of (texts c.args.words.now) _ (asks_for (texts c.args.words.now) _ _ c.in-Some-Gen.field-0-is c.in-Some-Gen.ensures.found refl) (g.F.Shelf.shelved c.args.shelf.now) (g.F.Shelf.shelved c.make_files.new.shelf) c.in_err-make_files-in-Some-Gen.ensures.others
+    others_of (texts c.args.words.now) _ (asks_for (texts c.args.words.now) _ _ c.in-Some-Gen.field-0-is c.in-Some-Gen.ensures.found) (g.F.Shelf.shelved c.args.shelf.now) (g.F.Shelf.shelved c.make_files.new.shelf) c.in_err-make_files-in-Some-Gen.ensures.others
 
 pub returns-in_err-make_files-in-Some-Gen-clause-behaves : goal.returns-in_err-make_files-in-Some-Gen-clause-behaves
 returns-in_err-make_files-in-Some-Gen-clause-behaves g c =
@@ -84,7 +84,7 @@ returns-in_err-make_files-in-Some-Gen-clause-behaves g c =
 
 pub returns-in_ok-demo-in-Some-Demo-clause-done : goal.returns-in_ok-demo-in-Some-Demo-clause-done
 returns-in_ok-demo-in-Some-Demo-clause-done g c =
-    (_, (asks_for (texts c.args.words.now) _ _ c.in-Some-Demo.field-0-is c.in-Some-Demo.ensures.found refl), demo_does _ (planned c.in-Some-Demo.rounds (demo_few (texts c.args.words.now) c.in-Some-Demo.rounds (asks_for (texts c.args.words.now) _ _ c.in-Some-Demo.field-0-is c.in-Some-Demo.ensures.found refl).0)) _ _ _ _ _ c.in_ok-demo-in-Some-Demo.ensures.history c.in_ok-demo-in-Some-Demo.ensures.line c.in_ok-demo-in-Some-Demo.ensures.counted)
+    (_, (asks_for (texts c.args.words.now) _ _ c.in-Some-Demo.field-0-is c.in-Some-Demo.ensures.found), demo_does _ (planned c.in-Some-Demo.rounds (demo_few (texts c.args.words.now) c.in-Some-Demo.rounds (asks_for (texts c.args.words.now) _ _ c.in-Some-Demo.field-0-is c.in-Some-Demo.ensures.found))) _ _ _ _ _ c.in_ok-demo-in-Some-Demo.ensures.history c.in_ok-demo-in-Some-Demo.ensures.line c.in_ok-demo-in-Some-Demo.ensures.counted)
 
 pub returns-in_ok-demo-in-Some-Demo-clause-words : goal.returns-in_ok-demo-in-Some-Demo-clause-words
 returns-in_ok-demo-in-Some-Demo-clause-words g c =
@@ -116,7 +116,7 @@ returns-in_err-demo-in-Some-Demo-clause-unbegun g c =
 
 pub returns-in_err-demo-in-Some-Demo-clause-front : goal.returns-in_err-demo-in-Some-Demo-clause-front
 returns-in_err-demo-in-Some-Demo-clause-front g c =
-    on_err c.from_residual-in_err-demo-in-Some-Demo.result _ (inr (_, (asks_for (texts c.args.words.now) _ _ c.in-Some-Demo.field-0-is c.in-Some-Demo.ensures.found refl), demo_leaves _ (planned c.in-Some-Demo.rounds (demo_few (texts c.args.words.now) c.in-Some-Demo.rounds (asks_for (texts c.args.words.now) _ _ c.in-Some-Demo.field-0-is c.in-Some-Demo.ensures.found refl).0)) _ _ _ _ c.in_err-demo-in-Some-Demo.ensures.front))
+    on_err c.from_residual-in_err-demo-in-Some-Demo.result _ (inr (_, (asks_for (texts c.args.words.now) _ _ c.in-Some-Demo.field-0-is c.in-Some-Demo.ensures.found), demo_leaves _ (planned c.in-Some-Demo.rounds (demo_few (texts c.args.words.now) c.in-Some-Demo.rounds (asks_for (texts c.args.words.now) _ _ c.in-Some-Demo.field-0-is c.in-Some-Demo.ensures.found))) _ _ _ _ c.in_err-demo-in-Some-Demo.ensures.front))
 
 pub returns-in_err-demo-in-Some-Demo-clause-others : goal.returns-in_err-demo-in-Some-Demo-clause-others
 returns-in_err-demo-in-Some-Demo-clause-others g c =
@@ -127,55 +127,51 @@ returns-in_err-demo-in-Some-Demo-clause-behaves g c =
     stops_after c.from_residual-in_err-demo-in-Some-Demo.result _ _ (ran_none _) (memory_no_fault c.from_residual-in_err-demo-in-Some-Demo.result c.from_residual-in_err-demo-in-Some-Demo.ensures.1)
 
 pub step-requires-clause-fits : goal.step-requires-clause-fits
-step-requires-clause-fits g c = λ _ _. asked_fits _ _ (asks_for (texts c.args.words.now) _ _ c.in-Some-Step.field-0-is c.in-Some-Step.ensures.found refl).0
+step-requires-clause-fits g c = λ _ _. asked_fits _ _ (asks_for (texts c.args.words.now) _ _ c.in-Some-Step.field-0-is c.in-Some-Step.ensures.found)
 
 pub make_files-requires : goal.make_files-requires
-make_files-requires g c = asked_fits _ _ (asks_for (texts c.args.words.now) _ _ c.in-Some-Gen.field-0-is c.in-Some-Gen.ensures.found refl).0
+make_files-requires g c = asked_fits _ _ (asks_for (texts c.args.words.now) _ _ c.in-Some-Gen.field-0-is c.in-Some-Gen.ensures.found)
 
 pub demo-requires-clause-few : goal.demo-requires-clause-few
-demo-requires-clause-few g c = demo_few (texts c.args.words.now) c.in-Some-Demo.rounds (asks_for (texts c.args.words.now) _ _ c.in-Some-Demo.field-0-is c.in-Some-Demo.ensures.found refl).0
+demo-requires-clause-few g c = demo_few (texts c.args.words.now) c.in-Some-Demo.rounds (asks_for (texts c.args.words.now) _ _ c.in-Some-Demo.field-0-is c.in-Some-Demo.ensures.found)
 
-pub returns-else-words-clause-done : goal.returns-else-words-clause-done
-returns-else-words-clause-done g c =
-    if_ok c.run.result _ _ (λ line does. (_, (asks_for (texts c.args.words.now) _ _ c.in-Some-Run.field-0-is c.in-Some-Run.ensures.found (ap not c.if-words.false)), does)) c.run.ensures.done
+pub returns-in-Some-Run-clause-done : goal.returns-in-Some-Run-clause-done
+returns-in-Some-Run-clause-done g c =
+    if_ok c.run.result _ _ (λ line does. (_, (asks_for (texts c.args.words.now) _ _ c.in-Some-Run.field-0-is c.in-Some-Run.ensures.found), does)) c.run.ensures.done
 
-pub returns-else-words-clause-words : goal.returns-else-words-clause-words
-returns-else-words-clause-words g c =
+pub returns-in-Some-Run-clause-words : goal.returns-in-Some-Run-clause-words
+returns-in-Some-Run-clause-words g c =
     λ is. absurd (c.run.ensures.words is)
 
-pub returns-else-words-clause-input : goal.returns-else-words-clause-input
-returns-else-words-clause-input g c =
-    λ r is. (_, (asks_for (texts c.args.words.now) _ _ c.in-Some-Run.field-0-is c.in-Some-Run.ensures.found (ap not c.if-words.false)), c.run.ensures.input r is)
+pub returns-in-Some-Run-clause-input : goal.returns-in-Some-Run-clause-input
+returns-in-Some-Run-clause-input g c =
+    λ r is. (_, (asks_for (texts c.args.words.now) _ _ c.in-Some-Run.field-0-is c.in-Some-Run.ensures.found), c.run.ensures.input r is)
 
-pub returns-else-words-clause-unbegun : goal.returns-else-words-clause-unbegun
-returns-else-words-clause-unbegun g c =
+pub returns-in-Some-Run-clause-unbegun : goal.returns-in-Some-Run-clause-unbegun
+returns-in-Some-Run-clause-unbegun g c =
     c.run.ensures.unbegun
 
-pub returns-else-words-clause-front : goal.returns-else-words-clause-front
-returns-else-words-clause-front g c =
-    at_err c.run.result _ _ (λ leaves. inr (_, (asks_for (texts c.args.words.now) _ _ c.in-Some-Run.field-0-is c.in-Some-Run.ensures.found (ap not c.if-words.false)), leaves)) c.run.ensures.front
+pub returns-in-Some-Run-clause-front : goal.returns-in-Some-Run-clause-front
+returns-in-Some-Run-clause-front g c =
+    at_err c.run.result _ _ (λ leaves. inr (_, (asks_for (texts c.args.words.now) _ _ c.in-Some-Run.field-0-is c.in-Some-Run.ensures.found), leaves)) c.run.ensures.front
 
-pub returns-else-words-clause-others : goal.returns-else-words-clause-others
-returns-else-words-clause-others g c =
-    others_of (texts c.args.words.now) _ (asks_for (texts c.args.words.now) _ _ c.in-Some-Run.field-0-is c.in-Some-Run.ensures.found (ap not c.if-words.false)) (g.F.Shelf.shelved c.args.shelf.now) (g.F.Shelf.shelved c.run.new.shelf) c.run.ensures.others
+pub returns-in-Some-Run-clause-others : goal.returns-in-Some-Run-clause-others
+returns-in-Some-Run-clause-others g c =
+    others_of (texts c.args.words.now) _ (asks_for (texts c.args.words.now) _ _ c.in-Some-Run.field-0-is c.in-Some-Run.ensures.found) (g.F.Shelf.shelved c.args.shelf.now) (g.F.Shelf.shelved c.run.new.shelf) c.run.ensures.others
 
-pub returns-else-words-clause-behaves : goal.returns-else-words-clause-behaves
-returns-else-words-clause-behaves g c =
-    behaves_for c.run.result _ _ (misses_of (texts c.args.words.now) _ (asks_for (texts c.args.words.now) _ _ c.in-Some-Run.field-0-is c.in-Some-Run.ensures.found (ap not c.if-words.false)) _) c.run.ensures.behaves
-
-pub returns-then-words-clause-words : goal.returns-then-words-clause-words
-returns-then-words-clause-words g c =
-    λ is. unbuilt_found (texts c.args.words.now) _ _ c.in-Some-Run.field-0-is c.in-Some-Run.ensures.found (ap not c.if-words.true)
+pub returns-in-Some-Run-clause-behaves : goal.returns-in-Some-Run-clause-behaves
+returns-in-Some-Run-clause-behaves g c =
+    behaves_for c.run.result _ _ (misses_of (texts c.args.words.now) _ (asks_for (texts c.args.words.now) _ _ c.in-Some-Run.field-0-is c.in-Some-Run.ensures.found) _) c.run.ensures.behaves
 
 pub run-requires-clause-fits : goal.run-requires-clause-fits
-run-requires-clause-fits g c = λ _ _. asked_fits _ _ (asks_for (texts c.args.words.now) _ _ c.in-Some-Run.field-0-is c.in-Some-Run.ensures.found (ap not c.if-words.false)).0
+run-requires-clause-fits g c = λ _ _. asked_fits _ _ (asks_for (texts c.args.words.now) _ _ c.in-Some-Run.field-0-is c.in-Some-Run.ensures.found)
 
 pub hit-requires-clause-fits : goal.hit-requires-clause-fits
-hit-requires-clause-fits g c = λ _ _. asked_fits _ _ (asks_for (texts c.args.words.now) _ _ c.in-Some-Hit.field-0-is c.in-Some-Hit.ensures.found refl).0
+hit-requires-clause-fits g c = λ _ _. asked_fits _ _ (asks_for (texts c.args.words.now) _ _ c.in-Some-Hit.field-0-is c.in-Some-Hit.ensures.found)
 
 pub returns-in-Some-Hit-clause-done : goal.returns-in-Some-Hit-clause-done
 returns-in-Some-Hit-clause-done g c =
-    if_ok c.hit.result _ _ (λ line does. (_, (asks_for (texts c.args.words.now) _ _ c.in-Some-Hit.field-0-is c.in-Some-Hit.ensures.found refl), does c.args.steps.now)) c.hit.ensures.done
+    if_ok c.hit.result _ _ (λ line does. (_, (asks_for (texts c.args.words.now) _ _ c.in-Some-Hit.field-0-is c.in-Some-Hit.ensures.found), does c.args.steps.now)) c.hit.ensures.done
 
 pub returns-in-Some-Hit-clause-words : goal.returns-in-Some-Hit-clause-words
 returns-in-Some-Hit-clause-words g c =
@@ -183,7 +179,7 @@ returns-in-Some-Hit-clause-words g c =
 
 pub returns-in-Some-Hit-clause-input : goal.returns-in-Some-Hit-clause-input
 returns-in-Some-Hit-clause-input g c =
-    λ r is. (_, (asks_for (texts c.args.words.now) _ _ c.in-Some-Hit.field-0-is c.in-Some-Hit.ensures.found refl), c.hit.ensures.input r is)
+    λ r is. (_, (asks_for (texts c.args.words.now) _ _ c.in-Some-Hit.field-0-is c.in-Some-Hit.ensures.found), c.hit.ensures.input r is)
 
 pub returns-in-Some-Hit-clause-unbegun : goal.returns-in-Some-Hit-clause-unbegun
 returns-in-Some-Hit-clause-unbegun g c =
@@ -191,7 +187,7 @@ returns-in-Some-Hit-clause-unbegun g c =
 
 pub returns-in-Some-Hit-clause-front : goal.returns-in-Some-Hit-clause-front
 returns-in-Some-Hit-clause-front g c =
-    at_err c.hit.result _ _ (λ leaves. inr (_, (asks_for (texts c.args.words.now) _ _ c.in-Some-Hit.field-0-is c.in-Some-Hit.ensures.found refl), leaves c.args.steps.now)) c.hit.ensures.front
+    at_err c.hit.result _ _ (λ leaves. inr (_, (asks_for (texts c.args.words.now) _ _ c.in-Some-Hit.field-0-is c.in-Some-Hit.ensures.found), leaves c.args.steps.now)) c.hit.ensures.front
 
 pub returns-in-Some-Hit-clause-others : goal.returns-in-Some-Hit-clause-others
 returns-in-Some-Hit-clause-others g c =
@@ -199,14 +195,14 @@ returns-in-Some-Hit-clause-others g c =
 
 pub returns-in-Some-Hit-clause-behaves : goal.returns-in-Some-Hit-clause-behaves
 returns-in-Some-Hit-clause-behaves g c =
-    behaves_for c.hit.result _ _ (misses_of (texts c.args.words.now) _ (asks_for (texts c.args.words.now) _ _ c.in-Some-Hit.field-0-is c.in-Some-Hit.ensures.found refl) _) c.hit.ensures.behaves
+    behaves_for c.hit.result _ _ (misses_of (texts c.args.words.now) _ (asks_for (texts c.args.words.now) _ _ c.in-Some-Hit.field-0-is c.in-Some-Hit.ensures.found) _) c.hit.ensures.behaves
 
 pub turns-requires-clause-fits : goal.turns-requires-clause-fits
-turns-requires-clause-fits g c = λ _ _. asked_fits _ _ (asks_for (texts c.args.words.now) _ _ c.in-Some-Turns.field-0-is c.in-Some-Turns.ensures.found refl).0
+turns-requires-clause-fits g c = λ _ _. asked_fits _ _ (asks_for (texts c.args.words.now) _ _ c.in-Some-Turns.field-0-is c.in-Some-Turns.ensures.found)
 
 pub returns-in-Some-Turns-clause-done : goal.returns-in-Some-Turns-clause-done
 returns-in-Some-Turns-clause-done g c =
-    if_ok c.turns.result _ _ (λ line does. (_, (asks_for (texts c.args.words.now) _ _ c.in-Some-Turns.field-0-is c.in-Some-Turns.ensures.found refl), does c.args.steps.now)) c.turns.ensures.done
+    if_ok c.turns.result _ _ (λ line does. (_, (asks_for (texts c.args.words.now) _ _ c.in-Some-Turns.field-0-is c.in-Some-Turns.ensures.found), does c.args.steps.now)) c.turns.ensures.done
 
 pub returns-in-Some-Turns-clause-words : goal.returns-in-Some-Turns-clause-words
 returns-in-Some-Turns-clause-words g c =
@@ -214,7 +210,7 @@ returns-in-Some-Turns-clause-words g c =
 
 pub returns-in-Some-Turns-clause-input : goal.returns-in-Some-Turns-clause-input
 returns-in-Some-Turns-clause-input g c =
-    λ r is. (_, (asks_for (texts c.args.words.now) _ _ c.in-Some-Turns.field-0-is c.in-Some-Turns.ensures.found refl), c.turns.ensures.input r is)
+    λ r is. (_, (asks_for (texts c.args.words.now) _ _ c.in-Some-Turns.field-0-is c.in-Some-Turns.ensures.found), c.turns.ensures.input r is)
 
 pub returns-in-Some-Turns-clause-unbegun : goal.returns-in-Some-Turns-clause-unbegun
 returns-in-Some-Turns-clause-unbegun g c =
@@ -222,7 +218,7 @@ returns-in-Some-Turns-clause-unbegun g c =
 
 pub returns-in-Some-Turns-clause-front : goal.returns-in-Some-Turns-clause-front
 returns-in-Some-Turns-clause-front g c =
-    at_err c.turns.result _ _ (λ leaves. inr (_, (asks_for (texts c.args.words.now) _ _ c.in-Some-Turns.field-0-is c.in-Some-Turns.ensures.found refl), leaves c.args.steps.now)) c.turns.ensures.front
+    at_err c.turns.result _ _ (λ leaves. inr (_, (asks_for (texts c.args.words.now) _ _ c.in-Some-Turns.field-0-is c.in-Some-Turns.ensures.found), leaves c.args.steps.now)) c.turns.ensures.front
 
 pub returns-in-Some-Turns-clause-others : goal.returns-in-Some-Turns-clause-others
 returns-in-Some-Turns-clause-others g c =
@@ -230,7 +226,7 @@ returns-in-Some-Turns-clause-others g c =
 
 pub returns-in-Some-Turns-clause-behaves : goal.returns-in-Some-Turns-clause-behaves
 returns-in-Some-Turns-clause-behaves g c =
-    behaves_for c.turns.result _ _ (misses_of (texts c.args.words.now) _ (asks_for (texts c.args.words.now) _ _ c.in-Some-Turns.field-0-is c.in-Some-Turns.ensures.found refl) _) c.turns.ensures.behaves
+    behaves_for c.turns.result _ _ (misses_of (texts c.args.words.now) _ (asks_for (texts c.args.words.now) _ _ c.in-Some-Turns.field-0-is c.in-Some-Turns.ensures.found) _) c.turns.ensures.behaves
 
 pub returns-in-None-clause-words : goal.returns-in-None-clause-words
 returns-in-None-clause-words g c =
@@ -238,7 +234,7 @@ returns-in-None-clause-words g c =
 
 pub check_log-requires : goal.check_log-requires
 check_log-requires g c =
-    (search rules, asked_fits _ _ (asks_for (texts c.args.words.now) _ _ c.in-Some-Check.field-0-is c.in-Some-Check.ensures.found refl).0)
+    (search rules, asked_fits _ _ (asks_for (texts c.args.words.now) _ _ c.in-Some-Check.field-0-is c.in-Some-Check.ensures.found))
 
 pub returns-in-Some-Check-clause-done : goal.returns-in-Some-Check-clause-done
 returns-in-Some-Check-clause-done g c =
@@ -247,7 +243,7 @@ returns-in-Some-Check-clause-done g c =
     if_ok c.check_log.result _ _
     (λ end told. (
       _,
-      (asks_for (texts c.args.words.now) _ _ c.in-Some-Check.field-0-is c.in-Some-Check.ensures.found refl),
+      (asks_for (texts c.args.words.now) _ _ c.in-Some-Check.field-0-is c.in-Some-Check.ensures.found),
       check_does _ _ _ _ _ c.args.history.now a b c.args.steps.now _ _ c.requires told.0 told.1 told.2,
     )) c.check_log.ensures.told
 
@@ -257,7 +253,7 @@ returns-in-Some-Check-clause-words g c =
 
 pub returns-in-Some-Check-clause-input : goal.returns-in-Some-Check-clause-input
 returns-in-Some-Check-clause-input g c =
-    λ r is. (_, (asks_for (texts c.args.words.now) _ _ c.in-Some-Check.field-0-is c.in-Some-Check.ensures.found refl), c.check_log.ensures.input r is)
+    λ r is. (_, (asks_for (texts c.args.words.now) _ _ c.in-Some-Check.field-0-is c.in-Some-Check.ensures.found), c.check_log.ensures.input r is)
 
 pub returns-in-Some-Check-clause-unbegun : goal.returns-in-Some-Check-clause-unbegun
 returns-in-Some-Check-clause-unbegun g c =
@@ -273,4 +269,4 @@ returns-in-Some-Check-clause-others g c =
 
 pub returns-in-Some-Check-clause-behaves : goal.returns-in-Some-Check-clause-behaves
 returns-in-Some-Check-clause-behaves g c =
-    behaves_for c.check_log.result _ _ (misses_of (texts c.args.words.now) _ (asks_for (texts c.args.words.now) _ _ c.in-Some-Check.field-0-is c.in-Some-Check.ensures.found refl) _) c.check_log.ensures.behaves
+    behaves_for c.check_log.result _ _ (misses_of (texts c.args.words.now) _ (asks_for (texts c.args.words.now) _ _ c.in-Some-Check.field-0-is c.in-Some-Check.ensures.found) _) c.check_log.ensures.behaves

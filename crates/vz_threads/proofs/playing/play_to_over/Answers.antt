@@ -1,7 +1,10 @@
-use Rattle.vz_threads.specs.Rounds.{IsCutShort}
+use Rattle.std.proofs.Common.{Err, subst, sym}
+use Rattle.vz_outside.specs.declared.shelf.ShelfError.TheVariants.{Memory}
+use Rattle.vz_threads.specs.Outlets.{Outlook}
+use Rattle.vz_threads.specs.Rounds.{IsCut, IsCutShort, HasEnded}
 use Rattle.vz_threads.proofs.Ends.{err_as}
 use Rattle.vz_threads.proofs.Rounding.{cut_here}
-use Rattle.vz_threads.proofs.Following.{rounds_over}
+use Rattle.vz_threads.proofs.Following.{rounds_over, cut_at}
 use Rattle.vz_threads.proofs.playing.play_to_over.Goals as goal
 
 pub returns-in_err-play_rounds-clause-cut : goal.returns-in_err-play_rounds-clause-cut
@@ -14,6 +17,12 @@ returns-in_default-clause-cut g c = λ k start p.
     let q = c.in_ok-play_rounds.ensures.played k start p in
     (q.history, cut_here k start (g.O.Outlet.stands c.play_rounds.new.outlet) c.play_rounds.new.d c.tell_over.new.d q.history q.at c.tell_over.ensures.same c.in_default.ensures.none)
 
+pub returns-then-is_cut-clause-cut : goal.returns-then-is_cut-clause-cut
+returns-then-is_cut-clause-cut g c = λ k start p.
+    let q = rounds_over k c.args.paced start (g.O.Outlet.stands c.play_rounds.new.outlet) c.play_rounds.new.d c.tell_over.new.d c.args.rounds (c.in_ok-play_rounds.ensures.played k start p) c.tell_over.ensures.same c.in-Ok.ensures.made in
+    (q.history, subst (λ (s : Outlook). IsCut k start s c.tell_over.new.d q.history (Err Memory)) (sym c.close.ensures) (cut_at k start (g.O.Outlet.stands c.play_rounds.new.outlet) c.tell_over.new.d q.history q.at))
+
 pub returns-clause-played : goal.returns-clause-played
 returns-clause-played g c = λ k start p.
-    rounds_over k c.args.paced start (g.O.Outlet.stands c.play_rounds.new.outlet) c.play_rounds.new.d c.tell_over.new.d c.args.rounds (c.in_ok-play_rounds.ensures.played k start p) c.tell_over.ensures.same c.in-Ok.ensures.made
+    subst (λ (s : Outlook). HasEnded k c.args.paced start s c.tell_over.new.d c.args.rounds) (sym c.close.ensures)
+    (rounds_over k c.args.paced start (g.O.Outlet.stands c.play_rounds.new.outlet) c.play_rounds.new.d c.tell_over.new.d c.args.rounds (c.in_ok-play_rounds.ensures.played k start p) c.tell_over.ensures.same c.in-Ok.ensures.made)

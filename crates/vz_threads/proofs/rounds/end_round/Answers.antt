@@ -1,4 +1,6 @@
-use Rattle.vz_threads.specs.Rounds.{IsCutFrom}
+use Rattle.std.proofs.Common.{◌+◌, subst, sym}
+use Rattle.vz_threads.specs.Outlets.{Outlook}
+use Rattle.vz_threads.specs.Rounds.{HasPlayed, IsCutFrom}
 use Rattle.vz_threads.proofs.Ends.{err_as}
 use Rattle.vz_threads.proofs.Rounding.{cut_here, paused_by, round_ends, cut_behind}
 use Rattle.vz_threads.proofs.rounds.end_round.Goals as goal
@@ -26,6 +28,7 @@ returns-in_err-show_drawing-clause-cut g c =
 pub returns-clause-ended : goal.returns-clause-ended
 returns-clause-ended g c = λ k start n b.
     let was = g.O.Outlet.stands c.args.outlet.now in
-    round_ends k c.args.paced start was (g.O.Outlet.stands c.show_drawing.new.outlet) c.args.d.now c.pause.new.d c.show_drawing.new.d n b
+    subst (λ (s : Outlook). HasPlayed k c.args.paced start s c.show_drawing.new.d (n + 1)) (sym c.pass_on.ensures)
+    (round_ends k c.args.paced start was (g.O.Outlet.stands c.show_drawing.new.outlet) c.args.d.now c.pause.new.d c.show_drawing.new.d n b
     (paused_by k start was c.args.d.now c.pause.new.d b.history b.at c.pause.ensures.same c.pause.ensures.none c.args.paced c.in-Ok.ensures.calm c.pause.ensures.stays)
-    (c.in_ok-show_drawing.ensures.shown k start)
+    (c.in_ok-show_drawing.ensures.shown k start))

@@ -7,7 +7,6 @@ use Rattle.vz_rules.specs.Log.{rest_of}
 use Rattle.vz_display.specs.Displayed.{display_at}
 use Rattle.vz_threads.specs.Courses.{IsRun, frames_of}
 use Rattle.vz_outside.proofs.Calls.{Ran}
-use Rattle.vz_threads.specs.Outlets.{Fixed}
 use Rattle.vz_threads.specs.Rounds.{Setup}
 use Rattle.vz_threads.specs.Runs.{EndsWithTail, WritesMore, WritesMoreFront}
 use Rattle.vz_threads.specs.Tails.{AllComeDue}
@@ -18,157 +17,146 @@ use Rattle.vz_threads.proofs.run.play_course.Goals as goal
 pub returns-in_default-clause-legal : goal.returns-in_default-clause-legal
 returns-in_default-clause-legal g c = subst (Legal (g.M.Machine.state c.args.machine).plan) (sym c.requires.empty) (legal_first (g.M.Machine.state c.args.machine).plan)
 
-pub run_opened-machine-requires-clause-opened : goal.run_opened-machine-requires-clause-opened
-run_opened-machine-requires-clause-opened g c κs within =
+pub run_chosen-machine-requires-clause-opened : goal.run_chosen-machine-requires-clause-opened
+run_chosen-machine-requires-clause-opened g c κs within =
     let k : Setup = record { plan = (g.M.Machine.state c.args.machine).plan; buffers = c.args.course.buffers } in
-    (k, is_ready k _ (record { sides = c.requires.plan.sizes; size = c.requires.size; some = c.requires.from; opened = c.requires.open }) c.new.ensures.shown, c.in-Ok.ensures.opened)
+    (k, is_ready k _ (record { sides = c.requires.plan.sizes; size = c.requires.size; some = c.requires.from; opened = c.requires.open }) c.new-display.ensures.shown, c.in-Ok.ensures.opened)
 
 pub finish_run-requires-clause-plan : goal.finish_run-requires-clause-plan
 finish_run-requires-clause-plan g c = λ _ _.
     let k : Setup = record { plan = (g.M.Machine.state c.args.machine).plan; buffers = c.args.course.buffers } in
-    subst IsPlan (sym (c.run_opened-machine.ensures.plan k c.in-Ok.ensures.opened)) c.requires.plan
+    subst IsPlan (sym (c.run_chosen-machine.ensures.plan k c.in-Ok.ensures.opened)) c.requires.plan
 
 pub finish_run-requires-clause-legal : goal.finish_run-requires-clause-legal
 finish_run-requires-clause-legal g c = λ _ _.
     let k : Setup = record { plan = (g.M.Machine.state c.args.machine).plan; buffers = c.args.course.buffers } in
-    let run = c.run_opened-machine.ensures.run k (is_ready k _ (record { sides = c.requires.plan.sizes; size = c.requires.size; some = c.requires.from; opened = c.requires.open }) c.new.ensures.shown) c.in-Ok.ensures.opened in
-    subst (λ (p : Plan). Legal p c.run_opened-machine.result.history.list) (sym (c.run_opened-machine.ensures.plan k c.in-Ok.ensures.opened)) run.legal
+    let run = c.run_chosen-machine.ensures.run k (is_ready k _ (record { sides = c.requires.plan.sizes; size = c.requires.size; some = c.requires.from; opened = c.requires.open }) c.new-display.ensures.shown) c.in-Ok.ensures.opened in
+    subst (λ (p : Plan). Legal p c.run_chosen-machine.result.history.list) (sym (c.run_chosen-machine.ensures.plan k c.in-Ok.ensures.opened)) run.legal
 
 pub finish_run-requires-clause-display : goal.finish_run-requires-clause-display
 finish_run-requires-clause-display g c = λ _ _.
     let k : Setup = record { plan = (g.M.Machine.state c.args.machine).plan; buffers = c.args.course.buffers } in
-    let run = c.run_opened-machine.ensures.run k (is_ready k _ (record { sides = c.requires.plan.sizes; size = c.requires.size; some = c.requires.from; opened = c.requires.open }) c.new.ensures.shown) c.in-Ok.ensures.opened in
-    let e = c.run_opened-machine.ensures.plan k c.in-Ok.ensures.opened in
+    let run = c.run_chosen-machine.ensures.run k (is_ready k _ (record { sides = c.requires.plan.sizes; size = c.requires.size; some = c.requires.from; opened = c.requires.open }) c.new-display.ensures.shown) c.in-Ok.ensures.opened in
+    let e = c.run_chosen-machine.ensures.plan k c.in-Ok.ensures.opened in
     let w = whole_of k _ _ _ _ _ _ _ run c.in-Ok-played.is in
-    w.shown.display ∙ ap (λ (p : Plan). display_at p c.run_opened-machine.result.history.list c.args.course.buffers) (sym e)
+    w.shown.display ∙ ap (λ (p : Plan). display_at p c.run_chosen-machine.result.history.list c.args.course.buffers) (sym e)
 
 pub finish_run-requires-clause-due : goal.finish_run-requires-clause-due
 finish_run-requires-clause-due g c = λ _ _.
     let k : Setup = record { plan = (g.M.Machine.state c.args.machine).plan; buffers = c.args.course.buffers } in
-    let run = c.run_opened-machine.ensures.run k (is_ready k _ (record { sides = c.requires.plan.sizes; size = c.requires.size; some = c.requires.from; opened = c.requires.open }) c.new.ensures.shown) c.in-Ok.ensures.opened in
-    let e = c.run_opened-machine.ensures.plan k c.in-Ok.ensures.opened in
+    let run = c.run_chosen-machine.ensures.run k (is_ready k _ (record { sides = c.requires.plan.sizes; size = c.requires.size; some = c.requires.from; opened = c.requires.open }) c.new-display.ensures.shown) c.in-Ok.ensures.opened in
+    let e = c.run_chosen-machine.ensures.plan k c.in-Ok.ensures.opened in
     let w = whole_of k _ _ _ _ _ _ _ run c.in-Ok-played.is in
-    subst (λ (p : Plan). AllComeDue (world p c.run_opened-machine.result.history.list)) (sym e) (comes_due k _ _ _ _ _ (record { sides = c.requires.plan.sizes; size = c.requires.size; some = c.requires.from; opened = c.requires.open }) run.legal w c.requires.plan c.requires.rounds)
+    subst (λ (p : Plan). AllComeDue (world p c.run_chosen-machine.result.history.list)) (sym e) (comes_due k _ _ _ _ _ (record { sides = c.requires.plan.sizes; size = c.requires.size; some = c.requires.from; opened = c.requires.open }) run.legal w c.requires.plan c.requires.rounds)
 
 pub finish_run-requires-clause-size : goal.finish_run-requires-clause-size
 finish_run-requires-clause-size g c = λ _ _.
     let k : Setup = record { plan = (g.M.Machine.state c.args.machine).plan; buffers = c.args.course.buffers } in
-    ap (λ (p : Plan). p.size) (c.run_opened-machine.ensures.plan k c.in-Ok.ensures.opened) ∙ c.requires.size
+    ap (λ (p : Plan). p.size) (c.run_chosen-machine.ensures.plan k c.in-Ok.ensures.opened) ∙ c.requires.size
 
 pub finish_run-requires-clause-open : goal.finish_run-requires-clause-open
 finish_run-requires-clause-open g c = λ _ _.
     let k : Setup = record { plan = (g.M.Machine.state c.args.machine).plan; buffers = c.args.course.buffers } in
-    let run = c.run_opened-machine.ensures.run k (is_ready k _ (record { sides = c.requires.plan.sizes; size = c.requires.size; some = c.requires.from; opened = c.requires.open }) c.new.ensures.shown) c.in-Ok.ensures.opened in
-    let e = c.run_opened-machine.ensures.plan k c.in-Ok.ensures.opened in
+    let run = c.run_chosen-machine.ensures.run k (is_ready k _ (record { sides = c.requires.plan.sizes; size = c.requires.size; some = c.requires.from; opened = c.requires.open }) c.new-display.ensures.shown) c.in-Ok.ensures.opened in
+    let e = c.run_chosen-machine.ensures.plan k c.in-Ok.ensures.opened in
     let w = whole_of k _ _ _ _ _ _ _ run c.in-Ok-played.is in
     open_still k _ _ _ _ _ (record { sides = c.requires.plan.sizes; size = c.requires.size; some = c.requires.from; opened = c.requires.open }) run.legal w
 
 pub returns-in-Ok-played-clause-run : goal.returns-in-Ok-played-clause-run
 returns-in-Ok-played-clause-run g c =
     let k : Setup = record { plan = (g.M.Machine.state c.args.machine).plan; buffers = c.args.course.buffers } in
-    let run = c.run_opened-machine.ensures.run k (is_ready k _ (record { sides = c.requires.plan.sizes; size = c.requires.size; some = c.requires.from; opened = c.requires.open }) c.new.ensures.shown) c.in-Ok.ensures.opened in
-    let e = c.run_opened-machine.ensures.plan k c.in-Ok.ensures.opened in
+    let run = c.run_chosen-machine.ensures.run k (is_ready k _ (record { sides = c.requires.plan.sizes; size = c.requires.size; some = c.requires.from; opened = c.requires.open }) c.new-display.ensures.shown) c.in-Ok.ensures.opened in
+    let e = c.run_chosen-machine.ensures.plan k c.in-Ok.ensures.opened in
     let w = whole_of k _ _ _ _ _ _ _ run c.in-Ok-played.is in
     let good = subst (λ (p : Plan). Legal p c.finish_run.new.history) e c.finish_run.ensures.legal in
-    ok_then c.finish_run.result (EndsWithTail k.plan c.run_opened-machine.result.history.list c.finish_run.new.history) (IsRun k.plan c.args.course.rounds c.args.course.paced c.finish_run.new.history)
-    (subst (λ (p : Plan). OnOk c.finish_run.result (EndsWithTail p c.run_opened-machine.result.history.list c.finish_run.new.history)) e c.finish_run.ensures.tail)
+    ok_then c.finish_run.result (EndsWithTail k.plan c.run_chosen-machine.result.history.list c.finish_run.new.history) (IsRun k.plan c.args.course.rounds c.args.course.paced c.finish_run.new.history)
+    (subst (λ (p : Plan). OnOk c.finish_run.result (EndsWithTail p c.run_chosen-machine.result.history.list c.finish_run.new.history)) e c.finish_run.ensures.tail)
     (λ t. run_whole k _ _ _ _ _ (record { sides = c.requires.plan.sizes; size = c.requires.size; some = c.requires.from; opened = c.requires.open }) run.legal w c.finish_run.new.history good t)
 
 pub returns-in-Ok-played-clause-rest : goal.returns-in-Ok-played-clause-rest
 returns-in-Ok-played-clause-rest g c =
     let k : Setup = record { plan = (g.M.Machine.state c.args.machine).plan; buffers = c.args.course.buffers } in
-    let run = c.run_opened-machine.ensures.run k (is_ready k _ (record { sides = c.requires.plan.sizes; size = c.requires.size; some = c.requires.from; opened = c.requires.open }) c.new.ensures.shown) c.in-Ok.ensures.opened in
-    let e = c.run_opened-machine.ensures.plan k c.in-Ok.ensures.opened in
+    let run = c.run_chosen-machine.ensures.run k (is_ready k _ (record { sides = c.requires.plan.sizes; size = c.requires.size; some = c.requires.from; opened = c.requires.open }) c.new-display.ensures.shown) c.in-Ok.ensures.opened in
+    let e = c.run_chosen-machine.ensures.plan k c.in-Ok.ensures.opened in
     subst (λ (p : Plan). IfOk c.finish_run.result (λ rest. rest ≡ rest_of p c.finish_run.new.history)) e c.finish_run.ensures.rest
 
 pub returns-in-Ok-played-clause-written : goal.returns-in-Ok-played-clause-written
 returns-in-Ok-played-clause-written g c =
     let k : Setup = record { plan = (g.M.Machine.state c.args.machine).plan; buffers = c.args.course.buffers } in
-    let run = c.run_opened-machine.ensures.run k (is_ready k _ (record { sides = c.requires.plan.sizes; size = c.requires.size; some = c.requires.from; opened = c.requires.open }) c.new.ensures.shown) c.in-Ok.ensures.opened in
-    let e = c.run_opened-machine.ensures.plan k c.in-Ok.ensures.opened in
+    let run = c.run_chosen-machine.ensures.run k (is_ready k _ (record { sides = c.requires.plan.sizes; size = c.requires.size; some = c.requires.from; opened = c.requires.open }) c.new-display.ensures.shown) c.in-Ok.ensures.opened in
+    let e = c.run_chosen-machine.ensures.plan k c.in-Ok.ensures.opened in
     let w = whole_of k _ _ _ _ _ _ _ run c.in-Ok-played.is in
-    let here : c.shelf-1.given.0 ≡ c.finish_run.new.shelf = c.shelf-1.given.1 (ap (λ (x : Fixed). x.shelf) (sym w.shown.fixed)) in
-    subst (λ v. OnOk c.finish_run.result (Appends (frames_of k.plan c.finish_run.new.history k.buffers) ((g.F.Shelf.shelved c.args.shelf.now).name c.args.file.slot) (g.F.Shelf.shelved c.args.shelf.now) (g.F.Shelf.shelved v))) (sym here)
-    (ok_both c.finish_run.result (Ran (g.F.Shelf.shelved c.run_opened-machine.result.outlet.shelf.now) (g.F.Shelf.shelved c.finish_run.new.shelf)) (WritesMore k.plan k.buffers ((g.F.Shelf.shelved c.run_opened-machine.result.outlet.shelf.now).name c.args.file.slot) c.run_opened-machine.result.history.list c.finish_run.new.history (g.F.Shelf.shelved c.run_opened-machine.result.outlet.shelf.now) (g.F.Shelf.shelved c.finish_run.new.shelf)) (Appends (frames_of k.plan c.finish_run.new.history k.buffers) ((g.F.Shelf.shelved c.args.shelf.now).name c.args.file.slot) (g.F.Shelf.shelved c.args.shelf.now) (g.F.Shelf.shelved c.finish_run.new.shelf))
-    (ok_ran c.finish_run.result (g.F.Shelf.shelved c.run_opened-machine.result.outlet.shelf.now) (g.F.Shelf.shelved c.finish_run.new.shelf) c.finish_run.ensures.behaves)
-    (subst (λ (p : Plan). OnOk c.finish_run.result (WritesMore p k.buffers ((g.F.Shelf.shelved c.run_opened-machine.result.outlet.shelf.now).name c.args.file.slot) c.run_opened-machine.result.history.list c.finish_run.new.history (g.F.Shelf.shelved c.run_opened-machine.result.outlet.shelf.now) (g.F.Shelf.shelved c.finish_run.new.shelf))) e c.finish_run.ensures.written)
+    (ok_both c.finish_run.result (Ran (g.F.Shelf.shelved c.run_chosen-machine.new.shelf) (g.F.Shelf.shelved c.finish_run.new.shelf)) (WritesMore k.plan k.buffers ((g.F.Shelf.shelved c.run_chosen-machine.new.shelf).name c.args.file.slot) c.run_chosen-machine.result.history.list c.finish_run.new.history (g.F.Shelf.shelved c.run_chosen-machine.new.shelf) (g.F.Shelf.shelved c.finish_run.new.shelf)) (Appends (frames_of k.plan c.finish_run.new.history k.buffers) ((g.F.Shelf.shelved c.args.shelf.now).name c.args.file.slot) (g.F.Shelf.shelved c.args.shelf.now) (g.F.Shelf.shelved c.finish_run.new.shelf))
+    (ok_ran c.finish_run.result (g.F.Shelf.shelved c.run_chosen-machine.new.shelf) (g.F.Shelf.shelved c.finish_run.new.shelf) c.finish_run.ensures.behaves)
+    (subst (λ (p : Plan). OnOk c.finish_run.result (WritesMore p k.buffers ((g.F.Shelf.shelved c.run_chosen-machine.new.shelf).name c.args.file.slot) c.run_chosen-machine.result.history.list c.finish_run.new.history (g.F.Shelf.shelved c.run_chosen-machine.new.shelf) (g.F.Shelf.shelved c.finish_run.new.shelf))) e c.finish_run.ensures.written)
     (λ ran m. all_written k _ _ _ _ _ (record { sides = c.requires.plan.sizes; size = c.requires.size; some = c.requires.from; opened = c.requires.open }) run.legal w c.finish_run.new.history (g.F.Shelf.shelved c.finish_run.new.shelf) ran c.finish_run.ensures.others m))
 
 pub returns-in-Ok-played-clause-counted : goal.returns-in-Ok-played-clause-counted
 returns-in-Ok-played-clause-counted g c =
     let k : Setup = record { plan = (g.M.Machine.state c.args.machine).plan; buffers = c.args.course.buffers } in
-    let run = c.run_opened-machine.ensures.run k (is_ready k _ (record { sides = c.requires.plan.sizes; size = c.requires.size; some = c.requires.from; opened = c.requires.open }) c.new.ensures.shown) c.in-Ok.ensures.opened in
-    let e = c.run_opened-machine.ensures.plan k c.in-Ok.ensures.opened in
+    let run = c.run_chosen-machine.ensures.run k (is_ready k _ (record { sides = c.requires.plan.sizes; size = c.requires.size; some = c.requires.from; opened = c.requires.open }) c.new-display.ensures.shown) c.in-Ok.ensures.opened in
+    let e = c.run_chosen-machine.ensures.plan k c.in-Ok.ensures.opened in
     let w = whole_of k _ _ _ _ _ _ _ run c.in-Ok-played.is in
-    let here : c.steps-1.given.0 ≡ c.finish_run.new.steps = c.steps-1.given.1 (ap (λ (x : Fixed). x.steps) (sym w.shown.fixed)) in
-    ok_then c.finish_run.result (c.finish_run.new.steps + painted k.plan c.run_opened-machine.result.history.list k.buffers ≡ c.run_opened-machine.result.outlet.steps.now + painted k.plan c.finish_run.new.history k.buffers) (c.steps-1.given.0 ≡ c.args.steps.now + painted k.plan c.finish_run.new.history k.buffers)
-    (subst (λ (p : Plan). OnOk c.finish_run.result (c.finish_run.new.steps + painted p c.run_opened-machine.result.history.list k.buffers ≡ c.run_opened-machine.result.outlet.steps.now + painted p c.finish_run.new.history k.buffers)) e c.finish_run.ensures.counted)
-    (λ is. here ∙ all_counted k _ _ _ _ _ (record { sides = c.requires.plan.sizes; size = c.requires.size; some = c.requires.from; opened = c.requires.open }) run.legal w c.finish_run.new.history c.finish_run.new.steps is)
+    ok_then c.finish_run.result (c.finish_run.new.steps + painted k.plan c.run_chosen-machine.result.history.list k.buffers ≡ c.run_chosen-machine.new.steps + painted k.plan c.finish_run.new.history k.buffers) (c.finish_run.new.steps ≡ c.args.steps.now + painted k.plan c.finish_run.new.history k.buffers)
+    (subst (λ (p : Plan). OnOk c.finish_run.result (c.finish_run.new.steps + painted p c.run_chosen-machine.result.history.list k.buffers ≡ c.run_chosen-machine.new.steps + painted p c.finish_run.new.history k.buffers)) e c.finish_run.ensures.counted)
+    (λ is. all_counted k _ _ _ _ _ (record { sides = c.requires.plan.sizes; size = c.requires.size; some = c.requires.from; opened = c.requires.open }) run.legal w c.finish_run.new.history c.finish_run.new.steps is)
 
 pub returns-in-Ok-played-clause-legal : goal.returns-in-Ok-played-clause-legal
 returns-in-Ok-played-clause-legal g c =
     let k : Setup = record { plan = (g.M.Machine.state c.args.machine).plan; buffers = c.args.course.buffers } in
-    let run = c.run_opened-machine.ensures.run k (is_ready k _ (record { sides = c.requires.plan.sizes; size = c.requires.size; some = c.requires.from; opened = c.requires.open }) c.new.ensures.shown) c.in-Ok.ensures.opened in
-    let e = c.run_opened-machine.ensures.plan k c.in-Ok.ensures.opened in
+    let run = c.run_chosen-machine.ensures.run k (is_ready k _ (record { sides = c.requires.plan.sizes; size = c.requires.size; some = c.requires.from; opened = c.requires.open }) c.new-display.ensures.shown) c.in-Ok.ensures.opened in
+    let e = c.run_chosen-machine.ensures.plan k c.in-Ok.ensures.opened in
     subst (λ (p : Plan). Legal p c.finish_run.new.history) e c.finish_run.ensures.legal
 
 pub returns-in-Ok-played-clause-begun : goal.returns-in-Ok-played-clause-begun
 returns-in-Ok-played-clause-begun g c =
     let k : Setup = record { plan = (g.M.Machine.state c.args.machine).plan; buffers = c.args.course.buffers } in
-    let run = c.run_opened-machine.ensures.run k (is_ready k _ (record { sides = c.requires.plan.sizes; size = c.requires.size; some = c.requires.from; opened = c.requires.open }) c.new.ensures.shown) c.in-Ok.ensures.opened in
-    let e = c.run_opened-machine.ensures.plan k c.in-Ok.ensures.opened in
+    let run = c.run_chosen-machine.ensures.run k (is_ready k _ (record { sides = c.requires.plan.sizes; size = c.requires.size; some = c.requires.from; opened = c.requires.open }) c.new-display.ensures.shown) c.in-Ok.ensures.opened in
+    let e = c.run_chosen-machine.ensures.plan k c.in-Ok.ensures.opened in
     let w = whole_of k _ _ _ _ _ _ _ run c.in-Ok-played.is in
-    let here : c.shelf-1.given.0 ≡ c.finish_run.new.shelf = c.shelf-1.given.1 (ap (λ (x : Fixed). x.shelf) (sym w.shown.fixed)) in
-    subst (λ v. OnErr c.finish_run.result (AppendsFront (frames_of k.plan c.finish_run.new.history k.buffers) ((g.F.Shelf.shelved c.args.shelf.now).name c.args.file.slot) (g.F.Shelf.shelved c.args.shelf.now) (g.F.Shelf.shelved v))) (sym here)
-    (err_then c.finish_run.result (WritesMoreFront k.plan k.buffers ((g.F.Shelf.shelved c.run_opened-machine.result.outlet.shelf.now).name c.args.file.slot) c.run_opened-machine.result.history.list c.finish_run.new.history (g.F.Shelf.shelved c.run_opened-machine.result.outlet.shelf.now) (g.F.Shelf.shelved c.finish_run.new.shelf)) (AppendsFront (frames_of k.plan c.finish_run.new.history k.buffers) ((g.F.Shelf.shelved c.args.shelf.now).name c.args.file.slot) (g.F.Shelf.shelved c.args.shelf.now) (g.F.Shelf.shelved c.finish_run.new.shelf))
-    (subst (λ (p : Plan). OnErr c.finish_run.result (WritesMoreFront p k.buffers ((g.F.Shelf.shelved c.run_opened-machine.result.outlet.shelf.now).name c.args.file.slot) c.run_opened-machine.result.history.list c.finish_run.new.history (g.F.Shelf.shelved c.run_opened-machine.result.outlet.shelf.now) (g.F.Shelf.shelved c.finish_run.new.shelf))) e c.finish_run.ensures.begun)
+    (err_then c.finish_run.result (WritesMoreFront k.plan k.buffers ((g.F.Shelf.shelved c.run_chosen-machine.new.shelf).name c.args.file.slot) c.run_chosen-machine.result.history.list c.finish_run.new.history (g.F.Shelf.shelved c.run_chosen-machine.new.shelf) (g.F.Shelf.shelved c.finish_run.new.shelf)) (AppendsFront (frames_of k.plan c.finish_run.new.history k.buffers) ((g.F.Shelf.shelved c.args.shelf.now).name c.args.file.slot) (g.F.Shelf.shelved c.args.shelf.now) (g.F.Shelf.shelved c.finish_run.new.shelf))
+    (subst (λ (p : Plan). OnErr c.finish_run.result (WritesMoreFront p k.buffers ((g.F.Shelf.shelved c.run_chosen-machine.new.shelf).name c.args.file.slot) c.run_chosen-machine.result.history.list c.finish_run.new.history (g.F.Shelf.shelved c.run_chosen-machine.new.shelf) (g.F.Shelf.shelved c.finish_run.new.shelf))) e c.finish_run.ensures.begun)
     (λ m. front_written k _ _ _ _ _ (record { sides = c.requires.plan.sizes; size = c.requires.size; some = c.requires.from; opened = c.requires.open }) run.legal w c.finish_run.new.history (g.F.Shelf.shelved c.finish_run.new.shelf) m))
 
 pub returns-in-Ok-played-clause-others : goal.returns-in-Ok-played-clause-others
 returns-in-Ok-played-clause-others g c =
     let k : Setup = record { plan = (g.M.Machine.state c.args.machine).plan; buffers = c.args.course.buffers } in
-    let run = c.run_opened-machine.ensures.run k (is_ready k _ (record { sides = c.requires.plan.sizes; size = c.requires.size; some = c.requires.from; opened = c.requires.open }) c.new.ensures.shown) c.in-Ok.ensures.opened in
-    let e = c.run_opened-machine.ensures.plan k c.in-Ok.ensures.opened in
+    let run = c.run_chosen-machine.ensures.run k (is_ready k _ (record { sides = c.requires.plan.sizes; size = c.requires.size; some = c.requires.from; opened = c.requires.open }) c.new-display.ensures.shown) c.in-Ok.ensures.opened in
+    let e = c.run_chosen-machine.ensures.plan k c.in-Ok.ensures.opened in
     let w = whole_of k _ _ _ _ _ _ _ run c.in-Ok-played.is in
-    let here : c.shelf-1.given.0 ≡ c.finish_run.new.shelf = c.shelf-1.given.1 (ap (λ (x : Fixed). x.shelf) (sym w.shown.fixed)) in
-    subst (λ v. KeepsOthers ((g.F.Shelf.shelved c.args.shelf.now).name c.args.file.slot) (g.F.Shelf.shelved c.args.shelf.now) (g.F.Shelf.shelved v)) (sym here) (others_written k _ _ _ _ _ (record { sides = c.requires.plan.sizes; size = c.requires.size; some = c.requires.from; opened = c.requires.open }) run.legal w (g.F.Shelf.shelved c.finish_run.new.shelf) c.finish_run.ensures.others)
+    (others_written k _ _ _ _ _ (record { sides = c.requires.plan.sizes; size = c.requires.size; some = c.requires.from; opened = c.requires.open }) run.legal w (g.F.Shelf.shelved c.finish_run.new.shelf) c.finish_run.ensures.others)
 
 pub returns-in-Ok-played-clause-behaves : goal.returns-in-Ok-played-clause-behaves
 returns-in-Ok-played-clause-behaves g c =
     let k : Setup = record { plan = (g.M.Machine.state c.args.machine).plan; buffers = c.args.course.buffers } in
-    let run = c.run_opened-machine.ensures.run k (is_ready k _ (record { sides = c.requires.plan.sizes; size = c.requires.size; some = c.requires.from; opened = c.requires.open }) c.new.ensures.shown) c.in-Ok.ensures.opened in
-    let e = c.run_opened-machine.ensures.plan k c.in-Ok.ensures.opened in
+    let run = c.run_chosen-machine.ensures.run k (is_ready k _ (record { sides = c.requires.plan.sizes; size = c.requires.size; some = c.requires.from; opened = c.requires.open }) c.new-display.ensures.shown) c.in-Ok.ensures.opened in
+    let e = c.run_chosen-machine.ensures.plan k c.in-Ok.ensures.opened in
     let w = whole_of k _ _ _ _ _ _ _ run c.in-Ok-played.is in
-    let here : c.shelf-1.given.0 ≡ c.finish_run.new.shelf = c.shelf-1.given.1 (ap (λ (x : Fixed). x.shelf) (sym w.shown.fixed)) in
-    subst (λ v. Behaves (g.F.Shelf.shelved c.args.shelf.now) (g.F.Shelf.shelved v) c.finish_run.result) (sym here) (behaves_then k _ _ _ _ _ (record { sides = c.requires.plan.sizes; size = c.requires.size; some = c.requires.from; opened = c.requires.open }) run.legal w c.finish_run.result (g.F.Shelf.shelved c.finish_run.new.shelf) c.finish_run.ensures.behaves)
+    (behaves_then k _ _ _ _ _ (record { sides = c.requires.plan.sizes; size = c.requires.size; some = c.requires.from; opened = c.requires.open }) run.legal w c.finish_run.result (g.F.Shelf.shelved c.finish_run.new.shelf) c.finish_run.ensures.behaves)
 
 pub returns-in-Err-clause-legal : goal.returns-in-Err-clause-legal
 returns-in-Err-clause-legal g c =
     let k : Setup = record { plan = (g.M.Machine.state c.args.machine).plan; buffers = c.args.course.buffers } in
-    let run = c.run_opened-machine.ensures.run k (is_ready k _ (record { sides = c.requires.plan.sizes; size = c.requires.size; some = c.requires.from; opened = c.requires.open }) c.new.ensures.shown) c.in-Ok.ensures.opened in
+    let run = c.run_chosen-machine.ensures.run k (is_ready k _ (record { sides = c.requires.plan.sizes; size = c.requires.size; some = c.requires.from; opened = c.requires.open }) c.new-display.ensures.shown) c.in-Ok.ensures.opened in
     subst (Legal k.plan) (sym c.into_list.ensures) run.legal
 
 pub returns-in-Err-clause-begun : goal.returns-in-Err-clause-begun
 returns-in-Err-clause-begun g c =
     let k : Setup = record { plan = (g.M.Machine.state c.args.machine).plan; buffers = c.args.course.buffers } in
-    let run = c.run_opened-machine.ensures.run k (is_ready k _ (record { sides = c.requires.plan.sizes; size = c.requires.size; some = c.requires.from; opened = c.requires.open }) c.new.ensures.shown) c.in-Ok.ensures.opened in
+    let run = c.run_chosen-machine.ensures.run k (is_ready k _ (record { sides = c.requires.plan.sizes; size = c.requires.size; some = c.requires.from; opened = c.requires.open }) c.new-display.ensures.shown) c.in-Ok.ensures.opened in
     let cut = cut_of k _ _ _ _ _ _ _ run c.in-Err.is in
-    let here = c.in-Err.shelf-in-Err-played-1-own.given.1 (ap (λ (x : Fixed). x.shelf) (sym cut.fixed)) in
-    subst (λ v. AppendsFront (frames_of k.plan c.into_list.result k.buffers) ((g.F.Shelf.shelved c.args.shelf.now).name c.args.file.slot) (g.F.Shelf.shelved c.args.shelf.now) (g.F.Shelf.shelved v)) (sym here)
-    (subst (λ l. AppendsFront (frames_of k.plan l k.buffers) ((g.F.Shelf.shelved c.args.shelf.now).name c.args.file.slot) (g.F.Shelf.shelved c.args.shelf.now) (g.F.Shelf.shelved c.run_opened-machine.result.outlet.shelf.now)) (sym c.into_list.ensures) cut.begun)
+    (subst (λ l. AppendsFront (frames_of k.plan l k.buffers) ((g.F.Shelf.shelved c.args.shelf.now).name c.args.file.slot) (g.F.Shelf.shelved c.args.shelf.now) (g.F.Shelf.shelved c.run_chosen-machine.new.shelf)) (sym c.into_list.ensures) cut.begun)
 
 pub returns-in-Err-clause-others : goal.returns-in-Err-clause-others
 returns-in-Err-clause-others g c =
     let k : Setup = record { plan = (g.M.Machine.state c.args.machine).plan; buffers = c.args.course.buffers } in
-    let run = c.run_opened-machine.ensures.run k (is_ready k _ (record { sides = c.requires.plan.sizes; size = c.requires.size; some = c.requires.from; opened = c.requires.open }) c.new.ensures.shown) c.in-Ok.ensures.opened in
+    let run = c.run_chosen-machine.ensures.run k (is_ready k _ (record { sides = c.requires.plan.sizes; size = c.requires.size; some = c.requires.from; opened = c.requires.open }) c.new-display.ensures.shown) c.in-Ok.ensures.opened in
     let cut = cut_of k _ _ _ _ _ _ _ run c.in-Err.is in
-    let here = c.in-Err.shelf-in-Err-played-1-own.given.1 (ap (λ (x : Fixed). x.shelf) (sym cut.fixed)) in
-    subst (λ v. KeepsOthers ((g.F.Shelf.shelved c.args.shelf.now).name c.args.file.slot) (g.F.Shelf.shelved c.args.shelf.now) (g.F.Shelf.shelved v)) (sym here) cut.others
+    cut.others
 
 pub returns-in-Err-clause-behaves : goal.returns-in-Err-clause-behaves
 returns-in-Err-clause-behaves g c =
     let k : Setup = record { plan = (g.M.Machine.state c.args.machine).plan; buffers = c.args.course.buffers } in
-    let run = c.run_opened-machine.ensures.run k (is_ready k _ (record { sides = c.requires.plan.sizes; size = c.requires.size; some = c.requires.from; opened = c.requires.open }) c.new.ensures.shown) c.in-Ok.ensures.opened in
+    let run = c.run_chosen-machine.ensures.run k (is_ready k _ (record { sides = c.requires.plan.sizes; size = c.requires.size; some = c.requires.from; opened = c.requires.open }) c.new-display.ensures.shown) c.in-Ok.ensures.opened in
     let cut = cut_of k _ _ _ _ _ _ _ run c.in-Err.is in
-    let here = c.in-Err.shelf-in-Err-played-1-own.given.1 (ap (λ (x : Fixed). x.shelf) (sym cut.fixed)) in
-    subst (λ v. Behaves (g.F.Shelf.shelved c.args.shelf.now) (g.F.Shelf.shelved v) (Err c.in-Err.error)) (sym here) (cut_behaves c.in-Err.error (g.F.Shelf.shelved c.args.shelf.now) (g.F.Shelf.shelved c.run_opened-machine.result.outlet.shelf.now) cut.behaves)
+    (cut_behaves c.in-Err.error (g.F.Shelf.shelved c.args.shelf.now) (g.F.Shelf.shelved c.run_chosen-machine.new.shelf) cut.behaves)

@@ -1,4 +1,4 @@
-use Rattle.vz_test_machines.proofs.call.status_through.Given as goal
+use Rattle.vz_test_machines.proofs.call.answer_through.Given as goal
 
 -- the ledger is the new one
 abbrev pub ghosts-counted : goal.ghosts-counted

@@ -1,4 +1,4 @@
-use Rattle.vz_test_parts.proofs.occluded.play.Given as goal
+use Rattle.vz_test_parts.proofs.thinned.play.Given as goal
 
 -- the ledger is the new one
 abbrev pub ghosts-alike : goal.ghosts-alike

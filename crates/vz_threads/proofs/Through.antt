@@ -1,0 +1,229 @@
+-- A run whose frames went through a pipe: what the display sent is what was written.
+use Rattle.std.proofs.Common.{◌≡◌, ℕ, ◌+◌, ◌≤◌, Bool, List, [], ◌∷◌, ◌++◌, length, take, Option, Some, Result, Ok, Err, OnOk, OnErr, All, IsTrue, refl, sym, ap, ◌∙◌, subst, arith, append-nil, append_assoc, take_all}
+use Rattle.std.specs.Prelude.{unwrap_or}
+use Rattle.std.specs.Global.{Global}
+use Rattle.std.specs.declared.vec.Vec.{Vec}
+use Rattle.std.proofs.lemmas.Grind.{flat_map-append}
+use mathlib.Core.List.{IsPrefix}
+use Rattle.vz_outside.specs.Shelved.{Shelved, Name, Writing, KeepsOthers, Appends, AppendsFront, Behaves}
+use Rattle.vz_outside.specs.declared.shelf.ShelfError.{ShelfError}
+use Rattle.vz_outside.specs.declared.shelf.ShelfError.TheVariants.{Failed, Memory}
+use Rattle.vz_outside.proofs.Calls.{Ran, ran_one, ran_behaves}
+use Rattle.vz_rules.specs.declared.entry.Entry.{Entry}
+use Rattle.vz_rules.specs.Frames.{painted}
+use Rattle.vz_rules.specs.Plan.{Plan}
+use Rattle.vz_rules.specs.Step.{Legal}
+use Rattle.atomic_table.specs.Seated.{TableId}
+use Rattle.vz_desk.specs.declared.totals.Totals.{Totals}
+use Rattle.vz_desk.specs.Totals.{DisplayTotals}
+use Rattle.vz_desk.specs.Owners.{Owner}
+use Rattle.vz_desk.specs.Gathering.{IsGatheredClient, IsGatheredDisplay}
+use Rattle.vz_outputs.proofs.Adding.{HasAdded, none_added, more_added, front_added, others_kept}
+use Rattle.vz_outputs.proofs.Behaving.{memory_behaves, then_behaves}
+use Rattle.vz_threads.specs.Courses.{frames_of}
+use Rattle.vz_pipe.specs.Ends.{PipeId, Taking}
+use Rattle.vz_threads.specs.Outlets.{Outlook, Fixed, file_of}
+use Rattle.vz_threads.specs.Pipes.{bytes_of, paper, Wrote, WritesLeft, BeginsLeft, IsWrittenOn}
+use Rattle.vz_threads.specs.Rounds.{Setup, AreShown}
+use Rattle.vz_threads.specs.Runs.{IsReady, IsOpened, IsUpToTail, IsCutThere, HasRun}
+use Rattle.vz_threads.proofs.Crewing.{crew_same}
+use Rattle.vz_threads.proofs.Following.{same_self, cut_at}
+use Rattle.vz_threads.proofs.Gathered.{has_run}
+use Rattle.vz_threads.proofs.Finished.{whole_front}
+use Rattle.vz_threads.proofs.Papers.{paper_front, sent_is, front_is, front_of_front, front_longer}
+
+-- the same, of a receiver and a shelf that were lent and came back
+pub wrote_there : {A F : Type 0} (shelved : F → Shelved) (r s : Taking (Vec ℕ A)) (x y : F) (slot : ℕ) (a : Shelved) (result : Result (Unit {0}) ShelfError) → r ≡ s → x ≡ y → Wrote (bytes_of s.taken) slot a (shelved y) result → Wrote (bytes_of r.taken) slot a (shelved x) result
+wrote_there {A = A} shelved r s x y slot a result e f w =
+    subst (λ (t : Taking (Vec ℕ A)). Wrote (bytes_of t.taken) slot a (shelved x) result) (sym e) (subst (λ z. Wrote (bytes_of s.taken) slot a (shelved z) result) (sym f) w)
+
+pub bytes_then_bytes : {A : Type 0} (taken more sent : List (Vec ℕ A)) → sent ≡ taken ++ more → bytes_of sent ≡ bytes_of taken ++ bytes_of more
+bytes_then_bytes {A = A} taken more sent is = ap bytes_of is ∙ flat_map-append (λ (f : Vec ℕ A). f.items) taken more
+
+-- an error of the display is want of memory, as nothing else fails there
+memory_alone : (e : ShelfError) (v w a b : Shelved) → IsTrue v.is_faultless → Behaves {T = Unit {0}} v w (Err e) → Ran a b → Behaves {T = Unit {0}} a b (Err e)
+memory_alone Failed v w a b faultless behaves ran = absurd (behaves.works faultless refl)
+memory_alone Memory v w a b faultless behaves ran = memory_behaves a b ran
+
+module _ {A : Type 0} (k : Setup) (rounds : ℕ) (paced : Bool) (start now first last : Outlook) (h : List Entry) (taken sent : List (Vec ℕ A)) (b : Shelved) where
+  abbrev frames : List ℕ
+  frames = frames_of k.plan h k.buffers
+
+  -- what was sent is a front part of the frames
+  abbrev IsFront : Type 0
+  IsFront = (n : ℕ) × (n ≤ length frames) × (bytes_of sent ≡ take n frames)
+
+  module _ (opened : start.shelf.mode start.fixed.slot ≡ Some Writing) (empty : first.shelf ≡ paper []) (full : last.shelf ≡ paper (bytes_of sent)) (fixed : now.fixed ≡ start.fixed) (display : now.display ≡ last.display) (before : start.steps ≡ first.steps) (after : now.steps ≡ last.steps) where
+    whole_frames : AreShown k first last h → bytes_of sent ≡ frames
+    whole_frames are =
+        sent_is frames (bytes_of sent)
+        (subst (λ (s : Shelved). Appends frames (s.name first.fixed.slot) s (paper (bytes_of sent))) empty
+        (subst (λ (s : Shelved). Appends frames (file_of first) first.shelf s) full are.written))
+
+    front_frames : (r : Result (Unit {0}) ShelfError) → IsCutThere k first last h r → IsFront
+    front_frames r cut =
+        front_is frames (bytes_of sent)
+        (subst (λ (s : Shelved). AppendsFront frames (s.name first.fixed.slot) s (paper (bytes_of sent))) empty
+        (subst (λ (s : Shelved). AppendsFront frames (file_of first) first.shelf s) full cut.begun))
+
+    either_front : (r : Result (Unit {0}) ShelfError) → HasRun k rounds paced first last h r → IsFront
+    either_front (Ok x) run = (length frames, omega arith, whole_frames run.whole.shown ∙ sym (take_all (length frames) frames (omega arith)))
+    either_front (Err e) run = front_frames (Err e) run.cut
+
+    up_to : IsUpToTail k rounds paced first last h → HasAdded (bytes_of sent) start.fixed.slot start.shelf now.shelf → IsUpToTail k rounds paced start now h
+    up_to w added = record {
+      first = w.first;
+      over = w.over;
+      all = w.all;
+      made = w.made;
+      is_over = w.is_over;
+      pace = w.pace;
+      took = w.took;
+      shown = record {
+        fixed = fixed;
+        display = display ∙ w.shown.display;
+        counted = after ∙ w.shown.counted ∙ ap (λ (n : ℕ). n + painted k.plan h k.buffers) (sym before);
+        written = subst (λ (l : List ℕ). Appends l (file_of start) start.shelf now.shelf) (whole_frames w.shown) added.appended;
+        others = added.others;
+        behaves = ran_behaves tt start.shelf now.shelf added.ran;
+      };
+    }
+
+    there : (r : Result (Unit {0}) ShelfError) → IsFront → AppendsFront (bytes_of sent) (file_of start) start.shelf now.shelf → KeepsOthers (file_of start) start.shelf now.shelf → Behaves start.shelf now.shelf r → IsCutThere k start now h r
+    there r front begun others behaves = record {
+      fixed = fixed;
+      begun = front_of_front front.0 frames (file_of start) start.shelf now.shelf front.1 (subst (λ (l : List ℕ). AppendsFront l (file_of start) start.shelf now.shelf) front.2 begun);
+      others = others;
+      behaves = behaves;
+    }
+
+    wrote_taken : (x : Unit {0}) → Wrote (bytes_of taken) start.fixed.slot start.shelf b (Ok x) → HasAdded (bytes_of taken) start.fixed.slot start.shelf b
+    wrote_taken x w = record { opened = opened; ran = ran_one x start.shelf b w.behaves; appended = w.written; others = w.others }
+
+    -- if the writer or the display failed, nothing more was written
+    stopped : (e : ShelfError) → IsFront → IsPrefix taken sent → now.shelf ≡ b → AppendsFront (bytes_of taken) (file_of start) start.shelf b → KeepsOthers (file_of start) start.shelf b → Behaves {T = Unit {0}} start.shelf b (Err e) → IsCutThere k start now h (Err e)
+    stopped e front prefix same begun others behaves =
+        there (Err e) front
+        (front_longer (bytes_of taken) (bytes_of prefix.0) (bytes_of sent) (file_of start) start.shelf now.shelf (bytes_then_bytes taken prefix.0 sent (sym prefix.1)) (subst (λ (s : Shelved). AppendsFront (bytes_of taken) (file_of start) start.shelf s) (sym same) begun))
+        (subst (λ (s : Shelved). KeepsOthers (file_of start) start.shelf s) (sym same) others)
+        (subst (λ (s : Shelved). Behaves {T = Unit {0}} start.shelf s (Err e)) (sym same) behaves)
+
+    pub piped_run : (wrote played result : Result (Unit {0}) ShelfError) → HasRun k rounds paced first last h played → Wrote (bytes_of taken) start.fixed.slot start.shelf b wrote → IsWrittenOn wrote played result taken sent start.fixed.slot b now.shelf → HasRun k rounds paced start now h result
+    piped_run (Err e) played result run w rest =
+        subst (HasRun k rounds paced start now h) (sym rest.1)
+        (record { legal = run.legal; whole = tt; cut = stopped e (either_front played run) rest.0 rest.2 w.begun w.others w.behaves })
+    piped_run (Ok x) (Err e) result run w rest =
+        subst (HasRun k rounds paced start now h) (sym rest.1) (record {
+          legal = run.legal;
+          whole = tt;
+          cut = stopped e (either_front (Err e) run) rest.0 rest.2 (whole_front (bytes_of taken) (file_of start) start.shelf b w.written) w.others
+              (memory_alone e first.shelf last.shelf start.shelf b (subst (λ (s : Shelved). IsTrue s.is_faultless) (sym empty) refl) run.cut.behaves (ran_one x start.shelf b w.behaves));
+        })
+    piped_run (Ok x) (Ok y) (Ok z) run w rest = record {
+      legal = run.legal;
+      whole = up_to run.whole
+          (more_added start.fixed.slot (bytes_of taken) start.shelf b now.shelf (wrote_taken x w) (bytes_of rest.0.0) (bytes_of sent) rest.0.2 rest.2 (ran_one z b now.shelf rest.3)
+          (bytes_then_bytes taken rest.0.0 sent rest.0.1));
+      cut = tt;
+    }
+    piped_run (Ok x) (Ok y) (Err e) run w rest = record {
+      legal = run.legal;
+      whole = tt;
+      cut = there (Err e) (either_front (Ok y) run)
+          (front_added start.fixed.slot (bytes_of taken) start.shelf b now.shelf (wrote_taken x w) (bytes_of rest.1.0) [] (bytes_of sent) rest.1.2
+          (bytes_then_bytes taken rest.1.0 sent rest.1.1 ∙ sym (append-nil (bytes_of taken ++ bytes_of rest.1.0))))
+          (others_kept start.fixed.slot (bytes_of taken) start.shelf b now.shelf (wrote_taken x w) rest.2)
+          (then_behaves (Err e) start.shelf b now.shelf (ran_one x start.shelf b w.behaves) rest.3 (λ no. no));
+    }
+
+-- The frames that are left
+
+-- the frames that were taken since were written
+pub record HasWrittenLeft {A : Type 0} (before now : List (Vec ℕ A)) (slot : ℕ) (a b : Shelved) : Type 0 where
+  pub more : List (Vec ℕ A)
+  pub all : now ≡ before ++ more
+  pub added : HasAdded (bytes_of more) slot a b
+
+pub none_left : {A : Type 0} (before : List (Vec ℕ A)) (slot : ℕ) (a : Shelved) → a.mode slot ≡ Some Writing → HasWrittenLeft before before slot a a
+none_left before slot a opened = record { more = []; all = sym (append-nil before); added = none_added slot a opened }
+
+one_more_frame : {A : Type 0} (frames : List (Vec ℕ A)) (x : Vec ℕ A) → bytes_of (frames ++ x ∷ []) ≡ bytes_of frames ++ x.items
+one_more_frame {A = A} frames x = flat_map-append (λ (f : Vec ℕ A). f.items) frames (x ∷ []) ∙ ap (λ (l : List ℕ). bytes_of frames ++ l) (append-nil x.items)
+
+-- one more frame was taken and written
+pub frame_added : {A : Type 0} (taken new : List (Vec ℕ A)) (x : Vec ℕ A) (slot : ℕ) (a b c : Shelved) → HasAdded (bytes_of taken) slot a b → new ≡ taken ++ x ∷ [] → Appends x.items (b.name slot) b c → KeepsOthers (b.name slot) b c → Behaves {T = Unit {0}} b c (Ok tt)
+    → HasAdded (bytes_of new) slot a c
+frame_added taken new x slot a b c before is written others behaves =
+    more_added slot (bytes_of taken) a b c before x.items (bytes_of new) written others (ran_one tt b c behaves) (ap bytes_of is ∙ one_more_frame taken x)
+
+-- or begun
+pub frame_begun : {A : Type 0} (taken new : List (Vec ℕ A)) (x : Vec ℕ A) (slot : ℕ) (a b c : Shelved) → HasAdded (bytes_of taken) slot a b → new ≡ taken ++ x ∷ [] → AppendsFront x.items (b.name slot) b c → AppendsFront (bytes_of new) (a.name slot) a c
+frame_begun taken new x slot a b c before is begun =
+    front_added slot (bytes_of taken) a b c before x.items [] (bytes_of new) begun (ap bytes_of is ∙ one_more_frame taken x ∙ sym (append-nil (bytes_of taken ++ x.items)))
+
+pub left_added : {A : Type 0} (start taken new : List (Vec ℕ A)) (x : Vec ℕ A) (slot : ℕ) (a b c : Shelved) → HasWrittenLeft start taken slot a b → new ≡ taken ++ x ∷ [] → Appends x.items (b.name slot) b c → KeepsOthers (b.name slot) b c → Behaves {T = Unit {0}} b c (Ok tt)
+    → HasWrittenLeft start new slot a c
+left_added start taken new x slot a b c before is written others behaves = record {
+  more = before.more ++ x ∷ [];
+  all = is ∙ ap (λ l. l ++ x ∷ []) before.all ∙ append_assoc start before.more (x ∷ []);
+  added = frame_added before.more (before.more ++ x ∷ []) x slot a b c before.added refl written others behaves;
+}
+
+pub left_begun : {A : Type 0} (start taken new sent : List (Vec ℕ A)) (x : Vec ℕ A) (slot : ℕ) (a b c : Shelved) → HasWrittenLeft start taken slot a b → new ≡ taken ++ x ∷ [] → IsPrefix new sent → AppendsFront x.items (b.name slot) b c
+    → BeginsLeft start sent (a.name slot) a c
+left_begun {A = A} start taken new sent x slot a b c before is prefix begun =
+    let more : List (Vec ℕ A) = before.more ++ x ∷ [] in (
+      more ++ prefix.0,
+      sym prefix.1 ∙ ap (λ (l : List (Vec ℕ A)). l ++ prefix.0) (is ∙ ap (λ (l : List (Vec ℕ A)). l ++ x ∷ []) before.all ∙ append_assoc start before.more (x ∷ [])) ∙ append_assoc start more prefix.0,
+      front_longer (bytes_of more) (bytes_of prefix.0) (bytes_of (more ++ prefix.0)) (a.name slot) a c (bytes_then_bytes more prefix.0 (more ++ prefix.0) refl)
+          (frame_begun before.more more x slot a b c before.added refl begun),
+    )
+
+pub left_written : {A : Type 0} (start taken sent : List (Vec ℕ A)) (slot : ℕ) (a b : Shelved) → HasWrittenLeft start taken slot a b → taken ≡ sent → WritesLeft start sent (a.name slot) a b
+left_written start taken sent slot a b before same = (before.more, sym same ∙ before.all, before.added.appended)
+
+-- A run that is given up before it begins
+
+pub given_up : (k : Setup) (rounds : ℕ) (paced : Bool) (start : Outlook) (id : TableId) (callers : ℕ) (q : Plan) (messages : List ℕ) (ends : List (Owner Totals)) (d : Owner DisplayTotals) (h : List Entry)
+    → IsReady k start → IsOpened k.plan messages id callers ends d → Legal q h → All (IsGatheredClient q h) ends → IsGatheredDisplay q h d → HasRun k rounds paced start start h (Err Memory)
+given_up k rounds paced start id callers q messages ends d h ready opened legal clients display =
+    has_run k rounds paced start start id callers q messages ends ends d d h ready opened (same_self d) (Err Memory) (Err Memory) tt
+    (λ k' begin played. (played.history, cut_at k' begin start d played.history played.at)) refl tt (crew_same ends) legal clients display
+
+-- Before the threads
+
+-- a run may begin with a display whose frames go through a pipe
+pub ready_piped : (k : Setup) (start first : Outlook) → IsReady k start → first.display ≡ start.display → first.fixed.size ≡ start.fixed.size → first.shelf ≡ paper [] → IsReady k first
+ready_piped k start first ready display size empty = record {
+  begins = record {
+    sides = ready.begins.sides;
+    size = ready.begins.size ∙ sym size;
+    some = ready.begins.some;
+    opened = subst (λ (s : Shelved). s.mode first.fixed.slot ≡ Some Writing) (sym empty) refl;
+  };
+  display = display ∙ ready.display;
+}
+
+-- What is sent
+
+-- a frame more was sent
+pub sent_more : {A : Type 0} (sent new : List (Vec ℕ A)) (x : Vec ℕ A) (bytes : List ℕ) → new ≡ sent ++ x ∷ [] → x.items ≡ bytes → Appends bytes [] (paper (bytes_of sent)) (paper (bytes_of new))
+sent_more sent new x bytes is same told = ap Some (ap bytes_of is ∙ one_more_frame sent x ∙ ap (λ (l : List ℕ). bytes_of sent ++ l) same)
+
+-- or none was
+pub sent_none : {A : Type 0} (sent new : List (Vec ℕ A)) (bytes : List ℕ) → new ≡ sent → AppendsFront bytes [] (paper (bytes_of sent)) (paper (bytes_of new))
+sent_none sent new bytes same = subst (λ l. AppendsFront bytes [] (paper (bytes_of sent)) (paper (bytes_of l))) (sym same) (paper_front (bytes_of sent) bytes)
+
+-- Once the threads have ended
+
+-- what an outlet borrows stays, and the pipe of its frames
+pub fixed_stays : (k : Setup) (rounds : ℕ) (paced : Bool) (start now : Outlook) (h : List Entry) (r : Result (Unit {0}) ShelfError) → HasRun k rounds paced start now h r → now.fixed ≡ start.fixed
+fixed_stays k rounds paced start now h (Ok x) run = run.whole.shown.fixed
+fixed_stays k rounds paced start now h (Err e) run = run.cut.fixed
+
+pub pipe_stays : (a b : Fixed) (x y : PipeId (Vec ℕ Global)) → a ≡ b → a.pipe ≡ Some x → b.pipe ≡ Some y → x ≡ y
+pipe_stays a b x y same is was = ap (λ (o : Option (PipeId (Vec ℕ Global))). unwrap_or o x) (sym is ∙ ap (λ (f : Fixed). f.pipe) same ∙ was)
+
+-- a run that was given up before it began, told of the display that was given back
+pub given_up_is : (k : Setup) (rounds : ℕ) (paced : Bool) (start now : Outlook) (h : List Entry) (r : Result (Unit {0}) ShelfError) → HasRun k rounds paced start start h (Err Memory) → now ≡ start → r ≡ Err Memory → HasRun k rounds paced start now h r
+given_up_is k rounds paced start now h r run same is = subst (λ (s : Outlook). HasRun k rounds paced start s h r) (sym same) (subst (HasRun k rounds paced start start h) (sym is) run)

@@ -1,0 +1,31 @@
+use Rattle.std.proofs.Common.{◌∙◌, sym, subst}
+use mathlib.Core.List.{IsPrefix}
+use Rattle.vz_outside.specs.Shelved.{Appends, AppendsFront}
+use Rattle.vz_outputs.proofs.Behaving.{on_err}
+use Rattle.vz_threads.specs.Pipes.{BeginsLeft}
+use Rattle.vz_threads.proofs.Through.{left_added, left_begun}
+use Rattle.vz_threads.proofs.writer.write_left.Goals as goal
+
+pub returns-in_err-write_all-clause-begun : goal.returns-in_err-write_all-clause-begun
+returns-in_err-write_all-clause-begun g c =
+    let a = g.F.Shelf.shelved c.args.shelf.now in
+    let b = g.F.Shelf.shelved c.loop.shelf in
+    let after = g.F.Shelf.shelved c.write_all.new.shelf in
+    let sent = c.args.sent.now.sent in
+    let all = subst (λ l. IsPrefix c.left.new.self.taken l) c.loop.invariant.sent c.in-Some-left.ensures.next in
+    on_err c.from_residual.result (BeginsLeft c.args.receiver.now.taken sent (a.name c.args.slot) a after)
+    (left_begun c.args.receiver.now.taken c.loop.receiver.taken c.left.new.self.taken sent c.in-Some-left.frame c.args.slot a b after c.loop.invariant.left c.in-Some-left.ensures.some all
+    (subst (λ l. AppendsFront l (b.name c.args.slot) b after) c.deref.ensures.value c.in_err-write_all.ensures.begun))
+
+pub loop-preserved : goal.loop-preserved
+loop-preserved g c =
+    let a = g.F.Shelf.shelved c.args.shelf.now in
+    let b = g.F.Shelf.shelved c.loop.shelf in
+    let after = g.F.Shelf.shelved c.write_all.new.shelf in
+    record {
+      pipe = c.in-Some-left.ensures.token ∙ c.loop.invariant.pipe ∙ sym c.in-Some-left.ensures.pipe;
+      sent = c.in-Some-left.ensures.sent ∙ c.loop.invariant.sent;
+      left = left_added c.args.receiver.now.taken c.loop.receiver.taken c.left.new.self.taken c.in-Some-left.frame c.args.slot a b after c.loop.invariant.left c.in-Some-left.ensures.some
+          (subst (λ l. Appends l (b.name c.args.slot) b after) c.deref.ensures.value c.in_ok-write_all.ensures.appended)
+          c.in_ok-write_all.ensures.others c.in_ok-write_all.ensures.behaves;
+    }

@@ -1,0 +1,28 @@
+use Rattle.std.proofs.Common.{◌∙◌, subst}
+use Rattle.vz_outside.specs.Shelved.{Appends, AppendsFront}
+use Rattle.vz_outputs.proofs.Behaving.{on_err}
+use Rattle.vz_threads.specs.Pipes.{bytes_of}
+use Rattle.vz_threads.proofs.Through.{frame_added, frame_begun}
+use Rattle.vz_threads.proofs.writer.write_taken.Goals as goal
+
+pub returns-in_err-write_all-clause-begun : goal.returns-in_err-write_all-clause-begun
+returns-in_err-write_all-clause-begun g c =
+    let a = g.F.Shelf.shelved c.args.shelf.now in
+    let b = g.F.Shelf.shelved c.loop.shelf in
+    let after = g.F.Shelf.shelved c.write_all.new.shelf in
+    let x = c.in-Some-take.frame in
+    on_err c.from_residual.result (AppendsFront (bytes_of c.take.new.self.taken) (a.name c.args.slot) a after)
+    (frame_begun c.loop.receiver.taken c.take.new.self.taken x c.args.slot a b after c.loop.invariant.added c.in-Some-take.ensures.some
+    (subst (λ l. AppendsFront l (b.name c.args.slot) b after) c.deref.ensures.value c.in_err-write_all.ensures.begun))
+
+pub loop-preserved : goal.loop-preserved
+loop-preserved g c =
+    let a = g.F.Shelf.shelved c.args.shelf.now in
+    let b = g.F.Shelf.shelved c.loop.shelf in
+    let after = g.F.Shelf.shelved c.write_all.new.shelf in
+    record {
+      pipe = c.in-Some-take.ensures.pipe ∙ c.loop.invariant.pipe;
+      added = frame_added c.loop.receiver.taken c.take.new.self.taken c.in-Some-take.frame c.args.slot a b after c.loop.invariant.added c.in-Some-take.ensures.some
+          (subst (λ l. Appends l (b.name c.args.slot) b after) c.deref.ensures.value c.in_ok-write_all.ensures.appended)
+          c.in_ok-write_all.ensures.others c.in_ok-write_all.ensures.behaves;
+    }

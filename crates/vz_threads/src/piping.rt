@@ -1,0 +1,157 @@
+//! A run whose frames are written by a thread of their own.
+ghost use Rattle.std.specs.Prelude.{◌≡◌, ◌≤◌, ℕ, Bool, [], Err, length, vec_capacity};
+ghost use Rattle.vz_outside.specs.declared.shelf.ShelfError.TheVariants.{Memory};
+ghost use Rattle.vz_rules.specs.Step.{world};
+ghost use Rattle.vz_threads.specs.Outlets.{Outlook, outlook};
+ghost use Rattle.vz_threads.specs.Rounds.{Setup};
+ghost use Rattle.vz_threads.specs.Runs.{IsReady, IsOpened, HasRun};
+
+use crate::back::give_back;
+use crate::opening::Opened;
+use crate::outlet::Outlet;
+use crate::piped::PipedOutlet;
+use crate::progress::Progress;
+use crate::ran::Ran;
+use crate::run::Course;
+use crate::writer::write_rest;
+use crate::writing::run_beside;
+use std::alloc::AllocGlobal;
+use std::sync::Wait;
+use std::sync::ledger::Ledger;
+use std::thread::Threads;
+use vz_buffers::Steps;
+use vz_desk::Gathered;
+use vz_display::Display;
+use vz_machine::Machine;
+use vz_outputs::FrameFile;
+use vz_outside::{Gate, Shelf, ShelfError};
+use vz_pipe::pipe;
+
+/// How many frames wait in the channel at most.
+const SLOTS: usize = 2;
+
+/// Lets the display and the clients work, while another thread writes the frames. Then this
+/// thread writes those that are left, and gathers the history. Conditions: the desk was just
+/// opened, there is room and a flag for each thread, and the display has shown nothing yet.
+pub(crate) fn run_piped<M: Machine + Send + Drop, F: Shelf + Send, G: Gate + Sync, L: Ledger, R>(
+    rt: &R,
+    opened: Opened<M>,
+    messages: &[u64],
+    course: Course,
+    gate: &G,
+    display: Display,
+    shelf: &mut F,
+    file: FrameFile,
+    steps: &mut Steps<L>,
+) -> Ran<M, Display>
+where
+    M::Picture: Send + Drop,
+    R: Threads + Wait + AllocGlobal + Sync,
+    requires opened { (k : Setup)
+        × IsReady k (outlook file.slot file.size display.shown (F.shelved shelf.old) steps.old)
+        × IsOpened k.plan messages.now opened.desk.id opened.desk.callers opened.ends.items
+        opened.display }
+    requires room { (opened.started.items ≡ [])
+        × (length messages.now ≤ vec_capacity opened.started) }
+    requires flags { length opened.refused.items ≡ length messages.now }
+    ensures behind { (M.state result.machine).world
+        ≡ world (M.state result.machine).plan result.history.list }
+    ensures plan { (k : Setup) → IsOpened k.plan messages.now opened.desk.id opened.desk.callers
+        opened.ends.items opened.display → (M.state result.machine).plan ≡ k.plan }
+    ensures run { (k : Setup)
+        → IsReady k (outlook file.slot file.size display.shown (F.shelved shelf.old) steps.old)
+        → IsOpened k.plan messages.now opened.desk.id opened.desk.callers opened.ends.items
+        opened.display → HasRun k course.rounds course.paced
+        (outlook file.slot file.size display.shown (F.shelved shelf.old) steps.old)
+        (outlook file.slot file.size result.outlet.shown (F.shelved shelf.new) steps.new)
+        result.history.list result.played }
+{
+    let Ok((mut sender, mut receiver)) = pipe::<Vec<u8>>(rt.alloc(), SLOTS) else {
+        return give_up(opened, display, messages);
+    };
+    let progress = Progress::new();
+    let outlet = PipedOutlet {
+        display,
+        size: file.size,
+        sender: &mut sender,
+        progress: &progress,
+        spare: None,
+        steps,
+    };
+    let (ran, wrote) = run_beside(
+        rt,
+        opened,
+        messages,
+        course,
+        gate,
+        outlet,
+        &progress,
+        &mut receiver,
+        shelf,
+        file.slot,
+    );
+    let Ran {
+        machine,
+        history,
+        outlet,
+        played,
+    } = ran;
+    let PipedOutlet {
+        display,
+        sender: lent,
+        spare,
+        steps,
+        ..
+    } = outlet;
+    drop(spare);
+    give_back(lent, steps);
+    let mut sent = sender.end(rt);
+    let played = write_rest(
+        rt,
+        wrote,
+        played,
+        &mut receiver,
+        &mut sent,
+        shelf,
+        file.slot,
+    );
+    Ran {
+        machine,
+        history,
+        outlet: display,
+        played,
+    }
+}
+
+/// Gathers the history of a run for which there is no memory. Condition: the desk was just opened.
+fn give_up<M: Machine + Send + Drop, O>(opened: Opened<M>, outlet: O, messages: &[u64]) -> Ran<M, O>
+where
+    M::Picture: Send + Drop,
+    requires { (k : Setup) × (start : Outlook) × IsReady k start × IsOpened k.plan messages.now
+        opened.desk.id opened.desk.callers opened.ends.items opened.display }
+    ensures behind { (M.state result.machine).world
+        ≡ world (M.state result.machine).plan result.history.list }
+    ensures plan { (k : Setup) → IsOpened k.plan messages.now opened.desk.id opened.desk.callers
+        opened.ends.items opened.display → (M.state result.machine).plan ≡ k.plan }
+    ensures run { (k : Setup) (start : Outlook) (rounds : ℕ) (paced : Bool)
+        → IsReady k start → IsOpened k.plan messages.now opened.desk.id opened.desk.callers
+        opened.ends.items opened.display
+        → HasRun k rounds paced start start result.history.list (Err Memory) }
+    ensures outlet { result.outlet ≡ outlet }
+    ensures played { result.played ≡ Err Memory }
+{
+    let Opened {
+        desk,
+        ends,
+        display,
+        started: _,
+        refused: _,
+    } = opened;
+    let Gathered { machine, history } = desk.gather(ends, display, None);
+    Ran {
+        machine,
+        history,
+        outlet,
+        played: Err(ShelfError::Memory),
+    }
+}

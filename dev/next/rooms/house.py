@@ -1,0 +1,72 @@
+"""What goes where: the moves of the first landing, the heads of the merged crates, and the sections of crates.txt."""
+import moves
+from moves import Move
+
+MOVES = [
+    Move("vz_outputs", "vz_player", src={"create": "outputs", "file": "client_file", "frame": "frame_file", "play": "to_shelf"}),
+    Move("vz_play", "vz_player", src={"frame": "frame_bytes", "playing": "results"}, specs={"Playing": "Puts"}),
+    Move("vz_inputs", "viz_run", first=True),
+    Move("vz_demo", "viz_run", proofs={"Fitting": "Demo_fits"}, first=True),
+    Move("vz_plain_machine", "vz_slow", src={"machine": "plain_machine"}, specs={"Drawing": "Pictures"}),
+    Move("vz_support", "vz_support", src={"messages": "own_messages"}),
+    Move("vz_clients", "vz_support", joined=("laws",), first=True),
+]
+
+HEADS = {
+    "vz_player": [
+        "Players: a machine that takes events one after the other, with a gate around each, its",
+        "history, and a display that shows what is drawn.",
+        "",
+        "`play_frames` writes what a player shows to a shelf, and `write_log` its history; `play` gives",
+        "the bytes of its frames. A hit tester is a player without a display, and knows what is hit at",
+        "one point of the last drawing.",
+    ],
+    "viz_run": [
+        "The one public call of the display compositor.",
+        "",
+        "Besides, what it reads: client files and the schedule. Each is read whole, and then accepted,",
+        "or refused with the place and the reason. And the plan of the generated files, so that they can",
+        "be run without being written.",
+    ],
+    "vz_slow": [
+        "The plain machine: a simple reference implementation of the definitions.",
+        "",
+        "Its contracts are the definitions of `vz_rules`, and its bodies stay close to them: it keeps",
+        "every submission and scans all of them. `check` replays a log on it, and tests compare the",
+        "incremental machine with it, by the trait that both implement (`PlainMachine`). Each of its",
+        "pictures has all pixels.",
+    ],
+    "vz_support": [
+        "The client side of the compositor, after Chromium's CompositorFrameSinkSupport: the messages",
+        "that each client has still to send, the blocks that it uploaded, and its pending begin-frames.",
+        "",
+        "Messages are moved out of the files as they are taken. The block of an upload is kept under",
+        "its id. Each call of `Support` makes one change of the machine's state in the part that is kept",
+        "here. Its contract says: if this part is right for some state before the call, it is right for",
+        "the next state after it.",
+    ],
+}
+
+# The sections of crates.txt, from the lowest layer up, each with a line that says what it is.
+SECTIONS = [
+    ("words", "the values that all others speak of, and the definitions of the machine",
+     "vz_base vz_ghost vz_geom vz_ids vz_pixels vz_frame vz_rules vz_marking"),
+    ("formats", "message files and the log, as bytes and text",
+     "vz_codec vz_journal vz_gen"),
+    ("plain", "the reference machine, which keeps everything and scans it",
+     "vz_scene vz_plain vz_state vz_slow"),
+    ("parts", "what the fast machine is made of: each keeps one thing and answers fast",
+     "vz_refs vz_deps vz_deadlines vz_sinks vz_returns vz_lending vz_feeding vz_surfaces vz_walk vz_damage"),
+    ("machine", "the trait of a machine, and the fast machine over its parts",
+     "vz_machine vz_support vz_reaching vz_telling vz_flight vz_live vz_waiting vz_settling vz_manager"),
+    ("drawing", "from a scene to the pixels of a buffer, and what is hit",
+     "vz_kernel vz_buffers vz_flat vz_paint vz_occlude vz_display vz_hit"),
+    ("threads", "callers in turns, and frames from one thread to another",
+     "vz_loans vz_desk vz_turn vz_callers vz_pipe vz_threads"),
+    ("program", "the outside, the words, and the commands",
+     "vz_outside vz_words vz_check vz_player viz_run viz"),
+    ("tests", "programs and tests over all of them",
+     "vz_draws vz_test_base vz_test_parts vz_test_machines vz_test_calls"),
+]
+
+moves.LAYERS[:] = [it for _, _, crates in SECTIONS for it in crates.split()]

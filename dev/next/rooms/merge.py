@@ -1,0 +1,138 @@
+#!/usr/bin/env python3
+"""The first landing of the house with fewer rooms: the program's merges. Words: CLONE [--without CRATE..], a clean clone that it changes."""
+import re
+import sys
+from pathlib import Path
+
+sys.dont_write_bytecode = True
+sys.path.insert(0, str(Path(__file__).resolve().parent))
+
+import documents                                                                                # noqa: E402
+import house                                                                                    # noqa: E402
+import moves                                                                                    # noqa: E402
+from moves import Names, Tree, read, stop, write                                                # noqa: E402
+
+HERE = Path(__file__).resolve().parent
+CODE = (".rt", ".antt", ".rattle", ".invariants")
+# Texts that say what was done once: they keep the names of then.
+PAST = ("dev/next/", "dev/bugs/PLANTS.md")
+
+
+def rewrite_code(tree, names):
+    """All paths in code, definitions, proofs, and the programs of bench and examples."""
+    for path in tree.files(*CODE, ".edit"):
+        home = moves.home_of(tree, path)
+        if path.suffix == ".edit" and home is None:
+            home = path.parts[-2]
+        text = names.code(read(path), home)
+        lines = [names.prose(it) if it.lstrip().startswith(("//", "--")) else it for it in text.split("\n")]
+        write(path, "\n".join(lines))
+
+
+def rewrite_texts(tree, names):
+    """Documents, scripts and lists: paths of files and bare names."""
+    for path in tree.files():
+        name = str(path.relative_to(tree.root))
+        if path.suffix in (*CODE, ".edit") or name == "crates.txt" or name.startswith(PAST) or path.suffix in (".png", ".ref", ".viz", ".bin"):
+            continue
+        try:
+            text = read(path)
+        except UnicodeDecodeError:
+            continue
+        if any(re.search(r"\b%s\b" % it.source, text) for it in names.moves):
+            new = names.prose(text)
+            # A list of crates has each once.
+            new = re.sub(r"\bvz_\w+(?: (?:\w+))+\b", lambda it: once(it[0]), new) if is_list(name) else new
+            write(path, new)
+
+
+def is_list(name):
+    return name in ("bench/hits", "bench/occlusion", "bench/turns") or name.endswith("crates.list")
+
+
+def once(words):
+    return " ".join(dict.fromkeys(words.split(" ")))
+
+
+def rewrite_list(tree, names):
+    """crates.txt: merged lines, each library once, in headed sections."""
+    lines, rows = {}, []
+    for row in read(tree.root / "crates.txt").split("\n"):
+        name, _, uses = row.partition("#")[0].strip().partition(":")
+        if name:
+            head, *more = name.split()
+            rows.append((names.crate(head) != head, head, more, uses.split()))
+    # The target's own line comes first, so that its order stays.
+    for _, head, more, uses in sorted(rows, key=lambda it: it[0]):
+        said = lines.setdefault(names.crate(head), ([], []))
+        said[0].extend(it for it in more if it not in said[0])
+        said[1].extend(uses)
+    out, placed = [], set()
+    for title, what, crates in house.SECTIONS:
+        out += ["# %s: %s" % (title, what)]
+        for crate in crates.split():
+            if crate not in lines:
+                stop("crates.txt has no crate %s (section %s)" % (crate, title))
+            more, uses = lines[crate]
+            uses = [it for it in dict.fromkeys(map(names.crate, uses)) if it != crate]
+            out.append(" ".join([crate, *more]) + ":" + "".join(" " + it for it in uses))
+            placed.add(crate)
+        out.append("")
+    if set(lines) - placed:
+        stop("crates in no section: %s" % ", ".join(sorted(set(lines) - placed)))
+    write(tree.root / "crates.txt", "\n".join(out).rstrip("\n") + "\n")
+
+
+def merge_all(tree, without):
+    chosen = [it for it in house.MOVES if it.source not in without and it.target not in without]
+    names = Names(chosen)
+    rewrite_code(tree, names)
+    rewrite_texts(tree, names)
+    rewrite_list(tree, names)
+    for move in chosen:
+        if move.source == move.target:
+            moves.rename_modules(tree, move)
+        else:
+            moves.merge(tree, move, house.HEADS[move.target])
+        moves.move_edits(tree, move)
+    return names
+
+
+def left(tree, names):
+    """What still names a crate that is gone."""
+    gone = re.compile(r"\b(?:%s)\b" % "|".join(sorted(names.by_source)))
+    for path in tree.files():
+        name = str(path.relative_to(tree.root))
+        if name.startswith(PAST):
+            continue
+        try:
+            for number, line in enumerate(read(path).split("\n"), 1):
+                if gone.search(line):
+                    yield "%s:%d: %s" % (name, number, line.strip())
+        except UnicodeDecodeError:
+            pass
+
+
+def main(words):
+    if not words:
+        sys.exit(__doc__)
+    tree = Tree(words[0])
+    if tree.git("status", "--porcelain", "--untracked-files=no").strip():
+        stop("%s has changes that are not committed" % words[0])
+    before = moves.check_edits(tree)
+    documents.check_architecture(tree)
+    # dev/rooms goes in with the landing; it counts before, too.
+    (tree.root / "dev/rooms").write_bytes((HERE / "rooms").read_bytes())
+    (tree.root / "dev/rooms").chmod(0o755)
+    counted = documents.counted(tree)
+    names = merge_all(tree, set(words[2:]) if words[1:2] == ["--without"] else set())
+    documents.write_documents(tree, counted)
+    tree.git("add", "-A", "crates", "dev", "docs", "bench", "examples", "tools", "crates.txt", "README.md")
+    wrong = [it for it in moves.check_edits(tree) if it not in before]
+    for line in [*wrong, *left(tree, names)]:
+        print(line)
+    return 1 if wrong else 0
+
+
+if __name__ == "__main__":
+    sys.exit(main(sys.argv[1:]))
