@@ -4,7 +4,7 @@
 of each other; `tiles/` is the same stack in front of a thousand tiles of client 1. The files are `1.viz` to `11.viz`. There are
 so many rounds (10 if left out): in each after the first the front window sends its frame again, with all of it as its damage,
 and `schedule` takes one round after the other. `corners/` has the thousand tiles alone, in `1.viz`: each lacks the texel in
-its last corner, so that nothing is hidden, and all texels must be read to know that.
+its last corner, so that nothing is hidden. Each draws all of its block, so that no texel must be read to know that.
 """
 
 import os

@@ -1,3 +1,4 @@
 mod Places
+mod Spelling
 pub mod Turning
 pub mod Displays

@@ -5,8 +5,10 @@
 mod buffer;
 pub mod laws;
 mod queue;
+mod shared;
 mod steps;
 
 pub use buffer::Buffer;
 pub use queue::Queue;
+pub use shared::SharedBuffer;
 pub use steps::Steps;

@@ -11,10 +11,9 @@ use std::marker::Model;
 use std::sync::ledger::Ledger;
 use vz_base::Memory;
 use vz_base::limits::MOST_BUFFERS;
-use vz_buffers::{Buffer, Queue, Steps};
+use vz_buffers::{Buffer, Queue, SharedBuffer, Steps};
 use vz_geom::Size;
 use vz_machine::ThinPicture;
-use vz_pixels::Pixel;
 
 /// A display with 1 to `MOST_BUFFERS` buffers that are painted in turn. It makes a buffer at its
 /// first use, and repaints only the stale rectangle of a buffer.
@@ -22,7 +21,7 @@ use vz_pixels::Pixel;
 pub struct Display {
     size: Size,
     queue: Queue,
-    kept: ArrayVec<Option<Buffer>, MOST_BUFFERS>,
+    kept: ArrayVec<Option<SharedBuffer>, MOST_BUFFERS>,
     painted: u64,
     removed: u64,
 }
@@ -87,14 +86,41 @@ impl Display {
         let area = self.queue.stale();
         let (mut buffer, made) = next_buffer(alloc, self.size, &mut self.kept, steps)?;
         p.paint(alloc, area, &mut buffer, steps)?;
+        let shown = SharedBuffer::new(alloc, buffer)?;
         self.queue.painted();
-        self.kept.insert(0, Some(buffer));
+        self.kept.insert(0, Some(shown));
         self.painted = self
             .painted
             .saturating_add(made)
             .saturating_add(area.area());
         self.removed = self.removed.saturating_add(p.gone());
         Ok(())
+    }
+
+    /// The bytes of the current buffer: its rows from top to bottom, and four bytes a pixel, which
+    /// are red, green, blue and alpha. Nothing is copied. Condition: a picture was shown.
+    pub fn bytes(&self) -> &[u8]
+        requires { IsSome (current self.now.shown) }
+        ensures { IfSome (current self.now.shown)
+            (λ b. result.now ≡ flat_map pixel_bytes b.pixels) }
+    {
+        match self.kept.first() {
+            Some(Some(buffer)) => buffer.bytes(),
+            _ => &[],
+        }
+    }
+
+    /// The current buffer, for somebody else to read. Nothing is copied; but if it is still read
+    /// when its turn comes to be painted again, `show` copies it. Condition: a picture was shown.
+    /// The only error is `Memory`.
+    pub fn share(&self) -> Result<SharedBuffer, Memory>
+        requires { IsSome (current self.now.shown) }
+        ensures { IfOk result (λ b. current self.now.shown ≡ Some b) }
+    {
+        match self.kept.first() {
+            Some(Some(buffer)) => buffer.share(),
+            _ => Err(Memory),
+        }
     }
 
     /// Copies row `y` of the current buffer, four bytes a pixel: red, green, blue and alpha.
@@ -111,6 +137,13 @@ impl Display {
         if let Some(Some(buffer)) = self.kept.first() {
             copy_row(buffer, &self.size, y, into);
         }
+    }
+
+    /// How many buffers the display has, made or not.
+    pub fn buffers(&self) -> usize
+        ensures { result ≡ length self.now.shown.kept }
+    {
+        self.kept.len()
     }
 
     /// How many steps the pictures shown so far took, or `u64::MAX` if there are more.
@@ -130,7 +163,7 @@ impl Display {
 }
 
 /// The places of `count` buffers that were not made yet.
-fn never_made(count: u32) -> ArrayVec<Option<Buffer>, MOST_BUFFERS>
+fn never_made(count: u32) -> ArrayVec<Option<SharedBuffer>, MOST_BUFFERS>
     requires { count ≤ MOST_BUFFERS }
     ensures { result.items ≡ replicate count None }
 {
@@ -142,11 +175,11 @@ fn never_made(count: u32) -> ArrayVec<Option<Buffer>, MOST_BUFFERS>
 }
 
 /// Takes the next buffer, or makes it at its first use, and returns it with the steps for making
-/// it.
+/// it. If somebody else still reads it, they keep theirs, and this one is a copy.
 fn next_buffer<L: Ledger>(
     alloc: Global,
     size: Size,
-    kept: &mut ArrayVec<Option<Buffer>, MOST_BUFFERS>,
+    kept: &mut ArrayVec<Option<SharedBuffer>, MOST_BUFFERS>,
     steps: &mut Steps<L>,
 ) -> Result<(Buffer, u64), Memory>
     requires size { IsDisplaySize size }
@@ -159,7 +192,10 @@ fn next_buffer<L: Ledger>(
         (steps.new ≡ steps.old + making_in size (last_in kept.old.items)) }
 {
     match kept.pop() {
-        Some(Some(buffer)) => Ok((buffer, 0)),
+        Some(Some(shown)) => {
+            let buffer = shown.into_buffer(alloc)?;
+            Ok((buffer, 0))
+        }
         _ => make(alloc, size, steps),
     }
 }
@@ -178,7 +214,7 @@ fn make<L: Ledger>(alloc: Global, size: Size, steps: &mut Steps<L>) -> Result<(B
 }
 
 /// Copies the bytes of a row of a buffer.
-fn copy_row(buffer: &Buffer, size: &Size, y: i32, into: &mut [u8])
+fn copy_row(buffer: &SharedBuffer, size: &Size, y: i32, into: &mut [u8])
     requires same { buffer.now.size ≡ size.now }
     requires top { pos 0 ≤ℤ y }
     requires bottom { y <ℤ size.now.h }
@@ -187,31 +223,13 @@ fn copy_row(buffer: &Buffer, size: &Size, y: i32, into: &mut [u8])
 {
     let width = buffer.size().w.unsigned_abs() as usize;
     let from = y.unsigned_abs() as usize * width;
-    copy_pixels(span(buffer.pixels(), from, width), into);
+    into.copy_from_slice(span(buffer.bytes(), 4 * from, 4 * width));
 }
 
-/// The `count` pixels from index `from` on.
-fn span(pixels: &[Pixel], from: usize, count: usize) -> &[Pixel]
-    requires { (from + count) ≤ length pixels.now }
-    ensures { result.now ≡ take count (drop from pixels.now) }
+/// The `count` bytes from index `from` on.
+fn span(bytes: &[u8], from: usize, count: usize) -> &[u8]
+    requires { (from + count) ≤ length bytes.now }
+    ensures { result.now ≡ take count (drop from bytes.now) }
 {
-    &pixels[from..from + count]
-}
-
-/// Copies the bytes of pixels.
-fn copy_pixels(row: &[Pixel], into: &mut [u8])
-    requires { length into.old ≡ 4 * length row.now }
-    ensures { into.new ≡ flat_map pixel_bytes row.now }
-{
-    for k in 0..row.len() {
-        put(into, 4 * k, row[k]);
-    }
-}
-
-/// Writes the four bytes of a pixel from index `at` on.
-fn put(into: &mut [u8], at: usize, p: Pixel)
-    requires { (at + 4) ≤ length into.old }
-    ensures { into.new ≡ take at into.old ++ pixel_bytes p ++ drop (at + 4) into.old }
-{
-    into[at..at + 4].copy_from_slice(&[p.r(), p.g(), p.b(), p.a()]);
+    &bytes[from..from + count]
 }

@@ -8,6 +8,7 @@ pub mod Lists
 pub mod Ends_of_lists
 pub mod Read_texels
 pub mod Opaque_blocks
+pub mod Whole_blocks
 pub mod Keeping
 pub mod Walked
 pub mod Taken

@@ -1,5 +1,5 @@
 //! Whether texels of a block are opaque.
-ghost use Rattle.std.specs.Prelude.{◌≡◌, ◌+◌, ◌≤◌, ◌<◌, ℕ, true};
+ghost use Rattle.std.specs.Prelude.{◌≡◌, ◌+◌, ◌≤◌, ◌<◌, ◌↔◌, ℕ, pos, true, IsTrue};
 ghost use Rattle.vz_base.specs.declared.limits.TheConstants.{GREATEST_BLOCK_SIDE};
 ghost use Rattle.vz_frame.specs.declared.blend.Blend.{Blend as Mode};
 ghost use Rattle.vz_flat.specs.Ops.{is_inside};
@@ -42,6 +42,14 @@ fn are_opaque_rows(block: &PixelBlock, count: u32, width: u32, column: u32, row:
     true
 }
 
+/// Whether an area has the sides of a block.
+fn has_sides(area: &Rect, block: &PixelBlock) -> bool
+    ensures { IsTrue result
+        ↔ ((area.now.w ≡ pos block.now.w) × (area.now.h ≡ pos block.now.h)) }
+{
+    area.w() == block.w() as i32 && area.h() == block.h() as i32
+}
+
 /// Whether all texels that a `Blit` draws are opaque. They are inside its block.
 pub(crate) fn is_opaque_blit(area: &Rect, block: &PixelBlock, tx: &i32, ty: &i32) -> bool
     requires inside { (opacity : ℕ) (mode : Mode)
@@ -51,10 +59,16 @@ pub(crate) fn is_opaque_blit(area: &Rect, block: &PixelBlock, tx: &i32, ty: &i32
     if area.is_empty() {
         return true;
     }
+    // The number of pixels shows that each place of the block has one.
     let _count = block.pixels().len();
     if block.is_opaque() {
         return true;
     }
+    // All texels are drawn, and one of them is not opaque.
+    if has_sides(area, block) {
+        return false;
+    }
+    // Its sides show that they are within their limit.
     let _sides = (block.w(), block.h());
     are_opaque_rows(
         block,

@@ -1,5 +1,5 @@
 -- The frame that a display shows.
-use Rattle.std.specs.Prelude.{◌≡◌, ℕ, ◌*◌, Some, None, List, [], length, take, drop}
+use Rattle.std.specs.Prelude.{◌≡◌, Some, None, List, [], length}
 use Rattle.vz_geom.specs.Display.{IsDisplaySize}
 use Rattle.vz_pixels.specs.Colour.{Colour}
 use Rattle.vz_buffers.specs.Canvas.{pixel_count}
@@ -14,7 +14,3 @@ pub record ShowsFrame (d : Displayed) : Type 0 where
   pub sides : IsDisplaySize d.turns.size
   pub current : current d ≡ buffer_with d.turns.size (frame_on d)
   pub whole : length (frame_on d) ≡ pixel_count d.turns.size
-
--- so many rows of a frame with this width, from a row on
-abbrev pub rows_in : ℕ → ℕ → ℕ → List Colour → List Colour
-rows_in width from count pixels = take (count * width) (drop (from * width) pixels)

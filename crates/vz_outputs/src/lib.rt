@@ -9,6 +9,6 @@ mod play;
 
 pub use create::{Outputs, create_outputs};
 pub use file::write_file;
-pub use frame::{FrameFile, copy_frame, write_frame};
+pub use frame::{FrameFile, write_frame};
 pub use log::write_log;
 pub use play::play_frames;

@@ -50,10 +50,8 @@ where
         (F.shelved shelf.old) (F.shelved shelf.new) }
     ensures behaves { Behaves (F.shelved shelf.old) (F.shelved shelf.new) result }
 {
-    // The piece takes no memory before the first frame, and no more after it.
-    let mut piece = Vec::new(alloc);
     for event in events {
-        play_one(alloc, player, *event, shelf, file, &mut piece, gate, steps)?;
+        play_one(alloc, player, *event, shelf, file, gate, steps)?;
     }
     Ok(())
 }
@@ -65,7 +63,6 @@ fn play_one<M: Machine + Drop, F: Shelf, G: Gate, L: Ledger>(
     event: Event,
     shelf: &mut F,
     file: FrameFile,
-    piece: &mut Vec<u8>,
     gate: &G,
     steps: &mut Steps<L>,
 ) -> Result<(), ShelfError>
@@ -91,6 +88,6 @@ where
     if !player.turn(alloc, gate, event, steps)? {
         return Ok(());
     }
-    write_frame(shelf, file, player.display(), piece)?;
+    write_frame(shelf, file, player.display())?;
     Ok(())
 }

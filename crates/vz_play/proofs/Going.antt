@@ -1,15 +1,16 @@
 -- A player goes on by an event.
-use Rattle.std.proofs.Common.{◌≡◌, ℕ, Bool, true, false, List, [], ◌∷◌, ◌++◌, map, length, refl, sym, ap, subst, ◌∙◌, ◌+◌, add-zero, arith}
+use Rattle.std.proofs.Common.{◌≡◌, ℕ, Bool, true, false, Option, List, [], ◌∷◌, ◌++◌, map, length, refl, sym, ap, subst, ◌∙◌, ◌+◌, add-zero, arith}
+use Rattle.std.specs.Prelude.{IsSome, IfSome}
+use Rattle.std.specs.List.{flat_map}
 use Rattle.std.proofs.lemmas.List.{map-append}
-use Rattle.vz_geom.specs.declared.Size.{Size}
 use Rattle.vz_pixels.specs.Colour.{Colour}
-use Rattle.vz_buffers.specs.Canvas.{pixel_count}
+use Rattle.vz_buffers.specs.Canvas.{Canvas}
 use Rattle.vz_rules.specs.Plan.{Plan}
 use Rattle.vz_rules.specs.World.{World}
 use Rattle.vz_rules.specs.declared.entry.Event.{Event}
 use Rattle.vz_rules.specs.declared.entry.Entry.{Entry}
 use Rattle.vz_rules.specs.Step.{entry_in}
-use Rattle.vz_rules.specs.Frames.{frames_bytes, written, written_of, painted, painted_of, drawn_frames, drawn_frames_from}
+use Rattle.vz_rules.specs.Frames.{pixel_bytes, frames_bytes, written, written_of, painted, painted_of, drawn_frames, drawn_frames_from}
 use Rattle.vz_display.specs.Displayed.{Displayed, current, buffer_with}
 use Rattle.vz_player.specs.Played.{Played, first_played, next_entry, played_on, frames_of, painted_by, Writes}
 use Rattle.vz_play.specs.Playing.{PutsFrame}
@@ -44,15 +45,20 @@ pub frames_stay : (old new : Played) (b : Bool) (bytes : List ℕ) → b ≡ fal
 frames_stay old new true bytes none writes before = absurd (cc)
 frames_stay old new false bytes none writes before = before ∙ ap frames_bytes (sym writes)
 
+-- a frame was drawn, so the display shows one
+pub is_shown : (old new : Played) (b : Bool) (d : Displayed) → b ≡ true → Writes old new b
+    → ((earlier : List (List Colour)) (frame : List Colour) → frames_of new ≡ earlier ++ frame ∷ [] → current d ≡ buffer_with new.plan.size frame) → IsSome (current d)
+is_shown old new false d some writes shown = absurd (cc)
+is_shown old new true d some writes shown = subst (λ (o : Option Canvas). IsSome o) (sym (shown (frames_of old) writes.0 writes.1)) refl
+
 -- a frame was drawn, and its bytes were put behind those before
-pub frames_put : (old new : Played) (b : Bool) (d : Displayed) (size : Size) (bytes more : List ℕ) → b ≡ true → Writes old new b → bytes ≡ frames_bytes (frames_of old) → new.plan.size ≡ size
+pub frames_put : (old new : Played) (b : Bool) (d : Displayed) (bytes more : List ℕ) → b ≡ true → Writes old new b → bytes ≡ frames_bytes (frames_of old)
     → ((earlier : List (List Colour)) (frame : List Colour) → frames_of new ≡ earlier ++ frame ∷ [] → current d ≡ buffer_with new.plan.size frame)
-    → ((earlier : List (List Colour)) (frame : List Colour) → frames_of new ≡ earlier ++ frame ∷ [] → length frame ≡ pixel_count new.plan.size)
-    → PutsFrame size d bytes more → more ≡ frames_bytes (frames_of new)
-frames_put old new false d size bytes more some writes before same shown whole puts = absurd (cc)
-frames_put old new true d size bytes more some writes before same shown whole puts =
+    → PutsFrame d bytes more → more ≡ frames_bytes (frames_of new)
+frames_put old new false d bytes more some writes before shown puts = absurd (cc)
+frames_put old new true d bytes more some writes before shown puts =
     frames_more (frames_of old) (frames_of new) writes.0 bytes more before writes.1
-    (puts writes.0 (shown (frames_of old) writes.0 writes.1 ∙ ap (λ (s : Size). buffer_with s writes.0) same) (whole (frames_of old) writes.0 writes.1 ∙ ap pixel_count same))
+    (subst (λ (o : Option Canvas). IfSome o (λ b. more ≡ bytes ++ flat_map pixel_bytes b.pixels)) (shown (frames_of old) writes.0 writes.1) puts)
 
 -- before the first event
 pub starts : (first : Played) (p : Plan) (count start : ℕ) → first ≡ first_played p count

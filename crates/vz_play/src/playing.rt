@@ -71,7 +71,7 @@ where
     let mut frames = Vec::new(alloc);
     let mut painted = Vec::new(alloc);
     for event in events {
-        let count = turn(alloc, &mut player, size, *event, &mut frames, steps)?;
+        let count = turn(alloc, &mut player, *event, &mut frames, steps)?;
         if let Some(count) = count {
             painted.push(count)?;
         }
@@ -87,12 +87,11 @@ where
 
 /// Takes an event, and appends the bytes of the frame if one is drawn. It returns how many pixels
 /// were put into a buffer, or None if nothing was drawn. Conditions: no failed allocation has
-/// stopped the player, a client's event names a client of the plan, the size is that of the plan,
-/// and `frames` has the bytes of the frames so far.
+/// stopped the player, a client's event names a client of the plan, and `frames` has the bytes of
+/// the frames so far.
 fn turn<M: Machine + Drop, L: Ledger>(
     alloc: Global,
     player: &mut Player<M>,
-    size: Size,
     event: Event,
     frames: &mut Vec<u8>,
     steps: &mut Steps<L>,
@@ -101,8 +100,6 @@ where
     M::Picture: Drop,
     requires going { player.old.stopped ≡ false }
     requires named { NamesClient player.old.plan event }
-    requires size { player.old.plan.size ≡ size }
-    requires sides { IsDisplaySize size }
     requires frames { frames.old.items ≡ frames_bytes (frames_of player.old) }
     ensures taken { OnOk result (player.new ≡ played_on player.old event) }
     ensures frames { OnOk result (frames.new.items ≡ frames_bytes (frames_of player.new)) }
@@ -114,6 +111,6 @@ where
     if !drawn {
         return Ok(None);
     }
-    push_frame(alloc, player.display(), size, frames)?;
+    push_frame(player.display(), frames)?;
     Ok(Some(steps.count().saturating_sub(before)))
 }

@@ -52,7 +52,7 @@ impl Gate for TestGate {
         match self {
             TestGate::Order(gate) => gate.call(actor, turn, Side::After),
             TestGate::Meeting(_) => {}
-            TestGate::Piped(_) => {}
+            TestGate::Piped(gate) => gate.after(actor),
         }
     }
 }

@@ -24,16 +24,19 @@ const ONE_QUAD: [u8; 166] = [
     0, 0, 0, 0, 0, 0, 0, 0, 0, 0, 0,
 ];
 
+/// The number by which a gate knows the writer.
+const WRITER: u32 = 17;
+
 /// A gate at which the display waits for the writer, and the writer for the display.
 #[derive(Drop)]
 pub struct PipedGate {
-    /// The writer came.
+    /// The writer came, to its first turn.
     writer_came: AtomicBool,
     /// The display came to its fifth step, which is its second drawing.
     drew_again: AtomicBool,
     /// The first write began.
     wrote: AtomicBool,
-    /// A thread waited in vain.
+    /// A thread waited in vain, or the writer came another time.
     missed: AtomicBool,
 }
 
@@ -47,20 +50,35 @@ impl PipedGate {
         }
     }
 
-    /// Whether nobody waited in vain, and the writer came and wrote.
+    /// Whether nobody waited in vain, and the writer came once and wrote.
     pub fn all_met(&self) -> bool {
         let both = came(&self.writer_came) && came(&self.wrote);
         both && !came(&self.missed)
     }
 
-    /// Takes a call before a step: the display waits before its first step and its last one.
+    /// Takes a call before a step: the display waits before its first step, and before Over.
     pub fn before(&self, actor: u32, turn: u64) {
         match (actor, turn) {
-            (17, 1) => self.writer_came.store(true, Ordering::SeqCst),
+            (WRITER, 1) => self.take_writer(),
+            (WRITER, _) => self.missed.store(true, Ordering::SeqCst),
             (0, 1) => self.wait_for(&self.writer_came),
             (0, 5) => self.drew_again.store(true, Ordering::SeqCst),
             (0, 6) => self.wait_for(&self.wrote),
             _ => {}
+        }
+    }
+
+    /// Takes a call after a step, which the writer does not make.
+    pub fn after(&self, actor: u32) {
+        if actor == WRITER {
+            self.missed.store(true, Ordering::SeqCst);
+        }
+    }
+
+    /// Marks that the writer came.
+    fn take_writer(&self) {
+        if self.writer_came.swap(true, Ordering::SeqCst) {
+            self.missed.store(true, Ordering::SeqCst);
         }
     }
 

@@ -17,7 +17,6 @@ use vz_geom::{Rect, Size};
 use vz_ids::Sub;
 use vz_machine::{Machine, Picture, ThinPicture};
 use vz_manager::Manager;
-use vz_pixels::Pixel;
 use vz_plain_machine::PlainMachine;
 use vz_rules::{Event, Plan, Rest, Returned};
 
@@ -38,7 +37,7 @@ struct Told {
     waiting: Vec<bool>,
     held: Vec<Returned>,
     unfed: Vec<Sub>,
-    pixels: Vec<Pixel>,
+    pixels: Vec<u8>,
 }
 
 impl Told {
@@ -90,7 +89,7 @@ impl Told {
         Ok(())
     }
 
-    /// Adds all pixels of a picture.
+    /// Adds the bytes of all pixels of a picture.
     fn add_picture<P: ThinPicture, L: Ledger>(
         &mut self,
         alloc: Global,
@@ -100,7 +99,7 @@ impl Told {
         let size = picture.size();
         let mut buffer = Buffer::new(alloc, size, steps)?;
         picture.paint(alloc, whole(&size), &mut buffer, steps)?;
-        self.pixels.extend_from_slice(buffer.pixels())?;
+        self.pixels.extend_from_slice(buffer.bytes())?;
         Ok(())
     }
 

@@ -21,20 +21,12 @@ const TEXELS: [u8; 24] = [
 ];
 
 /// What the operations leave on a display of six columns and two rows, of which the first and the
-/// last column are not painted.
-const LEFT: [(u8, u8, u8, u8); 12] = [
-    (0, 0, 0, 255),
-    (100, 178, 25, 255),
-    (210, 169, 171, 255),
-    (211, 130, 90, 255),
-    (0, 0, 0, 0),
-    (0, 0, 0, 255),
-    (0, 0, 0, 255),
-    (139, 69, 113, 255),
-    (94, 78, 159, 255),
-    (200, 100, 50, 255),
-    (10, 20, 30, 40),
-    (0, 0, 0, 255),
+/// last column are not painted: four bytes a pixel.
+const LEFT: [u8; 48] = [
+    0, 0, 0, 255, 100, 178, 25, 255, 210, 169, 171, 255, //
+    211, 130, 90, 255, 0, 0, 0, 0, 0, 0, 0, 255, //
+    0, 0, 0, 255, 139, 69, 113, 255, 94, 78, 159, 255, //
+    200, 100, 50, 255, 10, 20, 30, 40, 0, 0, 0, 255,
 ];
 
 /// A colour, or black if it is not premultiplied.
@@ -116,19 +108,14 @@ fn ops_of(alloc: Global) -> Option<Ops> {
     Ops::of(List::from_vec(list)).ok()
 }
 
-/// Whether a pixel has these channels.
-fn is_colour(pixel: &Pixel, channels: (u8, u8, u8, u8)) -> bool {
-    (pixel.r(), pixel.g(), pixel.b(), pixel.a()) == channels
-}
-
 /// How many pixels are as they must be, up to the first that is not.
-fn as_left(pixels: &[Pixel]) -> usize {
-    for (place, (pixel, channels)) in pixels.iter().zip(&LEFT).enumerate() {
-        if !is_colour(pixel, *channels) {
-            return place;
+fn as_left(bytes: &[u8]) -> usize {
+    for (place, (byte, left)) in bytes.iter().zip(&LEFT).enumerate() {
+        if byte != left {
+            return place / 4;
         }
     }
-    LEFT.len()
+    LEFT.len() / 4
 }
 
 /// Paints operations inside the display, and counts the pixels that are as they must be.
@@ -139,7 +126,7 @@ fn painted<L: Ledger>(alloc: Global, ops: &Ops, steps: &mut Steps<L>) -> Result<
     let area = part.intersect(&all);
     let mut buffer = Buffer::new(alloc, size, steps)?;
     paint(alloc, ops, &mut buffer, area, steps)?;
-    Ok(as_left(buffer.pixels()))
+    Ok(as_left(buffer.bytes()))
 }
 
 /// How many pixels are painted as they must be.
@@ -158,5 +145,5 @@ fn well_painted<L: Ledger>(alloc: Global, blank: Blank) -> usize
 /// Paints them and prints how many pixels are as they must be.
 pub(crate) fn play(rt: &HostRuntime) -> Result<()> {
     let count = well_painted::<Brand>(rt.alloc(), Blank::new(1));
-    tell(rt, "painted", "operations", count, LEFT.len())
+    tell(rt, "painted", "operations", count, LEFT.len() / 4)
 }

@@ -153,7 +153,7 @@ fn lost<L: Ledger>(alloc: Global, number: u32, steps: &mut Steps<L>) -> Option<u
     let before = painted(alloc, &ops, steps).ok()?;
     let thin = thin_of(alloc, ops)?;
     let after = painted(alloc, thin.ops(), steps).ok()?;
-    if before.pixels() == after.pixels() {
+    if before.bytes() == after.bytes() {
         Some(thin.gone())
     } else {
         None

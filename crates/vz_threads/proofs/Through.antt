@@ -1,8 +1,7 @@
 -- A run whose frames went through a pipe: what the display sent is what was written.
 use Rattle.std.proofs.Common.{◌≡◌, ℕ, ◌+◌, ◌≤◌, Bool, List, [], ◌∷◌, ◌++◌, length, take, Option, Some, Result, Ok, Err, OnOk, OnErr, All, IsTrue, refl, sym, ap, ◌∙◌, subst, arith, append-nil, append_assoc, take_all}
 use Rattle.std.specs.Prelude.{unwrap_or}
-use Rattle.std.specs.Global.{Global}
-use Rattle.std.specs.declared.vec.Vec.{Vec}
+use Rattle.vz_buffers.specs.Canvas.{Canvas}
 use Rattle.std.proofs.lemmas.Grind.{flat_map-append}
 use mathlib.Core.List.{IsPrefix}
 use Rattle.vz_outside.specs.Shelved.{Shelved, Name, Writing, KeepsOthers, Appends, AppendsFront, Behaves}
@@ -23,7 +22,7 @@ use Rattle.vz_outputs.proofs.Behaving.{memory_behaves, then_behaves}
 use Rattle.vz_threads.specs.Courses.{frames_of}
 use Rattle.vz_pipe.specs.Ends.{PipeId, Taking}
 use Rattle.vz_threads.specs.Outlets.{Outlook, Fixed, file_of}
-use Rattle.vz_threads.specs.Pipes.{bytes_of, paper, Wrote, WritesLeft, BeginsLeft, IsWrittenOn}
+use Rattle.vz_threads.specs.Pipes.{canvas_bytes, bytes_of, paper, Wrote, WritesLeft, BeginsLeft, IsWrittenOn}
 use Rattle.vz_threads.specs.Rounds.{Setup, AreShown}
 use Rattle.vz_threads.specs.Runs.{IsReady, IsOpened, IsUpToTail, IsCutThere, HasRun}
 use Rattle.vz_threads.proofs.Crewing.{crew_same}
@@ -33,19 +32,19 @@ use Rattle.vz_threads.proofs.Finished.{whole_front}
 use Rattle.vz_threads.proofs.Papers.{paper_front, sent_is, front_is, front_of_front, front_longer}
 
 -- the same, of a receiver and a shelf that were lent and came back
-pub wrote_there : {A F : Type 0} (shelved : F → Shelved) (r s : Taking (Vec ℕ A)) (x y : F) (slot : ℕ) (a : Shelved) (result : Result (Unit {0}) ShelfError) → r ≡ s → x ≡ y → Wrote (bytes_of s.taken) slot a (shelved y) result → Wrote (bytes_of r.taken) slot a (shelved x) result
-wrote_there {A = A} shelved r s x y slot a result e f w =
-    subst (λ (t : Taking (Vec ℕ A)). Wrote (bytes_of t.taken) slot a (shelved x) result) (sym e) (subst (λ z. Wrote (bytes_of s.taken) slot a (shelved z) result) (sym f) w)
+pub wrote_there : {F : Type 0} (shelved : F → Shelved) (r s : Taking Canvas) (x y : F) (slot : ℕ) (a : Shelved) (result : Result (Unit {0}) ShelfError) → r ≡ s → x ≡ y → Wrote (bytes_of s.taken) slot a (shelved y) result → Wrote (bytes_of r.taken) slot a (shelved x) result
+wrote_there shelved r s x y slot a result e f w =
+    subst (λ (t : Taking Canvas). Wrote (bytes_of t.taken) slot a (shelved x) result) (sym e) (subst (λ z. Wrote (bytes_of s.taken) slot a (shelved z) result) (sym f) w)
 
-pub bytes_then_bytes : {A : Type 0} (taken more sent : List (Vec ℕ A)) → sent ≡ taken ++ more → bytes_of sent ≡ bytes_of taken ++ bytes_of more
-bytes_then_bytes {A = A} taken more sent is = ap bytes_of is ∙ flat_map-append (λ (f : Vec ℕ A). f.items) taken more
+pub bytes_then_bytes : (taken more sent : List Canvas) → sent ≡ taken ++ more → bytes_of sent ≡ bytes_of taken ++ bytes_of more
+bytes_then_bytes taken more sent is = ap bytes_of is ∙ flat_map-append canvas_bytes taken more
 
 -- an error of the display is want of memory, as nothing else fails there
 memory_alone : (e : ShelfError) (v w a b : Shelved) → IsTrue v.is_faultless → Behaves {T = Unit {0}} v w (Err e) → Ran a b → Behaves {T = Unit {0}} a b (Err e)
 memory_alone Failed v w a b faultless behaves ran = absurd (behaves.works faultless refl)
 memory_alone Memory v w a b faultless behaves ran = memory_behaves a b ran
 
-module _ {A : Type 0} (k : Setup) (rounds : ℕ) (paced : Bool) (start now first last : Outlook) (h : List Entry) (taken sent : List (Vec ℕ A)) (b : Shelved) where
+module _ (k : Setup) (rounds : ℕ) (paced : Bool) (start now first last : Outlook) (h : List Entry) (taken sent : List Canvas) (b : Shelved) where
   abbrev frames : List ℕ
   frames = frames_of k.plan h k.buffers
 
@@ -139,29 +138,29 @@ module _ {A : Type 0} (k : Setup) (rounds : ℕ) (paced : Bool) (start now first
 -- The frames that are left
 
 -- the frames that were taken since were written
-pub record HasWrittenLeft {A : Type 0} (before now : List (Vec ℕ A)) (slot : ℕ) (a b : Shelved) : Type 0 where
-  pub more : List (Vec ℕ A)
+pub record HasWrittenLeft (before now : List Canvas) (slot : ℕ) (a b : Shelved) : Type 0 where
+  pub more : List Canvas
   pub all : now ≡ before ++ more
   pub added : HasAdded (bytes_of more) slot a b
 
-pub none_left : {A : Type 0} (before : List (Vec ℕ A)) (slot : ℕ) (a : Shelved) → a.mode slot ≡ Some Writing → HasWrittenLeft before before slot a a
+pub none_left : (before : List Canvas) (slot : ℕ) (a : Shelved) → a.mode slot ≡ Some Writing → HasWrittenLeft before before slot a a
 none_left before slot a opened = record { more = []; all = sym (append-nil before); added = none_added slot a opened }
 
-one_more_frame : {A : Type 0} (frames : List (Vec ℕ A)) (x : Vec ℕ A) → bytes_of (frames ++ x ∷ []) ≡ bytes_of frames ++ x.items
-one_more_frame {A = A} frames x = flat_map-append (λ (f : Vec ℕ A). f.items) frames (x ∷ []) ∙ ap (λ (l : List ℕ). bytes_of frames ++ l) (append-nil x.items)
+one_more_frame : (frames : List Canvas) (x : Canvas) → bytes_of (frames ++ x ∷ []) ≡ bytes_of frames ++ (canvas_bytes x)
+one_more_frame frames x = flat_map-append canvas_bytes frames (x ∷ []) ∙ ap (λ (l : List ℕ). bytes_of frames ++ l) (append-nil (canvas_bytes x))
 
 -- one more frame was taken and written
-pub frame_added : {A : Type 0} (taken new : List (Vec ℕ A)) (x : Vec ℕ A) (slot : ℕ) (a b c : Shelved) → HasAdded (bytes_of taken) slot a b → new ≡ taken ++ x ∷ [] → Appends x.items (b.name slot) b c → KeepsOthers (b.name slot) b c → Behaves {T = Unit {0}} b c (Ok tt)
+pub frame_added : (taken new : List Canvas) (x : Canvas) (slot : ℕ) (a b c : Shelved) → HasAdded (bytes_of taken) slot a b → new ≡ taken ++ x ∷ [] → Appends (canvas_bytes x) (b.name slot) b c → KeepsOthers (b.name slot) b c → Behaves {T = Unit {0}} b c (Ok tt)
     → HasAdded (bytes_of new) slot a c
 frame_added taken new x slot a b c before is written others behaves =
-    more_added slot (bytes_of taken) a b c before x.items (bytes_of new) written others (ran_one tt b c behaves) (ap bytes_of is ∙ one_more_frame taken x)
+    more_added slot (bytes_of taken) a b c before (canvas_bytes x) (bytes_of new) written others (ran_one tt b c behaves) (ap bytes_of is ∙ one_more_frame taken x)
 
 -- or begun
-pub frame_begun : {A : Type 0} (taken new : List (Vec ℕ A)) (x : Vec ℕ A) (slot : ℕ) (a b c : Shelved) → HasAdded (bytes_of taken) slot a b → new ≡ taken ++ x ∷ [] → AppendsFront x.items (b.name slot) b c → AppendsFront (bytes_of new) (a.name slot) a c
+pub frame_begun : (taken new : List Canvas) (x : Canvas) (slot : ℕ) (a b c : Shelved) → HasAdded (bytes_of taken) slot a b → new ≡ taken ++ x ∷ [] → AppendsFront (canvas_bytes x) (b.name slot) b c → AppendsFront (bytes_of new) (a.name slot) a c
 frame_begun taken new x slot a b c before is begun =
-    front_added slot (bytes_of taken) a b c before x.items [] (bytes_of new) begun (ap bytes_of is ∙ one_more_frame taken x ∙ sym (append-nil (bytes_of taken ++ x.items)))
+    front_added slot (bytes_of taken) a b c before (canvas_bytes x) [] (bytes_of new) begun (ap bytes_of is ∙ one_more_frame taken x ∙ sym (append-nil (bytes_of taken ++ (canvas_bytes x))))
 
-pub left_added : {A : Type 0} (start taken new : List (Vec ℕ A)) (x : Vec ℕ A) (slot : ℕ) (a b c : Shelved) → HasWrittenLeft start taken slot a b → new ≡ taken ++ x ∷ [] → Appends x.items (b.name slot) b c → KeepsOthers (b.name slot) b c → Behaves {T = Unit {0}} b c (Ok tt)
+pub left_added : (start taken new : List Canvas) (x : Canvas) (slot : ℕ) (a b c : Shelved) → HasWrittenLeft start taken slot a b → new ≡ taken ++ x ∷ [] → Appends (canvas_bytes x) (b.name slot) b c → KeepsOthers (b.name slot) b c → Behaves {T = Unit {0}} b c (Ok tt)
     → HasWrittenLeft start new slot a c
 left_added start taken new x slot a b c before is written others behaves = record {
   more = before.more ++ x ∷ [];
@@ -169,17 +168,17 @@ left_added start taken new x slot a b c before is written others behaves = recor
   added = frame_added before.more (before.more ++ x ∷ []) x slot a b c before.added refl written others behaves;
 }
 
-pub left_begun : {A : Type 0} (start taken new sent : List (Vec ℕ A)) (x : Vec ℕ A) (slot : ℕ) (a b c : Shelved) → HasWrittenLeft start taken slot a b → new ≡ taken ++ x ∷ [] → IsPrefix new sent → AppendsFront x.items (b.name slot) b c
+pub left_begun : (start taken new sent : List Canvas) (x : Canvas) (slot : ℕ) (a b c : Shelved) → HasWrittenLeft start taken slot a b → new ≡ taken ++ x ∷ [] → IsPrefix new sent → AppendsFront (canvas_bytes x) (b.name slot) b c
     → BeginsLeft start sent (a.name slot) a c
-left_begun {A = A} start taken new sent x slot a b c before is prefix begun =
-    let more : List (Vec ℕ A) = before.more ++ x ∷ [] in (
+left_begun start taken new sent x slot a b c before is prefix begun =
+    let more : List Canvas = before.more ++ x ∷ [] in (
       more ++ prefix.0,
-      sym prefix.1 ∙ ap (λ (l : List (Vec ℕ A)). l ++ prefix.0) (is ∙ ap (λ (l : List (Vec ℕ A)). l ++ x ∷ []) before.all ∙ append_assoc start before.more (x ∷ [])) ∙ append_assoc start more prefix.0,
+      sym prefix.1 ∙ ap (λ (l : List Canvas). l ++ prefix.0) (is ∙ ap (λ (l : List Canvas). l ++ x ∷ []) before.all ∙ append_assoc start before.more (x ∷ [])) ∙ append_assoc start more prefix.0,
       front_longer (bytes_of more) (bytes_of prefix.0) (bytes_of (more ++ prefix.0)) (a.name slot) a c (bytes_then_bytes more prefix.0 (more ++ prefix.0) refl)
           (frame_begun before.more more x slot a b c before.added refl begun),
     )
 
-pub left_written : {A : Type 0} (start taken sent : List (Vec ℕ A)) (slot : ℕ) (a b : Shelved) → HasWrittenLeft start taken slot a b → taken ≡ sent → WritesLeft start sent (a.name slot) a b
+pub left_written : (start taken sent : List Canvas) (slot : ℕ) (a b : Shelved) → HasWrittenLeft start taken slot a b → taken ≡ sent → WritesLeft start sent (a.name slot) a b
 left_written start taken sent slot a b before same = (before.more, sym same ∙ before.all, before.added.appended)
 
 -- A run that is given up before it begins
@@ -207,11 +206,11 @@ ready_piped k start first ready display size empty = record {
 -- What is sent
 
 -- a frame more was sent
-pub sent_more : {A : Type 0} (sent new : List (Vec ℕ A)) (x : Vec ℕ A) (bytes : List ℕ) → new ≡ sent ++ x ∷ [] → x.items ≡ bytes → Appends bytes [] (paper (bytes_of sent)) (paper (bytes_of new))
+pub sent_more : (sent new : List Canvas) (x : Canvas) (bytes : List ℕ) → new ≡ sent ++ x ∷ [] → (canvas_bytes x) ≡ bytes → Appends bytes [] (paper (bytes_of sent)) (paper (bytes_of new))
 sent_more sent new x bytes is same told = ap Some (ap bytes_of is ∙ one_more_frame sent x ∙ ap (λ (l : List ℕ). bytes_of sent ++ l) same)
 
 -- or none was
-pub sent_none : {A : Type 0} (sent new : List (Vec ℕ A)) (bytes : List ℕ) → new ≡ sent → AppendsFront bytes [] (paper (bytes_of sent)) (paper (bytes_of new))
+pub sent_none : (sent new : List Canvas) (bytes : List ℕ) → new ≡ sent → AppendsFront bytes [] (paper (bytes_of sent)) (paper (bytes_of new))
 sent_none sent new bytes same = subst (λ l. AppendsFront bytes [] (paper (bytes_of sent)) (paper (bytes_of l))) (sym same) (paper_front (bytes_of sent) bytes)
 
 -- Once the threads have ended
@@ -221,8 +220,8 @@ pub fixed_stays : (k : Setup) (rounds : ℕ) (paced : Bool) (start now : Outlook
 fixed_stays k rounds paced start now h (Ok x) run = run.whole.shown.fixed
 fixed_stays k rounds paced start now h (Err e) run = run.cut.fixed
 
-pub pipe_stays : (a b : Fixed) (x y : PipeId (Vec ℕ Global)) → a ≡ b → a.pipe ≡ Some x → b.pipe ≡ Some y → x ≡ y
-pipe_stays a b x y same is was = ap (λ (o : Option (PipeId (Vec ℕ Global))). unwrap_or o x) (sym is ∙ ap (λ (f : Fixed). f.pipe) same ∙ was)
+pub pipe_stays : (a b : Fixed) (x y : PipeId Canvas) → a ≡ b → a.pipe ≡ Some x → b.pipe ≡ Some y → x ≡ y
+pipe_stays a b x y same is was = ap (λ (o : Option (PipeId Canvas)). unwrap_or o x) (sym is ∙ ap (λ (f : Fixed). f.pipe) same ∙ was)
 
 -- a run that was given up before it began, told of the display that was given back
 pub given_up_is : (k : Setup) (rounds : ℕ) (paced : Bool) (start now : Outlook) (h : List Entry) (r : Result (Unit {0}) ShelfError) → HasRun k rounds paced start start h (Err Memory) → now ≡ start → r ≡ Err Memory → HasRun k rounds paced start now h r

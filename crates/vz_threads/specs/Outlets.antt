@@ -1,7 +1,6 @@
 -- Where pictures go: a display, a file of frames, and a counter of steps.
 use Rattle.std.specs.Prelude.{◌≡◌, ℕ, ◌+◌, Option, Some, None, List}
-use Rattle.std.specs.Global.{Global}
-use Rattle.std.specs.declared.vec.Vec.{Vec}
+use Rattle.vz_buffers.specs.Canvas.{Canvas}
 use Rattle.std.specs.List.{flat_map}
 use Rattle.vz_geom.specs.declared.Size.{Size}
 use Rattle.vz_outside.specs.Shelved.{Shelved, Name, Writing, Appends, AppendsFront}
@@ -18,7 +17,7 @@ pub record Fixed : Type 0 where
   pub size : Size
   pub shelf : ℕ
   pub steps : ℕ
-  pub pipe : Option (PipeId (Vec ℕ Global))
+  pub pipe : Option (PipeId Canvas)
 
 -- the state of an outlet: its fixed part, the display, the file's shelf, and the steps so far
 pub record Outlook : Type 0 where

@@ -107,7 +107,6 @@ where
         display,
         shelf,
         file,
-        piece: Vec::new(rt.alloc()),
         steps,
     };
     let Ran {
@@ -119,11 +118,9 @@ where
     let FrameOutlet {
         display,
         shelf,
-        piece,
         steps,
         ..
     } = outlet;
-    drop(piece);
     give_back(shelf, steps);
     Ran {
         machine,

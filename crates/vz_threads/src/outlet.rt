@@ -33,6 +33,9 @@ pub trait Outlet {
             (stands self.old).shelf (stands self.new).shelf }
         ensures behaves { Behaves (stands self.old).shelf (stands self.new).shelf result };
 
+    /// Waits until whoever writes has written the buffer that is painted next. It takes no memory.
+    fn ready<R: Wait>(&self, rt: &R);
+
     /// Passes on what was shown to whoever writes it. It may wait for room, and takes no memory.
     fn pass_on<R: Wait>(&mut self, rt: &R)
         ensures { stands self.new ≡ stands self.old };
@@ -46,14 +49,12 @@ pub trait Outlet {
     fn is_cut<R: Wait>(&self, rt: &R) -> bool;
 }
 
-/// A display, the file of a shelf to which its frames are written, the buffer through which their
-/// bytes go, and the counter of steps.
+/// A display, the file of a shelf to which its frames are written, and the counter of steps.
 #[derive(Drop)]
 pub struct FrameOutlet<'a, F: Shelf, L: Ledger> {
     pub display: Display,
     pub shelf: &'a mut F,
     pub file: FrameFile,
-    pub piece: Vec<u8>,
     pub steps: &'a mut Steps<L>,
 }
 
@@ -74,9 +75,11 @@ impl<'a, F: Shelf, L: Ledger> Outlet for FrameOutlet<'a, F, L> {
     fn show<P: Picture + Drop>(&mut self, alloc: Global, picture: P) -> Result<(), ShelfError> {
         let thin = picture.occlude(alloc)?;
         self.display.show(alloc, &thin, self.steps)?;
-        write_frame(self.shelf, self.file, &self.display, &mut self.piece)?;
+        write_frame(self.shelf, self.file, &self.display)?;
         Ok(())
     }
+
+    fn ready<R: Wait>(&self, _rt: &R) {}
 
     fn pass_on<R: Wait>(&mut self, _rt: &R) {}
 

@@ -7,25 +7,29 @@ use crate::progress::Progress;
 use std::alloc::Global;
 use std::sync::Wait;
 use std::sync::ledger::Ledger;
-use vz_buffers::Steps;
+use vz_buffers::{SharedBuffer, Steps};
 use vz_display::Display;
 use vz_geom::Size;
 use vz_machine::Picture;
-use vz_outputs::copy_frame;
 use vz_outside::ShelfError;
 use vz_pipe::Sender;
 
-/// A display, the size of its frames, the sender that gets a copy of each frame, how far the
-/// writer is, the memory of a frame that was written, and the counter of steps. Its file, for
-/// proofs alone, has the frames that were sent. Before the writer has begun, the frames wait in
-/// the sender's list.
+/// A display, the size of its frames, the sender that gets the buffer of each frame, how far the
+/// writer is, how many frames were shown and how many passed on, and the counter of steps. Its
+/// file, for proofs alone, has the frames that were sent. Before the writer has begun, the frames
+/// wait in the sender's list.
+///
+/// The writer reads the buffer that the display painted; no pixel is copied. So the display waits
+/// before it paints a buffer again until the writer has written it. Where the writer has not come
+/// so far as to write, the display does not wait, and paints a copy.
 #[derive(Drop)]
 pub(crate) struct PipedOutlet<'a, L: Ledger> {
     pub(crate) display: Display,
     pub(crate) size: Size,
-    pub(crate) sender: &'a mut Sender<Vec<u8>>,
+    pub(crate) sender: &'a mut Sender<SharedBuffer>,
     pub(crate) progress: &'a Progress,
-    pub(crate) spare: Option<Vec<u8>>,
+    pub(crate) shown: u64,
+    pub(crate) passed: u64,
     pub(crate) steps: &'a mut Steps<L>,
 }
 
@@ -46,18 +50,22 @@ impl<'a, L: Ledger> Outlet for PipedOutlet<'a, L> {
     fn show<P: Picture + Drop>(&mut self, alloc: Global, picture: P) -> Result<(), ShelfError> {
         let thin = picture.occlude(alloc)?;
         self.display.show(alloc, &thin, self.steps)?;
-        let mut frame = self.spare.take().unwrap_or(Vec::new(alloc));
-        copy_frame(&self.display, self.size, &mut frame)?;
+        let frame = self.display.share()?;
         self.sender.add(frame)?;
+        self.shown = self.shown.saturating_add(1);
         Ok(())
+    }
+
+    fn ready<R: Wait>(&self, rt: &R) {
+        let next = self.passed.saturating_add(1);
+        let buffers = self.display.buffers() as u64;
+        self.progress.wait_for(rt, next.saturating_sub(buffers));
     }
 
     fn pass_on<R: Wait>(&mut self, rt: &R) {
         if self.progress.has_begun(rt) {
             self.sender.pass_on(rt);
-        }
-        if self.spare.is_none() {
-            self.spare = self.progress.take(rt);
+            self.passed = self.shown;
         }
     }
 

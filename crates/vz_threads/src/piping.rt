@@ -19,7 +19,7 @@ use std::alloc::AllocGlobal;
 use std::sync::Wait;
 use std::sync::ledger::Ledger;
 use std::thread::Threads;
-use vz_buffers::Steps;
+use vz_buffers::{SharedBuffer, Steps};
 use vz_desk::Gathered;
 use vz_display::Display;
 use vz_machine::Machine;
@@ -66,7 +66,7 @@ where
         (outlook file.slot file.size result.outlet.shown (F.shelved shelf.new) steps.new)
         result.history.list result.played }
 {
-    let Ok((mut sender, mut receiver)) = pipe::<Vec<u8>>(rt.alloc(), SLOTS) else {
+    let Ok((mut sender, mut receiver)) = pipe::<SharedBuffer>(rt.alloc(), SLOTS) else {
         return give_up(opened, display, messages);
     };
     let progress = Progress::new();
@@ -75,7 +75,8 @@ where
         size: file.size,
         sender: &mut sender,
         progress: &progress,
-        spare: None,
+        shown: 0,
+        passed: 0,
         steps,
     };
     let (ran, wrote) = run_beside(
@@ -99,11 +100,9 @@ where
     let PipedOutlet {
         display,
         sender: lent,
-        spare,
         steps,
         ..
     } = outlet;
-    drop(spare);
     give_back(lent, steps);
     let mut sent = sender.end(rt);
     let played = write_rest(

@@ -109,9 +109,10 @@ where
     }
 }
 
-/// Ends a round that was begun: pauses if the run is paced, draws, shows the picture, and passes
-/// its frame on. After an error a front part of the bytes of the frame was written. Conditions:
-/// the end is of this desk, and the display is somewhere in its run.
+/// Ends a round that was begun: pauses if the run is paced, waits for the buffer that is next,
+/// draws, shows the picture, and passes its frame on. After an error a front part of the bytes of
+/// the frame was written. Conditions: the end is of this desk, and the display is somewhere in its
+/// run.
 pub(crate) fn end_round<M: Machine + Send, O: Outlet, G: Gate, R: Wait + AllocGlobal>(
     rt: &R,
     desk: &Desk<M, Halt>,
@@ -133,6 +134,7 @@ where
     let Ok(()) = pause(rt, desk, paced, d, outlet) else {
         return Err(ShelfError::Memory);
     };
+    outlet.ready(rt);
     show_drawing(rt, desk, gate, d, outlet)?;
     outlet.pass_on(rt);
     Ok(())

@@ -6,6 +6,7 @@ ghost use Rattle.vz_threads.specs.Pipes.{bytes_of, WritesLeft, BeginsLeft, IsWri
 
 use crate::progress::Progress;
 use std::sync::Wait;
+use vz_buffers::SharedBuffer;
 use vz_outside::{Gate, Shelf, ShelfError, write_all};
 use vz_pipe::{Receiver, Sent};
 
@@ -19,7 +20,7 @@ pub(crate) fn write_frames<F: Shelf, G: Gate, R: Wait>(
     rt: &R,
     gate: &G,
     progress: &Progress,
-    receiver: &mut Receiver<Vec<u8>>,
+    receiver: &mut Receiver<SharedBuffer>,
     shelf: &mut F,
     slot: u32,
 ) -> Result<(), ShelfError>
@@ -36,6 +37,7 @@ pub(crate) fn write_frames<F: Shelf, G: Gate, R: Wait>(
 {
     progress.begin(rt);
     gate.before(WRITER, 1);
+    progress.write(rt);
     match write_taken(rt, progress, receiver, shelf, slot) {
         Ok(()) => {
             progress.end(rt);
@@ -53,7 +55,7 @@ pub(crate) fn write_frames<F: Shelf, G: Gate, R: Wait>(
 fn write_taken<F: Shelf, R: Wait>(
     rt: &R,
     progress: &Progress,
-    receiver: &mut Receiver<Vec<u8>>,
+    receiver: &mut Receiver<SharedBuffer>,
     shelf: &mut F,
     slot: u32,
 ) -> Result<(), ShelfError>
@@ -72,8 +74,9 @@ fn write_taken<F: Shelf, R: Wait>(
         let Some(frame) = receiver.take(rt) else {
             break;
         };
-        write_all(shelf, slot, &frame)?;
-        progress.keep(rt, frame);
+        write_all(shelf, slot, frame.bytes())?;
+        drop(frame);
+        progress.wrote(rt);
     }
     Ok(())
 }
@@ -82,8 +85,8 @@ fn write_taken<F: Shelf, R: Wait>(
 /// the sender of this pipe left, and the slot is open for writing.
 pub(crate) fn write_left<F: Shelf, R: Wait>(
     rt: &R,
-    receiver: &mut Receiver<Vec<u8>>,
-    sent: &mut Sent<Vec<u8>>,
+    receiver: &mut Receiver<SharedBuffer>,
+    sent: &mut Sent<SharedBuffer>,
     shelf: &mut F,
     slot: u32,
 ) -> Result<(), ShelfError>
@@ -101,7 +104,7 @@ pub(crate) fn write_left<F: Shelf, R: Wait>(
         let Some(frame) = receiver.left(rt, sent) else {
             break;
         };
-        write_all(shelf, slot, &frame)?;
+        write_all(shelf, slot, frame.bytes())?;
     }
     Ok(())
 }
@@ -113,8 +116,8 @@ pub(crate) fn write_rest<F: Shelf, R: Wait>(
     rt: &R,
     wrote: Result<(), ShelfError>,
     played: Result<(), ShelfError>,
-    receiver: &mut Receiver<Vec<u8>>,
-    sent: &mut Sent<Vec<u8>>,
+    receiver: &mut Receiver<SharedBuffer>,
+    sent: &mut Sent<SharedBuffer>,
     shelf: &mut F,
     slot: u32,
 ) -> Result<(), ShelfError>
@@ -139,7 +142,7 @@ pub(crate) fn write_rest<F: Shelf, R: Wait>(
 }
 
 /// Takes the frames that still come, until the sender is shut.
-fn skip_all<R: Wait>(rt: &R, receiver: &mut Receiver<Vec<u8>>)
+fn skip_all<R: Wait>(rt: &R, receiver: &mut Receiver<SharedBuffer>)
     ensures pipe { receiver.new.pipe ≡ receiver.old.pipe }
     ensures longer { IsPrefix receiver.old.taken receiver.new.taken }
 {

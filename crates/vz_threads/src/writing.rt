@@ -17,6 +17,7 @@ use crate::writer::write_frames;
 use std::alloc::AllocGlobal;
 use std::sync::Wait;
 use std::thread::Threads;
+use vz_buffers::SharedBuffer;
 use vz_machine::Machine;
 use vz_outside::{Gate, Shelf, ShelfError};
 use vz_pipe::Receiver;
@@ -26,7 +27,7 @@ use vz_pipe::Receiver;
 #[derive(Drop)]
 struct Writer<'a, F: Shelf> {
     progress: &'a Progress,
-    receiver: &'a mut Receiver<Vec<u8>>,
+    receiver: &'a mut Receiver<SharedBuffer>,
     shelf: &'a mut F,
     slot: u32,
     wrote: Result<(), ShelfError>,
@@ -76,7 +77,7 @@ pub(crate) fn run_beside<
     gate: &G,
     outlet: O,
     progress: &Progress,
-    receiver: &mut Receiver<Vec<u8>>,
+    receiver: &mut Receiver<SharedBuffer>,
     shelf: &mut F,
     slot: u32,
 ) -> (Ran<M, O>, Result<(), ShelfError>)

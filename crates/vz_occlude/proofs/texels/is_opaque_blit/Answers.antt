@@ -3,6 +3,7 @@ use Rattle.std.proofs.lemmas.Int.{ints}
 use Rattle.vz_geom.proofs.Bounds.{of_full}
 use Rattle.vz_frame.specs.declared.blend.Blend.TheVariants.{Over}
 use Rattle.vz_occlude.proofs.Opaque_blocks.{blit_opaque}
+use Rattle.vz_occlude.proofs.Whole_blocks.{whole_clear}
 use Rattle.vz_occlude.proofs.Read_texels.{none_is, within, are_read, rows_read, span_read}
 use Rattle.vz_occlude.proofs.texels.is_opaque_blit.Goals as goal
 
@@ -15,6 +16,13 @@ returns-then-is_opaque c =
     let out = sym c.is_empty.ensures.value ∙ c.if-is_empty.false in
     let full = ap length (sym c.pixels-count.ensures.value) ∙ c.pixels-count.ensures.counted in
     sym (blit_opaque c.args.block.now (sym c.is_opaque.ensures ∙ c.if-is_opaque.true) full c.args.area.now c.args.tx.now c.args.ty.now 0 Over out (c.requires.inside 0 Over))
+
+pub returns-then-has_sides : goal.returns-then-has_sides
+returns-then-has_sides c =
+    let out = sym c.is_empty.ensures.value ∙ c.if-is_empty.false in
+    let full = ap length (sym c.pixels-count.ensures.value) ∙ c.pixels-count.ensures.counted in
+    let sides = c.has_sides.ensures.0 c.if-has_sides.true in
+    sym (whole_clear c.args.block.now (sym c.is_opaque.ensures ∙ c.if-is_opaque.false) full c.args.area.now c.args.tx.now c.args.ty.now 0 Over out (c.requires.inside 0 Over) sides.0 sides.1)
 
 pub overflow_cast-tx : goal.overflow_cast-tx
 overflow_cast-tx c =

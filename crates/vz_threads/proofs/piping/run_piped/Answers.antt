@@ -1,6 +1,5 @@
 use Rattle.std.proofs.Common.{◌≡◌, ℕ, List, refl, sym, ap, ◌∙◌}
-use Rattle.std.specs.Global.{Global}
-use Rattle.std.specs.declared.vec.Vec.{Vec}
+use Rattle.vz_buffers.specs.Canvas.{Canvas}
 use Rattle.vz_outside.specs.Shelved.{Writing}
 use Rattle.vz_display.specs.Displayed.{Displayed}
 use Rattle.vz_pipe.specs.Ends.{Sending, Taking}
@@ -19,13 +18,13 @@ returns-in_default-clause-run g c = λ k ready opened.
 pub run_beside-ran-requires-clause-opened : goal.run_beside-ran-requires-clause-opened
 run_beside-ran-requires-clause-opened g c κs within =
     let s = c.requires.opened in
-    (s.0, ready_piped s.0 _ _ s.1 refl refl (ap (λ (x : Sending (Vec ℕ Global)). paper (bytes_of x.sent)) c.in-Ok.ensures.sender), s.2)
+    (s.0, ready_piped s.0 _ _ s.1 refl refl (ap (λ (x : Sending Canvas). paper (bytes_of x.sent)) c.in-Ok.ensures.sender), s.2)
 
 pub run_beside-ran-requires-clause-open : goal.run_beside-ran-requires-clause-open
 run_beside-ran-requires-clause-open g c κs within = c.requires.opened.1.begins.opened
 
 pub run_beside-ran-requires-clause-none : goal.run_beside-ran-requires-clause-none
-run_beside-ran-requires-clause-none g c κs within = ap (λ (x : Taking (Vec ℕ Global)). x.taken) c.in-Ok.ensures.receiver
+run_beside-ran-requires-clause-none g c κs within = ap (λ (x : Taking Canvas). x.taken) c.in-Ok.ensures.receiver
 
 pub write_rest-played-requires-clause-open : goal.write_rest-played-requires-clause-open
 write_rest-played-requires-clause-open g c = c.run_beside-ran.ensures.behaves.call.slots c.args.file.slot Writing c.requires.opened.1.begins.opened
@@ -34,23 +33,23 @@ pub write_rest-played-requires-clause-pipe : goal.write_rest-played-requires-cla
 write_rest-played-requires-clause-pipe g c =
     let s = c.requires.opened in
     let b = c.run_beside-ran in
-    let run = b.ensures.run s.0 (ready_piped s.0 _ _ s.1 refl refl (ap (λ (x : Sending (Vec ℕ Global)). paper (bytes_of x.sent)) c.in-Ok.ensures.sender)) s.2 in
+    let run = b.ensures.run s.0 (ready_piped s.0 _ _ s.1 refl refl (ap (λ (x : Sending Canvas). paper (bytes_of x.sent)) c.in-Ok.ensures.sender)) s.2 in
     let fixed = fixed_stays s.0 _ _ _ _ _ _ run in
     let sender = c.sender-3-1.given.1 (ap (λ (x : Fixed). x.shelf) (sym fixed)) ∙ c.give_back.ensures.first in
     c.end-sent.ensures.pipe
-    ∙ ap (λ (x : Sending (Vec ℕ Global)). x.pipe) sender
+    ∙ ap (λ (x : Sending Canvas). x.pipe) sender
     ∙ pipe_stays _ _ _ _ fixed refl refl
-    ∙ sym (b.ensures.pipe ∙ ap (λ (x : Taking (Vec ℕ Global)). x.pipe) c.in-Ok.ensures.receiver)
+    ∙ sym (b.ensures.pipe ∙ ap (λ (x : Taking Canvas). x.pipe) c.in-Ok.ensures.receiver)
 
 pub returns-clause-run : goal.returns-clause-run
 returns-clause-run g c = λ k ready opened.
     let b = c.run_beside-ran in
-    let empty = ap (λ (x : Sending (Vec ℕ Global)). paper (bytes_of x.sent)) c.in-Ok.ensures.sender in
+    let empty = ap (λ (x : Sending Canvas). paper (bytes_of x.sent)) c.in-Ok.ensures.sender in
     let run = b.ensures.run k (ready_piped k _ _ ready refl refl empty) opened in
     let fixed = fixed_stays k _ _ _ _ _ _ run in
     let sender = c.sender-3-1.given.1 (ap (λ (x : Fixed). x.shelf) (sym fixed)) ∙ c.give_back.ensures.first in
     let steps = c.steps-1.given.1 (ap (λ (x : Fixed). x.steps) (sym fixed)) ∙ c.give_back.ensures.second in
-    let full = sym (ap (λ (l : List (Vec ℕ Global)). paper (bytes_of l)) (c.end-sent.ensures.sent ∙ ap (λ (x : Sending (Vec ℕ Global)). x.sent) sender)) in
+    let full = sym (ap (λ (l : List Canvas). paper (bytes_of l)) (c.end-sent.ensures.sent ∙ ap (λ (x : Sending Canvas). x.sent) sender)) in
     piped_run k c.args.course.rounds c.args.course.paced (outlook c.args.file.slot c.args.file.size c.args.display.shown (g.F.Shelf.shelved c.args.shelf.now) c.args.steps.now) _ _ _ _ b.new.receiver.taken c.end-sent.result.sent (g.F.Shelf.shelved b.new.shelf)
     ready.begins.opened empty full refl refl refl steps b.result.1 b.result.0.played c.write_rest-played.result run
     (record { written = b.ensures.written; begun = b.ensures.begun; others = b.ensures.others; behaves = b.ensures.behaves })

@@ -15,7 +15,7 @@ returns-in_err-write_all-clause-begun g c =
     let all = subst (λ l. IsPrefix c.left.new.self.taken l) c.loop.invariant.sent c.in-Some-left.ensures.next in
     on_err c.from_residual.result (BeginsLeft c.args.receiver.now.taken sent (a.name c.args.slot) a after)
     (left_begun c.args.receiver.now.taken c.loop.receiver.taken c.left.new.self.taken sent c.in-Some-left.frame c.args.slot a b after c.loop.invariant.left c.in-Some-left.ensures.some all
-    (subst (λ l. AppendsFront l (b.name c.args.slot) b after) c.deref.ensures.value c.in_err-write_all.ensures.begun))
+    (subst (λ l. AppendsFront l (b.name c.args.slot) b after) c.bytes.ensures c.in_err-write_all.ensures.begun))
 
 pub loop-preserved : goal.loop-preserved
 loop-preserved g c =
@@ -26,6 +26,6 @@ loop-preserved g c =
       pipe = c.in-Some-left.ensures.token ∙ c.loop.invariant.pipe ∙ sym c.in-Some-left.ensures.pipe;
       sent = c.in-Some-left.ensures.sent ∙ c.loop.invariant.sent;
       left = left_added c.args.receiver.now.taken c.loop.receiver.taken c.left.new.self.taken c.in-Some-left.frame c.args.slot a b after c.loop.invariant.left c.in-Some-left.ensures.some
-          (subst (λ l. Appends l (b.name c.args.slot) b after) c.deref.ensures.value c.in_ok-write_all.ensures.appended)
+          (subst (λ l. Appends l (b.name c.args.slot) b after) c.bytes.ensures c.in_ok-write_all.ensures.appended)
           c.in_ok-write_all.ensures.others c.in_ok-write_all.ensures.behaves;
     }

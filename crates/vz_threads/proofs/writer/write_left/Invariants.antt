@@ -1,5 +1,4 @@
 use Rattle.std.proofs.Common.{◌≡◌, ◌++◌, List, ℕ}
-use Rattle.std.specs.declared.vec.Vec.{Vec}
 use Rattle.vz_outputs.proofs.Adding.{HasAdded}
 use Rattle.vz_threads.specs.Pipes.{bytes_of}
 use Rattle.vz_threads.proofs.Through.{HasWrittenLeft}

@@ -13,7 +13,7 @@ returns-in_err-write_all-clause-begun g c =
     let x = c.in-Some-take.frame in
     on_err c.from_residual.result (AppendsFront (bytes_of c.take.new.self.taken) (a.name c.args.slot) a after)
     (frame_begun c.loop.receiver.taken c.take.new.self.taken x c.args.slot a b after c.loop.invariant.added c.in-Some-take.ensures.some
-    (subst (λ l. AppendsFront l (b.name c.args.slot) b after) c.deref.ensures.value c.in_err-write_all.ensures.begun))
+    (subst (λ l. AppendsFront l (b.name c.args.slot) b after) c.bytes.ensures c.in_err-write_all.ensures.begun))
 
 pub loop-preserved : goal.loop-preserved
 loop-preserved g c =
@@ -23,6 +23,6 @@ loop-preserved g c =
     record {
       pipe = c.in-Some-take.ensures.pipe ∙ c.loop.invariant.pipe;
       added = frame_added c.loop.receiver.taken c.take.new.self.taken c.in-Some-take.frame c.args.slot a b after c.loop.invariant.added c.in-Some-take.ensures.some
-          (subst (λ l. Appends l (b.name c.args.slot) b after) c.deref.ensures.value c.in_ok-write_all.ensures.appended)
+          (subst (λ l. Appends l (b.name c.args.slot) b after) c.bytes.ensures c.in_ok-write_all.ensures.appended)
           c.in_ok-write_all.ensures.others c.in_ok-write_all.ensures.behaves;
     }
