@@ -4,28 +4,58 @@ import re
 import subprocess
 from pathlib import Path
 
+import house
 from moves import read, replace_once, stop, write
 
 HERE = Path(__file__).resolve().parent
-# The sum of the part of docs/ARCHITECTURE.md that the picture and the tables stand in the place of, before any name was replaced. If the part
-# has changed, its changes have to go into house.md and tables.md, and the new sum here.
-TABLES_SUM = "09bd97a574bcfb64308b86a3f03fca7540129a6d76e5326add7aeda113a8f647"
+# The sum of what the picture and the tables stand in the place of in docs/ARCHITECTURE.md, before any name was replaced and without the rows of
+# the crates that stay as they are. If it has changed, the changes have to go into house.md and the ROWS of house.py, and the new sum here.
+PART_SUM = "2b9a795cbfbcc68229a3ed4ac6b7fded287bb40766740ff59045538ea2a6fce0"
 PART = re.compile(r"^## Crates\n.*?^### Tests\n", re.M | re.S)
+ROW = re.compile(r"^\| `(\w+)` \| (.*) \| (.*) \|\n", re.M)
+MERGED = {it for move in house.MOVES for it in (move.source, move.target)}
 
 
-def check_architecture(tree):
+def part_of(tree):
     part = PART.search(read(tree.root / "docs/ARCHITECTURE.md"))
     if not part:
         stop("docs/ARCHITECTURE.md has no part from '## Crates' to '### Tests'")
-    if hashlib.sha256(part[0].encode()).hexdigest() != TABLES_SUM:
-        stop("the tables of docs/ARCHITECTURE.md are others than house.md and tables.md were written from")
+    return part[0]
+
+
+def check_architecture(tree):
+    rest = ROW.sub(lambda it: it[0] if it[1] in MERGED else "", part_of(tree))
+    found = hashlib.sha256(rest.encode()).hexdigest()
+    if found != PART_SUM:
+        stop("what docs/ARCHITECTURE.md says of the merged crates is other than house.md and house.py were written from (its sum is %s)" % found)
+
+
+def tables(rows):
+    """A table for each section, of the rows that were there and of those of the merged crates."""
+    out = []
+    for _, head, _, crates in house.SECTIONS[:-1]:
+        out += ["### %s\n" % head, "| crate | on | what |", "|---|---|---|"]
+        for crate in crates.split():
+            if crate not in rows and crate not in house.ROWS:
+                stop("the tables of docs/ARCHITECTURE.md have no row of %s" % crate)
+            on, what = house.ROWS.get(crate) or rows[crate]
+            out.append("| `%s` | %s | %s |" % (crate, ", ".join(dict.fromkeys(on.split(", "))), what))
+        out.append("")
+    return "\n".join(out)
 
 
 def architecture(tree):
     path = tree.root / "docs/ARCHITECTURE.md"
-    text = (HERE / "house.md").read_text() + (HERE / "tables.md").read_text() + "### Tests\n"
+    picture = (HERE / "house.md").read_text()
+    for _, _, _, crates in house.SECTIONS[:-1]:
+        for crate in crates.split():
+            if not re.search(r"\b%s\b" % crate, picture.partition("```")[2]):
+                stop("house.md shows no %s" % crate)
+    rows = {it[1]: (it[2], it[3]) for it in ROW.finditer(part_of(tree))}
+    text = picture.rstrip("\n") + "\n\n" + tables(rows) + "\n### Tests\n"
     write(path, PART.sub(lambda it: text, read(path)))
-    replace_once(path, "| `vz_test_base` | the first table, `vz_words`, `vz_journal` |", "| `vz_test_base` | words, formats, `vz_words`, `vz_outside` |")
+    replace_once(path, "| `vz_test_base` | the first table, `vz_words`, `vz_journal` | tests of the base crates by their public calls |",
+                 "| `vz_test_base` | words, formats, `vz_kernel`, `vz_words`, `vz_outside` | the base crates by their public calls |")
     replace_once(path, "reads the clients' files and then the schedule with `viz_run`; for", "reads the clients' files and then the schedule (`read_files`); for")
 
 
@@ -71,6 +101,14 @@ def proved(tree):
     write(path, text)
 
 
+def replace_item(path, start, new):
+    """Replaces an item of a list that starts so, up to the next item."""
+    text, count = re.subn(r"^%s.*?\n(?=-|\n)" % re.escape(start), lambda it: new, read(path), flags=re.M | re.S)
+    if count != 1:
+        stop("%s has %d items, and not one, that start so: %s" % (path, count, start))
+    write(path, text)
+
+
 def counted(tree):
     ran = subprocess.run([str(tree.root / "dev/rooms")], capture_output=True, text=True)
     if ran.returncode:
@@ -97,10 +135,9 @@ def others(tree):
     replace_once(docs / "DECISIONS.md", "- It is four crates above `vz_rules` (`vz_scene`, `vz_plain`, `vz_state`, `vz_slow`), with only definitions below\n  them.",
                  "- It is four crates above `vz_rules` (`vz_scene`, `vz_plain`, `vz_state`, `vz_slow`), with only definitions below\n"
                  "  them, and the trait of a machine below `vz_slow`, which also implements it (`PlainMachine`).")
-    replace_once(docs / "DECISIONS.md", "- **`step`, `demo` and the end of a run use no desk**",
-                 "- **`play`** (`vz_player`) takes events and gives bytes, beside `play_frames`, which writes them to a shelf. One would\n"
-                 "  expect one of them. Tests and programs that embed the crates have no shelf.\n"
-                 "- **`step`, `demo` and the end of a run use no desk**")
+    replace_item(docs / "DECISIONS.md", "- **`step`, `demo` and the end of a run use no desk**",
+                 "- **`step`, `demo` and the end of a run use no desk**, as one thread takes all their events: a `Player` (`vz_player`).\n"
+                 "  What they promise is an equation of events. `play` beside `play_frames` gives bytes, for programs without a shelf.\n")
     plants = tree.root / "dev/bugs/PLANTS.md"
     replace_once(plants, "| `vz_clients` (whole, now) |", "| `vz_support`, of `Clients` (whole, now) |")
     replace_once(plants, "| `vz_support` (whole, now) |", "| `vz_support`, of `Support` (whole, now) |")
@@ -109,7 +146,7 @@ def others(tree):
     replace_once(tree.root / "dev/README.md", "- `dev/slow CRATE [COUNT]`",
                  "- `dev/rooms` counts the house: crates, the longest chain, crates that exactly one other uses, and lines of code,\n"
                  "  contracts, definitions and proofs; `--crates` has a line a crate, `--chain` the longest chain, `--lists` what\n"
-                 "  `crates.txt` lists and no file of the crate names.\n"
+                 "  `crates.txt` lists and no file of the crate names, `--later` which crates use one of a later section.\n"
                  "- `dev/slow CRATE [COUNT]`")
 
 

@@ -4,9 +4,9 @@ from moves import Move
 
 MOVES = [
     Move("vz_outputs", "vz_player", src={"create": "outputs", "file": "client_file", "frame": "frame_file", "play": "to_shelf"}),
-    Move("vz_play", "vz_player", src={"frame": "frame_bytes", "playing": "results"}, specs={"Playing": "Puts"}),
-    Move("vz_inputs", "viz_run", first=True),
-    Move("vz_demo", "viz_run", proofs={"Fitting": "Demo_fits"}, first=True),
+    Move("vz_play", "vz_player", src={"frame": "result_frame", "playing": "results"}, specs={"Playing": "Puts"}),
+    Move("vz_inputs", "viz_run", src={"files": "client_files", "reading": "named_files"}, first=True),
+    Move("vz_demo", "viz_run", src={"plans": "made_plan"}, proofs={"Fitting": "Demo_fits"}, first=True),
     Move("vz_plain_machine", "vz_slow", src={"machine": "plain_machine"}, specs={"Drawing": "Pictures"}),
     Move("vz_support", "vz_support", src={"messages": "own_messages"}),
     Move("vz_clients", "vz_support", joined=("laws",), first=True),
@@ -22,11 +22,12 @@ HEADS = {
         "one point of the last drawing.",
     ],
     "viz_run": [
-        "The one public call of the display compositor.",
+        "The top call of the display compositor, `viz`: it carries out a command, and says how it",
+        "ended.",
         "",
-        "Besides, what it reads: client files and the schedule. Each is read whole, and then accepted,",
-        "or refused with the place and the reason. And the plan of the generated files, so that they can",
-        "be run without being written.",
+        "Its inputs are here, too. Client files and the schedule are read whole, and then accepted, or",
+        "refused with the place and the reason. `demo_plan` is the plan of the generated files, which",
+        "are so run without being written.",
     ],
     "vz_slow": [
         "The plain machine: a simple reference implementation of the definitions.",
@@ -47,26 +48,34 @@ HEADS = {
     ],
 }
 
-# The sections of crates.txt, from the lowest layer up, each with a line that says what it is.
+# The rows of the merged crates in the tables of docs/ARCHITECTURE.md: on what, and what it is. All other rows stay as they are there.
+ROWS = {
+    "vz_slow": ("`vz_state`, `vz_plain`, `vz_marking`, `vz_machine`", "the plain machine; with pictures, as a `Machine`"),
+    "vz_support": ("`vz_machine`, `vz_sinks`, `indexmap`", "clients: their messages, blocks and sinks; tick and root"),
+    "vz_player": ("`vz_display`, `vz_outside`, `vz_journal`, `vz_codec`", "a machine step by step; what it shows, written"),
+    "viz_run": ("`vz_threads`, `vz_callers`, `vz_manager`, `vz_check` and more", "the top call, `viz`, and its inputs"),
+}
+
+# The sections of crates.txt, from the lowest layer up: a word, the heading of its table, a line that says what it is, and the crates.
 SECTIONS = [
-    ("words", "the values that all others speak of, and the definitions of the machine",
+    ("words", "Words", "the values that all others speak of, and the definitions of the machine",
      "vz_base vz_ghost vz_geom vz_ids vz_pixels vz_frame vz_rules vz_marking"),
-    ("formats", "message files and the log, as bytes and text",
+    ("formats", "Formats", "message files and the log, as bytes and text",
      "vz_codec vz_journal vz_gen"),
-    ("plain", "the reference machine, which keeps everything and scans it",
+    ("plain", "The plain machine", "the reference machine, which keeps everything and scans it",
      "vz_scene vz_plain vz_state vz_slow"),
-    ("parts", "what the fast machine is made of: each keeps one thing and answers fast",
+    ("parts", "Parts of the fast machine", "what the fast machine is made of: each keeps one thing and answers fast",
      "vz_refs vz_deps vz_deadlines vz_sinks vz_returns vz_lending vz_feeding vz_surfaces vz_walk vz_damage"),
-    ("machine", "the trait of a machine, and the fast machine over its parts",
+    ("machine", "The machine", "the trait of a machine, and the fast machine over its parts",
      "vz_machine vz_support vz_reaching vz_telling vz_flight vz_live vz_waiting vz_settling vz_manager"),
-    ("drawing", "from a scene to the pixels of a buffer, and what is hit",
+    ("drawing", "Drawing", "from a scene to the pixels of a buffer, and what is hit",
      "vz_kernel vz_buffers vz_flat vz_paint vz_occlude vz_display vz_hit"),
-    ("threads", "callers in turns, and frames from one thread to another",
+    ("threads", "Threads", "callers in turns, and frames from one thread to another",
      "vz_loans vz_desk vz_turn vz_callers vz_pipe vz_threads"),
-    ("program", "the outside, the words, and the commands",
+    ("program", "The program", "the outside, the words, and the commands",
      "vz_outside vz_words vz_check vz_player viz_run viz"),
-    ("tests", "programs and tests over all of them",
+    ("tests", "Tests", "programs and tests over all of them",
      "vz_draws vz_test_base vz_test_parts vz_test_machines vz_test_calls"),
 ]
 
-moves.LAYERS[:] = [it for _, _, crates in SECTIONS for it in crates.split()]
+moves.LAYERS[:] = [it for _, _, _, crates in SECTIONS for it in crates.split()]

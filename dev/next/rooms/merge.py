@@ -1,5 +1,5 @@
 #!/usr/bin/env python3
-"""The first landing of the house with fewer rooms: the program's merges. Words: CLONE [--without CRATE..], a clean clone that it changes."""
+"""The first landing of the house with fewer rooms: the program's merges. Words: CLONE, a clean clone that it changes."""
 import re
 import sys
 from pathlib import Path
@@ -43,6 +43,8 @@ def rewrite_texts(tree, names):
             new = names.prose(text)
             # A list of crates has each once.
             new = re.sub(r"\bvz_\w+(?: (?:\w+))+\b", lambda it: once(it[0]), new) if is_list(name) else new
+            # So has a text that names them one after the other.
+            new = re.sub(r"(`\w+`)(?:,\s+\1)+", r"\1", new) if path.suffix == ".md" else new
             write(path, new)
 
 
@@ -68,7 +70,7 @@ def rewrite_list(tree, names):
         said[0].extend(it for it in more if it not in said[0])
         said[1].extend(uses)
     out, placed = [], set()
-    for title, what, crates in house.SECTIONS:
+    for title, _, what, crates in house.SECTIONS:
         out += ["# %s: %s" % (title, what)]
         for crate in crates.split():
             if crate not in lines:
@@ -83,18 +85,19 @@ def rewrite_list(tree, names):
     write(tree.root / "crates.txt", "\n".join(out).rstrip("\n") + "\n")
 
 
-def merge_all(tree, without):
-    chosen = [it for it in house.MOVES if it.source not in without and it.target not in without]
-    names = Names(chosen)
+def merge_all(tree):
+    names = Names(house.MOVES)
     rewrite_code(tree, names)
     rewrite_texts(tree, names)
     rewrite_list(tree, names)
-    for move in chosen:
+    for move in house.MOVES:
         if move.source == move.target:
             moves.rename_modules(tree, move)
         else:
             moves.merge(tree, move, house.HEADS[move.target])
         moves.move_edits(tree, move)
+        for folder in ("crates", "dev/bugs"):
+            tree.drop_empty(tree.root / folder / move.source)
     return names
 
 
@@ -113,8 +116,16 @@ def left(tree, names):
             pass
 
 
+def twice(tree):
+    """Texts that name a crate and then the same one, as two names have become one."""
+    for path in tree.files(".md"):
+        name = str(path.relative_to(tree.root))
+        for found in re.finditer(r"(`\w+`)(?:,|,? and|,? or)\s+\1", "" if name.startswith(PAST) else read(path)):
+            yield "%s: %s" % (name, found[0])
+
+
 def main(words):
-    if not words:
+    if len(words) != 1:
         sys.exit(__doc__)
     tree = Tree(words[0])
     if tree.git("status", "--porcelain", "--untracked-files=no").strip():
@@ -125,11 +136,14 @@ def main(words):
     (tree.root / "dev/rooms").write_bytes((HERE / "rooms").read_bytes())
     (tree.root / "dev/rooms").chmod(0o755)
     counted = documents.counted(tree)
-    names = merge_all(tree, set(words[2:]) if words[1:2] == ["--without"] else set())
+    names = merge_all(tree)
     documents.write_documents(tree, counted)
     tree.git("add", "-A", "crates", "dev", "docs", "bench", "examples", "tools", "crates.txt", "README.md")
+    # What did not fit before is no fault of the merge.
+    before = set(map(names.prose, before))
     wrong = [it for it in moves.check_edits(tree) if it not in before]
-    for line in [*wrong, *left(tree, names)]:
+    wrong += [*left(tree, names), *twice(tree)]
+    for line in wrong:
         print(line)
     return 1 if wrong else 0
 

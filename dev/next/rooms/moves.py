@@ -54,6 +54,12 @@ class Tree:
         new.parent.mkdir(parents=True, exist_ok=True)
         self.git("mv", str(old.relative_to(self.root)), str(new.relative_to(self.root)))
 
+    def drop_empty(self, top):
+        """Removes the folders in which git left no file."""
+        for folder in sorted([*top.rglob("*/"), top], reverse=True) if top.is_dir() else []:
+            if folder.is_dir() and not any(folder.iterdir()):
+                folder.rmdir()
+
     def remove(self, old):
         self.git("rm", "-q", "-f", str(old.relative_to(self.root)))
 
