@@ -18,6 +18,11 @@ def due_files(row, name):
     return [row.given[name]] if name in row.given else []
 
 
+def is_known(row, name):
+    """Whether a file must have contents that are known. Where they are not, `check` judges them with the log."""
+    return bool(due_files(row, name)) or not row.is_crowd
+
+
 def what_is_wrong(row, fault, done, caller):
     """What a call left, or how it ended, that must not be; none if all is well."""
     if done.status is None:
@@ -35,11 +40,11 @@ def what_is_wrong(row, fault, done, caller):
 
 def unseen(row, fault, done):
     """What failed and should have been seen, if the call went well all the same: of the calls of files all but a close,
-    and an open that was interrupted."""
+    those that ask the system how many processors there may be, and an open that was interrupted."""
     if fault.kind != CALL or not any(done.refused) or not row.is_done:
         return None
     name = done.calls[fault.first - 1]
-    if name == "x" or name in "oc" and fault.error == errno.EINTR:
+    if name in "xq" or name in "oc" and fault.error == errno.EINTR:
         return None
     return "a call failed, and the status is %d" % done.status
 
@@ -56,7 +61,7 @@ def whole(row, done, caller):
             status, verdict = caller.plain(row.judge)
             if (status, verdict) != (0, b"yes\n"):
                 return "check says %r" % verdict
-        elif caller.read(name) not in due_files(row, name):
+        elif is_known(row, name) and caller.read(name) not in due_files(row, name):
             return "another %s" % name
     return None
 
@@ -88,6 +93,8 @@ def front(row, name, data, caller, is_changed):
     if row.judge and name == "l":
         wrong, is_whole = legal_front(row, data, caller)
         return wrong, bool(data), is_whole
+    if not is_known(row, name):
+        return None, bool(data), True
     due = due_files(row, name)
     if not any(one.startswith(data) for one in due):
         return "is no front part", bool(data), False

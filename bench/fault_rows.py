@@ -38,6 +38,11 @@ class Row:
     def is_done(self):
         return self.status < 2
 
+    @property
+    def is_crowd(self):
+        """Whether several clients are on threads of their own."""
+        return self.command == "run" and len(self.words) - len(options(self.words)) > 7
+
 
 def options(words):
     """The options of a `run`, with their numbers."""

@@ -18,6 +18,7 @@
 #include <stdint.h>
 #include <stdlib.h>
 #include <stdio.h>
+#include <string.h>
 #include <sys/mman.h>
 #include <sys/syscall.h>
 #include <unistd.h>
@@ -31,6 +32,8 @@ static struct counts {
 } none, *counts = &none;
 static long kind = -1, first, last, error, piece, half;
 static uint64_t mask;
+/* The file by which the system says how many processors a program may use, while it is read. */
+static int quota = -1;
 
 __attribute__((constructor)) static void begin(void) {
     const char *text = getenv("FAULT"), *file = getenv("COUNTS"), *most = getenv("PIECE"), *cut = getenv("HALF");
@@ -107,12 +110,16 @@ int open(const char *name, int how, ...) {
     va_start(rest, how);
     int mode = va_arg(rest, int);
     va_end(rest);
-    return call_of(how & O_CREAT ? 'c' : 'o') ? next(name, how, mode) : -1;
+    int is_quota = !strncmp(name, "/sys/", 5);
+    if (!call_of(is_quota ? 'q' : how & O_CREAT ? 'c' : 'o')) return -1;
+    int handle = next(name, how, mode);
+    if (is_quota) quota = handle;
+    return handle;
 }
 
 ssize_t read(int handle, void *into, size_t n) {
     NEXT(ssize_t, "read", int, void *, size_t);
-    uint64_t number = call_of('r');
+    uint64_t number = call_of(handle == quota ? 'q' : 'r');
     return number ? next(handle, into, moved(number, n)) : -1;
 }
 
@@ -126,6 +133,7 @@ ssize_t write(int handle, const void *from, size_t n) {
 /* A close that fails has closed all the same. Standard error is none of the program's. */
 int close(int handle) {
     NEXT(int, "close", int);
+    if (handle == quota) quota = -1;
     int refused = !call_of('x'), answer = next(handle);
     if (refused) errno = (int)error;
     return refused ? -1 : answer;

@@ -5,12 +5,12 @@ use Rattle.std.specs.List.{flat_map}
 use Rattle.vz_base.specs.declared.limits.TheConstants.{MOST_FILE_BYTES, MOST_EVENTS}
 use Rattle.vz_outside.specs.Shelved.{Shelved, SameFiles, IsMissing, Name}
 use Rattle.vz_outside.proofs.Calls.{Ran}
-use Rattle.vz_inputs.specs.Read.{IsReadUpto, AreReadUpto, MissesOne}
-use Rattle.vz_inputs.specs.Refusals.{file_refused, plan_read}
-use Rattle.vz_inputs.specs.Schedule.{events_of, schedule_refused}
-use Rattle.vz_inputs.specs.declared.refused.Refused.{Refused}
-use Rattle.vz_inputs.specs.declared.refused.InputError.{InputError}
-use Rattle.vz_inputs.specs.declared.refused.InputError.TheVariants as input_error
+use Rattle.viz_run.specs.Read.{IsReadUpto, AreReadUpto, MissesOne}
+use Rattle.viz_run.specs.Refusals.{file_refused, plan_read}
+use Rattle.viz_run.specs.Schedule.{events_of, schedule_refused}
+use Rattle.viz_run.specs.declared.refused.Refused.{Refused}
+use Rattle.viz_run.specs.declared.refused.InputError.{InputError}
+use Rattle.viz_run.specs.declared.refused.InputError.TheVariants as input_error
 use Rattle.vz_rules.specs.Command.{Word, Step, Hit}
 use Rattle.vz_rules.specs.Plan.{Plan}
 use Rattle.vz_rules.specs.declared.entry.Event.{Event}

@@ -7,9 +7,9 @@ use Rattle.vz_outside.proofs.Rises.{one_more_least, one_more_rose}
 use Rattle.vz_outside.specs.Shelved.{Shelved, Name}
 use Rattle.vz_outside.specs.Sunk.{Sunk, Takes, TakesFront}
 use Rattle.vz_outside.specs.Sunk as sinks
-use Rattle.vz_outputs.specs.Written.{Output, AreWhole, AreBegun}
-use Rattle.vz_inputs.specs.Read.{IsReadUpto, AreReadUpto}
-use Rattle.vz_inputs.specs.declared.refused.Refused.{Refused}
+use Rattle.vz_player.specs.Written.{Output, AreWhole, AreBegun}
+use Rattle.viz_run.specs.Read.{IsReadUpto, AreReadUpto}
+use Rattle.viz_run.specs.declared.refused.Refused.{Refused}
 use Rattle.vz_rules.specs.Command.{Word, Command, Run, Step, Check, Gen, Demo, Hit, Turns}
 use Rattle.vz_words.proofs.One.{same_command}
 use Rattle.vz_rules.specs.declared.entry.Entry.{Entry}

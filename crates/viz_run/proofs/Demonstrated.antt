@@ -11,7 +11,7 @@ use Rattle.vz_rules.specs.Step.{NamesClient, Legal, LegalFrom}
 use Rattle.vz_rules.specs.declared.entry.Event.{Event}
 use Rattle.vz_rules.specs.declared.entry.Event.TheVariants as event
 use Rattle.vz_rules.specs.declared.entry.Entry.{Entry}
-use Rattle.vz_demo.specs.Planned.{demo_plan}
+use Rattle.viz_run.specs.Planned.{demo_plan}
 use Rattle.viz_run.specs.Demo.{demo_events, four, round, rounds}
 use Rattle.viz_run.specs.Ends.{IsHistory, events_in}
 use Rattle.viz_run.specs.Lines.{drawn_count, return_count, demo_text, end_line}

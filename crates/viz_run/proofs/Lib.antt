@@ -1,3 +1,9 @@
+pub mod Demo_fits
+pub mod Behaving
+mod Gathering
+mod Flaws
+mod Accepts
+mod Schedules
 mod Fitting
 mod Stopping
 mod Admitting

@@ -2,7 +2,7 @@
 use Rattle.std.proofs.Common.{◌≡◌, ℕ, Some, List, [], ◌∷◌, refl, sym, ap, ◌∙◌}
 use Rattle.vz_base.specs.declared.limits.TheConstants.{MOST_FILE_BYTES, MOST_LOG_BYTES}
 use Rattle.vz_check.specs.Judged.{Gives}
-use Rattle.vz_inputs.specs.Read.{IsReadUpto, AreReadUpto}
+use Rattle.viz_run.specs.Read.{IsReadUpto, AreReadUpto}
 use Rattle.vz_outside.specs.Shelved.{Shelved, IsCall, SameFiles, Holds, Name}
 use Rattle.vz_outside.proofs.Calls.{Ran, known_after}
 use Rattle.vz_rules.specs.Command.{Word, Check}

@@ -4,7 +4,7 @@ use Rattle.vz_codec.specs.Spelling.{file_bytes}
 use Rattle.vz_frame.specs.declared.message.ClientFile.{ClientFile}
 use Rattle.vz_outside.specs.Shelved.{Shelved, Name, Holds, IsCall, IfKnown, KeepsOthers}
 use Rattle.vz_outside.proofs.Calls.{known_after, call_then_call}
-use Rattle.vz_outputs.specs.Written.{AreWhole, AreBegun, HasFront}
+use Rattle.vz_player.specs.Written.{AreWhole, AreBegun, HasFront}
 use Rattle.viz_run.specs.Ends.{named_files}
 
 -- a file that is written stays as it is where another one is written

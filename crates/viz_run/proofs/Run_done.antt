@@ -3,7 +3,7 @@ use Rattle.std.proofs.Common.{◌≡◌, ℕ, ◌+◌, ◌<◌, ◌≤◌, Bool,
 use Rattle.std.proofs.lemmas.Grind.{take_at_read}
 use Rattle.std.proofs.lemmas.List.{map-append}
 use Rattle.vz_frame.specs.declared.message.ClientFile.{ClientFile}
-use Rattle.vz_outputs.specs.Written.{AreWhole, AreBegun}
+use Rattle.vz_player.specs.Written.{AreWhole, AreBegun}
 use Rattle.vz_rules.proofs.Chained.{written_is}
 use Rattle.vz_rules.specs.Command.{Word, Run, buffer_count}
 use Rattle.vz_rules.specs.Frames.{Honest, frames, written, painted}

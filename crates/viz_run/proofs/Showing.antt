@@ -1,10 +1,10 @@
 -- What a player that was given events leaves: its history, and the frames of that history.
 use Rattle.std.proofs.Common.{◌≡◌, ℕ, List, [], ◌++◌, length, take, sym, ap, subst, ◌∙◌, inl, inr, arith}
 use Rattle.vz_outside.specs.Shelved.{Shelved, Name, Appends, AppendsFront}
-use Rattle.vz_outputs.specs.Taken.{played_all, StopsAmong, AddsFrames, AddsFramesFront}
-use Rattle.vz_outputs.proofs.Growing.{frames_then_frames, no_frames}
-use Rattle.vz_outputs.proofs.Outs.{whole_front}
-use Rattle.vz_outputs.proofs.Taking.{events_all, plan_all, buffers_all}
+use Rattle.vz_player.specs.Taken.{played_all, StopsAmong, AddsFrames, AddsFramesFront}
+use Rattle.vz_player.proofs.Growing.{frames_then_frames, no_frames}
+use Rattle.vz_player.proofs.Outs.{whole_front}
+use Rattle.vz_player.proofs.Taking.{events_all, plan_all, buffers_all}
 use Rattle.vz_pixels.specs.Colour.{Colour}
 use Rattle.vz_player.specs.Played.{Played, first_played}
 use Rattle.vz_rules.specs.Frames.{written, frames_bytes}

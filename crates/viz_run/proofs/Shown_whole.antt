@@ -2,9 +2,9 @@
 use Rattle.std.proofs.Common.{◌≢◌, ℕ, List, [], ◌∷◌, refl, sym, ◌∙◌, inr}
 use Rattle.vz_outside.specs.Shelved.{Shelved, Name, IsCall, KeepsOthers, Appends, AppendsFront}
 use Rattle.vz_outside.proofs.Calls.{Ran, ran_then_ran, known_after, call_then_call}
-use Rattle.vz_outputs.specs.Written.{KeepsAllBut, WritesSome}
-use Rattle.vz_outputs.specs.declared.create.Outputs.{Outputs}
-use Rattle.vz_outputs.proofs.Outs.{both, out_kept, out_more, others_named, front_of_out, front_of_begun, Stands}
+use Rattle.vz_player.specs.Written.{KeepsAllBut, WritesSome}
+use Rattle.vz_player.specs.declared.outputs.Outputs.{Outputs}
+use Rattle.vz_player.proofs.Outs.{both, out_kept, out_more, others_named, front_of_out, front_of_begun, Stands}
 
 module _ (frames log : Name) (apart : frames ≢ log) (outputs : Outputs) (a b c : Shelved) (drawn : List ℕ) (before : Stands frames log outputs [] [] a b) (kept : KeepsOthers (b.name outputs.frames) b c) where
   frames_alone : KeepsOthers frames b c

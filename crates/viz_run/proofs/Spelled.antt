@@ -3,7 +3,7 @@ use Rattle.std.proofs.Common.{◌≡◌, ℕ, List, [], ◌++◌, ap, sym, ◌�
 use Rattle.std.specs.Fmt.{decimal}
 use Rattle.vz_check.specs.declared.verdict.What.{What}
 use Rattle.vz_check.specs.declared.verdict.Verdict.TheVariants.{No}
-use Rattle.vz_inputs.specs.declared.refused.Refused.{Refused}
+use Rattle.viz_run.specs.declared.refused.Refused.{Refused}
 use Rattle.vz_rules.specs.Log.{then_number}
 use Rattle.viz_run.specs.Lines.{refused_line, reason_text, verdict_line, what_text}
 

@@ -5,7 +5,7 @@ use Rattle.vz_outside.specs.Shelved.{Shelved, Name, IsCall, SameFiles}
 use Rattle.vz_outside.specs.declared.shelf.ShelfError.{ShelfError}
 use Rattle.vz_outside.specs.declared.shelf.ShelfError.TheVariants as shelf_error
 use Rattle.vz_outside.proofs.Calls.{Ran, known_after}
-use Rattle.vz_outputs.specs.Written.{Output, AreWhole, AreBegun, AreUnwritten, KeepsAllBut}
+use Rattle.vz_player.specs.Written.{Output, AreWhole, AreBegun, AreUnwritten, KeepsAllBut}
 use Rattle.vz_rules.specs.Command.{Word, Step}
 use Rattle.vz_rules.specs.Frames.{Honest, frames, written, painted}
 use Rattle.vz_rules.specs.Plan.{Plan, IsPlan}

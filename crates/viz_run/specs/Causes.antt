@@ -2,9 +2,9 @@
 use Rattle.std.specs.Prelude.{◌≡◌, ℕ, ◌⊎◌, List, []}
 use Rattle.vz_outside.specs.Shelved.{Shelved, Name, IfKnown}
 use Rattle.vz_outside.specs.Sunk.{Takes, TakesFront}
-use Rattle.vz_outputs.specs.Written.{IsNoneOf}
-use Rattle.vz_inputs.specs.Read.{MissesOne}
-use Rattle.vz_inputs.specs.declared.refused.Refused.{Refused}
+use Rattle.vz_player.specs.Written.{IsNoneOf}
+use Rattle.viz_run.specs.Read.{MissesOne}
+use Rattle.viz_run.specs.declared.refused.Refused.{Refused}
 use Rattle.vz_rules.specs.Command.{Word, Command}
 use Rattle.vz_rules.specs.declared.entry.Entry.{Entry}
 use Rattle.viz_run.specs.Commands.{Asks, AsksNothing, input_names, output_names}

@@ -4,11 +4,11 @@ use Rattle.vz_frame.specs.declared.message.ClientFile.{ClientFile}
 use Rattle.vz_codec.specs.Spelling.{file_bytes}
 use Rattle.vz_gen.specs.Make.{make}
 use Rattle.vz_outside.specs.Shelved.{SameFiles}
-use Rattle.vz_outputs.specs.Written.{Output, AreWhole, AreBegun}
+use Rattle.vz_player.specs.Written.{Output, AreWhole, AreBegun}
 use Rattle.vz_rules.specs.Plan.{Plan}
 use Rattle.vz_check.specs.Verdict.{IsVerdict}
 use Rattle.vz_check.specs.declared.verdict.Verdict.{Verdict}
-use Rattle.vz_inputs.specs.Refusals.{plan_read}
+use Rattle.viz_run.specs.Refusals.{plan_read}
 use Rattle.vz_rules.specs.Command.{Word, Command, Run, Step, Check, Gen, Hit, Turns}
 use Rattle.vz_rules.specs.declared.entry.Event.{Event}
 use Rattle.vz_rules.specs.declared.entry.Entry.{Entry}

@@ -6,13 +6,13 @@ use Rattle.vz_outside.specs.Shelved.{Shelved, Holds}
 use Rattle.vz_rules.specs.Plan.{Plan}
 use Rattle.vz_rules.specs.Command.{Word, Command, Run, Step, Check, Gen, Demo, Hit, Turns}
 use Rattle.vz_rules.specs.declared.entry.Event.{Event}
-use Rattle.vz_inputs.specs.Read.{AreReadUpto}
-use Rattle.vz_inputs.specs.Refusals.{file_refused, plan_read}
-use Rattle.vz_inputs.specs.Schedule.{events_of, schedule_refused}
-use Rattle.vz_inputs.specs.declared.refused.Reason.TheVariants.{Long}
-use Rattle.vz_inputs.specs.declared.refused.Refused.{Refused}
+use Rattle.viz_run.specs.Read.{AreReadUpto}
+use Rattle.viz_run.specs.Refusals.{file_refused, plan_read}
+use Rattle.viz_run.specs.Schedule.{events_of, schedule_refused}
+use Rattle.viz_run.specs.declared.refused.Reason.TheVariants.{Long}
+use Rattle.viz_run.specs.declared.refused.Refused.{Refused}
 use Rattle.viz_run.specs.Commands.{client_names, schedule_names, log_names, frame_names}
-use Rattle.vz_demo.specs.Planned.{demo_plan}
+use Rattle.viz_run.specs.Planned.{demo_plan}
 use Rattle.viz_run.specs.Demo.{demo_events}
 
 -- the bytes of the clients' files, of the schedule if the command has one, and of the log and the

@@ -1,8 +1,8 @@
 -- What the words of `check` ask for.
 use Rattle.std.specs.Prelude.{ℕ, Option, List, [], ◌∷◌}
-use Rattle.vz_inputs.specs.Read.{texts}
-use Rattle.vz_inputs.specs.Refusals.{file_refused}
-use Rattle.vz_inputs.specs.declared.refused.Refused.{Refused}
+use Rattle.viz_run.specs.Read.{texts}
+use Rattle.viz_run.specs.Refusals.{file_refused}
+use Rattle.viz_run.specs.declared.refused.Refused.{Refused}
 use Rattle.vz_rules.specs.Command.{Command, Check}
 use Rattle.viz_run.specs.Inputs.{first_some, logs_refused}
 use Rattle.vz_words.specs.declared.commands.CheckWords.{CheckWords}

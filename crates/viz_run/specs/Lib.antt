@@ -1,3 +1,9 @@
+pub mod Planned
+pub mod Read
+pub mod Refusals
+pub mod Schedule
+pub mod Messages
+pub mod Decoded
 pub mod Site
 pub mod Demo
 pub mod Commands

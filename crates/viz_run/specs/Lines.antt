@@ -6,9 +6,9 @@ use Rattle.vz_check.specs.declared.verdict.What.{What}
 use Rattle.vz_check.specs.declared.verdict.What.TheVariants as what
 use Rattle.vz_check.specs.declared.verdict.Verdict.{Verdict}
 use Rattle.vz_check.specs.declared.verdict.Verdict.TheVariants as verdict
-use Rattle.vz_inputs.specs.declared.refused.Reason.{Reason}
-use Rattle.vz_inputs.specs.declared.refused.Reason.TheVariants as reason
-use Rattle.vz_inputs.specs.declared.refused.Refused.{Refused}
+use Rattle.viz_run.specs.declared.refused.Reason.{Reason}
+use Rattle.viz_run.specs.declared.refused.Reason.TheVariants as reason
+use Rattle.viz_run.specs.declared.refused.Refused.{Refused}
 use Rattle.vz_rules.specs.Command.{Command, Run, Step, Gen, Demo, Hit, Turns}
 use Rattle.vz_rules.specs.declared.entry.Entry.{Entry}
 use Rattle.vz_rules.specs.Course.{is_drawn}

@@ -2,9 +2,9 @@
 use Rattle.std.specs.Prelude.{◌≡◌, ℕ, Some, None, List}
 use Rattle.vz_base.specs.declared.limits.TheConstants.{MOST_FILE_BYTES}
 use Rattle.vz_geom.specs.declared.Size.{Size}
-use Rattle.vz_inputs.specs.Read.{AreReadUpto}
-use Rattle.vz_inputs.specs.Refusals.{file_refused, plan_read}
-use Rattle.vz_inputs.specs.declared.refused.Refused.{Refused}
+use Rattle.viz_run.specs.Read.{AreReadUpto}
+use Rattle.viz_run.specs.Refusals.{file_refused, plan_read}
+use Rattle.viz_run.specs.declared.refused.Refused.{Refused}
 use Rattle.vz_outside.specs.Shelved.{Shelved}
 use Rattle.vz_rules.specs.Command.{Word}
 use Rattle.vz_rules.specs.Plan.{Plan}

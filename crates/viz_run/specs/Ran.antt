@@ -2,8 +2,8 @@
 use Rattle.std.specs.Prelude.{ℕ, pos, List, map, length}
 use Rattle.vz_frame.specs.declared.message.ClientFile.{ClientFile}
 use Rattle.vz_geom.specs.declared.Size.{Size}
-use Rattle.vz_inputs.specs.Read.{texts}
-use Rattle.vz_outputs.specs.Written.{Output}
+use Rattle.viz_run.specs.Read.{texts}
+use Rattle.vz_player.specs.Written.{Output}
 use Rattle.vz_rules.specs.Command.{Command, Run}
 use Rattle.vz_rules.specs.Plan.{Plan}
 use Rattle.vz_rules.specs.declared.entry.Entry.{Entry}

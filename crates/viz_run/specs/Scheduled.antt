@@ -3,10 +3,10 @@ use Rattle.std.specs.Prelude.{◌≡◌, Option, None, List, [], ◌∷◌}
 use Rattle.std.specs.List.{flat_map}
 use Rattle.vz_base.specs.declared.limits.TheConstants.{MOST_FILE_BYTES, MOST_EVENTS, MOST_LOG_BYTES}
 use Rattle.vz_geom.specs.declared.Size.{Size}
-use Rattle.vz_inputs.specs.Read.{AreReadUpto, texts}
-use Rattle.vz_inputs.specs.Refusals.{file_refused, plan_read}
-use Rattle.vz_inputs.specs.Schedule.{events_of}
-use Rattle.vz_inputs.specs.declared.refused.Refused.{Refused}
+use Rattle.viz_run.specs.Read.{AreReadUpto, texts}
+use Rattle.viz_run.specs.Refusals.{file_refused, plan_read}
+use Rattle.viz_run.specs.Schedule.{events_of}
+use Rattle.viz_run.specs.declared.refused.Refused.{Refused}
 use Rattle.vz_outside.specs.Shelved.{Shelved}
 use Rattle.vz_rules.specs.Command.{Word, Command, Hit}
 use Rattle.vz_rules.specs.Plan.{Plan}

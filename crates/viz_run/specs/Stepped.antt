@@ -1,15 +1,15 @@
 -- What the words of `step` ask for, and what comes of its inputs.
 use Rattle.std.specs.Prelude.{◌≡◌, ℕ, pos, Some, None, Option, List}
 use Rattle.vz_geom.specs.declared.Size.{Size}
-use Rattle.vz_inputs.specs.Read.{texts}
-use Rattle.vz_inputs.specs.Refusals.{file_refused, plan_read}
-use Rattle.vz_inputs.specs.Schedule.{schedule_refused}
-use Rattle.vz_inputs.specs.declared.refused.Refused.{Refused}
+use Rattle.viz_run.specs.Read.{texts}
+use Rattle.viz_run.specs.Refusals.{file_refused, plan_read}
+use Rattle.viz_run.specs.Schedule.{schedule_refused}
+use Rattle.viz_run.specs.declared.refused.Refused.{Refused}
 use Rattle.vz_rules.specs.Command.{Command, Step}
 use Rattle.vz_rules.specs.Plan.{Plan}
 use Rattle.vz_rules.specs.declared.entry.Event.{Event}
 use Rattle.vz_rules.specs.declared.entry.Entry.{Entry}
-use Rattle.vz_outputs.specs.Written.{Output}
+use Rattle.vz_player.specs.Written.{Output}
 use Rattle.viz_run.specs.Ends.{outputs_of}
 use Rattle.viz_run.specs.Inputs.{Inputs, plan_of, events_for}
 use Rattle.vz_words.specs.declared.commands.StepWords.{StepWords}

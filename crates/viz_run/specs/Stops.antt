@@ -4,8 +4,8 @@ use Rattle.vz_outside.specs.Faults.{one_more}
 use Rattle.vz_outside.specs.Shelved.{Shelved, IsCall, StaysFaultless}
 use Rattle.vz_outside.specs.declared.shelf.ShelfError.{ShelfError}
 use Rattle.vz_outside.specs.declared.shelf.ShelfError.TheVariants as shelf_error
-use Rattle.vz_inputs.specs.declared.refused.InputError.{InputError}
-use Rattle.vz_inputs.specs.declared.refused.InputError.TheVariants as input_error
+use Rattle.viz_run.specs.declared.refused.InputError.{InputError}
+use Rattle.viz_run.specs.declared.refused.InputError.TheVariants as input_error
 use Rattle.viz_run.specs.Lines.{words_line, refused_line}
 use Rattle.viz_run.specs.declared.stop.Stop.{Stop}
 use Rattle.viz_run.specs.declared.stop.Stop.TheVariants as stop

@@ -1,5 +1,5 @@
 -- What the words of `turns` ask for.
-use Rattle.vz_inputs.specs.Read.{texts}
+use Rattle.viz_run.specs.Read.{texts}
 use Rattle.vz_rules.specs.Command.{Command, Turns}
 use Rattle.vz_words.specs.declared.commands.TurnsWords.{TurnsWords}
 

@@ -1,7 +1,7 @@
 //! Runs a plan with threads, and writes the frames and the log.
 ghost use Rattle.std.specs.Prelude.{◌≡◌, ◌≢◌, ◌+◌, Some, [], ◌∷◌, IsTrue};
 ghost use Rattle.std.specs.Prelude.{IfOk, OnOk, OnErr};
-ghost use Rattle.vz_outputs.specs.Written.{AreWhole, AreBegun, KeepsAllBut};
+ghost use Rattle.vz_player.specs.Written.{AreWhole, AreBegun, KeepsAllBut};
 ghost use Rattle.vz_outside.specs.Shelved.{Writing, KeepsOthers, Appends, AppendsFront, Behaves};
 ghost use Rattle.vz_rules.specs.Command.{fits_command, buffer_count};
 ghost use Rattle.vz_rules.specs.Frames.{painted};
@@ -20,8 +20,8 @@ use vz_base::limits::DEFAULT_BUFFERS;
 use vz_buffers::Steps;
 use vz_frame::List;
 use vz_machine::Machine;
-use vz_outputs::{FrameFile, create_outputs, write_log};
 use vz_outside::{Gate, Shelf, ShelfError};
+use vz_player::{FrameFile, create_outputs, write_log};
 use vz_rules::{Entry, Rest};
 use vz_threads::{Course, play_course};
 use vz_words::RunWords;

@@ -9,20 +9,21 @@ ghost use Rattle.vz_rules.specs.Frames.{painted};
 ghost use Rattle.vz_rules.specs.Plan.{IsPlan};
 ghost use Rattle.vz_rules.specs.Step.{NamesClient};
 ghost use Rattle.vz_rules.specs.World.{opening};
-ghost use Rattle.vz_demo.specs.Planned.{demo_plan};
+ghost use Rattle.viz_run.specs.Planned.{demo_plan};
 ghost use Rattle.viz_run.specs.Demo.{demo_events};
 ghost use Rattle.viz_run.specs.Ends.{IsHistory};
 ghost use Rattle.viz_run.specs.Lines.{end_line};
 ghost use Rattle.viz_run.specs.Taken.{HasTaken};
 
+use crate::demo_plan;
 use crate::events::demo_events;
 use crate::lines::demo_line;
 use std::alloc::Global;
 use std::sync::ledger::Ledger;
+use std::thread::Threads;
 use vz_base::Memory;
 use vz_base::limits::DEFAULT_BUFFERS;
 use vz_buffers::Steps;
-use vz_demo::demo_plan;
 use vz_frame::List;
 use vz_geom::Size;
 use vz_machine::Machine;
@@ -35,7 +36,8 @@ use vz_rules::{Entry, Event};
 /// that reports it. It reads and writes no file. Conditions: 1 to `MOST_ROUNDS` rounds, and an
 /// empty history. The only error is `Memory`, and then the history is that of a front part of the
 /// events.
-pub fn demo<G: Gate, L: Ledger>(
+pub fn demo<G: Gate, L: Ledger, R: Threads + Sync>(
+    rt: &R,
     alloc: Global,
     rounds: u32,
     gate: &G,
@@ -58,14 +60,15 @@ pub fn demo<G: Gate, L: Ledger>(
     let _ = plan.files();
     let size = plan.size();
     let machine = Manager::open(alloc, plan)?;
-    let painted = play_all(alloc, machine, size, &events, gate, steps, history)?;
+    let painted = play_all(rt, alloc, machine, size, &events, gate, steps, history)?;
     Ok(demo_line(alloc, history.as_slice(), painted)?)
 }
 
 /// Gives events one after the other to a machine in the opening world of its plan, paints each
 /// frame, and returns how many points were painted. `size` is that of the plan's display. The
 /// only error is `Memory`, and then the history is that of a front part of the events.
-fn play_all<M: Machine + Drop, G: Gate, L: Ledger>(
+fn play_all<M: Machine + Drop, G: Gate, L: Ledger, R: Threads + Sync>(
+    rt: &R,
     alloc: Global,
     machine: M,
     size: Size,
@@ -89,7 +92,7 @@ where
         × IsHistory (M.state machine).plan (take n events.now) history.new) }
 {
     let mut player = Player::new(alloc, machine, size, DEFAULT_BUFFERS as u32);
-    match take_all(alloc, &mut player, events, gate, steps) {
+    match take_all(rt, alloc, &mut player, events, gate, steps) {
         Ok(()) => {
             let points = player.display().painted();
             *history = player.into_history();
@@ -104,7 +107,8 @@ where
 
 /// Gives events to a player one after the other. After the error `Memory` it took a front part of
 /// them.
-fn take_all<M: Machine + Drop, G: Gate, L: Ledger>(
+fn take_all<M: Machine + Drop, G: Gate, L: Ledger, R: Threads + Sync>(
+    rt: &R,
     alloc: Global,
     player: &mut Player<M>,
     events: &[Event],
@@ -123,7 +127,7 @@ where
         × HasTaken (take n events.now) player.old player.new) }
 {
     for event in events {
-        player.turn(alloc, gate, *event, steps)?;
+        player.turn(rt, alloc, gate, *event, steps)?;
     }
     Ok(())
 }

@@ -3,11 +3,11 @@ ghost use Rattle.std.specs.Prelude.{◌≡◌, ◌≤◌, ◌∷◌, ◌++◌, A
 ghost use Rattle.std.specs.Prelude.{IfOk, OnOk, IsErrOf};
 ghost use Rattle.vz_base.specs.declared.limits.TheConstants.{MOST_FILES};
 ghost use Rattle.vz_geom.specs.Display.{IsDisplaySize};
-ghost use Rattle.vz_inputs.specs.Read.{MissesOne, contents, texts};
-ghost use Rattle.vz_inputs.specs.Refusals.{plan_read};
-ghost use Rattle.vz_inputs.specs.Schedule.{events_of};
-ghost use Rattle.vz_inputs.specs.declared.refused.Refused.{Refused as Refusal};
-ghost use Rattle.vz_inputs.specs.declared.refused.InputError.TheVariants as input_error;
+ghost use Rattle.viz_run.specs.Read.{MissesOne, contents, texts};
+ghost use Rattle.viz_run.specs.Refusals.{plan_read};
+ghost use Rattle.viz_run.specs.Schedule.{events_of};
+ghost use Rattle.viz_run.specs.declared.refused.Refused.{Refused as Refusal};
+ghost use Rattle.viz_run.specs.declared.refused.InputError.TheVariants as input_error;
 ghost use Rattle.vz_outside.specs.Shelved.{SameFiles};
 ghost use Rattle.vz_rules.specs.Step.{NamesClient};
 ghost use Rattle.viz_run.specs.Inputs.{Inputs};
@@ -17,10 +17,10 @@ ghost use Rattle.viz_run.specs.Stops.{Behaves};
 ghost use Rattle.viz_run.specs.declared.stop.Stop.TheVariants as stops;
 
 use crate::stop::Stop;
+use crate::{InputError, events_of, plan_of, read_file, read_files};
 use std::thread::Threads;
 use vz_base::limits::{MOST_EVENTS, MOST_FILE_BYTES};
 use vz_geom::Size;
-use vz_inputs::{InputError, events_of, plan_of, read_file, read_files};
 use vz_outside::Shelf;
 use vz_rules::{Event, Plan};
 

@@ -3,8 +3,8 @@
 ghost use Rattle.std.specs.Prelude.{◌≡◌, ◌≤◌, ℕ, All, [], length, take, IsTrue, string_bytes};
 ghost use Rattle.std.specs.Prelude.{IfOk, IfErr, OnOk, OnErr, IsErrOf};
 ghost use Rattle.vz_base.specs.declared.limits.TheConstants.{MOST_FILES};
-ghost use Rattle.vz_inputs.specs.Read.{MissesOne};
-ghost use Rattle.vz_inputs.specs.declared.refused.Refused.{Refused as Refusal};
+ghost use Rattle.viz_run.specs.Read.{MissesOne};
+ghost use Rattle.viz_run.specs.declared.refused.Refused.{Refused as Refusal};
 ghost use Rattle.vz_machine.specs.Stepping.{IsOnDisplay};
 ghost use Rattle.vz_outside.specs.Shelved.{SameFiles};
 ghost use Rattle.vz_rules.specs.Command.{fits_command};

@@ -7,13 +7,13 @@ ghost use Rattle.viz_run.specs.Lines.{done_text, demo_text, hit_text, refused_li
 ghost use Rattle.viz_run.specs.Lines.{made_line};
 ghost use Rattle.viz_run.specs.Lines.{drawn_count, return_count, verdict_line, what_text};
 
+use crate::{Reason, Refused};
 use std::alloc::Global;
 use vz_base::Memory;
 use vz_check::{Verdict, What};
 use vz_codec::FileRule;
 use vz_geom::Point;
 use vz_ids::{EmbedToken, FrameSinkId, LocalSurfaceId, SurfaceId};
-use vz_inputs::{Reason, Refused};
 use vz_rules::{Entry, Reply};
 
 /// The line if the words are those of no command.

@@ -3,7 +3,7 @@ ghost use Rattle.std.specs.Prelude.{◌≡◌, IfOk, OnOk, OnErr, IsTrue, length
 ghost use Rattle.std.specs.List.{list_all};
 ghost use Rattle.vz_frame.specs.Fits.{fits_file};
 ghost use Rattle.vz_gen.specs.Make.{make};
-ghost use Rattle.vz_outputs.specs.Written.{KeepsAllBut, AreWhole, AreBegun};
+ghost use Rattle.vz_player.specs.Written.{KeepsAllBut, AreWhole, AreBegun};
 ghost use Rattle.vz_outside.specs.Shelved.{Behaves};
 ghost use Rattle.vz_rules.specs.Command.{fits_command};
 ghost use Rattle.viz_run.specs.Commands.{output_names};
@@ -15,8 +15,8 @@ use crate::lines::made_text;
 use std::alloc::Global;
 use vz_frame::ClientFile;
 use vz_gen::make;
-use vz_outputs::write_file;
 use vz_outside::{Shelf, ShelfError};
+use vz_player::write_file;
 use vz_words::MakeWords;
 
 /// Generates the client files, writes them one after the other, and returns the line that reports

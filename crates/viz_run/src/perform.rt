@@ -1,7 +1,7 @@
 //! Carries out the command that the words ask for.
 ghost use Rattle.std.specs.Prelude.{◌≡◌, ◌≤◌, [], IfOk, IfErr, OnErr, IsErrOf, string_bytes};
 ghost use Rattle.vz_words.specs.Words.{texts};
-ghost use Rattle.vz_inputs.specs.declared.refused.Refused.{Refused as Refusal};
+ghost use Rattle.viz_run.specs.declared.refused.Refused.{Refused as Refusal};
 ghost use Rattle.viz_run.specs.Commands.{AsksNothing};
 ghost use Rattle.viz_run.specs.Causes.{DoesAll, RefusesOne, LeavesFront, KeepsOthers, FindsInputs};
 ghost use Rattle.viz_run.specs.Ends.{IsUnbegun};
@@ -67,7 +67,7 @@ where
             status: 0,
         }),
         Some(Command::Demo { rounds }) => Ok(End {
-            line: demo(rt.alloc(), rounds, gate, steps, history)?,
+            line: demo(rt, rt.alloc(), rounds, gate, steps, history)?,
             status: 0,
         }),
         Some(Command::Hit(words)) => hit(rt, &words, shelf, gate, history),

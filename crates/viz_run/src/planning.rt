@@ -2,8 +2,8 @@
 ghost use Rattle.std.specs.Prelude.{◌≡◌, ◌≤◌, ℕ, List, length, IfOk, IsErrOf};
 ghost use Rattle.vz_base.specs.declared.limits.TheConstants.{MOST_FILES};
 ghost use Rattle.vz_geom.specs.Display.{IsDisplaySize};
-ghost use Rattle.vz_inputs.specs.Read.{MissesOne, texts};
-ghost use Rattle.vz_inputs.specs.declared.refused.Refused.{Refused as Refusal};
+ghost use Rattle.viz_run.specs.Read.{MissesOne, texts};
+ghost use Rattle.viz_run.specs.declared.refused.Refused.{Refused as Refusal};
 ghost use Rattle.vz_outside.specs.Shelved.{SameFiles};
 ghost use Rattle.viz_run.specs.Planning.{ArePlanned, AreUnplanned};
 ghost use Rattle.viz_run.specs.Ran.{counts_of};
@@ -11,13 +11,13 @@ ghost use Rattle.viz_run.specs.Stops.{Behaves};
 ghost use Rattle.viz_run.specs.declared.stop.Stop.TheVariants as stops;
 
 use crate::stop::Stop;
+use crate::{plan_of, read_files};
 use std::alloc::Global;
 use std::thread::Threads;
 use vz_base::Memory;
 use vz_base::limits::MOST_FILE_BYTES;
 use vz_frame::ClientFile;
 use vz_geom::Size;
-use vz_inputs::{plan_of, read_files};
 use vz_outside::Shelf;
 use vz_rules::Plan;
 

@@ -1,7 +1,7 @@
 //! Gives the events of a schedule to a machine, and writes the frames and the log.
 ghost use Rattle.std.specs.Prelude.{◌≡◌, ◌≢◌, ◌+◌, ℕ, All, Some, [], ◌∷◌, take, OnOk, OnErr, IfOk};
 ghost use Rattle.vz_base.specs.declared.limits.TheConstants.{DEFAULT_BUFFERS};
-ghost use Rattle.vz_outputs.specs.Written.{AreWhole, AreBegun, KeepsAllBut};
+ghost use Rattle.vz_player.specs.Written.{AreWhole, AreBegun, KeepsAllBut};
 ghost use Rattle.vz_outside.specs.Shelved.{Writing, KeepsOthers, Appends, AppendsFront, Behaves};
 ghost use Rattle.vz_rules.specs.Frames.{painted};
 ghost use Rattle.vz_rules.specs.Log.{rest_of};
@@ -14,14 +14,14 @@ ghost use Rattle.viz_run.specs.Stepped.{outputs_for};
 
 use std::alloc::Global;
 use std::sync::ledger::Ledger;
+use std::thread::Threads;
 use vz_base::limits::DEFAULT_BUFFERS;
 use vz_buffers::Steps;
 use vz_frame::List;
 use vz_geom::Size;
 use vz_machine::Machine;
-use vz_outputs::{FrameFile, create_outputs, play_frames, write_log};
 use vz_outside::{Gate, Shelf, ShelfError};
-use vz_player::Player;
+use vz_player::{FrameFile, Player, create_outputs, play_frames, write_log};
 use vz_rules::{Entry, Event, Rest};
 use vz_words::StepWords;
 
@@ -32,7 +32,8 @@ use vz_words::StepWords;
 /// The error is `Failed` exactly if a fault was counted, and `Memory` if an allocation failed.
 /// After either error the history is that of a front part of the events, and a front part of what
 /// it writes is in each file.
-pub fn play<M: Machine + Drop, F: Shelf, G: Gate, L: Ledger>(
+pub fn play<M: Machine + Drop, F: Shelf, G: Gate, L: Ledger, R: Threads + Sync>(
+    rt: &R,
     alloc: Global,
     machine: M,
     size: Size,
@@ -67,6 +68,7 @@ where
 {
     let outputs = create_outputs(shelf, words.frames, words.log)?;
     let rest = show(
+        rt,
         alloc,
         machine,
         size,
@@ -84,7 +86,8 @@ where
 /// Gives events to a machine in the opening world of its plan, writes the frames to an open slot,
 /// and returns what is outstanding at the end. After an error the history is that of a front part
 /// of the events, and a front part of the bytes of its frames was written.
-fn show<M: Machine + Drop, F: Shelf, G: Gate, L: Ledger>(
+fn show<M: Machine + Drop, F: Shelf, G: Gate, L: Ledger, R: Threads + Sync>(
+    rt: &R,
     alloc: Global,
     machine: M,
     size: Size,
@@ -120,7 +123,7 @@ where
 {
     let mut player = Player::new(alloc, machine, size, DEFAULT_BUFFERS as u32);
     let file = FrameFile { slot, size };
-    match play_frames(alloc, &mut player, events, shelf, file, gate, steps) {
+    match play_frames(rt, alloc, &mut player, events, shelf, file, gate, steps) {
         Ok(()) => {
             let rest = player.rest(alloc);
             *history = player.into_history();

@@ -2,7 +2,7 @@
 ghost use Rattle.std.specs.Prelude.{◌≡◌, ◌≢◌, ◌≤◌, ◌⊎◌, IsTrue};
 ghost use Rattle.vz_outside.specs.Faults.{CountRose};
 ghost use Rattle.vz_words.specs.Words.{texts};
-ghost use Rattle.vz_inputs.specs.declared.refused.Refused.{Refused as Refusal};
+ghost use Rattle.viz_run.specs.declared.refused.Refused.{Refused as Refusal};
 ghost use Rattle.vz_rules.specs.Command.{Command as Asked};
 ghost use Rattle.viz_run.specs.Commands.{Asks, AsksNothing};
 ghost use Rattle.viz_run.specs.Inputs.{Inputs, AreAccepted, AreRefused};

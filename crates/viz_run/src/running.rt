@@ -1,9 +1,9 @@
 //! The command `run`: a thread for each client, beside the display.
 ghost use Rattle.std.specs.Prelude.{◌≡◌, ◌≤◌, [], IsTrue, string_bytes};
 ghost use Rattle.std.specs.Prelude.{IfOk, IfErr, OnErr, IsErrOf};
-ghost use Rattle.vz_inputs.specs.Read.{MissesOne};
-ghost use Rattle.vz_inputs.specs.declared.refused.Refused.{Refused as Refusal};
-ghost use Rattle.vz_outputs.specs.Written.{KeepsAllBut};
+ghost use Rattle.viz_run.specs.Read.{MissesOne};
+ghost use Rattle.viz_run.specs.declared.refused.Refused.{Refused as Refusal};
+ghost use Rattle.vz_player.specs.Written.{KeepsAllBut};
 ghost use Rattle.vz_rules.specs.Command.{fits_command};
 ghost use Rattle.viz_run.specs.Commands.{input_names, output_names};
 ghost use Rattle.viz_run.specs.Causes.{DoesFor, RefusesFor, LeavesFor};

@@ -1,9 +1,9 @@
 //! The command `step`: takes the events of a schedule one after the other.
 ghost use Rattle.std.specs.Prelude.{◌≡◌, ◌≤◌, [], IsTrue, string_bytes};
 ghost use Rattle.std.specs.Prelude.{IfOk, IfErr, OnErr, IsErrOf};
-ghost use Rattle.vz_inputs.specs.Read.{MissesOne};
-ghost use Rattle.vz_inputs.specs.declared.refused.Refused.{Refused as Refusal};
-ghost use Rattle.vz_outputs.specs.Written.{KeepsAllBut};
+ghost use Rattle.viz_run.specs.Read.{MissesOne};
+ghost use Rattle.viz_run.specs.declared.refused.Refused.{Refused as Refusal};
+ghost use Rattle.vz_player.specs.Written.{KeepsAllBut};
 ghost use Rattle.vz_rules.specs.Command.{fits_command};
 ghost use Rattle.viz_run.specs.Commands.{input_names, output_names};
 ghost use Rattle.viz_run.specs.Causes.{DoesFor, RefusesFor, LeavesFor};
@@ -61,6 +61,7 @@ pub fn step<F: Shelf, G: Gate, L: Ledger, R: Threads + AllocGlobal + Sync>(
     let _ = plan.files();
     let machine = Manager::open(rt.alloc(), plan)?;
     play(
+        rt,
         rt.alloc(),
         machine,
         size,

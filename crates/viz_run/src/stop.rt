@@ -3,8 +3,8 @@ ghost use Rattle.std.specs.Prelude.{◌≡◌};
 ghost use Rattle.viz_run.specs.Stops.{stop_of, stop_for};
 ghost use Rattle.viz_run.specs.declared.stop.Stop.TheVariants as stop;
 
+use crate::{InputError, Refused};
 use vz_base::Memory;
-use vz_inputs::{InputError, Refused};
 use vz_outside::ShelfError;
 
 /// Why a call stops before its end.

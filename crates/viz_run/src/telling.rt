@@ -1,16 +1,16 @@
 //! What is printed at the end of a call, and its status.
 ghost use Rattle.std.specs.Prelude.{◌≡◌, ◌≢◌, ◌<◌, ◌≤◌, ◌⊎◌, IsTrue};
-ghost use Rattle.vz_inputs.specs.declared.refused.Refused.{Refused as Refusal};
+ghost use Rattle.viz_run.specs.declared.refused.Refused.{Refused as Refusal};
 ghost use Rattle.vz_outside.specs.Faults.{one_more};
 ghost use Rattle.vz_outside.specs.Sunk.{Takes, TakesFront, StaysFaultless};
 ghost use Rattle.viz_run.specs.Lines.{words_line, refused_line};
 ghost use Rattle.viz_run.specs.Stops.{IsRefusal, due_line};
 ghost use Rattle.viz_run.specs.declared.stop.Stop.TheVariants as stops;
 
+use crate::Refused;
 use crate::lines::{WORDS_LINE, refused_text};
 use crate::stop::Stop;
 use std::alloc::Global;
-use vz_inputs::Refused;
 use vz_outside::{ShelfError, Sink, print};
 
 /// Prints a line, and returns a status: the given one if the whole line was printed, 4 if the

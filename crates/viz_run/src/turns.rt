@@ -1,8 +1,8 @@
 //! The command `turns`: clients and the display call one hub on threads, without painting.
 ghost use Rattle.std.specs.Prelude.{◌≡◌, ◌≤◌, ℕ, [], IsTrue, string_bytes};
 ghost use Rattle.std.specs.Prelude.{IfOk, IfErr, OnErr, IsErrOf};
-ghost use Rattle.vz_inputs.specs.Read.{MissesOne};
-ghost use Rattle.vz_inputs.specs.declared.refused.Refused.{Refused as Refusal};
+ghost use Rattle.viz_run.specs.Read.{MissesOne};
+ghost use Rattle.viz_run.specs.declared.refused.Refused.{Refused as Refusal};
 ghost use Rattle.vz_outside.specs.Shelved.{SameFiles};
 ghost use Rattle.vz_rules.specs.Command.{fits_command};
 ghost use Rattle.viz_run.specs.Commands.{input_names};

@@ -1,4 +1,5 @@
 mod Places
 mod Spelling
+mod Banding
 pub mod Turning
 pub mod Displays

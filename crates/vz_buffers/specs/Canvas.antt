@@ -1,5 +1,5 @@
 -- The pixels of a display.
-use Rattle.std.specs.Prelude.{◌≡◌, ℕ, ℤ, pos, nat_abs, ◌+◌, ◌*◌, ◌≤ℤ◌, List, [], ◌∷◌, ◌++◌, length, map, take, drop, get_or}
+use Rattle.std.specs.Prelude.{◌≡◌, ℕ, ℤ, nat_abs, ◌+◌, ◌*◌, List, [], ◌∷◌, ◌++◌, length, map, take, drop, get_or}
 use Rattle.vz_geom.specs.declared.Size.{Size}
 use Rattle.vz_pixels.specs.Colour.{Colour, IsPremultiplied}
 use Rattle.vz_geom.specs.Display.{IsDisplaySize}

@@ -1,16 +1,20 @@
 //! A buffer of pixels.
-ghost use Rattle.std.specs.Prelude.{◌≡◌, ◌+◌, ◌≤◌, ◌≤ℤ◌, ◌<ℤ◌, ◌+ℤ◌, ◌++◌, pos, length, map, take, drop, replicate, slice_get, Some, IfOk, OnOk, OnErr};
-ghost use Rattle.std.specs.List.{flat_map};
+ghost use Rattle.std.specs.Prelude.{◌≡◌, ◌+◌, ◌≤◌, ◌≤ℤ◌, ◌<ℤ◌, ◌+ℤ◌, ◌++◌, ◌<◌, pos, nat_abs, length, map, take, drop, replicate, slice_get, Some, IfOk, OnOk, OnErr};
+ghost use Rattle.std.specs.List.{flat_map, All};
 ghost use Rattle.vz_pixels.specs.Colour.{IsPremultiplied, black};
 ghost use Rattle.vz_buffers.specs.Canvas.{IsCanvas, pixel_count, span_put, pixel_place, colour_bytes, AreSpelled};
+ghost use Rattle.vz_buffers.specs.Bands.{Strip, ArePainters, rows_put};
 ghost use Rattle.vz_geom.specs.Display.{IsDisplaySize};
+ghost use Rattle.vz_geom.specs.Rectangle.{area_of};
 
-use crate::Steps;
+use crate::bands::{height, paint_within, place_of};
+use crate::{RowPainter, Steps};
 use std::alloc::Global;
 use std::marker::Model;
 use std::sync::ledger::Ledger;
+use std::thread::Threads;
 use vz_base::Memory;
-use vz_geom::Size;
+use vz_geom::{Rect, Size};
 use vz_pixels::Pixel;
 
 /// The bytes of opaque black.
@@ -77,6 +81,36 @@ impl Buffer {
         steps.add(row.len() as u64);
     }
 
+    /// Puts the rows of an area into the buffer. Each painter draws an equal share of them, on a
+    /// thread of its own if one can be started. Each pixel of the area counts as a step.
+    /// Conditions: the area is not empty and inside the buffer, and there is at least one painter;
+    /// each can draw, all draw the same rows, and these are as many as the area has, and as wide.
+    pub fn put_rows<P: RowPainter + Send, L: Ledger, R: Threads + Sync>(
+        &mut self,
+        rt: &R,
+        area: &Rect,
+        painters: &mut [P],
+        steps: &mut Steps<L>,
+    )
+        requires left { pos 0 ≤ℤ area.now.x }
+        requires top { pos 0 ≤ℤ area.now.y }
+        requires bottom { (area.now.y +ℤ area.now.h) ≤ℤ self.old.size.h }
+        requires sides { (pos 1 ≤ℤ area.now.w) × (pos 1 ≤ℤ area.now.h) }
+        requires some { 0 < length painters.old }
+        requires able { ArePainters P.able P.strip (nat_abs self.old.size.w) (nat_abs area.now.x)
+            (nat_abs area.now.w) (nat_abs area.now.h) painters.old }
+        ensures size { self.new.size ≡ self.old.size }
+        ensures put { (s : Strip) → All (λ p. P.strip p ≡ s) painters.old → self.new.pixels
+            ≡ rows_put (nat_abs self.old.size.w)
+            (pixel_place self.old.size area.now.x area.now.y) s.row (nat_abs area.now.h)
+            self.old.pixels }
+        ensures counted { steps.new ≡ steps.old + area_of area.now }
+    {
+        let place = place_of(&self.size, area);
+        paint_within(rt, place, height(area), painters, &mut self.pixels);
+        steps.add(area.area());
+    }
+
     /// The pixel of column `x` and row `y`.
     pub fn at(&self, x: i32, y: i32) -> Pixel
         requires left { pos 0 ≤ℤ x }
@@ -131,7 +165,7 @@ fn place(size: &Size, x: i32, y: i32) -> usize
 }
 
 /// Replaces the pixels from index `at` on by a span.
-fn put(pixels: &mut [[u8; 4]], at: usize, row: &[Pixel])
+pub(crate) fn put(pixels: &mut [[u8; 4]], at: usize, row: &[Pixel])
     requires { (at + length row.now) ≤ length pixels.old }
     ensures put { pixels.new ≡ take at pixels.old ++ map colour_bytes row.now
         ++ drop (at + length row.now) pixels.old }

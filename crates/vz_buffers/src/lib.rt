@@ -2,12 +2,14 @@
 //! are put into them.
 #![tactic(auto)]
 
+mod bands;
 mod buffer;
 pub mod laws;
 mod queue;
 mod shared;
 mod steps;
 
+pub use bands::RowPainter;
 pub use buffer::Buffer;
 pub use queue::Queue;
 pub use shared::SharedBuffer;

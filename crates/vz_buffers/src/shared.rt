@@ -50,7 +50,7 @@ impl SharedBuffer {
     }
 
     /// The same buffer for somebody else. No pixel is copied. The only error is `Memory`: a
-    /// buffer may have no more readers.
+    /// buffer can have only so many readers at once (`isize::MAX`).
     pub fn share(&self) -> Result<SharedBuffer, Memory>
         ensures { IfOk result (λ s. s ≡ self.now) }
     {

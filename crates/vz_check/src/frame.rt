@@ -79,11 +79,11 @@ fn reads_piece<F: Shelf>(
     Ok(is_same(&bytes, &own))
 }
 
-/// The bytes of pixels.
+/// The bytes of pixels. There is room for those of a piece from the beginning.
 fn bytes_of(alloc: Global, pixels: &[Pixel]) -> Result<Vec<u8>, AllocError>
     ensures { IfOk result (λ v. v.items ≡ flat_map pixel_bytes pixels.now) }
 {
-    let mut bytes = Vec::new(alloc);
+    let mut bytes = Vec::with_capacity(alloc, 4 * MOST_PIECE_PIXELS)?;
     for pixel in pixels {
         bytes.extend_from_slice(&[pixel.r(), pixel.g(), pixel.b(), pixel.a()])?;
     }

@@ -9,6 +9,7 @@ use arrayvec::ArrayVec;
 use std::alloc::Global;
 use std::marker::Model;
 use std::sync::ledger::Ledger;
+use std::thread::Threads;
 use vz_base::Memory;
 use vz_base::limits::MOST_BUFFERS;
 use vz_buffers::{Buffer, Queue, SharedBuffer, Steps};
@@ -65,10 +66,12 @@ impl Display {
 
     /// Shows a picture whose occluded items were removed. It adds the picture's damage to the
     /// stale rectangle of each buffer, paints the stale rectangle of the next buffer, and makes
-    /// that buffer the current one. Condition: the picture has the display's size. The only error
-    /// is `Memory`; the display may not be used after it.
-    pub fn show<P: ThinPicture, L: Ledger>(
+    /// that buffer the current one. A large rectangle is painted on several threads. Condition:
+    /// the picture has the display's size. The only error is `Memory`; the display may not be used
+    /// after it.
+    pub fn show<P: ThinPicture, L: Ledger, R: Threads + Sync>(
         &mut self,
+        rt: &R,
         alloc: Global,
         p: &P,
         steps: &mut Steps<L>,
@@ -85,7 +88,7 @@ impl Display {
         self.queue.add_damage(&damage);
         let area = self.queue.stale();
         let (mut buffer, made) = next_buffer(alloc, self.size, &mut self.kept, steps)?;
-        p.paint(alloc, area, &mut buffer, steps)?;
+        p.paint(rt, alloc, area, &mut buffer, steps)?;
         let shown = SharedBuffer::new(alloc, buffer)?;
         self.queue.painted();
         self.kept.insert(0, Some(shown));

@@ -1,4 +1,6 @@
+mod ByOne
 mod Mixed
+mod Ones
 mod Sixteen
 mod Stored
 mod Tested

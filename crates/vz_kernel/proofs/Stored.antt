@@ -1,7 +1,7 @@
 -- What sixteen pixels of a row are after they were mixed or changed.
 use Rattle.std.proofs.Common.{◌≡◌, ℕ, zero, suc, ◌+◌, ◌≤◌, List, [], ◌∷◌, ◌++◌, length, map, refl, ap, sym, subst, ◌∙◌, arith}
 use Rattle.std.specs.Prelude.{take, replicate}
-use Rattle.std.proofs.lemmas.Simd.{zip2_splat, put_chunk_is}
+use Rattle.std.proofs.lemmas.Simd.{put_chunk_is}
 use borrow.Rule.Slice.PartMut.{put_mid, post_of}
 use lib.Lanes.{zip2, Each1, chunk, put_chunk}
 use Rattle.vz_pixels.specs.Colour.{Colour, IsPremultiplied, mul, scale, over, transparent}
@@ -67,22 +67,16 @@ opaque_over (s ∷ ss) [] e h = absurd (omega arith)
 opaque_over (s ∷ ss) (d ∷ ds) e h = λ i. sym (opaque_hides s d h.0) i ∷ opaque_over ss ds (omega arith) h.1 i
 
 -- scaled colours over others
-pub scaled_over : (o n : ℕ) (ss ds : List Colour) → length ss ≡ n → zip2 over (zip2 scale ss (replicate n o)) ds ≡ zip2 (λ s d. over (scale s o) d) ss ds
-scaled_over o n ss ds e = ap (λ l. zip2 over l ds) (zip2_splat scale ss n o e) ∙ fused ss ds
-  where
-    fused : (ss ds : List Colour) → zip2 over (map (λ s. scale s o) ss) ds ≡ zip2 (λ s d. over (scale s o) d) ss ds
-    fused [] ds = refl
-    fused (s ∷ ss) [] = refl
-    fused (s ∷ ss) (d ∷ ds) = ap (λ l. over (scale s o) d ∷ l) (fused ss ds)
+pub scaled_over : (o : ℕ) (ss ds : List Colour) → zip2 over (map (λ s. scale s o) ss) ds ≡ zip2 (λ s d. over (scale s o) d) ss ds
+scaled_over o [] ds = refl
+scaled_over o (s ∷ ss) [] = refl
+scaled_over o (s ∷ ss) (d ∷ ds) = ap (λ l. over (scale s o) d ∷ l) (scaled_over o ss ds)
 
 -- scaled colours in place of others
-pub scaled_put : (o n : ℕ) (ss ds : List Colour) → length ss ≡ n → length ds ≡ n → zip2 scale ss (replicate n o) ≡ zip2 (λ s _. scale s o) ss ds
-scaled_put o n ss ds e f = zip2_splat scale ss n o e ∙ fused ss ds (e ∙ sym f)
-  where
-    fused : (ss ds : List Colour) → length ss ≡ length ds → map (λ s. scale s o) ss ≡ zip2 (λ s _. scale s o) ss ds
-    fused [] ds e = refl
-    fused (s ∷ ss) [] e = absurd (omega arith)
-    fused (s ∷ ss) (d ∷ ds) e = ap (λ l. scale s o ∷ l) (fused ss ds (omega arith))
+pub scaled_put : (o : ℕ) (ss ds : List Colour) → length ss ≡ length ds → map (λ s. scale s o) ss ≡ zip2 (λ s _. scale s o) ss ds
+scaled_put o [] ds e = refl
+scaled_put o (s ∷ ss) [] e = absurd (omega arith)
+scaled_put o (s ∷ ss) (d ∷ ds) e = ap (λ l. scale s o ∷ l) (scaled_put o ss ds (omega arith))
 
 -- colours by the scaled alphas of others
 pub kept : (o n : ℕ) (ss ds : List Colour) → length ss ≡ n → zip2 scale ds (zip2 mul (map (λ s. s.a) ss) (replicate n o)) ≡ zip2 (λ s d. scale d (scale s o).a) ss ds
@@ -98,13 +92,6 @@ pub kept_lanes : (o : ℕ) (v : List ℕ) (ss : List Colour) (n : ℕ) (by : Lis
     → zip2 mul (doubled (odds v)) by ≡ each_twice (zip2 mul (map (λ s. s.a) ss) (replicate n o))
 kept_lanes o v ss n by h e =
     (λ i. zip2 mul ((ap (λ l. doubled (odds l)) h.value ∙ alphas_is ss) i) (e i)) ∙ parts_twice (map (λ s. s.a) ss) (replicate n o)
-
--- one colour over others
-pub one_over : (c : Colour) (n : ℕ) (ds : List Colour) → length ds ≡ n → zip2 over (replicate n c) ds ≡ map (over c) ds
-one_over c zero [] e = refl
-one_over c zero (d ∷ ds) e = absurd (omega arith)
-one_over c (suc n) [] e = refl
-one_over c (suc n) (d ∷ ds) e = ap (λ l. over c d ∷ l) (one_over c n ds (omega arith))
 
 pub opaque_kept : (ss ds : List Colour) → length ss ≡ length ds → Each1 (λ c. c.a ≡ 255) ss → zip2 (λ s d. scale d s.a) ss ds ≡ ds
 opaque_kept [] [] e h = refl

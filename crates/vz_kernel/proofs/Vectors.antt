@@ -7,12 +7,12 @@ use Rattle.vz_pixels.specs.Colour.{mul}
 use Rattle.vz_pixels.proofs.Parts.{mul_at_most}
 use Rattle.vz_kernel.specs.Lanes.{evens, odds, woven, doubled, AreBytes}
 
-abbrev twice : ℕ → ℕ
+abbrev pub twice : ℕ → ℕ
 twice zero = zero
 twice (suc n) = suc (suc (twice n))
 
 -- the lowest two bytes of a number, and what is above them
-low : (x y r : ℕ) → x < 256 → y < 256 → ((x + 256 * (y + 256 * r)) % 65536 ≡ x + 256 * y) × ((x + 256 * (y + 256 * r)) / 65536 ≡ r)
+pub low : (x y r : ℕ) → x < 256 → y < 256 → ((x + 256 * (y + 256 * r)) % 65536 ≡ x + 256 * y) × ((x + 256 * (y + 256 * r)) / 65536 ≡ r)
 low x y r p q = (omega arith, omega arith)
 
 pub evens_is : (n : ℕ) (xs : List ℕ) → length xs ≡ twice n → Each1 (Fits w8) xs → zip2 (λ a b. a % b) (digits_l 65536 n (number_l 256 xs)) (replicate n 256) ≡ evens xs
@@ -142,7 +142,7 @@ pub bytes_rest : (xs : List ℕ) → AreBytes (map (λ x. 255 - x) xs)
 bytes_rest [] = tt
 bytes_rest (x ∷ xs) = (omega arith, bytes_rest xs)
 
-small_part : (a b : ℕ) → a ≤ 255 → b ≤ 255 → mul a b ≤ 255
+pub small_part : (a b : ℕ) → a ≤ 255 → b ≤ 255 → mul a b ≤ 255
 small_part a b p q = let h = mul_at_most a b p in omega arith
 
 pub bytes_parts : (xs ys : List ℕ) → AreBytes xs → AreBytes ys → AreBytes (zip2 mul xs ys)

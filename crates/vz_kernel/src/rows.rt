@@ -1,20 +1,38 @@
 //! Rows of pixels laid over other rows, put in their place, or used as their mask; and the same
 //! with one colour in place of a row.
-ghost use Rattle.std.specs.Prelude.{◌≡◌, length, map, List, replicate};
+ghost use Rattle.std.specs.Prelude.{◌≡◌, ◌+◌, ◌≤◌, length, map, List, replicate};
 ghost use lib.Lanes.{zip2};
 ghost use Rattle.vz_pixels.specs.Colour.{Colour, over, scale};
 ghost use Rattle.vz_kernel.specs.Rows.{laid_over, scaled, kept_in, tinted, faded};
 
 use crate::groups::{load, store};
 use crate::lanes::{alphas, is_clear, is_opaque, odds, parts};
-use crate::mixes::{over, scaled};
+use crate::mixes::{faded, over, scaled, tinted};
 use crate::walks::{Change, Mix, change_row, mix_row};
 use std::simd::prelude::*;
 use vz_pixels::Pixel;
 
+/// Whether four of the sixteen pixels from index `at` on are transparent: where this is false, not
+/// all of them are.
+#[inline(always)]
+fn may_be_clear(row: &[Pixel], at: usize) -> bool
+    requires { at + 16 ≤ length row.now }
+{
+    row[at].a() | row[at + 5].a() | row[at + 10].a() | row[at + 15].a() == 0
+}
+
+/// Whether four of the sixteen pixels from index `at` on are opaque: where this is false, not all
+/// of them are.
+#[inline(always)]
+fn may_be_opaque(row: &[Pixel], at: usize) -> bool
+    requires { at + 16 ≤ length row.now }
+{
+    row[at].a() & row[at + 5].a() & row[at + 10].a() & row[at + 15].a() == 255
+}
+
 /// Lays each pixel over the one at its index. Sixteen opaque pixels are copied, and sixteen
-/// transparent ones change nothing; these tests are made only if the first of the sixteen is
-/// opaque or transparent.
+/// transparent ones change nothing. These tests are made only if four of the sixteen are opaque, or
+/// transparent.
 #[derive(Clone, Copy)]
 struct Over;
 
@@ -24,11 +42,10 @@ impl Mix for Over {
     #[inline(always)]
     fn group(&self, dst: &mut [Pixel], src: &[Pixel], at: usize) {
         let top = load(src, at);
-        let alpha = src[at].a();
-        if alpha == 0 && is_clear(top) {
+        if may_be_clear(src, at) && is_clear(top) {
             return;
         }
-        if alpha == 255 && is_opaque(top) {
+        if may_be_opaque(src, at) && is_opaque(top) {
             dst[at..at + 16].copy_from_slice(&src[at..at + 16]);
             return;
         }
@@ -55,13 +72,11 @@ impl Mix for OverBy {
     #[inline(always)]
     fn group(&self, dst: &mut [Pixel], src: &[Pixel], at: usize) {
         let top = load(src, at);
-        let alpha = src[at].a();
-        if alpha == 0 && is_clear(top) {
+        if may_be_clear(src, at) && is_clear(top) {
             return;
         }
-        let by = u16x32::splat(u16::from(self.opacity));
         let under = load(dst, at);
-        store(dst, at, over(scaled(top, by), under));
+        store(dst, at, over(faded(top, self.opacity), under));
     }
 
     #[inline(always)]
@@ -81,8 +96,7 @@ impl Mix for SrcBy {
 
     #[inline(always)]
     fn group(&self, dst: &mut [Pixel], src: &[Pixel], at: usize) {
-        let by = u16x32::splat(u16::from(self.opacity));
-        store(dst, at, scaled(load(src, at), by));
+        store(dst, at, faded(load(src, at), self.opacity));
     }
 
     #[inline(always)]
@@ -156,7 +170,7 @@ impl Change for Tint {
     fn group(&self, row: &mut [Pixel], at: usize) {
         let top = load(&[self.colour; 16], 0);
         let under = load(row, at);
-        store(row, at, over(top, under));
+        store(row, at, tinted(top, 255 - self.colour.a(), under));
     }
 
     #[inline(always)]
@@ -176,9 +190,8 @@ impl Change for Fade {
 
     #[inline(always)]
     fn group(&self, row: &mut [Pixel], at: usize) {
-        let by = u16x32::splat(u16::from(self.alpha));
         let under = load(row, at);
-        store(row, at, scaled(under, by));
+        store(row, at, faded(under, self.alpha));
     }
 
     #[inline(always)]

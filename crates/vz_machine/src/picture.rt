@@ -1,11 +1,13 @@
 //! The pictures of drawings, and what a display shows of them.
 ghost use Rattle.std.specs.Prelude.{◌≡◌, ◌+◌, ℕ, IfOk, OnOk};
+ghost use Rattle.std.specs.Thread.{IsSync};
 ghost use Rattle.vz_geom.specs.Rectangle.{Covers, sized, points_of, area_of};
 ghost use Rattle.vz_rules.specs.Frames.{patched};
 ghost use Rattle.vz_machine.specs.Pictured.{Pictured, IsPictured, colours_in};
 
 use std::alloc::Global;
 use std::sync::ledger::Ledger;
+use std::thread::Threads;
 use vz_base::Memory;
 use vz_buffers::{Buffer, Steps};
 use vz_geom::{Rect, Size};
@@ -53,15 +55,17 @@ pub trait ThinPicture {
 
     /// Paints an area of a buffer: exactly the points of the area get their colours, and each
     /// counts as a step. Conditions: the buffer has the picture's size, and the area is inside
-    /// it. The only error is `Memory`; after it some points of the area may have their colours
-    /// already.
-    fn paint<L: Ledger>(
+    /// it. A large area may be painted on several threads. The only error is `Memory`; after it
+    /// some points of the area may have their colours already.
+    fn paint<L: Ledger, R: Threads + Sync>(
         &self,
+        rt: &R,
         alloc: Global,
         area: Rect,
         buffer: &mut Buffer,
         steps: &mut Steps<L>,
     ) -> Result<(), Memory>
+        requires sync { IsSync R.row }
         requires same { buffer.old.size ≡ (pictured self.now).size }
         requires inside { Covers (sized (pictured self.now).size) area }
         ensures size { buffer.new.size ≡ buffer.old.size }

@@ -11,6 +11,7 @@ use crate::{Picture, ThinPicture};
 use std::alloc::Global;
 use std::marker::Model;
 use std::sync::ledger::Ledger;
+use std::thread::Threads;
 use vz_base::Memory;
 use vz_buffers::{Buffer, Steps};
 use vz_geom::{Rect, Size};
@@ -89,8 +90,9 @@ impl ThinPicture for PixelPicture {
         0
     }
 
-    fn paint<L: Ledger>(
+    fn paint<L: Ledger, R: Threads + Sync>(
         &self,
+        _rt: &R,
         _alloc: Global,
         area: Rect,
         buffer: &mut Buffer,

@@ -9,8 +9,8 @@ use Rattle.vz_frame.specs.contracts.frame.RenderPass as RenderPass
 use Rattle.vz_frame.specs.contracts.frame.Metadata as Metadata
 use Rattle.vz_frame.specs.contracts.frame.CompositorFrame as CompositorFrame
 use Rattle.vz_frame.specs.contracts.message.Message as Message
-use Rattle.vz_clients.specs.contracts.client.Client as Client
-use Rattle.vz_clients.specs.contracts.clients.Clients as Clients
+use Rattle.vz_support.specs.contracts.client.Client as Client
+use Rattle.vz_support.specs.contracts.clients.Clients as Clients
 use Rattle.vz_sinks.specs.contracts.sinks.Sinks as Sinks
 use Rattle.vz_support.specs.contracts.support.Support as Support
 use Rattle.vz_surfaces.specs.contracts.held.Held as Held

@@ -34,8 +34,8 @@ use Rattle.vz_rules.specs.Kept.{KeepsAlways, AreRising, IsWhole}
 use Rattle.vz_rules.proofs.Cases.{number_at}
 use Rattle.vz_rules.proofs.Kept_files.{next_fits}
 use Rattle.vz_rules.proofs.Kept_sent.{submit_fits, new_whole}
-use Rattle.vz_clients.specs.Sent.{sender_at}
-use Rattle.vz_clients.proofs.Standing.{tells_next}
+use Rattle.vz_support.specs.Sent.{sender_at}
+use Rattle.vz_support.proofs.Standing.{tells_next}
 use Rattle.vz_support.specs.Supporting.{Supported, IsSupport, IsNext, Sends}
 use Rattle.vz_live.specs.Asking.{NameAndSize, name_and_size, violates_named, has_other_size_named}
 use Rattle.vz_live.proofs.Asked.{violates_asked, size_asked}

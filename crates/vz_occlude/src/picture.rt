@@ -11,6 +11,7 @@ use crate::culler::remove_occluded;
 use std::alloc::Global;
 use std::marker::Model;
 use std::sync::ledger::Ledger;
+use std::thread::Threads;
 use vz_base::Memory;
 use vz_buffers::{Buffer, Steps};
 use vz_flat::Ops;
@@ -168,14 +169,15 @@ impl ThinPicture for Thin {
         self.gone
     }
 
-    fn paint<L: Ledger>(
+    fn paint<L: Ledger, R: Threads + Sync>(
         &self,
+        rt: &R,
         alloc: Global,
         area: Rect,
         buffer: &mut Buffer,
         steps: &mut Steps<L>,
     ) -> Result<(), Memory> {
-        paint(alloc, &self.ops, buffer, area, steps)?;
+        paint(rt, alloc, &self.ops, buffer, area, steps)?;
         Ok(())
     }
 }

@@ -1,26 +1,21 @@
 -- The texels of a block at the places of a row.
-use Rattle.std.proofs.Common.{◌≡◌, ℕ, ◌+◌, ◌-◌, ◌*◌, ◌≤◌, ◌<◌, ℤ, pos, nat_abs, ◌+ℤ◌, ◌-ℤ◌, ◌≤ℤ◌, ◌<ℤ◌, Bool, true, false, ◌&&◌, ◌||◌, if◌then◌else◌, List, length, take, drop, get_or, refl, sym, ap, ◌∙◌, Some, arith}
+use Rattle.std.proofs.Common.{◌≡◌, ℕ, ◌+◌, ◌-◌, ◌*◌, ◌≤◌, ◌<◌, pos, nat_abs, ◌+ℤ◌, ◌-ℤ◌, ◌≤ℤ◌, ◌<ℤ◌, Bool, true, ◌&&◌, ◌||◌, if◌then◌else◌, length, take, drop, get_or, sym, ap, ◌∙◌, Some, arith}
 use Rattle.std.specs.Prelude.{int_le, nat_le, nat_lt}
 use Rattle.std.proofs.lemmas.Int.{ints}
 use Rattle.std.proofs.lemmas.Bool.{and_parts, lt-ltb, le-leb}
 use Rattle.std.proofs.Math.Nat.{mul-le-mul_right}
 use Rattle.std.proofs.lemmas.List.{get_or-take, get_or-drop}
-use borrow.Rule.Slice.PartMut.{put_mid}
-use lib.Lanes.{zip2}
 use Rattle.vz_geom.specs.declared.Point.{Point}
-use Rattle.vz_geom.specs.Rectangle.{Rectangle, has, is_empty_rect, plus, minus, corner}
+use Rattle.vz_geom.specs.Rectangle.{Rectangle, has, plus, minus, corner}
 use Rattle.vz_geom.proofs.Sets.{to_in, le_true}
 use Rattle.vz_geom.proofs.Bounds.{in_is_full}
-use Rattle.vz_pixels.specs.Colour.{Colour, transparent}
+use Rattle.vz_pixels.specs.Colour.{transparent}
 use Rattle.vz_pixels.specs.Block.{Block, texel}
 use Rattle.vz_frame.specs.declared.blend.Blend.{Blend}
-use Rattle.vz_frame.specs.Blending.{laid}
 use Rattle.vz_rules.specs.Paint.{texel_of}
-use Rattle.vz_flat.specs.declared.op.Op.{Op}
 use Rattle.vz_flat.specs.declared.op.Op.TheVariants.{Blit}
 use Rattle.vz_flat.specs.Ops.{is_inside, is_span_inside}
 use Rattle.vz_paint.specs.Row.{right_of}
-use Rattle.vz_paint.proofs.Spanned.{mixed, length_part}
 
 -- the places of a row are in the area, and its texels in the block
 pub record FitsBlock (area : Rectangle) (block : Block) (first start : Point) (from to : ℕ) : Type 0 where

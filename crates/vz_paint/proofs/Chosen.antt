@@ -1,10 +1,10 @@
 -- The operations that are seen in a part of the display do there what all of them do.
-use Rattle.std.proofs.Common.{◌≡◌, ℕ, zero, suc, ◌+◌, ◌-◌, ◌≤◌, ◌<◌, Bool, true, false, not, ◌&&◌, ◌==◌, max, if◌then◌else◌, List, [], ◌∷◌, ◌++◌, length, take, drop, get_or, map, refl, sym, ap, ◌∙◌, subst, Some, append-nil, arith}
+use Rattle.std.proofs.Common.{◌≡◌, ℕ, zero, suc, ◌+◌, ◌-◌, ◌≤◌, Bool, true, false, not, ◌&&◌, ◌==◌, if◌then◌else◌, List, [], ◌∷◌, ◌++◌, length, refl, sym, ap, ◌∙◌, Some, append-nil, arith}
 use Rattle.std.specs.Prelude.{nat_lt}
 use Rattle.std.specs.List.{list_all}
-use Rattle.std.proofs.lemmas.Bool.{and_parts, ltb-true, lt-ltb, eqb-true}
+use Rattle.std.proofs.lemmas.Bool.{and_parts, ltb-true, eqb-true}
 use Rattle.vz_geom.specs.declared.Point.{Point}
-use Rattle.vz_geom.specs.Rectangle.{Rectangle, has, meet, is_empty_rect, plus, minus, corner}
+use Rattle.vz_geom.specs.Rectangle.{Rectangle, has, meet, plus, minus, corner}
 use Rattle.vz_frame.specs.Blending.{laid}
 use Rattle.vz_rules.specs.Paint.{texel_of}
 use Rattle.vz_geom.proofs.Bounds.{in_is_full}
@@ -14,7 +14,6 @@ use Rattle.vz_flat.specs.declared.op.Op.{Op}
 use Rattle.vz_flat.specs.declared.op.Op.TheVariants.{Fill, Blit, Push, Pop}
 use Rattle.vz_flat.specs.declared.op.TheConstants.{MOST_OPEN}
 use Rattle.vz_flat.specs.Ops.{Group, closed, run, value, is_nested, is_inside, is_whole, deepest}
-use Rattle.vz_flat.proofs.Nested.{deepest_least}
 use Rattle.vz_paint.specs.Choice.{meets, seen}
 
 true_is_false : true ≡ false → ⊥

@@ -7,3 +7,4 @@ pub mod Painted
 pub mod Banded
 pub mod Grounded
 pub mod Opaque_texels
+mod Brushing

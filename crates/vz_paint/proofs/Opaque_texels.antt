@@ -1,9 +1,9 @@
--- Opaque colours hide what they are laid on.
-use Rattle.std.proofs.Common.{◌≡◌, ℕ, ◌==◌, true, List, [], ◌∷◌, length, refl, sym, ap, ◌∙◌, arith}
+-- Opaque colours hide what they are laid on, and those of an opaque block are opaque.
+use Rattle.std.proofs.Common.{◌≡◌, ℕ, zero, suc, ◌==◌, Bool, ◌&&◌, true, List, [], ◌∷◌, length, take, drop, refl, sym, ap, ◌∙◌, arith}
 use Rattle.std.specs.List.{list_all}
 use Rattle.std.proofs.lemmas.Bool.{and_parts, eqb-true}
 use lib.Lanes.{zip2}
-use Rattle.vz_pixels.specs.Colour.{Colour, scale, over}
+use Rattle.vz_pixels.specs.Colour.{Colour, scale, over, is_opaque}
 use Rattle.vz_pixels.proofs.Over.{scale_full, opaque_hides}
 use Rattle.vz_frame.specs.declared.blend.Blend.{Blend}
 use Rattle.vz_frame.specs.declared.blend.Blend.TheVariants.{Over}
@@ -21,3 +21,22 @@ all_hide (s ∷ source) (d ∷ old) all long =
 pub hidden : (mode : Blend) (o : ℕ) (now source old : List Colour) → mode ≡ Over → o ≡ 255 → list_all (λ c. c.a == 255) source ≡ true → length old ≡ length source → now ≡ source → now ≡ zip2 (λ s d. laid mode s o d) source old
 unfolding laid blend
 hidden mode o now source old is full all long e = rw (is, full) (e ∙ all_hide source old all long)
+
+front_opaque : (n : ℕ) (cs : List Colour) → list_all is_opaque cs ≡ true → list_all is_opaque (take n cs) ≡ true
+front_opaque zero cs all = refl
+front_opaque (suc n) [] all = refl
+front_opaque (suc n) (c ∷ cs) all =
+    let parts = and_parts (is_opaque c) (list_all is_opaque cs) all in
+    both_are (is_opaque c) (list_all is_opaque (take n cs)) parts.0 (front_opaque n cs parts.1)
+  where
+    both_are : (a b : Bool) → a ≡ true → b ≡ true → (a && b) ≡ true
+    both_are a b first second = rw (first, second) refl
+
+rest_opaque : (n : ℕ) (cs : List Colour) → list_all is_opaque cs ≡ true → list_all is_opaque (drop n cs) ≡ true
+rest_opaque zero cs all = all
+rest_opaque (suc n) [] all = refl
+rest_opaque (suc n) (c ∷ cs) all = rest_opaque n cs (and_parts (is_opaque c) (list_all is_opaque cs) all).1
+
+-- some colours among opaque ones
+pub opaque_part : (count from : ℕ) (cs : List Colour) → list_all is_opaque cs ≡ true → list_all is_opaque (take count (drop from cs)) ≡ true
+opaque_part count from cs all = front_opaque count (drop from cs) (rest_opaque from cs all)

@@ -1,21 +1,26 @@
 -- A row of colours is the part of a picture in the row of an area.
-use Rattle.std.proofs.Common.{◌≡◌, ℕ, ◌+◌, ◌-◌, ◌*◌, ◌≤◌, ◌<◌, ℤ, pos, nat_abs, ◌+ℤ◌, ◌≤ℤ◌, ◌<ℤ◌, List, length, take, drop, map, get_or, refl, sym, ap, ◌∙◌, mul_comm, arith}
+use Rattle.std.proofs.Common.{◌≡◌, ℕ, zero, suc, ◌+◌, ◌*◌, ◌≤◌, ◌<◌, pos, nat_abs, ◌+ℤ◌, ◌≤ℤ◌, List, length, take, drop, map, get_or, refl, sym, ap, ◌∙◌, mul_comm, arith}
 use Rattle.std.proofs.lemmas.Int.{ints}
+use Rattle.std.specs.List.{range_with_len}
+use Rattle.std.proofs.lemmas.List.FromFn.{length-map-range_with_len, get_or-map-range_with_len}
 use Rattle.std.proofs.lemmas.List.{ext_get_or, length-map, get_or-take, get_or-drop, length-take-le, length-drop}
 use Rattle.std.proofs.Math.Nat.{mul-le-mul_right}
 use Rattle.vz_geom.specs.declared.Point.{Point}
 use Rattle.vz_geom.specs.declared.Size.{Size}
 use Rattle.vz_geom.specs.Rectangle.{Rectangle, points_of, sized}
 use Rattle.vz_geom.specs.Display.{IsDisplaySize}
-use Rattle.vz_geom.proofs.Numbers.{given}
 use Rattle.vz_pixels.specs.Colour.{Colour, transparent}
 use Rattle.vz_buffers.specs.Canvas.{pixel_count, pixel_place, span_put}
 use Rattle.vz_rules.specs.Frames.{patched}
-use Rattle.vz_machine.specs.Pictured.{IsInside, row_of}
+use Rattle.vz_buffers.specs.Bands.{rows_put}
+use Rattle.vz_machine.specs.Pictured.{IsInside, row_of, first_rows}
 use Rattle.vz_machine.proofs.Points.{point, points_at, length_points, map_at}
-use Rattle.vz_machine.proofs.Spans.{place_fits}
-use Rattle.vz_machine.proofs.Rows.{row_put}
+use Rattle.vz_machine.proofs.Spans.{place_fits, row_painted}
+use Rattle.vz_machine.proofs.Rows.{rows_begin, rows_step, rows_long}
+use Rattle.vz_flat.specs.declared.op.Op.{Op}
+use Rattle.vz_flat.specs.Ops.{value}
 use Rattle.vz_paint.specs.Row.{right_of, place_in}
+use Rattle.vz_paint.specs.Strips.{strip_of}
 
 -- a colour for each point of a display
 pub all_points : (size : Size) (colour : Point → Colour) → length (map colour (points_of size)) ≡ pixel_count size
@@ -79,12 +84,32 @@ row_is size area below start colour value row sides inside low at_x at_y long ea
         ∙ (sym (colour_at size area below i colour sides inside low less)
         ∙ (sym (get_or-drop place news i transparent) ∙ sym (get_or-take (nat_abs area.w) (drop place news) i transparent less))))))
 
-pub row_painted : (size : Size) (area : Rectangle) (below : ℕ) (start : Point) (colour value : Point → Colour) (row olds after : List Colour) → IsDisplaySize size → IsInside (sized size) area → below < nat_abs area.h
-    → length olds ≡ pixel_count size → start.x ≡ area.x → start.y ≡ area.y +ℤ pos below → length row ≡ nat_abs area.w
-    → ((i : ℕ) → i < nat_abs area.w → get_or row i transparent ≡ value (right_of start i))
-    → ((i : ℕ) → i < nat_abs area.w → value (place_in area i below) ≡ colour (place_in area i below))
-    → after ≡ span_put olds (pixel_place size (given start.x) (given start.y)) row
-    → after ≡ patched (row_of area below) (points_of size) (map colour (points_of size)) olds
-row_painted size area below start colour value row olds after sides inside low all at_x at_y long each same put =
-    row_put size size area below start.x start.y (pixel_place size area.x (area.y +ℤ pos below)) (nat_abs area.w) (map colour (points_of size)) olds row after sides inside low (all_points size colour) all refl at_x at_y refl refl
-    (row_is size area below start colour value row sides inside low at_x at_y long each same) put
+-- the place of a row among the pixels
+place_is : (size : Size) (area : Rectangle) (k : ℕ) → pos 0 ≤ℤ area.y → k * nat_abs size.w + pixel_place size area.x area.y ≡ pixel_place size area.x (area.y +ℤ pos k)
+place_is size area k top =
+    let down : nat_abs (area.y +ℤ pos k) ≡ nat_abs area.y + k = omega (arith, ints, top) in
+    let turned : k * nat_abs size.w + (nat_abs area.y * nat_abs size.w + nat_abs area.x) ≡ (nat_abs area.y + k) * nat_abs size.w + nat_abs area.x = grind arith in
+    turned ∙ ap (λ n. n * nat_abs size.w + nat_abs area.x) (sym down)
+
+-- the first so many rows are painted
+pub rows_painted : (size : Size) (area : Rectangle) (count : ℕ) (ops : List Op) (ground : Colour) (colour : Point → Colour) (olds : List Colour) → IsDisplaySize size → IsInside (sized size) area → count ≤ nat_abs area.h
+    → length olds ≡ pixel_count size → ((k i : ℕ) → k < count → i < nat_abs area.w → value ops (place_in area i k) ground ≡ colour (place_in area i k))
+    → rows_put (nat_abs size.w) (pixel_place size area.x area.y) (strip_of ops ground area).row count olds ≡ patched (first_rows area count) (points_of size) (map colour (points_of size)) olds
+unfolding rows_put
+rows_painted size area zero ops ground colour olds sides inside few all same = rows_begin size area (map colour (points_of size)) olds (all_points size colour) all
+rows_painted size area (suc k) ops ground colour olds sides inside few all same =
+    let news = map colour (points_of size) in
+    let now = rows_put (nat_abs size.w) (pixel_place size area.x area.y) (strip_of ops ground area).row k olds in
+    let before = rows_painted size area k ops ground colour olds sides inside (omega (arith, few)) all (λ j i low less. same j i (omega (arith, low)) less) in
+    let long : length now ≡ pixel_count size = rows_long size (first_rows area k) news olds now (all_points size colour) all before in
+    let f = λ (i : ℕ). value ops (place_in area i k) ground in
+    let start : Point = record { x = area.x; y = area.y +ℤ pos k } in
+    let row : List Colour = map f (range_with_len 0 (nat_abs area.w)) in
+    let row_long : length row ≡ nat_abs area.w = length-map-range_with_len f 0 (nat_abs area.w) in
+    let part = row_is size area k start colour (λ p. value ops p ground) row sides inside (omega (arith, few)) refl refl row_long
+    (λ i less. get_or-map-range_with_len f 0 (nat_abs area.w) i i transparent less (omega arith)) (λ i less. same k i (omega arith) less) in
+    let one : span_put now (k * nat_abs size.w + pixel_place size area.x area.y) row ≡ patched (row_of area k) (points_of size) news now =
+    ap (λ n. span_put now n row) (place_is size area k inside.top)
+    ∙ (ap (span_put now (pixel_place size area.x (area.y +ℤ pos k))) part ∙ row_painted size area k news now sides inside (omega (arith, few)) (all_points size colour) long) in
+    let next : k + 1 ≡ suc k = omega arith in
+    rows_step size area k news olds now (span_put now (k * nat_abs size.w + pixel_place size area.x area.y) row) (all_points size colour) all before one ∙ ap (λ n. patched (first_rows area n) (points_of size) news olds) next

@@ -1,17 +1,17 @@
 -- The part of a row that an area has, and what is laid there.
-use Rattle.std.proofs.Common.{◌≡◌, ℕ, zero, suc, ◌+◌, ◌-◌, ◌≤◌, ◌<◌, ℤ, pos, ◌+ℤ◌, ◌≤ℤ◌, ◌<ℤ◌, Bool, true, false, ◌&&◌, if◌then◌else◌, List, [], ◌∷◌, ◌++◌, length, take, drop, get_or, map, replicate, refl, sym, ap, ◌∙◌, arith}
-use Rattle.std.specs.Prelude.{int_le, int_lt, nat_le, nat_lt}
+use Rattle.std.proofs.Common.{◌≡◌, ℕ, ◌+◌, ◌-◌, ◌≤◌, ◌<◌, ℤ, pos, ◌+ℤ◌, ◌≤ℤ◌, ◌<ℤ◌, Bool, true, false, ◌&&◌, if◌then◌else◌, List, [], ◌∷◌, ◌++◌, length, take, drop, get_or, map, replicate, refl, sym, ap, ◌∙◌, arith}
+use Rattle.std.specs.Prelude.{nat_le, nat_lt}
 use Rattle.std.proofs.lemmas.Int.{ints}
 use Rattle.std.proofs.lemmas.Bool.{and_parts, ltb-true, ltb-false, leb-true, le-leb, lt-ltb}
 use Rattle.std.proofs.lemmas.List.{get_or-take, get_or-drop, get_or_append_left, get_or-append_right, length-take-le, length-drop, get_or-map, length-map}
 use Rattle.std.proofs.lemmas.Simd.{get_or-zip2, length-zip2}
-use borrow.Rule.Slice.PartMut.{put_mid, post_of, mid_of}
+use borrow.Rule.Slice.PartMut.{put_mid, post_of}
 use lib.Lanes.{zip2}
 use Rattle.vz_geom.specs.declared.Point.{Point}
 use Rattle.vz_geom.specs.Rectangle.{Rectangle, IsRectangle, has, is_empty_rect}
 use Rattle.vz_geom.proofs.Bounds.{in_is_full}
 use Rattle.vz_geom.proofs.Numbers.{given, stays}
-use Rattle.vz_geom.proofs.Sets.{IsIn, to_in, of_in}
+use Rattle.vz_geom.proofs.Sets.{to_in, of_in}
 use Rattle.vz_pixels.specs.Colour.{Colour, transparent, scale}
 use Rattle.vz_frame.specs.declared.blend.Blend.{Blend}
 use Rattle.vz_frame.specs.declared.blend.Blend.TheVariants.{Over, Src, DstIn}

@@ -1,5 +1,5 @@
 -- What one operation does at a place of a row.
-use Rattle.std.proofs.Common.{◌≡◌, ℕ, suc, ◌+◌, ◌-◌, ◌≤◌, ◌<◌, Bool, if◌then◌else◌, List, [], ◌∷◌, ◌++◌, length, take, drop, get_or, map, reverse, replicate, slice_set, refl, sym, ap, ◌∙◌, arith}
+use Rattle.std.proofs.Common.{◌≡◌, ℕ, suc, ◌+◌, ◌-◌, ◌≤◌, ◌<◌, if◌then◌else◌, List, [], ◌∷◌, ◌++◌, length, take, drop, get_or, map, reverse, replicate, slice_set, sym, ap, ◌∙◌, arith}
 use Rattle.std.proofs.lemmas.List.{take_more, take-set, reverse-append, get_or-replicate}
 use Rattle.std.proofs.Math.Seq.{take-suc-set, take-append_seam}
 use Rattle.std.specs.Prelude.{Some}
@@ -12,7 +12,7 @@ use Rattle.vz_frame.specs.Blending.{laid}
 use Rattle.vz_rules.specs.Paint.{texel_of}
 use Rattle.vz_flat.specs.declared.op.Op.{Op}
 use Rattle.vz_flat.specs.declared.op.Op.TheVariants.{Fill, Blit, Push, Pop}
-use Rattle.vz_flat.specs.Ops.{Group, closed, run}
+use Rattle.vz_flat.specs.Ops.{Group, run}
 use Rattle.vz_paint.specs.declared.group.OpenGroup.{OpenGroup}
 use Rattle.vz_paint.specs.Row.{right_of}
 use Rattle.vz_paint.specs.Stack.{group_at, stack_at}

@@ -1,4 +1,5 @@
 pub mod Row
 pub mod Stack
+pub mod Strips
 pub mod Choice
 pub mod Ground

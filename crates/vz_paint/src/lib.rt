@@ -1,6 +1,7 @@
 //! The painter: it turns drawing operations into the pixels of a buffer, row by row.
 #![tactic(auto)]
 
+mod brush;
 mod choice;
 mod ground;
 mod group;

@@ -146,28 +146,44 @@ fn are_opaque(source: &[Pixel]) -> bool
     source.iter().all(|c| c.a() == 255)
 }
 
-/// Whether texels, scaled by an opacity, hide what is below them. Only a few are tested.
-fn do_hide(source: &[Pixel], opacity: u8, mode: Blend) -> bool
+/// Whether all of these colours are opaque, if they are few. Many are not tested.
+fn are_few_opaque(source: &[Pixel]) -> bool
+    ensures { result ≡ true → list_all (λ c. c.a == 255) source.now ≡ true }
+{
+    source.len() <= FEW && are_opaque(source)
+}
+
+/// Whether texels, scaled by an opacity, hide what is below them. Of a block that is not opaque
+/// only a few texels are tested. Condition: the texels of an opaque block are opaque.
+fn do_hide(source: &[Pixel], is_opaque: bool, opacity: u8, mode: Blend) -> bool
+    requires { is_opaque ≡ true → list_all (λ c. c.a == 255) source.now ≡ true }
     ensures { result ≡ true
         → (mode ≡ Over) × (opacity ≡ 255) × (list_all (λ c. c.a == 255) source.now ≡ true) }
 {
-    if opacity != 255 || source.len() > FEW {
+    if opacity != 255 {
         return false;
     }
     match mode {
-        Blend::Over => are_opaque(source),
+        Blend::Over => {
+            if is_opaque {
+                return true;
+            }
+            are_few_opaque(source)
+        }
         Blend::Src => false,
         Blend::DstIn => false,
     }
 }
 
-/// Blends each texel, scaled by an opacity, with the pixel at its place. A few opaque ones are
-/// copied.
-fn print(row: &mut [Pixel], source: &[Pixel], opacity: u8, mode: Blend)
-    requires { length row.old ≡ length source.now }
+/// Blends each texel, scaled by an opacity, with the pixel at its place. Those of an opaque block
+/// are copied, and also a few opaque ones of another. Condition: the texels of an opaque block are
+/// opaque.
+fn print(row: &mut [Pixel], source: &[Pixel], is_opaque: bool, opacity: u8, mode: Blend)
+    requires same { length row.old ≡ length source.now }
+    requires opaque { is_opaque ≡ true → list_all (λ c. c.a == 255) source.now ≡ true }
     ensures { row.new ≡ zip2 (λ s d. laid mode s opacity d) source.now row.old }
 {
-    if do_hide(source, opacity, mode) {
+    if do_hide(source, is_opaque, opacity, mode) {
         row.copy_from_slice(source);
         return;
     }
@@ -258,5 +274,11 @@ pub(crate) fn blit(
     let p = right_of(start, here.from);
     let at = texel_at(block, p, area, tx, ty);
     let source = texels(block, at, here.to - here.from);
-    print(&mut row[here.from..here.to], source, opacity, mode);
+    print(
+        &mut row[here.from..here.to],
+        source,
+        block.is_opaque(),
+        opacity,
+        mode,
+    );
 }

@@ -5,3 +5,4 @@ pub mod Spans
 pub mod Parted
 pub mod Rowed
 pub mod Tiles
+pub mod Mixed

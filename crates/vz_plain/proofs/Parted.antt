@@ -84,6 +84,48 @@ module _ {A : Type 0} (d : A) where
       let before = length-take-le from xs (omega (arith, fits)) in
       omega (arith, whole, rest, behind, dropped, before, all, fits)
 
+-- a row is changed in two parts, one behind the other: the first n places and those behind them
+pub both_laid : (f : ℕ → Colour → Colour) (n end : ℕ) (old mid last : List Colour) → n ≡ end → end ≤ length old
+    → length mid ≡ length (take n old) → ((i : ℕ) → i < length (take n old) → get_or mid i transparent ≡ f i (get_or (take n old) i transparent))
+    → length last ≡ length (take (length old - end) (drop end (put_mid 0 n old mid)))
+    → ((i : ℕ) → i < length (take (length old - end) (drop end (put_mid 0 n old mid)))
+    → get_or last i transparent ≡ f (end + i) (get_or (take (length old - end) (drop end (put_mid 0 n old mid))) i transparent))
+    → (i : ℕ) → i < length old → get_or (put_mid end (length old - end) (put_mid 0 n old mid) last) i transparent ≡ f i (get_or old i transparent)
+both_laid f n end old mid last all fits mid_long mid_each last_long last_each i low = or_less i end front back
+  where
+    part : length (take n old) ≡ n
+    part = length-take-le n old (omega (arith, all, fits))
+
+    mid_is : length mid ≡ n
+    mid_is = mid_long ∙ part
+
+    whole : length (put_mid 0 n old mid) ≡ length old
+    whole = length_replaced transparent old mid 0 n (omega (arith, all, fits)) mid_is
+
+    last_is : length last ≡ length old - end
+    last_is = let w = whole in last_long ∙ length_part transparent (put_mid 0 n old mid) end (length old - end) (omega (arith, w, fits))
+
+    front : i < end → get_or (put_mid end (length old - end) (put_mid 0 n old mid) last) i transparent ≡ f i (get_or old i transparent)
+    front less =
+        let w = whole in
+        let p = part in
+        let here : i - 0 ≡ i = omega arith in
+        below_part transparent end (length old - end) (put_mid 0 n old mid) last i (omega (arith, w, fits)) less
+        ∙ (in_part transparent 0 n old mid i (omega arith) mid_is (omega arith) (omega (arith, all, less))
+        ∙ (ap (λ k. get_or mid k transparent) here
+        ∙ (mid_each i (omega (arith, all, p, less)) ∙ ap (f i) (get_or-take n old i transparent (omega (arith, all, less))))))
+
+    back : end ≤ i → get_or (put_mid end (length old - end) (put_mid 0 n old mid) last) i transparent ≡ f i (get_or old i transparent)
+    back least =
+        let w = whole in
+        let m = last_is in
+        let l = last_long in
+        let same : end + (i - end) ≡ i = omega (arith, least) in
+        in_part transparent end (length old - end) (put_mid 0 n old mid) last i (omega (arith, w, fits)) m least (omega (arith, low, least))
+        ∙ (last_each (i - end) (omega (arith, low, least, m, l))
+        ∙ ((λ j. f (same j) (part_of transparent (put_mid 0 n old mid) end (length old - end) i least (omega (arith, low, least)) j))
+        ∙ ap (f i) (behind_part transparent 0 n old mid i (omega arith) mid_is (omega (arith, all, least)))))
+
 -- Rows
 
 -- the places right of a place

@@ -1,10 +1,21 @@
 //! How a colour is blended with another.
 ghost use Rattle.std.specs.Prelude.{◌≡◌};
+ghost use Rattle.vz_pixels.specs.Colour.{scale};
 ghost use Rattle.vz_frame.specs.Blending.{blend, laid};
 ghost use Rattle.vz_rules.specs.Paint.{is_straight};
 
 use vz_frame::Blend;
 use vz_pixels::Pixel;
+
+/// A colour scaled by an opacity. At full opacity it is the colour itself.
+pub(crate) fn scaled(colour: Pixel, opacity: u8) -> Pixel
+    ensures { result ≡ scale colour opacity }
+{
+    if opacity == 255 {
+        return colour;
+    }
+    colour.scale(opacity)
+}
 
 /// The result of a blend mode: the colour over the one below, in its place, or as a mask of it.
 #[tactic(auto, unfolding(vz_frame::specs::Blending::blend))]
@@ -23,7 +34,7 @@ fn blend(mode: Blend, colour: Pixel, under: Pixel) -> Pixel
 pub(crate) fn laid(mode: Blend, colour: Pixel, opacity: u8, under: Pixel) -> Pixel
     ensures { result ≡ laid mode colour opacity under }
 {
-    blend(mode, colour.scale(opacity), under)
+    blend(mode, scaled(colour, opacity), under)
 }
 
 /// Whether a colour is drawn directly: with the mode `Over` and full opacity.

@@ -1,71 +1,64 @@
 //! Colours that are laid on a row, one at each place.
 ghost use Rattle.std.specs.Prelude.{◌≡◌, ◌<◌, ◌≤◌, ℕ, ◌||◌, length, get_or, if◌then◌else◌};
-ghost use Rattle.vz_pixels.specs.Colour.{Colour, transparent};
-ghost use Rattle.vz_frame.specs.Blending.{laid};
-ghost use Rattle.vz_plain.specs.declared.span.TheConstants.{PIECE};
+ghost use Rattle.vz_pixels.specs.Colour.{transparent};
+ghost use Rattle.vz_frame.specs.Blending.{blend, laid};
 ghost use Rattle.vz_plain.specs.Rows.{within};
 
-use crate::blending::laid;
-use crate::span::{PIECE, Span};
+use crate::blending::scaled;
+use crate::span::Span;
 use vz_frame::Blend;
+use vz_kernel::{dst_in_fill, dst_in_row, fill_row, over_fill, over_row, src_row};
 use vz_pixels::Pixel;
 
-/// What is laid on a row: a colour for each place.
-pub(crate) trait Ink {
-    /// The colour at a place.
-    ghost inked: { Self → ℕ → Colour };
-
-    /// The colour at a place of a piece of a row.
-    fn at(&self, k: usize) -> Pixel
-        requires { k < PIECE }
-        ensures { result ≡ inked self.now k };
-}
-
-/// One colour at all places.
-#[derive(Clone, Copy)]
-pub(crate) struct Flat {
-    pub(crate) colour: Pixel,
-}
-
-impl Ink for Flat {
-    ghost inked = { λ f k. f.colour };
-
-    #[inline(always)]
-    fn at(&self, _k: usize) -> Pixel {
-        self.colour
+/// Blends one colour with each pixel of a row.
+fn tint(colour: Pixel, mode: Blend, row: &mut [Pixel])
+    ensures long { length row.new ≡ length row.old }
+    ensures each { (i : ℕ) → i < length row.old
+        → get_or row.new i transparent ≡ blend mode colour (get_or row.old i transparent) }
+{
+    match mode {
+        Blend::Over => over_fill(row, colour),
+        Blend::Src => fill_row(row, colour),
+        Blend::DstIn => dst_in_fill(row, colour),
     }
 }
 
-/// The colours of another row, and transparent after its end.
-#[derive(Clone, Copy)]
-pub(crate) struct Painted<'r> {
-    pub(crate) row: &'r [Pixel],
-}
-
-impl<'r> Ink for Painted<'r> {
-    ghost inked = { λ p k. get_or p.row.now k transparent };
-
-    #[inline(always)]
-    fn at(&self, k: usize) -> Pixel {
-        if k < self.row.len() {
-            self.row[k]
-        } else {
-            Pixel::transparent()
-        }
-    }
-}
-
-/// Lays colours, scaled by an opacity, on a row by a mode.
-#[inline(always)]
-pub(crate) fn lay<I: Ink>(ink: &I, mode: Blend, opacity: u8, row: &mut [Pixel])
-    requires { length row.old ≤ PIECE }
+/// Blends each colour of another row, scaled by an opacity, with the pixel at its place.
+fn mix(source: &[Pixel], mode: Blend, opacity: u8, row: &mut [Pixel])
+    requires { length row.old ≡ length source.now }
     ensures long { length row.new ≡ length row.old }
     ensures each { (i : ℕ) → i < length row.old → get_or row.new i transparent
-        ≡ laid mode (I.inked ink.now i) opacity (get_or row.old i transparent) }
+        ≡ laid mode (get_or source.now i transparent) opacity (get_or row.old i transparent) }
 {
-    for k in 0..row.len() {
-        row[k] = laid(mode, ink.at(k), opacity, row[k]);
+    match mode {
+        Blend::Over => over_row(row, source, opacity),
+        Blend::Src => src_row(row, source, opacity),
+        Blend::DstIn => dst_in_row(row, source, opacity),
     }
+}
+
+/// Lays one colour, scaled by an opacity, on a row by a mode.
+#[tactic(auto, unfolding(vz_frame::specs::Blending::laid))]
+pub(crate) fn lay_colour(colour: Pixel, mode: Blend, opacity: u8, row: &mut [Pixel])
+    ensures long { length row.new ≡ length row.old }
+    ensures each { (i : ℕ) → i < length row.old → get_or row.new i transparent
+        ≡ laid mode colour opacity (get_or row.old i transparent) }
+{
+    tint(scaled(colour, opacity), mode, row);
+}
+
+/// Lays the colours of another row, and transparent after its end, scaled by an opacity, on a row
+/// by a mode.
+pub(crate) fn lay_row(source: &[Pixel], mode: Blend, opacity: u8, row: &mut [Pixel])
+    requires { length source.now ≤ length row.old }
+    ensures long { length row.new ≡ length row.old }
+    ensures each { (i : ℕ) → i < length row.old → get_or row.new i transparent
+        ≡ laid mode (get_or source.now i transparent) opacity (get_or row.old i transparent) }
+{
+    let end = source.len();
+    let count = row.len();
+    mix(source, mode, opacity, &mut row[0..end]);
+    lay_colour(Pixel::transparent(), mode, opacity, &mut row[end..count]);
 }
 
 /// Lays the background of a shown surface on a row outside a span, unless it is the end of the
@@ -80,7 +73,6 @@ pub(crate) fn lay_outside(
 )
     requires ordered { here.from ≤ here.to }
     requires most { here.to ≤ length row.old }
-    requires few { length row.old ≤ PIECE }
     ensures long { length row.new ≡ length row.old }
     ensures each { (i : ℕ) → i < length row.old → get_or row.new i transparent
         ≡ (if within here i || is_end then get_or row.old i transparent
@@ -89,8 +81,7 @@ pub(crate) fn lay_outside(
     if is_end {
         return;
     }
-    let ink = Flat { colour: background };
     let count = row.len();
-    lay(&ink, mode, opacity, &mut row[0..here.from]);
-    lay(&ink, mode, opacity, &mut row[here.to..count]);
+    lay_colour(background, mode, opacity, &mut row[0..here.from]);
+    lay_colour(background, mode, opacity, &mut row[here.to..count]);
 }

@@ -1,6 +1,6 @@
 //! The plain painter: the colours of the display, by the definitions, and what is hit at a point.
 //!
-//! A row is painted in pieces of at most 128 points. For example, a quad that covers the last 28
+//! A row is painted in pieces of at most 256 points. For example, a quad that covers the last 28
 //! points of a piece lays its colour on these: which points it covers, and what its material
 //! names, is found once for the piece. Each function leaves at each point what the definition of
 //! the same name does. Only a whole picture allocates; the path through surfaces and the pieces

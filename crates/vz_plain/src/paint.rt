@@ -12,7 +12,7 @@ ghost use Rattle.vz_plain.specs.Painting.{embedded, ranges, passes_in, quad_here
 ghost use Rattle.vz_plain.specs.Painting.{quad_covered, inside_here, shown_here};
 
 use crate::blending::is_straight;
-use crate::inks::{Flat, Painted, lay, lay_outside};
+use crate::inks::{lay_colour, lay_outside, lay_row};
 use crate::path::Path;
 use crate::point::{in_rectangle, point_of};
 use crate::span::{PIECE, covered, right_of, size_span, span_of};
@@ -150,7 +150,7 @@ impl<'b, 'i, 'a> Painter<'b, 'i, 'a> {
         ensures { IsPainted (quad_here self.now earlier.now quad.now) first row.old row.new }
     {
         match quad.material {
-            Material::Solid(colour) => lay(&Flat { colour }, quad.blend, quad.opacity, row),
+            Material::Solid(colour) => lay_colour(colour, quad.blend, quad.opacity, row),
             Material::Tile { resource, tx, ty } => {
                 lay_tile(
                     self.submitted,
@@ -247,7 +247,7 @@ impl<'b, 'i, 'a> Painter<'b, 'i, 'a> {
         let mut room = [Pixel::transparent(); PIECE];
         let own = &mut room[..row.len()];
         self.pass(earlier, pass, first, own);
-        lay(&Painted { row: own }, mode, opacity, row);
+        lay_row(own, mode, opacity, row);
     }
 
     /// What the surface that a range shows leaves; nothing if that surface is on the path.
@@ -267,7 +267,7 @@ impl<'b, 'i, 'a> Painter<'b, 'i, 'a> {
             local row.old row.new }
     {
         match self.active.shown_frame(range) {
-            None => lay(&Flat { colour: background }, mode, opacity, row),
+            None => lay_colour(background, mode, opacity, row),
             Some(submitted) => {
                 if !self.path.has(&submitted.id()) {
                     self.shown(range, submitted, background, mode, opacity, local, row);
@@ -346,7 +346,7 @@ impl<'b, 'i, 'a> Painter<'b, 'i, 'a> {
         let mut room = [Pixel::transparent(); PIECE];
         let own = &mut room[..row.len()];
         pix(self.active, self.levels, self.path, submitted, first, own);
-        lay(&Painted { row: own }, mode, opacity, row);
+        lay_row(own, mode, opacity, row);
     }
 }
 

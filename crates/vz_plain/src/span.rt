@@ -14,7 +14,7 @@ use vz_geom::{Point, Rect, Size};
 use vz_scene::SubmittedFrame;
 
 /// The greatest number of points of a row that are painted together.
-pub(crate) const PIECE: usize = 128;
+pub(crate) const PIECE: usize = 256;
 
 /// Where a rectangle is in a row: from column `left` up to, but without, column `right`, both
 /// counted from the row's first point, or nowhere.

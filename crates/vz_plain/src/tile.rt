@@ -1,5 +1,5 @@
 //! The colours of tiles.
-ghost use Rattle.std.specs.Prelude.{◌≡◌, ◌≤◌, Some, pos, map, get_or, length};
+ghost use Rattle.std.specs.Prelude.{◌≡◌, ◌≤◌, ◌<◌, ◌≤ℤ◌, ℕ, Some, pos, map, get_or, length};
 ghost use Rattle.vz_geom.specs.Rectangle.{plus};
 ghost use Rattle.vz_pixels.specs.Colour.{transparent};
 ghost use Rattle.std.specs.Option.{option_copied};
@@ -9,7 +9,8 @@ ghost use Rattle.vz_plain.specs.declared.span.TheConstants.{PIECE};
 ghost use Rattle.vz_plain.specs.Points.{IsClose};
 ghost use Rattle.vz_plain.specs.Rows.{IsPainted, right_of};
 
-use crate::inks::{Flat, Ink, lay};
+use crate::blending::laid;
+use crate::inks::{lay_colour, lay_row};
 use crate::span::PIECE;
 use vz_frame::{Blend, Listing};
 use vz_geom::Point;
@@ -44,27 +45,68 @@ fn pixel_at(pixels: &[Pixel], k: usize) -> Pixel
     }
 }
 
-/// The texels of a block in the row from a point on, and transparent outside the block.
-#[derive(Clone, Copy)]
-struct Texels<'b> {
-    block: &'b PixelBlock,
-    first: Point,
+/// The texel of a block at a place of the row from a point on, or transparent outside the block.
+#[tactic(auto, unfolding(vz_pixels::specs::Block::texel))]
+fn texel_at(block: &PixelBlock, first: Point, k: usize) -> Pixel
+    requires { k < PIECE }
+    ensures { result ≡ texel_of (Some block.now) (right_of first k) }
+{
+    let x = (i64::from(first.x) + k as i64).unsigned_abs();
+    let y = u64::from(first.y.unsigned_abs());
+    let w = u64::from(block.w());
+    if x < w {
+        pixel_at(block.pixels(), (y * w + x) as usize)
+    } else {
+        Pixel::transparent()
+    }
 }
 
-impl<'b> Ink for Texels<'b> {
-    ghost inked = { λ t k. texel_of (Some t.block.now) (right_of t.first k) };
+/// The texels of a block in the row from a point on, at most `count`; none outside the block.
+/// Condition: the point is not left of column 0.
+fn texels(block: &PixelBlock, first: Point, count: usize) -> &[Pixel]
+    requires { pos 0 ≤ℤ first.x }
+    ensures most { length result.now ≤ count }
+    ensures each { (k : ℕ) → k < count → get_or result.now k transparent
+        ≡ texel_of (Some block.now) (right_of first k) }
+{
+    let x = first.x.unsigned_abs() as usize;
+    let y = first.y.unsigned_abs() as usize;
+    let w = block.w() as usize;
+    let h = block.h() as usize;
+    if w <= x || h <= y {
+        return &block.pixels()[0..0];
+    }
+    let from = y * w + x;
+    &block.pixels()[from..from + count.min(w - x)]
+}
 
-    #[tactic(auto, unfolding(vz_pixels::specs::Block::texel))]
-    #[inline(always)]
-    fn at(&self, k: usize) -> Pixel {
-        let x = (i64::from(self.first.x) + k as i64).unsigned_abs();
-        let y = u64::from(self.first.y.unsigned_abs());
-        let w = u64::from(self.block.w());
-        if x < w {
-            pixel_at(self.block.pixels(), (y * w + x) as usize)
-        } else {
-            Pixel::transparent()
-        }
+/// Lays texels, scaled by an opacity, on a row by a mode, one by one.
+fn lay_each(block: &PixelBlock, first: Point, mode: Blend, opacity: u8, row: &mut [Pixel])
+    requires { length row.old ≤ PIECE }
+    ensures long { length row.new ≡ length row.old }
+    ensures each { (k : ℕ) → k < length row.old → get_or row.new k transparent
+        ≡ laid mode (texel_of (Some block.now) (right_of first k)) opacity
+        (get_or row.old k transparent) }
+{
+    for k in 0..row.len() {
+        row[k] = laid(mode, texel_at(block, first, k), opacity, row[k]);
+    }
+}
+
+/// Lays the texels of a block in the row from a point on, and transparent outside the block,
+/// scaled by an opacity, on a row by a mode. The definitions mirror a block at column 0: left of
+/// it the texels stand in the opposite order.
+fn lay_texels(block: &PixelBlock, first: Point, mode: Blend, opacity: u8, row: &mut [Pixel])
+    requires { length row.old ≤ PIECE }
+    ensures long { length row.new ≡ length row.old }
+    ensures each { (k : ℕ) → k < length row.old → get_or row.new k transparent
+        ≡ laid mode (texel_of (Some block.now) (right_of first k)) opacity
+        (get_or row.old k transparent) }
+{
+    if first.x < 0 {
+        lay_each(block, first, mode, opacity, row);
+    } else {
+        lay_row(texels(block, first, row.len()), mode, opacity, row);
     }
 }
 
@@ -101,14 +143,7 @@ pub(crate) fn lay_tile(
     let first = in_block(p, tx, ty);
     let listings = submitted.frame().resources.as_slice();
     match block_of(id, listings, submitted.blocks()) {
-        None => lay(
-            &Flat {
-                colour: Pixel::transparent(),
-            },
-            mode,
-            opacity,
-            row,
-        ),
-        Some(block) => lay(&Texels { block, first }, mode, opacity, row),
+        None => lay_colour(Pixel::transparent(), mode, opacity, row),
+        Some(block) => lay_texels(block, first, mode, opacity, row),
     }
 }

@@ -3,3 +3,11 @@ mod Counting
 pub mod Frames
 mod Playing
 mod Testing
+pub mod Behaving
+pub mod Adding
+pub mod Growing
+pub mod Taking
+pub mod In_turn
+pub mod Outs
+mod Bytes
+mod Going

@@ -1,2 +1,6 @@
 pub mod Played
 pub mod Tested
+pub mod Written
+pub mod Shown
+pub mod Taken
+pub mod Puts

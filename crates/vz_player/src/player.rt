@@ -17,6 +17,7 @@ use crate::take::{client_gated, draw_gated, take_gated};
 use std::alloc::Global;
 use std::marker::Model;
 use std::sync::ledger::Ledger;
+use std::thread::Threads;
 use vz_base::Memory;
 use vz_base::limits::MOST_BUFFERS;
 use vz_buffers::Steps;
@@ -110,8 +111,9 @@ impl<M: Machine + Drop> Player<M> {
     /// allocation has stopped the player, and a client's event names a client of the plan. The
     /// only error is `Memory`. After it the history is the one before or has the event's entry
     /// too, and only the history may still be used.
-    pub fn turn<G: Gate, L: Ledger>(
+    pub fn turn<G: Gate, L: Ledger, R: Threads + Sync>(
         &mut self,
+        rt: &R,
         alloc: Global,
         gate: &G,
         event: Event,
@@ -129,7 +131,7 @@ impl<M: Machine + Drop> Player<M> {
     {
         match event {
             Event::Client(client) => self.take_client(alloc, gate, client),
-            Event::Draw => self.draw(alloc, gate, steps),
+            Event::Draw => self.draw(rt, alloc, gate, steps),
             _ => self.take_plain(alloc, gate, event),
         }
     }
@@ -173,8 +175,9 @@ impl<M: Machine + Drop> Player<M> {
     // Draws, and shows the picture if one is drawn. It is a separate function, as at its
     // beginning it clears the room for a picture.
     #[inline(never)]
-    fn draw<G: Gate, L: Ledger>(
+    fn draw<G: Gate, L: Ledger, R: Threads + Sync>(
         &mut self,
+        rt: &R,
         alloc: Global,
         gate: &G,
         steps: &mut Steps<L>,
@@ -193,7 +196,7 @@ impl<M: Machine + Drop> Player<M> {
         let (entry, picture) = draw_gated(alloc, gate, turn, &mut self.machine)?;
         self.history.put(entry);
         self.stopped = true;
-        let drawn = show_some(alloc, picture, &mut self.display, steps)?;
+        let drawn = show_some(rt, alloc, picture, &mut self.display, steps)?;
         self.stopped = false;
         Ok(drawn)
     }

@@ -5,6 +5,7 @@ ghost use Rattle.vz_player.specs.Played.{shown_with, steps_with};
 
 use std::alloc::Global;
 use std::sync::ledger::Ledger;
+use std::thread::Threads;
 use vz_base::Memory;
 use vz_buffers::Steps;
 use vz_display::Display;
@@ -13,7 +14,8 @@ use vz_machine::Picture;
 /// Removes what is occluded in a picture and shows it, if there is one, and returns whether there
 /// was one. Condition: it has the display's size. The only error is `Memory`; the display may not
 /// be used after it.
-pub fn show_some<P: Picture + Drop, L: Ledger>(
+pub fn show_some<P: Picture + Drop, L: Ledger, R: Threads + Sync>(
+    rt: &R,
     alloc: Global,
     picture: Option<P>,
     display: &mut Display,
@@ -30,7 +32,7 @@ pub fn show_some<P: Picture + Drop, L: Ledger>(
         None => Ok(false),
         Some(picture) => {
             let thin = picture.occlude(alloc)?;
-            display.show(alloc, &thin, steps)?;
+            display.show(rt, alloc, &thin, steps)?;
             Ok(true)
         }
     }

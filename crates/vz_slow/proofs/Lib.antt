@@ -12,3 +12,4 @@ pub mod Hitting
 pub mod Reaching
 pub mod Replaying
 pub mod Asked_once
+mod Stepped

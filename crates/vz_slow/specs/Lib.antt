@@ -2,3 +2,4 @@ pub mod Asked
 pub mod Drawn
 pub mod Reaching
 pub mod Replaying
+pub mod Pictures

@@ -2,7 +2,8 @@
 //!
 //! Its contracts are the definitions of `vz_rules`, and its bodies stay close to them: it keeps
 //! every submission and scans all of them. `check` replays a log on it, and tests compare the
-//! incremental machine with it.
+//! incremental machine with it, by the trait that both implement (`PlainMachine`). Each of its
+//! pictures has all pixels.
 #![tactic(auto)]
 
 mod asked;
@@ -16,6 +17,8 @@ mod hits;
 mod laws;
 mod messages;
 mod naming;
+mod picture;
+mod plain_machine;
 mod reach;
 mod replay;
 mod rest;
@@ -26,5 +29,6 @@ mod submit;
 mod world;
 
 pub use laws::histories_name_clients;
+pub use plain_machine::PlainMachine;
 pub use replay::plain_frame;
 pub use slow::Slow;

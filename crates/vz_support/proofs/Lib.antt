@@ -1,3 +1,7 @@
+mod Listed
+pub mod Sending
+pub mod Messaging
+pub mod Standing
 pub mod Staying
 pub mod Asking
 mod Taking

@@ -16,10 +16,10 @@ use Rattle.vz_rules.specs.Messages.{Answer, took, taking, says, refused, unless_
 use Rattle.vz_rules.specs.Messages.{hierarchy_answer, hierarchy_refusal, await_answer}
 use Rattle.vz_rules.specs.Kept.{KeepsClients}
 use Rattle.vz_rules.proofs.Members.{contains_at, contains_map, find_at, map_fixed, at_same}
-use Rattle.vz_clients.specs.Sent.{Sender, sender_at, taking_one}
-use Rattle.vz_clients.specs.Changed.{ChangesOne}
-use Rattle.vz_clients.specs.Sending.{AreSenders}
-use Rattle.vz_clients.proofs.Messaging.{follows_begun}
+use Rattle.vz_support.specs.Sent.{Sender, sender_at, taking_one}
+use Rattle.vz_support.specs.Changed.{ChangesOne}
+use Rattle.vz_support.specs.Sending.{AreSenders}
+use Rattle.vz_support.proofs.Messaging.{follows_begun}
 use Rattle.vz_sinks.specs.declared.refusals.SinkError.{SinkError}
 use Rattle.vz_sinks.specs.declared.refusals.SinkError.TheVariants as error
 use Rattle.vz_sinks.specs.Relating.{Related, seat_of, take_one, standing, refusal_for, refusal_in, refusal_of, is_known_in, is_own}

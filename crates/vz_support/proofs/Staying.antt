@@ -16,8 +16,8 @@ use Rattle.vz_rules.specs.Singly.{rising, going}
 use Rattle.vz_rules.specs.Step.{accepted_frames, scene_answer, draw_answer, done_answer}
 use Rattle.vz_rules.specs.Walk.{walk_of, too_much}
 use Rattle.vz_rules.specs.Damage.{drawn_damage}
-use Rattle.vz_clients.specs.Sending.{AreSenders}
-use Rattle.vz_clients.proofs.Standing.{stays_given as keeps_given}
+use Rattle.vz_support.specs.Sending.{AreSenders}
+use Rattle.vz_support.proofs.Standing.{stays_given as keeps_given}
 use Rattle.vz_sinks.specs.Relating.{seat_of, related_in}
 use Rattle.vz_support.specs.Supporting.{Supported, IsSupport}
 

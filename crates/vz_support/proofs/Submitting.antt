@@ -17,12 +17,12 @@ use Rattle.vz_rules.specs.Messages.{taking, lend, submitting, accepted, is_unkno
 use Rattle.vz_rules.specs.Kept.{KeepsClients, AreRising}
 use Rattle.vz_rules.proofs.Cases.{number_at}
 use Rattle.vz_rules.proofs.Members.{at_contains, at_within, find_at}
-use Rattle.vz_clients.specs.Sent.{Sender, nobody, sender_at, taking_one, giving_back, answered_by, knows, blocks_in}
-use Rattle.vz_clients.specs.Changed.{ChangesOne}
-use Rattle.vz_clients.specs.Sending.{IsSender, AreSenders}
-use Rattle.vz_clients.proofs.Sending.{some_number}
-use Rattle.vz_clients.proofs.Standing.{tells_unknown, tells_blocks}
-use Rattle.vz_clients.proofs.Messaging.{follows_accepted}
+use Rattle.vz_support.specs.Sent.{Sender, nobody, sender_at, taking_one, giving_back, answered_by, knows, blocks_in}
+use Rattle.vz_support.specs.Changed.{ChangesOne}
+use Rattle.vz_support.specs.Sending.{IsSender, AreSenders}
+use Rattle.vz_support.proofs.Sending.{some_number}
+use Rattle.vz_support.proofs.Standing.{tells_unknown, tells_blocks}
+use Rattle.vz_support.proofs.Messaging.{follows_accepted}
 use Rattle.vz_support.specs.Supporting.{Supported, IsSupport, HasTaken, Sends}
 use Rattle.vz_support.proofs.Staying.{stays_like}
 use Rattle.vz_support.proofs.Asking.{numbered_there}

@@ -12,11 +12,11 @@ use Rattle.vz_rules.specs.World.{World, Client, client_at, change_client}
 use Rattle.vz_rules.specs.Messages.{took, taking, says, refused, reclaim, answer_tick, in_use, put_resource, upload_answer, message_answer}
 use Rattle.vz_rules.proofs.Cases.{number_at}
 use Rattle.vz_rules.proofs.Members.{when_same}
-use Rattle.vz_clients.specs.Sent.{Sender, sender_at, taking_one, closing, answered_by, storing_block}
-use Rattle.vz_clients.specs.Changed.{ChangesOne}
-use Rattle.vz_clients.specs.Sending.{AreSenders}
-use Rattle.vz_clients.proofs.Sending.{some_number}
-use Rattle.vz_clients.proofs.Messaging.{follows_plain, follows_reclaim, follows_noted, follows_stored, follows_closed}
+use Rattle.vz_support.specs.Sent.{Sender, sender_at, taking_one, closing, answered_by, storing_block}
+use Rattle.vz_support.specs.Changed.{ChangesOne}
+use Rattle.vz_support.specs.Sending.{AreSenders}
+use Rattle.vz_support.proofs.Sending.{some_number}
+use Rattle.vz_support.proofs.Messaging.{follows_plain, follows_reclaim, follows_noted, follows_stored, follows_closed}
 use Rattle.vz_sinks.specs.Relating.{Related, seat_of, close_one}
 use Rattle.vz_support.specs.Supporting.{Supported, IsSupport, Sends}
 use Rattle.vz_support.proofs.Staying.{same_seats, related_by}

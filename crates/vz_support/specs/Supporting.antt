@@ -7,9 +7,9 @@ use Rattle.vz_frame.specs.Frame.{first_of}
 use Rattle.vz_rules.specs.Plan.{Plan}
 use Rattle.vz_rules.specs.World.{World, Client, client_at, first_sink, next_message}
 use Rattle.vz_rules.specs.Kept.{KeepsAlways}
-use Rattle.vz_clients.specs.Sent.{Sender, sender_at, taking_one}
-use Rattle.vz_clients.specs.Changed.{ChangesOne}
-use Rattle.vz_clients.specs.Sending.{AreSenders}
+use Rattle.vz_support.specs.Sent.{Sender, sender_at, taking_one}
+use Rattle.vz_support.specs.Changed.{ChangesOne}
+use Rattle.vz_support.specs.Sending.{AreSenders}
 use Rattle.vz_sinks.specs.Relating.{Related, related_in}
 
 -- the clients with what they have still to send, their sinks with pending begin-frames, the tick,

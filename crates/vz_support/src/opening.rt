@@ -5,11 +5,11 @@ ghost use Rattle.vz_rules.specs.Plan.{Plan};
 ghost use Rattle.vz_rules.specs.World.{opening};
 ghost use Rattle.vz_support.specs.Supporting.{IsSupport};
 
+use crate::Clients;
 use crate::support::Support;
 use std::alloc::Global;
 use vz_base::Memory;
 use vz_base::limits::MOST_FILES;
-use vz_clients::Clients;
 use vz_frame::ClientFile;
 use vz_ids::FrameSinkId;
 use vz_sinks::Sinks;

@@ -7,7 +7,7 @@ ghost use Rattle.vz_rules.specs.World.{World, Client, Machine, client_at, next_m
 ghost use Rattle.vz_rules.specs.Kept.{KeepsAlways};
 ghost use Rattle.vz_machine.specs.Stepping.{waits_at, idle_at, answered_at, attached_at, listed_at};
 ghost use Rattle.vz_machine.specs.Stepping.{listed_in};
-ghost use Rattle.vz_clients.specs.Sent.{sender_at};
+ghost use Rattle.vz_support.specs.Sent.{sender_at};
 ghost use Rattle.vz_support.specs.Supporting.{IsSupport, is_await};
 
 use crate::support::Support;

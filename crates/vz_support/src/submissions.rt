@@ -13,7 +13,7 @@ ghost use Rattle.vz_rules.specs.declared.entry.Refusal.{Refusal};
 ghost use Rattle.vz_rules.specs.Messages.{refused, accepted, is_unknown, blocks_of};
 ghost use Rattle.vz_support.specs.Supporting.{Supported, IsSupport, IsNext, HasTaken, Sends};
 
-use crate::messages::note;
+use crate::own_messages::note;
 use crate::support::Support;
 use std::alloc::Global;
 use vz_base::Memory;

@@ -1,6 +1,6 @@
 //! What is kept for clients.
+use crate::Clients;
 use std::marker::Model;
-use vz_clients::Clients;
 use vz_ids::SurfaceId;
 use vz_sinks::Sinks;
 

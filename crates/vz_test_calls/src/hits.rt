@@ -11,16 +11,16 @@ use crate::file::find;
 use crate::row::Row;
 use std::alloc::Global;
 use std::thread::Threads;
+use viz_run::{events_of, plan_of};
 use vz_base::Memory;
 use vz_base::limits::{GREATEST_DISPLAY_SIDE, MOST_FILES};
 use vz_geom::{Point, Rect, Size};
 use vz_hit::Regions;
 use vz_ids::SurfaceId;
-use vz_inputs::{events_of, plan_of};
 use vz_machine::Machine;
 use vz_manager::Manager;
-use vz_plain_machine::PlainMachine;
 use vz_rules::{Event, Plan};
+use vz_slow::PlainMachine;
 
 /// Whether both are hit alike at each point of the display, before the first event of a row of
 /// `step` or `hit` and after each of them. Of a row that goes wrong no event is taken.

@@ -6,13 +6,13 @@ use crate::plans::{by_rule, events_of};
 use std::alloc::{AllocError, Global};
 use std::marker::Brand;
 use std::sync::ledger::{Blank, Ledger};
+use std::thread::Threads;
 use vz_base::Memory;
 use vz_buffers::Steps;
 use vz_pixels::Pixel;
-use vz_plain_machine::PlainMachine;
-use vz_play::{Results, play};
+use vz_player::{Results, play};
 use vz_rules::{Event, Plan};
-use vz_slow::{histories_name_clients, plain_frame};
+use vz_slow::{PlainMachine, histories_name_clients, plain_frame};
 
 /// The schedule of three rounds: the page, and then in each round a begin-frame that both children
 /// answer, and a drawing.
@@ -31,8 +31,8 @@ const DRAWINGS: [usize; 3] = [14, 25, 36];
 const PAINTED: [u64; 3] = [4096, 4096, 176];
 
 /// What events leave of a plan on the plain machine, on a display of two buffers.
-fn left_by_plain<L: Ledger>(
-    alloc: Global,
+fn left_by_plain<L: Ledger, R: Threads + AllocGlobal + Sync>(
+    rt: &R,
     plan: &Plan,
     events: &[Event],
     blank: Blank,
@@ -44,9 +44,9 @@ fn left_by_plain<L: Ledger>(
     ensures legal { IfOk result (λ p. Legal plan.now p.history) }
 {
     let _files = plan.files();
-    let machine = PlainMachine::new(alloc, plan);
+    let machine = PlainMachine::new(rt.alloc(), plan);
     let mut steps = Steps::<L>::new(blank);
-    play(alloc, machine, plan.size(), events, 2, &mut steps)
+    play(rt, rt.alloc(), machine, plan.size(), events, 2, &mut steps)
 }
 
 /// Appends the bytes of pixels.
@@ -100,24 +100,24 @@ fn are_pictures(alloc: Global, plan: &Plan, left: &Results) -> bool
 }
 
 /// Whether events leave the plain pictures.
-fn leave_pictures(alloc: Global, plan: &Plan, events: &[Event]) -> bool
+fn leave_pictures<R: Threads + AllocGlobal + Sync>(rt: &R, plan: &Plan, events: &[Event]) -> bool
     requires { All (NamesClient plan.now) events.now }
 {
-    match left_by_plain::<Brand>(alloc, plan, events, Blank::new(1)) {
-        Ok(left) => are_pictures(alloc, plan, &left),
+    match left_by_plain::<Brand, _>(rt, plan, events, Blank::new(1)) {
+        Ok(left) => are_pictures(rt.alloc(), plan, &left),
         Err(_) => false,
     }
 }
 
 /// Whether three rounds leave the plain pictures.
-fn rounds_leave_pictures(alloc: Global) -> bool {
-    match by_rule(alloc, 3) {
-        Some(plan) => leave_pictures(alloc, &plan, &events_of(alloc, &plan, &THREE_ROUNDS)),
+fn rounds_leave_pictures<R: Threads + AllocGlobal + Sync>(rt: &R) -> bool {
+    match by_rule(rt.alloc(), 3) {
+        Some(plan) => leave_pictures(rt, &plan, &events_of(rt.alloc(), &plan, &THREE_ROUNDS)),
         None => false,
     }
 }
 
 #[test]
 fn plain_pictures(rt: HostRuntime) {
-    assert!(rt; rounds_leave_pictures(rt.alloc()));
+    assert!(rt; rounds_leave_pictures(&rt));
 }

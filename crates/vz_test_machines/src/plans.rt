@@ -11,7 +11,7 @@ use vz_base::limits::MOST_FILES;
 use vz_frame::ClientFile;
 use vz_gen::make;
 use vz_geom::Size;
-use vz_play::{event_of, is_of_plan};
+use vz_player::{event_of, is_of_plan};
 use vz_rules::{Event, Plan};
 
 /// The display of the files by rule.

@@ -10,6 +10,7 @@ use crate::plans::{by_rule, clients_of, events_of};
 use std::alloc::{AllocError, Global};
 use std::marker::Brand;
 use std::sync::ledger::{Blank, Ledger};
+use std::thread::Threads;
 use vz_base::Memory;
 use vz_buffers::{Buffer, Steps};
 use vz_draws::Draws;
@@ -17,8 +18,8 @@ use vz_geom::{Rect, Size};
 use vz_ids::Sub;
 use vz_machine::{Machine, Picture, ThinPicture};
 use vz_manager::Manager;
-use vz_plain_machine::PlainMachine;
 use vz_rules::{Event, Plan, Rest, Returned};
+use vz_slow::PlainMachine;
 
 /// How many histories are played, and how many events each has.
 const SEEDS: u32 = 6;
@@ -90,23 +91,23 @@ impl Told {
     }
 
     /// Adds the bytes of all pixels of a picture.
-    fn add_picture<P: ThinPicture, L: Ledger>(
+    fn add_picture<P: ThinPicture, L: Ledger, R: Threads + AllocGlobal + Sync>(
         &mut self,
-        alloc: Global,
+        rt: &R,
         picture: &P,
         steps: &mut Steps<L>,
     ) -> Result<(), Memory> {
         let size = picture.size();
-        let mut buffer = Buffer::new(alloc, size, steps)?;
-        picture.paint(alloc, whole(&size), &mut buffer, steps)?;
+        let mut buffer = Buffer::new(rt.alloc(), size, steps)?;
+        picture.paint(rt, rt.alloc(), whole(&size), &mut buffer, steps)?;
         self.pixels.extend_from_slice(buffer.bytes())?;
         Ok(())
     }
 
     /// Takes an event of a machine's plan, and adds the picture of a drawing.
-    fn take<M: Machine, L: Ledger>(
+    fn take<M: Machine, L: Ledger, R: Threads + AllocGlobal + Sync>(
         &mut self,
-        alloc: Global,
+        rt: &R,
         machine: &mut M,
         event: Event,
         steps: &mut Steps<L>,
@@ -116,18 +117,18 @@ impl Told {
         requires { NamesClient (M.state machine.old).plan event }
         ensures { OnOk result ((M.state machine.new).plan ≡ (M.state machine.old).plan) }
     {
-        if let Some(picture) = taken(alloc, machine, event)? {
-            let thin = picture.occlude(alloc)?;
-            self.add_picture(alloc, &thin, steps)?;
+        if let Some(picture) = taken(rt.alloc(), machine, event)? {
+            let thin = picture.occlude(rt.alloc())?;
+            self.add_picture(rt, &thin, steps)?;
         }
         Ok(())
     }
 
     /// Takes each of these events, which are of the machine's plan, and adds what it tells after
     /// it, as so many clients are.
-    fn take_all<M: Machine, L: Ledger>(
+    fn take_all<M: Machine, L: Ledger, R: Threads + AllocGlobal + Sync>(
         &mut self,
-        alloc: Global,
+        rt: &R,
         machine: &mut M,
         clients: u32,
         events: &[Event],
@@ -139,9 +140,9 @@ impl Told {
         requires named { All (NamesClient (M.state machine.old).plan) events.now }
     {
         for event in events {
-            self.take(alloc, machine, *event, steps)?;
+            self.take(rt, machine, *event, steps)?;
             self.add_clients(machine, clients)?;
-            self.add_all(alloc, machine)?;
+            self.add_all(rt.alloc(), machine)?;
         }
         Ok(())
     }
@@ -203,8 +204,8 @@ fn taken<M: Machine>(
 
 /// Adds what a machine tells after each of these events, which are of its plan, as so many clients
 /// are; whether there was memory.
-fn tells<M: Machine + Drop, L: Ledger>(
-    alloc: Global,
+fn tells<M: Machine + Drop, L: Ledger, R: Threads + AllocGlobal + Sync>(
+    rt: &R,
     mut machine: M,
     clients: u32,
     events: &[Event],
@@ -220,27 +221,37 @@ where
     requires some { 0 < L.parts }
 {
     let mut steps = Steps::<L>::new(blank);
-    told.take_all(alloc, &mut machine, clients, events, &mut steps)
+    told.take_all(rt, &mut machine, clients, events, &mut steps)
         .is_ok()
 }
 
 /// Adds what the plain machine tells of a plan; whether there was memory.
-fn plain_tells(alloc: Global, plan: &Plan, events: &[Event], told: &mut Told) -> bool
+fn plain_tells<R: Threads + AllocGlobal + Sync>(
+    rt: &R,
+    plan: &Plan,
+    events: &[Event],
+    told: &mut Told,
+) -> bool
     requires { All (NamesClient plan.now) events.now }
 {
-    let machine = PlainMachine::new(alloc, plan);
+    let machine = PlainMachine::new(rt.alloc(), plan);
     let clients = clients_of(plan);
-    tells::<PlainMachine<'_>, Brand>(alloc, machine, clients, events, Blank::new(1), told)
+    tells::<PlainMachine<'_>, Brand, _>(rt, machine, clients, events, Blank::new(1), told)
 }
 
 /// Adds what the machine that users run tells of a plan; whether there was memory.
-fn fast_tells(alloc: Global, plan: Plan, events: &[Event], told: &mut Told) -> bool
+fn fast_tells<R: Threads + AllocGlobal + Sync>(
+    rt: &R,
+    plan: Plan,
+    events: &[Event],
+    told: &mut Told,
+) -> bool
     requires { All (NamesClient plan) events.now }
 {
     let clients = clients_of(&plan);
-    match Manager::open(alloc, plan) {
-        Ok(machine) => tells::<Manager, Brand>(
-            alloc,
+    match Manager::open(rt.alloc(), plan) {
+        Ok(machine) => tells::<Manager, Brand, _>(
+            rt,
             machine,
             clients,
             events,
@@ -252,13 +263,13 @@ fn fast_tells(alloc: Global, plan: Plan, events: &[Event], told: &mut Told) -> b
 }
 
 /// Whether both machines tell the same of a plan.
-fn tell_the_same(alloc: Global, plan: Plan, events: &[Event]) -> bool
+fn tell_the_same<R: Threads + AllocGlobal + Sync>(rt: &R, plan: Plan, events: &[Event]) -> bool
     requires { All (NamesClient plan) events.now }
 {
-    let mut plain = Told::new(alloc);
-    let mut fast = Told::new(alloc);
-    let by_plain = plain_tells(alloc, &plan, events, &mut plain);
-    let by_fast = fast_tells(alloc, plan, events, &mut fast);
+    let mut plain = Told::new(rt.alloc());
+    let mut fast = Told::new(rt.alloc());
+    let by_plain = plain_tells(rt, &plan, events, &mut plain);
+    let by_fast = fast_tells(rt, plan, events, &mut fast);
     by_plain & by_fast & plain.is_same(&fast)
 }
 
@@ -288,26 +299,26 @@ fn put_schedule(seed: u32, schedule: &mut Vec<u8>) -> bool {
 }
 
 /// Whether both machines tell the same of the files by rule in a schedule.
-fn tell_the_same_of(alloc: Global, schedule: &[u8]) -> bool {
-    match by_rule(alloc, 24) {
+fn tell_the_same_of<R: Threads + AllocGlobal + Sync>(rt: &R, schedule: &[u8]) -> bool {
+    match by_rule(rt.alloc(), 24) {
         Some(plan) => {
-            let events = events_of(alloc, &plan, schedule);
-            events.len() == schedule.len() && tell_the_same(alloc, plan, &events)
+            let events = events_of(rt.alloc(), &plan, schedule);
+            events.len() == schedule.len() && tell_the_same(rt, plan, &events)
         }
         None => false,
     }
 }
 
 /// Whether both machines tell the same of the files by rule in a drawn history.
-fn tell_the_same_at(alloc: Global, seed: u32) -> bool {
-    let mut schedule = Vec::new(alloc);
-    put_schedule(seed, &mut schedule) && tell_the_same_of(alloc, &schedule)
+fn tell_the_same_at<R: Threads + AllocGlobal + Sync>(rt: &R, seed: u32) -> bool {
+    let mut schedule = Vec::new(rt.alloc());
+    put_schedule(seed, &mut schedule) && tell_the_same_of(rt, &schedule)
 }
 
 /// The first number from which a history is drawn that the machines tell otherwise.
-fn first_apart(alloc: Global) -> Option<u32> {
+fn first_apart<R: Threads + AllocGlobal + Sync>(rt: &R) -> Option<u32> {
     for seed in 0..SEEDS {
-        if !tell_the_same_at(alloc, seed) {
+        if !tell_the_same_at(rt, seed) {
             return Some(seed);
         }
     }
@@ -316,5 +327,5 @@ fn first_apart(alloc: Global) -> Option<u32> {
 
 #[test]
 fn machines_tell_the_same(rt: HostRuntime) {
-    assert!(rt; first_apart(rt.alloc()).is_none());
+    assert!(rt; first_apart(&rt).is_none());
 }

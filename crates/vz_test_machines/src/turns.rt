@@ -10,8 +10,8 @@ use std::test::Fail;
 use std::thread::{self, Threads};
 use vz_base::Memory;
 use vz_machine::Machine;
-use vz_plain_machine::PlainMachine;
 use vz_rules::{Event, History, Refusal};
+use vz_slow::PlainMachine;
 use vz_turn::{Brief, Hub, Pass, Told};
 
 /// Makes a call for the next message of client 1.

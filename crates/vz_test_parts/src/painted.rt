@@ -6,6 +6,7 @@ use anyhow::Result;
 use std::alloc::Global;
 use std::marker::Brand;
 use std::sync::ledger::{Blank, Ledger};
+use std::thread::Threads;
 use vz_base::Memory;
 use vz_buffers::{Buffer, Steps};
 use vz_flat::{Op, Ops};
@@ -119,31 +120,35 @@ fn as_left(bytes: &[u8]) -> usize {
 }
 
 /// Paints operations inside the display, and counts the pixels that are as they must be.
-fn painted<L: Ledger>(alloc: Global, ops: &Ops, steps: &mut Steps<L>) -> Result<usize, Memory> {
+fn painted<L: Ledger, R: Threads + AllocGlobal + Sync>(
+    rt: &R,
+    ops: &Ops,
+    steps: &mut Steps<L>,
+) -> Result<usize, Memory> {
     let size = Size { w: 6, h: 2 };
     let part = Rect::new(1, -3, 4, 40);
     let all = Rect::new(0, 0, 6, 2);
     let area = part.intersect(&all);
-    let mut buffer = Buffer::new(alloc, size, steps)?;
-    paint(alloc, ops, &mut buffer, area, steps)?;
+    let mut buffer = Buffer::new(rt.alloc(), size, steps)?;
+    paint(rt, rt.alloc(), ops, &mut buffer, area, steps)?;
     Ok(as_left(buffer.bytes()))
 }
 
 /// How many pixels are painted as they must be.
-fn well_painted<L: Ledger>(alloc: Global, blank: Blank) -> usize
+fn well_painted<L: Ledger, R: Threads + AllocGlobal + Sync>(rt: &R, blank: Blank) -> usize
     requires name { blank.name ≡ L.name }
     requires parts { blank.parts ≡ L.parts }
     requires some { 0 < L.parts }
 {
     let mut steps = Steps::<L>::new(blank);
-    match ops_of(alloc) {
-        Some(ops) => painted(alloc, &ops, &mut steps).unwrap_or(0),
+    match ops_of(rt.alloc()) {
+        Some(ops) => painted(rt, &ops, &mut steps).unwrap_or(0),
         None => 0,
     }
 }
 
 /// Paints them and prints how many pixels are as they must be.
-pub(crate) fn play(rt: &HostRuntime) -> Result<()> {
-    let count = well_painted::<Brand>(rt.alloc(), Blank::new(1));
+pub(crate) fn play<R: Threads + AllocGlobal + Print + Sync>(rt: &R) -> Result<()> {
+    let count = well_painted::<Brand, _>(rt, Blank::new(1));
     tell(rt, "painted", "operations", count, LEFT.len() / 4)
 }

@@ -2,8 +2,8 @@
 use anyhow::Result;
 
 /// Prints how many of a history's calls are answered as they must be.
-pub(crate) fn tell(
-    rt: &HostRuntime,
+pub(crate) fn tell<R: AllocGlobal + Print>(
+    rt: &R,
     part: &str,
     history: &str,
     answered: usize,

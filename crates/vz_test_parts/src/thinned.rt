@@ -7,6 +7,7 @@ use anyhow::Result;
 use std::alloc::Global;
 use std::marker::Brand;
 use std::sync::ledger::{Blank, Ledger};
+use std::thread::Threads;
 use vz_base::Memory;
 use vz_buffers::{Buffer, Steps};
 use vz_draws::Draws;
@@ -139,20 +140,28 @@ fn drawn_ops(alloc: Global, number: u32) -> Option<Ops> {
 }
 
 /// The display with these operations.
-fn painted<L: Ledger>(alloc: Global, ops: &Ops, steps: &mut Steps<L>) -> Result<Buffer, Memory> {
+fn painted<L: Ledger, R: Threads + AllocGlobal + Sync>(
+    rt: &R,
+    ops: &Ops,
+    steps: &mut Steps<L>,
+) -> Result<Buffer, Memory> {
     let all = Rect::new(0, 0, 4, 2);
-    let mut buffer = Buffer::new(alloc, SIDES, steps)?;
-    paint(alloc, ops, &mut buffer, all, steps)?;
+    let mut buffer = Buffer::new(rt.alloc(), SIDES, steps)?;
+    paint(rt, rt.alloc(), ops, &mut buffer, all, steps)?;
     Ok(buffer)
 }
 
 /// How many items the drawn list of a number loses, if there is memory and it is painted alike with
 /// them and without them.
-fn lost<L: Ledger>(alloc: Global, number: u32, steps: &mut Steps<L>) -> Option<u64> {
-    let ops = drawn_ops(alloc, number)?;
-    let before = painted(alloc, &ops, steps).ok()?;
-    let thin = thin_of(alloc, ops)?;
-    let after = painted(alloc, thin.ops(), steps).ok()?;
+fn lost<L: Ledger, R: Threads + AllocGlobal + Sync>(
+    rt: &R,
+    number: u32,
+    steps: &mut Steps<L>,
+) -> Option<u64> {
+    let ops = drawn_ops(rt.alloc(), number)?;
+    let before = painted(rt, &ops, steps).ok()?;
+    let thin = thin_of(rt.alloc(), ops)?;
+    let after = painted(rt, thin.ops(), steps).ok()?;
     if before.bytes() == after.bytes() {
         Some(thin.gone())
     } else {
@@ -162,7 +171,7 @@ fn lost<L: Ledger>(alloc: Global, number: u32, steps: &mut Steps<L>) -> Option<u
 
 /// How many drawn lists are painted alike, up to the first that is not, and how many items they
 /// lose.
-fn alike<L: Ledger>(alloc: Global, blank: Blank) -> (u32, u64)
+fn alike<L: Ledger, R: Threads + AllocGlobal + Sync>(rt: &R, blank: Blank) -> (u32, u64)
     requires name { blank.name ≡ L.name }
     requires parts { blank.parts ≡ L.parts }
     requires some { 0 < L.parts }
@@ -170,7 +179,7 @@ fn alike<L: Ledger>(alloc: Global, blank: Blank) -> (u32, u64)
     let mut steps = Steps::<L>::new(blank);
     let mut gone = 0_u64;
     for number in 0..DRAWN {
-        let Some(more) = lost(alloc, number, &mut steps) else {
+        let Some(more) = lost(rt, number, &mut steps) else {
             return (number, gone);
         };
         gone = gone.saturating_add(more);
@@ -180,8 +189,8 @@ fn alike<L: Ledger>(alloc: Global, blank: Blank) -> (u32, u64)
 
 /// Removes what is occluded in the drawn lists, and prints how many of them are painted alike and
 /// how many items they lose.
-pub(crate) fn play(rt: &HostRuntime) -> Result<()> {
-    let (count, gone) = alike::<Brand>(rt.alloc(), Blank::new(1));
+pub(crate) fn play<R: Threads + AllocGlobal + Print + Sync>(rt: &R) -> Result<()> {
+    let (count, gone) = alike::<Brand, _>(rt, Blank::new(1));
     tell(rt, "occluded", "drawn", count as usize, DRAWN as usize)?;
     tell(
         rt,

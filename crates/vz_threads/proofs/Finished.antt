@@ -13,10 +13,10 @@ use Rattle.vz_rules.specs.Frames.{written, painted, frames_bytes, drawn_frames, 
 use Rattle.vz_display.specs.Displayed.{first_displayed, display_at}
 use Rattle.vz_display.proofs.Drawings.{first_is}
 use Rattle.vz_player.specs.Played.{Played, played_at, frames_of as frames_by}
-use Rattle.vz_outputs.specs.Taken.{AddsFrames}
-use Rattle.vz_outputs.proofs.Adding.{HasAdded, more_added, front_added, others_kept}
-use Rattle.vz_outputs.proofs.Behaving.{then_behaves, behaves_as}
-use Rattle.vz_outputs.proofs.Growing.{frames_then_frames}
+use Rattle.vz_player.specs.Taken.{AddsFrames}
+use Rattle.vz_player.proofs.Adding.{HasAdded, more_added, front_added, others_kept}
+use Rattle.vz_player.proofs.Behaving.{then_behaves, behaves_as}
+use Rattle.vz_player.proofs.Growing.{frames_then_frames}
 use Rattle.vz_threads.specs.Courses.{IsRun, frames_of}
 use Rattle.vz_threads.specs.Outlets.{Outlook, file_of}
 use Rattle.vz_threads.specs.Rounds.{Setup, MayBegin}

@@ -21,10 +21,10 @@ use Rattle.vz_display.specs.Displayed.{Displayed, current, display_at, display_a
 use Rattle.vz_display.proofs.Histories.{drawn_is, written_is, steps_is, other_is}
 use Rattle.vz_player.specs.Played.{first_played}
 use Rattle.vz_player.proofs.Frames.{last_whole}
-use Rattle.vz_outputs.proofs.Adding.{HasAdded, none_added, more_added, front_added, still_open}
-use Rattle.vz_outputs.proofs.Behaving.{then_behaves}
-use Rattle.vz_outputs.proofs.Growing.{frames_then_frames, one_frame}
-use Rattle.vz_outputs.proofs.Taking.{shows_written, frame_is}
+use Rattle.vz_player.proofs.Adding.{HasAdded, none_added, more_added, front_added, still_open}
+use Rattle.vz_player.proofs.Behaving.{then_behaves}
+use Rattle.vz_player.proofs.Growing.{frames_then_frames, one_frame}
+use Rattle.vz_player.proofs.Taking.{shows_written, frame_is}
 use Rattle.vz_threads.specs.Courses.{frames_of}
 use Rattle.vz_threads.specs.Outlets.{Outlook, Fixed, file_of, frame_bytes, MayShow, Shows, BeginsFrame}
 use Rattle.vz_threads.specs.Rounds.{Setup, MayBegin, AreShown}
@@ -160,7 +160,7 @@ module _ (k : Setup) (start : Outlook) where
 
   -- others are kept by a call more
   pub others_next : (now new : Outlook) (h : List Entry) → MayBegin k start → AreShown k start now h → KeepsOthers (file_of now) now.shelf new.shelf → KeepsOthers (file_of start) start.shelf new.shelf
-  others_next now new h begins are kept = Rattle.vz_outputs.proofs.Adding.others_kept start.fixed.slot (frames_of k.plan h k.buffers) start.shelf now.shelf new.shelf (added now h begins are) (subst (λ (n : Name). KeepsOthers n now.shelf new.shelf) (named now h are) kept)
+  others_next now new h begins are kept = Rattle.vz_player.proofs.Adding.others_kept start.fixed.slot (frames_of k.plan h k.buffers) start.shelf now.shelf new.shelf (added now h begins are) (subst (λ (n : Name). KeepsOthers n now.shelf new.shelf) (named now h are) kept)
 
   -- an error behind what went well
   pub behaves_next : {T : Type 0} (r : Result T ShelfError) (now new : Outlook) (h : List Entry) → AreShown k start now h → Behaves now.shelf new.shelf r → Behaves start.shelf new.shelf r

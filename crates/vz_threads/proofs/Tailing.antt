@@ -17,9 +17,9 @@ use Rattle.vz_rules.specs.Step.{step_in, entry_in, world, NamesClient}
 use Rattle.vz_rules.specs.Course.{is_begin, is_drawn, some_waits}
 use Rattle.vz_rules.proofs.Runs.{world-more}
 use Rattle.vz_player.specs.Played.{Played, played_on, next_entry, frames_of, painted_by}
-use Rattle.vz_outputs.specs.Taken.{played_all, StopsAmong, AddsFrames, AddsFramesFront}
-use Rattle.vz_outputs.proofs.Adding.{HasAdded, none_added, more_added, front_added}
-use Rattle.vz_outputs.proofs.Growing.{frames_then_frames, no_frame}
+use Rattle.vz_player.specs.Taken.{played_all, StopsAmong, AddsFrames, AddsFramesFront}
+use Rattle.vz_player.proofs.Adding.{HasAdded, none_added, more_added, front_added}
+use Rattle.vz_player.proofs.Growing.{frames_then_frames, no_frame}
 use Rattle.vz_threads.specs.Tails.{AreAwaited, AddsBegins, AddsShow, AddsTail, GoesOn, AllComeDue}
 use Rattle.vz_threads.proofs.Coming_due.{latest, none_late, begin_comes_due, begin_nears}
 

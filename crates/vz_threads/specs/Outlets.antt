@@ -7,7 +7,7 @@ use Rattle.vz_outside.specs.Shelved.{Shelved, Name, Writing, Appends, AppendsFro
 use Rattle.vz_rules.specs.Frames.{pixel_bytes}
 use Rattle.vz_machine.specs.Pictured.{Pictured}
 use Rattle.vz_display.specs.Displayed.{Displayed, shown, steps_for}
-use Rattle.vz_outputs.specs.Shown.{ShowsFrame, frame_on}
+use Rattle.vz_player.specs.Shown.{ShowsFrame, frame_on}
 use Rattle.vz_pipe.specs.Ends.{PipeId}
 
 -- the fixed part of an outlet: the file's slot, the size of the frames, which shelf (or which

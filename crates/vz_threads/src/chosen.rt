@@ -18,8 +18,8 @@ use std::thread::Threads;
 use vz_buffers::Steps;
 use vz_display::Display;
 use vz_machine::Machine;
-use vz_outputs::FrameFile;
 use vz_outside::{Gate, Shelf};
+use vz_player::FrameFile;
 
 /// Lets the display and the clients work, and gathers the history. The frames are written by a
 /// thread of their own, if the course says so, and otherwise by the display. Conditions: the desk

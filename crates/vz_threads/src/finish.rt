@@ -12,13 +12,13 @@ ghost use Rattle.vz_threads.specs.Tails.{AllComeDue};
 use crate::tail::play_tail;
 use std::alloc::Global;
 use std::sync::ledger::Ledger;
+use std::thread::Threads;
 use vz_buffers::Steps;
 use vz_display::Display;
 use vz_frame::{List, Room};
 use vz_machine::Machine;
-use vz_outputs::FrameFile;
 use vz_outside::{Gate, Shelf, ShelfError};
-use vz_player::Player;
+use vz_player::{FrameFile, Player};
 use vz_rules::{Entry, Rest};
 
 /// Begins frames until no submission waits, draws once more, and returns what is outstanding.
@@ -26,7 +26,8 @@ use vz_rules::{Entry, Rest};
 /// it, the begin-frame of each pending deadline can still come, the frames have the size of the
 /// plan, and the slot is open for writing. After an error the history is legal, and a front part
 /// of the bytes of its further frames was written.
-pub(crate) fn finish_run<M: Machine + Drop, F: Shelf, G: Gate, L: Ledger>(
+pub(crate) fn finish_run<M: Machine + Drop, F: Shelf, G: Gate, L: Ledger, R: Threads + Sync>(
+    rt: &R,
     alloc: Global,
     machine: M,
     display: Display,
@@ -64,7 +65,7 @@ where
     ensures behaves { Behaves (F.shelved shelf.old) (F.shelved shelf.new) result }
 {
     let mut player = Player::resume(machine, display, gathered, buffers);
-    match play_tail(alloc, &mut player, shelf, file, gate, steps) {
+    match play_tail(rt, alloc, &mut player, shelf, file, gate, steps) {
         Ok(()) => {
             let rest = player.rest(alloc);
             *history = player.into_history();

@@ -1,16 +1,18 @@
 //! Where the display's pictures are shown and written.
 ghost use Rattle.std.specs.Prelude.{OnOk, OnErr, None, ◌≡◌};
+ghost use Rattle.std.specs.Thread.{IsSync};
 ghost use Rattle.vz_outside.specs.Shelved.{KeepsOthers, Behaves};
 ghost use Rattle.vz_threads.specs.Outlets.{MayShow, Shows, BeginsFrame, file_of};
 
-use std::alloc::Global;
+use std::alloc::AllocGlobal;
 use std::sync::Wait;
 use std::sync::ledger::Ledger;
+use std::thread::Threads;
 use vz_buffers::Steps;
 use vz_display::Display;
 use vz_machine::Picture;
-use vz_outputs::{FrameFile, write_frame};
 use vz_outside::{Shelf, ShelfError};
+use vz_player::{FrameFile, write_frame};
 
 /// Shows pictures on a display, and appends the frame of each to a file.
 pub trait Outlet {
@@ -22,8 +24,13 @@ pub trait Outlet {
     /// Removes what is occluded in a picture, shows it, and appends its frame to the file. The
     /// errors are those of the shelf, and `Memory`. After an error a front part of the frame was
     /// written, possibly none, and the display may not be used any more.
-    fn show<P: Picture + Drop>(&mut self, alloc: Global, picture: P) -> Result<(), ShelfError>
-        requires { MayShow (stands self.old) (P.pictured picture) }
+    fn show<P: Picture + Drop, R: Threads + AllocGlobal + Sync>(
+        &mut self,
+        rt: &R,
+        picture: P,
+    ) -> Result<(), ShelfError>
+        requires sync { IsSync R.row }
+        requires may { MayShow (stands self.old) (P.pictured picture) }
         ensures fixed { (stands self.new).fixed ≡ (stands self.old).fixed }
         ensures shown { OnOk result
             (Shows (P.pictured picture) (stands self.old) (stands self.new)) }
@@ -72,9 +79,13 @@ impl<'a, F: Shelf, L: Ledger> Outlet for FrameOutlet<'a, F, L> {
       steps = o.steps.now;
     } };
 
-    fn show<P: Picture + Drop>(&mut self, alloc: Global, picture: P) -> Result<(), ShelfError> {
-        let thin = picture.occlude(alloc)?;
-        self.display.show(alloc, &thin, self.steps)?;
+    fn show<P: Picture + Drop, R: Threads + AllocGlobal + Sync>(
+        &mut self,
+        rt: &R,
+        picture: P,
+    ) -> Result<(), ShelfError> {
+        let thin = picture.occlude(rt.alloc())?;
+        self.display.show(rt, rt.alloc(), &thin, self.steps)?;
         write_frame(self.shelf, self.file, &self.display)?;
         Ok(())
     }

@@ -4,9 +4,10 @@ ghost use Rattle.vz_threads.specs.Pipes.{bytes_of, paper};
 
 use crate::outlet::Outlet;
 use crate::progress::Progress;
-use std::alloc::Global;
+use std::alloc::AllocGlobal;
 use std::sync::Wait;
 use std::sync::ledger::Ledger;
+use std::thread::Threads;
 use vz_buffers::{SharedBuffer, Steps};
 use vz_display::Display;
 use vz_geom::Size;
@@ -47,9 +48,13 @@ impl<'a, L: Ledger> Outlet for PipedOutlet<'a, L> {
       steps = o.steps.now;
     } };
 
-    fn show<P: Picture + Drop>(&mut self, alloc: Global, picture: P) -> Result<(), ShelfError> {
-        let thin = picture.occlude(alloc)?;
-        self.display.show(alloc, &thin, self.steps)?;
+    fn show<P: Picture + Drop, R: Threads + AllocGlobal + Sync>(
+        &mut self,
+        rt: &R,
+        picture: P,
+    ) -> Result<(), ShelfError> {
+        let thin = picture.occlude(rt.alloc())?;
+        self.display.show(rt, rt.alloc(), &thin, self.steps)?;
         let frame = self.display.share()?;
         self.sender.add(frame)?;
         self.shown = self.shown.saturating_add(1);

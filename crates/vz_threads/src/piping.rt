@@ -23,9 +23,9 @@ use vz_buffers::{SharedBuffer, Steps};
 use vz_desk::Gathered;
 use vz_display::Display;
 use vz_machine::Machine;
-use vz_outputs::FrameFile;
 use vz_outside::{Gate, Shelf, ShelfError};
 use vz_pipe::pipe;
+use vz_player::FrameFile;
 
 /// How many frames wait in the channel at most.
 const SLOTS: usize = 2;

@@ -12,6 +12,7 @@ use crate::outlet::Outlet;
 use crate::rounds::{begin_frame, end_round, tell_over};
 use std::alloc::AllocGlobal;
 use std::sync::Wait;
+use std::thread::Threads;
 use vz_base::Memory;
 use vz_desk::{Desk, DisplayEnd};
 use vz_machine::Machine;
@@ -45,7 +46,7 @@ where
 /// Makes a round. After an error a front part of the bytes of its frame was written. Conditions:
 /// the end is of this desk, the display is somewhere in its run, and each call of an end without
 /// a thread took a message.
-fn play_round<M: Machine + Send, O: Outlet, G: Gate, R: Wait + AllocGlobal>(
+fn play_round<M: Machine + Send, O: Outlet, G: Gate, R: Threads + Wait + AllocGlobal + Sync>(
     rt: &R,
     desk: &Desk<M, Halt>,
     gate: &G,
@@ -78,7 +79,7 @@ where
 /// Makes the rounds of a run. After an error a front part of the bytes of their frames was
 /// written. Conditions: the end is of this desk, the display has made no round yet, and each call
 /// of an end without a thread took a message.
-fn play_rounds<M: Machine + Send, O: Outlet, G: Gate, R: Wait + AllocGlobal>(
+fn play_rounds<M: Machine + Send, O: Outlet, G: Gate, R: Threads + Wait + AllocGlobal + Sync>(
     rt: &R,
     desk: &Desk<M, Halt>,
     gate: &G,
@@ -109,7 +110,7 @@ where
 }
 
 /// Makes the rounds, takes the event Over, and closes the outlet.
-fn play_to_over<M: Machine + Send, O: Outlet, G: Gate, R: Wait + AllocGlobal>(
+fn play_to_over<M: Machine + Send, O: Outlet, G: Gate, R: Threads + Wait + AllocGlobal + Sync>(
     rt: &R,
     desk: &Desk<M, Halt>,
     gate: &G,
@@ -148,7 +149,7 @@ where
 /// stopped, and a front part of the bytes of the frames was written. Conditions: the end is of
 /// this desk, the display has made no round yet, and each call of an end without a thread took a
 /// message.
-pub(crate) fn play<M: Machine + Send, O: Outlet, G: Gate, R: Wait + AllocGlobal>(
+pub(crate) fn play<M: Machine + Send, O: Outlet, G: Gate, R: Threads + Wait + AllocGlobal + Sync>(
     rt: &R,
     desk: &Desk<M, Halt>,
     gate: &G,

@@ -11,6 +11,7 @@ use crate::halt::Halt;
 use crate::outlet::Outlet;
 use std::alloc::AllocGlobal;
 use std::sync::Wait;
+use std::thread::Threads;
 use vz_base::Memory;
 use vz_desk::{Answer, Desk, DisplayEnd, Drawing, Hold};
 use vz_machine::Machine;
@@ -113,7 +114,12 @@ where
 /// draws, shows the picture, and passes its frame on. After an error a front part of the bytes of
 /// the frame was written. Conditions: the end is of this desk, and the display is somewhere in its
 /// run.
-pub(crate) fn end_round<M: Machine + Send, O: Outlet, G: Gate, R: Wait + AllocGlobal>(
+pub(crate) fn end_round<
+    M: Machine + Send,
+    O: Outlet,
+    G: Gate,
+    R: Threads + Wait + AllocGlobal + Sync,
+>(
     rt: &R,
     desk: &Desk<M, Halt>,
     gate: &G,
@@ -164,7 +170,12 @@ where
 /// Draws, shows the picture if there is one, and calls Done. If showing it fails, Done is still
 /// called, and a front part of the bytes of the frame was written. Conditions: the end is of this
 /// desk, and the display is somewhere in its run.
-pub(crate) fn show_drawing<M: Machine + Send, O: Outlet, G: Gate, R: Wait + AllocGlobal>(
+pub(crate) fn show_drawing<
+    M: Machine + Send,
+    O: Outlet,
+    G: Gate,
+    R: Threads + Wait + AllocGlobal + Sync,
+>(
     rt: &R,
     desk: &Desk<M, Halt>,
     gate: &G,
@@ -186,7 +197,7 @@ where
     };
     match drawing {
         Drawing::Drawn(hold, picture) => {
-            let shown = outlet.show(rt.alloc(), picture);
+            let shown = outlet.show(rt, picture);
             end_frame(rt, desk, gate, d, hold);
             shown
         }

@@ -21,8 +21,8 @@ use vz_buffers::Steps;
 use vz_display::Display;
 use vz_frame::List;
 use vz_machine::Machine;
-use vz_outputs::FrameFile;
 use vz_outside::{Gate, Shelf, ShelfError};
+use vz_player::FrameFile;
 use vz_rules::{Entry, Rest};
 
 /// What the display does in a run.
@@ -104,6 +104,7 @@ where
     );
     match played {
         Ok(()) => finish_run(
+            rt,
             rt.alloc(),
             machine,
             display,

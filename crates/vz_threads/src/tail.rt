@@ -6,16 +6,16 @@ ghost use Rattle.vz_rules.specs.declared.entry.Entry.{Entry as OneEntry};
 ghost use Rattle.vz_rules.specs.Course.{is_drawn};
 ghost use Rattle.vz_rules.specs.Step.{world};
 ghost use Rattle.vz_player.specs.Played.{painted_by};
-ghost use Rattle.vz_outputs.specs.Taken.{AddsFrames, AddsFramesFront};
+ghost use Rattle.vz_player.specs.Taken.{AddsFrames, AddsFramesFront};
 ghost use Rattle.vz_threads.specs.Tails.{AddsTail, AddsBegins, AddsShow, GoesOn, AllComeDue};
 
 use std::alloc::Global;
 use std::sync::ledger::Ledger;
+use std::thread::Threads;
 use vz_buffers::Steps;
 use vz_machine::Machine;
-use vz_outputs::{FrameFile, play_frames};
 use vz_outside::{Gate, Shelf, ShelfError};
-use vz_player::Player;
+use vz_player::{FrameFile, Player, play_frames};
 use vz_rules::{Entry, Event, Reply};
 
 /// Begins frames while some submission waits, then draws once, and calls Done if a frame was
@@ -23,7 +23,8 @@ use vz_rules::{Entry, Event, Reply};
 /// player, the begin-frame of each pending deadline can still come, the frames have the size of
 /// the plan, and the slot is open for writing. After an error the history has a part of these
 /// entries, and a front part of the bytes of the frames was written.
-pub(crate) fn play_tail<M: Machine + Drop, F: Shelf, G: Gate, L: Ledger>(
+pub(crate) fn play_tail<M: Machine + Drop, F: Shelf, G: Gate, L: Ledger, R: Threads + Sync>(
+    rt: &R,
     alloc: Global,
     player: &mut Player<M>,
     shelf: &mut F,
@@ -50,13 +51,14 @@ where
         (F.shelved shelf.old) (F.shelved shelf.new) }
     ensures behaves { Behaves (F.shelved shelf.old) (F.shelved shelf.new) result }
 {
-    begin_awaited(alloc, player, shelf, file, gate, steps)?;
-    play_show(alloc, player, shelf, file, gate, steps)?;
+    begin_awaited(rt, alloc, player, shelf, file, gate, steps)?;
+    play_show(rt, alloc, player, shelf, file, gate, steps)?;
     Ok(())
 }
 
 /// Begins frames while some submission waits.
-fn begin_awaited<M: Machine + Drop, F: Shelf, G: Gate, L: Ledger>(
+fn begin_awaited<M: Machine + Drop, F: Shelf, G: Gate, L: Ledger, R: Threads + Sync>(
+    rt: &R,
     alloc: Global,
     player: &mut Player<M>,
     shelf: &mut F,
@@ -84,13 +86,14 @@ where
     ensures behaves { Behaves (F.shelved shelf.old) (F.shelved shelf.new) result }
 {
     while player.machine().waiting() {
-        play_frames(alloc, player, &[Event::Begin], shelf, file, gate, steps)?;
+        play_frames(rt, alloc, player, &[Event::Begin], shelf, file, gate, steps)?;
     }
     Ok(())
 }
 
 /// Draws once, and calls Done if a frame was drawn.
-fn play_show<M: Machine + Drop, F: Shelf, G: Gate, L: Ledger>(
+fn play_show<M: Machine + Drop, F: Shelf, G: Gate, L: Ledger, R: Threads + Sync>(
+    rt: &R,
     alloc: Global,
     player: &mut Player<M>,
     shelf: &mut F,
@@ -116,11 +119,11 @@ where
         (F.shelved shelf.old) (F.shelved shelf.new) }
     ensures behaves { Behaves (F.shelved shelf.old) (F.shelved shelf.new) result }
 {
-    play_frames(alloc, player, &[Event::Draw], shelf, file, gate, steps)?;
+    play_frames(rt, alloc, player, &[Event::Draw], shelf, file, gate, steps)?;
     if !ends_drawn(player.history()) {
         return Ok(());
     }
-    play_frames(alloc, player, &[Event::Done], shelf, file, gate, steps)?;
+    play_frames(rt, alloc, player, &[Event::Done], shelf, file, gate, steps)?;
     Ok(())
 }
 

@@ -1,6 +1,6 @@
 use Rattle.std.proofs.Common.{◌≡◌, ℕ, ◌+◌, ◌≤◌, OnOk, OnErr, sym, subst, ◌∙◌}
 use Rattle.vz_base.specs.declared.limits.TheConstants.{MOST_BUFFERS}
-use Rattle.vz_inputs.specs.Read.{texts}
+use Rattle.viz_run.specs.Read.{texts}
 use Rattle.vz_outside.specs.Shelved.{Appends, AppendsFront}
 use Rattle.vz_rules.specs.Frames.{painted}
 use Rattle.vz_threads.specs.Courses.{frames_of}

@@ -1,7 +1,7 @@
 use Rattle.std.proofs.Common.{sym, ap, ◌∙◌}
-use Rattle.vz_outputs.proofs.Behaving.{on_err}
+use Rattle.vz_player.proofs.Behaving.{on_err}
 use Rattle.vz_rules.specs.Plan.{Plan, IsPlan}
-use Rattle.vz_demo.specs.Planned.{demo_plan}
+use Rattle.viz_run.specs.Planned.{demo_plan}
 use Rattle.viz_run.specs.Demo.{demo_events}
 use Rattle.viz_run.proofs.Demonstrated.{none_played, all_played, named_by, front_by, history_by, counted_by, line_by}
 use Rattle.viz_run.proofs.Opened.{its_plan, its_world, of_its_plan}

@@ -1,9 +1,9 @@
 use Rattle.std.proofs.Common.{ℕ, length, sym, ap, ◌∙◌, arith}
 use Rattle.vz_outside.proofs.Calls.{ran_none, ran_one, ran_then_ran}
-use Rattle.vz_inputs.proofs.Behaving.{missing_before}
-use Rattle.vz_inputs.specs.Read.{texts, contents}
-use Rattle.vz_inputs.specs.Refusals.{plan_read}
-use Rattle.vz_inputs.specs.Schedule.{events_of}
+use Rattle.viz_run.proofs.Behaving.{missing_before}
+use Rattle.viz_run.specs.Read.{texts, contents}
+use Rattle.viz_run.specs.Refusals.{plan_read}
+use Rattle.viz_run.specs.Schedule.{events_of}
 use Rattle.std.proofs.Common.{List}
 use Rattle.viz_run.specs.Stepped.{refused_of}
 use Rattle.viz_run.proofs.Stepping.{ok_is_none}

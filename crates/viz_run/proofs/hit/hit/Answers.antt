@@ -5,8 +5,8 @@ use Rattle.std.specs.declared.string.String.{String}
 use Rattle.vz_geom.specs.declared.Point.{Point}
 use Rattle.vz_geom.specs.declared.Size.{Size}
 use Rattle.vz_geom.specs.Rectangle.{has, sized}
-use Rattle.vz_inputs.specs.Read.{texts}
-use Rattle.vz_outputs.proofs.Behaving.{on_err}
+use Rattle.viz_run.specs.Read.{texts}
+use Rattle.vz_player.proofs.Behaving.{on_err}
 use Rattle.vz_outside.specs.declared.shelf.ShelfError.TheVariants as shelf_error
 use Rattle.vz_rules.specs.Plan.{Plan, IsPlan}
 use Rattle.vz_rules.specs.Step.{NamesClient}

@@ -1,6 +1,6 @@
 use Rattle.std.proofs.Common.{rules, inl, inr, refl}
-use Rattle.vz_demo.proofs.Fitting.{planned}
-use Rattle.vz_outputs.proofs.Behaving.{on_err}
+use Rattle.viz_run.proofs.Demo_fits.{planned}
+use Rattle.vz_player.proofs.Behaving.{on_err}
 use Rattle.vz_outside.proofs.Calls.{ran_none, ran_one}
 use Rattle.vz_words.specs.Words.{texts}
 use Rattle.viz_run.proofs.Stopping.{stops_at, stops_after}
@@ -133,7 +133,7 @@ pub make_files-requires : goal.make_files-requires
 make_files-requires g c = asked_fits _ _ (asks_for (texts c.args.words.now) _ _ c.in-Some-Gen.field-0-is c.in-Some-Gen.ensures.found)
 
 pub demo-requires-clause-few : goal.demo-requires-clause-few
-demo-requires-clause-few g c = demo_few (texts c.args.words.now) c.in-Some-Demo.rounds (asks_for (texts c.args.words.now) _ _ c.in-Some-Demo.field-0-is c.in-Some-Demo.ensures.found)
+demo-requires-clause-few g c = λ _ _. demo_few (texts c.args.words.now) c.in-Some-Demo.rounds (asks_for (texts c.args.words.now) _ _ c.in-Some-Demo.field-0-is c.in-Some-Demo.ensures.found)
 
 pub returns-in-Some-Run-clause-done : goal.returns-in-Some-Run-clause-done
 returns-in-Some-Run-clause-done g c =

@@ -1,7 +1,7 @@
 use Rattle.std.proofs.Common.{length, sym, ap, ◌∙◌, arith}
 use Rattle.vz_outside.proofs.Calls.{ran_none}
-use Rattle.vz_inputs.specs.Read.{contents}
-use Rattle.vz_inputs.specs.Refusals.{file_refused, plan_read}
+use Rattle.viz_run.specs.Read.{contents}
+use Rattle.viz_run.specs.Refusals.{file_refused, plan_read}
 use Rattle.viz_run.proofs.Stopping.{stops_at}
 use Rattle.viz_run.proofs.Admitting.{input_of}
 use Rattle.viz_run.proofs.planning.read_plan.Goals as goal

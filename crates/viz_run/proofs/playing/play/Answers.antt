@@ -1,7 +1,7 @@
 use Rattle.std.proofs.Common.{subst}
 use Rattle.vz_outside.proofs.Calls.{ran_one, ran_then_ran}
-use Rattle.vz_outputs.proofs.Behaving.{on_err, behaves_at, behaves_as, then_behaves}
-use Rattle.vz_outputs.proofs.Outs.{made_stands, none_made, log_stands, log_cut, stands_whole}
+use Rattle.vz_player.proofs.Behaving.{on_err, behaves_at, behaves_as, then_behaves}
+use Rattle.vz_player.proofs.Outs.{made_stands, none_made, log_stands, log_cut, stands_whole}
 use Rattle.vz_outside.specs.Shelved.{Appends, AppendsFront}
 use Rattle.vz_rules.specs.Log.{log_text}
 use Rattle.vz_rules.specs.declared.entry.Rest.{Rest}

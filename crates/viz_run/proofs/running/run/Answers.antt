@@ -6,9 +6,9 @@ use Rattle.std.specs.declared.string.String.{String}
 use Rattle.vz_outside.proofs.Calls.{ran_one, ran_then_ran}
 use Rattle.vz_outside.specs.declared.shelf.ShelfError.TheVariants as shelf_error
 use Rattle.vz_geom.specs.declared.Size.{Size}
-use Rattle.vz_inputs.specs.Read.{texts}
-use Rattle.vz_inputs.specs.Refusals.{plan_read}
-use Rattle.vz_outputs.proofs.Behaving.{on_err}
+use Rattle.viz_run.specs.Read.{texts}
+use Rattle.viz_run.specs.Refusals.{plan_read}
+use Rattle.vz_player.proofs.Behaving.{on_err}
 use Rattle.vz_manager.proofs.Crossing.{manager_send}
 use Rattle.viz_run.specs.Commands.{output_names}
 use Rattle.viz_run.specs.Ends.{outputs_of}

@@ -4,8 +4,8 @@ use Rattle.std.specs.String.{string_bytes}
 use Rattle.std.specs.declared.string.String.{String}
 use Rattle.vz_outside.proofs.Calls.{ran_one, ran_then_ran}
 use Rattle.vz_outside.specs.declared.shelf.ShelfError.TheVariants as shelf_error
-use Rattle.vz_inputs.specs.Read.{texts}
-use Rattle.vz_outputs.proofs.Behaving.{on_err}
+use Rattle.viz_run.specs.Read.{texts}
+use Rattle.vz_player.proofs.Behaving.{on_err}
 use Rattle.viz_run.specs.Commands.{output_names}
 use Rattle.viz_run.specs.Ends.{outputs_of}
 use Rattle.vz_rules.specs.Plan.{Plan, IsPlan}

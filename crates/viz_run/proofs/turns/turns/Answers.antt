@@ -5,10 +5,10 @@ use Rattle.std.specs.String.{string_bytes}
 use Rattle.std.specs.declared.string.String.{String}
 use Rattle.vz_callers.specs.Turns.{message_counts}
 use Rattle.vz_geom.specs.declared.Size.{Size}
-use Rattle.vz_inputs.specs.Read.{texts}
-use Rattle.vz_inputs.specs.Refusals.{plan_read}
+use Rattle.viz_run.specs.Read.{texts}
+use Rattle.viz_run.specs.Refusals.{plan_read}
 use Rattle.vz_manager.proofs.Crossing.{manager_send}
-use Rattle.vz_outputs.proofs.Behaving.{on_err}
+use Rattle.vz_player.proofs.Behaving.{on_err}
 use Rattle.vz_outside.specs.declared.shelf.ShelfError.TheVariants as shelf_error
 use Rattle.vz_rules.specs.Plan.{Plan, IsPlan}
 use Rattle.vz_rules.specs.declared.entry.Entry.{Entry}

@@ -1,4 +1,4 @@
-use Rattle.std.proofs.Common.{◌≡◌, ◌≤◌, ◌++◌, map, drop, Bor, vec_len, vec_capacity}
+use Rattle.std.proofs.Common.{◌≡◌, ◌≤◌, ◌++◌, map, drop, vec_len, vec_capacity}
 use Rattle.vz_paint.specs.Choice.{seen}
 use Rattle.vz_paint.proofs.choice.choose.Given as goal
 

@@ -1,5 +1,5 @@
 use Rattle.std.proofs.Common.{ap, ◌∙◌}
-use Rattle.vz_pixels.specs.Colour.{Colour, black, over, scale}
+use Rattle.vz_pixels.specs.Colour.{black, over, scale}
 use Rattle.vz_paint.proofs.Grounded.{over_black, src_black, dst_in_black}
 use Rattle.vz_paint.proofs.ground.on_black.Goals as goal
 

@@ -4,7 +4,6 @@ use Rattle.vz_rules.specs.Paint.{texel_of}
 use Rattle.vz_geom.specs.Rectangle.{has, plus, minus, corner}
 use Rattle.vz_frame.specs.Blending.{laid}
 use Rattle.vz_pixels.specs.Colour.{transparent}
-use Rattle.vz_flat.specs.declared.op.Op.{Op}
 use Rattle.vz_paint.specs.Stack.{MayStand}
 use Rattle.vz_paint.specs.Row.{right_of}
 use Rattle.vz_paint.proofs.Stacked.{written, fill_runs, blit_runs, push_runs, pop_runs}

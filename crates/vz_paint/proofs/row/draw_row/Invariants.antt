@@ -1,4 +1,4 @@
-use Rattle.std.proofs.Common.{map, length, Bor}
+use Rattle.std.proofs.Common.{map, length}
 use Rattle.vz_paint.proofs.Drawing.{IsDrawn}
 use Rattle.vz_paint.proofs.row.draw_row.Given as goal
 

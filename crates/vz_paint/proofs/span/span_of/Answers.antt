@@ -1,6 +1,5 @@
-use Rattle.std.proofs.Common.{◌≡◌, ◌≤ℤ◌, ◌<ℤ◌, ◌+ℤ◌, pos, sym, arith, ap, ◌∙◌, subst}
+use Rattle.std.proofs.Common.{◌≤ℤ◌, ◌<ℤ◌, ◌+ℤ◌, sym, arith, ◌∙◌, subst}
 use Rattle.std.proofs.lemmas.Int.{ints}
-use Rattle.vz_geom.proofs.Numbers.{given}
 use Rattle.vz_paint.proofs.Spanned.{IsBefore, ordered, exact, no_point, left_given, right_given}
 use Rattle.vz_paint.proofs.span.span_of.Goals as goal
 

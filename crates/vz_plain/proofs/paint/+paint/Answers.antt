@@ -85,7 +85,7 @@ Painter::quad-returns-else-here t c =
 
 pub Painter::material-returns-in-Solid : goal.Painter::material-returns-in-Solid
 Painter::material-returns-in-Solid t c =
-    solid_laid c.args.self.now c.args.earlier.now c.args.quad.now c.in-Solid.colour c.args.first c.args.row.now c.lay.new.row c.in-Solid.is c.lay.ensures.long c.lay.ensures.each
+    solid_laid c.args.self.now c.args.earlier.now c.args.quad.now c.in-Solid.colour c.args.first c.args.row.now c.lay_colour.new.row c.in-Solid.is c.lay_colour.ensures.long c.lay_colour.ensures.each
 
 pub Painter::material-returns-in-Tile : goal.Painter::material-returns-in-Tile
 Painter::material-returns-in-Tile t c =
@@ -130,13 +130,13 @@ pub Painter::inside_group-returns : goal.Painter::inside_group-returns
 Painter::inside_group-returns t c =
     let n = length c.args.row.now in
     let clear = c.transparent-room.result in
-    group_painted (pass_here c.args.self.now c.args.earlier.now c.args.pass.now) c.args.mode c.args.opacity c.args.first (take n (replicate 128 clear)) c.pass.new.row c.args.row.now c.lay.new.row
-    (clear_long clear 128 n c.requires) (λ i low. clear_each clear transparent 128 n c.requires i low ∙ c.transparent-room.ensures) c.pass.ensures c.lay.ensures.long c.lay.ensures.each
+    group_painted (pass_here c.args.self.now c.args.earlier.now c.args.pass.now) c.args.mode c.args.opacity c.args.first (take n (replicate 256 clear)) c.pass.new.row c.args.row.now c.lay_row.new.row
+    (clear_long clear 256 n c.requires) (λ i low. clear_each clear transparent 256 n c.requires i low ∙ c.transparent-room.ensures) c.pass.ensures c.lay_row.ensures.long c.lay_row.ensures.each
 
 pub Painter::range-returns-in-None : goal.Painter::range-returns-in-None
 Painter::range-returns-in-None t c =
-    nothing_shown c.args.self.now c.args.range.now c.args.background c.args.mode c.args.opacity c.args.local c.args.row.now c.lay.new.row
-    (sym (c.shown_frame.ensures ∙ ap (λ (s : Painter). shown_frame s.active c.args.range.now) c.self.view_is) ∙ ap option_copied c.in-None.is) c.lay.ensures.long c.lay.ensures.each
+    nothing_shown c.args.self.now c.args.range.now c.args.background c.args.mode c.args.opacity c.args.local c.args.row.now c.lay_colour.new.row
+    (sym (c.shown_frame.ensures ∙ ap (λ (s : Painter). shown_frame s.active c.args.range.now) c.self.view_is) ∙ ap option_copied c.in-None.is) c.lay_colour.ensures.long c.lay_colour.ensures.each
 
 pub Painter::shown-returns-then-here : goal.Painter::shown-returns-then-here
 Painter::shown-returns-then-here t c =
@@ -166,7 +166,7 @@ Painter::inside_content-returns t c =
     let n = length c.args.row.now in
     let clear = c.transparent-room.result in
     let p = c.args.self.now in
-    group_painted (pix p.levels p.active p.path c.args.submitted.now) c.args.mode c.args.opacity c.args.first (take n (replicate 128 clear)) c.pix.new.row c.args.row.now c.lay.new.row
-    (clear_long clear 128 n c.requires) (λ i low. clear_each clear transparent 128 n c.requires i low ∙ c.transparent-room.ensures)
-    (subst (λ (s : Painter). IsPainted (pix s.levels s.active s.path c.args.submitted.now) c.args.first (take n (replicate 128 clear)) c.pix.new.row) c.self.view_is c.pix.ensures)
-    c.lay.ensures.long c.lay.ensures.each
+    group_painted (pix p.levels p.active p.path c.args.submitted.now) c.args.mode c.args.opacity c.args.first (take n (replicate 256 clear)) c.pix.new.row c.args.row.now c.lay_row.new.row
+    (clear_long clear 256 n c.requires) (λ i low. clear_each clear transparent 256 n c.requires i low ∙ c.transparent-room.ensures)
+    (subst (λ (s : Painter). IsPainted (pix s.levels s.active s.path c.args.submitted.now) c.args.first (take n (replicate 256 clear)) c.pix.new.row) c.self.view_is c.pix.ensures)
+    c.lay_row.ensures.long c.lay_row.ensures.each

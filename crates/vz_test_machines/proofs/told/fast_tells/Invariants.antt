@@ -2,4 +2,4 @@ use Rattle.vz_test_machines.proofs.told.fast_tells.Given as goal
 
 -- the ledger is the new one
 abbrev pub ghosts-tells : goal.ghosts-tells
-ghosts-tells a = record { name = a.blank.name; parts = a.blank.parts }
+ghosts-tells g a = record { name = a.blank.name; parts = a.blank.parts }

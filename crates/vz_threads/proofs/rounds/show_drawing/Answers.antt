@@ -7,8 +7,8 @@ use Rattle.vz_threads.proofs.Ends.{on_ok, on_err}
 use Rattle.vz_threads.proofs.Rounding.{may, flies, shows_goes, begun_cut, drawn_none, cut_here}
 use Rattle.vz_threads.proofs.rounds.show_drawing.Goals as goal
 
-pub show-shown-requires : goal.show-shown-requires
-show-shown-requires g c =
+pub show-shown-requires-clause-may : goal.show-shown-requires-clause-may
+show-shown-requires-clause-may g c =
     let s = c.requires.somewhere in
     let was = g.O.Outlet.stands c.args.outlet.now in
     let drew = subst (IsDrawing g.M.Picture.Picture.pictured c.args.d.now c.ask_drawing.new.d) c.in-Drawn.is c.in-Ok.ensures.drawing in

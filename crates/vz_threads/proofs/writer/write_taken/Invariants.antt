@@ -1,5 +1,5 @@
 use Rattle.std.proofs.Common.{◌≡◌}
-use Rattle.vz_outputs.proofs.Adding.{HasAdded}
+use Rattle.vz_player.proofs.Adding.{HasAdded}
 use Rattle.vz_threads.specs.Pipes.{bytes_of}
 use Rattle.vz_threads.proofs.writer.write_taken.Given as goal
 

@@ -3,9 +3,9 @@ use Rattle.vz_occlude.specs.Pictures.{Thinned}
 use Rattle.vz_occlude.proofs.Painted.{covers_there, painted_with}
 use Rattle.vz_occlude.proofs.picture.ThinThinPicture.paint.Goals as goal
 
-pub paint-requires : goal.paint-requires
-paint-requires g c =
-    record { inside = covers_there c.args.self.now c.args.buffer.now.size c.args.area c.requires.same c.requires.inside }
+pub paint-requires-clause-inside : goal.paint-requires-clause-inside
+paint-requires-clause-inside g c κs within =
+    covers_there c.args.self.now c.args.buffer.now.size c.args.area c.requires.same c.requires.inside
 
 pub returns-clause-painted : goal.returns-clause-painted
 returns-clause-painted g c =

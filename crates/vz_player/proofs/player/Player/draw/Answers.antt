@@ -19,15 +19,13 @@ returns-in_err-entry-clause-err g c =
     on_err c.from_residual-in_err-entry.result (StopsAt c.args.self.now event.Draw _)
     (stops_before c.args.self.now _ event.Draw (same_played m n c.self.inside.history.list c.reserve.new.self.list c.self.inside.buffers c.self.inside.stopped c.args.self.now c.self.view_is c.in_err-entry.ensures.err c.in_ok-reserve.ensures.list))
 
-pub show_some-requires : goal.show_some-requires
-show_some-requires g c =
+pub show_some-requires-after_bounds : goal.show_some-requires-after_bounds
+show_some-requires-after_bounds g c κs within =
     let old : Played = c.args.self.now in
     let m : Machine = g.M.Machine.state c.self.inside.machine in
-    let is : IsPlayed m c.self.inside.display.shown old = subst (IsPlayed m c.self.inside.display.shown) c.self.view_is c.self.invariant in (
-      c.type_bounds.send-M-Picture-Thin,
-      picture_fits g.M.Picture.Picture.pictured m c.in_ok-entry.entry.reply c.in_ok-entry.picture c.self.inside.display.shown.turns.size c.in_ok-entry.ensures.picture
-          (ap (λ (x : Machine). x.plan.size) is.behind ∙ sym (display_size m c.self.inside.display.shown old is c.requires.going)),
-    )
+    let is : IsPlayed m c.self.inside.display.shown old = subst (IsPlayed m c.self.inside.display.shown) c.self.view_is c.self.invariant in
+    picture_fits g.M.Picture.Picture.pictured m c.in_ok-entry.entry.reply c.in_ok-entry.picture c.self.inside.display.shown.turns.size c.in_ok-entry.ensures.picture
+    (ap (λ (x : Machine). x.plan.size) is.behind ∙ sym (display_size m c.self.inside.display.shown old is c.requires.going))
 
 pub invariant_of-self-in_err-drawn : goal.invariant_of-self-in_err-drawn
 invariant_of-self-in_err-drawn g c =

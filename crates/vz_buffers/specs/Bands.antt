@@ -1,0 +1,45 @@
+-- Rows that painters draw, and pixels with these rows put into them.
+use Rattle.std.specs.Prelude.{◌≡◌, ℕ, zero, suc, ◌+◌, ◌*◌, ◌≤◌, ◌<◌, List, length}
+use Rattle.std.specs.List.{All}
+use Rattle.vz_base.specs.declared.limits.TheConstants.{GREATEST_DISPLAY_SIDE}
+use Rattle.vz_pixels.specs.Colour.{Colour}
+use Rattle.vz_buffers.specs.Canvas.{span_put, colours_of, AreSpelled}
+
+-- rows of colours: how many there are, and each by its number
+pub record Strip : Type 0 where
+  pub high : ℕ
+  pub row : ℕ → List Colour
+
+-- every row is so wide, and all of them stand behind so many columns of so many
+pub record FitsIn (width left wide : ℕ) (s : Strip) : Type 0 where
+  pub each : (k : ℕ) → length (s.row k) ≡ wide
+  pub inside : left + wide ≤ width
+
+-- the pixels with so many rows put into them, the first one at a place, each so far behind the one
+-- before
+unfoldable pub rows_put : ℕ → ℕ → (ℕ → List Colour) → ℕ → List Colour → List Colour
+rows_put width at row zero pixels = pixels
+rows_put width at row (suc k) pixels = span_put (rows_put width at row k pixels) (k * width + at) (row k)
+
+-- the rows from one on
+abbrev pub rows_from : ℕ → (ℕ → List Colour) → ℕ → List Colour
+rows_from first row k = row (first + k)
+
+-- painters that can draw, and all draw one strip: it fits, and has rows up to one
+abbrev pub ArePainters : {P : Type 0} → (P → Type 0) → (P → Strip) → ℕ → ℕ → ℕ → ℕ → List P → Type 0
+ArePainters able strip width left wide upto painters =
+    (s : Strip) × FitsIn width left wide s × (upto ≤ s.high) × All (λ p. able p × (strip p ≡ s)) painters
+
+-- painters may paint so many rows from one on into the pixels of as many whole rows
+pub record MayPaint {P : Type 0} (able : P → Type 0) (strip : P → Strip) (width left wide from count : ℕ) (painters : List P) (pixels : List (List ℕ)) : Type 0 where
+  pub some : 0 < length painters
+  pub ready : ArePainters able strip width left wide (from + count) painters
+  pub small : width ≤ GREATEST_DISPLAY_SIDE
+  pub few : from + count ≤ GREATEST_DISPLAY_SIDE
+  pub counted : length pixels ≡ count * width
+  pub spelled : AreSpelled pixels
+
+-- the rows were painted
+pub record ArePainted {P : Type 0} (strip : P → Strip) (width left from count : ℕ) (painters : List P) (before after : List (List ℕ)) : Type 0 where
+  pub painted : (s : Strip) → All (λ p. strip p ≡ s) painters → colours_of after ≡ rows_put width left (rows_from from s.row) count (colours_of before)
+  pub spelled : AreSpelled after

@@ -1,0 +1,258 @@
+//! Painting rows of a buffer in bands, each on a thread of its own.
+ghost use Rattle.std.specs.Prelude.{◌≡◌, ◌+◌, ◌*◌, ◌≤◌, ◌<◌, ◌+ℤ◌, ◌≤ℤ◌, pos, nat_abs, List, length};
+ghost use Rattle.std.specs.Thread.{IsSync, IsSend};
+ghost use Rattle.std.specs.List.{All};
+ghost use Rattle.vz_base.specs.declared.limits.TheConstants.{GREATEST_DISPLAY_SIDE};
+ghost use Rattle.vz_geom.specs.Display.{IsDisplaySize};
+ghost use Rattle.vz_pixels.specs.Colour.{Colour};
+ghost use Rattle.vz_buffers.specs.Canvas.{colours_of, AreSpelled};
+ghost use Rattle.vz_buffers.specs.Bands.{Strip, FitsIn, ArePainters, MayPaint, ArePainted, rows_put, rows_from};
+
+use crate::buffer::put;
+use std::thread::{Threads, join_mut};
+use vz_geom::{Rect, Size};
+use vz_pixels::Pixel;
+
+/// Draws the rows of an area of a display, one at a time, in memory of its own.
+pub trait RowPainter {
+    /// The rows, from the top one on.
+    ghost strip: { Self → Strip };
+
+    /// What has to hold for it to draw.
+    ghost able: { Self → Type 0 };
+
+    /// The row that it drew last.
+    ghost drawn: { Self → List Colour };
+
+    /// Draws a row. Condition: the row is one of the area.
+    fn draw(&mut self, row: u32)
+        requires able { able self.old }
+        requires inside { row < (strip self.old).high }
+        ensures able { able self.new }
+        ensures strip { strip self.new ≡ strip self.old }
+        ensures drawn { drawn self.new ≡ (strip self.old).row row };
+
+    /// The pixels of the row that it drew last.
+    fn row(&self) -> &[Pixel]
+        ensures { result.now ≡ drawn self.now };
+}
+
+/// Where the rows of an area stand among the pixels of a display: the width of the display, the
+/// column and the row at which they begin, and how wide they are.
+#[derive(Clone, Copy)]
+pub(crate) struct Place {
+    pub(crate) width: usize,
+    pub(crate) left: usize,
+    pub(crate) top: usize,
+    pub(crate) wide: usize,
+}
+
+/// How many columns a display of this size has.
+fn columns(size: &Size) -> usize
+    requires { IsDisplaySize size.now }
+    ensures value { result ≡ nat_abs size.now.w }
+{
+    size.w.unsigned_abs() as usize
+}
+
+/// How many columns are left of an area.
+fn left(area: &Rect) -> usize
+    requires { pos 0 ≤ℤ area.now.x }
+    ensures value { result ≡ nat_abs area.now.x }
+{
+    area.x().unsigned_abs() as usize
+}
+
+/// How many rows are above an area.
+fn top(area: &Rect) -> usize
+    requires { pos 0 ≤ℤ area.now.y }
+    ensures value { result ≡ nat_abs area.now.y }
+{
+    area.y().unsigned_abs() as usize
+}
+
+/// How many columns an area has.
+fn width(area: &Rect) -> usize
+    requires { pos 1 ≤ℤ area.now.w }
+    ensures value { result ≡ nat_abs area.now.w }
+{
+    area.w().unsigned_abs() as usize
+}
+
+/// How many rows an area has.
+pub(crate) fn height(area: &Rect) -> u32
+    requires { pos 1 ≤ℤ area.now.h }
+    ensures value { result ≡ nat_abs area.now.h }
+{
+    area.h().unsigned_abs()
+}
+
+/// Where an area stands on a display of this size.
+pub(crate) fn place_of(size: &Size, area: &Rect) -> Place
+    requires size { IsDisplaySize size.now }
+    requires left { pos 0 ≤ℤ area.now.x }
+    requires top { pos 0 ≤ℤ area.now.y }
+    requires wide { pos 1 ≤ℤ area.now.w }
+    ensures width { result.width ≡ nat_abs size.now.w }
+    ensures left { result.left ≡ nat_abs area.now.x }
+    ensures top { result.top ≡ nat_abs area.now.y }
+    ensures wide { result.wide ≡ nat_abs area.now.w }
+{
+    Place {
+        width: columns(size),
+        left: left(area),
+        top: top(area),
+        wide: width(area),
+    }
+}
+
+/// How many pixels `count` rows of a display have.
+fn pixels_in(width: usize, count: usize) -> usize
+    requires width { width ≤ GREATEST_DISPLAY_SIDE }
+    requires count { count ≤ GREATEST_DISPLAY_SIDE }
+    ensures value { result ≡ count * width }
+{
+    count * width
+}
+
+/// Some rows of an area that follow one another.
+#[derive(Clone, Copy)]
+pub(crate) struct Band {
+    pub(crate) from: u32,
+    pub(crate) count: u32,
+}
+
+/// Paints a band row by row. Conditions: the rows fit, and `pixels` has those of as many whole
+/// rows of the display.
+fn paint_band<P: RowPainter>(place: Place, band: Band, painter: &mut P, pixels: &mut [[u8; 4]])
+    requires able { P.able painter.old }
+    requires fits { FitsIn place.width place.left place.wide (P.strip painter.old) }
+    requires upto { (band.from + band.count) ≤ (P.strip painter.old).high }
+    requires small { place.width ≤ GREATEST_DISPLAY_SIDE }
+    requires few { (band.from + band.count) ≤ GREATEST_DISPLAY_SIDE }
+    requires pixels { length pixels.old ≡ band.count * place.width }
+    requires spelled { AreSpelled pixels.old }
+    ensures painted { colours_of pixels.new ≡ rows_put place.width place.left
+        (rows_from band.from (P.strip painter.old).row) band.count (colours_of pixels.old) }
+    ensures spelled { AreSpelled pixels.new }
+{
+    for k in 0..band.count {
+        painter.draw(band.from + k);
+        let at = pixels_in(place.width, k as usize) + place.left;
+        put(pixels, at, painter.row());
+    }
+}
+
+/// How many of `count` rows the first `some` of `all` painters paint.
+fn share(count: u32, some: usize, all: usize) -> u32
+    requires some { 0 < all }
+    requires part { some ≤ all }
+    ensures { result ≤ count }
+{
+    let part = count as usize / all * some;
+    if part < count as usize {
+        part as u32
+    } else {
+        count
+    }
+}
+
+/// Paints a band: each painter an equal part of it, on a thread of its own if one can be started.
+/// The caller starts them all, one after the other, and paints the last part: a thread that had
+/// to be started by another would begin later, and the slowest part is waited for.
+#[cycle(bands)]
+fn paint_bands<P: RowPainter + Send, R: Threads + Sync>(
+    rt: &R,
+    place: Place,
+    band: Band,
+    painters: &mut [P],
+    pixels: &mut [[u8; 4]],
+)
+    requires { MayPaint P.able P.strip place.width place.left place.wide band.from band.count
+        painters.old pixels.old }
+    ensures { ArePainted P.strip place.width place.left band.from band.count
+        painters.old pixels.old pixels.new }
+{
+    let all = painters.len();
+    if all == 1 {
+        paint_band(place, band, &mut painters[0], pixels);
+        return;
+    }
+    let upper = share(band.count, 1, all);
+    let first = Band {
+        from: band.from,
+        count: upper,
+    };
+    let second = Band {
+        from: band.from + upper,
+        count: band.count - upper,
+    };
+    let (ours, theirs) = painters.split_at_mut(1);
+    let (top, bottom) = pixels.split_at_mut(pixels_in(place.width, upper as usize));
+    paint_both(rt, place, first, ours, top, second, theirs, bottom);
+}
+
+/// Paints two bands at once. The conditions are those of each of them.
+#[cycle(bands)]
+fn paint_both<P: RowPainter + Send, R: Threads + Sync>(
+    rt: &R,
+    place: Place,
+    first: Band,
+    ours: &mut [P],
+    top: &mut [[u8; 4]],
+    second: Band,
+    theirs: &mut [P],
+    bottom: &mut [[u8; 4]],
+)
+    requires first { MayPaint P.able P.strip place.width place.left place.wide
+        first.from first.count ours.old top.old }
+    requires second { MayPaint P.able P.strip place.width place.left place.wide
+        second.from second.count theirs.old bottom.old }
+    ensures first { ArePainted P.strip place.width place.left first.from first.count
+        ours.old top.old top.new }
+    ensures second { ArePainted P.strip place.width place.left second.from second.count
+        theirs.old bottom.old bottom.new }
+{
+    let mut upper = ||
+        requires { IsSync R.row × IsSend P.row
+            × MayPaint P.able P.strip place.width place.left place.wide
+            first.from first.count ours.now top.now }
+        ensures { ArePainted P.strip place.width place.left first.from first.count
+            ours.entry.now top.entry.now top.exit.now }
+    { paint_bands(rt, place, first, ours, top) };
+    let mut lower = ||
+        requires { IsSync R.row × IsSend P.row
+            × MayPaint P.able P.strip place.width place.left place.wide
+            second.from second.count theirs.now bottom.now }
+        ensures { ArePainted P.strip place.width place.left second.from second.count
+            theirs.entry.now bottom.entry.now bottom.exit.now }
+    { paint_bands(rt, place, second, theirs, bottom) };
+    join_mut(rt, &mut upper, &mut lower);
+}
+
+/// Paints the `count` rows of an area of a display. The painters share them.
+pub(crate) fn paint_within<P: RowPainter + Send, R: Threads + Sync>(
+    rt: &R,
+    place: Place,
+    count: u32,
+    painters: &mut [P],
+    pixels: &mut [[u8; 4]],
+)
+    requires some { 0 < length painters.old }
+    requires able { ArePainters P.able P.strip place.width place.left place.wide count
+        painters.old }
+    requires small { place.width ≤ GREATEST_DISPLAY_SIDE }
+    requires few { (place.top + count) ≤ GREATEST_DISPLAY_SIDE }
+    requires inside { ((place.top + count) * place.width) ≤ length pixels.old }
+    requires spelled { AreSpelled pixels.old }
+    ensures painted { (s : Strip) → All (λ p. P.strip p ≡ s) painters.old
+        → colours_of pixels.new ≡ rows_put place.width (place.top * place.width + place.left)
+        s.row count (colours_of pixels.old) }
+    ensures spelled { AreSpelled pixels.new }
+    ensures long { length pixels.new ≡ length pixels.old }
+{
+    let (_, below) = pixels.split_at_mut(pixels_in(place.width, place.top));
+    let (rows, _) = below.split_at_mut(pixels_in(place.width, count as usize));
+    let band = Band { from: 0, count };
+    paint_bands(rt, place, band, painters, rows);
+}

@@ -1,4 +1,0 @@
-mod Listed
-pub mod Sending
-pub mod Messaging
-pub mod Standing

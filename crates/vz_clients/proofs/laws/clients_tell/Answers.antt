@@ -1,5 +1,0 @@
-use Rattle.vz_clients.proofs.Standing.{tells_next, tells_unknown, tells_blocks}
-use Rattle.vz_clients.proofs.laws.clients_tell.Goals as goal
-
-pub returns : goal.returns
-returns c = record { next = tells_next; unknown = tells_unknown; blocks = tells_blocks }

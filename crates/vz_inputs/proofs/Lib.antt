@@ -1,5 +1,0 @@
-pub mod Behaving
-mod Gathering
-mod Flaws
-mod Accepts
-mod Schedules

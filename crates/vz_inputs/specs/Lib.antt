@@ -1,5 +1,0 @@
-pub mod Read
-pub mod Refusals
-pub mod Schedule
-pub mod Messages
-pub mod Decoded

@@ -1,6 +1,0 @@
-pub mod Behaving
-pub mod Adding
-pub mod Growing
-pub mod Taking
-pub mod In_turn
-pub mod Outs
