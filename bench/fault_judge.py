@@ -41,7 +41,7 @@ def what_is_wrong(row, fault, done, caller):
 def unseen(row, fault, done):
     """What failed and should have been seen, if the call went well all the same: of the calls of files all but a close,
     those that ask the system how many processors there may be, and an open that was interrupted."""
-    if fault.kind != CALL or not any(done.refused) or not row.is_done:
+    if fault.kind != CALL or not any(done.refused) or row.status == FAULT:
         return None
     name = done.calls[fault.first - 1]
     if name in "xq" or name in "oc" and fault.error == errno.EINTR:
