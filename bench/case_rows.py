@@ -72,7 +72,7 @@ def case(name, w, h, clients):
     entries = [part for part in log if not part.startswith(("held", "open", "end"))]
     frames = (CASES / name / "frames").stat().st_size // (4 * w * h)
     TABLE.append("\n".join([
-        "row case " + name, "words step %d %d s f l %s" % (w, h, " ".join(clients)),
+        "row case " + name, "words step %d %d s f l %s" % (w, h, " ".join(clients)), "turns",
         "read s %s/schedule" % name, *("read %s %s/%s.viz" % (k, name, k) for k in clients),
         "must f %s/frames" % name, "must l %s/log" % name, "entries %d" % len(entries),
         "line done %d entries %d frames" % (len(entries), frames),

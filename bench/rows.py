@@ -13,6 +13,7 @@ from spelling import (
     AWAIT, BLUE, CLIENTS, CLOSE, DST_IN, GREEN, LISTED, NO_SINK, ONE_QUAD, OVER, RECLAIM, RED,
     RED_QUAD, ROOT, SRC, UPLOAD, WHITE, client, embed, group, local, picture, produced_nothing,
     quad, reach, relation, render_pass, sink, solid, submit, surface)
+from stop_rows import stops
 from table import (
     DISHONEST, DISHONEST_LOG, EVENTS, ORDERS_OF_A_QUAD, PLAIN, QUAD_LOG, QUAD_PICTURE, TABLE,
     answer, four_frames, judged, put, refused, run, step)
@@ -27,7 +28,7 @@ def one_client():
     put("outputs_are_written_over", "step 4 2 s f l a",
         [("s", EVENTS), ("a", ONE_QUAD), ("f", bytes(99)), ("l", bytes(99)), ("b", b"other")],
         line="done 4 entries 1 frames", log=[*QUAD_LOG, "end"], left=[("f", QUAD_PICTURE)],
-        entries=4, steps=16)
+        entries=4, steps=16, turns=False)
     step("every_draw_and_done_answer", [client(1, ROOT, submit(1, 1))],
          "draw c1 draw c1 draw draw done done draw",
          ["draw noroot", "c1 rooted", "draw noroot", "c1 accepted 1 1 +1.1", "draw drawn 0 0 4 2",
@@ -254,6 +255,6 @@ def paths():
 
 for part in (one_client, runs, colours, submissions, waiting, damages, embeddings, cycles, paths,
              by_rule, page_run, refused_files, refused_words, verdicts, failing, hits,
-             all_turns, piped, cases):
+             all_turns, piped, stops, cases):
     part()
 print("\n\n".join(TABLE))

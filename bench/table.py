@@ -4,10 +4,13 @@ from spelling import (
 
 
 def put(name, words, given=(), status=0, line="", log=None, left=(), entries=0, steps=0, ones=(),
-        piece=None, turns=False, others=(), packed=(), judge="", reads=()):
+        piece=None, turns=None, others=(), packed=(), judge="", reads=()):
     """Prints a row. `others` are logs that may be left in the place of `log`; `packed` are files of
     pieces; `reads` are files of the folder `data`, with their paths there; `judge` has the words of a
-    second call that must print `yes`."""
+    second call that must print `yes`. Each call of the devices fails in turn (`turns`) if the call goes
+    well and moves whole files, and what it must leave is known."""
+    if turns is None:
+        turns = status < 2 and not piece and not judge
     out = ["row " + name, "words " + words]
     out += ["given %s %s" % (n, b.hex()) for n, b in given]
     out += ["ones %s %d" % o for o in ones]

@@ -7,6 +7,9 @@ from pathlib import Path
 
 sys.dont_write_bytecode = True
 
+# The top of the repository.
+ROOT = Path(__file__).resolve().parent.parent
+
 # The folder of the first page is that of the kit.
 KIT = Path(subprocess.run(["rt", "doc"], capture_output=True, text=True, check=True).stdout.strip()).parent
 

@@ -1,5 +1,4 @@
 pub mod Demo_fits
-pub mod Behaving
 mod Gathering
 mod Flaws
 mod Accepts

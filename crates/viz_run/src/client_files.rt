@@ -53,11 +53,61 @@ pub fn plan_of<R: Threads + AllocGlobal + Sync>(
         → file_refused (contents inputs.now) ≡ Some r }
 {
     let answers = decode_all(rt, inputs)?;
-    let files = accepted_files(rt.alloc(), inputs, answers)?;
+    plan_from(rt.alloc(), size, inputs, answers)
+}
+
+/// Makes the same plan as `plan_of`, with the same errors under the same conditions, but decodes
+/// the files one after the other on the caller's thread. So it needs no runtime, and a static
+/// library can call it.
+pub fn plan_in_turn(alloc: Global, size: Size, inputs: &[Vec<u8>]) -> Result<Plan, InputError>
+    requires some { 1 ≤ length inputs.now }
+    requires few { length inputs.now ≤ MOST_FILES }
+    requires size { IsDisplaySize size }
+    ensures plan { IfOk result (λ p. p ≡ plan_read size (contents inputs.now)) }
+    ensures accepted { OnOk result (file_refused (contents inputs.now) ≡ None) }
+    ensures refused { (r : Refusal) → IsErrOf result (input_error.Refused r)
+        → file_refused (contents inputs.now) ≡ Some r }
+{
+    let answers = decode_each(alloc, inputs)?;
+    plan_from(alloc, size, inputs, answers)
+}
+
+/// The plan of decoded files, if all were decoded and no two have the same sink.
+fn plan_from(
+    alloc: Global,
+    size: Size,
+    inputs: &[Vec<u8>],
+    answers: Vec<Decoded>,
+) -> Result<Plan, InputError>
+    requires some { 1 ≤ length inputs.now }
+    requires few { length inputs.now ≤ MOST_FILES }
+    requires size { IsDisplaySize size }
+    requires all { length answers.items ≡ length inputs.now }
+    requires each { AreDecoded 0 (contents inputs.now) answers.items }
+    ensures plan { IfOk result (λ p. p ≡ plan_read size (contents inputs.now)) }
+    ensures accepted { OnOk result (file_refused (contents inputs.now) ≡ None) }
+    ensures refused { (r : Refusal) → IsErrOf result (input_error.Refused r)
+        → file_refused (contents inputs.now) ≡ Some r }
+{
+    let files = accepted_files(alloc, inputs, answers)?;
     match Plan::new(files, size) {
         Ok(plan) => Ok(plan),
         Err((_, place)) => Err(refused(place, SINK_PLACE, Reason::SinkTaken)),
     }
+}
+
+/// Decodes the files one after the other, and returns for each, in their order, what `decode_one`
+/// answers for it.
+fn decode_each(alloc: Global, inputs: &[Vec<u8>]) -> Result<Vec<Decoded>, Memory>
+    requires { length inputs.now ≤ MOST_FILES }
+    ensures all { IfOk result (λ answers. length answers.items ≡ length inputs.now) }
+    ensures each { IfOk result (λ answers. AreDecoded 0 (contents inputs.now) answers.items) }
+{
+    let mut answers = Vec::new(alloc);
+    for place in 0..inputs.len() {
+        answers.push(decode_at(alloc, inputs, place))?;
+    }
+    Ok(answers)
 }
 
 /// Decodes the files in parallel, each as one piece of work, and returns for each, in their

@@ -6,10 +6,10 @@ ghost use Rattle.vz_outside.specs.Shelved.{Writing, KeepsOthers, Appends, Append
 ghost use Rattle.vz_rules.specs.Command.{fits_command, buffer_count};
 ghost use Rattle.vz_rules.specs.Frames.{painted};
 ghost use Rattle.vz_rules.specs.Log.{rest_of};
-ghost use Rattle.vz_rules.specs.Plan.{IsPlan};
+ghost use Rattle.vz_rules.specs.Plan.{IsPlan, message_counts};
 ghost use Rattle.vz_rules.specs.Step.{Legal};
 ghost use Rattle.vz_rules.specs.World.{opening};
-ghost use Rattle.vz_threads.specs.Courses.{IsRun, frames_of, message_counts};
+ghost use Rattle.vz_threads.specs.Courses.{IsRun, frames_of};
 ghost use Rattle.viz_run.specs.Ran.{command_of, size_of, outputs_for};
 
 use crate::sides::size_of;

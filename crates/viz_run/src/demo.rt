@@ -18,6 +18,7 @@ ghost use Rattle.viz_run.specs.Taken.{HasTaken};
 use crate::demo_plan;
 use crate::events::demo_events;
 use crate::lines::demo_line;
+use crate::opening::open_machine;
 use std::alloc::Global;
 use std::sync::ledger::Ledger;
 use std::thread::Threads;
@@ -27,7 +28,6 @@ use vz_buffers::Steps;
 use vz_frame::List;
 use vz_geom::Size;
 use vz_machine::Machine;
-use vz_manager::Manager;
 use vz_outside::Gate;
 use vz_player::Player;
 use vz_rules::{Entry, Event};
@@ -59,7 +59,7 @@ pub fn demo<G: Gate, L: Ledger, R: Threads + Sync>(
     let events = demo_events(alloc, rounds)?;
     let _ = plan.files();
     let size = plan.size();
-    let machine = Manager::open(alloc, plan)?;
+    let machine = open_machine(alloc, plan)?;
     let painted = play_all(rt, alloc, machine, size, &events, gate, steps, history)?;
     Ok(demo_line(alloc, history.as_slice(), painted)?)
 }

@@ -23,6 +23,7 @@ ghost use Rattle.viz_run.specs.declared.stop.Stop.TheVariants as stops;
 use crate::end::End;
 use crate::given::{Given, admit};
 use crate::lines::hit_line;
+use crate::opening::open_machine;
 use crate::sides::{point_of, size_of};
 use crate::stop::Stop;
 use std::alloc::Global;
@@ -32,7 +33,6 @@ use vz_frame::List;
 use vz_geom::Point;
 use vz_ids::SurfaceId;
 use vz_machine::Machine;
-use vz_manager::Manager;
 use vz_outside::{Gate, Shelf};
 use vz_player::HitTester;
 use vz_rules::{Entry, Event};
@@ -68,7 +68,7 @@ pub fn hit<F: Shelf, G: Gate, R: Threads + AllocGlobal + Sync>(
     let size = size_of(words.width, words.height);
     let Given { plan, events } = admit(rt, shelf, size, words.schedule, words.files)?;
     let _ = plan.files();
-    let machine = Manager::open(rt.alloc(), plan)?;
+    let machine = open_machine(rt.alloc(), plan)?;
     let point = point_of(words.x, words.y);
     let hit = find_hit(rt.alloc(), machine, point, &events, gate, history)?;
     Ok(End {

@@ -19,6 +19,7 @@ mod lines;
 mod made_plan;
 mod make;
 mod named_files;
+mod opening;
 mod perform;
 mod planning;
 mod playing;
@@ -32,7 +33,7 @@ mod stop;
 mod telling;
 mod turns;
 
-pub use client_files::plan_of;
+pub use client_files::{plan_in_turn, plan_of};
 pub use made_plan::demo_plan;
 pub use named_files::{read_file, read_files};
 pub use refused::{InputError, Reason, Refused};

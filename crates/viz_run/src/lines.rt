@@ -14,7 +14,7 @@ use vz_check::{Verdict, What};
 use vz_codec::FileRule;
 use vz_geom::Point;
 use vz_ids::{EmbedToken, FrameSinkId, LocalSurfaceId, SurfaceId};
-use vz_rules::{Entry, Reply};
+use vz_rules::{BoxedEffects, Entry, Reply};
 
 /// The line if the words are those of no command.
 pub const WORDS_LINE: &str = "words refused\n";
@@ -213,6 +213,16 @@ fn is_drawn(reply: &Reply) -> bool
     matches!(reply, Reply::Drawn(_))
 }
 
+/// How many returns were queued as these effects, or `u64::MAX` if there are more.
+fn returned_in(effects: &BoxedEffects) -> u64
+    ensures { result ≡ length effects.now.returned }
+{
+    match effects.get() {
+        None => 0,
+        Some(effects) => effects.returned.len() as u64,
+    }
+}
+
 /// How many returns were queued, or `u64::MAX` if there are more. A return is a resource with a
 /// count.
 fn return_count(history: &[Entry]) -> u64
@@ -220,7 +230,7 @@ fn return_count(history: &[Entry]) -> u64
 {
     let mut count: u64 = 0;
     for entry in history {
-        count = count.saturating_add(entry.effects.returned.len() as u64);
+        count = count.saturating_add(returned_in(&entry.effects));
     }
     count
 }

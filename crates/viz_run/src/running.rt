@@ -16,6 +16,7 @@ ghost use Rattle.viz_run.specs.declared.stop.Stop.TheVariants as stops;
 use crate::coursing::play_run;
 use crate::end::End;
 use crate::lines::done_line;
+use crate::opening::open_machine;
 use crate::planning::{message_counts, read_plan};
 use crate::sides::size_of;
 use crate::stop::Stop;
@@ -24,7 +25,6 @@ use std::sync::ledger::Ledger;
 use std::thread::Threads;
 use vz_buffers::Steps;
 use vz_frame::List;
-use vz_manager::Manager;
 use vz_outside::{Gate, Shelf};
 use vz_rules::Entry;
 use vz_words::RunWords;
@@ -64,7 +64,7 @@ where
     let size = size_of(words.width, words.height);
     let plan = read_plan(rt, shelf, size, words.files)?;
     let counts = message_counts(rt.alloc(), plan.files())?;
-    let machine = Manager::open(rt.alloc(), plan)?;
+    let machine = open_machine(rt.alloc(), plan)?;
     play_run(rt, machine, &counts, words, shelf, gate, steps, history)?;
     Ok(End {
         line: done_line(rt.alloc(), history.as_slice())?,

@@ -1,6 +1,6 @@
 //! The schedule, which has one byte for each event.
 ghost use Rattle.std.specs.Prelude.{◌≡◌, ◌≤◌, None, Some, All, [], ◌∷◌, ◌++◌, ◌*◌, pos, ◌≤ℤ◌, nat_abs};
-ghost use Rattle.std.specs.Prelude.{IfOk, OnOk, IsErrOf};
+ghost use Rattle.std.specs.Prelude.{IfOk, OnOk, IsErrOf, ◌<◌, ◌+◌, vec_len, vec_capacity};
 ghost use Rattle.vz_base.specs.declared.limits.TheConstants.{MOST_EVENTS, GREATEST_DISPLAY_SIDE};
 ghost use Rattle.vz_frame.specs.Fits.{within};
 ghost use Rattle.vz_geom.specs.Display.{IsDisplaySize};
@@ -13,7 +13,6 @@ ghost use Rattle.viz_run.specs.declared.refused.Refused.{Refused as Refusal};
 
 use crate::refused::{InputError, Reason, Refused};
 use std::alloc::Global;
-use vz_base::Memory;
 use vz_base::limits::{MOST_DRAWN_BYTES, MOST_EVENTS};
 use vz_codec::FileRule;
 use vz_geom::Size;
@@ -56,7 +55,9 @@ pub fn events_of(alloc: Global, plan: &Plan, bytes: &[u8]) -> Result<Vec<Event>,
     }
     let clients = plan.files().len();
     let size = plan.size();
-    let mut events = Vec::new(alloc);
+    let Ok(mut events) = Vec::with_capacity(alloc, bytes.len()) else {
+        return Err(InputError::Memory);
+    };
     let mut draws = 0;
     for at in 0..bytes.len() {
         let byte = bytes[at];
@@ -64,7 +65,7 @@ pub fn events_of(alloc: Global, plan: &Plan, bytes: &[u8]) -> Result<Vec<Event>,
         if let Some(rule) = rule_broken(clients, &size, draws, byte) {
             return Err(refused(at, Reason::Rule(rule)));
         }
-        push_event(&mut events, byte)?;
+        push_event(&mut events, byte);
     }
     Ok(events)
 }
@@ -136,14 +137,16 @@ fn side(side: i32) -> u64
     u64::from(side.unsigned_abs())
 }
 
-/// Appends the event of a byte, if the byte is one.
-fn push_event(events: &mut Vec<Event>, byte: u8) -> Result<(), Memory>
-    ensures { OnOk result (events.new.items ≡ events.old.items ++ events_of (byte ∷ [])) }
+/// Appends the event of a byte, if the byte is one. Condition: there is room for one.
+fn push_event(events: &mut Vec<Event>, byte: u8)
+    requires { vec_len events.old < vec_capacity events.old }
+    ensures pushed { events.new.items ≡ events.old.items ++ events_of (byte ∷ []) }
+    ensures one { vec_len events.new ≤ vec_len events.old + 1 }
+    ensures room { vec_capacity events.new ≡ vec_capacity events.old }
 {
     if let Some(event) = event_of(byte) {
-        events.push(event)?;
+        events.push_reserved(event);
     }
-    Ok(())
 }
 
 /// The error that the schedule is refused.

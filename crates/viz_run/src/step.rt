@@ -16,6 +16,7 @@ ghost use Rattle.viz_run.specs.declared.stop.Stop.TheVariants as stops;
 use crate::end::End;
 use crate::given::{Given, admit};
 use crate::lines::done_line;
+use crate::opening::open_machine;
 use crate::playing::play;
 use crate::sides::size_of;
 use crate::stop::Stop;
@@ -23,7 +24,6 @@ use std::sync::ledger::Ledger;
 use std::thread::Threads;
 use vz_buffers::Steps;
 use vz_frame::List;
-use vz_manager::Manager;
 use vz_outside::{Gate, Shelf};
 use vz_rules::Entry;
 use vz_words::StepWords;
@@ -59,7 +59,7 @@ pub fn step<F: Shelf, G: Gate, L: Ledger, R: Threads + AllocGlobal + Sync>(
     let size = size_of(words.width, words.height);
     let Given { plan, events } = admit(rt, shelf, size, words.schedule, words.files)?;
     let _ = plan.files();
-    let machine = Manager::open(rt.alloc(), plan)?;
+    let machine = open_machine(rt.alloc(), plan)?;
     play(
         rt,
         rt.alloc(),

@@ -15,6 +15,7 @@ ghost use Rattle.viz_run.specs.declared.stop.Stop.TheVariants as stops;
 
 use crate::end::End;
 use crate::lines::done_line;
+use crate::opening::open_machine;
 use crate::planning::{message_counts, read_plan};
 use crate::sides::size_of;
 use crate::stop::Stop;
@@ -22,7 +23,6 @@ use std::sync::Wait;
 use std::thread::Threads;
 use vz_callers::play_turns;
 use vz_frame::List;
-use vz_manager::Manager;
 use vz_outside::{Gate, Shelf};
 use vz_rules::Entry;
 use vz_words::TurnsWords;
@@ -60,7 +60,7 @@ where
     let size = size_of(words.width, words.height);
     let plan = read_plan(rt, shelf, size, words.files)?;
     let counts = message_counts(rt.alloc(), plan.files())?;
-    let machine = Manager::open(rt.alloc(), plan)?;
+    let machine = open_machine(rt.alloc(), plan)?;
     play_turns(rt, machine, &counts, words.ticks, gate, history)?;
     Ok(End {
         line: done_line(rt.alloc(), history.as_slice())?,

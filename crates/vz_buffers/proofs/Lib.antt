@@ -2,4 +2,3 @@ mod Places
 mod Spelling
 mod Banding
 pub mod Turning
-pub mod Displays

@@ -256,3 +256,39 @@ pub(crate) fn paint_within<P: RowPainter + Send, R: Threads + Sync>(
     let band = Band { from: 0, count };
     paint_bands(rt, place, band, painters, rows);
 }
+
+/// Paints a band with the first painter alone.
+fn paint_first<P: RowPainter>(place: Place, band: Band, painters: &mut [P], pixels: &mut [[u8; 4]])
+    requires { MayPaint P.able P.strip place.width place.left place.wide band.from band.count
+        painters.old pixels.old }
+    ensures { ArePainted P.strip place.width place.left band.from band.count
+        painters.old pixels.old pixels.new }
+{
+    paint_band(place, band, &mut painters[0], pixels);
+}
+
+/// Paints the `count` rows of an area of a display. The first painter paints all of them.
+pub(crate) fn paint_alone<P: RowPainter>(
+    place: Place,
+    count: u32,
+    painters: &mut [P],
+    pixels: &mut [[u8; 4]],
+)
+    requires some { 0 < length painters.old }
+    requires able { ArePainters P.able P.strip place.width place.left place.wide count
+        painters.old }
+    requires small { place.width ≤ GREATEST_DISPLAY_SIDE }
+    requires few { (place.top + count) ≤ GREATEST_DISPLAY_SIDE }
+    requires inside { ((place.top + count) * place.width) ≤ length pixels.old }
+    requires spelled { AreSpelled pixels.old }
+    ensures painted { (s : Strip) → All (λ p. P.strip p ≡ s) painters.old
+        → colours_of pixels.new ≡ rows_put place.width (place.top * place.width + place.left)
+        s.row count (colours_of pixels.old) }
+    ensures spelled { AreSpelled pixels.new }
+    ensures long { length pixels.new ≡ length pixels.old }
+{
+    let (_, below) = pixels.split_at_mut(pixels_in(place.width, place.top));
+    let (rows, _) = below.split_at_mut(pixels_in(place.width, count as usize));
+    let band = Band { from: 0, count };
+    paint_first(place, band, painters, rows);
+}

@@ -7,6 +7,8 @@ ghost use Rattle.vz_buffers.specs.Bands.{Strip, ArePainters, rows_put};
 ghost use Rattle.vz_geom.specs.Display.{IsDisplaySize};
 ghost use Rattle.vz_geom.specs.Rectangle.{area_of};
 
+mod alone;
+
 use crate::bands::{height, paint_within, place_of};
 use crate::{RowPainter, Steps};
 use std::alloc::Global;

@@ -1,7 +1,7 @@
 //! The queue of the buffers of a display, like Chromium's `BufferQueue`.
 ghost use Rattle.std.specs.Prelude.{◌≡◌, ◌≤◌, ◌-◌, map, replicate, Some, None, ◌∷◌, length, take};
 ghost use Rattle.std.specs.Option.{option_map};
-ghost use Rattle.vz_geom.specs.Rectangle.{join, no_rectangle, sized};
+ghost use Rattle.vz_geom.specs.Rectangle.{join, no_rectangle};
 ghost use Rattle.vz_geom.specs.Display.{IsDisplaySize};
 ghost use Rattle.vz_buffers.specs.Turns.{AreTurns, first_turns, stale_of, damaged, turned};
 
@@ -65,7 +65,7 @@ impl Queue {
     {
         match self.stales.last() {
             Some(Some(stale)) => *stale,
-            _ => whole(&self.size),
+            _ => Rect::of_display(self.size),
         }
     }
 
@@ -108,23 +108,7 @@ fn turn(stales: &mut ArrayVec<Option<Rect>, MOST_BUFFERS>)
         ≡ Some no_rectangle ∷ take (length stales.old.items - 1) stales.old.items }
 {
     stales.pop();
-    stales.insert(0, Some(nothing()));
-}
-
-/// The empty rectangle.
-#[tactic(auto, unfolding(vz_geom::specs::Rectangle::with_sides))]
-fn nothing() -> Rect
-    ensures { result ≡ no_rectangle }
-{
-    Rect::new(0, 0, 0, 0)
-}
-
-/// The rectangle of a whole display.
-fn whole(size: &Size) -> Rect
-    requires { IsDisplaySize size.now }
-    ensures { result ≡ sized size.now }
-{
-    Rect::new(0, 0, size.w, size.h)
+    stales.insert(0, Some(Rect::empty()));
 }
 
 /// Adds a damage to the stale rectangle of each buffer that was ever painted.

@@ -7,7 +7,7 @@ use Rattle.vz_loans.specs.Rule.{places, weight}
 use Rattle.vz_loans.specs.Tokens.{Caller, numbered, unused_from, IsClosedBy}
 use Rattle.vz_loans.proofs.Closing.{Each, each_of, each_init, each_rest, each_on}
 use Rattle.vz_frame.specs.declared.message.ClientFile.{ClientFile}
-use Rattle.vz_rules.specs.Plan.{Plan}
+use Rattle.vz_rules.specs.Plan.{Plan, message_counts}
 use Rattle.vz_rules.specs.World.{file_of}
 use Rattle.vz_rules.specs.Step.{Legal}
 use Rattle.vz_rules.specs.Course.{displayed}
@@ -19,7 +19,7 @@ use Rattle.vz_turn.specs.Own.{own_entries, made_with}
 use Rattle.vz_turn.proofs.Owned.{own_count, own_closed}
 use Rattle.vz_callers.specs.Callers.{events_in, events_of, calls_of, IsClient}
 use Rattle.vz_callers.specs.Crews.{messages_of, numbers_of, HasCalledAll}
-use Rattle.vz_callers.specs.Turns.{rounds, message_counts, IsTurns}
+use Rattle.vz_callers.specs.Turns.{rounds, IsTurns}
 use Rattle.vz_callers.proofs.Sorting.{IsEventOf, IsEntryOf, IsSorted, sorted_by, each_event, rounds_display, calls_client, displayed_own, mine_own}
 
 -- Lists

@@ -6,13 +6,13 @@ use Rattle.std.proofs.Common.{◌≡◌, ℕ, zero, suc, ◌+◌, Bool, true, Op
 use Rattle.atomic_table.specs.Seated.{TableId}
 use Rattle.vz_loans.specs.Tokens.{Caller, unused, unused_from, IsAtRest}
 use Rattle.vz_loans.proofs.Closing.{each_of, all_of, each_on}
-use Rattle.vz_rules.specs.Plan.{Plan}
+use Rattle.vz_rules.specs.Plan.{Plan, message_counts}
 use Rattle.vz_rules.specs.Step.{Legal, LegalFrom}
 use Rattle.vz_rules.specs.declared.entry.Entry.{Entry}
 use Rattle.vz_turn.specs.Calls.{IsClosed}
 use Rattle.vz_callers.specs.Callers.{events_of, Stays, IsClient}
 use Rattle.vz_callers.specs.Crews.{numbers_of, HasCalledAll, IsBack}
-use Rattle.vz_callers.specs.Turns.{rounds, message_counts, IsTurns}
+use Rattle.vz_callers.specs.Turns.{rounds, IsTurns}
 use Rattle.vz_callers.proofs.Called.{rests_then}
 use Rattle.vz_callers.proofs.Crewing.{all_pushed}
 use Rattle.vz_callers.proofs.Ended.{turns, plan_is}

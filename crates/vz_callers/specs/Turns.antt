@@ -1,5 +1,5 @@
 -- What the callers of a plan leave.
-use Rattle.std.specs.Prelude.{◌≡◌, ℕ, zero, suc, ◌≤◌, List, [], ◌∷◌, ◌++◌, map, length, Some}
+use Rattle.std.specs.Prelude.{◌≡◌, ℕ, zero, suc, ◌≤◌, List, [], ◌∷◌, ◌++◌, length, Some}
 use Rattle.vz_frame.specs.declared.message.ClientFile.{ClientFile}
 use Rattle.vz_rules.specs.Plan.{Plan}
 use Rattle.vz_rules.specs.World.{file_of}
@@ -19,10 +19,6 @@ round = event.Begin ∷ event.Draw ∷ event.Done ∷ []
 abbrev pub rounds : ℕ → List Event
 rounds zero = []
 rounds (suc n) = round ++ rounds n
-
--- how many messages each client's file has
-abbrev pub message_counts : Plan → List ℕ
-message_counts p = map (λ (file : ClientFile). length file.messages) p.files
 
 -- a legal history in which the display's events are so many rounds, and each client has as many
 -- entries as its file has messages

@@ -3,7 +3,8 @@ ghost use Rattle.std.specs.Prelude.{◌≡◌, ◌≤◌, [], length, OnOk};
 ghost use Rattle.vz_base.specs.declared.limits.TheConstants.{MOST_FILES};
 ghost use Rattle.vz_rules.specs.Step.{Legal};
 ghost use Rattle.vz_rules.specs.World.{opening};
-ghost use Rattle.vz_callers.specs.Turns.{message_counts, IsTurns};
+ghost use Rattle.vz_rules.specs.Plan.{message_counts};
+ghost use Rattle.vz_callers.specs.Turns.{IsTurns};
 
 use crate::beside::{Beside, play_beside};
 use crate::opening::{Opened, open_turns};

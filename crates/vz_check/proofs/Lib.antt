@@ -1,10 +1,9 @@
 pub mod Answering
-pub mod Behaving
 pub mod Giving
 pub mod Pieces
 pub mod Framing
 pub mod Growing
 pub mod Lines
-pub mod Standing
+pub mod Log_so_far
 pub mod Stepping
 pub mod Once

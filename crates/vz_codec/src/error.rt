@@ -32,6 +32,14 @@ impl From<AllocError> for ReadError {
     }
 }
 
+impl From<vz_base::Memory> for ReadError {
+    ghost from_gives = { λ _ e. e ≡ Memory };
+
+    fn from(_e: vz_base::Memory) -> ReadError {
+        ReadError::Memory
+    }
+}
+
 impl<T: Drop> From<AllocFailed<T>> for ReadError {
     ghost from_gives = { λ _ e. e ≡ Memory };
 

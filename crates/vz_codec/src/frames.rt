@@ -20,7 +20,7 @@ use crate::reader::Reader;
 use crate::shapes::Rects;
 use crate::writer::Writer;
 use std::alloc::AllocError;
-use vz_frame::{CompositorFrame, List, Listing, Metadata, RenderPass};
+use vz_frame::{BoxedFrame, CompositorFrame, List, Listing, Metadata, RenderPass};
 
 const DEPENDENCIES: Counted<Surfaces> = Counted(MOST_DEPENDENCIES, Surfaces);
 
@@ -28,9 +28,32 @@ const REFERENCES: Counted<Ranges> = Counted(MOST_REFERENCES, Ranges);
 
 const RESOURCES: Counted<Listings> = Counted(MOST_RESOURCES, Listings);
 
+/// The field of a frame that is kept in a box, in a file of this format.
+#[derive(Drop)]
+pub struct BoxedFrames(pub u8);
+
+impl Field for BoxedFrames {
+    type Value = BoxedFrame;
+
+    ghost kind = { λ f. field (frame_at f.0) (frame_bytes f.0) (fits_frame f.0) };
+
+    fn read(&self, input: &mut Reader) -> Result<BoxedFrame, ReadError> {
+        let frame = Frames(self.0).read(input)?;
+        Ok(BoxedFrame::new(input.alloc(), frame)?)
+    }
+
+    fn write(&self, frame: &BoxedFrame, out: &mut Writer) -> Result<(), AllocError> {
+        Frames(self.0).write(frame.as_frame(), out)
+    }
+
+    fn fits(&self, frame: &BoxedFrame) -> bool {
+        Frames(self.0).fits(frame.as_frame())
+    }
+}
+
 /// The field of a frame, in a file of this format.
 #[derive(Drop)]
-pub struct Frames(pub u8);
+struct Frames(u8);
 
 #[tactic(auto, unfolding(crate::specs::Reading::frame_at, crate::specs::Reading::all_passes_at, crate::specs::Spelling::frame_bytes, vz_frame::specs::Fits::fits_frame), using(crate::proofs::Appended::appended))]
 impl Field for Frames {

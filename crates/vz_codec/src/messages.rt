@@ -9,7 +9,7 @@ ghost use Rattle.vz_codec.specs.Spelling.{block_bytes, message_bytes};
 use crate::error::ReadError;
 use crate::fault::FileRule;
 use crate::field::{Field, fit_all, read_many, write_many};
-use crate::frames::Frames;
+use crate::frames::BoxedFrames;
 use crate::ids::{Locals, Sinks, is_number};
 use crate::limits::MOST_SIDE;
 use crate::reader::Reader;
@@ -57,7 +57,7 @@ impl Field for Messages {
             }
             SUBMIT => {
                 let local = Locals.read(input)?;
-                let frame = Frames(self.0).read(input)?;
+                let frame = BoxedFrames(self.0).read(input)?;
                 Ok(Message::Submit { local, frame })
             }
             DID_NOT_PRODUCE => Ok(Message::DidNotProduce(input.u32()?)),
@@ -83,7 +83,7 @@ impl Field for Messages {
             Message::Submit { local, frame } => {
                 out.u8(SUBMIT)?;
                 Locals.write(local, out)?;
-                Frames(self.0).write(frame, out)
+                BoxedFrames(self.0).write(frame, out)
             }
             Message::DidNotProduce(number) => {
                 out.u8(DID_NOT_PRODUCE)?;
@@ -107,7 +107,9 @@ impl Field for Messages {
     fn fits(&self, message: &Message) -> bool {
         match message {
             Message::Upload { id, block } => 1 <= *id && Blocks.fits(block),
-            Message::Submit { local, frame } => Locals.fits(local) && Frames(self.0).fits(frame),
+            Message::Submit { local, frame } => {
+                Locals.fits(local) && BoxedFrames(self.0).fits(frame)
+            }
             Message::DidNotProduce(number) => is_number(*number),
             Message::SetRoot(local) => Locals.fits(local),
             Message::Hierarchy { parent, child } => Sinks.fits(parent) && Sinks.fits(child),

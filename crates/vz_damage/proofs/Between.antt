@@ -5,9 +5,10 @@ use Rattle.std.proofs.lemmas.Bool.Decides.{nat_tests}
 use Rattle.vz_geom.specs.Rectangle.{Rectangle, bound}
 use Rattle.vz_ids.specs.declared.SurfaceId.{SurfaceId}
 use Rattle.vz_ids.specs.Ids.{same_surface}
+use Rattle.vz_frame.specs.Frame.{root_damage}
 use Rattle.vz_rules.specs.World.{World, Submission, FrameData, Aggregation, is_on}
 use Rattle.vz_rules.specs.Kept.{KeepsAlways, AreNumbered}
-use Rattle.vz_rules.specs.Damage.{damage_since, root_damage, index_in}
+use Rattle.vz_rules.specs.Damage.{damage_since, index_in}
 use Rattle.vz_rules.specs.Step.{accepted_frames}
 use Rattle.vz_rules.proofs.Counts.{count_cons}
 use Rattle.vz_rules.proofs.Reached.{from_same}

@@ -1,5 +1,5 @@
 -- The smallest rectangle round several, as more are told.
-use Rattle.std.proofs.Common.{◌≡◌, ℕ, ℤ, pos, ◌+◌, ◌+ℤ◌, ◌-ℤ◌, ◌≤◌, true, false, refl, ap, sym, ◌∙◌, arith, subst, List, [], ◌∷◌, ◌++◌, take, drop, length, zero, suc}
+use Rattle.std.proofs.Common.{◌≡◌, ℕ, ℤ, ◌+◌, ◌+ℤ◌, ◌-ℤ◌, ◌≤◌, true, false, refl, ap, sym, ◌∙◌, arith, subst, List, [], ◌∷◌, ◌++◌, take, drop, length, zero, suc}
 use Rattle.std.specs.Int.{int_max, int_min}
 use Rattle.std.proofs.lemmas.List.{length_push, take_all}
 use Rattle.std.proofs.lemmas.Int.{ints, clamps}
@@ -191,16 +191,12 @@ module _ (shown waiting : Rectangle) (told : ℕ) (t : Told) (is : AreRunning sh
     second = is.second;
   }
 
-pub nothing : with_sides (pos 0) (pos 0) (pos 0) (pos 0) ≡ no_rectangle
-unfolding with_sides
-nothing = refl
-
 -- So it is with rectangles that are equal to these.
 
-pub as_first : (shown r : Rectangle) → shown ≡ with_sides (pos 0) (pos 0) (pos 0) (pos 0) → IsRectangle r → (ds : List Rectangle) → ds ≡ [] ++ r ∷ []
+pub as_first : (shown r : Rectangle) → shown ≡ no_rectangle → IsRectangle r → (ds : List Rectangle) → ds ≡ [] ++ r ∷ []
     → AreRunning shown r 1 (record { damages = ds; active = 0; seen = 0 })
 as_first shown r is proper ds told =
-    subst (λ s. AreRunning s r 1 (record { damages = ds; active = 0; seen = 0 })) (sym (is ∙ nothing))
+    subst (λ s. AreRunning s r 1 (record { damages = ds; active = 0; seen = 0 })) (sym is)
     (subst (λ l. AreRunning no_rectangle r 1 (record { damages = l; active = 0; seen = 0 })) (sym told) (first_told r proper))
 
 pub as_told : (shown waiting joined r : Rectangle) (told index : ℕ) (t : Told) (ds : List Rectangle) → AreRunning shown waiting told t → joined ≡ join waiting r → IsRectangle r
@@ -211,12 +207,12 @@ as_told shown waiting joined r told index t ds is joins proper next new =
     (subst (λ n. AreRunning shown (join waiting r) n (record t { damages = t.damages ++ r ∷ [] })) (omega (arith, is.count, next)) (one_more shown waiting told t is r proper)))
 
 pub as_active : (shown waiting joined empty : Rectangle) (told : ℕ) (t : Told) → AreRunning shown waiting told t → joined ≡ join shown waiting
-    → empty ≡ with_sides (pos 0) (pos 0) (pos 0) (pos 0) → AreRunning joined empty told (record t { active = told })
+    → empty ≡ no_rectangle → AreRunning joined empty told (record t { active = told })
 as_active shown waiting joined empty told t is joins none =
     subst (λ s. AreRunning s empty told (record t { active = told })) (sym joins)
-    (subst (λ w. AreRunning (join shown waiting) w told (record t { active = told })) (sym (none ∙ nothing)) (now_active shown waiting told t is))
+    (subst (λ w. AreRunning (join shown waiting) w told (record t { active = told })) (sym none) (now_active shown waiting told t is))
 
-pub as_seen : (shown waiting empty : Rectangle) (told : ℕ) (t : Told) → AreRunning shown waiting told t → empty ≡ with_sides (pos 0) (pos 0) (pos 0) (pos 0)
+pub as_seen : (shown waiting empty : Rectangle) (told : ℕ) (t : Told) → AreRunning shown waiting told t → empty ≡ no_rectangle
     → AreRunning empty waiting told (record t { seen = t.active })
 as_seen shown waiting empty told t is none =
-    subst (λ s. AreRunning s waiting told (record t { seen = t.active })) (sym (none ∙ nothing)) (now_seen shown waiting told t is)
+    subst (λ s. AreRunning s waiting told (record t { seen = t.active })) (sym none) (now_seen shown waiting told t is)

@@ -1,12 +1,12 @@
 -- What is told of a surface, as it is looked up, put in and taken out.
 use Rattle.std.proofs.Common.{◌≡◌, ℕ, ◌+◌, ◌≤◌, Bool, true, false, ◌&&◌, ◌==◌, zero, suc, List, [], ◌∷◌, Option, Some, None, refl, ap, sym, ◌∙◌, cond, length, slice_get, arith}
-use Rattle.std.proofs.lemmas.Bool.Decides.{nat_tests}
 use Rattle.std.specs.Option.{option_map}
 use Rattle.std.specs.Map.{lookup, values_of}
 use Rattle.indexmap.specs.Layout.{set_value_at}
 use Rattle.vz_ids.specs.declared.SurfaceId.{SurfaceId}
 use Rattle.vz_ids.specs.declared.SurfaceRange.{SurfaceRange}
 use Rattle.vz_rules.specs.World.{Aggregation}
+use Rattle.vz_rules.proofs.Reached.{self_same}
 use Rattle.vz_ids.specs.Ids.{same_surface, same_sink}
 use Rattle.vz_ids.specs.contracts.SurfaceIdPartialEq.TheImpl as surface_eq
 use Rattle.vz_damage.specs.Told.{Told, told_on, with_seen}
@@ -31,15 +31,6 @@ looked (x ∷ xs) id =
 -- one surface has something told of it, or nothing, and the others what they had
 abbrev pub IsChanged : List (SurfaceId × Told) → List (SurfaceId × Told) → SurfaceId → Option Told → Type 0
 IsChanged old new id w = (q : SurfaceId) → lookup (same_id q) new ≡ cond (same_id id q) w (lookup (same_id q) old)
-
-self_number : (a : ℕ) → (a == a) ≡ true
-self_number a = grind (arith, nat_tests)
-
-all_true : (a b c d e : Bool) → a ≡ true → b ≡ true → c ≡ true → d ≡ true → e ≡ true → ((a && b) && ((c && d) && e)) ≡ true
-all_true a b c d e p q r s t = rw (p, q, r, s, t)
-
-pub self_same : (a : SurfaceId) → same_surface a a ≡ true
-self_same a = all_true _ _ _ _ _ (self_number a.sink.client_id) (self_number a.sink.sink_id) (self_number a.local.parent) (self_number a.local.child) (self_number a.local.token.0)
 
 pub told_after : (old new : List (SurfaceId × Told)) (id : SurfaceId) (w : Option Told) → IsChanged old new id w → (q : SurfaceId) → told_on new q ≡ cond (same_surface id q) w (told_on old q)
 told_after old new id w changed q =

@@ -2,7 +2,8 @@
 use Rattle.std.specs.Prelude.{◌≡◌, Some, List, map, filter}
 use Rattle.std.specs.List.{Contains}
 use Rattle.vz_ids.specs.declared.SurfaceId.{SurfaceId}
-use Rattle.vz_rules.specs.Damage.{root_damage, index_in}
+use Rattle.vz_frame.specs.Frame.{root_damage}
+use Rattle.vz_rules.specs.Damage.{index_in}
 use Rattle.vz_rules.specs.World.{World, Scene, Submission, Aggregation, FrameData, is_on, active_frames}
 use Rattle.vz_damage.specs.Told.{Told, told_on}
 

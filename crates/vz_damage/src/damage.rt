@@ -25,7 +25,7 @@ use vz_base::Memory;
 use vz_geom::{Rect, Size};
 use vz_ids::SurfaceId;
 use vz_surfaces::Store;
-use vz_walk::{Both, Visitor, Weigher, display_rect, walk};
+use vz_walk::{Both, Visitor, Weigher, walk};
 
 /// What changed on each surface. Contracts see, for each surface, the damage of each submission
 /// by its index (from 1), which submission is active, and which one was at the last aggregation.
@@ -91,6 +91,7 @@ impl Damage {
         ensures others { (other : Surface) → IsFalse (same_surface id other)
             → told_on self.new.surfaces other ≡ told_on self.old.surfaces other }
         ensures err { OnErr result (self.new.surfaces ≡ self.old.surfaces) }
+        ensures kept { OnErr result (self.old.spare ≤ self.new.spare) }
         ensures succeeds { 0 < self.old.spare → IsOk result }
         ensures spare { self.old.spare ≤ self.new.spare + 1 }
         ensures last { self.new.last ≡ self.old.last }
@@ -101,9 +102,9 @@ impl Damage {
 
     /// Reports the damage of an accepted submission: the part of its surface that may differ from
     /// the submission before, in pixels of the surface. It returns `Memory` if an allocation
-    /// fails; then nothing changes. If the surface was reported before or there is room for one,
-    /// it returns Ok. Condition: the index is one more than the last one reported for the
-    /// surface, and 1 for the first.
+    /// fails; then nothing changes and no room is lost. If the surface was reported before or
+    /// there is room for one, it returns Ok. Condition: the index is one more than the last one
+    /// reported for the surface, and 1 for the first.
     pub fn accepted(&mut self, id: SurfaceId, index: u32, damage: Rect) -> Result<(), Memory>
         requires { index ≡ next_index (told_on self.old.surfaces id) }
         ensures told { OnOk result (told_on self.new.surfaces id
@@ -111,6 +112,7 @@ impl Damage {
         ensures others { (other : Surface) → IsFalse (same_surface id other)
             → told_on self.new.surfaces other ≡ told_on self.old.surfaces other }
         ensures err { OnErr result (self.new.surfaces ≡ self.old.surfaces) }
+        ensures kept { OnErr result (self.old.spare ≤ self.new.spare) }
         ensures known { IsTrue (is_some (told_on self.old.surfaces id)) → IsOk result }
         ensures succeeds { 0 < self.old.spare → IsOk result }
         ensures spare { self.old.spare ≤ self.new.spare + 1 }
@@ -241,7 +243,7 @@ impl Damage {
         if self.has_root(root) {
             Ok(Some((self.measured(damage, root, ranges), beside)))
         } else {
-            let whole = display_rect(size);
+            let whole = Rect::of_display(size);
             Ok(Some((self.measured(whole, root, ranges), beside)))
         }
     }

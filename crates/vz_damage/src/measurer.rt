@@ -3,7 +3,7 @@ ghost use Rattle.std.specs.Prelude.{◌≡◌, [], if◌then◌else◌};
 ghost use Rattle.vz_geom.specs.Rectangle.{IsRectangle, join, no_rectangle};
 ghost use Rattle.vz_rules.specs.Damage.{is_switched};
 ghost use Rattle.vz_rules.specs.World.{Aggregation};
-ghost use Rattle.vz_walk.specs.Limits.{FitsFile, HasRoom};
+ghost use Rattle.vz_placement.specs.Limits.{FitsFile, HasRoom};
 ghost use Rattle.vz_damage.specs.Told.{told_on, damage_in};
 ghost use Rattle.vz_damage.specs.Measured.{seen_damage};
 
@@ -12,8 +12,9 @@ use crate::running::Running;
 use indexmap::IndexMap;
 use vz_geom::Rect;
 use vz_ids::{SurfaceId, SurfaceRange};
+use vz_placement::{Placement, inside_frame, moved};
 use vz_surfaces::Seen;
-use vz_walk::{Place, Visitor, inside_frame, moved, nothing};
+use vz_walk::Visitor;
 
 /// The damage on a surface since the last aggregation; empty if nothing was reported of it.
 pub(crate) fn damage_of(told: &IndexMap<SurfaceId, Running>, id: &SurfaceId) -> Rect
@@ -21,13 +22,13 @@ pub(crate) fn damage_of(told: &IndexMap<SurfaceId, Running>, id: &SurfaceId) -> 
 {
     match told.get(id) {
         Some(running) => running.damage(),
-        None => Rect::new(0, 0, 0, 0),
+        None => Rect::empty(),
     }
 }
 
 /// The part of a surface's damage that is visible at a place. Conditions: the frame fits a
 /// message file, and the place is within the limits.
-fn seen_damage(damage: &Rect, frame: &Seen<'_>, place: &Place) -> Rect
+fn seen_damage(damage: &Rect, frame: &Seen<'_>, place: &Placement) -> Rect
     requires fits { FitsFile frame.now.frame }
     requires room { HasRoom 0 place.now.shift }
     ensures value { result ≡ seen_damage damage.now frame.now place.now }
@@ -64,7 +65,7 @@ impl<'d> Measurer<'d> {
         Measurer {
             told,
             last,
-            damage: nothing(),
+            damage: Rect::empty(),
             ranges,
         }
     }
@@ -113,7 +114,7 @@ impl<'d> Visitor for Measurer<'d> {
         self.ranges.note(range, shown).is_ok()
     }
 
-    fn enters(&mut self, _: u32, frame: &Seen<'_>, place: &Place) -> bool {
+    fn enters(&mut self, _: u32, frame: &Seen<'_>, place: &Placement) -> bool {
         let damage = damage_of(self.told, &frame.id());
         let seen = seen_damage(&damage, frame, place);
         self.damage = self.damage.bound(&seen);

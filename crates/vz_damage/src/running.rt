@@ -42,7 +42,7 @@ impl Running {
         let mut damages = GhostList::new();
         damages.show(&damage);
         Running {
-            shown: Rect::new(0, 0, 0, 0),
+            shown: Rect::empty(),
             waiting: damage,
             told: 1,
             active: 0,
@@ -67,7 +67,7 @@ impl Running {
         ensures { self.new ≡ record self.old { active = length self.old.damages } }
     {
         self.shown = self.shown.bound(&self.waiting);
-        self.waiting = Rect::new(0, 0, 0, 0);
+        self.waiting = Rect::empty();
         self.active = self.told;
     }
 
@@ -75,7 +75,7 @@ impl Running {
     pub(crate) fn aggregated(&mut self)
         ensures { self.new ≡ record self.old { seen = self.old.active } }
     {
-        self.shown = Rect::new(0, 0, 0, 0);
+        self.shown = Rect::empty();
         self.seen = self.active;
     }
 

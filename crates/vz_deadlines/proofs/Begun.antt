@@ -6,7 +6,7 @@ use Rattle.vz_ids.specs.Ids.{same_sub}
 use Rattle.vz_rules.specs.World.{has_sub}
 use Rattle.vz_deadlines.specs.declared.due.Due.{Due}
 use Rattle.vz_deadlines.specs.Timing.{due_at, left_at}
-use Rattle.vz_deadlines.specs.Standing.{standing, left_in, are_distinct, AreKept}
+use Rattle.vz_deadlines.specs.Slots.{standing, left_in, are_distinct, AreKept}
 use Rattle.vz_deadlines.proofs.Stands.{left_standing}
 use Rattle.vz_deadlines.proofs.Found_at.{by_cases, some_is, apart}
 use Rattle.vz_deadlines.proofs.Keeps.{distinct_filter}

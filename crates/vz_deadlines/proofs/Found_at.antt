@@ -7,7 +7,7 @@ use Rattle.vz_ids.specs.declared.Sub.{Sub}
 use Rattle.vz_ids.specs.Ids.{same_sub}
 use Rattle.vz_deadlines.specs.declared.due.Due.{Due}
 use Rattle.vz_deadlines.specs.Timing.{waits}
-use Rattle.vz_deadlines.specs.Standing.{standing, are_distinct, AreFound, AreTold}
+use Rattle.vz_deadlines.specs.Slots.{standing, are_distinct, AreFound, AreTold}
 use Rattle.vz_deadlines.proofs.Stands.{both}
 
 from_eqb : (a b : ℕ) → (a == b) ≡ true → a ≡ b

@@ -6,7 +6,7 @@ use Rattle.std.proofs.lemmas.List.{length-map, append-nil, append_assoc, take_al
 use Rattle.std.proofs.lemmas.List.Edits.{map_over_more}
 use Rattle.vz_deadlines.specs.declared.due.Due.{Due}
 use Rattle.vz_deadlines.specs.declared.slots.Slot.{Slot}
-use Rattle.vz_deadlines.specs.Standing.{standing, held_in, are_from, are_unbounded, AreBounded}
+use Rattle.vz_deadlines.specs.Slots.{standing, held_in, are_from, are_unbounded, AreBounded}
 use Rattle.vz_deadlines.proofs.Stands.{both, two_true, own_default}
 
 abbrev pub forgotten : Slot → Slot

@@ -3,7 +3,7 @@ use Rattle.std.proofs.Common.{◌≡◌, ℕ, min, zero, suc, ◌-◌, ◌/◌, 
 use Rattle.std.proofs.lemmas.List.{length-set, take_at, drop_at, length-map, length-append, length-drop, length-take-le, take-append-drop, map-append, set-append_left, set-append_right}
 use Rattle.vz_deadlines.specs.declared.due.Due.{Due}
 use Rattle.vz_deadlines.specs.declared.slots.Slot.{Slot}
-use Rattle.vz_deadlines.specs.Standing.{held_in, are_from, AreBounded}
+use Rattle.vz_deadlines.specs.Slots.{held_in, are_from, AreBounded}
 use Rattle.vz_deadlines.proofs.Stands.{from_set}
 
 pub bounded_parts : (n : ℕ) (s : Slot) (slots left right : List Slot) → slots ≡ left ++ right → length left ≡ length slots / 2 → IsTrue (are_from s.soonest (held_in (s ∷ slots))) → AreBounded n left → AreBounded n right → AreBounded (suc n) (s ∷ slots)

@@ -5,7 +5,7 @@ use Rattle.vz_ids.specs.declared.Sub.{Sub}
 use Rattle.vz_ids.specs.Ids.{same_sub}
 use Rattle.vz_deadlines.specs.declared.due.Due.{Due}
 use Rattle.vz_deadlines.specs.Timing.{waits, without}
-use Rattle.vz_deadlines.specs.Standing.{standing, stands_at, are_distinct, AreFound, AreTold, AreKept}
+use Rattle.vz_deadlines.specs.Slots.{standing, stands_at, are_distinct, AreFound, AreTold, AreKept}
 use Rattle.vz_deadlines.proofs.Stands.{both, two_true, standing_append, standing_fits, standing_free}
 use Rattle.vz_deadlines.proofs.Found_at.{same_is, same_self, same_back, by_cases, some_is, waits_at, stands_in, apart}
 

@@ -8,7 +8,7 @@ use Rattle.vz_ids.specs.declared.Sub.{Sub}
 use Rattle.vz_deadlines.specs.declared.due.Due.{Due}
 use Rattle.vz_deadlines.specs.Timing.{due_at, left_at}
 use Rattle.vz_deadlines.specs.declared.slots.Slot.{Slot}
-use Rattle.vz_deadlines.specs.Standing.{standing, held_in, left_in, slot_at, are_from}
+use Rattle.vz_deadlines.specs.Slots.{standing, held_in, left_in, slot_at, are_from}
 use Rattle.vz_deadlines.proofs.Dues.{due_append, one_due, one_later, none_due, all_later}
 
 pub standing_append : (xs ys : List (Option Due)) → standing (xs ++ ys) ≡ standing xs ++ standing ys

@@ -32,7 +32,7 @@ impl Model for Deadlines {
     ghost use Rattle.indexmap.specs.IndexMap.{get, spare as spare_of};
     ghost use Rattle.vz_ids.specs.Ids.{same_sub};
     ghost use Rattle.vz_deadlines.specs.Timing.{Timed};
-    ghost use Rattle.vz_deadlines.specs.Standing.{standing, AreKept};
+    ghost use Rattle.vz_deadlines.specs.Slots.{standing, AreKept};
 
     ghost Value = { Timed };
 

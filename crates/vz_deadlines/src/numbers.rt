@@ -4,7 +4,7 @@ ghost use Rattle.indexmap.specs.IndexMap.{get, spare as spare_of};
 ghost use Rattle.vz_ids.specs.declared.Sub.{Sub};
 ghost use Rattle.vz_ids.specs.Ids.{same_sub};
 ghost use Rattle.vz_rules.specs.World.{has_sub};
-ghost use Rattle.vz_deadlines.specs.Standing.{standing, are_distinct, AreFound, AreTold};
+ghost use Rattle.vz_deadlines.specs.Slots.{standing, are_distinct, AreFound, AreTold};
 
 use crate::slots::Slots;
 use indexmap::IndexMap;

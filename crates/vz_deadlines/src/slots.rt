@@ -1,7 +1,7 @@
 //! Slots in which submissions wait for their tick.
 ghost use Rattle.std.specs.Prelude.{◌≡◌, ◌≤◌, ◌<◌, ◌+◌, ◌-◌, ◌*◌, ◌^◌, ◌/◌, None, Some, [], ◌++◌, length, map, replicate, slice_get, slice_set, vec_len, vec_capacity, IsTrue, OnOk, OnErr};
 ghost use Rattle.vz_deadlines.specs.Timing.{due_at};
-ghost use Rattle.vz_deadlines.specs.Standing.{standing, stands_at, held_in, left_in, are_unbounded};
+ghost use Rattle.vz_deadlines.specs.Slots.{standing, stands_at, held_in, left_in, are_unbounded};
 
 use crate::due::Due;
 use crate::walk::{put_in, take_due};
@@ -32,7 +32,7 @@ pub(crate) struct Slots {
 impl Model for Slots {
     ghost use Rattle.std.specs.Prelude.{Option, List};
     ghost use Rattle.vz_deadlines.specs.declared.due.Due.{Due};
-    ghost use Rattle.vz_deadlines.specs.Standing.{held_in, AreBounded};
+    ghost use Rattle.vz_deadlines.specs.Slots.{held_in, AreBounded};
 
     ghost Value = { List (Option Due) };
 

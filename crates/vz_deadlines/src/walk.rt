@@ -3,7 +3,7 @@
 //! leads is due, so that a half in which nothing is due is not entered.
 ghost use Rattle.std.specs.Prelude.{◌≡◌, ◌≤◌, ◌<◌, ◌+◌, Some, [], ◌∷◌, ◌++◌, length, map, min, slice_set, IsTrue};
 ghost use Rattle.vz_deadlines.specs.Timing.{due_at};
-ghost use Rattle.vz_deadlines.specs.Standing.{standing, held_in, left_in, slot_at, are_from, AreBounded};
+ghost use Rattle.vz_deadlines.specs.Slots.{standing, held_in, left_in, slot_at, are_from, AreBounded};
 
 use crate::due::Due;
 use crate::slots::Slot;

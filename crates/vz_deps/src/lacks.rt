@@ -6,7 +6,6 @@ ghost use Rattle.vz_ids.specs.declared.SurfaceId.{SurfaceId as SurfaceOf};
 ghost use Rattle.vz_deps.specs.Bunching.{seat_in, size_in};
 ghost use Rattle.vz_deps.specs.declared.bunches.Lack.{Lack as LackOf};
 ghost use Rattle.vz_deps.specs.declared.lacks.Count.{Count as CountOf};
-ghost use Rattle.vz_deps.specs.Tracking.{meets};
 ghost use Rattle.vz_deps.specs.Lacking.{on_in, count_in, bunches_for, met_by, is_of, bunch_told, IsKept, HasSame, Meets, IsRid, IsLowered, noted, unready, whole, room_of};
 
 use crate::bunches::{Bunch, Bunches, Lack, Seat};
@@ -47,16 +46,9 @@ pub(crate) fn meets(told: &Told, d: &SurfaceId) -> bool
     ensures { result ≡ met_by told.now d.now }
 {
     match told {
-        Told::Active(id) => is_at_least(id, d),
+        Told::Active(id) => id.is_at_least(d),
         Told::Closed(sink) => d.sink == *sink,
     }
-}
-
-/// Whether a surface is the other one or a newer one of its group.
-fn is_at_least(id: &SurfaceId, d: &SurfaceId) -> bool
-    ensures { result ≡ meets id.now d.now }
-{
-    id == d || (id.sink == d.sink && id.local.newer(&d.local))
 }
 
 impl Lacks {

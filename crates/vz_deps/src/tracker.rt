@@ -86,15 +86,16 @@ impl Tracker {
     }
 
     /// Blocks a submission by its unmet dependencies. It returns `Memory` if an allocation fails;
-    /// then nothing changes. If there is room for one and one more for each dependency, it
-    /// returns Ok and uses up no more than that. Conditions: the submission is not blocked, and
-    /// `unmet` is not empty.
+    /// then nothing changes and no room is lost. If there is room for one and one more for each
+    /// dependency, it returns Ok and uses up no more than that. Conditions: the submission is not
+    /// blocked, and `unmet` is not empty.
     pub fn block(&mut self, s: Sub, unmet: &[SurfaceId]) -> Result<(), Memory>
         requires new { IsFalse (is_blocked self.old.list s) }
         requires some { 0 < length unmet.now }
         ensures list { OnOk result (self.new.list
             ≡ self.old.list ++ record { sub = s; unmet = unmet.now } ∷ []) }
         ensures err { OnErr result (self.new.list ≡ self.old.list) }
+        ensures kept { OnErr result (self.old.spare ≤ self.new.spare) }
         ensures succeeds { length unmet.now + 1 ≤ self.old.spare → IsOk result }
         ensures spare { self.old.spare ≤ self.new.spare + (length unmet.now + 1) }
     {

@@ -1,5 +1,5 @@
 -- What a client's end becomes, where a turn made an entry.
-use Rattle.std.proofs.Common.{◌≡◌, ℕ, suc, ◌+◌, ◌^◌, ◌<◌, ◌≤◌, Bool, true, false, ◌==◌, cond, Option, Some, List, [], ◌∷◌, ◌++◌, map, filter, length, refl, ap, sym, ◌∙◌, subst, arith, length-append, append_assoc, append-nil, eq-eqb}
+use Rattle.std.proofs.Common.{◌≡◌, ℕ, suc, ◌+◌, ◌^◌, ◌<◌, ◌≤◌, Bool, true, false, ◌==◌, cond, Option, Some, None, List, [], ◌∷◌, ◌++◌, map, filter, length, refl, ap, sym, ◌∙◌, subst, arith, length-append, append_assoc, append-nil, eq-eqb}
 use Rattle.std.proofs.lemmas.Int.{ints, clamps}
 use Rattle.std.specs.Prelude.{count_by, ◌&&◌}
 use Rattle.std.specs.List.{sum_by}
@@ -208,6 +208,11 @@ module _ {S : Type 0} where
   pub plan_kept : (b new : Booked S) (v : Event) (o : Option Plan) → new ≡ booked_on b v → o ≡ Some b.plan → o ≡ Some new.plan
   unfolding booked_on
   plan_kept b new v o goes is = is ∙ ap (λ (x : Booked S). Some x.plan) (sym goes)
+
+  -- an entry more gives no reason to stop
+  pub runs_on : (b new : Booked S) (v : Event) → new ≡ booked_on b v → b.reason ≡ None → new.reason ≡ None
+  unfolding booked_on
+  runs_on b new v goes none = ap (λ (x : Booked S). x.reason) goes ∙ none
 
   -- the entries are those that were found and one of the client
   pub client_leaves : (t : Caller Plan Entry) (b new : Booked S) (n : ℕ) → t.seen ≡ numbered b.history → n ≡ t.number → new ≡ booked_on b (event.Client n)

@@ -21,13 +21,15 @@ use vz_rules::{Entry, Event, Plan};
 
 mod shown;
 
-/// A machine with its history so far, and the reason of the first stop, if there was one.
+/// A machine with its history so far, and the reason of the first stop, if there was one. While
+/// the display waits in a pause, `awaited` is a client for which it waited when it last looked.
 #[derive(Drop)]
 pub struct Book<M: Machine, S> {
     machine: M,
     clients: u32,
     history: Room<Entry>,
     reason: Option<S>,
+    awaited: Option<u32>,
 }
 
 impl<M: Machine, S> Model for Book<M, S> {
@@ -76,14 +78,16 @@ impl<M: Machine, S: Copy> Book<M, S> {
             clients,
             history: Room::new(alloc),
             reason: None,
+            awaited: None,
         }
     }
 
     /// Takes the next message of a client, and appends its entry to the history. It returns the
-    /// note of the entry, and whether the entry took a message. Condition: the plan has that
-    /// client. The only error is `Memory`, and then nothing changes.
+    /// note of the entry, and whether the entry took a message. Conditions: the plan has that
+    /// client, and no reason is kept. The only error is `Memory`, and then nothing changes.
     pub fn client(&mut self, alloc: Global, client: u32) -> Result<(Note, bool), Memory>
-        requires { NamesClient self.old.plan (event.Client client) }
+        requires known { NamesClient self.old.plan (event.Client client) }
+        requires running { self.old.reason ≡ None }
         ensures ok { OnOk result (self.new ≡ booked_on self.old (event.Client client)) }
         ensures told { IfOk result (λ r. TellsNext self.old client r.0 r.1) }
         ensures err { OnErr result (self.new ≡ self.old) }
@@ -98,17 +102,20 @@ impl<M: Machine, S: Copy> Book<M, S> {
         Ok((told.at(self.history.as_slice().len() as u64), in_time))
     }
 
-    /// Whether a client would be answered NotYet if it sent its next message now. Condition: the
-    /// plan has that client.
+    /// Whether a client would be answered NotYet if it sent its next message now. Conditions: the
+    /// plan has that client, and no reason is kept, so that nobody waits after a stop.
     pub fn waits(&self, client: u32) -> bool
-        requires { NamesClient self.now.plan (event.Client client) }
+        requires known { NamesClient self.now.plan (event.Client client) }
+        requires running { self.now.reason ≡ None }
         ensures { result ≡ waits_at (machine_of self.now) client }
     {
         self.machine.waits(client)
     }
 
-    /// Begins a frame. The only error is `Memory`, and then nothing changes.
+    /// Begins a frame. Condition: no reason is kept. The only error is `Memory`, and then nothing
+    /// changes.
     pub fn begin(&mut self, alloc: Global) -> Result<(), Memory>
+        requires running { self.old.reason ≡ None }
         ensures ok { OnOk result (self.new ≡ booked_on self.old event.Begin) }
         ensures err { OnErr result (self.new ≡ self.old) }
     {
@@ -118,9 +125,10 @@ impl<M: Machine, S: Copy> Book<M, S> {
         Ok(())
     }
 
-    /// Draws. It returns a picture exactly if the answer is Drawn. The only error is `Memory`,
-    /// and then nothing changes.
+    /// Draws. It returns a picture exactly if the answer is Drawn. Condition: no reason is kept.
+    /// The only error is `Memory`, and then nothing changes.
     pub fn draw(&mut self, alloc: Global) -> Result<Option<M::Picture>, Memory>
+        requires running { self.old.reason ≡ None }
         ensures ok { OnOk result (self.new ≡ booked_on self.old event.Draw) }
         ensures picture { IfOk result (λ p. ShowsDrawn (machine_of self.old)
             (next_entry self.old event.Draw).reply (option_map M.Picture.pictured p)) }
@@ -132,7 +140,8 @@ impl<M: Machine, S: Copy> Book<M, S> {
         Ok(picture)
     }
 
-    /// Ends the drawn frame. It takes no memory. Condition: a frame is in flight.
+    /// Ends the drawn frame, also after a stop. It takes no memory. Condition: a frame is in
+    /// flight.
     pub fn done(&mut self)
         requires { IsTrue (is_some (machine_of self.old).world.in_flight) }
         ensures { self.new ≡ booked_on self.old event.Done }
@@ -141,9 +150,10 @@ impl<M: Machine, S: Copy> Book<M, S> {
         self.history.put(entry_of(Event::Done, step));
     }
 
-    /// Takes the event Over: from now on no client waits for a begin-frame. The only error is
-    /// `Memory`, and then nothing changes.
+    /// Takes the event Over: from now on no client waits for a begin-frame. Condition: no reason
+    /// is kept. The only error is `Memory`, and then nothing changes.
     pub fn over(&mut self) -> Result<(), Memory>
+        requires running { self.old.reason ≡ None }
         ensures ok { OnOk result (self.new ≡ booked_on self.old event.Over) }
         ensures err { OnErr result (self.new ≡ self.old) }
     {

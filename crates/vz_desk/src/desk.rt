@@ -10,11 +10,15 @@ use vz_base::Memory;
 use vz_loans::Lock;
 use vz_machine::Machine;
 
-/// A machine that several threads drive in turns. Its lock gives the turns, and its bell rings at
-/// each entry and at each stop.
+/// A machine that several threads drive in turns. Its lock gives the turns.
+///
+/// Clients wait for begin-frames, so their bell rings at each begin-frame and at Over. The display
+/// waits in pauses, so its bell rings if a client's entry lets a pause end. A stop rings the bells
+/// of all who may wait.
 pub struct Desk<M: Machine + Send, S: Copy + Send + Sync> {
     pub(crate) lock: Lock<Book<M, S>>,
-    pub(crate) bell: Bell,
+    pub(crate) clients: Bell,
+    pub(crate) display: Bell,
 }
 
 impl<M: Machine + Send, S: Copy + Send + Sync> Model for Desk<M, S> {
@@ -33,7 +37,7 @@ impl<M: Machine + Send, S: Copy + Send + Sync> Desk<M, S>
 where
     M::Picture: Send,
 {
-    /// Keeps a reason, unless one is kept already, and rings the bell. It makes no entry.
+    /// Keeps a reason, unless one is kept already, and rings both bells. It makes no entry.
     /// Condition: the end is of this desk.
     pub fn stop<R: Wait>(&self, rt: &R, by: &mut End<M, S>, why: S)
         requires { by.old.desk ≡ self.now.id }
@@ -43,7 +47,8 @@ where
         let mut book = self.lock.enter(rt, &mut by.token);
         book.stop(why);
         self.lock.leave(&mut by.token, book);
-        self.bell.ring(rt);
+        self.clients.ring();
+        self.display.ring();
     }
 
     /// Takes the next message of the end's client, and makes one entry, also if the answer is
@@ -83,11 +88,11 @@ where
         ensures err { OnErr result (MakesNone end.old end.new) }
     {
         for _ in rt.forever() {
-            let heard = self.bell.rings(rt);
+            let heard = self.clients.rings();
             if let Some(answer) = self.take(rt, end, true)? {
                 return Ok(answer);
             }
-            self.bell.wait_beyond(rt, heard);
+            self.clients.wait_beyond(rt, heard);
         }
         unreachable!()
     }
@@ -120,9 +125,10 @@ where
         }
         match book.client(rt.alloc(), client) {
             Ok((note, in_time)) => {
+                let calm = book.ends_pause();
                 self.lock.leave(&mut end.token, book);
                 end.totals = end.totals.with(&note, in_time);
-                self.bell.ring(rt);
+                self.display.ring_if(calm);
                 Ok(Some(Answer::Did(note)))
             }
             Err(memory) => {

@@ -28,8 +28,8 @@ impl<M: Machine + Send, S: Copy + Send + Sync> Desk<M, S>
 where
     M::Picture: Send,
 {
-    /// Begins a frame: it makes one entry, and the bell rings. If the desk was stopped, it
-    /// returns `Stopped` and makes none. The only error is `Memory`, and then it makes none.
+    /// Begins a frame: it makes one entry, and the clients' bell rings. If the desk was stopped,
+    /// it returns `Stopped` and makes none. The only error is `Memory`, and then it makes none.
     /// Condition: the end is of this desk.
     pub fn begin<R: Wait + AllocGlobal>(
         &self,
@@ -50,7 +50,7 @@ where
             Ok(()) => {
                 let place = book.places();
                 self.lock.leave(&mut d.token, book);
-                self.bell.ring(rt);
+                self.clients.ring();
                 d.begins += 1;
                 Ok(Answer::Did(plain_note(place)))
             }
@@ -62,8 +62,8 @@ where
     }
 
     /// Takes the event Over, from which on no client waits for a begin-frame: it makes one entry,
-    /// and the bell rings. If the desk was stopped, it returns `Stopped` and makes none. The only
-    /// error is `Memory`, and then it makes none. Condition: the end is of this desk.
+    /// and the clients' bell rings. If the desk was stopped, it returns `Stopped` and makes none.
+    /// The only error is `Memory`, and then it makes none. Condition: the end is of this desk.
     pub fn over<R: Wait>(&self, rt: &R, d: &mut DisplayEnd<M, S>) -> Result<Answer<S>, Memory>
         requires { d.old.desk ≡ self.now.id }
         ensures same { IsSameOwner d.old d.new }
@@ -79,7 +79,7 @@ where
             Ok(()) => {
                 let place = book.places();
                 self.lock.leave(&mut d.token, book);
-                self.bell.ring(rt);
+                self.clients.ring();
                 Ok(Answer::Did(plain_note(place)))
             }
             Err(memory) => {

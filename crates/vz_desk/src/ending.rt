@@ -73,7 +73,11 @@ where
             Some(hold) => hold.spend(),
             None => {}
         }
-        let Desk { lock, bell: _ } = self;
+        let Desk {
+            lock,
+            clients: _,
+            display: _,
+        } = self;
         lock.close(tokens_of(ends, d)).into_gathered()
     }
 }

@@ -47,7 +47,8 @@ where
         let display = display_of(token, room);
         let desk = Desk {
             lock,
-            bell: Bell::new(),
+            clients: Bell::new(),
+            display: Bell::new(),
         };
         Ok((desk, ends, display))
     }

@@ -1,5 +1,5 @@
 //! How the display pauses and stops.
-ghost use Rattle.std.specs.Prelude.{◌≡◌, None, IfOk};
+ghost use Rattle.std.specs.Prelude.{◌≡◌, true, None, IfOk};
 ghost use Rattle.vz_desk.specs.Owners.{IsSameOwner, MakesNone};
 ghost use Rattle.vz_desk.specs.Answers.{IsPaused};
 
@@ -11,28 +11,27 @@ impl<M: Machine + Send, S: Copy + Send + Sync> Desk<M, S>
 where
     M::Picture: Send,
 {
-    // Looks at the desk once, without an entry: it returns the reason of the first stop as the
-    // error, or else a client for which a pause has to wait, if there is one. Client `last` is
-    // asked first.
-    fn look<R: Wait>(&self, rt: &R, d: &mut DisplayEnd<M, S>, last: u32) -> Result<Option<u32>, S>
+    // Looks at the desk once, without an entry: whether a pause may end. If it may not, the book
+    // keeps that the display waits. The error is the reason of the first stop.
+    fn look<R: Wait>(&self, rt: &R, d: &mut DisplayEnd<M, S>) -> Result<bool, S>
         requires { d.old.desk ≡ self.now.id }
         ensures same { IsSameOwner d.old d.new }
         ensures none { MakesNone d.old d.new }
-        ensures calm { IfOk result (λ r. r ≡ None → IsPaused d.new) }
+        ensures calm { IfOk result (λ calm. calm ≡ true → IsPaused d.new) }
     {
-        let book = self.lock.enter(rt, &mut d.token);
+        let mut book = self.lock.enter(rt, &mut d.token);
         if let Some(why) = book.reason() {
             self.lock.leave(&mut d.token, book);
             return Err(why);
         }
-        let restless = book.restless(last);
+        let calm = book.pause();
         self.lock.leave(&mut d.token, book);
-        Ok(restless)
+        Ok(calm)
     }
 
     /// Waits until each attached client is idle or has answered the current begin-frame, in the
     /// world after the entries that the end has seen when the call returns, and returns None. If
-    /// the desk is stopped before, it returns the reason. It makes no entry, and sleeps until the
+    /// the desk is stopped before, it returns the reason. It makes no entry, and sleeps until its
     /// bell rings. Condition: the end is of this desk.
     pub fn pace<R: Wait>(&self, rt: &R, d: &mut DisplayEnd<M, S>) -> Option<S>
         requires { d.old.desk ≡ self.now.id }
@@ -40,22 +39,22 @@ where
         ensures none { MakesNone d.old d.new }
         ensures calm { result ≡ None → IsPaused d.new }
     {
-        let mut last = 0;
         for _ in rt.forever() {
-            let heard = self.bell.rings(rt);
-            match self.look(rt, d, last) {
+            let heard = self.display.rings();
+            match self.look(rt, d) {
                 Err(why) => return Some(why),
-                Ok(restless) => match restless {
-                    None => return None,
-                    Some(client) => last = client,
-                },
+                Ok(calm) => {
+                    if calm {
+                        return None;
+                    }
+                }
             }
-            self.bell.wait_beyond(rt, heard);
+            self.display.wait_beyond(rt, heard);
         }
         unreachable!()
     }
 
-    /// Keeps a reason, unless one is kept already, and rings the bell. It makes no entry.
+    /// Keeps a reason, unless one is kept already, and rings the clients' bell. It makes no entry.
     /// Condition: the end is of this desk.
     pub fn stop_display<R: Wait>(&self, rt: &R, by: &mut DisplayEnd<M, S>, why: S)
         requires { by.old.desk ≡ self.now.id }
@@ -65,6 +64,6 @@ where
         let mut book = self.lock.enter(rt, &mut by.token);
         book.stop(why);
         self.lock.leave(&mut by.token, book);
-        self.bell.ring(rt);
+        self.clients.ring();
     }
 }

@@ -16,10 +16,9 @@ impl<M: Machine + Send, S: Copy + Send + Sync> Desk<M, S>
 where
     M::Picture: Send,
 {
-    /// Draws: it makes one entry, and the bell rings. If a frame is drawn, its token comes with
-    /// it; while a frame is in flight none is drawn. If the desk was stopped, it returns
-    /// `Stopped` and makes no entry. The only error is `Memory`, and then it makes no entry.
-    /// Condition: the end is of this desk.
+    /// Draws: it makes one entry. If a frame is drawn, its token comes with it; while a frame is
+    /// in flight none is drawn. If the desk was stopped, it returns `Stopped` and makes no entry.
+    /// The only error is `Memory`, and then it makes no entry. Condition: the end is of this desk.
     pub fn draw<R: Wait + AllocGlobal>(
         &self,
         rt: &R,
@@ -39,7 +38,6 @@ where
             Ok(picture) => {
                 let place = book.places();
                 self.lock.leave(&mut d.token, book);
-                self.bell.ring(rt);
                 d.draws += 1;
                 match picture {
                     Some(picture) => {
@@ -60,9 +58,9 @@ where
         }
     }
 
-    /// Ends the drawn frame: it makes one entry, which is Shown, and the bell rings. It takes no
-    /// memory, and works also if the desk was stopped. Conditions: the end and the hold are of
-    /// this desk, and a frame is in flight.
+    /// Ends the drawn frame: it makes one entry, which is Shown. It takes no memory, and works
+    /// also if the desk was stopped. Conditions: the end and the hold are of this desk, and a
+    /// frame is in flight.
     pub fn done<R: Wait>(&self, rt: &R, d: &mut DisplayEnd<M, S>, hold: Hold<M, S>)
         requires end { d.old.desk ≡ self.now.id }
         requires hold { hold ≡ self.now.id }
@@ -75,15 +73,13 @@ where
         prove!(book.places() < u64::MAX);
         book.done();
         self.lock.leave(&mut d.token, book);
-        self.bell.ring(rt);
         d.dones += 1;
         d.in_flight = false;
     }
 
-    /// Calls Done although no frame is in flight: it makes one entry, which is Nothing, and the
-    /// bell rings. If the desk was stopped, it returns `Stopped` and makes no entry. The only
-    /// error is `Memory`, and then it makes no entry. Conditions: the end is of this desk, and no
-    /// frame is in flight.
+    /// Calls Done although no frame is in flight: it makes one entry, which is Nothing. If the
+    /// desk was stopped, it returns `Stopped` and makes no entry. The only error is `Memory`, and
+    /// then it makes no entry. Conditions: the end is of this desk, and no frame is in flight.
     pub fn empty_done<R: Wait>(&self, rt: &R, d: &mut DisplayEnd<M, S>) -> Result<Answer<S>, Memory>
         requires end { d.old.desk ≡ self.now.id }
         requires flies { d.old.totals.in_flight ≡ false }
@@ -100,7 +96,6 @@ where
             Ok(()) => {
                 let place = book.places();
                 self.lock.leave(&mut d.token, book);
-                self.bell.ring(rt);
                 d.dones += 1;
                 d.in_flight = false;
                 Ok(Answer::Did(plain_note(place)))

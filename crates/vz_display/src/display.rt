@@ -5,6 +5,8 @@ ghost use Rattle.vz_geom.specs.Display.{IsDisplaySize};
 ghost use Rattle.vz_rules.specs.Frames.{pixel_bytes};
 ghost use Rattle.vz_display.specs.Displayed.{HaveSize, current, row_at, first_displayed, last_in, pixels_in, making_in, shown, steps_for, upto_most};
 
+mod alone;
+
 use arrayvec::ArrayVec;
 use std::alloc::Global;
 use std::marker::Model;

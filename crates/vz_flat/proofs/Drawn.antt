@@ -4,12 +4,13 @@ use Rattle.std.proofs.lemmas.Int.{ints}
 use Rattle.vz_geom.specs.declared.Point.{Point}
 use Rattle.vz_geom.specs.declared.Size.{Size}
 use Rattle.vz_geom.specs.Rectangle.{Rectangle, has, plus, moved, sized}
+use Rattle.vz_geom.proofs.Points.{same_point}
+use Rattle.vz_geom.proofs.Sets.{has_moved_is, has_meet_is}
 use Rattle.vz_pixels.specs.Colour.{Colour, black}
 use Rattle.vz_frame.specs.Frame.{frame_size}
 use Rattle.vz_rules.specs.World.{FrameData, Scene, frame_on}
 use Rattle.vz_rules.specs.Paint.{full, pix, levels}
 use Rattle.vz_rules.specs.Walk.{walk_of, whole, too_much}
-use Rattle.vz_rules.proofs.Geometry.{same_point, has_moved_is, has_meet_is}
 use Rattle.vz_flat.specs.Ops.{run, value}
 use Rattle.vz_flat.specs.Parts.{seen_flat, surface_place}
 use Rattle.vz_flat.specs.Flat.{flat, scene_flat}

@@ -15,9 +15,10 @@ use Rattle.vz_frame.specs.declared.frame.DrawQuad.{DrawQuad}
 use Rattle.vz_frame.specs.declared.frame.Material.{Material}
 use Rattle.vz_frame.specs.declared.frame.Material.TheVariants.{Solid, Tile, Surface, Pass}
 use Rattle.vz_frame.specs.Frame.{passes_down, names_pass}
+use Rattle.vz_frame.specs.Blending.{is_straight}
 use Rattle.vz_rules.specs.World.{FrameData, Scene, frame_on}
 use Rattle.vz_rules.specs.Scene.{shown_frame}
-use Rattle.vz_rules.specs.Paint.{on_path, is_straight}
+use Rattle.vz_rules.specs.Paint.{on_path}
 use Rattle.vz_rules.specs.Walk.{Placement, place_in, whole}
 use Rattle.vz_rules.proofs.Members.{contains_here, contains_there}
 use Rattle.vz_rules.proofs.Remembered.{shown_in}

@@ -2,6 +2,7 @@
 use Rattle.std.proofs.Common.{◌≡◌, ℕ, zero, suc, ◌&&◌, not, ◌||◌, ◌==◌, Bool, true, false, Option, Some, None, List, [], ◌∷◌, refl, ap, ◌∙◌, cond, subst}
 use Rattle.vz_geom.specs.declared.Point.{Point}
 use Rattle.vz_geom.specs.Rectangle.{Rectangle, has, plus, corner, meet, moved, sized}
+use Rattle.vz_geom.proofs.Sets.{has_moved_is, has_meet_is}
 use Rattle.vz_ids.specs.declared.SurfaceId.{SurfaceId}
 use Rattle.vz_ids.specs.declared.SurfaceRange.{SurfaceRange}
 use Rattle.vz_ids.specs.Ids.{same_surface}
@@ -9,15 +10,15 @@ use Rattle.vz_pixels.specs.Colour.{Colour, transparent, over}
 use Rattle.vz_frame.specs.declared.frame.RenderPass.{RenderPass}
 use Rattle.vz_frame.specs.declared.frame.DrawQuad.{DrawQuad}
 use Rattle.vz_frame.specs.declared.blend.Blend.{Blend}
-use Rattle.vz_frame.specs.Blending.{laid}
+use Rattle.vz_frame.specs.Blending.{laid, is_straight}
 use Rattle.vz_frame.specs.declared.frame.Material.{Material}
 use Rattle.vz_frame.specs.declared.frame.Material.TheVariants.{Solid, Tile, Surface, Pass}
 use Rattle.vz_frame.specs.Frame.{passes_down, names_pass, frame_size}
 use Rattle.vz_rules.specs.World.{FrameData}
 use Rattle.vz_rules.specs.Scene.{shown_frame}
-use Rattle.vz_rules.specs.Paint.{covers, local_point, Named, Embedding, Content, on_path, material_painted, quads_painted, pass_painted, group_laid, groups, root_painted, content_at, is_absent, is_straight, content_laid}
+use Rattle.vz_rules.specs.Paint.{covers, local_point, Named, Embedding, Content, on_path, material_painted, quads_painted, pass_painted, group_laid, groups, root_painted, content_at, is_absent, content_laid}
 use Rattle.vz_rules.specs.Walk.{Placement, seen_part, place_in}
-use Rattle.vz_rules.proofs.Geometry.{local_stays, output_stays, has_moved_is, has_meet_is, has_seen_is}
+use Rattle.vz_rules.proofs.Geometry.{local_stays, output_stays, has_seen_is}
 use Rattle.vz_flat.specs.declared.op.Op.{Op}
 use Rattle.vz_flat.specs.declared.op.Op.TheVariants.{Fill}
 use Rattle.vz_flat.specs.Parts.{seen_flat, pass_part, inner_place, surface_place}

@@ -4,7 +4,7 @@ use Rattle.std.specs.List.{flat_map}
 use Rattle.std.proofs.lemmas.Int.{ints}
 use Rattle.vz_geom.specs.declared.Point.{Point}
 use Rattle.vz_geom.specs.Rectangle.{Rectangle, has, is_empty_rect, plus, moved, sized}
-use Rattle.vz_geom.proofs.Sets.{IsIn, to_in, of_in, in_sides, of_sides, lt_true}
+use Rattle.vz_geom.proofs.Sets.{IsIn, to_in, of_in, in_sides, of_sides, lt_true, has_moved_is, has_meet_is}
 use Rattle.vz_geom.proofs.Bounds.{IsInside, IsFull, of_full, in_is_full, inside_of, meet_is_covered}
 use Rattle.vz_ids.specs.declared.SurfaceRange.{SurfaceRange}
 use Rattle.vz_ids.specs.Ids.{same_surface}
@@ -15,7 +15,6 @@ use Rattle.vz_frame.specs.Blending.{blend, laid}
 use Rattle.vz_frame.specs.Frame.{frame_size}
 use Rattle.vz_rules.specs.World.{FrameData}
 use Rattle.vz_rules.specs.Walk.{Placement}
-use Rattle.vz_rules.proofs.Geometry.{has_moved_is, has_meet_is}
 use Rattle.vz_flat.specs.declared.op.Op.{Op}
 use Rattle.vz_flat.specs.declared.op.Op.TheVariants.{Fill}
 use Rattle.vz_flat.specs.Parts.{surface_place}

@@ -7,6 +7,7 @@ use Rattle.std.proofs.lemmas.Int.{ints}
 use Rattle.vz_geom.specs.declared.Point.{Point}
 use Rattle.vz_geom.specs.declared.Size.{Size}
 use Rattle.vz_geom.specs.Rectangle.{has, sized}
+use Rattle.vz_geom.proofs.Points.{same_point}
 use Rattle.vz_ids.specs.declared.SurfaceId.{SurfaceId}
 use Rattle.vz_ids.specs.declared.SurfaceRange.{SurfaceRange}
 use Rattle.vz_pixels.specs.Colour.{Colour, transparent, over}
@@ -22,7 +23,6 @@ use Rattle.vz_rules.specs.Walk.{Placement, Enters, is_deep, whole, range_walked,
 use Rattle.vz_rules.proofs.Traces.{SkipsZero, trace_shown, laid_zero}
 use Rattle.vz_rules.proofs.Same.{same_shows, IsSeen, root_same}
 use Rattle.vz_rules.proofs.Agree.{embeds_skips, laid_same}
-use Rattle.vz_rules.proofs.Geometry.{same_point}
 use Rattle.vz_rules.proofs.Levels.{Shallow, or_first, or_second, shallow_parts, not_deep, choose, walked_shallow}
 
 -- what a range does, and where the path ends here nothing of a surface

@@ -12,6 +12,6 @@ pub mod Wholes
 pub mod Rounded
 pub mod Sizes
 pub mod Named
-pub mod Standing
+pub mod Flat_steps
 pub mod Rooted
 pub mod Stored_scenes

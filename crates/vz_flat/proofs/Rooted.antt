@@ -18,7 +18,7 @@ use Rattle.vz_flat.specs.Parts.{seen_flat, surface_place}
 use Rattle.vz_flat.specs.Flat.{flat, scene_flat}
 use Rattle.vz_flat.proofs.Flat_sound.{frame_there, flat_is_whole}
 use Rattle.vz_flat.proofs.Wholes.{frame_whole}
-use Rattle.vz_flat.proofs.Standing.{frame_of}
+use Rattle.vz_flat.proofs.Flat_steps.{frame_of}
 use Rattle.vz_flat.proofs.Drawn.{flat_is_painted}
 
 -- the scene of a store with this root

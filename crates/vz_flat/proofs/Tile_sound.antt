@@ -6,6 +6,7 @@ use Rattle.vz_geom.specs.declared.Point.{Point}
 use Rattle.vz_geom.specs.Rectangle.{Rectangle, is_empty_rect, has, plus, minus, corner}
 use Rattle.vz_geom.proofs.Sets.{IsIn, to_in, of_in, true_le}
 use Rattle.vz_geom.proofs.Bounds.{IsFull, of_full}
+use Rattle.vz_geom.proofs.Points.{same_point}
 use Rattle.vz_pixels.specs.Block.{Block}
 use Rattle.vz_frame.specs.declared.blend.Blend.{Blend}
 use Rattle.vz_frame.specs.declared.frame.RenderPass.{RenderPass}
@@ -14,7 +15,7 @@ use Rattle.vz_frame.specs.declared.frame.Material.TheVariants.{Tile}
 use Rattle.vz_rules.specs.World.{FrameData}
 use Rattle.vz_rules.specs.Paint.{covers, in_clip, block_of}
 use Rattle.vz_rules.specs.Walk.{Placement, seen_part, place_in}
-use Rattle.vz_rules.proofs.Geometry.{same_point, has_seen_is}
+use Rattle.vz_rules.proofs.Geometry.{has_seen_is}
 use Rattle.vz_flat.specs.declared.op.Op.TheVariants.{Blit}
 use Rattle.vz_flat.specs.Ops.{is_inside, is_span_inside}
 use Rattle.vz_flat.specs.Tiles.{first_texel, texels_flat, tile_flat}

@@ -3,6 +3,7 @@ use Rattle.std.proofs.Common.{◌≡◌, ℕ, pos, Option, Some, None, [], ◌�
 use Rattle.std.proofs.lemmas.Int.{ints}
 use Rattle.vz_geom.specs.declared.Point.{Point}
 use Rattle.vz_geom.specs.Rectangle.{Rectangle, has, plus, minus, corner}
+use Rattle.vz_geom.proofs.Points.{same_point}
 use Rattle.vz_pixels.specs.Colour.{transparent}
 use Rattle.vz_pixels.specs.Block.{Block}
 use Rattle.vz_frame.specs.declared.blend.Blend.{Blend}
@@ -10,7 +11,6 @@ use Rattle.vz_frame.specs.Blending.{laid}
 use Rattle.vz_rules.specs.World.{FrameData}
 use Rattle.vz_rules.specs.Paint.{block_of, texel_of, tile_colour}
 use Rattle.vz_rules.specs.Walk.{Placement}
-use Rattle.vz_rules.proofs.Geometry.{same_point}
 use Rattle.vz_flat.specs.declared.op.Op.TheVariants.{Blit}
 use Rattle.vz_flat.specs.Ops.{run}
 use Rattle.vz_flat.specs.Tiles.{first_texel, texels_flat, tile_flat}

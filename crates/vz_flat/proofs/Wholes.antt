@@ -23,7 +23,7 @@ use Rattle.vz_rules.specs.World.{FrameData}
 use Rattle.vz_rules.specs.Paint.{block_of}
 use Rattle.vz_rules.specs.Kept.{StandsFor, IsWhole}
 use Rattle.vz_flat.specs.Whole.{IsInBlock, IsQuadWhole, IsPassWhole, IsFrameWhole}
-use Rattle.vz_walk.proofs.Fitting.{quad_in_reach, pass_fits, pass_in_reach, frame_passes}
+use Rattle.vz_placement.proofs.Fitting.{quad_in_reach, pass_fits, pass_in_reach, frame_passes}
 
 -- Rules that are not broken
 

@@ -9,7 +9,7 @@ use Rattle.vz_frame.specs.declared.frame.DrawQuad.{DrawQuad}
 use Rattle.vz_frame.specs.declared.frame.Material.TheVariants.{Tile}
 use Rattle.vz_rules.specs.World.{FrameData}
 use Rattle.vz_rules.specs.Paint.{block_of}
-use Rattle.vz_walk.specs.Limits.{IsPassInReach, IsQuadInReach}
+use Rattle.vz_placement.specs.Limits.{IsPassInReach, IsQuadInReach}
 
 -- the texels of a rectangle whose first texel is (tx, ty) are inside a block
 pub record IsInBlock (quad : DrawQuad) (tx ty : ℕ) (block : Block) : Type 0 where

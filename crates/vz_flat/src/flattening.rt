@@ -7,7 +7,7 @@ ghost use Rattle.vz_rules.specs.Walk.{place_in};
 ghost use Rattle.vz_surfaces.specs.Reading.{seen_frames};
 ghost use Rattle.vz_surfaces.specs.Keeping.{KeepsStored, KeepsFrames};
 ghost use Rattle.vz_surfaces.specs.Names.{place_named};
-ghost use Rattle.vz_walk.specs.Limits.{HasRoom, IsPassInReach, coordinates, room_for};
+ghost use Rattle.vz_placement.specs.Limits.{HasRoom, IsPassInReach, coordinates, room_for};
 ghost use Rattle.vz_walk.specs.Walking.{ids};
 ghost use Rattle.vz_flat.specs.Flat.{content_flat, shown_flat, flat};
 ghost use Rattle.vz_flat.specs.Whole.{IsQuadWhole, IsPassWhole};
@@ -18,15 +18,16 @@ ghost use Rattle.vz_flat.specs.Flattening.{material_here, quads_here, group_here
 use crate::Op;
 use crate::gutter::put_gutter;
 use crate::put::put;
-use crate::surface::{is_straight, present_place, surface_place};
+use crate::surface::{present_place, surface_place};
 use crate::tile::{block_at, put_tile};
 use std::marker::Model;
 use vz_base::Memory;
 use vz_frame::{Blend, DrawQuad, Material, RenderPass};
 use vz_ids::{SurfaceId, SurfaceRange};
 use vz_pixels::Pixel;
+use vz_placement::{Placement, moved};
 use vz_surfaces::{Seen, Store};
-use vz_walk::{Path, Place, moved};
+use vz_walk::Path;
 
 /// A surface whose frame is flattened, with the surfaces on the path and how many more it may
 /// have. The store keeps its invariants all the time.
@@ -68,7 +69,7 @@ pub(crate) fn surface<'s>(
     levels: u32,
     path: &Path<'_>,
     seen: &Seen<'s>,
-    place: &Place,
+    place: &Placement,
     ops: &mut Vec<Op>,
 ) -> Result<(), Memory>
     requires keeps { KeepsStored store.now }
@@ -126,7 +127,7 @@ impl<'b, 's> Flattener<'b, 's> {
         &self,
         k: usize,
         pass: &RenderPass,
-        place: &Place,
+        place: &Placement,
         ops: &mut Vec<Op>,
     ) -> Result<(), Memory>
         requires there { slice_get self.now.seen.frame.passes k ≡ Some pass.now }
@@ -154,7 +155,7 @@ impl<'b, 's> Flattener<'b, 's> {
         pass: &RenderPass,
         quad: &DrawQuad,
         leads_to: Option<usize>,
-        place: &Place,
+        place: &Placement,
         ops: &mut Vec<Op>,
     ) -> Result<(), Memory>
         requires there { k < length self.now.seen.frame.passes }
@@ -183,7 +184,7 @@ impl<'b, 's> Flattener<'b, 's> {
         k: usize,
         quad: &DrawQuad,
         leads_to: Option<usize>,
-        place: &Place,
+        place: &Placement,
         ops: &mut Vec<Op>,
     ) -> Result<(), Memory>
         requires there { k < length self.now.seen.frame.passes }
@@ -236,7 +237,7 @@ impl<'b, 's> Flattener<'b, 's> {
         k: usize,
         mode: Blend,
         opacity: u8,
-        place: &Place,
+        place: &Placement,
         ops: &mut Vec<Op>,
     ) -> Result<(), Memory>
         requires there { k < length self.now.seen.frame.passes }
@@ -260,7 +261,7 @@ impl<'b, 's> Flattener<'b, 's> {
         pass: &RenderPass,
         mode: Blend,
         opacity: u8,
-        place: &Place,
+        place: &Placement,
         ops: &mut Vec<Op>,
     ) -> Result<(), Memory>
         requires there { slice_get self.now.seen.frame.passes k ≡ Some pass.now }
@@ -296,7 +297,7 @@ impl<'b, 's> Flattener<'b, 's> {
         background: Pixel,
         mode: Blend,
         opacity: u8,
-        place: &Place,
+        place: &Placement,
         ops: &mut Vec<Op>,
     ) -> Result<(), Memory>
         requires room { HasRoom (room_for self.now.levels 0) place.now.shift }
@@ -338,7 +339,7 @@ impl<'b, 's> Flattener<'b, 's> {
         background: Pixel,
         mode: Blend,
         opacity: u8,
-        place: &Place,
+        place: &Placement,
         ops: &mut Vec<Op>,
     ) -> Result<(), Memory>
         requires whole { IsWhole seen.now }
@@ -351,7 +352,7 @@ impl<'b, 's> Flattener<'b, 's> {
         if area.is_empty() {
             return Ok(());
         }
-        if is_straight(mode, opacity) {
+        if mode.is_straight(opacity) {
             self.content(range, seen, background, place, ops)?;
             return Ok(());
         }
@@ -376,7 +377,7 @@ impl<'b, 's> Flattener<'b, 's> {
         range: &SurfaceRange,
         seen: &Seen<'s>,
         background: Pixel,
-        place: &Place,
+        place: &Placement,
         ops: &mut Vec<Op>,
     ) -> Result<(), Memory>
         requires whole { IsWhole seen.now }

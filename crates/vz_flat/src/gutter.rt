@@ -12,8 +12,8 @@ use vz_frame::Blend;
 use vz_geom::Rect;
 use vz_ids::SurfaceRange;
 use vz_pixels::Pixel;
+use vz_placement::Placement;
 use vz_surfaces::Seen;
-use vz_walk::Place;
 
 /// The part of the outer rectangle above the inner one. Condition: the inner one lies in it.
 fn above(outer: &Rect, inner: &Rect) -> Rect
@@ -101,8 +101,8 @@ pub(crate) fn put_gutter(
     range: &SurfaceRange,
     seen: &Seen<'_>,
     background: Pixel,
-    place: &Place,
-    inner: &Place,
+    place: &Placement,
+    inner: &Placement,
     ops: &mut Vec<Op>,
 ) -> Result<(), Memory>
     requires { inner.now ≡ surface_place seen.now place.now }

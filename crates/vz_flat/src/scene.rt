@@ -21,8 +21,9 @@ use vz_base::limits::MOST_ON_PATH;
 use vz_frame::List;
 use vz_geom::Size;
 use vz_ids::SurfaceId;
+use vz_placement::Placement;
 use vz_surfaces::Store;
-use vz_walk::{Path, Place};
+use vz_walk::Path;
 
 /// Appends what the root draws, in the part of the display that it covers.
 #[tactic(auto, unfolding(crate::specs::Flat::scene_flat))]
@@ -36,7 +37,7 @@ fn put_root(store: &Store, root: &SurfaceId, size: Size, ops: &mut Vec<Op>) -> R
     match store.frame_on(root) {
         None => Ok(()),
         Some(seen) => {
-            let place = surface_place(&seen, &Place::whole(size));
+            let place = surface_place(&seen, &Placement::whole(size));
             if place.window().is_empty() {
                 return Ok(());
             }

@@ -1,35 +1,25 @@
 //! Tile quads.
 ghost use Rattle.std.specs.Prelude.{◌≡◌, ◌++◌, OnOk};
 ghost use Rattle.std.specs.Option.{option_copied};
-ghost use Rattle.vz_geom.specs.Rectangle.{corner, IsNear};
 ghost use Rattle.vz_surfaces.specs.Names.{block_at};
-ghost use Rattle.vz_walk.specs.Limits.{HasRoom};
+ghost use Rattle.vz_placement.specs.Limits.{HasRoom};
 ghost use Rattle.vz_flat.specs.Tiles.{first_texel, texels_flat};
 
 use crate::Op;
 use crate::put::put;
 use vz_base::Memory;
 use vz_frame::Blend;
-use vz_geom::{Point, Rect};
+use vz_geom::Point;
 use vz_pixels::{Pixel, PixelBlock};
-use vz_walk::Place;
-
-/// The top left point of a rectangle.
-fn corner(r: &Rect) -> Point
-    ensures value { result ≡ corner r.now }
-    ensures near { IsNear result }
-{
-    let _ = r.is_empty();
-    Point { x: r.x(), y: r.y() }
-}
+use vz_placement::Placement;
 
 /// The texel at the top left pixel of a place's window, if the texel `(tx, ty)` is at the top
 /// left point of the tile.
-fn first_texel(tx: u16, ty: u16, place: &Place) -> Point
+fn first_texel(tx: u16, ty: u16, place: &Placement) -> Point
     requires { HasRoom 0 place.now.shift }
     ensures { result ≡ first_texel tx ty place.now }
 {
-    let first = corner(&place.window());
+    let first = place.window().corner();
     let shift = place.shift();
     Point {
         x: first.x - shift.x + i32::from(tx),
@@ -56,7 +46,7 @@ pub(crate) fn put_tile(
     ty: u16,
     mode: Blend,
     opacity: u8,
-    place: &Place,
+    place: &Placement,
 ) -> Result<(), Memory>
     requires { HasRoom 0 place.now.shift }
     ensures { OnOk result (ops.new.items ≡ ops.old.items ++ texels_flat (option_copied block.entry)

@@ -1,4 +1,5 @@
 pub mod Ends
+pub mod Parts
 mod Finding
 mod Gaps
 mod Placing

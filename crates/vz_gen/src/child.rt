@@ -6,7 +6,7 @@ use crate::parts::{Shape, colour, frame, listed, local, quad, rect, sink};
 use std::alloc::Global;
 use vz_base::Memory;
 use vz_base::limits::MOST_ROUNDS;
-use vz_frame::{ClientFile, CompositorFrame, DrawQuad, List, Listing, Material, Message};
+use vz_frame::{BoxedFrame, ClientFile, DrawQuad, List, Listing, Material, Message};
 use vz_geom::Rect;
 use vz_pixels::PixelBlock;
 
@@ -65,7 +65,7 @@ fn quads(alloc: Global, k: u32, r: u32) -> Result<List<DrawQuad>, Memory>
 }
 
 /// The frame of a round.
-fn child_frame(alloc: Global, k: u32, r: u32) -> Result<CompositorFrame, Memory>
+fn child_frame(alloc: Global, k: u32, r: u32) -> Result<BoxedFrame, Memory>
     requires client { (2 ≤ k) × (k ≤ 3) }
     requires round { 1 ≤ r }
     ensures { IfOk result (λ f. f ≡ child_frame k r) }

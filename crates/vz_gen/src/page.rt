@@ -5,7 +5,7 @@ ghost use Rattle.vz_gen.specs.Make.{page, page_file, page_quads};
 use crate::parts::{Shape, colour, frame, listed, local, quad, range, rect, sink};
 use std::alloc::Global;
 use vz_base::Memory;
-use vz_frame::{ClientFile, CompositorFrame, DrawQuad, List, Material, Message};
+use vz_frame::{BoxedFrame, ClientFile, DrawQuad, List, Material, Message};
 
 /// The quads of the page, from front to back.
 fn quads(alloc: Global) -> Result<List<DrawQuad>, Memory>
@@ -32,7 +32,7 @@ fn quads(alloc: Global) -> Result<List<DrawQuad>, Memory>
 }
 
 /// The page's frame.
-fn page(alloc: Global) -> Result<CompositorFrame, Memory>
+fn page(alloc: Global) -> Result<BoxedFrame, Memory>
     ensures { IfOk result (λ f. f ≡ page) }
 {
     let whole = rect(0, 0, 64, 32);

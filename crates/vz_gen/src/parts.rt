@@ -4,7 +4,9 @@ ghost use Rattle.vz_gen.specs.Make.{colour, sink_of, local_of, range_of, frame_o
 
 use std::alloc::Global;
 use vz_base::Memory;
-use vz_frame::{Blend, CompositorFrame, DrawQuad, List, Listing, Material, Metadata, RenderPass};
+use vz_frame::{
+    Blend, BoxedFrame, CompositorFrame, DrawQuad, List, Listing, Material, Metadata, RenderPass,
+};
 use vz_geom::{Point, Rect};
 use vz_ids::{EmbedToken, FrameSinkId, LocalSurfaceId, ParentAllocator, SurfaceId, SurfaceRange};
 use vz_pixels::Pixel;
@@ -112,7 +114,7 @@ pub fn frame(
     references: List<SurfaceRange>,
     resources: List<Listing>,
     quads: List<DrawQuad>,
-) -> Result<CompositorFrame, Memory>
+) -> Result<BoxedFrame, Memory>
     ensures { IfOk result (λ f. f ≡ frame_of shape.now.token shape.now.ack references resources
         shape.now.output shape.now.damage quads) }
 {
@@ -122,7 +124,7 @@ pub fn frame(
         damage: shape.damage,
         quads,
     };
-    Ok(CompositorFrame {
+    let frame = CompositorFrame {
         metadata: Metadata {
             token: shape.token,
             ack: shape.ack,
@@ -132,5 +134,6 @@ pub fn frame(
         },
         resources,
         passes: listed(alloc, [pass])?,
-    })
+    };
+    Ok(BoxedFrame::new(alloc, frame)?)
 }

@@ -6,7 +6,7 @@ use Rattle.std.proofs.lemmas.List.Elements.{All-nil, All-cons, All-head, All-tai
 use Rattle.vz_geom.specs.declared.Point.{Point}
 use Rattle.vz_geom.specs.Rectangle.{Rectangle, has, plus}
 use Rattle.vz_rules.specs.Hit.{Target}
-use Rattle.vz_walk.specs.Limits.{HasRoom}
+use Rattle.vz_placement.specs.Limits.{HasRoom}
 use Rattle.vz_hit.specs.declared.region.Region.{Region}
 use Rattle.vz_hit.specs.declared.region.Hit.{Hit}
 use Rattle.vz_hit.specs.declared.region.Owner.{Owner}

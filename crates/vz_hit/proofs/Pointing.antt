@@ -3,11 +3,13 @@ use Rattle.std.proofs.Common.{◌≡◌, pos, ◌&&◌, ap, ◌∙◌, subst, ar
 use Rattle.std.proofs.lemmas.Int.{ints}
 use Rattle.vz_geom.specs.declared.Point.{Point}
 use Rattle.vz_geom.specs.Rectangle.{Rectangle, has, plus, minus, corner, meet, moved}
+use Rattle.vz_geom.proofs.Points.{same_point}
+use Rattle.vz_geom.proofs.Sets.{has_moved_is, has_meet_is}
 use Rattle.vz_frame.specs.declared.frame.RenderPass.{RenderPass}
 use Rattle.vz_frame.specs.declared.frame.DrawQuad.{DrawQuad}
 use Rattle.vz_rules.specs.Paint.{covers, local_point}
 use Rattle.vz_rules.specs.Walk.{Placement, seen_part}
-use Rattle.vz_rules.proofs.Geometry.{same_point, has_moved_is, has_meet_is, has_seen_is}
+use Rattle.vz_rules.proofs.Geometry.{has_seen_is}
 use Rattle.vz_hit.specs.Parts.{from_origin}
 
 there_and_back : (p by : Point) → plus (minus p by) by ≡ p

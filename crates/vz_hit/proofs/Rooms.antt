@@ -7,8 +7,8 @@ use Rattle.vz_geom.specs.Rectangle.{corner}
 use Rattle.vz_frame.specs.declared.frame.RenderPass.{RenderPass}
 use Rattle.vz_rules.specs.World.{FrameData}
 use Rattle.vz_rules.specs.Walk.{Placement, whole}
-use Rattle.vz_walk.specs.Limits.{HasRoom, IsPassInReach, coordinates, room_for}
-use Rattle.vz_walk.proofs.Rooms.{room_minus, room_first, place_room}
+use Rattle.vz_placement.specs.Limits.{HasRoom, IsPassInReach, coordinates, room_for}
+use Rattle.vz_placement.proofs.Rooms.{room_minus, room_first, place_room}
 use Rattle.vz_flat.specs.Parts.{surface_place}
 use Rattle.vz_hit.specs.Parts.{group_place, from_origin}
 

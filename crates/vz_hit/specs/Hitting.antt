@@ -16,7 +16,7 @@ use Rattle.vz_rules.specs.Kept.{IsWhole}
 use Rattle.vz_rules.specs.Hit.{Target, HitNamed, HitRange, quads_hit, group_hit, groups_hit, shown_hit, range_hit, hit}
 use Rattle.vz_surfaces.specs.Stored.{Stored}
 use Rattle.vz_surfaces.specs.Keeping.{KeepsStored, KeepsFrames}
-use Rattle.vz_walk.specs.Limits.{HasRoom}
+use Rattle.vz_placement.specs.Limits.{HasRoom}
 use Rattle.vz_hit.specs.declared.region.Region.{Region}
 use Rattle.vz_hit.specs.Regions.{found}
 

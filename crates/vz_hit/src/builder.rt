@@ -6,7 +6,7 @@ ghost use Rattle.vz_rules.specs.Kept.{IsWhole};
 ghost use Rattle.vz_surfaces.specs.Reading.{seen_frames};
 ghost use Rattle.vz_surfaces.specs.Keeping.{KeepsStored, KeepsFrames};
 ghost use Rattle.vz_surfaces.specs.Names.{place_named};
-ghost use Rattle.vz_walk.specs.Limits.{HasRoom, IsPassInReach, coordinates, room_for};
+ghost use Rattle.vz_placement.specs.Limits.{HasRoom, IsPassInReach, coordinates, room_for};
 ghost use Rattle.vz_walk.specs.Walking.{ids};
 ghost use Rattle.vz_flat.specs.Whole.{IsQuadWhole, IsPassWhole};
 ghost use Rattle.vz_hit.specs.Parts.{StartsAtCorner};
@@ -21,8 +21,9 @@ use vz_base::Memory;
 use vz_frame::{DrawQuad, Material, RenderPass};
 use vz_geom::{Point, Rect};
 use vz_ids::SurfaceRange;
+use vz_placement::Placement;
 use vz_surfaces::{Seen, Store};
-use vz_walk::{Path, Place};
+use vz_walk::Path;
 
 /// A surface whose regions are put, after the surfaces of a path and with so many surfaces left,
 /// and what moves a point of the display to its root pass. What the store keeps holds all the
@@ -65,7 +66,7 @@ pub(crate) fn surface<'s>(
     levels: u32,
     path: &Path<'_>,
     seen: &Seen<'s>,
-    place: &Place,
+    place: &Placement,
     regions: &mut Regions,
 ) -> Result<(), Memory>
     requires keeps { KeepsStored store.now }
@@ -139,7 +140,7 @@ impl<'b, 's> Builder<'b, 's> {
         &self,
         k: usize,
         pass: &RenderPass,
-        place: &Place,
+        place: &Placement,
         regions: &mut Regions,
     ) -> Result<(), Memory>
         requires there { slice_get self.now.seen.frame.passes k ≡ Some pass.now }
@@ -164,7 +165,7 @@ impl<'b, 's> Builder<'b, 's> {
         pass: &RenderPass,
         quad: &DrawQuad,
         leads_to: Option<usize>,
-        place: &Place,
+        place: &Placement,
         regions: &mut Regions,
     ) -> Result<(), Memory>
         requires there { k < length self.now.seen.frame.passes }
@@ -191,7 +192,7 @@ impl<'b, 's> Builder<'b, 's> {
         k: usize,
         quad: &DrawQuad,
         leads_to: Option<usize>,
-        place: &Place,
+        place: &Placement,
         regions: &mut Regions,
     ) -> Result<(), Memory>
         requires there { k < length self.now.seen.frame.passes }
@@ -227,7 +228,7 @@ impl<'b, 's> Builder<'b, 's> {
     /// Puts the regions of the pass at a place of the frame that a quad names. Conditions: it is
     /// there, and the quad's place has room for those up to it and the surfaces that are left.
     #[cycle(build)]
-    fn named(&self, k: usize, place: &Place, regions: &mut Regions) -> Result<(), Memory>
+    fn named(&self, k: usize, place: &Placement, regions: &mut Regions) -> Result<(), Memory>
         requires there { k < length self.now.seen.frame.passes }
         requires room { HasRoom (room_for self.now.levels (k + 1) + coordinates 1)
             place.now.shift }
@@ -249,7 +250,7 @@ impl<'b, 's> Builder<'b, 's> {
     fn range(
         &self,
         range: &SurfaceRange,
-        place: &Place,
+        place: &Placement,
         regions: &mut Regions,
     ) -> Result<(), Memory>
         requires room { HasRoom (room_for self.now.levels 0) place.now.shift }
@@ -278,7 +279,7 @@ impl<'b, 's> Builder<'b, 's> {
         &self,
         range: &SurfaceRange,
         seen: &Seen<'s>,
-        place: &Place,
+        place: &Placement,
         regions: &mut Regions,
     ) -> Result<(), Memory>
         requires whole { IsWhole seen.now }
@@ -302,7 +303,7 @@ impl<'b, 's> Builder<'b, 's> {
         &self,
         range: &SurfaceRange,
         seen: &Seen<'s>,
-        place: &Place,
+        place: &Placement,
         regions: &mut Regions,
     ) -> Result<(), Memory>
         requires whole { IsWhole seen.now }

@@ -4,18 +4,18 @@ ghost use Rattle.std.specs.Prelude.{◌≡◌, ◌&&◌, int_le};
 ghost use Rattle.vz_geom.specs.Rectangle.{has, sized, IsNear};
 ghost use Rattle.vz_frame.specs.Frame.{frame_size};
 ghost use Rattle.vz_rules.specs.Kept.{IsWhole};
-ghost use Rattle.vz_walk.specs.Limits.{HasRoom, IsInReach, IsPassInReach, coordinates};
+ghost use Rattle.vz_placement.specs.Limits.{HasRoom, IsInReach, IsPassInReach, coordinates};
 ghost use Rattle.vz_flat.specs.Parts.{surface_place};
 ghost use Rattle.vz_hit.specs.Parts.{group_place, past_size, from_origin};
 
 use vz_frame::RenderPass;
 use vz_geom::{Point, Rect};
+use vz_placement::{Placement, frame_rect, moved};
 use vz_surfaces::Seen;
-use vz_walk::{Place, frame_rect, moved, nothing};
 
 /// What moves a point of the display to the pass or surface at a place. Condition: the place is
 /// within 52,000,000 of the origin.
-pub(crate) fn shift_back(place: &Place) -> Point
+pub(crate) fn shift_back(place: &Placement) -> Point
     requires { HasRoom 0 place.now.shift }
     ensures value { result ≡ from_origin place.now.shift }
     ensures near { HasRoom 0 result }
@@ -29,7 +29,7 @@ pub(crate) fn shift_back(place: &Place) -> Point
 
 /// The place of a pass that a quad names, in the part in which it has points. Conditions: the pass
 /// is in reach, and the quad's place has room for its first point.
-pub(crate) fn group_place(pass: &RenderPass, place: &Place) -> Place
+pub(crate) fn group_place(pass: &RenderPass, place: &Placement) -> Placement
     requires pass { IsPassInReach pass.now }
     requires room { HasRoom (coordinates 1) place.now.shift }
     ensures { result ≡ group_place pass.now place.now }
@@ -50,7 +50,7 @@ fn size_rect(seen: &Seen<'_>) -> Rect
 
 /// The place of a surface in the part in which it has points. Conditions: its frame is whole, and
 /// the place is within 52,000,000 of the origin.
-pub(crate) fn surface_place(seen: &Seen<'_>, place: &Place) -> Place
+pub(crate) fn surface_place(seen: &Seen<'_>, place: &Placement) -> Placement
     requires whole { IsWhole seen.now }
     requires room { HasRoom 0 place.now.shift }
     ensures { result ≡ surface_place seen.now place.now }
@@ -62,7 +62,7 @@ pub(crate) fn surface_place(seen: &Seen<'_>, place: &Place) -> Place
 
 /// The column after the last one of a surface at a place, and the row after its last one.
 /// Conditions: its frame is whole, and the place is within 52,000,000 of the origin.
-pub(crate) fn past_size(seen: &Seen<'_>, place: &Place) -> Point
+pub(crate) fn past_size(seen: &Seen<'_>, place: &Placement) -> Point
     requires whole { IsWhole seen.now }
     requires room { HasRoom 0 place.now.shift }
     ensures value { result ≡ past_size seen.now place.now }
@@ -86,7 +86,7 @@ pub(crate) fn right_from(r: &Rect, at: Point) -> Rect
     let _ = r.is_empty();
     let right = r.right();
     if right <= at.x {
-        return nothing();
+        return Rect::empty();
     }
     Rect::new(at.x, r.y(), right - at.x, r.h()).intersect(r)
 }
@@ -101,7 +101,7 @@ pub(crate) fn down_from(r: &Rect, at: Point) -> Rect
     let _ = r.is_empty();
     let bottom = r.bottom();
     if bottom <= at.y {
-        return nothing();
+        return Rect::empty();
     }
     Rect::new(r.x(), at.y, r.w(), bottom - at.y).intersect(r)
 }

@@ -2,7 +2,7 @@
 ghost use Rattle.std.specs.Prelude.{◌≡◌, ◌<◌, ◌++◌, ◌∷◌, ◌↔◌, [], None, OnOk};
 ghost use Rattle.std.specs.Prelude.{vec_len, vec_capacity};
 ghost use Rattle.vz_geom.specs.Rectangle.{IsNear, plus};
-ghost use Rattle.vz_walk.specs.Limits.{HasRoom};
+ghost use Rattle.vz_placement.specs.Limits.{HasRoom};
 ghost use Rattle.vz_hit.specs.Regions.{found, hit_of, HasNone};
 
 use crate::region::{Hit, Owner, Region};

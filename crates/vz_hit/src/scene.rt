@@ -17,8 +17,9 @@ use vz_base::Memory;
 use vz_base::limits::MOST_ON_PATH;
 use vz_geom::Size;
 use vz_ids::SurfaceId;
+use vz_placement::Placement;
 use vz_surfaces::Store;
-use vz_walk::{Path, Place};
+use vz_walk::Path;
 
 /// How many surfaces deep it goes: one more than a drawing does.
 const LEVELS: u32 = MOST_ON_PATH as u32 + 1;
@@ -39,7 +40,7 @@ fn put_root(
     match store.frame_on(root) {
         None => Ok(()),
         Some(seen) => {
-            let place = surface_place(&seen, &Place::whole(size));
+            let place = surface_place(&seen, &Placement::whole(size));
             if place.window().is_empty() {
                 return Ok(());
             }

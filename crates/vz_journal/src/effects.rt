@@ -8,7 +8,7 @@ use crate::reader::Reader;
 use crate::stop::Stop;
 use std::alloc::Global;
 use vz_ids::Sub;
-use vz_rules::{Effects, Fed, Lost, Returned};
+use vz_rules::{BoxedEffects, Effects, Fed, Lost, Returned};
 
 /// Reads a submission: a client number, a dot and an ordinal.
 #[tactic(auto, unfolding(crate::specs::Reading::sub_at))]
@@ -124,17 +124,18 @@ fn read_fed(presented: bool, input: &mut Reader) -> Result<Fed, Stop>
 
 /// Reads the effects of an entry, kind by kind in their order.
 #[tactic(auto, unfolding(crate::specs::Reading::effects_at))]
-pub fn read_effects(alloc: Global, input: &mut Reader) -> Result<Effects, Stop>
+pub fn read_effects(alloc: Global, input: &mut Reader) -> Result<BoxedEffects, Stop>
     ensures { Gives (λ x. (x, input.new)) result (Some (effects_at input.old)) }
 {
     let activated = all(alloc, &Activated, input)?;
     let destroyed = all(alloc, &Destroyed, input)?;
     let returned = all(alloc, &Queued, input)?;
     let fed = all(alloc, &Feedback, input)?;
-    Ok(Effects {
+    let effects = Effects {
         activated,
         destroyed,
         returned,
         fed,
-    })
+    };
+    Ok(BoxedEffects::new(alloc, effects)?)
 }

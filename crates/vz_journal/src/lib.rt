@@ -15,4 +15,4 @@ mod writer;
 pub use one_entry::{read_entry, write_entry};
 pub use reading::read;
 pub use stop::LogError;
-pub use writer::write;
+pub use writer::{push_entry, push_rest, write};

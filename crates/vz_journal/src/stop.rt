@@ -38,6 +38,14 @@ pub enum Stop {
     Unlike,
 }
 
+impl From<vz_base::Memory> for Stop {
+    ghost from_gives = { λ _ e. e ≡ Memory };
+
+    fn from(_e: vz_base::Memory) -> Stop {
+        Stop::Memory
+    }
+}
+
 impl From<AllocError> for Stop {
     ghost from_gives = { λ _ e. e ≡ Memory };
 

@@ -14,7 +14,7 @@ use vz_base::Memory;
 use vz_frame::{List, Rule};
 use vz_geom::Rect;
 use vz_ids::Sub;
-use vz_rules::{Effects, Entry, Event, Fed, Lost, Refusal, Reply, Rest, Returned};
+use vz_rules::{BoxedEffects, Effects, Entry, Event, Fed, Lost, Refusal, Reply, Rest, Returned};
 
 /// Returns the text of a log, in ASCII: a line for each entry of the history, the `held` lines
 /// and the `open` lines of the rest, and the line `end`. The only error is `Memory`.
@@ -31,6 +31,15 @@ fn push_log(out: &mut String, history: &[Entry], rest: &Rest) -> Result<(), Allo
     ensures { OnOk result (IsAppended out.old out.new (log_text history.now rest.now)) }
 {
     push_entries(out, history)?;
+    push_rest(out, rest)
+}
+
+/// Appends what follows the last entry of a log: the `held` lines and the `open` lines of the
+/// rest, and the line `end`. The only error is `AllocError`.
+#[tactic(auto, unfolding(vz_rules::specs::Log::log_text))]
+pub fn push_rest(out: &mut String, rest: &Rest) -> Result<(), AllocError>
+    ensures { OnOk result (IsAppended out.old out.new (log_text [] rest.now)) }
+{
     push_held(out, rest.held.as_slice())?;
     push_open(out, rest.unfed.as_slice())?;
     out.push_str("end\n")
@@ -45,13 +54,14 @@ fn push_entries(out: &mut String, history: &[Entry]) -> Result<(), AllocError>
     Ok(())
 }
 
+/// Appends the line of an entry. The only error is `AllocError`.
 #[tactic(auto, unfolding(vz_rules::specs::Log::entry_text))]
-pub(crate) fn push_entry(out: &mut String, entry: &Entry) -> Result<(), AllocError>
+pub fn push_entry(out: &mut String, entry: &Entry) -> Result<(), AllocError>
     ensures { OnOk result (IsAppended out.old out.new (entry_text entry.now)) }
 {
     push_event(out, entry.event)?;
     push_reply(out, &entry.reply)?;
-    push_effects(out, &entry.effects)?;
+    push_boxed(out, &entry.effects)?;
     out.push_str("\n")
 }
 
@@ -222,6 +232,19 @@ fn numbers_of(damage: &Rect) -> [u32; 4]
         damage.w().unsigned_abs(),
         damage.h().unsigned_abs(),
     ]
+}
+
+/// Appends the effects of an entry. Most have none.
+fn push_boxed(out: &mut String, effects: &BoxedEffects) -> Result<(), AllocError>
+    ensures { OnOk result (IsAppended out.old out.new (effects_text effects.now)) }
+{
+    match effects.get() {
+        None => Ok(()),
+        Some(effects) => {
+            push_effects(out, effects)?;
+            Ok(())
+        }
+    }
 }
 
 #[tactic(auto, unfolding(vz_rules::specs::Log::effects_text))]

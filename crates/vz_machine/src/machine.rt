@@ -14,7 +14,7 @@ use std::alloc::Global;
 use vz_base::Memory;
 use vz_geom::Point;
 use vz_ids::SurfaceId;
-use vz_rules::{Effects, Reply, Rest};
+use vz_rules::{BoxedEffects, Reply, Rest};
 
 /// What an event is answered, and what follows from it.
 #[derive(Drop)]
@@ -22,7 +22,7 @@ pub struct Step {
     /// The answer to the event.
     pub reply: Reply,
     /// What follows from it.
-    pub effects: Effects,
+    pub effects: BoxedEffects,
 }
 
 /// A machine that takes the events of a plan one after the other. After each event, its reply,

@@ -73,4 +73,21 @@ pub trait ThinPicture {
             (points_of (pictured self.now).size) (colours_in (pictured self.now))
             buffer.old.pixels) }
         ensures counted { OnOk result (steps.new ≡ steps.old + area_of area) };
+
+    /// Paints an area of a buffer as `paint` does, on the caller's thread. So it needs no runtime,
+    /// and a static library can call it.
+    fn paint_alone<L: Ledger>(
+        &self,
+        alloc: Global,
+        area: Rect,
+        buffer: &mut Buffer,
+        steps: &mut Steps<L>,
+    ) -> Result<(), Memory>
+        requires same { buffer.old.size ≡ (pictured self.now).size }
+        requires inside { Covers (sized (pictured self.now).size) area }
+        ensures size { buffer.new.size ≡ buffer.old.size }
+        ensures painted { OnOk result (buffer.new.pixels ≡ patched area
+            (points_of (pictured self.now).size) (colours_in (pictured self.now))
+            buffer.old.pixels) }
+        ensures counted { OnOk result (steps.new ≡ steps.old + area_of area) };
 }

@@ -93,6 +93,16 @@ impl ThinPicture for PixelPicture {
     fn paint<L: Ledger, R: Threads + Sync>(
         &self,
         _rt: &R,
+        alloc: Global,
+        area: Rect,
+        buffer: &mut Buffer,
+        steps: &mut Steps<L>,
+    ) -> Result<(), Memory> {
+        self.paint_alone(alloc, area, buffer, steps)
+    }
+
+    fn paint_alone<L: Ledger>(
+        &self,
         _alloc: Global,
         area: Rect,
         buffer: &mut Buffer,

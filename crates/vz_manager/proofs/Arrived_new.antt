@@ -9,7 +9,7 @@ use Rattle.vz_ids.specs.declared.SurfaceId.{SurfaceId}
 use Rattle.vz_ids.specs.Ids.{same_surface}
 use Rattle.vz_frame.specs.declared.frame.CompositorFrame.{CompositorFrame}
 use Rattle.vz_frame.specs.Frame.{frame_size}
-use Rattle.vz_rules.specs.World.{World, Client, Created, FrameData, last_created}
+use Rattle.vz_rules.specs.World.{World, Client, Surface, FrameData, last_created}
 use Rattle.vz_rules.specs.Settle.{is_before, marked_by, ready, round, rounds, settle}
 use Rattle.vz_rules.specs.Reach.{is_named_now, has_closed, name_one, naming}
 use Rattle.vz_rules.specs.Messages.{took, submitting, lend, accepted, id_of, is_last, with_surface}
@@ -17,15 +17,15 @@ use Rattle.vz_rules.specs.Kept.{KeepsClients, stands_in}
 use Rattle.vz_rules.proofs.Members.{map_contains, push_contains_last, any_at, any_map, found}
 use Rattle.vz_rules.proofs.Kept_submits.{one_of_number}
 use Rattle.vz_rules.proofs.Kept_reach.{named_after, naming_stays}
-use Rattle.vz_reaching.proofs.Accepting_kept.{same_named}
-use Rattle.vz_reaching.proofs.Staying.{closed_kept}
-use Rattle.vz_reaching.proofs.Owning.{never}
-use Rattle.vz_live.specs.Changes.{IsNew}
+use Rattle.vz_surface_manager.proofs.Accepted_kept.{same_named}
+use Rattle.vz_surface_manager.proofs.Sets_kept.{closed_kept}
+use Rattle.vz_surface_manager.proofs.Set_owners.{never}
+use Rattle.vz_surface_manager.specs.Changes.{IsNew}
 use Rattle.vz_manager.specs.declared.outcome.New.{New}
 use Rattle.vz_manager.specs.Submitted.{created_by}
 
 -- a surface of this id was created in this tick by a client that is not closed; it exists, and nothing named it
-record IsFresh (w : World) (id : SurfaceId) (c : Created) : Type 0 where
+record IsFresh (w : World) (id : SurfaceId) (c : Surface) : Type 0 where
   known : Contains w.surfaces c
   name : c.id ≡ id
   born : c.born ≡ w.tick
@@ -35,7 +35,7 @@ record IsFresh (w : World) (id : SurfaceId) (c : Created) : Type 0 where
 
 -- Rounds
 
-fresh_by : (t : Bool) (w v : World) (id : SurfaceId) (c : Created) → IsFresh w id c → v.tick ≡ w.tick → v.clients ≡ w.clients
+fresh_by : (t : Bool) (w v : World) (id : SurfaceId) (c : Surface) → IsFresh w id c → v.tick ≡ w.tick → v.clients ≡ w.clients
     → Contains v.surfaces (cond t (record c { marked = true }) c) → IsFresh v id (cond t (record c { marked = true }) c)
 fresh_by true w v id c h tick clients m =
     record {
@@ -56,40 +56,40 @@ fresh_by false w v id c h tick clients m =
       unnamed = h.unnamed;
     }
 
-fresh_round : (w : World) (id : SurfaceId) (c : Created) → IsFresh w id c → IsFresh (round w) id (marked_by w.surfaces (ready w) c)
+fresh_round : (w : World) (id : SurfaceId) (c : Surface) → IsFresh w id c → IsFresh (round w) id (marked_by w.surfaces (ready w) c)
 unfolding round
 fresh_round w id c h =
     fresh_by (list_any (is_before w.surfaces c) (ready w)) w (round w) id c h refl refl
     (map_contains (marked_by w.surfaces (ready w)) w.surfaces c h.known)
 
-fresh_rounds : (n : ℕ) (w : World) (id : SurfaceId) (c : Created) → IsFresh w id c → (d : Created) × IsFresh (rounds n w) id d
+fresh_rounds : (n : ℕ) (w : World) (id : SurfaceId) (c : Surface) → IsFresh w id c → (d : Surface) × IsFresh (rounds n w) id d
 unfolding rounds
 fresh_rounds zero w id c h = (c, h)
 fresh_rounds (suc n) w id c h = fresh_rounds n (round w) id (marked_by w.surfaces (ready w) c) (fresh_round w id c h)
 
-fresh_settled : (w : World) (id : SurfaceId) (c : Created) → IsFresh w id c → (d : Created) × IsFresh (settle w) id d
+fresh_settled : (w : World) (id : SurfaceId) (c : Surface) → IsFresh w id c → (d : Surface) × IsFresh (settle w) id d
 unfolding settle
 fresh_settled w id c h = fresh_rounds _ w id c h
 
 -- Names
 
-one_id : (t : Bool) (c : Created) → (cond t (record c { named = true }) c).id ≡ c.id
+one_id : (t : Bool) (c : Surface) → (cond t (record c { named = true }) c).id ≡ c.id
 one_id true c = refl
 one_id false c = refl
 
-one_gone : (t : Bool) (c : Created) → (cond t (record c { named = true }) c).destroyed ≡ c.destroyed
+one_gone : (t : Bool) (c : Surface) → (cond t (record c { named = true }) c).destroyed ≡ c.destroyed
 one_gone true c = refl
 one_gone false c = refl
 
 -- noting names leaves which surfaces stand
 stands_named : (w : World) (id : SurfaceId) → stands_in (map (name_one w) w.surfaces) id ≡ stands_in w.surfaces id
 stands_named w id =
-    found (λ (s : Created). same_surface s.id id && not s.destroyed) (map (name_one w) w.surfaces)
-    ∙ (any_map (name_one w) (λ (s : Created). same_surface s.id id && not s.destroyed)
-    (λ (s : Created). same_surface s.id id && not s.destroyed) w.surfaces stands_test
-    ∙ sym (found (λ (s : Created). same_surface s.id id && not s.destroyed) w.surfaces))
+    found (λ (s : Surface). same_surface s.id id && not s.destroyed) (map (name_one w) w.surfaces)
+    ∙ (any_map (name_one w) (λ (s : Surface). same_surface s.id id && not s.destroyed)
+    (λ (s : Surface). same_surface s.id id && not s.destroyed) w.surfaces stands_test
+    ∙ sym (found (λ (s : Surface). same_surface s.id id && not s.destroyed) w.surfaces))
   where
-    stands_test : (c : Created)
+    stands_test : (c : Surface)
         → (same_surface (name_one w c).id id && not (name_one w c).destroyed) ≡ (same_surface c.id id && not c.destroyed)
     stands_test c =
         ap (λ i. same_surface i id && not (name_one w c).destroyed) (one_id (not c.destroyed && is_named_now w c.id) c)
@@ -109,7 +109,7 @@ unfolding naming
 closed_named w q = refl
 
 -- a fresh surface is new, once what is named now is named
-new_by : (t : Bool) (w : World) (id : SurfaceId) (c : Created) → (not c.destroyed && is_named_now w c.id) ≡ t → IsFresh w id c
+new_by : (t : Bool) (w : World) (id : SurfaceId) (c : Surface) → (not c.destroyed && is_named_now w c.id) ≡ t → IsFresh w id c
     → Contains (naming w).surfaces (cond t (record c { named = true }) c) → IsNew (naming w) (cond t (record c { named = true }) c) id
 new_by true w id c e h m =
     record {
@@ -132,11 +132,11 @@ new_by false w id c e h m =
       now = λ n. absurd (both_ways c.named h.unnamed n);
     }
 
-named_there : (w : World) (c : Created) → Contains w.surfaces c → Contains (naming w).surfaces (name_one w c)
+named_there : (w : World) (c : Surface) → Contains w.surfaces c → Contains (naming w).surfaces (name_one w c)
 unfolding naming
 named_there w c m = map_contains (name_one w) w.surfaces c m
 
-fresh_new : (w : World) (id : SurfaceId) (c : Created) → IsFresh w id c → (d : Created) × IsNew (naming w) d id
+fresh_new : (w : World) (id : SurfaceId) (c : Surface) → IsFresh w id c → (d : Surface) × IsNew (naming w) d id
 fresh_new w id c h = (
   name_one w c,
   new_by (not c.destroyed && is_named_now w c.id) w id c refl h (named_there w c h.known),
@@ -183,11 +183,11 @@ module _ (w : World) (x : Client) (local : LocalSurfaceId) (frame : CompositorFr
       closed false u y = refl
 
   -- the surface that is created
-  abbrev made : Created
+  abbrev made : Surface
   made =
       record {
         client = x.number;
-        number = count_by (λ (s : Created). s.client == x.number) w.surfaces + 1;
+        number = count_by (λ (s : Surface). s.client == x.number) w.surfaces + 1;
         id = id_of x local;
         size = frame_size frame;
         born = w.tick;
@@ -213,7 +213,7 @@ module _ (w : World) (x : Client) (local : LocalSurfaceId) (frame : CompositorFr
 
   -- the surface that is created is new in the end
   made_new : is_last (last_created w x.number) local ≡ false → has_closed w x.number ≡ false
-      → (d : Created) × IsNew (naming (settle after)) d (id_of x local)
+      → (d : Surface) × IsNew (naming (settle after)) d (id_of x local)
   made_new other stays =
       let settled = fresh_settled after (id_of x local) made (made_fresh other stays) in
       fresh_new (settle after) (id_of x local) settled.0 settled.1
@@ -226,7 +226,7 @@ created_parts false new n e = (refl, cc)
 -- the surface that a submission creates is new in the end, and is kept for its time
 pub created_new : (w : World) (x : Client) (local : LocalSurfaceId) (frame : CompositorFrame) (n : New) → KeepsClients w.clients
     → Contains w.clients x → x.closed ≡ false → created_by w x local ≡ Some n
-    → (d : Created) × IsNew (naming (settle (accepted w x local frame).world)) d n.id
+    → (d : Surface) × IsNew (naming (settle (accepted w x local frame).world)) d n.id
     × (n.until ≡ (accepted w x local frame).world.tick + TEMPORARY_TICKS)
 unfolding created_by
 created_new w x local frame n keeps there stays e =

@@ -21,17 +21,17 @@ use Rattle.vz_rules.specs.World.{World, Client, last_created}
 use Rattle.vz_rules.specs.Messages.{took, submitting, accepted, is_last, id_of}
 use Rattle.vz_rules.specs.Step.{outcome_of, step_in}
 use Rattle.vz_refs.specs.Referring.{Referring}
-use Rattle.vz_lending.specs.Lent.{NoneReleased, resources_out}
-use Rattle.vz_lending.proofs.Rooms.{roomier_out}
-use Rattle.vz_flight.specs.Flying.{Flown, subs_of, AreFlown}
+use Rattle.vz_returns.specs.Lent.{NoneReleased, resources_out}
+use Rattle.vz_returns.proofs.Lent_rooms.{roomier_out}
+use Rattle.vz_surface_manager.specs.Flown.{Flown, subs_of, AreFlown}
 use Rattle.vz_machine.specs.declared.machine.Step.{Step}
-use Rattle.vz_waiting.specs.Awaiting.{Waits, AreWaiting}
-use Rattle.vz_live.specs.declared.accepting.Accepted.{Accepted}
-use Rattle.vz_live.specs.Living.{AreLive}
-use Rattle.vz_live.specs.Landing.{flying_count}
-use Rattle.vz_live.specs.Arriving.{IsReadier, new_one}
-use Rattle.vz_settling.specs.declared.settling.Settling.{Settling}
-use Rattle.vz_settling.specs.Settles.{AreSettling, IsToSettle}
+use Rattle.vz_surface_manager.specs.Waits.{Waits, AreWaiting}
+use Rattle.vz_surface_manager.specs.declared.changes.Accepted.{Accepted}
+use Rattle.vz_surface_manager.specs.Live.{AreLive}
+use Rattle.vz_surface_manager.specs.Frame_end.{flying_count}
+use Rattle.vz_surface_manager.specs.Acceptance.{IsReadier, new_one}
+use Rattle.vz_surface_manager.specs.declared.surface_manager.SurfaceManager.{SurfaceManager}
+use Rattle.vz_surface_manager.specs.Settles.{AreSettling, IsToSettle}
 use Rattle.vz_support.specs.Supporting.{Supported, IsSupport}
 use Rattle.vz_manager.specs.declared.outcome.Following.{Following}
 use Rattle.vz_manager.specs.declared.outcome.New.{New}
@@ -53,17 +53,17 @@ same_waiting : (w : World) (a b : Waits) → AreWaiting w a → b.blocked ≡ a.
 same_waiting w a b h blocked due = record { blocked = blocked ∙ h.blocked; due = due ∙ h.due }
 
 -- the surfaces and what waits stand for the state still
-pub readier_stands : (w : World) (s t : Settling) → (AreLive w None s.live → AreLive w None t.live) → t.waiting.blocked ≡ s.waiting.blocked
+pub readier_stands : (w : World) (s t : SurfaceManager) → (AreLive w None s.live → AreLive w None t.live) → t.waiting.blocked ≡ s.waiting.blocked
     → t.waiting.due ≡ s.waiting.due → AreSettling w None s → AreSettling w None t
 readier_stands w s t lives blocked due h =
     record { always = h.always; live = lives h.live; waiting = same_waiting w s.waiting t.waiting h.waiting blocked due }
 
 -- there is room for the end of the drawn frame, where that list only grows
-still_lands : (s t : Settling) (size : Size) (support : Supported) (r q : Roomy Returned) (fed : Roomy Fed) → IsReadier s.live t.live
+still_lands : (s t : SurfaceManager) (size : Size) (support : Supported) (r q : Roomy Returned) (fed : Roomy Fed) (room : Bool) → IsReadier s.live t.live
     → q.list ≡ r.list → (IsTrue (is_some s.live.flight) → resources_out s.live.lent ≤ r.spare → resources_out s.live.lent ≤ q.spare)
-    → CanLand (record { size = size; support = support; settling = s; returned = r; fed = fed })
-    → CanLand (record { size = size; support = support; settling = t; returned = q; fed = fed })
-still_lands s t size support r q fed same list more h =
+    → CanLand (record { size = size; support = support; settling = s; returned = r; fed = fed; landed = room })
+    → CanLand (record { size = size; support = support; settling = t; returned = q; fed = fed; landed = room })
+still_lands s t size support r q fed room same list more h =
     record {
       none_returned = list ∙ h.none_returned;
       none_fed = h.none_fed;
@@ -73,14 +73,15 @@ still_lands s t size support r q fed same list more h =
       fed = λ flies.
           let before : IsTrue (is_some s.live.flight) = ap is_some (sym same.flight) ∙ flies in
           omega (arith, h.fed before, ap flying_count same.flight);
+      effects = λ flies. h.effects (ap is_some (sym same.flight) ∙ flies);
     }
 
 -- the parts stand for the state still, where there may be more room
-pub still_serve : (s t : Settling) (r q : Roomy Returned) → ((w : World) → AreSettling w None s → AreSettling w None t)
+pub still_serve : (s t : SurfaceManager) (r q : Roomy Returned) → ((w : World) → AreSettling w None s → AreSettling w None t)
     → IsReadier s.live t.live
     → (NoneReleased s.live.lent → NoneReleased t.live.lent) → q.list ≡ r.list
     → (IsTrue (is_some s.live.flight) → resources_out s.live.lent ≤ r.spare → resources_out s.live.lent ≤ q.spare) → StillServe s r t q
-still_serve s t r q stands same none list more p w size support fed h =
+still_serve s t r q stands same none list more p w size support fed room h =
     record {
       plan = h.plan;
       keeps = h.keeps;
@@ -90,23 +91,23 @@ still_serve s t r q stands same none list more p w size support fed h =
       support = h.support;
       settling = stands w h.settling;
       released = none h.released;
-      lands = still_lands s t size support r q fed same list more h.lands;
+      lands = still_lands s t size support r q fed room same list more h.lands;
     }
 
 -- the list was left as it was
-pub no_more : (s : Settling) (r q : Roomy Returned) → q ≡ r → IsTrue (is_some s.live.flight) → resources_out s.live.lent ≤ r.spare
+pub no_more : (s : SurfaceManager) (r q : Roomy Returned) → q ≡ r → IsTrue (is_some s.live.flight) → resources_out s.live.lent ≤ r.spare
     → resources_out s.live.lent ≤ q.spare
 no_more s r q same flies room = omega (arith, room, ap (λ (l : Roomy Returned). l.spare) same)
 
 -- there is room for a submission more
-pub more_room : (s t : Settling) (listings : ℕ) (q : Roomy Returned) → IsReadier s.live t.live
+pub more_room : (s t : SurfaceManager) (listings : ℕ) (q : Roomy Returned) → IsReadier s.live t.live
     → (IsTrue (is_some t.live.flight) → resources_out t.live.lent + listings ≤ q.spare) → IsTrue (is_some s.live.flight)
     → resources_out s.live.lent ≤ q.spare
 more_room s t listings q same made flies =
     omega (arith, made (ap is_some same.flight ∙ flies), roomier_out s.live.lent t.live.lent same.lent)
 
 -- between steps nothing but the room changed
-pub still_between : (w : World) (s t : Settling) → IsBetween w s → (AreSettling w None s → AreSettling w None t) → IsBetween w t
+pub still_between : (w : World) (s t : SurfaceManager) → IsBetween w s → (AreSettling w None s → AreSettling w None t) → IsBetween w t
 still_between w s t h stands = record { keeps = h.keeps; stands = stands h.stands }
 
 -- Want of memory
@@ -117,7 +118,7 @@ on_err (Ok x) P is = tt
 on_err (Err e) P is = is
 
 -- the submission was given back
-pub serves_back : (p : Plan) (w : World) (v : Served) (support : Supported) (settling : Settling) → Serves p w v → IsSupport p w support
+pub serves_back : (p : Plan) (w : World) (v : Served) (support : Supported) (settling : SurfaceManager) → Serves p w v → IsSupport p w support
     → settling ≡ v.settling → Serves p w (record v { support = support; settling = settling })
 serves_back p w v support settling h kept same =
     subst (λ s. Serves p w (record v { support = support; settling = s })) (sym same)
@@ -135,6 +136,7 @@ serves_back p w v support settling h kept same =
         none_fed = h.lands.none_fed;
         returned = h.lands.returned;
         fed = h.lands.fed;
+        effects = h.lands.effects;
       };
     })
 
@@ -180,7 +182,7 @@ flies_back (Some a) (Some b) e flies = (
 
 -- room was made for a submission in a state for which the parts stand, and it was accepted
 pub record HasArrived (p : Plan) (w : World) (c : ℕ) (x : Client) (local : LocalSurfaceId) (frame : CompositorFrame) (v : Served)
-    (coming : Coming) (f : Following) (a : Accepted) (support : Supported) (settling : Settling) (ready : Roomy Sub) : Type 0 where
+    (coming : Coming) (f : Following) (a : Accepted) (support : Supported) (settling : SurfaceManager) (ready : Roomy Sub) : Type 0 where
   pub serves : Serves p w v
   pub allowed : IsAllowed p w c x local frame
   pub comes : IsComing w x local frame coming
@@ -200,7 +202,7 @@ is_taking_in p w c x local frame v coming f serves allowed comes room =
 
 -- and then it has arrived
 pub has_arrived : (p : Plan) (w : World) (c : ℕ) (x : Client) (local : LocalSurfaceId) (frame : CompositorFrame) (v : Served)
-    (coming : Coming) (f : Following) (a : Accepted) (support : Supported) (settling : Settling) (ready : Roomy Sub) → Serves p w v
+    (coming : Coming) (f : Following) (a : Accepted) (support : Supported) (settling : SurfaceManager) (ready : Roomy Sub) → Serves p w v
     → IsAllowed p w c x local frame → IsComing w x local frame coming → HasRoomToSubmit c coming v.settling v.returned f
     → IsAcceptedAs w x local frame a → HasTakenIn p w x local frame support settling ready.list
     → IsWithin coming.listings v.settling settling (length ready.list) → f.activated.spare ≤ ready.spare + length ready.list
@@ -219,7 +221,7 @@ has_arrived p w c x local frame v coming f a support settling ready serves allow
     }
 
 module _ (p : Plan) (w : World) (c : ℕ) (x : Client) (local : LocalSurfaceId) (frame : CompositorFrame) (v : Served) (coming : Coming)
-    (f : Following) (a : Accepted) (support : Supported) (settling : Settling) (ready : Roomy Sub)
+    (f : Following) (a : Accepted) (support : Supported) (settling : SurfaceManager) (ready : Roomy Sub)
     (h : HasArrived p w c x local frame v coming f a support settling ready) where
   abbrev after : World
   after = (accepted w x local frame).world
@@ -257,7 +259,7 @@ module _ (p : Plan) (w : World) (c : ℕ) (x : Client) (local : LocalSurfaceId) 
       (told ∙ reply_after w x local frame a h.accepted_as) follows
 
   -- there is room still for the end of the drawn frame
-  arrived_lands : (u : World) (new : Settling) → AreFlown u new.live.flight → u.in_flight ≡ w.in_flight
+  arrived_lands : (u : World) (new : SurfaceManager) → AreFlown u new.live.flight → u.in_flight ≡ w.in_flight
       → resources_out new.live.lent ≤ resources_out settling.live.lent → CanLand (record v { support = support; settling = new })
   arrived_lands u new flown same out =
       let alike = flies_back v.settling.live.flight new.live.flight
@@ -267,10 +269,11 @@ module _ (p : Plan) (w : World) (c : ℕ) (x : Client) (local : LocalSurfaceId) 
         none_fed = h.serves.lands.none_fed;
         returned = λ flies. omega (arith, out, h.within.out, h.room.lands (alike flies).0);
         fed = λ flies. omega (arith, h.serves.lands.fed (alike flies).0, (alike flies).1);
+        effects = λ flies. h.serves.lands.effects (alike flies).0;
       }
 
   -- and the parts stand for what it leaves
-  pub arrived_serves : (new : Settling) → AreSettling (outcome_of [] (accepted w x local frame)).world None new → NoneReleased new.live.lent
+  pub arrived_serves : (new : SurfaceManager) → AreSettling (outcome_of [] (accepted w x local frame)).world None new → NoneReleased new.live.lent
       → resources_out new.live.lent ≤ resources_out settling.live.lent
       → Serves p (step_in p w (event.Client c)).world (record v { support = support; settling = new })
   arrived_serves new stands released out =

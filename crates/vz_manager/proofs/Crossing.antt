@@ -20,14 +20,14 @@ use Rattle.vz_surfaces.specs.contracts.owners.Owners as Owners
 use Rattle.vz_surfaces.specs.contracts.groups.Groups as Groups
 use Rattle.vz_surfaces.specs.contracts.standing.Standing as Standing
 use Rattle.vz_surfaces.specs.contracts.store.Store as Store
-use Rattle.vz_lending.specs.contracts.lending.Lending as Lending
-use Rattle.vz_feeding.specs.contracts.feeding.Feeding as Feeding
+use Rattle.vz_returns.specs.contracts.lenders.Lenders as Lenders
+use Rattle.vz_returns.specs.contracts.pending_feedback.PendingFeedback as PendingFeedback
 use Rattle.vz_refs.specs.contracts.references.References as References
 use Rattle.vz_damage.specs.contracts.damage.Damage as Damage
-use Rattle.vz_flight.specs.contracts.flight.Flight as Flight
-use Rattle.vz_live.specs.contracts.live.LiveSurfaces as LiveSurfaces
-use Rattle.vz_waiting.specs.contracts.waiting.Waiting as Waiting
-use Rattle.vz_settling.specs.contracts.settling.Settling as Settling
+use Rattle.vz_surface_manager.specs.contracts.flight.Flight as Flight
+use Rattle.vz_surface_manager.specs.contracts.live.LiveSurfaces as LiveSurfaces
+use Rattle.vz_surface_manager.specs.contracts.waiting.Waiting as Waiting
+use Rattle.vz_surface_manager.specs.contracts.surface_manager.SurfaceManager as SurfaceManager
 use Rattle.vz_manager.specs.contracts.outcome.Following as Following
 use Rattle.vz_manager.specs.contracts.parts.Parts as Parts
 use Rattle.vz_manager.specs.contracts.manager.Manager as Manager
@@ -100,10 +100,10 @@ store_send =
 
 -- Of all that hangs on surfaces
 
-lending_send : IsSend Lending.the_field.row
+lending_send : IsSend Lenders.the_field.row
 lending_send = search (sendable, crosses) depth 100 fits 10000
 
-feeding_send : IsSend Feeding.the_field.row
+feeding_send : IsSend PendingFeedback.the_field.row
 feeding_send = search (sendable, crosses) depth 100 fits 10000
 
 references_send : IsSend References.the_field.row
@@ -128,7 +128,7 @@ live_send =
 waiting_send : IsSend Waiting.the_field.row
 waiting_send = search (sendable, crosses) depth 100 fits 10000
 
-settling_send : IsSend Settling.the_field.row
+settling_send : IsSend SurfaceManager.the_field.row
 settling_send = let a = live_send in let b = waiting_send in search (sendable, crosses) depth 30
 
 -- Of the machine

@@ -26,9 +26,9 @@ use Rattle.vz_surfaces.proofs.Kept_of_world.{keeps_of_world}
 use Rattle.vz_surfaces.proofs.Telling.{seen_all}
 use Rattle.vz_walk.specs.Scenes.{scene_in, walked_in}
 use Rattle.vz_damage.specs.Accepted.{scene_from}
-use Rattle.vz_telling.specs.Changing.{drawn_reply}
-use Rattle.vz_live.specs.Living.{Live, AreWhole}
-use Rattle.vz_live.specs.Drawing.{IsDrawing, IsShowing}
+use Rattle.vz_surface_manager.specs.Allowed.{drawn_reply}
+use Rattle.vz_surface_manager.specs.Live.{Live, AreWhole}
+use Rattle.vz_surface_manager.specs.Drawn_frame.{IsDrawing, IsShowing}
 use Rattle.vz_flat.specs.declared.op.Op.{Op}
 use Rattle.vz_flat.specs.Ops.{value}
 use Rattle.vz_occlude.specs.Pictures.{Flattened}

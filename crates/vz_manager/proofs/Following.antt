@@ -25,11 +25,11 @@ use Rattle.vz_rules.proofs.Kept_answers.{keeps_over}
 use Rattle.vz_rules.proofs.Kept_planned.{plan_step}
 use Rattle.vz_rules.proofs.Kept_sending.{messages_step}
 use Rattle.vz_machine.specs.declared.machine.Step.{Step}
-use Rattle.vz_lending.specs.Lent.{NoneReleased, IsLender, resources_out}
-use Rattle.vz_waiting.specs.Awaiting.{AreWaiting}
-use Rattle.vz_live.specs.Living.{Live, AreLive}
-use Rattle.vz_live.specs.Changes.{KeepsHolding}
-use Rattle.vz_settling.specs.Settles.{AreSettling}
+use Rattle.vz_returns.specs.Lent.{NoneReleased, IsLender, resources_out}
+use Rattle.vz_surface_manager.specs.Waits.{AreWaiting}
+use Rattle.vz_surface_manager.specs.Live.{Live, AreLive}
+use Rattle.vz_surface_manager.specs.Changes.{KeepsHolding}
+use Rattle.vz_surface_manager.specs.Settles.{AreSettling}
 use Rattle.vz_support.specs.Supporting.{Supported, IsSupport, Sends}
 use Rattle.vz_manager.specs.Serving.{Served, Serves, CanLand, IsStepOf, IsSending, HasNone, IsClosed, IsRefused}
 
@@ -148,6 +148,7 @@ serves_with p w e a v support live h is none keeps rest released out kept stands
           none_fed = h.lands.none_fed;
           returned = λ flies. subst (λ n. n ≤ v.returned.spare) (sym out) (h.lands.returned flies);
           fed = h.lands.fed;
+          effects = h.lands.effects;
         }
 
 -- with only what is kept for the clients changed

@@ -17,12 +17,12 @@ use Rattle.vz_rules.specs.Step.{outcome_of}
 use Rattle.vz_rules.specs.Kept.{KeepsAlways}
 use Rattle.vz_rules.proofs.Kept_quiet.{settle_stays, destroyed_none}
 use Rattle.vz_rules.proofs.Kept_collected.{clearing_stays}
-use Rattle.vz_waiting.specs.Awaiting.{Waits, AreWaiting}
-use Rattle.vz_live.specs.Living.{Live, AreLive}
-use Rattle.vz_settling.specs.declared.settling.Settling.{Settling}
-use Rattle.vz_settling.specs.Settles.{AreSettling}
-use Rattle.vz_settling.specs.Collects.{IsToCollect}
-use Rattle.vz_settling.proofs.Rounded.{none_long}
+use Rattle.vz_surface_manager.specs.Waits.{Waits, AreWaiting}
+use Rattle.vz_surface_manager.specs.Live.{Live, AreLive}
+use Rattle.vz_surface_manager.specs.declared.surface_manager.SurfaceManager.{SurfaceManager}
+use Rattle.vz_surface_manager.specs.Settles.{AreSettling}
+use Rattle.vz_surface_manager.specs.Collects.{IsToCollect}
+use Rattle.vz_surface_manager.proofs.Rounded.{none_long}
 use Rattle.vz_manager.specs.declared.outcome.Following.{Following}
 use Rattle.vz_manager.specs.declared.outcome.New.{New}
 use Rattle.vz_manager.specs.Followed.{IsFollowed, IsKeeping, IsAsked, Tells, new_id}
@@ -91,13 +91,13 @@ none_named [] e = refl
 none_named (s ∷ l) e = absurd (cc)
 
 -- the state has settled, and the new surface, if there is one, is kept
-pub record HasKept (w : World) (root : Option SurfaceId) (new : Option New) (anew : Bool) (v v1 v2 : Settling) (f : Following) : Type 0 where
+pub record HasKept (w : World) (root : Option SurfaceId) (new : Option New) (anew : Bool) (v v1 v2 : SurfaceManager) (f : Following) : Type 0 where
   pub names : NamesKeep
   pub follows : IsFollowed w root new anew v f
   pub settled : AreSettling (settle w) (new_id new) v1
   pub keeps : (u : World) → IsKeeping u new v1 → AreSettling u None v2
 
-module _ (w : World) (root : Option SurfaceId) (new : Option New) (anew : Bool) (v v1 v2 : Settling) (f : Following)
+module _ (w : World) (root : Option SurfaceId) (new : Option New) (anew : Bool) (v v1 v2 : SurfaceManager) (f : Following)
     (h : HasKept w root new anew v v1 v2 f) where
   kept_in : AreSettling (naming (settle w)) None v2
   kept_in =
@@ -134,7 +134,7 @@ module _ (w : World) (root : Option SurfaceId) (new : Option New) (anew : Bool) 
 
 -- Where no collection is asked
 
-module _ (w : World) (root : Option SurfaceId) (asked : Bool) (v : Settling) (h : IsAsked w root asked v) (e : asked ≡ false) where
+module _ (w : World) (root : Option SurfaceId) (asked : Bool) (v : SurfaceManager) (h : IsAsked w root asked v) (e : asked ≡ false) where
   pub stays_uncollected : AreSettling (clearing w) None v
   stays_uncollected = subst (λ u. AreSettling u None v) (sym (clearing_stays w (h.unlost e))) h.collects.stands
 

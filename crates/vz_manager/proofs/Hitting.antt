@@ -16,7 +16,7 @@ use Rattle.vz_surfaces.specs.Reading.{active_on}
 use Rattle.vz_surfaces.proofs.Telling.{tells_active}
 use Rattle.vz_walk.specs.Scenes.{scene_in, walked_in}
 use Rattle.vz_damage.specs.Accepted.{scene_from}
-use Rattle.vz_telling.proofs.Viewed.{rootless, unseen_root, seen_root}
+use Rattle.vz_surface_manager.proofs.Viewed.{rootless, unseen_root, seen_root}
 use Rattle.vz_hit.specs.declared.region.Region.{Region}
 use Rattle.vz_hit.specs.Regions.{found}
 use Rattle.vz_manager.specs.Serving.{Served, Serves}

@@ -26,7 +26,7 @@ use Rattle.vz_rules.specs.declared.entry.Event.TheVariants as event
 use Rattle.vz_rules.specs.declared.entry.Refusal.{Refusal}
 use Rattle.vz_rules.specs.declared.entry.Refusal.TheVariants as refusal
 use Rattle.vz_rules.specs.Plan.{Plan, IsPlan}
-use Rattle.vz_rules.specs.World.{World, Client, Created, client_at, next_message, last_created}
+use Rattle.vz_rules.specs.World.{World, Client, Surface, client_at, next_message, last_created}
 use Rattle.vz_rules.specs.Messages.{first_some, when, is_unknown, violates, has_other_size, submit_refusal, unless_refused, refused}
 use Rattle.vz_rules.specs.Messages.{new_submission, accepted, submit_answer, message_answer}
 use Rattle.vz_rules.specs.Step.{answer_to}
@@ -35,10 +35,10 @@ use Rattle.vz_rules.proofs.Cases.{number_at}
 use Rattle.vz_rules.proofs.Kept_files.{next_fits}
 use Rattle.vz_rules.proofs.Kept_sent.{submit_fits, new_whole}
 use Rattle.vz_support.specs.Sent.{sender_at}
-use Rattle.vz_support.proofs.Standing.{tells_next}
+use Rattle.vz_support.proofs.Clients_kept.{tells_next}
 use Rattle.vz_support.specs.Supporting.{Supported, IsSupport, IsNext, Sends}
-use Rattle.vz_live.specs.Asking.{NameAndSize, name_and_size, violates_named, has_other_size_named}
-use Rattle.vz_live.proofs.Asked.{violates_asked, size_asked}
+use Rattle.vz_surface_manager.specs.Last_surface.{NameAndSize, name_and_size, violates_named, has_other_size_named}
+use Rattle.vz_surface_manager.proofs.Asked.{violates_asked, size_asked}
 use Rattle.vz_manager.specs.Serving.{Served, Serves, IsSending}
 use Rattle.vz_manager.specs.Judging.{shape_refusal, refusal_in, deadline_of, AreAsked}
 use Rattle.vz_manager.proofs.Following.{sent_answer, client_here}
@@ -207,7 +207,7 @@ pub shape_by : (last : Option NameAndSize) (local : LocalSurfaceId) (size : Size
 shape_by last local size a b e f = λ i. two_reasons (sym e i) (sym f i)
 
 -- the last surface of the state gives the same
-shape_asked : (o : Option Created) (named : Option NameAndSize) (local : LocalSurfaceId) (frame : CompositorFrame)
+shape_asked : (o : Option Surface) (named : Option NameAndSize) (local : LocalSurfaceId) (frame : CompositorFrame)
     → named ≡ option_map {U = NameAndSize} name_and_size o
     → shape_refusal named local (frame_size frame) ≡ two_reasons (violates o local) (has_other_size o local frame)
 shape_asked o named local frame e =

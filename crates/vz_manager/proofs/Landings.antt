@@ -1,5 +1,5 @@
 -- The drawn frame is done: there is room, what is told follows, and the parts stand for the state that is left.
-use Rattle.std.proofs.Common.{◌≡◌, ℕ, ◌≤◌, ◌+◌, true, false, Some, None, Option, List, [], ◌∷◌, length, is_some, slice_get}
+use Rattle.std.proofs.Common.{◌≡◌, ℕ, ◌≤◌, ◌+◌, Bool, true, false, Some, None, Option, List, [], ◌∷◌, length, is_some, slice_get}
 use Rattle.std.proofs.Common.{refl, ap, sym, ◌∙◌, subst, arith, cond, Contains}
 use Rattle.std.specs.Option.{option_and_then}
 use Rattle.vz_ids.specs.declared.Sub.{Sub}
@@ -22,15 +22,15 @@ use Rattle.vz_rules.proofs.Kept_done.{done_presents, done_idles}
 use Rattle.vz_rules.proofs.Kept_planned.{plan_step}
 use Rattle.vz_rules.proofs.Kept_sending.{messages_step}
 use Rattle.vz_machine.specs.declared.machine.Step.{Step}
-use Rattle.vz_lending.specs.Lent.{NoneReleased}
-use Rattle.vz_feeding.specs.declared.due.Due.{Due}
-use Rattle.vz_feeding.specs.Owing.{Owed, AreOwed, gets_at}
-use Rattle.vz_feeding.proofs.Staying.{none_gets}
-use Rattle.vz_flight.specs.Flying.{Flown}
-use Rattle.vz_flight.proofs.Staying.{flown_some}
-use Rattle.vz_waiting.specs.Awaiting.{Waits, AreWaiting}
-use Rattle.vz_live.specs.Living.{Live, AreLive}
-use Rattle.vz_live.specs.Landing.{IsFlying, flying_count}
+use Rattle.vz_returns.specs.Lent.{NoneReleased}
+use Rattle.vz_returns.specs.declared.due.Due.{Due}
+use Rattle.vz_returns.specs.Owed.{Owed, AreOwed, gets_at}
+use Rattle.vz_returns.proofs.Owed_kept.{none_gets}
+use Rattle.vz_surface_manager.specs.Flown.{Flown}
+use Rattle.vz_surface_manager.proofs.Flights_kept.{flown_some}
+use Rattle.vz_surface_manager.specs.Waits.{Waits, AreWaiting}
+use Rattle.vz_surface_manager.specs.Live.{Live, AreLive}
+use Rattle.vz_surface_manager.specs.Frame_end.{IsFlying, flying_count}
 use Rattle.vz_support.specs.Supporting.{Supported, IsSupport}
 use Rattle.vz_manager.specs.Serving.{Served, Serves, IsStepOf}
 
@@ -126,14 +126,14 @@ pub waiting_landed : (w : World) (drawn : List Sub) (a : Waits) → w.in_flight 
     → AreWaiting (landed w) a
 waiting_landed w drawn a e h = subst (λ (u : World). AreWaiting u a) (done_lands w drawn e) h
 
-pub serves_landed : (p : Plan) (w : World) (v : Served) (drawn : List Sub) (live : Live) (returned : Roomy Returned) (fed : Roomy Fed)
+pub serves_landed : (p : Plan) (w : World) (v : Served) (drawn : List Sub) (live : Live) (returned : Roomy Returned) (fed : Roomy Fed) (room : Bool)
     → Serves p w v → w.in_flight ≡ Some drawn
     → IsSupport p (presenting drawn (landed w)).world v.support → AreLive (presenting drawn (landed w)).world None live
     → AreWaiting (presenting drawn (landed w)).world v.settling.waiting → NoneReleased live.lent → live.flight ≡ None
     → returned.list ≡ [] → fed.list ≡ []
     → Serves p (step_in p w event.Done).world
-    (record v { settling = record v.settling { live = live }; returned = returned; fed = fed })
-serves_landed p w v drawn live returned fed h flies support stands waiting released lands none_returned none_fed =
+    (record v { settling = record v.settling { live = live }; returned = returned; fed = fed; landed = room })
+serves_landed p w v drawn live returned fed room h flies support stands waiting released lands none_returned none_fed =
     record {
       plan = h.plan;
       keeps = keeps_step p w event.Done h.keeps.always;
@@ -154,6 +154,7 @@ serves_landed p w v drawn live returned fed h flies support stands waiting relea
             none_fed = none_fed;
             returned = λ some. no_flight live.flight lands some;
             fed = λ some. no_flight live.flight lands some;
+            effects = λ some. no_flight live.flight lands some;
           };
     }
   where

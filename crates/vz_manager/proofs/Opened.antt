@@ -1,19 +1,21 @@
 -- The parts stand for the state before the first step.
-use Rattle.std.proofs.Common.{◌≡◌, true, false, Option, Some, None, List, [], refl, sym, ◌∙◌}
+use Rattle.std.proofs.Common.{◌≡◌, true, false, Option, Some, None, List, [], refl, sym, subst, ◌∙◌}
 use Rattle.std.specs.Prelude.{is_some}
+use Rattle.vz_geom.specs.declared.Size.{Size}
 use Rattle.vz_ids.specs.declared.Sub.{Sub}
+use Rattle.vz_frame.specs.declared.message.ClientFile.{ClientFile}
 use Rattle.vz_rules.specs.Plan.{Plan, IsPlan}
 use Rattle.vz_rules.specs.World.{opening}
 use Rattle.vz_rules.proofs.Kept_first.{keeps_first}
 use Rattle.vz_rules.proofs.Kept_planned.{plan_first}
 use Rattle.vz_rules.proofs.Kept_sending.{messages_first}
-use Rattle.vz_lending.specs.Lent.{NoneReleased}
-use Rattle.vz_flight.specs.Flying.{Flown, AreFlown, subs_of}
-use Rattle.vz_waiting.specs.Awaiting.{AreWaiting}
-use Rattle.vz_live.specs.Living.{AreLive}
-use Rattle.vz_settling.specs.declared.settling.Settling.{Settling}
-use Rattle.vz_settling.specs.Settles.{AreSettling}
-use Rattle.vz_support.specs.Supporting.{IsSupport}
+use Rattle.vz_returns.specs.Lent.{NoneReleased}
+use Rattle.vz_surface_manager.specs.Flown.{Flown, AreFlown, subs_of}
+use Rattle.vz_surface_manager.specs.Waits.{AreWaiting}
+use Rattle.vz_surface_manager.specs.Live.{AreLive}
+use Rattle.vz_surface_manager.specs.declared.surface_manager.SurfaceManager.{SurfaceManager}
+use Rattle.vz_surface_manager.specs.Settles.{AreSettling}
+use Rattle.vz_support.specs.Supporting.{Supported, IsSupport}
 use Rattle.vz_manager.specs.Serving.{Served, Serves, CanLand}
 
 -- before the first step no frame is drawn
@@ -30,10 +32,11 @@ can_land v none no_returns no_feedback =
       none_fed = no_feedback;
       returned = λ flies. let e : false ≡ true = sym none ∙ flies in absurd (cc);
       fed = λ flies. let e : false ≡ true = sym none ∙ flies in absurd (cc);
+      effects = λ flies. let e : false ≡ true = sym none ∙ flies in absurd (cc);
     }
 
 -- the surfaces and what waits
-pub settled : (p : Plan) (v : Settling) → IsPlan p → AreLive (opening p) None v.live → AreWaiting (opening p) v.waiting
+pub settled : (p : Plan) (v : SurfaceManager) → IsPlan p → AreLive (opening p) None v.live → AreWaiting (opening p) v.waiting
     → AreSettling (opening p) None v
 settled p v is lives waits = record { always = (keeps_first p is).always; live = lives; waiting = waits }
 
@@ -53,3 +56,14 @@ opened p v is sized supports settles none no_returns no_feedback =
       released = none;
       lands = can_land v (none_drawn p v.settling.live.flight settles.live.flown) no_returns no_feedback;
     }
+
+-- what is kept for the plan's clients is put in last
+pub filled : (p : Plan) (u v : Served) (support : Supported) → v ≡ record u { support = support } → IsPlan p → u.size ≡ p.size
+    → IsSupport p (opening p) support → AreSettling (opening p) None u.settling → NoneReleased u.settling.live.lent → u.returned.list ≡ []
+    → u.fed.list ≡ [] → Serves p (opening p) v
+filled p u v support put is sized supports settles none no_returns no_feedback =
+    subst (λ (x : Served). Serves p (opening p) x) (sym put) (opened p (record u { support = support }) is sized supports settles none no_returns no_feedback)
+
+-- a plan is its files and its size
+pub plan_again : (p : Plan) (files : List ClientFile) (size : Size) → files ≡ p.files → size ≡ p.size → ◌≡◌ {A = Plan} (record { files = files; size = size }) p
+plan_again p files size f s = λ i. record { files = f i; size = s i }

@@ -22,16 +22,16 @@ use Rattle.vz_rules.specs.Kept.{KeepsAlways}
 use Rattle.vz_rules.proofs.Kept_messages.{always_root, always_closed}
 use Rattle.vz_rules.proofs.Kept_steps.{always_answer}
 use Rattle.vz_rules.proofs.Cases.{number_at}
-use Rattle.vz_lending.specs.Lent.{resources_out}
-use Rattle.vz_feeding.specs.Owing.{OwedAndRoom}
-use Rattle.vz_feeding.specs.Noting.{owed_count}
+use Rattle.vz_returns.specs.Lent.{resources_out}
+use Rattle.vz_returns.specs.Owed.{OwedAndRoom}
+use Rattle.vz_returns.specs.Notes.{owed_count}
 use Rattle.vz_surfaces.specs.Memory.{HasNumber}
 use Rattle.vz_surfaces.specs.Reading.{existing_count}
-use Rattle.vz_waiting.specs.Awaiting.{Waits, AreWaiting}
-use Rattle.vz_waiting.proofs.Standing.{as_many}
-use Rattle.vz_live.specs.Living.{Live, AreLive}
-use Rattle.vz_settling.specs.declared.settling.Settling.{Settling}
-use Rattle.vz_settling.specs.Settles.{AreSettling, IsToSettle}
+use Rattle.vz_surface_manager.specs.Waits.{Waits, AreWaiting}
+use Rattle.vz_surface_manager.proofs.Waits_on.{as_many}
+use Rattle.vz_surface_manager.specs.Live.{Live, AreLive}
+use Rattle.vz_surface_manager.specs.declared.surface_manager.SurfaceManager.{SurfaceManager}
+use Rattle.vz_surface_manager.specs.Settles.{AreSettling, IsToSettle}
 use Rattle.vz_support.specs.Supporting.{Supported, IsSupport, IsNext, Sends}
 use Rattle.vz_support.proofs.Asking.{numbered_there, next_same}
 use Rattle.vz_manager.specs.Serving.{Served, Serves, IsSending}
@@ -97,7 +97,7 @@ few_clients : (p : Plan) (w : World) (v : Served) → Serves p w v → length w.
 few_clients p w v h = omega (arith, h.of_plan.files.as_many, h.plan.few_files)
 
 -- a step made such a change, of no new surface
-pub is_followed : (p : Plan) (w u : World) (v : Served) (root : Option SurfaceId) (anew : Bool) (settling : Settling) (f : Following)
+pub is_followed : (p : Plan) (w u : World) (v : Served) (root : Option SurfaceId) (anew : Bool) (settling : SurfaceManager) (f : Following)
     → Serves p w v → LeavesSubs w u → root ≡ u.root → IsToSettle u None settling f.activated.list
     → (anew ≡ false → lost_in (naming u) ≡ []) → IsFollowed u root None anew settling f
 is_followed p w u v root anew settling f h leaves of_root to unlost =
@@ -109,7 +109,7 @@ is_followed p w u v root anew settling f h leaves of_root to unlost =
       unlost = unlost;
     }
 
-no_new : (v : Settling) → CanKeep None v
+no_new : (v : SurfaceManager) → CanKeep None v
 no_new v n e = absurd (cc)
 
 -- Clients
@@ -128,14 +128,14 @@ number_there p w v c h some known = (some, omega (arith, known, h.support.client
 -- Changes by which some become active
 
 -- a change that leaves the submissions, and by which these become active
-pub record IsRisen (p : Plan) (w u : World) (v : Served) (root : Option SurfaceId) (settling : Settling)
+pub record IsRisen (p : Plan) (w u : World) (v : Served) (root : Option SurfaceId) (settling : SurfaceManager)
     (activated : List Sub) : Type 0 where
   pub serves : Serves p w v
   pub leaves : LeavesSubs w u
   pub rooted : root ≡ u.root
   pub settles : IsToSettle u None settling activated
 
-rises : (p : Plan) (w u : World) (v : Served) (root : Option SurfaceId) (settling : Settling) (activated old : List Sub) → Serves p w v
+rises : (p : Plan) (w u : World) (v : Served) (root : Option SurfaceId) (settling : SurfaceManager) (activated old : List Sub) → Serves p w v
     → LeavesSubs w u → KeepsAlways u → root ≡ u.root → AreLive u None settling.live → AreWaiting u settling.waiting
     → activated ≡ old ++ map sub_of (ready u) → old ≡ [] → IsRisen p w u v root settling activated
 rises p w u v root settling activated old h leaves always of_root live waits told none =
@@ -149,7 +149,7 @@ rises p w u v root settling activated old h leaves always of_root live waits tol
       };
     }
 
-pub risen_follows : (p : Plan) (w u : World) (v : Served) (root : Option SurfaceId) (anew : Bool) (settling : Settling) (f : Following)
+pub risen_follows : (p : Plan) (w u : World) (v : Served) (root : Option SurfaceId) (anew : Bool) (settling : SurfaceManager) (f : Following)
     → IsRisen p w u v root settling f.activated.list → (anew ≡ false → lost_in (naming u) ≡ []) → IsFollowed u root None anew settling f
 risen_follows p w u v root anew settling f h unlost =
     is_followed p w u v root anew settling f h.serves h.leaves h.rooted h.settles unlost
@@ -163,7 +163,7 @@ pub record LeavesFewer (old new : Live) : Type 0 where
   pub temporary : length new.kept.temporary ≤ length old.kept.temporary
 
 -- there is room for what follows it
-pub risen_room : (p : Plan) (w u : World) (v : Served) (root : Option SurfaceId) (settling : Settling) (activated : Roomy Sub)
+pub risen_room : (p : Plan) (w u : World) (v : Served) (root : Option SurfaceId) (settling : SurfaceManager) (activated : Roomy Sub)
     (f : Following)
     → IsRisen p w u v root settling activated.list → LeavesFewer v.settling.live settling.live → HasRoomAfter 0 v.settling f
     → length settling.waiting.blocked + f.activated.spare ≤ length v.settling.waiting.blocked + activated.spare
@@ -209,7 +209,7 @@ root_follows p w x local v root f h none =
     }) (always_asked u)
 
 -- there is room for what follows, where nothing but the root changed
-pub root_room : (v : Settling) (f : Following) → HasRoomAfter 0 v f → CanFollow None v f
+pub root_room : (v : SurfaceManager) (f : Following) → HasRoomAfter 0 v f → CanFollow None v f
 root_room v f room =
     can_follow 0 0 None v v f f.activated room
     (record {
@@ -229,7 +229,7 @@ close_sent p w c x h = sent_answer p w c x Close h
 
 -- a client of a sink was closed, by all that its surfaces and what waits are told
 pub closes : (p : Plan) (w : World) (c : ℕ) (x : Client) (v : Served) (sink : FrameSinkId) (support : Supported) (root : Option SurfaceId)
-    (settling : Settling) (activated old : List Sub) → Serves p w v → Sends p w c x Close
+    (settling : SurfaceManager) (activated old : List Sub) → Serves p w v → Sends p w c x Close
     → ((q : Plan) (z : World) (y : Client) → IsSupport q z v.support → client_at z c ≡ Some y → sink ≡ y.sink)
     → ((q : Plan) (z : World) (y : Client) → Sends q z c y Close → IsSupport q z v.support
     → IsSupport q (message_answer z y Close).world support)
@@ -270,7 +270,7 @@ unfolding begin_answer
 ticked p w tick e = sym (same_tick (next_tick w.tick) tick e)
 
 -- a tick began, by all that the surfaces and what waits are told
-pub begins : (p : Plan) (w : World) (v : Served) (tick : ℕ) (support : Supported) (root : Option SurfaceId) (settling : Settling)
+pub begins : (p : Plan) (w : World) (v : Served) (tick : ℕ) (support : Supported) (root : Option SurfaceId) (settling : SurfaceManager)
     (activated old : List Sub) → Serves p w v
     → ((q : Plan) (z : World) → IsSupport q z v.support → (begin_answer q z).reply ≡ reply.Ticked tick)
     → ((q : Plan) (z : World) → IsSupport q z v.support → IsSupport q (begin_answer q z).world support)

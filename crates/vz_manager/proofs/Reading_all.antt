@@ -6,8 +6,8 @@ use Rattle.vz_ids.specs.declared.LocalSurfaceId.{LocalSurfaceId}
 use Rattle.vz_ids.specs.declared.SurfaceId.{SurfaceId}
 use Rattle.vz_rules.specs.World.{World, Client, last_created}
 use Rattle.vz_rules.specs.Messages.{is_last, id_of}
-use Rattle.vz_live.specs.Asking.{NameAndSize, name_and_size, is_last_named}
-use Rattle.vz_live.proofs.Asked.{is_last_asked}
+use Rattle.vz_surface_manager.specs.Last_surface.{NameAndSize, name_and_size, is_last_named}
+use Rattle.vz_surface_manager.proofs.Asked.{is_last_asked}
 use Rattle.vz_manager.specs.declared.outcome.New.{New}
 use Rattle.vz_manager.specs.Submitted.{created_by}
 

@@ -4,13 +4,13 @@ use Rattle.vz_ids.specs.declared.Sub.{Sub}
 use Rattle.vz_frame.specs.Roomy.{Roomy}
 use Rattle.vz_rules.specs.World.{World, is_waiting, sub_of}
 use Rattle.vz_rules.specs.Settle.{ready}
-use Rattle.vz_feeding.specs.Noting.{owed_count}
-use Rattle.vz_feeding.specs.Owing.{Owed}
-use Rattle.vz_waiting.specs.Awaiting.{Waits}
-use Rattle.vz_settling.specs.declared.settling.Settling.{Settling}
-use Rattle.vz_settling.specs.Settles.{AreReady, IsToSettle}
-use Rattle.vz_settling.proofs.Rounded.{waiting, none_long}
-use Rattle.vz_settling.proofs.Settling_on.{all_wait}
+use Rattle.vz_returns.specs.Notes.{owed_count}
+use Rattle.vz_returns.specs.Owed.{Owed}
+use Rattle.vz_surface_manager.specs.Waits.{Waits}
+use Rattle.vz_surface_manager.specs.declared.surface_manager.SurfaceManager.{SurfaceManager}
+use Rattle.vz_surface_manager.specs.Settles.{AreReady, IsToSettle}
+use Rattle.vz_surface_manager.proofs.Rounded.{waiting, none_long}
+use Rattle.vz_surface_manager.proofs.Many_rounds.{all_wait}
 use Rattle.vz_manager.specs.declared.outcome.Following.{Following}
 use Rattle.vz_manager.specs.declared.outcome.New.{New}
 use Rattle.vz_manager.specs.Followed.{CanKeep, CanFollow, IsBetween, HasRoomAfter, IsWithin}
@@ -18,7 +18,7 @@ use Rattle.vz_manager.specs.Followed.{CanKeep, CanFollow, IsBetween, HasRoomAfte
 -- The room for all that may follow
 
 -- where a step's own change left no more than there is room for, there is room for all that follows it
-pub can_follow : (listings risen : ℕ) (new : Option New) (old v : Settling) (f : Following) (activated : Roomy Sub)
+pub can_follow : (listings risen : ℕ) (new : Option New) (old v : SurfaceManager) (f : Following) (activated : Roomy Sub)
     → HasRoomAfter listings old f → IsWithin listings old v risen → CanKeep new v
     → length activated.list ≡ risen → f.activated.spare ≤ activated.spare + risen
     → CanFollow new v (record f { activated = activated })
@@ -40,6 +40,7 @@ can_follow listings risen new old v f activated room within keeps many spare =
       reached = omega (arith, within.waiting, within.sets, within.temporary, room.reached, many);
       none_found = room.none_found;
       found = omega (arith, within.waiting, within.sets, within.temporary, room.found, many);
+      effects = room.effects;
     }
 
 -- How many become active
@@ -47,7 +48,7 @@ can_follow listings risen new old v f activated room within keeps many spare =
 none_ready_now : (w : World) → ready w ≡ [] → AreReady w []
 none_ready_now w e = sym (ap (map sub_of) e)
 
-between_waits : (w : World) (v : Settling) → IsBetween w v → length v.waiting.blocked ≡ waiting w
+between_waits : (w : World) (v : SurfaceManager) → IsBetween w v → length v.waiting.blocked ≡ waiting w
 between_waits w v h =
     omega (arith, all_wait w None v [] (record { stands = h.stands; ready = none_ready_now w h.keeps.none_ready }))
 
@@ -55,13 +56,13 @@ same_waits : (w u : World) → u.subs ≡ w.subs → waiting u ≡ waiting w
 same_waits w u same = ap (λ l. length (filter is_waiting l)) same
 
 -- those that become active wait no longer, where a change leaves the submissions
-pub as_many_rise : (w u : World) (old v : Settling) (risen : List Sub) → IsBetween w old → u.subs ≡ w.subs → IsToSettle u None v risen
+pub as_many_rise : (w u : World) (old v : SurfaceManager) (risen : List Sub) → IsBetween w old → u.subs ≡ w.subs → IsToSettle u None v risen
     → length v.waiting.blocked + length risen ≡ length old.waiting.blocked
 as_many_rise w u old v risen h same to =
     omega (arith, all_wait u None v risen to, same_waits w u same, between_waits w old h)
 
 -- none becomes active, where as many lack something as before
-pub none_rises : (w u : World) (old v : Settling) → IsBetween w old → u.subs ≡ w.subs → IsToSettle u None v (map sub_of (ready u))
+pub none_rises : (w u : World) (old v : SurfaceManager) → IsBetween w old → u.subs ≡ w.subs → IsToSettle u None v (map sub_of (ready u))
     → v.waiting ≡ old.waiting → AreReady u []
 none_rises w u old v h same to kept =
     let risen = as_many_rise w u old v (map sub_of (ready u)) h same to in

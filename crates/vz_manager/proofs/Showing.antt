@@ -22,17 +22,17 @@ use Rattle.vz_rules.proofs.Kept_planned.{plan_step}
 use Rattle.vz_rules.proofs.Kept_sending.{messages_step}
 use Rattle.vz_machine.specs.declared.machine.Step.{Step}
 use Rattle.vz_damage.specs.Measured.{Measurement}
-use Rattle.vz_telling.specs.Changing.{drawn_reply}
-use Rattle.vz_lending.specs.Lent.{Lent, NoneReleased, resources_out}
-use Rattle.vz_waiting.specs.Awaiting.{AreWaiting}
-use Rattle.vz_flight.specs.Flying.{Flown}
-use Rattle.vz_live.specs.Living.{Live, AreLive}
-use Rattle.vz_live.specs.Landing.{flying_count}
-use Rattle.vz_live.specs.Drawing.{IsDrawing, Measures, Flies, Finds, Foretells}
-use Rattle.vz_live.specs.declared.looking.Look.{Look}
-use Rattle.vz_live.specs.declared.looking.Look.TheVariants as look
-use Rattle.vz_live.proofs.Drawn.{flightless}
-use Rattle.vz_settling.specs.Settles.{AreSettling}
+use Rattle.vz_surface_manager.specs.Allowed.{drawn_reply}
+use Rattle.vz_returns.specs.Lent.{Lent, NoneReleased, resources_out}
+use Rattle.vz_surface_manager.specs.Waits.{AreWaiting}
+use Rattle.vz_surface_manager.specs.Flown.{Flown}
+use Rattle.vz_surface_manager.specs.Live.{Live, AreLive}
+use Rattle.vz_surface_manager.specs.Frame_end.{flying_count}
+use Rattle.vz_surface_manager.specs.Drawn_frame.{IsDrawing, Measures, Flies, Finds, Foretells}
+use Rattle.vz_surface_manager.specs.declared.drawn_frame.Look.{Look}
+use Rattle.vz_surface_manager.specs.declared.drawn_frame.Look.TheVariants as look
+use Rattle.vz_surface_manager.proofs.Drawn.{flightless}
+use Rattle.vz_surface_manager.specs.Settles.{AreSettling}
 use Rattle.vz_support.specs.Supporting.{IsSupport}
 use Rattle.vz_manager.specs.Serving.{Served, Serves, CanLand, IsStepOf}
 use Rattle.vz_manager.specs.Showing.{IsToMeasure, IsToShow}
@@ -118,15 +118,15 @@ step_changed p w s changed damage h is some told follows = step_shown p w s h (t
 pub none_flying : (p : Plan) (w : World) (v : Served) (root : SurfaceId) → IsToShow p w root v → is_some v.settling.live.flight ≡ false
 none_flying p w v root h = flightless p w root v.size v.settling.live h.shows
 
-abbrev shown : Served → Live → Roomy Returned → Roomy Fed → Served
-shown v live returned fed = record v { settling = record v.settling { live = live }; returned = returned; fed = fed }
+abbrev shown : Served → Live → Roomy Returned → Roomy Fed → Bool → Served
+shown v live returned fed room = record v { settling = record v.settling { live = live }; returned = returned; fed = fed; landed = room }
 
 -- the parts stand for the state that is left
-serves_left : (p : Plan) (w : World) (v : Served) (live : Live) (returned : Roomy Returned) (fed : Roomy Fed) → Serves p w v
+serves_left : (p : Plan) (w : World) (v : Served) (live : Live) (returned : Roomy Returned) (fed : Roomy Fed) (room : Bool) → Serves p w v
     → IsSupport p (draw_answer p w).world v.support → AreLive (draw_answer p w).world None live
-    → AreWaiting (draw_answer p w).world v.settling.waiting → NoneReleased live.lent → CanLand (shown v live returned fed)
-    → Serves p (step_in p w event.Draw).world (shown v live returned fed)
-serves_left p w v live returned fed h support stands waiting released lands =
+    → AreWaiting (draw_answer p w).world v.settling.waiting → NoneReleased live.lent → CanLand (shown v live returned fed room)
+    → Serves p (step_in p w event.Draw).world (shown v live returned fed room)
+serves_left p w v live returned fed room h support stands waiting released lands =
     record {
       plan = h.plan;
       keeps = keeps_step p w event.Draw h.keeps.always;
@@ -141,28 +141,29 @@ serves_left p w v live returned fed h support stands waiting released lands =
     }
 
 -- where there is room for the end of what is drawn
-pub serves_drawn : (p : Plan) (w : World) (v : Served) (live : Live) (returned : Roomy Returned) (fed : Roomy Fed) → Serves p w v
+pub serves_drawn : (p : Plan) (w : World) (v : Served) (live : Live) (returned : Roomy Returned) (fed : Roomy Fed) (room : Bool) → Serves p w v
     → IsSupport p (draw_answer p w).world v.support → AreLive (draw_answer p w).world None live
     → AreWaiting (draw_answer p w).world v.settling.waiting → NoneReleased live.lent
-    → returned.list ≡ [] → fed.list ≡ [] → resources_out live.lent ≤ returned.spare → flying_count live.flight ≤ fed.spare
-    → Serves p (step_in p w event.Draw).world (shown v live returned fed)
-serves_drawn p w v live returned fed h support stands waiting released none_returned none_fed room places =
-    serves_left p w v live returned fed h support stands waiting released
-    (record { none_returned = none_returned; none_fed = none_fed; returned = λ flies. room; fed = λ flies. places })
+    → returned.list ≡ [] → fed.list ≡ [] → resources_out live.lent ≤ returned.spare → flying_count live.flight ≤ fed.spare → room ≡ true
+    → Serves p (step_in p w event.Draw).world (shown v live returned fed room)
+serves_drawn p w v live returned fed room h support stands waiting released none_returned none_fed returns places has =
+    serves_left p w v live returned fed room h support stands waiting released
+    (record { none_returned = none_returned; none_fed = none_fed; returned = λ flies. returns; fed = λ flies. places; effects = λ flies. has })
 
 unlike : {A : Type 0} (t : Bool) → t ≡ false → t ≡ true → A
 unlike true e f = absurd (cc)
 unlike false e f = absurd (cc)
 
 -- where no frame is in flight
-unflown : (v : Served) (live : Live) (returned : Roomy Returned) (fed : Roomy Fed) → is_some live.flight ≡ false → returned.list ≡ []
-    → fed.list ≡ [] → CanLand (shown v live returned fed)
-unflown v live returned fed none none_returned none_fed =
+unflown : (v : Served) (live : Live) (returned : Roomy Returned) (fed : Roomy Fed) (room : Bool) → is_some live.flight ≡ false → returned.list ≡ []
+    → fed.list ≡ [] → CanLand (shown v live returned fed room)
+unflown v live returned fed room none none_returned none_fed =
     record {
       none_returned = none_returned;
       none_fed = none_fed;
       returned = λ flies. unlike (is_some live.flight) none flies;
       fed = λ flies. unlike (is_some live.flight) none flies;
+      effects = λ flies. unlike (is_some live.flight) none flies;
     }
 
 -- where nothing changed, and what is seen is remembered alone
@@ -172,9 +173,9 @@ pub serves_unchanged : (p : Plan) (w : World) (root : SurfaceId) (v : Served) (l
     → AreWaiting (draw_answer p w).world v.settling.waiting
     → Serves p (step_in p w event.Draw).world (measured_at v live)
 serves_unchanged p w root v live h rest support stands waiting =
-    serves_left p w v live v.returned v.fed h.serves support stands waiting
+    serves_left p w v live v.returned v.fed v.landed h.serves support stands waiting
     (subst (λ (l : List Lent). NoneReleased l) (sym (ap (λ (l : Live). l.lent) rest)) h.serves.released)
-    (unflown v live v.returned v.fed (ap (λ (l : Live). is_some l.flight) rest ∙ none_flying p w v root h) h.serves.lands.none_returned
+    (unflown v live v.returned v.fed v.landed (ap (λ (l : Live). is_some l.flight) rest ∙ none_flying p w v root h) h.serves.lands.none_returned
     h.serves.lands.none_fed)
 
 pub on_err : {T E : Type 0} (r : Result T E) (P : Type 0) → P → OnErr r P
@@ -182,10 +183,10 @@ on_err (Ok x) P is = tt
 on_err (Err e) P is = is
 
 -- where memory was wanted: the same state, with no frame in flight as before
-pub serves_still : (p : Plan) (w : World) (v : Served) (live : Live) (returned : Roomy Returned) (fed : Roomy Fed) → Serves p w v
+pub serves_still : (p : Plan) (w : World) (v : Served) (live : Live) (returned : Roomy Returned) (fed : Roomy Fed) (room : Bool) → Serves p w v
     → is_some live.flight ≡ false → AreLive w None live → NoneReleased live.lent → returned.list ≡ [] → fed.list ≡ []
-    → Serves p w (shown v live returned fed)
-serves_still p w v live returned fed h none stands released none_returned none_fed =
+    → Serves p w (shown v live returned fed room)
+serves_still p w v live returned fed room h none stands released none_returned none_fed =
     record {
       plan = h.plan;
       keeps = h.keeps;
@@ -195,7 +196,7 @@ serves_still p w v live returned fed h none stands released none_returned none_f
       support = h.support;
       settling = record { always = h.settling.always; live = stands; waiting = h.settling.waiting };
       released = released;
-      lands = unflown v live returned fed none none_returned none_fed;
+      lands = unflown v live returned fed room none none_returned none_fed;
     }
 
 -- A look

@@ -18,13 +18,13 @@ use Rattle.vz_rules.proofs.Kept_between.{keeps_step}
 use Rattle.vz_rules.proofs.Kept_planned.{plan_step}
 use Rattle.vz_rules.proofs.Kept_sending.{messages_step}
 use Rattle.vz_machine.specs.declared.machine.Step.{Step}
-use Rattle.vz_lending.specs.Lent.{NoneReleased, resources_out}
-use Rattle.vz_flight.specs.Flying.{Flown, subs_of, AreFlown}
-use Rattle.vz_live.specs.Landing.{flying_count}
-use Rattle.vz_settling.specs.declared.settling.Settling.{Settling}
-use Rattle.vz_settling.specs.Settles.{AreSettling}
+use Rattle.vz_returns.specs.Lent.{NoneReleased, resources_out}
+use Rattle.vz_surface_manager.specs.Flown.{Flown, subs_of, AreFlown}
+use Rattle.vz_surface_manager.specs.Frame_end.{flying_count}
+use Rattle.vz_surface_manager.specs.declared.surface_manager.SurfaceManager.{SurfaceManager}
+use Rattle.vz_surface_manager.specs.Settles.{AreSettling}
 use Rattle.vz_support.specs.Supporting.{Supported, IsSupport}
-use Rattle.vz_support.proofs.Staying.{stays_settled, stays_collected, stays_given, stays_fed}
+use Rattle.vz_support.proofs.Support_kept.{stays_settled, stays_collected, stays_given, stays_fed}
 use Rattle.vz_manager.specs.Serving.{Served, Serves, CanLand, IsStepOf}
 
 -- What is answered
@@ -87,8 +87,8 @@ flies_alike (Some a) (Some b) e =
 -- there is room still for the end of the drawn frame, where no more is out
 pub lands_on : (w u : World) (v new : Served) → CanLand v → AreFlown w v.settling.live.flight → AreFlown u new.settling.live.flight
     → u.in_flight ≡ w.in_flight → resources_out new.settling.live.lent ≤ resources_out v.settling.live.lent
-    → new.returned ≡ v.returned → new.fed ≡ v.fed → CanLand new
-lands_on w u v new h before after same out returned fed =
+    → new.returned ≡ v.returned → new.fed ≡ v.fed → new.landed ≡ v.landed → CanLand new
+lands_on w u v new h before after same out returned fed landed =
     let alike = flies_alike v.settling.live.flight new.settling.live.flight (sym before.drawn ∙ (sym same ∙ after.drawn)) in
     record {
       none_returned = ap (λ (r : Roomy Returned). r.list) returned ∙ h.none_returned;
@@ -96,6 +96,7 @@ lands_on w u v new h before after same out returned fed =
       returned = λ flies.
           omega (arith, out, h.returned (alike.some ∙ flies), ap (λ (r : Roomy Returned). r.spare) returned);
       fed = λ flies. omega (arith, h.fed (alike.some ∙ flies), alike.count, ap (λ (r : Roomy Fed). r.spare) fed);
+      effects = λ flies. landed ∙ h.effects (alike.some ∙ flies);
     }
 
 -- What is left
@@ -129,7 +130,7 @@ serves_after p w e a v new h is none size support stands released lands =
     }
 
 -- with what is kept for the clients, the surfaces and what waits changed, where the step itself leaves the drawn frame
-pub serves_followed : (p : Plan) (w : World) (e : Event) (a : Answer) (v : Served) (support : Supported) (settling : Settling)
+pub serves_followed : (p : Plan) (w : World) (e : Event) (a : Answer) (v : Served) (support : Supported) (settling : SurfaceManager)
     → Serves p w v → answer_to p w e ≡ a → presented_by w e ≡ [] → a.world.in_flight ≡ w.in_flight
     → IsSupport p a.world support → AreSettling (outcome_of [] a).world None settling → NoneReleased settling.live.lent
     → resources_out settling.live.lent ≤ resources_out v.settling.live.lent
@@ -137,4 +138,4 @@ pub serves_followed : (p : Plan) (w : World) (e : Event) (a : Answer) (v : Serve
 serves_followed p w e a v support settling h is none flight kept stands released out =
     let new : Served = record v { support = support; settling = settling } in
     serves_after p w e a v new h is none refl kept stands released
-    (lands_on w (outcome_of [] a).world v new h.lands h.settling.live.flown stands.live.flown (followed_flight a ∙ flight) out refl refl)
+    (lands_on w (outcome_of [] a).world v new h.lands h.settling.live.flown stands.live.flown (followed_flight a ∙ flight) out refl refl refl)

@@ -18,10 +18,10 @@ use Rattle.vz_rules.proofs.Kept_small.{small_client}
 use Rattle.vz_rules.proofs.Kept_sent.{new_whole}
 use Rattle.vz_rules.proofs.Kept_steps.{always_answer}
 use Rattle.vz_surfaces.specs.Memory.{HasNumber}
-use Rattle.vz_lending.specs.Lent.{IsLender}
-use Rattle.vz_lending.proofs.Staying.{lends}
-use Rattle.vz_live.specs.Arriving.{IsAccepting}
-use Rattle.vz_settling.specs.declared.settling.Settling.{Settling}
+use Rattle.vz_returns.specs.Lent.{IsLender}
+use Rattle.vz_returns.proofs.Lent_kept.{lends}
+use Rattle.vz_surface_manager.specs.Acceptance.{IsAccepting}
+use Rattle.vz_surface_manager.specs.declared.surface_manager.SurfaceManager.{SurfaceManager}
 use Rattle.vz_support.specs.Supporting.{Supported, IsSupport, IsNext, Sends}
 use Rattle.vz_support.proofs.Asking.{numbered_there, next_same}
 use Rattle.vz_manager.specs.Serving.{Served, Serves}
@@ -46,7 +46,7 @@ is_submitting p w c x local frame v h allowed =
     }
 
 module _ (p : Plan) (w : World) (c : ℕ) (x : Client) (local : LocalSurfaceId) (frame : CompositorFrame) (support : Supported)
-    (settling : Settling) (h : IsSubmitting p w c x local frame support settling) where
+    (settling : SurfaceManager) (h : IsSubmitting p w c x local frame support settling) where
   pub here : client_at w c ≡ Some x
   here = h.allowed.sends.here
 

@@ -13,15 +13,15 @@ use Rattle.vz_rules.specs.Messages.{accepted, new_submission, id_of}
 use Rattle.vz_rules.specs.Kept.{KeepsAlways}
 use Rattle.vz_refs.specs.Referring.{Referring}
 use Rattle.vz_surfaces.specs.Reading.{existing_count}
-use Rattle.vz_lending.specs.Lent.{resources_out}
-use Rattle.vz_feeding.specs.Noting.{owed_count}
-use Rattle.vz_feeding.specs.Owing.{waiting_on as owed_on}
-use Rattle.vz_waiting.specs.Awaiting.{Waits, AreWaiting, Tells, waiting_on}
-use Rattle.vz_live.specs.declared.accepting.Accepted.{Accepted}
-use Rattle.vz_live.specs.Living.{Live, AreLive}
-use Rattle.vz_live.specs.Arriving.{IsAccepting, HasRoomFor, new_one}
-use Rattle.vz_settling.specs.declared.settling.Settling.{Settling}
-use Rattle.vz_settling.specs.Settles.{AreReady}
+use Rattle.vz_returns.specs.Lent.{resources_out}
+use Rattle.vz_returns.specs.Notes.{owed_count}
+use Rattle.vz_returns.specs.Owed.{waiting_on as owed_on}
+use Rattle.vz_surface_manager.specs.Waits.{Waits, AreWaiting, Tells, waiting_on}
+use Rattle.vz_surface_manager.specs.declared.changes.Accepted.{Accepted}
+use Rattle.vz_surface_manager.specs.Live.{Live, AreLive}
+use Rattle.vz_surface_manager.specs.Acceptance.{IsAccepting, HasRoomFor, new_one}
+use Rattle.vz_surface_manager.specs.declared.surface_manager.SurfaceManager.{SurfaceManager}
+use Rattle.vz_surface_manager.specs.Settles.{AreReady}
 use Rattle.vz_support.specs.Supporting.{Supported, IsSupport, IsNext, Sends}
 use Rattle.vz_manager.specs.declared.arriving.Coming.{Coming}
 use Rattle.vz_manager.specs.Followed.{IsWithin}
@@ -37,7 +37,7 @@ pub same_message : (P : LocalSurfaceId → CompositorFrame → Type 0) (a b : Lo
 same_message P a b f g e h = subst (P b) e.1 (subst (λ l. P l f) e.0 h)
 
 module _ (p : Plan) (w : World) (c : ℕ) (x : Client) (local : LocalSurfaceId) (frame : CompositorFrame) (sink : FrameSinkId)
-    (blocks : List Block) (support : Supported) (settling : Settling) (h : IsArriving p w c x local frame sink blocks support settling)
+    (blocks : List Block) (support : Supported) (settling : SurfaceManager) (h : IsArriving p w c x local frame sink blocks support settling)
     (a : LocalSurfaceId) (f : CompositorFrame) where
   module _ (e : (a ≡ local) × (f ≡ frame)) where
     -- what was taken may be accepted
@@ -99,7 +99,7 @@ is_told p w x local frame coming t support tick lacks comes told kept now same =
 -- All of it
 
 module _ (p : Plan) (w : World) (c : ℕ) (x : Client) (local : LocalSurfaceId) (frame : CompositorFrame) (coming : Coming)
-    (support : Supported) (settling : Settling) (h : IsTakingIn p w c x local frame coming support settling) where
+    (support : Supported) (settling : SurfaceManager) (h : IsTakingIn p w c x local frame coming support settling) where
   -- there is room for what was read
   pub arrives : IsArriving p w c x local frame coming.sink coming.blocks support settling
   arrives =

@@ -8,7 +8,7 @@ use Rattle.vz_ids.specs.declared.SurfaceId.{SurfaceId}
 use Rattle.vz_ids.specs.declared.SurfaceRange.{SurfaceRange}
 use Rattle.vz_frame.specs.declared.frame.CompositorFrame.{CompositorFrame}
 use Rattle.vz_rules.specs.Plan.{Plan}
-use Rattle.vz_rules.specs.World.{World, Client, Created, FrameData, active_frames, frame_on, last_created, is_active}
+use Rattle.vz_rules.specs.World.{World, Client, Surface, FrameData, active_frames, frame_on, last_created, is_active}
 use Rattle.vz_rules.specs.Scene.{shown_frame, shown}
 use Rattle.vz_rules.specs.Reach.{has_id, referenced, naming, name_one, roots, reach, is_lost, lost_in}
 use Rattle.vz_rules.specs.Messages.{accepted, new_submission, with_surface, is_last, id_of}
@@ -17,11 +17,11 @@ use Rattle.vz_rules.specs.Kept.{Keeps, stands_in}
 use Rattle.vz_rules.proofs.Reached.{reach_is_least}
 use Rattle.vz_rules.proofs.Members.{filter_none, none_filtered}
 use Rattle.vz_refs.specs.Referring.{Referring, Temporary, starts}
-use Rattle.vz_reaching.specs.Lasting.{AreKept, if_exists, root_of}
-use Rattle.vz_reaching.proofs.Accepting_kept.{same_named, frames_accepted}
-use Rattle.vz_reaching.proofs.Rooted.{roots_same}
-use Rattle.vz_live.specs.Arriving.{new_one}
-use Rattle.vz_settling.proofs.Rounded.{none_long}
+use Rattle.vz_surface_manager.specs.Kept_surfaces.{AreKept, if_exists, root_of}
+use Rattle.vz_surface_manager.proofs.Accepted_kept.{same_named, frames_accepted}
+use Rattle.vz_surface_manager.proofs.Rooted.{roots_same}
+use Rattle.vz_surface_manager.specs.Acceptance.{new_one}
+use Rattle.vz_surface_manager.proofs.Rounded.{none_long}
 use Rattle.vz_manager.specs.declared.outcome.New.{New}
 use Rattle.vz_manager.specs.Submitted.{created_by}
 
@@ -69,7 +69,7 @@ module _ (w u : World) (r s : Referring) (h : ReachesAlike w u r s) where
   unfolding naming
   named_alike named =
       ap (λ l. record u { surfaces = l })
-      (ap (λ (f : Created → Created). map f u.surfaces) (λ i c.
+      (ap (λ (f : Surface → Surface). map f u.surfaces) (λ i c.
       cond (not c.destroyed && same_named w u c.id h.active (λ (j : FrameData) m. ap (λ l. stands_in l j.id) h.surfaces) i)
       (record c { named = true }) c)
       ∙ (ap (map (name_one w)) h.surfaces ∙ (ap (λ (x : World). x.surfaces) named ∙ sym h.surfaces)))

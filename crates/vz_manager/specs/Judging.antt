@@ -10,8 +10,8 @@ use Rattle.vz_rules.specs.Plan.{Plan}
 use Rattle.vz_rules.specs.World.{World, Client, last_created}
 use Rattle.vz_rules.specs.Messages.{first_some, when, submit_refusal}
 use Rattle.vz_rules.specs.Kept.{KeepsAlways}
-use Rattle.vz_live.specs.Living.{Live, AreLive}
-use Rattle.vz_live.specs.Asking.{NameAndSize, violates_named, has_other_size_named}
+use Rattle.vz_surface_manager.specs.Live.{Live, AreLive}
+use Rattle.vz_surface_manager.specs.Last_surface.{NameAndSize, violates_named, has_other_size_named}
 use Rattle.vz_support.specs.Supporting.{Supported, IsSupport}
 
 -- why a frame with this local id and size is refused, by the local id and the size of its client's

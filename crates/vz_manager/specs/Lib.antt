@@ -7,3 +7,4 @@ pub mod Picturing
 pub mod Judging
 pub mod Submitted
 pub mod Hitting
+pub mod Unfilled

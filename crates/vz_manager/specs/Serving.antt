@@ -1,5 +1,5 @@
 -- The parts of the machine, and when they represent a state of a plan.
-use Rattle.std.specs.Prelude.{◌≡◌, ℕ, ◌≤◌, IsTrue, IsFalse, is_some, Some, None, []}
+use Rattle.std.specs.Prelude.{◌≡◌, ℕ, ◌≤◌, Bool, true, IsTrue, IsFalse, is_some, Some, None, []}
 use Rattle.vz_geom.specs.declared.Size.{Size}
 use Rattle.vz_frame.specs.declared.message.Message.{Message}
 use Rattle.vz_frame.specs.Roomy.{Roomy}
@@ -14,20 +14,22 @@ use Rattle.vz_rules.specs.Messages.{refused}
 use Rattle.vz_rules.specs.Step.{answer_to, step_in}
 use Rattle.vz_rules.specs.Kept.{Keeps, KeepsPlan, KeepsMessages}
 use Rattle.vz_machine.specs.declared.machine.Step.{Step}
-use Rattle.vz_lending.specs.Lent.{NoneReleased, resources_out}
-use Rattle.vz_live.specs.Landing.{flying_count}
-use Rattle.vz_settling.specs.declared.settling.Settling.{Settling}
-use Rattle.vz_settling.specs.Settles.{AreSettling}
+use Rattle.vz_returns.specs.Lent.{NoneReleased, resources_out}
+use Rattle.vz_surface_manager.specs.Frame_end.{flying_count}
+use Rattle.vz_surface_manager.specs.declared.surface_manager.SurfaceManager.{SurfaceManager}
+use Rattle.vz_surface_manager.specs.Settles.{AreSettling}
 use Rattle.vz_support.specs.Supporting.{Supported, IsSupport}
 
 -- the size of the display, what is kept for the clients, the surfaces with what waits, and the
--- lists for the end of the drawn frame, with reserved room
+-- lists for the end of the drawn frame, with reserved room, and whether there is a place for its
+-- effects
 pub record Served : Type 0 where
   pub size : Size
   pub support : Supported
-  pub settling : Settling
+  pub settling : SurfaceManager
   pub returned : Roomy Returned
   pub fed : Roomy Fed
+  pub landed : Bool
 
 -- there is room for the end of the drawn frame, if there is one, so that Done takes no memory
 pub record CanLand (v : Served) : Type 0 where
@@ -35,6 +37,7 @@ pub record CanLand (v : Served) : Type 0 where
   pub none_fed : v.fed.list ≡ []
   pub returned : IsTrue (is_some v.settling.live.flight) → resources_out v.settling.live.lent ≤ v.returned.spare
   pub fed : IsTrue (is_some v.settling.live.flight) → flying_count v.settling.live.flight ≤ v.fed.spare
+  pub effects : IsTrue (is_some v.settling.live.flight) → v.landed ≡ true
 
 -- each part represents a state between steps
 pub record Serves (p : Plan) (w : World) (v : Served) : Type 0 where

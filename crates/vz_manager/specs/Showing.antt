@@ -2,7 +2,7 @@
 use Rattle.vz_ids.specs.declared.SurfaceId.{SurfaceId}
 use Rattle.vz_rules.specs.Plan.{Plan}
 use Rattle.vz_rules.specs.World.{World}
-use Rattle.vz_live.specs.Drawing.{IsSeen, IsShowing}
+use Rattle.vz_surface_manager.specs.Drawn_frame.{IsSeen, IsShowing}
 use Rattle.vz_manager.specs.Serving.{Served, Serves}
 
 -- the parts represent a state, and this root shows something

@@ -1,6 +1,6 @@
 -- A submission that a client sends: what is read of it, the room that is made for it, and what its
 -- acceptance changes.
-use Rattle.std.specs.Prelude.{◌≡◌, ℕ, ◌+◌, ◌<◌, ◌≤◌, not, IsTrue, is_some, Option, Some, None, List, length, filter, if◌then◌else◌}
+use Rattle.std.specs.Prelude.{◌≡◌, ℕ, ◌+◌, ◌<◌, ◌≤◌, Bool, not, IsTrue, is_some, Option, Some, None, List, length, filter, if◌then◌else◌}
 use Rattle.vz_base.specs.declared.limits.TheConstants.{TEMPORARY_TICKS}
 use Rattle.vz_geom.specs.declared.Size.{Size}
 use Rattle.vz_ids.specs.declared.FrameSinkId.{FrameSinkId}
@@ -17,12 +17,12 @@ use Rattle.vz_rules.specs.World.{World, Client, last_created, sub_of}
 use Rattle.vz_rules.specs.Settle.{is_met}
 use Rattle.vz_rules.specs.Messages.{accepted, new_submission, is_last, id_of, blocks_of}
 use Rattle.vz_rules.specs.Kept.{Keeps, KeepsPlan, KeepsMessages}
-use Rattle.vz_lending.specs.Lent.{NoneReleased, resources_out}
-use Rattle.vz_feeding.specs.Owing.{waiting_on}
-use Rattle.vz_live.specs.declared.accepting.Accepted.{Accepted}
-use Rattle.vz_live.specs.Arriving.{HasRoomFor, new_one}
-use Rattle.vz_settling.specs.declared.settling.Settling.{Settling}
-use Rattle.vz_settling.specs.Settles.{AreSettling, IsToSettle}
+use Rattle.vz_returns.specs.Lent.{NoneReleased, resources_out}
+use Rattle.vz_returns.specs.Owed.{waiting_on}
+use Rattle.vz_surface_manager.specs.declared.changes.Accepted.{Accepted}
+use Rattle.vz_surface_manager.specs.Acceptance.{HasRoomFor, new_one}
+use Rattle.vz_surface_manager.specs.declared.surface_manager.SurfaceManager.{SurfaceManager}
+use Rattle.vz_surface_manager.specs.Settles.{AreSettling, IsToSettle}
 use Rattle.vz_support.specs.Supporting.{Supported, IsSupport}
 use Rattle.vz_manager.specs.declared.outcome.Following.{Following}
 use Rattle.vz_manager.specs.declared.outcome.New.{New}
@@ -38,7 +38,7 @@ pub record IsAllowed (p : Plan) (w : World) (c : ℕ) (x : Client) (local : Loca
 
 -- a client submits a frame that is not refused, and all parts represent the state between steps
 pub record IsSubmitting (p : Plan) (w : World) (c : ℕ) (x : Client) (local : LocalSurfaceId) (frame : CompositorFrame)
-    (support : Supported) (settling : Settling) : Type 0 where
+    (support : Supported) (settling : SurfaceManager) : Type 0 where
   pub plan : IsPlan p
   pub keeps : Keeps w
   pub of_plan : KeepsPlan p w
@@ -67,7 +67,7 @@ pub record IsComing (w : World) (x : Client) (local : LocalSurfaceId) (frame : C
 
 -- there is room for a submission and for everything that may follow it, and for the end of the
 -- drawn frame, if there is one
-pub record HasRoomToSubmit (c : ℕ) (coming : Coming) (settling : Settling) (returned : Roomy Returned)
+pub record HasRoomToSubmit (c : ℕ) (coming : Coming) (settling : SurfaceManager) (returned : Roomy Returned)
     (following : Following) : Type 0 where
   pub live : HasRoomFor c coming.listings coming.references settling.live
   pub waiting : length coming.lacked.list < settling.waiting.spare
@@ -76,16 +76,16 @@ pub record HasRoomToSubmit (c : ℕ) (coming : Coming) (settling : Settling) (re
 
 -- whatever state the parts represented, they represent it with other surfaces and another list for
 -- the end of the drawn frame
-abbrev pub StillServe : Settling → Roomy Returned → Settling → Roomy Returned → Type 0
+abbrev pub StillServe : SurfaceManager → Roomy Returned → SurfaceManager → Roomy Returned → Type 0
 StillServe old before new after =
-    (p : Plan) (w : World) (size : Size) (support : Supported) (fed : Roomy Fed)
-    → Serves p w (record { size = size; support = support; settling = old; returned = before; fed = fed })
-    → Serves p w (record { size = size; support = support; settling = new; returned = after; fed = fed })
+    (p : Plan) (w : World) (size : Size) (support : Supported) (fed : Roomy Fed) (room : Bool)
+    → Serves p w (record { size = size; support = support; settling = old; returned = before; fed = fed; landed = room })
+    → Serves p w (record { size = size; support = support; settling = new; returned = after; fed = fed; landed = room })
 
 -- a submission is to be accepted, with its client's sink and the blocks of its listings, and there
 -- is room for it
 pub record IsArriving (p : Plan) (w : World) (c : ℕ) (x : Client) (local : LocalSurfaceId) (frame : CompositorFrame)
-    (sink : FrameSinkId) (blocks : List Block) (support : Supported) (settling : Settling) : Type 0 where
+    (sink : FrameSinkId) (blocks : List Block) (support : Supported) (settling : SurfaceManager) : Type 0 where
   pub submits : IsSubmitting p w c x local frame support settling
   pub own : sink ≡ x.sink
   pub listed : blocks ≡ blocks_of x.resources frame
@@ -93,7 +93,7 @@ pub record IsArriving (p : Plan) (w : World) (c : ℕ) (x : Client) (local : Loc
 
 -- a submission is to be accepted, this was read of it, and there is room for it
 pub record IsTakingIn (p : Plan) (w : World) (c : ℕ) (x : Client) (local : LocalSurfaceId) (frame : CompositorFrame)
-    (coming : Coming) (support : Supported) (settling : Settling) : Type 0 where
+    (coming : Coming) (support : Supported) (settling : SurfaceManager) : Type 0 where
   pub submits : IsSubmitting p w c x local frame support settling
   pub comes : IsComing w x local frame coming
   pub live : HasRoomFor c coming.listings coming.references settling.live
@@ -108,6 +108,6 @@ pub record IsAcceptedAs (w : World) (x : Client) (local : LocalSurfaceId) (frame
 -- a submission was accepted: what is kept for the clients represents the new state, and the
 -- surfaces and what waits are to settle there, with these submissions ready
 pub record HasTakenIn (p : Plan) (w : World) (x : Client) (local : LocalSurfaceId) (frame : CompositorFrame) (support : Supported)
-    (settling : Settling) (subs : List Sub) : Type 0 where
+    (settling : SurfaceManager) (subs : List Sub) : Type 0 where
   pub kept : IsSupport p (accepted w x local frame).world support
   pub settles : IsToSettle (accepted w x local frame).world (new_one w x local) settling subs

@@ -9,11 +9,11 @@ ghost use Rattle.vz_rules.specs.Plan.{Plan};
 ghost use Rattle.vz_rules.specs.World.{World, Client};
 ghost use Rattle.vz_rules.specs.Messages.{id_of};
 ghost use Rattle.vz_surfaces.specs.Memory.{HasNumber};
-ghost use Rattle.vz_lending.specs.Lent.{IsLender, NoneReleased, resources_out};
-ghost use Rattle.vz_live.specs.Living.{AreLive};
-ghost use Rattle.vz_live.specs.Arriving.{HasRoomFor, IsReadier};
-ghost use Rattle.vz_live.specs.Asking.{is_last_named};
-ghost use Rattle.vz_settling.specs.Settles.{AreSettling};
+ghost use Rattle.vz_returns.specs.Lent.{IsLender, NoneReleased, resources_out};
+ghost use Rattle.vz_surface_manager.specs.Live.{AreLive};
+ghost use Rattle.vz_surface_manager.specs.Acceptance.{HasRoomFor, IsReadier};
+ghost use Rattle.vz_surface_manager.specs.Last_surface.{is_last_named};
+ghost use Rattle.vz_surface_manager.specs.Settles.{AreSettling};
 ghost use Rattle.vz_support.specs.Supporting.{IsNext};
 ghost use Rattle.vz_manager.specs.Followed.{IsBetween};
 ghost use Rattle.vz_manager.specs.Submitted.{IsSubmitting, IsComing, created_by};
@@ -28,11 +28,10 @@ use vz_base::limits::TEMPORARY_TICKS;
 use vz_frame::{CompositorFrame, List, Room};
 use vz_geom::Size;
 use vz_ids::{FrameSinkId, LocalSurfaceId, SurfaceId};
-use vz_live::LiveSurfaces;
 use vz_pixels::PixelBlock;
 use vz_rules::Returned;
-use vz_settling::Settling;
 use vz_support::Support;
+use vz_surface_manager::{LiveSurfaces, SurfaceManager};
 
 /// What is read of a submission before the first change.
 #[derive(Drop)]
@@ -86,7 +85,7 @@ fn created(live: &LiveSurfaces, c: u32, id: SurfaceId, tick: u32) -> Option<New>
 fn read(
     alloc: Global,
     support: &Support,
-    settling: &Settling,
+    settling: &SurfaceManager,
     c: u32,
     local: &LocalSurfaceId,
     frame: &CompositorFrame,
@@ -125,7 +124,7 @@ fn read(
 pub(crate) fn read_submission(
     alloc: Global,
     support: &Support,
-    settling: &Settling,
+    settling: &SurfaceManager,
     c: u32,
 ) -> Result<Coming, Memory>
     requires some { 1 ≤ c }
@@ -164,7 +163,7 @@ fn ready_to_land(
 /// Makes room for a submission of a client among the surfaces and the waiting submissions. The
 /// only error is `Memory`, if an allocation fails. In either case nothing else changes and no
 /// room is lost. Condition: the client exists.
-fn ready_to_wait(settling: &mut Settling, c: u32, coming: &Coming) -> Result<(), Memory>
+fn ready_to_wait(settling: &mut SurfaceManager, c: u32, coming: &Coming) -> Result<(), Memory>
     requires known { IsLender c settling.old.live.lent }
     ensures live { OnOk result (HasRoomFor c coming.now.listings coming.now.references
         settling.new.live) }
@@ -183,7 +182,7 @@ fn ready_to_wait(settling: &mut Settling, c: u32, coming: &Coming) -> Result<(),
 /// either case nothing else changes. Conditions: the client exists, and the state is one between
 /// steps.
 pub(crate) fn make_room(
-    settling: &mut Settling,
+    settling: &mut SurfaceManager,
     returned: &mut Room<Returned>,
     following: &mut Following,
     c: u32,

@@ -5,7 +5,7 @@ ghost use Rattle.vz_rules.specs.World.{World};
 ghost use Rattle.vz_rules.specs.Course.{some_waits};
 ghost use Rattle.vz_rules.specs.Log.{rest_in};
 ghost use Rattle.vz_rules.specs.Kept.{Keeps, KeepsAlways};
-ghost use Rattle.vz_live.specs.Living.{AreLive};
+ghost use Rattle.vz_surface_manager.specs.Live.{AreLive};
 ghost use Rattle.vz_manager.specs.Serving.{Serves};
 
 use crate::parts::Parts;
@@ -13,8 +13,8 @@ use std::alloc::Global;
 use vz_base::Memory;
 use vz_frame::{List, Room};
 use vz_ids::Sub;
-use vz_live::LiveSurfaces;
 use vz_rules::{Rest, Returned};
+use vz_surface_manager::LiveSurfaces;
 
 /// The outstanding references, by client and rising resource id. The only error is `Memory`, if
 /// an allocation fails.

@@ -33,7 +33,7 @@ impl Parts {
         match kind_of(&self.support, c) {
             Kind::Nothing => {
                 let reply = Reply::Refused(Refusal::NoMessage);
-                Ok(nothing_follows(self.alloc, reply))
+                Ok(nothing_follows(reply))
             }
             Kind::Closed => Ok(self.refuse(c, Refusal::AlreadyClosed)),
             Kind::Upload => self.upload(c),

@@ -1,11 +1,11 @@
 //! A draw.
-ghost use Rattle.std.specs.Prelude.{◌≡◌, ◌≤◌, IfOk, OnOk, OnErr};
+ghost use Rattle.std.specs.Prelude.{◌≡◌, ◌≤◌, true, IfOk, OnOk, OnErr};
 ghost use Rattle.vz_rules.specs.declared.entry.Event.TheVariants as event;
 ghost use Rattle.vz_rules.specs.Plan.{Plan};
 ghost use Rattle.vz_rules.specs.World.{World};
 ghost use Rattle.vz_rules.specs.Step.{step_in};
-ghost use Rattle.vz_lending.specs.Lent.{resources_out};
-ghost use Rattle.vz_live.specs.Drawing.{IsShowing, Measures, Flies};
+ghost use Rattle.vz_returns.specs.Lent.{resources_out};
+ghost use Rattle.vz_surface_manager.specs.Drawn_frame.{IsShowing, Measures, Flies};
 ghost use Rattle.vz_manager.specs.Serving.{Serves, IsStepOf};
 ghost use Rattle.vz_manager.specs.Picturing.{LookLike, IsPainted};
 ghost use Rattle.vz_manager.specs.Showing.{IsToMeasure, IsToShow};
@@ -17,34 +17,36 @@ use std::alloc::Global;
 use vz_base::Memory;
 use vz_damage::Measured;
 use vz_flat::Ops;
-use vz_flight::Flight;
 use vz_frame::Room;
 use vz_geom::Size;
 use vz_ids::SurfaceId;
-use vz_live::{LiveSurfaces, Look};
 use vz_machine::Step;
 use vz_occlude::FlatPicture;
-use vz_rules::{Reply, Returned};
+use vz_rules::{EffectsRoom, Reply, Returned};
 use vz_support::laws::support_stays_at_ends;
-use vz_waiting::laws::waiting_ones_stay;
+use vz_surface_manager::laws::waiting_ones_stay;
+use vz_surface_manager::{Flight, LiveSurfaces, Look};
 
 /// What a draw needs before it shows a frame, since it cannot be undone: the drawing operations,
-/// and room in `returned` for the end of the frame. The only error is `Memory`, if an allocation
-/// fails. Condition: a draw walks from this root.
+/// and room for the end of the frame in `returned` and `landed`. The only error is `Memory`, if
+/// an allocation fails. Condition: a draw walks from this root.
 fn ready_to_show(
     alloc: Global,
     live: &LiveSurfaces,
     root: &SurfaceId,
     size: Size,
     returned: &mut Room<Returned>,
+    landed: &mut EffectsRoom,
 ) -> Result<Ops, Memory>
     requires shows { (p : Plan) × (w : World) × IsShowing p w root.now size live.now }
     ensures look { (p : Plan) (w : World) → IsShowing p w root.now size live.now
         → IfOk result (λ ops. LookLike p w ops) }
     ensures list { returned.new.list ≡ returned.old.list }
     ensures room { OnOk result (resources_out live.now.lent ≤ returned.new.spare) }
+    ensures landed { OnOk result (landed.new ≡ true) }
 {
     live.make_room(0, returned)?;
+    landed.reserve()?;
     let ops = operations(alloc, live, root, size)?;
     Ok(ops)
 }
@@ -68,7 +70,7 @@ impl Parts {
             Look::NoRoot => Reply::NoRoot,
             Look::Seen(root) => return self.draw_from(&root),
         };
-        Ok((nothing_follows(self.alloc, reply), None))
+        Ok((nothing_follows(reply), None))
     }
 
     /// Draws from a root that has something to show, with a picture if something changed. One
@@ -89,7 +91,7 @@ impl Parts {
     {
         let size = self.size;
         let Some((measured, flight)) = self.settling.live.measure(self.alloc, root, size)? else {
-            return Ok((nothing_follows(self.alloc, Reply::TooMuch), None));
+            return Ok((nothing_follows(Reply::TooMuch), None));
         };
         self.draw_found(root, measured, flight)
     }
@@ -121,13 +123,14 @@ impl Parts {
         support_stays_at_ends();
         let Some(damage) = measured.changed() else {
             self.settling.live.leave(measured);
-            return Ok((nothing_follows(self.alloc, Reply::Unchanged), None));
+            return Ok((nothing_follows(Reply::Unchanged), None));
         };
         let size = self.size;
         let live = &self.settling.live;
-        let ops = ready_to_show(self.alloc, live, root, size, &mut self.returned)?;
+        let returned = &mut self.returned;
+        let ops = ready_to_show(self.alloc, live, root, size, returned, &mut self.landed)?;
         self.settling.live.show(measured, flight, &mut self.fed)?;
-        let step = nothing_follows(self.alloc, Reply::Drawn(damage));
+        let step = nothing_follows(Reply::Drawn(damage));
         Ok((step, Some(picture_of(size, ops, damage))))
     }
 }

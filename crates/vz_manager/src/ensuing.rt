@@ -13,10 +13,9 @@ use crate::outcome::finish;
 use crate::parts::Parts;
 use crate::room::ready_to_follow;
 use vz_base::Memory;
-use vz_live::laws::surfaces_stay;
 use vz_machine::Step;
 use vz_rules::Reply;
-use vz_waiting::laws::waiting_ones_stay;
+use vz_surface_manager::laws::{surfaces_stay, waiting_ones_stay};
 
 impl Parts {
     /// A client names the root surface, which need not exist. Only the first client may; the

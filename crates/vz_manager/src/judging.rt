@@ -3,13 +3,12 @@
 ghost use Rattle.std.specs.Prelude.{◌≡◌, ◌≤◌, ◌<◌, ◌+◌, ◌++◌, ◌∷◌, [], not, filter, length, Some};
 ghost use Rattle.vz_base.specs.declared.limits.TheConstants.{GREATEST_DEADLINE, LAST_TICK, MOST_FILES};
 ghost use Rattle.vz_ids.specs.declared.LocalSurfaceId.{LocalSurfaceId as Local};
-ghost use Rattle.vz_ids.specs.Ids.{is_raised};
 ghost use Rattle.vz_frame.specs.declared.frame.CompositorFrame.{CompositorFrame as Frame};
 ghost use Rattle.vz_frame.specs.declared.message.Message.TheVariants.{Submit};
 ghost use Rattle.vz_rules.specs.Plan.{Plan};
 ghost use Rattle.vz_rules.specs.World.{World, Client, client_at, next_message};
 ghost use Rattle.vz_rules.specs.Settle.{is_met};
-ghost use Rattle.vz_live.specs.Asking.{violates_named, has_other_size_named};
+ghost use Rattle.vz_surface_manager.specs.Last_surface.{violates_named, has_other_size_named};
 ghost use Rattle.vz_support.specs.Supporting.{IsNext, IsSupport};
 ghost use Rattle.vz_manager.specs.Judging.{shape_refusal, refusal_in, deadline_of, AreAsked};
 
@@ -17,9 +16,9 @@ use vz_base::limits::DEFAULT_DEADLINE;
 use vz_frame::{CompositorFrame, Message, Room, check};
 use vz_geom::Size;
 use vz_ids::{LocalSurfaceId, SurfaceId};
-use vz_live::LiveSurfaces;
 use vz_rules::Refusal;
 use vz_support::Support;
+use vz_surface_manager::LiveSurfaces;
 
 /// The submission that a client sends next: the local id of its surface, and its frame.
 /// Conditions: the client exists, and its next message is a submission.
@@ -39,16 +38,7 @@ pub(crate) fn submission(support: &Support, c: u32) -> (&LocalSurfaceId, &Compos
     let Message::Submit { local, frame } = message else {
         unreachable!()
     };
-    (local, frame)
-}
-
-/// Whether neither number of the new id is smaller, and at least one is greater.
-fn is_raised(old: &LocalSurfaceId, new: &LocalSurfaceId) -> bool
-    ensures { result ≡ is_raised old.now new.now }
-{
-    old.parent <= new.parent
-        && old.child <= new.child
-        && (old.parent < new.parent || old.child < new.child)
+    (local, frame.as_frame())
 }
 
 /// Whether a local id is neither the last one of the client nor allowed after it.
@@ -57,7 +47,7 @@ fn violates(last: Option<(LocalSurfaceId, Size)>, local: &LocalSurfaceId) -> boo
 {
     match last {
         None => false,
-        Some((last, _)) => last != *local && !is_raised(&last, local),
+        Some((last, _)) => last != *local && !local.is_raised(&last),
     }
 }
 

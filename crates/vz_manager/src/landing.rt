@@ -1,5 +1,5 @@
 //! The end of the drawn frame.
-ghost use Rattle.std.specs.Prelude.{◌≡◌, []};
+ghost use Rattle.std.specs.Prelude.{◌≡◌, true, []};
 ghost use Rattle.vz_rules.specs.declared.entry.Event.TheVariants as event;
 ghost use Rattle.vz_rules.specs.declared.entry.Reply.TheVariants as reply;
 ghost use Rattle.vz_rules.specs.Plan.{Plan};
@@ -13,13 +13,14 @@ use std::alloc::Global;
 use std::mem;
 use vz_frame::{List, Room};
 use vz_machine::Step;
-use vz_rules::{Effects, Fed, Reply, Returned};
+use vz_rules::{Effects, EffectsRoom, Fed, Reply, Returned};
 use vz_support::laws::support_stays_at_ends;
-use vz_waiting::laws::waiting_ones_stay;
+use vz_surface_manager::laws::waiting_ones_stay;
 
 /// The step in which the drawn frame was shown, with the returned resources and the feedback. It
 /// allocates nothing.
-fn shown(alloc: Global, returned: Room<Returned>, fed: Room<Fed>) -> Step
+fn shown(alloc: Global, returned: Room<Returned>, fed: Room<Fed>, room: &mut EffectsRoom) -> Step
+    requires { room.old ≡ true }
     ensures reply { result.reply ≡ reply.Shown }
     ensures effects { result.effects ≡ record {
       activated = [];
@@ -28,14 +29,15 @@ fn shown(alloc: Global, returned: Room<Returned>, fed: Room<Fed>) -> Step
       fed = fed.list;
     } }
 {
+    let effects = Effects {
+        activated: List::new(alloc),
+        destroyed: List::new(alloc),
+        returned: returned.into_list(),
+        fed: fed.into_list(),
+    };
     Step {
         reply: Reply::Shown,
-        effects: Effects {
-            activated: List::new(alloc),
-            destroyed: List::new(alloc),
-            returned: returned.into_list(),
-            fed: fed.into_list(),
-        },
+        effects: room.fill(effects),
     }
 }
 
@@ -53,11 +55,11 @@ impl Parts {
         waiting_ones_stay();
         support_stays_at_ends();
         if !self.settling.live.is_flying() {
-            return nothing_follows(self.alloc, Reply::Nothing);
+            return nothing_follows(Reply::Nothing);
         }
         let mut returned = mem::replace(&mut self.returned, Room::new(self.alloc));
         let mut fed = mem::replace(&mut self.fed, Room::new(self.alloc));
         self.settling.live.land(&mut returned, &mut fed);
-        shown(self.alloc, returned, fed)
+        shown(self.alloc, returned, fed, &mut self.landed)
     }
 }

@@ -1,5 +1,5 @@
 //! The incremental machine, as an implementation of the trait `Machine`.
-ghost use Rattle.std.specs.Prelude.{◌≡◌, ◌↔◌, false, None, IfOk};
+ghost use Rattle.std.specs.Prelude.{◌≡◌, ◌↔◌, false, None, IfOk, IfErr};
 ghost use Rattle.vz_geom.specs.declared.Point.{Point as DisplayPoint};
 ghost use Rattle.vz_geom.specs.Rectangle.{has, sized};
 ghost use Rattle.vz_rules.specs.World.{opening};
@@ -48,19 +48,21 @@ impl Model for Manager {
 }
 
 impl Manager {
-    /// Creates the machine in the opening world of a plan. The only error is `Memory`, if an
-    /// allocation fails; the plan is dropped then.
-    pub fn open(alloc: Global, plan: Plan) -> Result<Manager, Memory>
-        ensures { IfOk result (λ m. m ≡ record { plan = plan; world = opening plan }) }
+    /// Creates the machine in the opening world of a plan. If an allocation fails, the error
+    /// gives the plan back.
+    pub fn open(alloc: Global, plan: Plan) -> Result<Manager, Plan>
+        ensures ok { IfOk result (λ m. m ≡ record { plan = plan; world = opening plan }) }
+        ensures back { IfErr result (λ p. p ≡ plan) }
     {
         let shown = Snapshot::of(&plan);
-        let opened = Parts::open(alloc, plan)?;
-        let parts = Box::new(alloc, opened)?;
-        Ok(Manager {
-            parts,
-            plan: shown,
-            told: GhostList::new(),
-        })
+        match Parts::open(alloc, plan) {
+            Ok(parts) => Ok(Manager {
+                parts,
+                plan: shown,
+                told: GhostList::new(),
+            }),
+            Err(plan) => Err(plan),
+        }
     }
 
     /// The regions of the display in which surfaces are hit, from front to back, in the scene that

@@ -1,29 +1,27 @@
 //! The effects of a step: submissions become active, surfaces that are not reached are destroyed,
 //! resources are returned, and feedback is given.
-ghost use Rattle.std.specs.Prelude.{◌≡◌, ◌==◌, ◌≤◌, ◌+◌, ◌++◌, ◌||◌, not, length, None, []};
+ghost use Rattle.std.specs.Prelude.{◌≡◌, ◌==◌, ◌≤◌, ◌+◌, ◌++◌, ◌||◌, not, length, true, None, []};
 ghost use Rattle.vz_rules.specs.World.{World};
 ghost use Rattle.vz_rules.specs.declared.entry.Reply.{Reply as Answered};
 ghost use Rattle.vz_rules.specs.Messages.{says};
 ghost use Rattle.vz_rules.specs.Step.{outcome_of};
 ghost use Rattle.vz_rules.specs.Reach.{clearing, destroyed_in};
 ghost use Rattle.vz_surfaces.specs.Reading.{existing_count};
-ghost use Rattle.vz_lending.specs.Lent.{NoneReleased, resources_out};
-ghost use Rattle.vz_feeding.specs.Noting.{owed_count};
-ghost use Rattle.vz_settling.specs.Settles.{AreSettling};
-ghost use Rattle.vz_settling.specs.Collects.{HaveRoom};
+ghost use Rattle.vz_returns.specs.Lent.{NoneReleased, resources_out};
+ghost use Rattle.vz_returns.specs.Notes.{owed_count};
+ghost use Rattle.vz_surface_manager.specs.Settles.{AreSettling};
+ghost use Rattle.vz_surface_manager.specs.Collects.{HaveRoom};
 ghost use Rattle.vz_manager.specs.Followed.{IsFollowed, IsKeeping, IsAsked, CanKeep, CanFollow, Tells};
 
 use std::alloc::Global;
 use std::mem;
 use vz_frame::{List, Room};
 use vz_ids::{Sub, SurfaceId};
-use vz_live::laws::surfaces_stay;
 use vz_machine::Step;
 use vz_rules::kept_laws::changes_keep;
-use vz_rules::{Effects, Fed, Lost, Reply, Returned};
-use vz_settling::laws::named_ones_are_collected;
-use vz_settling::{Lists, Settling};
-use vz_waiting::laws::waiting_ones_stay;
+use vz_rules::{BoxedEffects, Effects, EffectsRoom, Fed, Lost, Reply, Returned};
+use vz_surface_manager::laws::{named_ones_are_collected, surfaces_stay, waiting_ones_stay};
+use vz_surface_manager::{Lists, SurfaceManager};
 
 /// The lists for the effects of a step, and the work lists. Their room is reserved before the
 /// step.
@@ -35,6 +33,7 @@ pub(crate) struct Following {
     pub(crate) fed: Room<Fed>,
     pub(crate) ids: Room<SurfaceId>,
     pub(crate) lists: Lists,
+    pub(crate) effects: EffectsRoom,
 }
 
 /// A surface that the step created, and the last tick at which it is kept as temporary.
@@ -45,7 +44,7 @@ pub(crate) struct New {
 }
 
 /// Makes a new surface temporary, if there is one.
-fn keep(settling: &mut Settling, new: Option<New>)
+fn keep(settling: &mut SurfaceManager, new: Option<New>)
     requires room { CanKeep new settling.old }
     ensures kept { (w : World) → IsKeeping w new settling.old
         → AreSettling w None settling.new }
@@ -73,7 +72,7 @@ fn may_lose(anew: bool, ready: &[Sub]) -> bool
 /// Conditions: each surface that an active frame names is noted as named, there is room for the
 /// report, and it is asked for whenever a surface is lost.
 fn collect(
-    settling: &mut Settling,
+    settling: &mut SurfaceManager,
     root: Option<SurfaceId>,
     asked: bool,
     lists: &mut Lists,
@@ -100,7 +99,7 @@ fn collect(
 /// are ready. It allocates nothing. Conditions: the root is that of the state, there is room for
 /// all, and nothing is lost if the change marked, named and showed nothing new.
 pub(crate) fn follow(
-    settling: &mut Settling,
+    settling: &mut SurfaceManager,
     root: Option<SurfaceId>,
     new: Option<New>,
     anew: bool,
@@ -116,6 +115,7 @@ pub(crate) fn follow(
         → Tells (outcome_of [] (says r w)).effects following.new }
     ensures released { NoneReleased settling.new.live.lent }
     ensures out { resources_out settling.new.live.lent ≤ resources_out settling.old.live.lent }
+    ensures place { following.new.effects ≡ following.old.effects }
 {
     surfaces_stay();
     waiting_ones_stay();
@@ -141,7 +141,7 @@ pub(crate) fn follow(
 pub(crate) fn finish(
     alloc: Global,
     reply: Reply,
-    settling: &mut Settling,
+    settling: &mut SurfaceManager,
     root: Option<SurfaceId>,
     new: Option<New>,
     anew: bool,
@@ -186,19 +186,22 @@ impl Following {
             fed: Room::new(alloc),
             ids: Room::new(alloc),
             lists: Lists::new(alloc),
+            effects: EffectsRoom::new(alloc),
         }
     }
 
     /// Takes the effects out. A list that was used is replaced by a new one, and an empty one
-    /// keeps its room.
-    pub(crate) fn take_effects(&mut self, alloc: Global) -> Effects
+    /// keeps its room. Condition: there is room for the effects.
+    pub(crate) fn take_effects(&mut self, alloc: Global) -> BoxedEffects
+        requires { self.old.effects ≡ true }
         ensures { Tells result self.old }
     {
-        Effects {
+        let effects = Effects {
             activated: take(alloc, &mut self.activated),
             destroyed: take(alloc, &mut self.destroyed),
             returned: take(alloc, &mut self.returned),
             fed: take(alloc, &mut self.fed),
-        }
+        };
+        self.effects.fill(effects)
     }
 }

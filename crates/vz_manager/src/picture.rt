@@ -3,7 +3,7 @@ ghost use Rattle.std.specs.Prelude.{◌≡◌, Some, IfOk};
 ghost use Rattle.vz_rules.specs.declared.entry.Reply.TheVariants as reply;
 ghost use Rattle.vz_rules.specs.Plan.{Plan};
 ghost use Rattle.vz_rules.specs.World.{World};
-ghost use Rattle.vz_live.specs.Drawing.{IsShowing};
+ghost use Rattle.vz_surface_manager.specs.Drawn_frame.{IsShowing};
 ghost use Rattle.vz_manager.specs.Picturing.{LookLike, IsAnswered, IsPainted};
 
 use std::alloc::Global;
@@ -11,8 +11,8 @@ use vz_base::Memory;
 use vz_flat::{Ops, flatten};
 use vz_geom::{Rect, Size};
 use vz_ids::SurfaceId;
-use vz_live::LiveSurfaces;
 use vz_occlude::FlatPicture;
+use vz_surface_manager::LiveSurfaces;
 
 /// The drawing operations that give, at each point of a display, what can be seen from the root.
 /// They are made before the frame is drawn, as a draw cannot be undone. The only error is

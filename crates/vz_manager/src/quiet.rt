@@ -14,28 +14,21 @@ ghost use Rattle.vz_support.specs.Supporting.{IsNext, IsSupport};
 ghost use Rattle.vz_manager.specs.Serving.{Serves, IsStepOf, IsSending, IsRefused};
 
 use crate::parts::Parts;
-use std::alloc::Global;
 use vz_base::Memory;
-use vz_frame::{List, Message, Room};
-use vz_live::laws::surfaces_stay;
+use vz_frame::{Message, Room};
 use vz_machine::Step;
-use vz_rules::{Effects, Refusal, Reply};
+use vz_rules::{BoxedEffects, Refusal, Reply};
 use vz_support::Support;
-use vz_waiting::laws::waiting_ones_stay;
+use vz_surface_manager::laws::{surfaces_stay, waiting_ones_stay};
 
 /// A step with this reply and no effects.
-pub(crate) fn nothing_follows(alloc: Global, reply: Reply) -> Step
+pub(crate) fn nothing_follows(reply: Reply) -> Step
     ensures reply { result.reply ≡ reply }
     ensures effects { result.effects ≡ no_effects }
 {
     Step {
         reply,
-        effects: Effects {
-            activated: List::new(alloc),
-            destroyed: List::new(alloc),
-            returned: List::new(alloc),
-            fed: List::new(alloc),
-        },
+        effects: BoxedEffects::none(),
     }
 }
 
@@ -74,7 +67,7 @@ impl Parts {
         surfaces_stay();
         waiting_ones_stay();
         self.support.refuse(c);
-        nothing_follows(self.alloc, Reply::Refused(refusal))
+        nothing_follows(Reply::Refused(refusal))
     }
 
     /// A client answers a begin-frame without a frame (`DidNotProduceFrame`). Conditions: the
@@ -92,7 +85,7 @@ impl Parts {
         surfaces_stay();
         waiting_ones_stay();
         self.support.did_not_produce(c);
-        nothing_follows(self.alloc, Reply::Noted)
+        nothing_follows(Reply::Noted)
     }
 
     /// A client registers a relation between sinks, or is refused. It returns `Memory` if an
@@ -114,7 +107,7 @@ impl Parts {
         surfaces_stay();
         waiting_ones_stay();
         let reply = self.support.hierarchy(self.alloc, c)?;
-        Ok(nothing_follows(self.alloc, reply))
+        Ok(nothing_follows(reply))
     }
 
     /// A client takes its pending begin-frame. If none is pending, the reply is Over if the Over
@@ -132,7 +125,7 @@ impl Parts {
         surfaces_stay();
         waiting_ones_stay();
         let reply = self.support.await_begin(c);
-        nothing_follows(self.alloc, reply)
+        nothing_follows(reply)
     }
 
     /// Stores a client's uploaded block, unless its resource is in use. It returns `Memory` if an
@@ -159,7 +152,7 @@ impl Parts {
             return Ok(self.refuse(c, Refusal::InUse));
         }
         self.support.upload(c)?;
-        Ok(nothing_follows(self.alloc, Reply::Stored))
+        Ok(nothing_follows(Reply::Stored))
     }
 
     /// A client reclaims its returned resources. It returns `Memory` if an allocation fails; then
@@ -183,7 +176,7 @@ impl Parts {
         queue.reserve(self.settling.live.queued(c))?;
         self.settling.live.reclaim(c, &mut queue);
         self.support.reclaim(c);
-        Ok(nothing_follows(self.alloc, Reply::Reclaimed(queue.into_list())))
+        Ok(nothing_follows(Reply::Reclaimed(queue.into_list())))
     }
 
     /// Sets the Over mark: no client will wait for a begin-frame any more.
@@ -196,6 +189,6 @@ impl Parts {
         surfaces_stay();
         waiting_ones_stay();
         self.support.over();
-        nothing_follows(self.alloc, Reply::Ended)
+        nothing_follows(Reply::Ended)
     }
 }

@@ -5,10 +5,10 @@ ghost use Rattle.vz_manager.specs.Followed.{IsBetween, HasRoomAfter};
 
 use crate::outcome::Following;
 use vz_base::Memory;
-use vz_feeding::laws::owed_are_known;
 use vz_frame::Room;
-use vz_settling::Settling;
-use vz_waiting::laws::waiting_ones_lack;
+use vz_returns::laws::owed_are_known;
+use vz_surface_manager::SurfaceManager;
+use vz_surface_manager::laws::waiting_ones_lack;
 
 /// Empties a list and makes room for `n` items. The only error is `Memory`, if an allocation
 /// fails.
@@ -29,7 +29,7 @@ fn one_more(n: usize) -> Result<usize, Memory>
 
 /// How many surfaces may be reached, plus one, if `risen` submissions become active and one
 /// surface is new. It is `Memory` if that does not fit a `usize`.
-fn reached(settling: &Settling, risen: usize) -> Result<usize, Memory>
+fn reached(settling: &SurfaceManager, risen: usize) -> Result<usize, Memory>
     ensures { IfOk result (λ n. n ≡ length settling.now.live.kept.sets + risen
         + length settling.now.live.kept.temporary + 2) }
 {
@@ -43,7 +43,7 @@ fn reached(settling: &Settling, risen: usize) -> Result<usize, Memory>
 /// many listings and at most one new surface. The only error is `Memory`, if an allocation fails.
 /// Condition: the state is one between steps.
 pub(crate) fn ready_to_follow(
-    settling: &Settling,
+    settling: &SurfaceManager,
     listings: usize,
     following: &mut Following,
 ) -> Result<(), Memory>
@@ -63,5 +63,6 @@ pub(crate) fn ready_to_follow(
     following.returned.clear();
     settling.live.make_room(listings, &mut following.returned)?;
     following.lists.ready(exist, reached)?;
+    following.effects.reserve()?;
     Ok(())
 }

@@ -11,12 +11,12 @@ ghost use Rattle.vz_rules.specs.Messages.{accepted};
 ghost use Rattle.vz_rules.specs.Step.{step_in};
 ghost use Rattle.vz_rules.specs.Kept.{KeepsAlways};
 ghost use Rattle.vz_surfaces.specs.Reading.{existing_count};
-ghost use Rattle.vz_lending.specs.Lent.{resources_out};
-ghost use Rattle.vz_feeding.specs.Noting.{owed_count};
-ghost use Rattle.vz_waiting.specs.Awaiting.{AreWaiting, Tells, is_among};
-ghost use Rattle.vz_live.specs.Living.{AreLive};
-ghost use Rattle.vz_live.specs.Arriving.{new_one};
-ghost use Rattle.vz_settling.specs.Settles.{AreReady};
+ghost use Rattle.vz_returns.specs.Lent.{resources_out};
+ghost use Rattle.vz_returns.specs.Notes.{owed_count};
+ghost use Rattle.vz_surface_manager.specs.Waits.{AreWaiting, Tells, is_among};
+ghost use Rattle.vz_surface_manager.specs.Live.{AreLive};
+ghost use Rattle.vz_surface_manager.specs.Acceptance.{new_one};
+ghost use Rattle.vz_surface_manager.specs.Settles.{AreReady};
 ghost use Rattle.vz_support.specs.Supporting.{IsSupport, IsNext};
 ghost use Rattle.vz_manager.specs.Serving.{Serves, IsStepOf, IsSending};
 ghost use Rattle.vz_manager.specs.Followed.{IsWithin};
@@ -31,21 +31,19 @@ use crate::parts::Parts;
 use vz_base::Memory;
 use vz_frame::{List, Room};
 use vz_ids::{FrameSinkId, Sub, SurfaceId};
-use vz_live::Accepted;
 use vz_machine::Step;
 use vz_pixels::PixelBlock;
 use vz_rules::{Refusal, Reply};
-use vz_settling::Settling;
 use vz_support::Support;
-use vz_waiting::laws::arrivals_are_new;
-use vz_waiting::{Arrival, Waiting};
+use vz_surface_manager::laws::arrivals_are_new;
+use vz_surface_manager::{Accepted, Arrival, SurfaceManager, Waiting};
 
 /// Takes and accepts the submission of a client. If an allocation fails, it is the client's next
 /// message again and the surfaces do not change. Conditions: the client exists, its next message
 /// is a submission that is not refused, and there is room for it.
 fn put_in(
     support: &mut Support,
-    settling: &mut Settling,
+    settling: &mut SurfaceManager,
     c: u32,
     sink: FrameSinkId,
     blocks: List<PixelBlock>,
@@ -81,7 +79,7 @@ fn put_in(
     ensures err { OnErr result (settling.new ≡ settling.old) }
 {
     let (local, frame) = support.take_submission(c);
-    let ack = frame.metadata.ack;
+    let ack = frame.as_frame().metadata.ack;
     match settling.live.accept(c, sink, local, frame, blocks) {
         Ok(accepted) => {
             support.accept(c, ack);
@@ -130,7 +128,7 @@ fn wait(
 /// is not refused and that was read as `coming`, and there is room for it.
 fn take_in(
     support: &mut Support,
-    settling: &mut Settling,
+    settling: &mut SurfaceManager,
     c: u32,
     coming: Coming,
     activated: &mut Room<Sub>,

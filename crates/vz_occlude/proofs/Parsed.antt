@@ -10,7 +10,7 @@ use Rattle.vz_flat.specs.declared.op.Op.TheVariants.{Fill, Blit, Push, Pop}
 use Rattle.vz_flat.specs.declared.op.TheConstants.{MOST_OPEN}
 use Rattle.vz_flat.specs.Ops.{is_nested, is_inside, is_whole}
 use Rattle.vz_occlude.specs.Items.{Items, Done, Filled, Blitted, Grouped, ops_of, put_first, put_group, levels, innermost, items_of}
-use Rattle.vz_occlude.specs.Standing.{ops_behind}
+use Rattle.vz_occlude.specs.Walk_so_far.{ops_behind}
 
 -- Operations of items are read as these items
 

@@ -21,7 +21,7 @@ use Rattle.vz_occlude.specs.Items.{Items, Done, Filled, Blitted, Grouped, ops_of
 use Rattle.vz_occlude.specs.Occluders.{occluders_of, listed_if}
 use Rattle.vz_occlude.specs.Occlusion.{is_occluded, kept_items, gone_items, kept, gone}
 use Rattle.vz_occlude.specs.Roles.{role_of, occludes}
-use Rattle.vz_occlude.specs.Standing.{ops_behind, occluders_behind, gone_behind, level_of, levels_behind, IsAt, IsKeptAt, Precedes, HasTaken}
+use Rattle.vz_occlude.specs.Walk_so_far.{ops_behind, occluders_behind, gone_behind, level_of, levels_behind, IsAt, IsKeptAt, Precedes, HasTaken}
 use Rattle.vz_occlude.proofs.Parsed.{AreLevels, levels_are}
 use Rattle.vz_occlude.proofs.Walked.{IsBefore, fill_before, blit_before, start_inside, occluded_is, at_occluded, at_kept, at_end, remembered, goes_up, outer_occluders, at_occluded_group, at_kept_group}
 

@@ -4,5 +4,5 @@ pub mod Occlusion
 pub mod Worked
 pub mod Rows
 pub mod Roles
-pub mod Standing
+pub mod Walk_so_far
 pub mod Pictures

@@ -8,7 +8,7 @@ ghost use Rattle.vz_occlude.specs.Items.{Done, levels};
 ghost use Rattle.vz_occlude.specs.Roles.{role_of};
 ghost use Rattle.vz_occlude.specs.declared.role.Role.TheVariants.{Single, Begins, Ends};
 ghost use Rattle.vz_occlude.specs.Occlusion.{kept as kept_of, gone as gone_of};
-ghost use Rattle.vz_occlude.specs.Standing.{IsAt, IsKeptAt, Precedes, HasTaken};
+ghost use Rattle.vz_occlude.specs.Walk_so_far.{IsAt, IsKeptAt, Precedes, HasTaken};
 
 use crate::occluder::{is_occluded, put_occluder};
 use crate::role::{Role, role_of};

@@ -17,7 +17,7 @@ use vz_buffers::{Buffer, Steps};
 use vz_flat::Ops;
 use vz_geom::{Rect, Size};
 use vz_machine::{Picture, ThinPicture};
-use vz_paint::paint;
+use vz_paint::{paint, paint_alone};
 
 /// A picture of a display as operations on opaque black, with the rectangle that changed since the
 /// picture before, in display pixels.
@@ -178,6 +178,17 @@ impl ThinPicture for Thin {
         steps: &mut Steps<L>,
     ) -> Result<(), Memory> {
         paint(rt, alloc, &self.ops, buffer, area, steps)?;
+        Ok(())
+    }
+
+    fn paint_alone<L: Ledger>(
+        &self,
+        alloc: Global,
+        area: Rect,
+        buffer: &mut Buffer,
+        steps: &mut Steps<L>,
+    ) -> Result<(), Memory> {
+        paint_alone(alloc, &self.ops, buffer, area, steps)?;
         Ok(())
     }
 }

@@ -50,7 +50,7 @@ pub(crate) fn occludes(op: &Op) -> bool
             opacity,
             blend,
             ..
-        } => is_replacing(*blend) || is_straight(*blend, *opacity) && color.a() == 255,
+        } => is_replacing(*blend) || may_occlude(*blend, *opacity) && color.a() == 255,
         Op::Blit {
             area,
             block,
@@ -60,7 +60,7 @@ pub(crate) fn occludes(op: &Op) -> bool
             blend,
         } => {
             is_replacing(*blend)
-                || is_straight(*blend, *opacity) && is_opaque_blit(area, block, tx, ty)
+                || may_occlude(*blend, *opacity) && is_opaque_blit(area, block, tx, ty)
         }
         Op::Push { .. } => false,
         Op::Pop => false,
@@ -68,7 +68,7 @@ pub(crate) fn occludes(op: &Op) -> bool
 }
 
 /// Whether opaque colours are occluders in this mode and at this opacity.
-fn is_straight(mode: Blend, opacity: u8) -> bool
+fn may_occlude(mode: Blend, opacity: u8) -> bool
     ensures { result ≡ is_occluder mode opacity true }
 {
     match mode {

@@ -6,7 +6,7 @@ use Rattle.vz_outside.proofs.Calls.{kept_of_untouched}
 use Rattle.vz_outside.proofs.Held.{ChangesOne, change_emptied, open_slot, other_bytes, place_cases, slot_low}
 use Rattle.vz_outside.proofs.Places.{bytes_found, emptied_new, emptied_there, place_emptied, place_low, place_named, place_new}
 use Rattle.vz_outside.proofs.Slots.{get-append}
-use Rattle.vz_outside.proofs.Standing.{call_kept, ok_behaves, pushed_opened, pushed_slots, stopped_behaves, stopped_untouched}
+use Rattle.vz_outside.proofs.Shelf_rules.{call_kept, ok_behaves, pushed_opened, pushed_slots, stopped_behaves, stopped_untouched}
 use Rattle.vz_outside.specs.InMemory.{File, InMemory, IsKept, Creates, Stops, bytes_in, emptied, file_at, first_named, shelved_of, slot_name, slot_rest, unread, with_slot, writing_to}
 use Rattle.vz_outside.specs.Shelved.{Shelved, Name, Writing, Holds, IsOpened, KeepsOthers, IsUntouched, Behaves}
 use Rattle.vz_outside.specs.declared.shelf.ShelfError.{ShelfError}

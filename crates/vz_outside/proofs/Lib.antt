@@ -1,5 +1,6 @@
 pub mod Rises
 pub mod Calls
+pub mod Behaving
 mod Writes
 mod Prints
 mod Fills
@@ -8,7 +9,7 @@ pub mod Slots
 mod Pieces
 pub mod Held
 pub mod Counting
-mod Standing
+mod Shelf_rules
 mod OpenRules
 mod CreateRules
 mod ReadRules

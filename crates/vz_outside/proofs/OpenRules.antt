@@ -6,7 +6,7 @@ use Rattle.vz_outside.proofs.Counting.{faultless_passes}
 use Rattle.vz_outside.proofs.Held.{open_slot}
 use Rattle.vz_outside.proofs.Places.{bytes_found, bytes_missing, place_named}
 use Rattle.vz_outside.proofs.Slots.{get-append, get_end}
-use Rattle.vz_outside.proofs.Standing.{call_kept, failed_behaves, memory_behaves, ok_behaves, pushed_opened, pushed_slots, still_bytes, still_untouched}
+use Rattle.vz_outside.proofs.Shelf_rules.{call_kept, failed_behaves, memory_behaves, ok_behaves, pushed_opened, pushed_slots, still_bytes, still_untouched}
 use Rattle.vz_outside.specs.InMemory.{InMemory, IsKept, Opens, after_call, after_fault, first_named, reading_from, shelved_of, slot_rest, with_slot}
 use Rattle.vz_outside.specs.Numbered.{is_failing}
 use Rattle.vz_outside.specs.Shelved.{Shelved, Name, Reading, Holds, IsMissing, IsOpened, KeepsBytes, IsUntouched, BehavesUnless}

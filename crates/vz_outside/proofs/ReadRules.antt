@@ -5,7 +5,7 @@ use Rattle.std.proofs.lemmas.Bool.{cases_eq}
 use Rattle.std.proofs.lemmas.List.{drop_all}
 use Rattle.std.proofs.lemmas.Option.{same_Some, slice_get_within}
 use Rattle.vz_outside.proofs.Slots.{get-set_other, get-set_same}
-use Rattle.vz_outside.proofs.Standing.{KeepsSlot, same_slot, call_kept, ok_behaves, stopped_behaves, stopped_untouched}
+use Rattle.vz_outside.proofs.Shelf_rules.{KeepsSlot, same_slot, call_kept, ok_behaves, stopped_behaves, stopped_untouched}
 use Rattle.vz_outside.specs.InMemory.{InMemory, IsKept, Reads, Stops, file_at, mode_of, reading_from, shelved_of, slot_rest}
 use Rattle.vz_outside.specs.Numbered.{after_one_call}
 use Rattle.vz_outside.specs.Shelved.{Shelved, Consumes, IsAtEnd, ReadsOnly, IsUntouched, Behaves}

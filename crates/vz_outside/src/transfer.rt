@@ -7,6 +7,9 @@ ghost use Rattle.vz_outside.specs.declared.shelf.ShelfError.TheVariants.{Failed}
 use crate::{Shelf, ShelfError, Sink};
 use std::alloc::Global;
 
+/// How many bytes the buffer for a file has first. After that it is doubled.
+const FIRST: usize = 8_192;
+
 /// By how many bytes the buffer for a file grows at most in one turn.
 const STRIDE: usize = 65_536;
 
@@ -60,7 +63,7 @@ fn make_room(bytes: &mut Vec<u8>, filled: usize, limit: usize) -> Result<(), She
     if bytes.len() > filled {
         return Ok(());
     }
-    let more = STRIDE.min(limit + 1 - filled);
+    let more = filled.max(FIRST).min(STRIDE).min(limit + 1 - filled);
     bytes.resize(filled + more, 0)?;
     Ok(())
 }

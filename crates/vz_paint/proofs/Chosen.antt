@@ -8,7 +8,7 @@ use Rattle.vz_geom.specs.Rectangle.{Rectangle, has, meet, plus, minus, corner}
 use Rattle.vz_frame.specs.Blending.{laid}
 use Rattle.vz_rules.specs.Paint.{texel_of}
 use Rattle.vz_geom.proofs.Bounds.{in_is_full}
-use Rattle.vz_rules.proofs.Geometry.{has_meet_is}
+use Rattle.vz_geom.proofs.Sets.{has_meet_is}
 use Rattle.vz_pixels.specs.Colour.{Colour, transparent}
 use Rattle.vz_flat.specs.declared.op.Op.{Op}
 use Rattle.vz_flat.specs.declared.op.Op.TheVariants.{Fill, Blit, Push, Pop}

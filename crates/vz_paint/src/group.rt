@@ -29,7 +29,7 @@ impl OpenGroup {
         let below = vec![in alloc; Pixel::transparent(); width]?;
         Ok(OpenGroup {
             below,
-            area: Rect::new(0, 0, 0, 0),
+            area: Rect::empty(),
             opacity: 0,
             mode: Blend::Over,
         })

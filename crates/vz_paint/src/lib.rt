@@ -1,6 +1,7 @@
 //! The painter: it turns drawing operations into the pixels of a buffer, row by row.
 #![tactic(auto)]
 
+mod alone;
 mod brush;
 mod choice;
 mod ground;
@@ -9,4 +10,5 @@ mod painting;
 mod row;
 mod span;
 
+pub use alone::paint_alone;
 pub use painting::paint;

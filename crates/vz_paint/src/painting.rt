@@ -24,7 +24,7 @@ use vz_geom::Rect;
 const SHARE: u64 = 131_072;
 
 /// The least number of operations for which places are reserved, if there is one at all.
-const FEW_OPS: usize = 16;
+pub(crate) const FEW_OPS: usize = 16;
 
 /// How many threads paint an area of this many pixels.
 fn threads_for<R: Threads>(rt: &R, pixels: u64) -> usize

@@ -19,10 +19,10 @@ use Rattle.vz_frame.specs.declared.frame.DrawQuad.{DrawQuad}
 use Rattle.vz_frame.specs.declared.frame.RenderPass.{RenderPass}
 use Rattle.vz_frame.specs.declared.frame.Material.TheVariants.{Solid, Tile, Surface, Pass}
 use Rattle.vz_frame.specs.Frame.{frame_size, names_pass}
-use Rattle.vz_frame.specs.Blending.{blend, laid}
+use Rattle.vz_frame.specs.Blending.{blend, laid, is_straight}
 use Rattle.vz_rules.specs.World.{FrameData, frame_on}
 use Rattle.vz_rules.specs.Scene.{shown_frame}
-use Rattle.vz_rules.specs.Paint.{covers, local_point, tile_colour, material_painted, pass_painted, quads_painted, group_laid, groups, root_painted, content_at, content_laid, is_absent, is_straight, on_path, embeds, pix, full, levels}
+use Rattle.vz_rules.specs.Paint.{covers, local_point, tile_colour, material_painted, pass_painted, quads_painted, group_laid, groups, root_painted, content_at, content_laid, is_absent, on_path, embeds, pix, full, levels}
 use Rattle.vz_plain.specs.Rows.{right_of, IsPainted}
 use Rattle.vz_plain.specs.Painting.{Painter, embedded, ranges, passes_in, quad_here, pass_here, group_here, content_here, quad_covered, inside_here, shown_here}
 use Rattle.vz_plain.proofs.Parted.{repainted, unpainted, then_painted, part_painted, none_painted}

@@ -4,9 +4,8 @@ ghost use Rattle.vz_pixels.specs.Colour.{transparent};
 ghost use Rattle.vz_frame.specs.Blending.{blend, laid};
 ghost use Rattle.vz_plain.specs.Rows.{within};
 
-use crate::blending::scaled;
 use crate::span::Span;
-use vz_frame::Blend;
+use vz_frame::{Blend, scaled};
 use vz_kernel::{dst_in_fill, dst_in_row, fill_row, over_fill, over_row, src_row};
 use vz_pixels::Pixel;
 

@@ -7,7 +7,6 @@
 //! of groups are on the call stack.
 #![tactic(auto)]
 
-mod blending;
 mod hits;
 mod inks;
 mod paint;

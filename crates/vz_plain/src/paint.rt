@@ -11,7 +11,6 @@ ghost use Rattle.vz_plain.specs.Rows.{IsPainted};
 ghost use Rattle.vz_plain.specs.Painting.{embedded, ranges, passes_in, quad_here, pass_here, group_here};
 ghost use Rattle.vz_plain.specs.Painting.{quad_covered, inside_here, shown_here};
 
-use crate::blending::is_straight;
 use crate::inks::{lay_colour, lay_outside, lay_row};
 use crate::path::Path;
 use crate::point::{in_rectangle, point_of};
@@ -322,7 +321,7 @@ impl<'b, 'i, 'a> Painter<'b, 'i, 'a> {
         requires { length row.old ≤ PIECE }
         ensures { IsPainted (inside_here self.now submitted.now mode opacity) first row.old row.new }
     {
-        if is_straight(mode, opacity) {
+        if mode.is_straight(opacity) {
             pix(self.active, self.levels, self.path, submitted, first, row);
         } else {
             self.inside_content(submitted, mode, opacity, first, row);

@@ -36,22 +36,13 @@ fn found_in(r: &Rect, q: Point, by: Point) -> Option<Point>
     }
 }
 
-/// The top left point of a rectangle. The test for points shows that it is near.
-fn corner(r: &Rect) -> Point
-    ensures value { result ≡ corner r.now }
-    ensures near { IsNear result }
-{
-    let _ = r.is_empty();
-    Point { x: r.x(), y: r.y() }
-}
-
 /// A point relative to the top left point of a rectangle. Condition: it is near.
 fn from_corner(p: Point, r: &Rect) -> Point
     requires { IsNear p }
     ensures value { result ≡ minus p (corner r.now) }
     ensures close { IsClose result }
 {
-    let first = corner(r);
+    let first = r.corner();
     Point {
         x: p.x - first.x,
         y: p.y - first.y,
@@ -63,7 +54,7 @@ pub(crate) fn in_rectangle(p: Point, r: &Rect) -> Point
     requires { IsClose p }
     ensures { result ≡ plus p (corner r.now) }
 {
-    let first = corner(r);
+    let first = r.corner();
     Point {
         x: p.x + first.x,
         y: p.y + first.y,

@@ -9,7 +9,6 @@ ghost use Rattle.vz_plain.specs.declared.span.TheConstants.{PIECE};
 ghost use Rattle.vz_plain.specs.Points.{IsClose};
 ghost use Rattle.vz_plain.specs.Rows.{IsPainted, right_of};
 
-use crate::blending::laid;
 use crate::inks::{lay_colour, lay_row};
 use crate::span::PIECE;
 use vz_frame::{Blend, Listing};
@@ -89,7 +88,7 @@ fn lay_each(block: &PixelBlock, first: Point, mode: Blend, opacity: u8, row: &mu
         (get_or row.old k transparent) }
 {
     for k in 0..row.len() {
-        row[k] = laid(mode, texel_at(block, first, k), opacity, row[k]);
+        row[k] = mode.laid(texel_at(block, first, k), opacity, row[k]);
     }
 }
 

@@ -3,8 +3,8 @@ mod Counting
 pub mod Frames
 mod Playing
 mod Testing
-pub mod Behaving
 pub mod Adding
+mod Logging
 pub mod Growing
 pub mod Taking
 pub mod In_turn

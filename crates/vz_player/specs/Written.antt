@@ -1,6 +1,6 @@
 -- Files that are written, and what is left of them if writing is cut short.
-use Rattle.std.specs.Prelude.{◌≡◌, ◌≢◌, ◌⊎◌, ℕ, Some, List, [], ◌∷◌, map, take}
-use Rattle.vz_outside.specs.Shelved.{Shelved, Name, Writing, IfKnown, Holds}
+use Rattle.std.specs.Prelude.{◌≡◌, ◌≢◌, ◌⊎◌, ℕ, Some, List, [], ◌∷◌, ◌++◌, map, take}
+use Rattle.vz_outside.specs.Shelved.{Shelved, Name, Writing, IfKnown, Holds, Appends}
 
 -- a file that is written: its name, and its bytes
 pub record Output : Type 0 where
@@ -60,3 +60,9 @@ pub record IsOut (name : Name) (slot : ℕ) (held : List ℕ) (s : Shelved) : Ty
   pub writing : s.mode slot ≡ Some Writing
   pub named : IfKnown s (s.name slot ≡ name)
   pub holds : Holds held name s
+
+-- of these bytes a front part was added to a name, and the others are left
+pub record AppendsPart (all left : List ℕ) (name : Name) (old new : Shelved) : Type 0 where
+  pub part : List ℕ
+  pub all_is : all ≡ part ++ left
+  pub appended : Appends part name old new

@@ -23,7 +23,7 @@ mod to_shelf;
 
 pub use actors::{Actors, MOST_ACTORS, actor_of};
 pub use client_file::write_file;
-pub use events::{event_of, is_of_plan};
+pub use events::is_of_plan;
 pub use frame_file::{FrameFile, write_frame};
 pub use gating::{Turn, gated};
 pub use hit_tester::HitTester;

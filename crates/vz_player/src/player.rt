@@ -11,6 +11,8 @@ ghost use Rattle.vz_rules.specs.Log.{rest_of};
 ghost use Rattle.vz_display.specs.Displayed.{current, buffer_with, display_at};
 ghost use Rattle.vz_player.specs.Played.{is_plain, first_played, played_at, played_on, machine_of, display_of, frames_of, painted_by, Writes, StopsAt};
 
+mod alone;
+
 use crate::actors::{Actors, actor_of};
 use crate::show::show_some;
 use crate::take::{client_gated, draw_gated, take_gated};

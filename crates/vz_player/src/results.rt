@@ -12,7 +12,6 @@ use crate::Player;
 use crate::result_frame::push_frame;
 use std::alloc::Global;
 use std::sync::ledger::Ledger;
-use std::thread::Threads;
 use vz_base::Memory;
 use vz_base::limits::MOST_BUFFERS;
 use vz_buffers::Steps;
@@ -40,8 +39,7 @@ pub struct Results {
 /// buffers. The only error is `Memory`. Conditions: the machine is in the opening world of its
 /// plan, which has at most `MOST_FILES` files and a display of this size; each client's event
 /// names a client of the plan; and there are 1 to `MOST_BUFFERS` buffers.
-pub fn play<M: Machine + Drop, L: Ledger, R: Threads + Sync>(
-    rt: &R,
+pub fn play<M: Machine + Drop, L: Ledger>(
     alloc: Global,
     machine: M,
     size: Size,
@@ -73,7 +71,7 @@ where
     let mut frames = Vec::new(alloc);
     let mut painted = Vec::new(alloc);
     for event in events {
-        let count = turn(rt, alloc, &mut player, *event, &mut frames, steps)?;
+        let count = turn(alloc, &mut player, *event, &mut frames, steps)?;
         if let Some(count) = count {
             painted.push(count)?;
         }
@@ -91,8 +89,7 @@ where
 /// were put into a buffer, or None if nothing was drawn. Conditions: no failed allocation has
 /// stopped the player, a client's event names a client of the plan, and `frames` has the bytes of
 /// the frames so far.
-fn turn<M: Machine + Drop, L: Ledger, R: Threads + Sync>(
-    rt: &R,
+fn turn<M: Machine + Drop, L: Ledger>(
     alloc: Global,
     player: &mut Player<M>,
     event: Event,
@@ -110,7 +107,7 @@ where
         (steps.new + painted_by player.old ≡ steps.old + painted_by player.new) }
 {
     let before = steps.count();
-    let drawn = player.turn(rt, alloc, &OpenGate, event, steps)?;
+    let drawn = player.turn_alone(alloc, &OpenGate, event, steps)?;
     if !drawn {
         return Ok(None);
     }

@@ -10,8 +10,9 @@ use Rattle.vz_rules.specs.Reach.{names}
 use Rattle.vz_frame.specs.Frame.{has_repeat}
 use Rattle.vz_refs.specs.Referring.{Ranged, is_set, ranges_of, set_one, setting, removing, is_named_by, is_named_in}
 use Rattle.vz_refs.specs.Indexing.{changing, opening, one_more, but_last}
-use Rattle.vz_marking.proofs.Marking.{left_or, right_or}
-use Rattle.vz_refs.proofs.Same.{from_same, self_same, flip, apart, together}
+use Rattle.vz_rules.proofs.Marking.{left_or, right_or}
+use Rattle.vz_rules.proofs.Reached.{from_same, self_same}
+use Rattle.vz_refs.proofs.Same.{flip, apart, together}
 
 -- Surfaces that are set, and their ranges
 

@@ -14,7 +14,7 @@ use Rattle.vz_refs.specs.declared.seats.Seats.{Seats}
 use Rattle.vz_refs.specs.declared.temporaries.Named.{Named}
 use Rattle.vz_refs.specs.declared.temporaries.Numbers.{Numbers}
 use Rattle.vz_refs.specs.Lasting.{same_name, kept_in, surface_in, temporary_of, lasting_in, all_in, IsGiven, IsKept}
-use Rattle.vz_marking.proofs.Marking.{fits, left_or, right_or, from_or}
+use Rattle.vz_rules.proofs.Marking.{fits, left_or, right_or, from_or}
 use Rattle.vz_refs.proofs.Named.{from_name, self_name, name_laws, kept_of}
 
 -- a truth from two implications

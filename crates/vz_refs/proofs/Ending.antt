@@ -3,12 +3,12 @@ use Rattle.std.proofs.Common.{◌≡◌, ℕ, ◌+◌, ◌-◌, ◌≤◌, ◌<�
 use Rattle.std.proofs.lemmas.Bool.Decides.{nat_tests}
 use Rattle.vz_ids.specs.declared.SurfaceId.{SurfaceId}
 use Rattle.vz_ids.specs.declared.SurfaceRange.{SurfaceRange}
+use Rattle.vz_ids.specs.declared.GroupKey.{GroupKey}
+use Rattle.vz_ids.specs.Ids.{group_of}
 use Rattle.vz_rules.specs.Reach.{names}
-use Rattle.vz_refs.specs.declared.sets.Group.{Group}
 use Rattle.vz_refs.specs.declared.sets.Place.{Place}
 use Rattle.vz_refs.specs.declared.seats.Name.{Name}
 use Rattle.vz_refs.specs.declared.seats.Seats.{Seats}
-use Rattle.vz_refs.specs.Indexing.{key_of}
 use Rattle.vz_refs.specs.Lasting.{same_name, kept_in, surface_in, name_in, size_in, Stands, Ends, IsRid, named_by}
 use Rattle.vz_refs.proofs.Same.{from_eqb, named_group}
 use Rattle.vz_refs.proofs.Named.{self_name, kept_of, was_there}
@@ -16,17 +16,17 @@ use Rattle.vz_refs.proofs.Named.{self_name, kept_of, was_there}
 -- Places from the end on
 
 -- none that stands from there on is named
-abbrev pub IsDone : SurfaceRange → Seats → Group → ℕ → Type 0
+abbrev pub IsDone : SurfaceRange → Seats → GroupKey → ℕ → Type 0
 IsDone range s group from = (i : ℕ) (n : Name) (d : SurfaceId) → from ≤ i → name_in s (record { group = group; at = i }) ≡ Some n → surface_in s n ≡ Some d → named_by range n d ≡ false
 
-pub none_beyond : (range : SurfaceRange) (s : Seats) (group : Group) (n : ℕ) → Stands s → n ≡ size_in s group → IsDone range s group (n - 0)
+pub none_beyond : (range : SurfaceRange) (s : Seats) (group : GroupKey) (n : ℕ) → Stands s → n ≡ size_in s group → IsDone range s group (n - 0)
 none_beyond range s group n stands size i x d far sits h =
     let held = stands.held (record { group = group; at = i }) x sits in
     let low = (stands.placed x held.0 held.1).1 in
     let within : i < size_in s group = subst (λ (p : Place). p.at < size_in s p.group) held.2 low in
     absurd (omega (arith, within, far, size))
 
-pub one_more_done : (range : SurfaceRange) (a b : Seats) (group : Group) (n k : ℕ) → k < n → IsDone range a group (n - k) → Ends (named_by range) a b
+pub one_more_done : (range : SurfaceRange) (a b : Seats) (group : GroupKey) (n k : ℕ) → k < n → IsDone range a group (n - k) → Ends (named_by range) a b
     → ((x : Name) (d : SurfaceId) → name_in a (record { group = group; at = n - 1 - k }) ≡ Some x → surface_in b x ≡ Some d → named_by range x d ≡ false)
     → IsDone range b group (n - (k + 1))
 one_more_done range a b group n k low done ends looked i x d far sits h =
@@ -36,14 +36,14 @@ one_more_done range a b group n k low done ends looked i x d far sits h =
       | false ↦ λ e. done stood.0 x d (let later = stood.1 in grind (arith, nat_tests, e, later, far, low)) stood.2 (was_there (named_by range) a b ends x d h)
     ] refl
 
-pub all_done : (range : SurfaceRange) (s : Seats) (group : Group) (from : ℕ) → Stands s → group ≡ key_of range.end → from ≤ 0 → IsDone range s group from → IsRid (named_by range) s
+pub all_done : (range : SurfaceRange) (s : Seats) (group : GroupKey) (from : ℕ) → Stands s → group ≡ group_of range.end → from ≤ 0 → IsDone range s group from → IsRid (named_by range) s
 all_done range s group from stands is low done x d h =
     elim (names d range) as (λ (t : Bool). names d range ≡ t → t ≡ false) [
       | true ↦ λ e.
           let kept = kept_of (kept_in s x) d h in
           let placed = (stands.placed x kept.0 kept.1).0 in
-          let same : group ≡ key_of kept.0.id = is ∙ named_group d range e ∙ ap key_of (sym kept.2) in
-          sym e ∙ done kept.0.at x d (omega (arith, low)) (ap (λ (g : Group). name_in s (record { group = g; at = kept.0.at })) same ∙ placed) h
+          let same : group ≡ group_of kept.0.id = is ∙ named_group d range e ∙ ap group_of (sym kept.2) in
+          sym e ∙ done kept.0.at x d (omega (arith, low)) (ap (λ (g : GroupKey). name_in s (record { group = g; at = kept.0.at })) same ∙ placed) h
       | false ↦ λ e. refl
     ] refl
 

@@ -14,8 +14,8 @@ use Rattle.vz_refs.specs.declared.seats.Name.{Name}
 use Rattle.vz_refs.specs.declared.seats.Kept.{Kept}
 use Rattle.vz_refs.specs.Lasting.{all_in}
 use Rattle.vz_refs.specs.Referring.{Ranged, Temporary, is_set, ranges_of, next_in, starts}
-use Rattle.vz_marking.proofs.Marking.{from_or, left_or, right_or, next_room, Marked, first_room, marked_first, marked_next, marked_room, marked_within, marked_all}
-use Rattle.vz_refs.proofs.Same.{from_same, self_same}
+use Rattle.vz_rules.proofs.Marking.{from_or, left_or, right_or, next_room, Marked, first_room, marked_first, marked_next, marked_room, marked_within, marked_all}
+use Rattle.vz_rules.proofs.Reached.{from_same, self_same}
 use Rattle.vz_refs.proofs.Changing.{set_ids}
 
 -- all that can be reached

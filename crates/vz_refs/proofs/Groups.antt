@@ -6,7 +6,7 @@ use Rattle.std.proofs.lemmas.Map.Entries.{lookup-filter-keys}
 use Rattle.vz_ids.specs.declared.FrameSinkId.{FrameSinkId}
 use Rattle.vz_ids.specs.declared.SurfaceId.{SurfaceId}
 use Rattle.vz_ids.specs.Ids.{same_sink}
-use Rattle.vz_refs.specs.declared.sets.Group.{Group}
+use Rattle.vz_ids.specs.declared.GroupKey.{GroupKey}
 use Rattle.vz_refs.specs.declared.sets.Place.{Place}
 use Rattle.vz_refs.specs.declared.seats.Name.{Name}
 use Rattle.vz_refs.specs.declared.seats.Kept.{Kept}
@@ -22,7 +22,7 @@ by_key same from stays es k = lookup-filter-keys (same k) stays (stays k) (λ q 
 module _ (sink : FrameSinkId) (a b : Seats) (stands : Stands a)
     (keeps : (n : Name) → kept_in b n ≡ not_of sink (kept_in a n))
     (names : (p : Place) → name_in b p ≡ cond (not (same_sink p.group.sink sink)) (name_in a p) None)
-    (sizes : (g : Group) → size_in b g ≡ cond (not (same_sink g.sink sink)) (size_in a g) 0) where
+    (sizes : (g : GroupKey) → size_in b g ≡ cond (not (same_sink g.sink sink)) (size_in a g) 0) where
   -- one that stays was there, and is of another sink
   stays : (n : Name) (k : Kept) → kept_in b n ≡ Some k → (kept_in a n ≡ Some k) × (same_sink k.id.sink sink ≡ false)
   stays n k h = by_old (kept_in a n) refl (sym (keeps n) ∙ h)

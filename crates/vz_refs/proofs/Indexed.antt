@@ -8,25 +8,26 @@ use Rattle.std.proofs.lemmas.Map.Entries.{length-keys_of}
 use Rattle.std.proofs.lemmas.Bool.Decides.{nat_tests}
 use Rattle.vz_ids.specs.declared.SurfaceId.{SurfaceId}
 use Rattle.vz_ids.specs.declared.SurfaceRange.{SurfaceRange}
-use Rattle.vz_ids.specs.Ids.{same_surface}
+use Rattle.vz_ids.specs.Ids.{same_surface, group_of}
+use Rattle.vz_ids.specs.declared.GroupKey.{GroupKey}
 use Rattle.vz_rules.specs.Reach.{names}
 use Rattle.vz_frame.specs.Frame.{has_repeat}
 use Rattle.vz_refs.specs.declared.sets.Nth.{Nth}
-use Rattle.vz_refs.specs.declared.sets.Group.{Group}
 use Rattle.vz_refs.specs.declared.sets.Place.{Place}
 use Rattle.vz_refs.specs.declared.sets.Edge.{Edge}
 use Rattle.vz_refs.specs.Referring.{Ranged, is_set, ranges_of, removing, is_named_by, is_named_in}
-use Rattle.vz_refs.specs.Indexing.{opening, same_nth, key_of, place_of, or_zero, IsIndexed}
-use Rattle.vz_marking.proofs.Marking.{fits, stays_once}
+use Rattle.vz_refs.specs.Indexing.{opening, same_nth, place_of, or_zero, IsIndexed}
+use Rattle.vz_rules.proofs.Marking.{fits, stays_once}
+use Rattle.vz_rules.proofs.Reached.{from_same, self_same}
 use Rattle.vz_refs.proofs.Keeping.{removed_ranges, removed_has}
-use Rattle.vz_refs.proofs.Same.{from_same, self_same, from_nth, from_eqb, named_group}
+use Rattle.vz_refs.proofs.Same.{from_nth, from_eqb, named_group}
 use Rattle.vz_refs.proofs.Changing.{unset_ranges, some_within, behind, set_behind, ids_behind, set_ids, removed_once, found_there, named_with, Naming, naming}
 
 -- the range that stands at a place of a group names a surface
 abbrev pub named_at : (Nth → Option Edge) → (Place → Option Nth) → SurfaceId → Place → Bool
 named_at edge ends id p = option_map_or (λ n. option_map_or (λ e. names id e.range) (edge n) false) (ends p) false
 
-module _ (sets : List Ranged) (count : SurfaceId → Option ℕ) (edge : Nth → Option Edge) (ends : Place → Option Nth) (size : Group → Option ℕ) (good : IsIndexed sets count edge ends size) where
+module _ (sets : List Ranged) (count : SurfaceId → Option ℕ) (edge : Nth → Option Edge) (ends : Place → Option Nth) (size : GroupKey → Option ℕ) (good : IsIndexed sets count edge ends size) where
   -- How many a surface has
 
   pub count_some : (id : SurfaceId) (n : ℕ) → cond (is_set sets id) (Some (length (ranges_of sets id))) None ≡ Some n → n ≡ length (ranges_of sets id)
@@ -132,7 +133,7 @@ module _ (sets : List Ranged) (count : SurfaceId → Option ℕ) (edge : Nth →
       by_end None f h = absurd (cc)
       by_end (Some n) f h = by_edge n (edge n) refl h
 
-  pub names_nowhere : (id : SurfaceId) → ((k : ℕ) → k < or_zero (size (key_of id)) → names_at id (record { group = key_of id; at = k }) ≡ false) → is_named_in sets id ≡ false
+  pub names_nowhere : (id : SurfaceId) → ((k : ℕ) → k < or_zero (size (group_of id)) → names_at id (record { group = group_of id; at = k }) ≡ false) → is_named_in sets id ≡ false
   names_nowhere id none =
       elim (is_named_in sets id) as (λ (t : Bool). is_named_in sets id ≡ t → t ≡ false) [ true ↦ λ h. contrary (naming sets id good.once h) | false ↦ λ h. refl ] refl
     where
@@ -143,16 +144,16 @@ module _ (sets : List Ranged) (count : SurfaceId → Option ℕ) (edge : Nth →
           let placed = good.seated.placed (record { of = w.of; nth = w.nth }) e f in
           let named : names id e.range ≡ true = ap (names id) is ∙ w.named in
           let group = named_group id e.range named in
-          let low : e.at < or_zero (size (key_of id)) = subst (λ (h : Group). e.at < or_zero (size h)) group placed.1 in
-          let here : place_of e ≡ record { group = key_of id; at = e.at } = λ i. record { group = group i; at = e.at } in
+          let low : e.at < or_zero (size (group_of id)) = subst (λ (h : GroupKey). e.at < or_zero (size h)) group placed.1 in
+          let here : place_of e ≡ record { group = group_of id; at = e.at } = λ i. record { group = group i; at = e.at } in
           sym (ap (names_at id) (sym here) ∙ ap (λ o. option_map_or (λ (n : Nth). option_map_or (λ (e : Edge). names id e.range) (edge n) false) o false) placed.0 ∙ ap (λ o. option_map_or (λ (e : Edge). names id e.range) o false) f ∙ named) ∙ none e.at low
 
       contrary : Naming sets id → true ≡ false
       contrary w = with_edge w (edge (record { of = w.of; nth = w.nth })) refl (good.ranged (record { of = w.of; nth = w.nth }) ∙ w.there)
 
 -- nothing is set, and the indexes are empty
-pub none_set : (count : SurfaceId → Option ℕ) (edge : Nth → Option Edge) (ends : Place → Option Nth) (size : Group → Option ℕ)
-    → ((q : SurfaceId) → count q ≡ None) → ((q : Nth) → edge q ≡ None) → ((p : Place) → ends p ≡ None) → ((h : Group) → size h ≡ None) → IsIndexed [] count edge ends size
+pub none_set : (count : SurfaceId → Option ℕ) (edge : Nth → Option Edge) (ends : Place → Option Nth) (size : GroupKey → Option ℕ)
+    → ((q : SurfaceId) → count q ≡ None) → ((q : Nth) → edge q ≡ None) → ((p : Place) → ends p ≡ None) → ((h : GroupKey) → size h ≡ None) → IsIndexed [] count edge ends size
 unfolding ranges_of
 none_set count edge ends size a b c d = record {
   counted = a;
@@ -166,11 +167,11 @@ none_set count edge ends size a b c d = record {
 }
 
 -- the same indexes
-pub kept : (sets : List Ranged) (count count' : SurfaceId → Option ℕ) (edge edge' : Nth → Option Edge) (ends ends' : Place → Option Nth) (size size' : Group → Option ℕ)
+pub kept : (sets : List Ranged) (count count' : SurfaceId → Option ℕ) (edge edge' : Nth → Option Edge) (ends ends' : Place → Option Nth) (size size' : GroupKey → Option ℕ)
     → IsIndexed sets count edge ends size → count ≡ count' → edge ≡ edge' → ends ≡ ends' → size ≡ size' → IsIndexed sets count' edge' ends' size'
 kept sets count count' edge edge' ends ends' size size' good a b c d =
     subst (λ (f : SurfaceId → Option ℕ). IsIndexed sets f edge' ends' size') a (subst (λ (f : Nth → Option Edge). IsIndexed sets count f ends' size') b
-    (subst (λ (f : Place → Option Nth). IsIndexed sets count edge f size') c (subst (λ (f : Group → Option ℕ). IsIndexed sets count edge ends f) d good)))
+    (subst (λ (f : Place → Option Nth). IsIndexed sets count edge f size') c (subst (λ (f : GroupKey → Option ℕ). IsIndexed sets count edge ends f) d good)))
 
 -- No more stand in a map than it has entries
 

@@ -8,9 +8,10 @@ use Rattle.vz_rules.specs.World.{World, FrameData, active_frames, frame_on}
 use Rattle.vz_rules.specs.Scene.{shown}
 use Rattle.vz_rules.specs.Reach.{has_id, referenced, roots, reach}
 use Rattle.vz_rules.specs.Closure.{IsLeastClosed}
+use Rattle.vz_rules.proofs.Reached.{from_same}
 use Rattle.vz_refs.specs.Referring.{Ranged, Temporary, is_set, ranges_of, set_one, setting, removing, next_in, starts}
 use Rattle.vz_refs.specs.Meaning.{references_of, AreReferences, AreRoots}
-use Rattle.vz_refs.proofs.Same.{from_same, flip, apart, together}
+use Rattle.vz_refs.proofs.Same.{flip, apart, together}
 use Rattle.vz_refs.proofs.Changing.{behind, set_behind}
 
 -- Others keep their ranges

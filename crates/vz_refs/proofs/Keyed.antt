@@ -6,11 +6,11 @@ use Rattle.indexmap.specs.IndexMap.{IndexMap, get, Updates}
 use Rattle.vz_ids.specs.declared.SurfaceId.{SurfaceId}
 use Rattle.vz_ids.specs.Ids.{same_surface}
 use Rattle.vz_ids.specs.contracts.SurfaceIdPartialEq.TheImpl.{eq-value as surface_eq}
+use Rattle.vz_ids.specs.declared.GroupKey.{GroupKey}
 use Rattle.vz_refs.specs.contracts.sets.NthPartialEq.TheImpl.{eq-value as nth_eq}
-use Rattle.vz_refs.specs.contracts.sets.GroupPartialEq.TheImpl.{eq-value as group_eq}
+use Rattle.vz_ids.specs.contracts.GroupKeyPartialEq.TheImpl.{eq-value as group_eq}
 use Rattle.vz_refs.specs.contracts.sets.PlacePartialEq.TheImpl.{eq-value as place_eq}
 use Rattle.vz_refs.specs.declared.sets.Nth.{Nth}
-use Rattle.vz_refs.specs.declared.sets.Group.{Group}
 use Rattle.vz_refs.specs.declared.sets.Place.{Place}
 use Rattle.vz_refs.specs.Indexing.{same_nth, same_key, same_place}
 
@@ -29,7 +29,7 @@ nths = λ i a b. one a b i
 pub groups : group_eq.it ≡ same_key
 groups = λ i a b. one a b i
   where
-    one : (a b : Group) → group_eq.it a b ≡ same_key a b
+    one : (a b : GroupKey) → group_eq.it a b ≡ same_key a b
     one a b = search rules
 
 pub places : place_eq.it ≡ same_place

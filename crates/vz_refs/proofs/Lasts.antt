@@ -11,7 +11,7 @@ use Rattle.vz_refs.specs.declared.temporaries.Named.{Named}
 use Rattle.vz_refs.specs.declared.temporaries.Numbers.{Numbers}
 use Rattle.vz_refs.specs.Referring.{Temporary}
 use Rattle.vz_refs.specs.Lasting.{same_name, surface_in, IsEnded, Ends, IsRid, over_at, temporary_of, lasting_in, numbers_or, AreWithin, IsGiven, IsKept}
-use Rattle.vz_marking.proofs.Marking.{stays_once}
+use Rattle.vz_rules.proofs.Marking.{stays_once}
 use Rattle.vz_refs.proofs.Named.{from_name, self_name, was_there}
 
 some_inj : {A : Type 0} (a b : A) → Some a ≡ Some b → a ≡ b

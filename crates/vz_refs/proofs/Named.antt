@@ -13,7 +13,7 @@ use Rattle.std.specs.Map.{lookup}
 use Rattle.vz_refs.specs.Seated.{IsSeated}
 use Rattle.vz_refs.specs.Indexing.{or_zero, same_key, same_place}
 use Rattle.vz_refs.specs.Lasting.{same_name, seat_of, kept_in, size_in, surface_in, name_in, room_in, Stands, IsEnded, Ends}
-use Rattle.vz_marking.proofs.Marking.{same_flip}
+use Rattle.vz_rules.proofs.Marking.{same_flip}
 use Rattle.vz_refs.proofs.Same.{both, two_true, from_eqb, eqb_self}
 
 pub from_name : (a b : Name) → same_name a b ≡ true → a ≡ b

@@ -12,8 +12,9 @@ use Rattle.vz_rules.specs.Closure.{adding}
 use Rattle.indexmap.specs.IndexMap.{get}
 use Rattle.vz_refs.specs.declared.notes.Notes.{Notes}
 use Rattle.vz_refs.specs.Noted.{noted_at, noted_in, noted, IsNoted, AreNoted}
-use Rattle.vz_marking.proofs.Marking.{from_or}
-use Rattle.vz_refs.proofs.Same.{from_same, self_same, from_eqb}
+use Rattle.vz_rules.proofs.Marking.{from_or}
+use Rattle.vz_rules.proofs.Reached.{from_same, self_same}
+use Rattle.vz_refs.proofs.Same.{from_eqb}
 use Rattle.vz_refs.proofs.Changing.{get_last, found_there}
 
 -- nothing is out

@@ -3,14 +3,15 @@ use Rattle.std.proofs.Common.{◌≡◌, ℕ, Bool, true, false, ◌==◌, ◌&&
 use Rattle.std.specs.List.{list_any}
 use Rattle.std.proofs.lemmas.Bool.Decides.{nat_tests}
 use Rattle.vz_ids.specs.declared.SurfaceId.{SurfaceId}
-use Rattle.vz_ids.specs.Ids.{same_surface, same_sink, newer, is_raised}
+use Rattle.vz_ids.specs.Ids.{same_surface, same_sink, newer, is_raised, group_of}
 use Rattle.vz_rules.specs.Reach.{names}
 use Rattle.vz_ids.specs.declared.SurfaceRange.{SurfaceRange}
+use Rattle.vz_ids.specs.declared.GroupKey.{GroupKey}
 use Rattle.vz_refs.specs.declared.sets.Nth.{Nth}
-use Rattle.vz_refs.specs.declared.sets.Group.{Group}
 use Rattle.vz_refs.specs.declared.sets.Place.{Place}
-use Rattle.vz_refs.specs.Indexing.{same_nth, same_key, same_place, key_of}
-use Rattle.vz_marking.proofs.Marking.{same_flip, has_flip}
+use Rattle.vz_refs.specs.Indexing.{same_nth, same_key, same_place}
+use Rattle.vz_rules.proofs.Marking.{same_flip, has_flip}
+use Rattle.vz_rules.proofs.Reached.{from_same, self_same}
 
 pub both : (a b : Bool) → (a && b) ≡ true → (a ≡ true) × (b ≡ true)
 both true b h = (refl, h)
@@ -28,26 +29,6 @@ from_eqb a b h = grind (arith, nat_tests)
 
 pub eqb_self : (a : ℕ) → (a == a) ≡ true
 eqb_self a = grind (arith, nat_tests)
-
-same_ids : {c c' s s' p p' k k' t t' : ℕ} → c ≡ c' → s ≡ s' → p ≡ p' → k ≡ k' → t ≡ t'
-    → ◌≡◌ {A = SurfaceId} (record { sink = record { client_id = c; sink_id = s }; local = record { parent = p; child = k; token = record { 0 = t } } })
-    (record { sink = record { client_id = c'; sink_id = s' }; local = record { parent = p'; child = k'; token = record { 0 = t' } } })
-same_ids p q r s t = cc
-
--- the test for the same surface
-pub from_same : (a b : SurfaceId) → same_surface a b ≡ true → a ≡ b
-from_same a b h =
-    let parts = both ((a.sink.client_id == b.sink.client_id) && (a.sink.sink_id == b.sink.sink_id)) _ h in
-    let sinks = both (a.sink.client_id == b.sink.client_id) (a.sink.sink_id == b.sink.sink_id) parts.0 in
-    let locals = both ((a.local.parent == b.local.parent) && (a.local.child == b.local.child)) (a.local.token.0 == b.local.token.0) parts.1 in
-    let numbers = both (a.local.parent == b.local.parent) (a.local.child == b.local.child) locals.0 in
-    same_ids (from_eqb _ _ sinks.0) (from_eqb _ _ sinks.1) (from_eqb _ _ numbers.0) (from_eqb _ _ numbers.1) (from_eqb _ _ locals.1)
-
-all_true : (a b c d e : Bool) → a ≡ true → b ≡ true → c ≡ true → d ≡ true → e ≡ true → ((a && b) && ((c && d) && e)) ≡ true
-all_true a b c d e p q r s t = rw (p, q, r, s, t)
-
-pub self_same : (a : SurfaceId) → same_surface a a ≡ true
-self_same a = all_true _ _ _ _ _ (eqb_self a.sink.client_id) (eqb_self a.sink.sink_id) (eqb_self a.local.parent) (eqb_self a.local.child) (eqb_self a.local.token.0)
 
 pub flip : (a b : SurfaceId) → same_surface a b ≡ same_surface b a
 flip a b = same_flip same_surface from_same self_same a b
@@ -73,16 +54,16 @@ pub self_nth : (a : Nth) → same_nth a a ≡ true
 self_nth a = two_true _ _ (self_same a.of) (eqb_self a.nth)
 
 keys_from : {c c' s s' t t' : ℕ} → c ≡ c' → s ≡ s' → t ≡ t'
-    → ◌≡◌ {A = Group} (record { sink = record { client_id = c; sink_id = s }; token = record { 0 = t } }) (record { sink = record { client_id = c'; sink_id = s' }; token = record { 0 = t' } })
+    → ◌≡◌ {A = GroupKey} (record { sink = record { client_id = c; sink_id = s }; token = record { 0 = t } }) (record { sink = record { client_id = c'; sink_id = s' }; token = record { 0 = t' } })
 keys_from p q r = cc
 
-pub from_key : (a b : Group) → same_key a b ≡ true → a ≡ b
+pub from_key : (a b : GroupKey) → same_key a b ≡ true → a ≡ b
 from_key a b h =
     let parts = both (same_sink a.sink b.sink) (a.token.0 == b.token.0) h in
     let sinks = both (a.sink.client_id == b.sink.client_id) (a.sink.sink_id == b.sink.sink_id) parts.0 in
     keys_from (from_eqb _ _ sinks.0) (from_eqb _ _ sinks.1) (from_eqb _ _ parts.1)
 
-pub self_key : (a : Group) → same_key a a ≡ true
+pub self_key : (a : GroupKey) → same_key a a ≡ true
 self_key a = two_true _ _ (two_true _ _ (eqb_self a.sink.client_id) (eqb_self a.sink.sink_id)) (eqb_self a.token.0)
 
 pub from_place : (a b : Place) → same_place a b ≡ true → a ≡ b
@@ -94,12 +75,12 @@ pub self_place : (a : Place) → same_place a a ≡ true
 self_place a = two_true _ _ (self_key a.group) (eqb_self a.at)
 
 -- a range names surfaces of the group of its end alone
-pub named_group : (id : SurfaceId) (range : SurfaceRange) → names id range ≡ true → key_of range.end ≡ key_of id
+pub named_group : (id : SurfaceId) (range : SurfaceRange) → names id range ≡ true → group_of range.end ≡ group_of id
 named_group id range h = by_test (same_surface range.end id) refl h
   where
-    by_test : (t : Bool) → same_surface range.end id ≡ t → (t || (same_sink range.end.sink id.sink && newer range.end.local id.local)) ≡ true → key_of range.end ≡ key_of id
-    by_test true e h = ap key_of (from_same range.end id e)
+    by_test : (t : Bool) → same_surface range.end id ≡ t → (t || (same_sink range.end.sink id.sink && newer range.end.local id.local)) ≡ true → group_of range.end ≡ group_of id
+    by_test true e h = ap group_of (from_same range.end id e)
     by_test false e h =
         let parts = both (same_sink range.end.sink id.sink) (newer range.end.local id.local) h in
         let token = both (range.end.local.token.0 == id.local.token.0) (is_raised id.local range.end.local) parts.1 in
-        from_key (key_of range.end) (key_of id) (two_true _ _ parts.0 token.0)
+        from_key (group_of range.end) (group_of id) (two_true _ _ parts.0 token.0)

@@ -2,7 +2,7 @@
 use Rattle.std.proofs.Common.{◌≡◌, ℕ, ◌+◌, ◌<◌, ◌≤◌, ◌==◌, Bool, true, false, ◌&&◌, Option, Some, None, is_some, refl, ap, sym, subst, ◌∙◌, arith, cond}
 use Rattle.std.specs.Option.{option_map}
 use Rattle.std.proofs.lemmas.Bool.Decides.{nat_tests}
-use Rattle.vz_refs.specs.declared.sets.Group.{Group}
+use Rattle.vz_ids.specs.declared.GroupKey.{GroupKey}
 use Rattle.vz_refs.specs.declared.sets.Place.{Place}
 use Rattle.vz_refs.specs.Indexing.{or_zero, same_key, same_place}
 use Rattle.vz_refs.specs.Seated.{IsSeated}
@@ -40,7 +40,7 @@ sized_left true o = refl
 sized_left false o = refl
 
 -- what stands is the same where what is kept is
-pub seated_same : {K E : Type 0} (place : E → Place) (kept kept' : K → Option E) (at : Place → Option K) (size : Group → ℕ) → IsSeated place kept at size → ((q : K) → kept' q ≡ kept q) → IsSeated place kept' at size
+pub seated_same : {K E : Type 0} (place : E → Place) (kept kept' : K → Option E) (at : Place → Option K) (size : GroupKey → ℕ) → IsSeated place kept at size → ((q : K) → kept' q ≡ kept q) → IsSeated place kept' at size
 seated_same {K} {E} place kept kept' at size good is = subst (λ (f : K → Option E). IsSeated place f at size) (λ i q. sym (is q) i) good
 
 -- nothing goes where nothing was
@@ -49,20 +49,20 @@ gone_already same from kept kept' x none is q =
     is q ∙ elim (same x q) as (λ (t : Bool). same x q ≡ t → cond t None (kept q) ≡ kept q) [ true ↦ λ e. sym (ap kept (sym (from x q e)) ∙ none) | false ↦ λ e. refl ] refl
 
 module _ {K E : Type 0} (same : K → K → Bool) (from : (a b : K) → same a b ≡ true → a ≡ b) (self : (a : K) → same a a ≡ true) (place : E → Place)
-    (kept : K → Option E) (at : Place → Option K) (size : Group → ℕ) (good : IsSeated place kept at size) where
+    (kept : K → Option E) (at : Place → Option K) (size : GroupKey → ℕ) (good : IsSeated place kept at size) where
   -- One more
 
   module _ (x : K) (put : E) (new : kept x ≡ None) (big : (place put).at ≡ size (place put).group)
       (kept' : K → Option E) (keeps : (q : K) → kept' q ≡ cond (same x q) (Some put) (kept q))
       (at' : Place → Option K) (ats : (p : Place) → at' p ≡ cond (same_place (place put) p) (Some x) (at p))
-      (size' : Group → ℕ) (sizes : (g : Group) → size' g ≡ cond (same_key (place put).group g) ((place put).at + 1) (size g)) where
+      (size' : GroupKey → ℕ) (sizes : (g : GroupKey) → size' g ≡ cond (same_key (place put).group g) ((place put).at + 1) (size g)) where
     own_size : size' (place put).group ≡ (place put).at + 1
     own_size = sizes (place put).group ∙ ap (λ t. cond t ((place put).at + 1) (size (place put).group)) (self_key (place put).group)
 
-    no_less : (g : Group) → size g ≤ size' g
+    no_less : (g : GroupKey) → size g ≤ size' g
     no_less g =
         elim (same_key (place put).group g) as (λ (t : Bool). same_key (place put).group g ≡ t → size g ≤ size' g) [
-          | true ↦ λ e. subst (λ (g : Group). size g ≤ size' g) (from_key _ g e) (omega (arith, big, own_size))
+          | true ↦ λ e. subst (λ (g : GroupKey). size g ≤ size' g) (from_key _ g e) (omega (arith, big, own_size))
           | false ↦ λ e. let is = sizes g ∙ ap (λ t. cond t ((place put).at + 1) (size g)) e in omega (arith, is)
         ] refl
 
@@ -134,7 +134,7 @@ module _ {K E : Type 0} (same : K → K → Bool) (from : (a b : K) → same a b
     module _ (m : K) (last : at tail ≡ Some m) (move : E → E) (moved : (e : E) → place (move e) ≡ record { group = (place e).group; at = (place gone).at })
         (kept' : K → Option E) (keeps : (q : K) → kept' q ≡ cond (same m q) (option_map move (cond (same x q) None (kept q))) (cond (same x q) None (kept q)))
         (at' : Place → Option K) (ats : (p : Place) → at' p ≡ cond (same_place (place gone) p) (option_map (λ _. m) (cond (same_place tail p) None (at p))) (cond (same_place tail p) None (at p)))
-        (size' : Group → ℕ) (sizes : (g : Group) → size' g ≡ cond (same_key (place gone).group g) z (size g)) where
+        (size' : GroupKey → ℕ) (sizes : (g : GroupKey) → size' g ≡ cond (same_key (place gone).group g) z (size g)) where
       was_at : (at (place gone) ≡ Some x) × ((place gone).at < size (place gone).group)
       was_at = good.placed x gone was
 
@@ -267,7 +267,7 @@ module _ {K E : Type 0} (same : K → K → Bool) (from : (a b : K) → same a b
 
   -- Where the group has a name of its own
 
-  module _ (x : K) (gone : E) (was : kept x ≡ Some gone) (z : ℕ) (g : Group) (is : g ≡ (place gone).group) (big : z + 1 ≡ size g) where
+  module _ (x : K) (gone : E) (was : kept x ≡ Some gone) (z : ℕ) (g : GroupKey) (is : g ≡ (place gone).group) (big : z + 1 ≡ size g) where
     pub end_in : is_some (at (record { group = g; at = z })) ≡ true
     end_in = ap (λ g. is_some (at (record { group = g; at = z }))) is ∙ at_end x gone was z (big ∙ ap size is)
 
@@ -275,7 +275,7 @@ module _ {K E : Type 0} (same : K → K → Bool) (from : (a b : K) → same a b
         (kept1 kept' : K → Option E) (first : (q : K) → kept1 q ≡ cond (same x q) None (kept q)) (keeps : (q : K) → kept' q ≡ cond (same m q) (option_map move (kept1 q)) (kept1 q))
         (at1 at' : Place → Option K) (first_at : (p : Place) → at1 p ≡ cond (same_place (record { group = g; at = z }) p) None (at p))
         (ats : (p : Place) → at' p ≡ cond (same_place (record { group = g; at = (place gone).at }) p) (option_map (λ _. m) (at1 p)) (at1 p))
-        (size' : Group → ℕ) (sizes : (h : Group) → size' h ≡ cond (same_key g h) z (size h)) where
+        (size' : GroupKey → ℕ) (sizes : (h : GroupKey) → size' h ≡ cond (same_key g h) z (size h)) where
       keeps_in : (q : K) → kept' q ≡ cond (same m q) (option_map move (cond (same x q) None (kept q))) (cond (same x q) None (kept q))
       keeps_in q = keeps q ∙ ap (λ (o : Option E). cond (same m q) (option_map move o) o) (first q)
 
@@ -283,14 +283,14 @@ module _ {K E : Type 0} (same : K → K → Bool) (from : (a b : K) → same a b
           (cond (same_place (record { group = (place gone).group; at = z }) p) None (at p))
       ats_in p =
           ats p ∙ ap (λ (o : Option K). cond (same_place (record { group = g; at = (place gone).at }) p) (option_map (λ _. m) o) o) (first_at p)
-          ∙ ap (λ (g : Group). cond (same_place (record { group = g; at = (place gone).at }) p) (option_map (λ _. m) (cond (same_place (record { group = g; at = z }) p) None (at p)))
+          ∙ ap (λ (g : GroupKey). cond (same_place (record { group = g; at = (place gone).at }) p) (option_map (λ _. m) (cond (same_place (record { group = g; at = z }) p) None (at p)))
           (cond (same_place (record { group = g; at = z }) p) None (at p))) is
 
-      sizes_in : (h : Group) → size' h ≡ cond (same_key (place gone).group h) z (size h)
-      sizes_in h = sizes h ∙ ap (λ (g : Group). cond (same_key g h) z (size h)) is
+      sizes_in : (h : GroupKey) → size' h ≡ cond (same_key (place gone).group h) z (size h)
+      sizes_in h = sizes h ∙ ap (λ (g : GroupKey). cond (same_key g h) z (size h)) is
 
       last_in : at (record { group = (place gone).group; at = z }) ≡ Some m
-      last_in = ap (λ (g : Group). at (record { group = g; at = z })) (sym is) ∙ last
+      last_in = ap (λ (g : GroupKey). at (record { group = g; at = z })) (sym is) ∙ last
 
       pub one_fewer_in : IsSeated place kept' at' size'
       one_fewer_in = seat_fewer x gone was z (big ∙ ap size is) m last_in move moved kept' keeps_in at' ats_in size' sizes_in
@@ -298,9 +298,9 @@ module _ {K E : Type 0} (same : K → K → Bool) (from : (a b : K) → same a b
       pub stood_in : (p : Place) (q : K) → at' p ≡ Some q → (j : ℕ) × (p.at ≤ j) × (at (record p { at = j }) ≡ Some q)
       stood_in = stood x gone was z (big ∙ ap size is) m last_in move moved kept' keeps_in at' ats_in size' sizes_in
 
-  pub one_more_in : (x : K) (put : E) (g : Group) → g ≡ (place put).group → kept x ≡ None → (place put).at ≡ size g → (kept' : K → Option E) → ((q : K) → kept' q ≡ cond (same x q) (Some put) (kept q))
+  pub one_more_in : (x : K) (put : E) (g : GroupKey) → g ≡ (place put).group → kept x ≡ None → (place put).at ≡ size g → (kept' : K → Option E) → ((q : K) → kept' q ≡ cond (same x q) (Some put) (kept q))
       → (at' : Place → Option K) → ((p : Place) → at' p ≡ cond (same_place (record { group = g; at = (place put).at }) p) (Some x) (at p))
-      → (size' : Group → ℕ) → ((h : Group) → size' h ≡ cond (same_key g h) ((place put).at + 1) (size h)) → IsSeated place kept' at' size'
+      → (size' : GroupKey → ℕ) → ((h : GroupKey) → size' h ≡ cond (same_key g h) ((place put).at + 1) (size h)) → IsSeated place kept' at' size'
   one_more_in x put g is new big kept' keeps at' ats size' sizes =
-      seat_more x put new (big ∙ ap size is) kept' keeps at' (λ p. ats p ∙ ap (λ (g : Group). cond (same_place (record { group = g; at = (place put).at }) p) (Some x) (at p)) is)
-      size' (λ h. sizes h ∙ ap (λ (g : Group). cond (same_key g h) ((place put).at + 1) (size h)) is)
+      seat_more x put new (big ∙ ap size is) kept' keeps at' (λ p. ats p ∙ ap (λ (g : GroupKey). cond (same_place (record { group = g; at = (place put).at }) p) (Some x) (at p)) is)
+      size' (λ h. sizes h ∙ ap (λ (g : GroupKey). cond (same_key g h) ((place put).at + 1) (size h)) is)

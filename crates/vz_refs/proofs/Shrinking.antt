@@ -2,38 +2,39 @@
 use Rattle.std.proofs.Common.{◌≡◌, ℕ, ◌+◌, ◌-◌, ◌==◌, Bool, true, false, Option, Some, None, List, length, take, slice_get, refl, ap, sym, subst, ◌∙◌, arith, cond}
 use Rattle.std.specs.Option.{option_map}
 use Rattle.vz_ids.specs.declared.SurfaceId.{SurfaceId}
-use Rattle.vz_ids.specs.Ids.{same_surface}
+use Rattle.vz_ids.specs.Ids.{same_surface, group_of}
+use Rattle.vz_ids.specs.declared.GroupKey.{GroupKey}
 use Rattle.vz_frame.specs.Frame.{has_repeat}
+use Rattle.vz_rules.proofs.Reached.{from_same}
 use Rattle.vz_refs.specs.declared.sets.Nth.{Nth}
-use Rattle.vz_refs.specs.declared.sets.Group.{Group}
 use Rattle.vz_refs.specs.declared.sets.Place.{Place}
 use Rattle.vz_refs.specs.declared.sets.Edge.{Edge}
 use Rattle.vz_refs.specs.Referring.{Ranged, is_set, ranges_of}
-use Rattle.vz_refs.specs.Indexing.{changing, but_last, same_nth, same_key, same_place, key_of, place_of, or_zero, IsIndexed}
+use Rattle.vz_refs.specs.Indexing.{changing, but_last, same_nth, same_key, same_place, place_of, or_zero, IsIndexed}
 use Rattle.vz_refs.specs.Seated.{IsSeated}
 use Rattle.vz_refs.proofs.Seating.{seat_fewer}
-use Rattle.vz_refs.proofs.Same.{from_same, from_nth, self_nth, from_key, second_not}
+use Rattle.vz_refs.proofs.Same.{from_nth, self_nth, from_key, second_not}
 use Rattle.vz_refs.proofs.Changing.{changed_set, changed_other, changed_own, changed_ids, set_with_some, get_but_last, get_over, take_long}
 
-module _ (sets : List Ranged) (count : SurfaceId → Option ℕ) (edge : Nth → Option Edge) (ends : Place → Option Nth) (size : Group → Option ℕ) (good : IsIndexed sets count edge ends size) where
+module _ (sets : List Ranged) (count : SurfaceId → Option ℕ) (edge : Nth → Option Edge) (ends : Place → Option Nth) (size : GroupKey → Option ℕ) (good : IsIndexed sets count edge ends size) where
   -- A range fewer
 
   module _ (id : SurfaceId) (n z : ℕ) (gone : Edge) (moved : Nth) (many : n + 1 ≡ length (ranges_of sets id)) (was : edge (record { of = id; nth = n }) ≡ Some gone)
-      (big : z + 1 ≡ or_zero (size (key_of gone.range.end))) (last : ends (record { group = key_of gone.range.end; at = z }) ≡ Some moved)
+      (big : z + 1 ≡ or_zero (size (group_of gone.range.end))) (last : ends (record { group = group_of gone.range.end; at = z }) ≡ Some moved)
       (count' : SurfaceId → Option ℕ) (counts : (q : SurfaceId) → count' q ≡ cond (same_surface id q) (option_map (λ _. n) (count q)) (count q))
       (edge' : Nth → Option Edge)
       (edges : (q : Nth) → edge' q ≡ cond (same_nth moved q) (option_map (λ e. record { range = e.range; at = gone.at }) (cond (same_nth (record { of = id; nth = n }) q) None (edge q))) (cond (same_nth (record { of = id; nth = n }) q) None (edge q)))
       (ends' : Place → Option Nth)
-      (ended : (p : Place) → ends' p ≡ cond (same_place (place_of gone) p) (option_map (λ _. moved) (cond (same_place (record { group = key_of gone.range.end; at = z }) p) None (ends p))) (cond (same_place (record { group = key_of gone.range.end; at = z }) p) None (ends p)))
-      (size' : Group → Option ℕ) (sizes : (h : Group) → size' h ≡ cond (same_key (key_of gone.range.end) h) (option_map (λ _. z) (size h)) (size h)) where
+      (ended : (p : Place) → ends' p ≡ cond (same_place (place_of gone) p) (option_map (λ _. moved) (cond (same_place (record { group = group_of gone.range.end; at = z }) p) None (ends p))) (cond (same_place (record { group = group_of gone.range.end; at = z }) p) None (ends p)))
+      (size' : GroupKey → Option ℕ) (sizes : (h : GroupKey) → size' h ≡ cond (same_key (group_of gone.range.end) h) (option_map (λ _. z) (size h)) (size h)) where
     abbrev fewer_sets : List Ranged
     fewer_sets = changing but_last id sets
 
     abbrev slot : Nth
     slot = record { of = id; nth = n }
 
-    abbrev group : Group
-    group = key_of gone.range.end
+    abbrev group : GroupKey
+    group = group_of gone.range.end
 
     abbrev tail : Place
     tail = record { group = group; at = z }
@@ -79,7 +80,7 @@ module _ (sets : List Ranged) (count : SurfaceId → Option ℕ) (edge : Nth →
           ] refl
         ] refl
 
-    less_sizes : (h : Group) → or_zero (size' h) ≡ cond (same_key group h) z (or_zero (size h))
+    less_sizes : (h : GroupKey) → or_zero (size' h) ≡ cond (same_key group h) z (or_zero (size h))
     less_sizes h = ap or_zero (sizes h) ∙ by_test (same_key group h) refl
       where
         by_size : (o : Option ℕ) → z + 1 ≡ or_zero o → or_zero (option_map (λ _. z) o) ≡ z
@@ -104,18 +105,18 @@ module _ (sets : List Ranged) (count : SurfaceId → Option ℕ) (edge : Nth →
 
   -- Where the group of the end has a name of its own
 
-  pub popped_in : (id : SurfaceId) (n z : ℕ) (gone : Edge) (moved : Nth) (g : Group) → n + 1 ≡ length (ranges_of sets id) → edge (record { of = id; nth = n }) ≡ Some gone → g ≡ key_of gone.range.end
+  pub popped_in : (id : SurfaceId) (n z : ℕ) (gone : Edge) (moved : Nth) (g : GroupKey) → n + 1 ≡ length (ranges_of sets id) → edge (record { of = id; nth = n }) ≡ Some gone → g ≡ group_of gone.range.end
       → z + 1 ≡ or_zero (size g) → ends (record { group = g; at = z }) ≡ Some moved
       → (count' : SurfaceId → Option ℕ) → ((q : SurfaceId) → count' q ≡ cond (same_surface id q) (option_map (λ _. n) (count q)) (count q))
       → (edge1 edge' : Nth → Option Edge) → ((q : Nth) → edge1 q ≡ cond (same_nth (record { of = id; nth = n }) q) None (edge q))
       → ((q : Nth) → edge' q ≡ cond (same_nth moved q) (option_map (λ e. record { range = e.range; at = gone.at }) (edge1 q)) (edge1 q))
       → (ends1 ends' : Place → Option Nth) → ((p : Place) → ends1 p ≡ cond (same_place (record { group = g; at = z }) p) None (ends p))
       → ((p : Place) → ends' p ≡ cond (same_place (record { group = g; at = gone.at }) p) (option_map (λ _. moved) (ends1 p)) (ends1 p))
-      → (size' : Group → Option ℕ) → ((h : Group) → size' h ≡ cond (same_key g h) (option_map (λ _. z) (size h)) (size h))
+      → (size' : GroupKey → Option ℕ) → ((h : GroupKey) → size' h ≡ cond (same_key g h) (option_map (λ _. z) (size h)) (size h))
       → IsIndexed (changing but_last id sets) count' edge' ends' size'
   popped_in id n z gone moved g many was is big last count' counts edge1 edge' first_edges edges ends1 ends' first_ends ended size' sizes =
-      popped id n z gone moved many was (big ∙ ap (λ h. or_zero (size h)) is) (ap (λ (g : Group). ends (record { group = g; at = z })) (sym is) ∙ last) count' counts
+      popped id n z gone moved many was (big ∙ ap (λ h. or_zero (size h)) is) (ap (λ (g : GroupKey). ends (record { group = g; at = z })) (sym is) ∙ last) count' counts
       edge' (λ q. edges q ∙ ap (λ (o : Option Edge). cond (same_nth moved q) (option_map (λ (e : Edge). record { range = e.range; at = gone.at }) o) o) (first_edges q))
       ends' (λ p. ended p ∙ ap (λ (o : Option Nth). cond (same_place (record { group = g; at = gone.at }) p) (option_map (λ _. moved) o) o) (first_ends p)
-      ∙ ap (λ (g : Group). cond (same_place (record { group = g; at = gone.at }) p) (option_map (λ _. moved) (cond (same_place (record { group = g; at = z }) p) None (ends p))) (cond (same_place (record { group = g; at = z }) p) None (ends p))) is)
-      size' (λ h. sizes h ∙ ap (λ (g : Group). cond (same_key g h) (option_map (λ _. z) (size h)) (size h)) is)
+      ∙ ap (λ (g : GroupKey). cond (same_place (record { group = g; at = gone.at }) p) (option_map (λ _. moved) (cond (same_place (record { group = g; at = z }) p) None (ends p))) (cond (same_place (record { group = g; at = z }) p) None (ends p))) is)
+      size' (λ h. sizes h ∙ ap (λ (g : GroupKey). cond (same_key g h) (option_map (λ _. z) (size h)) (size h)) is)

@@ -9,7 +9,8 @@ use Rattle.vz_refs.specs.Referring.{Ranged, is_set, ranges_of, removing}
 use Rattle.vz_refs.specs.declared.listing.Changes.{Changes}
 use Rattle.vz_refs.specs.declared.listing.Changes.TheVariants.{Nothing, Opened', Longer', Shorter', Removed'}
 use Rattle.vz_refs.specs.declared.sets.Nth.{Nth}
-use Rattle.vz_refs.specs.declared.sets.Group.{Group}
+use Rattle.vz_ids.specs.Ids.{group_of}
+use Rattle.vz_ids.specs.declared.GroupKey.{GroupKey}
 use Rattle.vz_refs.specs.declared.sets.Place.{Place}
 use Rattle.vz_refs.specs.declared.sets.Edge.{Edge}
 use Rattle.vz_refs.specs.Seated.{IsSeated}
@@ -47,20 +48,16 @@ abbrev pub same_nth : Nth → Nth → Bool
 same_nth a b = same_surface a.of b.of && (a.nth == b.nth)
 
 -- both are the same sink with the same token
-abbrev pub same_key : Group → Group → Bool
+abbrev pub same_key : GroupKey → GroupKey → Bool
 same_key a b = same_sink a.sink b.sink && (a.token.0 == b.token.0)
 
 -- both are the same place in the same group
 abbrev pub same_place : Place → Place → Bool
 same_place a b = same_key a.group b.group && (a.at == b.at)
 
--- the group of a surface
-abbrev pub key_of : SurfaceId → Group
-key_of id = record { sink = id.sink; token = id.local.token }
-
 -- the place of a range in the group of its end
 abbrev pub place_of : Edge → Place
-place_of e = record { group = key_of e.range.end; at = e.at }
+place_of e = record { group = group_of e.range.end; at = e.at }
 
 -- the number, or 0 if there is none
 abbrev pub or_zero : Option ℕ → ℕ
@@ -75,7 +72,7 @@ pub record Known : Type 0 where
 
 -- the indexes agree with what is set: how many ranges each surface has, each of these ranges, and
 -- for each group the ranges whose end is in it
-pub record IsIndexed (sets : List Ranged) (count : SurfaceId → Option ℕ) (edge : Nth → Option Edge) (ends : Place → Option Nth) (size : Group → Option ℕ) : Type 0 where
+pub record IsIndexed (sets : List Ranged) (count : SurfaceId → Option ℕ) (edge : Nth → Option Edge) (ends : Place → Option Nth) (size : GroupKey → Option ℕ) : Type 0 where
   pub counted : (id : SurfaceId) → count id ≡ (if is_set sets id then Some (length (ranges_of sets id)) else None)
   pub ranged : (n : Nth) → option_map (λ e. e.range) (edge n) ≡ slice_get (ranges_of sets n.of) n.nth
   pub seated : IsSeated place_of edge ends (λ h. or_zero (size h))

@@ -7,10 +7,10 @@ use Rattle.indexmap.specs.IndexMap.{IndexMap, spare}
 use Rattle.vz_ids.specs.declared.FrameSinkId.{FrameSinkId}
 use Rattle.vz_ids.specs.declared.SurfaceId.{SurfaceId}
 use Rattle.vz_ids.specs.declared.SurfaceRange.{SurfaceRange}
-use Rattle.vz_ids.specs.Ids.{same_sink}
+use Rattle.vz_ids.specs.Ids.{same_sink, group_of}
+use Rattle.vz_ids.specs.declared.GroupKey.{GroupKey}
 use Rattle.vz_frame.specs.Frame.{has_repeat}
 use Rattle.vz_rules.specs.Reach.{names}
-use Rattle.vz_refs.specs.declared.sets.Group.{Group}
 use Rattle.vz_refs.specs.declared.sets.Place.{Place}
 use Rattle.vz_refs.specs.declared.seats.Name.{Name}
 use Rattle.vz_refs.specs.declared.seats.Kept.{Kept}
@@ -18,7 +18,7 @@ use Rattle.vz_refs.specs.declared.seats.Seats.{Seats}
 use Rattle.vz_refs.specs.declared.temporaries.Named.{Named}
 use Rattle.vz_refs.specs.declared.temporaries.Numbers.{Numbers}
 use Rattle.vz_refs.specs.Referring.{Temporary}
-use Rattle.vz_refs.specs.Indexing.{same_key, same_place, key_of, or_zero}
+use Rattle.vz_refs.specs.Indexing.{same_key, same_place, or_zero}
 use Rattle.vz_refs.specs.Seated.{IsSeated}
 
 -- both names have the same tick and the same number
@@ -27,7 +27,7 @@ same_name a b = (a.until == b.until) && (a.number == b.number)
 
 -- the place of a temporary surface in its group
 abbrev pub seat_of : Kept → Place
-seat_of k = record { group = key_of k.id; at = k.at }
+seat_of k = record { group = group_of k.id; at = k.at }
 
 -- the temporary surface with this name
 abbrev pub kept_in : Seats → Name → Option Kept
@@ -42,7 +42,7 @@ abbrev pub name_in : Seats → Place → Option Name
 name_in s p = lookup (same_place p) s.names.entries
 
 -- how many temporary surfaces are in a group
-abbrev pub size_in : Seats → Group → ℕ
+abbrev pub size_in : Seats → GroupKey → ℕ
 size_in s g = or_zero (lookup (same_key g) s.sizes.entries)
 
 -- for how many more temporary surfaces there is room

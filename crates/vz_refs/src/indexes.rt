@@ -5,9 +5,10 @@ ghost use Rattle.indexmap.specs.IndexMap.{get, spare as spare_of};
 ghost use Rattle.vz_refs.specs.declared.sets.Nth.{Nth as Slot};
 ghost use Rattle.vz_refs.specs.Indexing.{or_zero, same_nth, same_key};
 
-use crate::sets::{Edge, Group, Nth};
+use crate::sets::{Edge, Nth};
 use indexmap::IndexMap;
 use std::hash::Hash;
+use vz_ids::GroupKey;
 
 /// Replaces the value of a key. If the map does not have the key, nothing changes.
 pub(crate) fn write<K: Copy + Eq + Hash, V: Copy>(map: &mut IndexMap<K, V>, key: K, value: V)
@@ -21,7 +22,7 @@ pub(crate) fn write<K: Copy + Eq + Hash, V: Copy>(map: &mut IndexMap<K, V>, key:
 }
 
 /// How many ranges or surfaces are in a group; 0 if the group is not in the map.
-pub(crate) fn size_of(sizes: &IndexMap<Group, usize>, group: Group) -> usize
+pub(crate) fn size_of(sizes: &IndexMap<GroupKey, usize>, group: GroupKey) -> usize
     ensures { result ≡ or_zero (get same_key sizes.now group) }
 {
     match sizes.get(&group) {

@@ -7,7 +7,6 @@ ghost use Rattle.vz_rules.specs.Reach.{names};
 ghost use Rattle.vz_refs.specs.Indexing.{same_nth, same_place};
 
 use crate::sets::{Edge, Nth, Place};
-use crate::surfaces::is_same;
 use indexmap::IndexMap;
 use vz_ids::{SurfaceId, SurfaceRange};
 
@@ -15,7 +14,7 @@ use vz_ids::{SurfaceId, SurfaceRange};
 pub(crate) fn names(range: &SurfaceRange, id: &SurfaceId) -> bool
     ensures { result ≡ names id.now range.now }
 {
-    is_same(&range.end, id) || (range.end.sink == id.sink && range.end.local.newer(&id.local))
+    range.end.is_at_least(id)
 }
 
 /// Whether the range at a place of a group names a surface.

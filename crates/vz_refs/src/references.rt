@@ -102,14 +102,15 @@ impl References {
 
     /// Replaces the ranges of a surface by `ranges`, which may be empty, and ends each temporary
     /// surface that one of them names. It returns `Memory` if an allocation fails; then nothing
-    /// changes. If there is room for one and one more for each range, it returns Ok and uses up
-    /// no more than that.
+    /// changes and no room is lost. If there is room for one and one more for each range, it
+    /// returns Ok and uses up no more than that.
     pub fn set(&mut self, id: SurfaceId, ranges: &[SurfaceRange]) -> Result<(), Memory>
         ensures sets { OnOk result (self.new.sets ≡ setting id ranges.now self.old.sets) }
         ensures temporary { OnOk result (self.new.temporary
             ≡ unnamed ranges.now self.old.temporary) }
         ensures err { OnErr result ((self.new.sets ≡ self.old.sets)
             × (self.new.temporary ≡ self.old.temporary)) }
+        ensures kept { OnErr result (self.old.spare ≤ self.new.spare) }
         ensures succeeds { length ranges.now + 1 ≤ self.old.spare → IsOk result }
         ensures spare { self.old.spare ≤ self.new.spare + (length ranges.now + 1) }
         ensures room { self.old.room ≤ self.new.room }

@@ -5,7 +5,7 @@ ghost use Rattle.std.specs.Map.{lookup};
 ghost use Rattle.indexmap.specs.IndexMap.{spare as spare_of};
 ghost use Rattle.vz_ids.specs.Ids.{same_sink};
 ghost use Rattle.vz_ids.specs.declared.SurfaceId.{SurfaceId as SurfaceOf};
-ghost use Rattle.vz_refs.specs.declared.sets.Group.{Group as GroupOf};
+ghost use Rattle.vz_ids.specs.declared.GroupKey.{GroupKey as GroupOf};
 ghost use Rattle.vz_refs.specs.declared.sets.Place.{Place as PlaceOf};
 ghost use Rattle.vz_refs.specs.declared.seats.Name.{Name as NameOf};
 ghost use Rattle.vz_refs.specs.declared.seats.Kept.{Kept as KeptOf};
@@ -14,11 +14,11 @@ ghost use Rattle.vz_refs.specs.Lasting.{same_name, kept_in, surface_in, name_in,
 
 use crate::indexes::{size_of, write};
 use crate::naming::names;
-use crate::sets::{Group, Place, group_of};
+use crate::sets::Place;
 use indexmap::IndexMap;
 use std::alloc::Global;
 use vz_base::Memory;
-use vz_ids::{FrameSinkId, SurfaceId, SurfaceRange};
+use vz_ids::{FrameSinkId, GroupKey, SurfaceId, SurfaceRange};
 
 /// The name of a temporary surface: its last tick, and a number that is used only once.
 #[derive(Clone, Copy, PartialEq, Eq, Hash)]
@@ -40,7 +40,7 @@ pub(crate) struct Kept {
 pub(crate) struct Seats {
     pub(crate) kept: IndexMap<Name, Kept>,
     pub(crate) names: IndexMap<Place, Name>,
-    pub(crate) sizes: IndexMap<Group, usize>,
+    pub(crate) sizes: IndexMap<GroupKey, usize>,
 }
 
 impl Seats {
@@ -81,7 +81,7 @@ impl Seats {
             ≡ cond (same_name name n) (Some id) (surface_in self.old n) }
         ensures room { room_in self.old ≤ room_in self.new + 1 }
     {
-        let group = group_of(&id);
+        let group = id.group();
         let at = size_of(&self.sizes, group);
         prove!(self.names.len() < usize::MAX);
         self.kept.insert(name, Kept { id, at }).unwrap();
@@ -101,7 +101,7 @@ impl Seats {
         ensures room { room_in self.old ≤ room_in self.new }
     {
         if let Some(gone) = self.kept.swap_remove(name) {
-            let group = group_of(&gone.id);
+            let group = gone.id.group();
             let last = shrink(&mut self.sizes, &group);
             let moved = self.names.swap_remove(&Place { group, at: last }).unwrap();
             write(&mut self.names, Place { group, at: gone.at }, moved);
@@ -142,7 +142,7 @@ impl Seats {
         ensures ends { Ends (named_by range.now) self.old self.new }
         ensures rid { IsRid (named_by range.now) self.new }
     {
-        let group = group_of(&range.end);
+        let group = range.end.group();
         let size = size_of(&self.sizes, group);
         for k in 0..size {
             let at = size - 1 - k;
@@ -176,7 +176,7 @@ impl Seats {
 }
 
 /// Lowers the size of a group by one and returns the new size. Condition: it was not 0.
-fn shrink(sizes: &mut IndexMap<Group, usize>, group: &Group) -> usize
+fn shrink(sizes: &mut IndexMap<GroupKey, usize>, group: &GroupKey) -> usize
     requires { 0 < or_zero (lookup (same_key group.now) sizes.old.entries) }
     ensures size { result + 1 ≡ or_zero (lookup (same_key group.now) sizes.old.entries) }
     ensures sizes { (g : GroupOf) → or_zero (lookup (same_key g) sizes.new.entries)
@@ -238,13 +238,13 @@ fn keep_other_places(names: &mut IndexMap<Place, Name>, sink: FrameSinkId)
 }
 
 /// Keeps only the sizes of groups of other sinks.
-fn keep_other_groups(sizes: &mut IndexMap<Group, usize>, sink: FrameSinkId)
+fn keep_other_groups(sizes: &mut IndexMap<GroupKey, usize>, sink: FrameSinkId)
     ensures sizes { (g : GroupOf) → or_zero (lookup (same_key g) sizes.new.entries)
         ≡ cond (not (same_sink g.sink sink)) (or_zero (lookup (same_key g) sizes.old.entries)) 0 }
     ensures spare { spare_of sizes.old ≤ spare_of sizes.new }
 {
     sizes.retain(
-        |group: &Group, _size: &mut usize| -> bool
+        |group: &GroupKey, _size: &mut usize| -> bool
             ensures { (result ≡ not (same_sink group.now.sink sink)) × (_size.new ≡ _size.old) }
         { group.sink != sink },
     );

@@ -2,7 +2,7 @@
 ghost use Rattle.std.specs.Prelude.{◌≡◌, ◌≤◌, ◌<◌, ◌+◌, [], ◌++◌, length, map, position, IsTrue, IsOk, OnOk, Some, slice_get};
 ghost use Rattle.vz_ids.specs.Ids.{same_surface};
 ghost use Rattle.vz_refs.specs.Referring.{is_set, ranges_of, set_one, removing, is_named_in};
-ghost use Rattle.vz_refs.specs.Indexing.{opening, changing, one_more, but_last, key_of};
+ghost use Rattle.vz_refs.specs.Indexing.{opening, changing, one_more, but_last};
 
 use crate::indexes::{move_edge, size_of, write};
 use crate::listing::Listing;
@@ -11,7 +11,7 @@ use indexmap::IndexMap;
 use std::alloc::Global;
 use std::marker::Model;
 use vz_base::Memory;
-use vz_ids::{EmbedToken, FrameSinkId, SurfaceId, SurfaceRange};
+use vz_ids::{GroupKey, SurfaceId, SurfaceRange};
 
 /// One of the ranges of a surface, by its place among them.
 #[derive(Clone, Copy, PartialEq, Eq, Hash)]
@@ -20,17 +20,10 @@ pub(crate) struct Nth {
     pub(crate) nth: usize,
 }
 
-/// A group: the sink and the token that its surfaces share.
-#[derive(Clone, Copy, PartialEq, Eq, Hash)]
-pub(crate) struct Group {
-    pub(crate) sink: FrameSinkId,
-    pub(crate) token: EmbedToken,
-}
-
 /// A place in a group.
 #[derive(Clone, Copy, PartialEq, Eq, Hash)]
 pub(crate) struct Place {
-    pub(crate) group: Group,
+    pub(crate) group: GroupKey,
     pub(crate) at: usize,
 }
 
@@ -39,16 +32,6 @@ pub(crate) struct Place {
 pub(crate) struct Edge {
     pub(crate) range: SurfaceRange,
     pub(crate) at: usize,
-}
-
-/// The group of a surface.
-pub(crate) fn group_of(id: &SurfaceId) -> Group
-    ensures { result ≡ key_of id.now }
-{
-    Group {
-        sink: id.sink,
-        token: id.local.token,
-    }
 }
 
 /// The ranges that are set for surfaces. Contracts see them in the order in which the surfaces
@@ -60,7 +43,7 @@ pub(crate) struct Sets {
     counts: IndexMap<SurfaceId, usize>,
     edges: IndexMap<Nth, Edge>,
     ends: IndexMap<Place, Nth>,
-    sizes: IndexMap<Group, usize>,
+    sizes: IndexMap<GroupKey, usize>,
     listing: Listing,
 }
 
@@ -160,7 +143,7 @@ impl Sets {
             of: id,
             nth: self.count(&id),
         };
-        let group = group_of(&range.end);
+        let group = range.end.group();
         let at = size_of(&self.sizes, group);
         self.edges.insert(slot, Edge { range, at }).unwrap();
         self.ends.insert(Place { group, at }, slot).unwrap();
@@ -180,7 +163,7 @@ impl Sets {
             nth: self.count(&id) - 1,
         };
         let edge = self.edges.swap_remove(&slot).unwrap();
-        let group = group_of(&edge.range.end);
+        let group = edge.range.end.group();
         let last = size_of(&self.sizes, group) - 1;
         let moved = self.ends.swap_remove(&Place { group, at: last }).unwrap();
         let at = edge.at;
@@ -228,7 +211,7 @@ impl Sets {
     pub(crate) fn is_named(&self, id: &SurfaceId) -> bool
         ensures { result ≡ is_named_in self.now.list id.now }
     {
-        let group = group_of(id);
+        let group = id.group();
         for at in 0..size_of(&self.sizes, group) {
             if names_at(&self.edges, &self.ends, Place { group, at }, id) {
                 return true;

@@ -5,8 +5,8 @@ use Rattle.std.proofs.lemmas.List.{append-nil, append_assoc}
 use Rattle.std.proofs.lemmas.Bool.Decides.{nat_tests}
 use Rattle.vz_rules.specs.declared.entry.Returned.{Returned}
 use Rattle.vz_rules.proofs.Counts.{count_cons}
-use Rattle.vz_returns.specs.Holding.{Counted, Holding, counted_at, received_of, alive_of, is_rising, is_last, return_at, released}
-use Rattle.vz_returns.specs.Giving.{times, is_sorted, are_some, release_all, returns_in}
+use Rattle.vz_returns.specs.Held.{Counted, Holding, counted_at, received_of, alive_of, is_rising, is_last, return_at, released}
+use Rattle.vz_returns.specs.Released.{times, is_sorted, are_some, release_all, returns_in}
 use Rattle.vz_returns.proofs.Releases.{both, two_true, from_eqb, to_eqb, alive_released, received_released, rising_released, some_released}
 
 -- so many of each are alive

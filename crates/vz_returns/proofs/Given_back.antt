@@ -10,8 +10,8 @@ use Rattle.vz_rules.specs.Kept.{borrows, AreRising}
 use Rattle.vz_rules.specs.declared.entry.Returned.{Returned}
 use Rattle.vz_rules.proofs.Counts.{count_cons}
 use Rattle.vz_rules.proofs.Rising.{find_map, find_test}
-use Rattle.vz_returns.specs.Holding.{Counted, Holding, counted_at, received_of, alive_of, is_rising}
-use Rattle.vz_returns.specs.Giving.{holds_there, holds_in_flight, alive_in, out_in, times, is_sorted, AreCounts, release_all, returns_in}
+use Rattle.vz_returns.specs.Held.{Counted, Holding, counted_at, received_of, alive_of, is_rising}
+use Rattle.vz_returns.specs.Released.{holds_there, holds_in_flight, alive_in, out_in, times, is_sorted, AreCounts, release_all, returns_in}
 use Rattle.vz_returns.proofs.Orders.{one_list}
 use Rattle.vz_returns.proofs.Releases.{both, two_true, from_eqb, to_eqb, some_of_both}
 use Rattle.vz_returns.proofs.All_released.{Suffice, all_back, alive_all, received_all, as_counted, same_returns, found_back, rising_back, client_all, queue_all, rising_all, some_all}

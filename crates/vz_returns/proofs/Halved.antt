@@ -6,7 +6,7 @@ use Rattle.std.proofs.lemmas.Bool.Decides.{nat_tests}
 use Rattle.vz_ids.specs.declared.Sub.{Sub}
 use Rattle.vz_ids.specs.Ids.{same_sub}
 use Rattle.vz_rules.proofs.Counts.{count_cons}
-use Rattle.vz_returns.specs.Feeding.{before, in_order, is_open, place_in, fed}
+use Rattle.vz_returns.specs.Unfed.{before, in_order, is_open, place_in, fed}
 use Rattle.vz_returns.proofs.Kept.{both, over, or_after, two_false, two_true, none_before, all_over, one_more, from_same_sub}
 
 -- what one comes before, at a place

@@ -7,7 +7,7 @@ use Rattle.vz_ids.specs.Ids.{same_sub}
 use Rattle.std.proofs.lemmas.List.Folds.{list_any-append}
 use Rattle.vz_rules.specs.World.{Submission, sub_of}
 use Rattle.vz_rules.proofs.Counts.{count_cons}
-use Rattle.vz_returns.specs.Feeding.{before, in_order, is_open, place_in, opened, fed, AreUnfed, mark_of}
+use Rattle.vz_returns.specs.Unfed.{before, in_order, is_open, place_in, opened, fed, AreUnfed, mark_of}
 
 pub both : (a b : Bool) → (a && b) ≡ true → (a ≡ true) × (b ≡ true)
 both true b h = (refl, h)

@@ -8,7 +8,7 @@ use Rattle.std.proofs.lemmas.Bool.Decides.{nat_tests}
 use Rattle.vz_returns.specs.declared.counts.Counts.{Counts}
 use Rattle.vz_returns.specs.Ordered.{counted_of, in_order}
 use Rattle.vz_rules.specs.declared.entry.Returned.{Returned}
-use Rattle.vz_returns.specs.Holding.{Counted, is_rising, put_in, from_on, first_from, nearer, as_returns}
+use Rattle.vz_returns.specs.Held.{Counted, is_rising, put_in, from_on, first_from, nearer, as_returns}
 use Rattle.vz_returns.proofs.Releases.{both, from_eqb}
 
 -- one more is put in

@@ -1,5 +1,5 @@
 -- Lists by rising ids: what is found in them, and that two in which the same is found are one.
-use Rattle.std.proofs.Common.{◌≡◌, ℕ, ◌+◌, Bool, true, false, not, ◌==◌, ◌&&◌, ◌<◌, ◌≤◌, ◌-◌, min, Option, Some, None, is_some, List, [], ◌∷◌, length, nat_lt, nat_eq, refl, ap, sym, subst, inl, inr, ◌∙◌, arith, cond}
+use Rattle.std.proofs.Common.{◌≡◌, ℕ, ◌+◌, Bool, true, false, not, ◌==◌, ◌&&◌, ◌<◌, ◌≤◌, ◌-◌, min, Option, Some, None, is_some, Result, Ok, Err, OnErr, IsOk, List, [], ◌∷◌, length, nat_lt, nat_eq, refl, ap, sym, subst, inl, inr, ◌∙◌, arith, cond}
 use Rattle.std.specs.List.{list_all, AllByRecursion, IsDistinct}
 use Rattle.std.specs.Map.{lookup, keys_of}
 use Rattle.std.specs.Option.{option_map}
@@ -7,7 +7,7 @@ use Rattle.std.proofs.Math.Nat.{min-le_left, min-le_right, min-eq_left, min-eq_r
 use Rattle.std.proofs.lemmas.Bool.{cases_lt}
 use Rattle.std.proofs.lemmas.Bool.Decides.{nat_tests}
 use Rattle.vz_returns.specs.declared.counts.Counts.{Counts}
-use Rattle.vz_returns.specs.Holding.{Counted, counted_at, received_of, alive_of, is_rising, put_in, without}
+use Rattle.vz_returns.specs.Held.{Counted, counted_at, received_of, alive_of, is_rising, put_in, without}
 use Rattle.vz_returns.specs.Ordered.{counted_of, in_order}
 
 both : (a b : Bool) → (a && b) ≡ true → (a ≡ true) × (b ≡ true)
@@ -368,3 +368,8 @@ least_used s a b x y h p q =
     let least = least_room s a x h in
     let of = least_of (s - 1) b y (omega (arith, least.0, p)) (omega (arith, least.1, q)) in
     omega (arith, of)
+
+-- what is well says nothing of an error
+pub no_error : {T E : Type 0} (r : Result T E) (P : Type 0) → IsOk r → OnErr r P
+no_error (Ok x) P well = tt
+no_error (Err e) P well = absurd (cc)

@@ -1,8 +1,8 @@
 -- What is read of counts after releases, and what goes back.
 use Rattle.std.proofs.Common.{◌≡◌, ℕ, ◌+◌, ◌-◌, ◌<◌, Bool, true, false, not, ◌==◌, ◌&&◌, Option, Some, None, List, [], ◌∷◌, nat_lt, refl, ap, sym, ◌∙◌, arith, cond}
 use Rattle.std.proofs.lemmas.Bool.Decides.{nat_tests}
-use Rattle.vz_returns.specs.Holding.{Counted, Holding, counted_at, received_of, alive_of, is_rising, put_in, without, is_last, lent, shared, released}
-use Rattle.vz_returns.specs.Giving.{are_some}
+use Rattle.vz_returns.specs.Held.{Counted, Holding, counted_at, received_of, alive_of, is_rising, put_in, without, is_last, lent, shared, released}
+use Rattle.vz_returns.specs.Released.{are_some}
 use Rattle.vz_returns.proofs.Orders.{at_put, at_without, rising_put, rising_without}
 
 pub both : (a b : Bool) → (a && b) ≡ true → (a ≡ true) × (b ≡ true)

@@ -8,8 +8,8 @@ use Rattle.vz_rules.specs.Messages.{in_use as refused_in_use}
 use Rattle.vz_rules.specs.Kept.{KeepsShelf, count_of}
 use Rattle.vz_rules.specs.declared.entry.Returned.{Returned}
 use Rattle.vz_rules.proofs.Members.{contains_here, contains_there, find_at, found, any_from, any_none}
-use Rattle.vz_returns.specs.Holding.{Holding, in_use}
-use Rattle.vz_returns.specs.Giving.{out_in, AreCounts}
+use Rattle.vz_returns.specs.Held.{Holding, in_use}
+use Rattle.vz_returns.specs.Released.{out_in, AreCounts}
 use Rattle.vz_returns.proofs.Releases.{from_eqb, to_eqb, some_of_both}
 
 more_is_some : (n m : ℕ) → 1 ≤ n → nat_lt 0 (n + m) ≡ true

@@ -1,4 +1,10 @@
-pub mod Feeding
-pub mod Giving
-pub mod Holding
+pub mod Unfed
+pub mod Released
+pub mod Held
 pub mod Ordered
+pub mod Lent
+pub mod Listed
+pub mod Changes
+pub mod Quiet
+pub mod Notes
+pub mod Owed

@@ -1,7 +1,7 @@
 -- The counts of a map, as a list by rising ids.
 use Rattle.std.specs.Prelude.{ℕ, List, [], ◌∷◌}
 use Rattle.vz_returns.specs.declared.counts.Counts.{Counts}
-use Rattle.vz_returns.specs.Holding.{Counted, put_in}
+use Rattle.vz_returns.specs.Held.{Counted, put_in}
 
 -- a resource with its counts
 abbrev pub counted_of : ℕ → Counts → Counted

@@ -1,6 +1,6 @@
 //! How many references of each resource were received and how many are alive.
 ghost use Rattle.std.specs.Prelude.{◌≡◌, ◌≤◌, ◌<◌, ◌+◌, [], ◌++◌, length, IsTrue, IsOk, OnOk, OnErr};
-ghost use Rattle.vz_returns.specs.Holding.{received_of, alive_of, put_in, without, is_rising, first_from, nearer, as_returns};
+ghost use Rattle.vz_returns.specs.Held.{received_of, alive_of, put_in, without, is_rising, first_from, nearer, as_returns};
 ghost use Rattle.vz_returns.specs.Ordered.{counted_of};
 
 use indexmap::IndexMap;
@@ -26,7 +26,7 @@ pub(crate) struct Table {
 }
 
 impl Model for Table {
-    ghost use Rattle.vz_returns.specs.Holding.{Counting};
+    ghost use Rattle.vz_returns.specs.Held.{Counting};
     ghost use Rattle.vz_returns.specs.Ordered.{in_order};
     ghost use Rattle.indexmap.specs.IndexMap.{spare as spare_of};
 

@@ -1,7 +1,7 @@
 //! The submissions that await feedback.
 ghost use Rattle.std.specs.Prelude.{◌≡◌, ◌≤◌, ◌<◌, ◌+◌, [], ◌++◌, length, IsTrue, IsFalse, IsOk, OnOk, OnErr, IfSome, is_some};
 ghost use Rattle.vz_ids.specs.Ids.{same_sub};
-ghost use Rattle.vz_returns.specs.Feeding.{before, in_order, is_open, place_in, opened, fed};
+ghost use Rattle.vz_returns.specs.Unfed.{before, in_order, is_open, place_in, opened, fed};
 
 use std::alloc::Global;
 use std::marker::Model;
@@ -18,7 +18,7 @@ pub struct Feedbacks {
 
 impl Model for Feedbacks {
     ghost use Rattle.std.specs.Prelude.{◌-◌, IsTrue, vec_len, vec_capacity};
-    ghost use Rattle.vz_returns.specs.Feeding.{Unfed, in_order};
+    ghost use Rattle.vz_returns.specs.Unfed.{Unfed, in_order};
 
     ghost Value = { Unfed };
 
@@ -51,12 +51,13 @@ impl Feedbacks {
     }
 
     /// Adds a submission, which awaits feedback from now on. It returns `Memory` if an allocation
-    /// fails; then the list does not change. If there is room for one, it returns Ok and uses up
-    /// no more than that. Condition: the submission is not in the list.
+    /// fails; then the list does not change and no room is lost. If there is room for one, it
+    /// returns Ok and uses up no more than that. Condition: the submission is not in the list.
     pub fn add(&mut self, s: Sub) -> Result<(), Memory>
         requires { IsFalse (is_open self.old.list s) }
         ensures list { OnOk result (self.new.list ≡ opened s self.old.list) }
         ensures err { OnErr result (self.new.list ≡ self.old.list) }
+        ensures kept { OnErr result (self.old.spare ≤ self.new.spare) }
         ensures succeeds { 0 < self.old.spare → IsOk result }
         ensures spare { self.old.spare ≤ self.new.spare + 1 }
     {

@@ -1,6 +1,6 @@
 //! The references that a client lent, and what is returned to it.
 ghost use Rattle.std.specs.Prelude.{◌≡◌, ◌≤◌, ◌<◌, ◌+◌, [], ◌++◌, length, IsOk, OnOk, OnErr};
-ghost use Rattle.vz_returns.specs.Holding.{MOST_REFERENCES, received_of, alive_of, lent, shared, released, return_at, taken, in_use, held};
+ghost use Rattle.vz_returns.specs.Held.{MOST_REFERENCES, received_of, alive_of, lent, shared, released, return_at, taken, in_use, held};
 
 use crate::counts::{Counts, Table};
 use crate::queue::Queue;
@@ -30,7 +30,7 @@ pub struct Holder {
 
 impl Model for Holder {
     ghost use Rattle.std.specs.Prelude.{◌-◌, ◌≤◌, min, length};
-    ghost use Rattle.vz_returns.specs.Holding.{Held};
+    ghost use Rattle.vz_returns.specs.Held.{Held};
 
     ghost Value = { Held };
 
@@ -70,15 +70,16 @@ impl Holder {
     }
 
     /// Counts one more reference of a resource as received and as alive, and reserves the place
-    /// of its return. It returns `Memory` if an allocation fails; then nothing changes. If there
-    /// is room for one, it returns Ok and uses up no more than that. Condition: since the
-    /// resource was last returned fewer than 4,294,967,295 references of it were received, and
-    /// fewer than that are alive.
+    /// of its return. It returns `Memory` if an allocation fails; then nothing changes and no room
+    /// is lost. If there is room for one, it returns Ok and uses up no more than that. Condition:
+    /// since the resource was last returned fewer than 4,294,967,295 references of it were
+    /// received, and fewer than that are alive.
     pub fn lend(&mut self, id: u32) -> Result<(), Memory>
         requires received { received_of id self.old.holding.counted < MOST_REFERENCES }
         requires alive { alive_of id self.old.holding.counted < MOST_REFERENCES }
         ensures holding { OnOk result (self.new.holding ≡ lent id self.old.holding) }
         ensures err { OnErr result (self.new.holding ≡ self.old.holding) }
+        ensures kept { OnErr result (self.old.spare ≤ self.new.spare) }
         ensures succeeds { 0 < self.old.spare → IsOk result }
         ensures spare { self.old.spare ≤ self.new.spare + 1 }
     {

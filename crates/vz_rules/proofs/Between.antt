@@ -6,9 +6,9 @@ use Rattle.vz_geom.specs.declared.Point.{Point}
 use Rattle.vz_geom.specs.Rectangle.{has, sized}
 use Rattle.vz_ids.specs.declared.SurfaceId.{SurfaceId}
 use Rattle.vz_ids.specs.Ids.{same_surface}
-use Rattle.vz_frame.specs.Frame.{frame_size}
+use Rattle.vz_frame.specs.Frame.{frame_size, root_damage}
 use Rattle.vz_rules.specs.World.{FrameData}
-use Rattle.vz_rules.specs.Damage.{root_damage, is_between}
+use Rattle.vz_rules.specs.Damage.{is_between}
 use Rattle.vz_rules.specs.Trace.{trace, AreHonest}
 use Rattle.vz_rules.proofs.Members.{contains_at, at_contains, at_same}
 use Rattle.vz_rules.proofs.Counts.{count_cons, count_at, count_before}

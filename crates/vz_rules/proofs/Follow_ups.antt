@@ -4,7 +4,7 @@ use Rattle.std.specs.List.{list_any}
 use Rattle.std.proofs.lemmas.List.Sums.{sum_by-cons}
 use Rattle.vz_ids.specs.declared.Sub.{Sub}
 use Rattle.vz_rules.specs.declared.entry.State.TheVariants.{Active, Past, Dropped}
-use Rattle.vz_rules.specs.World.{World, Created, FrameData, Submission, is_waiting, is_active, is_on}
+use Rattle.vz_rules.specs.World.{World, Surface, FrameData, Submission, is_waiting, is_active, is_on}
 use Rattle.vz_rules.specs.Settle.{is_ready, ready, after_round, round, rounds, settle}
 use Rattle.vz_rules.specs.Reach.{drop_on, lost_in, naming, clearing, collect}
 use Rattle.vz_rules.specs.Returns.{give_back, feed, queue_returns, mark_fed}
@@ -59,7 +59,7 @@ drop_frame false s = refl
 collect_frames : (w : World) → frames_of (collect w).subs ≡ frames_of w.subs
 unfolding collect clearing naming
 collect_frames w =
-    let lost : List Created = lost_in (naming w) in
+    let lost : List Surface = lost_in (naming w) in
     frames_kept (drop_on lost) w.subs (λ s. drop_frame ((is_waiting s || is_active s) && list_any (λ c. is_on c.id s) lost) s)
 
 -- activation and collection leave what submissions were accepted with

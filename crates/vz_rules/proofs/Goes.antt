@@ -21,7 +21,7 @@ use Rattle.vz_rules.specs.declared.entry.Event.TheVariants as event
 use Rattle.vz_rules.specs.declared.entry.Reply.TheVariants as reply
 use Rattle.vz_rules.specs.declared.entry.Refusal.{Refusal}
 use Rattle.vz_rules.specs.declared.entry.Refusal.TheVariants as refusal
-use Rattle.vz_rules.specs.World.{World, Client, FrameData, Created, Submission, Scene, is_on, last_created, client_at, next_message}
+use Rattle.vz_rules.specs.World.{World, Client, FrameData, Surface, Submission, Scene, is_on, last_created, client_at, next_message}
 use Rattle.vz_rules.specs.Scene.{scene_of}
 use Rattle.vz_rules.specs.Messages.{Answer, says, refused, unless_refused, first_some, when, in_use, hierarchy_refusal, is_unknown, violates, is_last, has_other_size, id_of, new_submission, with_surface, replace_on, mark_of, submit_refusal, submit_answer, accepted, upload_answer, root_answer, hierarchy_answer, await_answer, message_answer, known_client_answer, client_answer}
 use Rattle.vz_rules.specs.Walk.{walk_of, too_much}
@@ -77,7 +77,7 @@ goes_sized w v e sizes =
     }
 
 goes_same : (w v : World) → v.subs ≡ w.subs → v.surfaces ≡ w.surfaces → Goes w v
-goes_same w v e f = goes_sized w v e (λ id size h. subst (λ (l : List Created). HasSize l id size) (sym f) h)
+goes_same w v e f = goes_sized w v e (λ id size h. subst (λ (l : List Surface). HasSize l id size) (sym f) h)
 
 -- A submission
 
@@ -98,12 +98,12 @@ same_size_by true true h e = refl
 same_size_by true false h e = absurd (cc)
 same_size_by false b h e = absurd (cc)
 
-last_size : (w : World) (c : Client) (local : LocalSurfaceId) (frame : CompositorFrame) (o : Option Created) → KeepsAlways w → Contains w.clients c
+last_size : (w : World) (c : Client) (local : LocalSurfaceId) (frame : CompositorFrame) (o : Option Surface) → KeepsAlways w → Contains w.clients c
     → last_created w c.number ≡ o
     → has_other_size o local frame ≡ false → is_last o local ≡ true → HasSize w.surfaces (id_of c local) (frame_size frame)
 last_size w c local frame None h p was size is = absurd (cc)
 last_size w c local frame (Some last) h p was size is =
-    let at = last_at (λ (x : Created). x.client == c.number) w.surfaces last was in
+    let at = last_at (λ (x : Surface). x.client == c.number) w.surfaces last was in
     let here = at_contains w.surfaces at.0 last at.1.0 in
     let client = eqb-true last.client c.number at.1.1 in
     let owner = h.surfaces.of_clients last here in
@@ -113,16 +113,16 @@ last_size w c local frame (Some last) h p was size is =
     let size_is = sizes_equal last.size (frame_size frame) (same_size_by (same_local last.id.local local) (same_size last.size (frame_size frame)) size is) in
     (last, here, from_same last.id (id_of c local) same, size_is)
 
-grown : (ss : List Created) (new : Created) (id : SurfaceId) (size : Size) → HasSize ss id size → HasSize (ss ++ new ∷ []) id size
+grown : (ss : List Surface) (new : Surface) (id : SurfaceId) (size : Size) → HasSize ss id size → HasSize (ss ++ new ∷ []) id size
 grown ss new id size h = (h.0, push_contains ss new h.0 h.1, h.2, h.3)
 
 -- the surfaces where a submission goes to the last one or makes one
-sized_by : (t : Bool) (ss : List Created) (new : Created) (id : SurfaceId) (size : Size) → (t ≡ true → HasSize ss id size) → new.id ≡ id → new.size ≡ size
+sized_by : (t : Bool) (ss : List Surface) (new : Surface) (id : SurfaceId) (size : Size) → (t ≡ true → HasSize ss id size) → new.id ≡ id → new.size ≡ size
     → HasSize (cond t ss (ss ++ new ∷ [])) id size
 sized_by true ss new id size last e f = last refl
 sized_by false ss new id size last e f = (new, push_contains_last ss new, e, f)
 
-grown_by : (t : Bool) (ss : List Created) (new : Created) (id : SurfaceId) (size : Size) → HasSize ss id size → HasSize (cond t ss (ss ++ new ∷ [])) id size
+grown_by : (t : Bool) (ss : List Surface) (new : Surface) (id : SurfaceId) (size : Size) → HasSize ss id size → HasSize (cond t ss (ss ++ new ∷ [])) id size
 grown_by true ss new id size h = h
 grown_by false ss new id size h = grown ss new id size h
 
@@ -211,11 +211,11 @@ awaits_by w (Some n) over f v h k = h n
 mark_size : (c : ℕ) → KeepsSize (mark_of c)
 mark_size c = record { id = λ s. by_id (s.client == c) s; size = λ s. by_size (s.client == c) s }
   where
-    by_id : (t : Bool) (s : Created) → (cond t (record s { marked = true }) s).id ≡ s.id
+    by_id : (t : Bool) (s : Surface) → (cond t (record s { marked = true }) s).id ≡ s.id
     by_id true s = refl
     by_id false s = refl
 
-    by_size : (t : Bool) (s : Created) → (cond t (record s { marked = true }) s).size ≡ s.size
+    by_size : (t : Bool) (s : Surface) → (cond t (record s { marked = true }) s).size ≡ s.size
     by_size true s = refl
     by_size false s = refl
 

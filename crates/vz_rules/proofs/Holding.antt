@@ -8,7 +8,7 @@ use Rattle.vz_ids.specs.Ids.{same_surface}
 use Rattle.vz_frame.specs.Frame.{frame_size}
 use Rattle.vz_rules.specs.Plan.{Plan, IsPlan}
 use Rattle.vz_rules.specs.declared.entry.Event.{Event}
-use Rattle.vz_rules.specs.World.{World, FrameData, Created, Submission, Scene, is_on, is_waiting, is_active, active_frames, frame_on, opening}
+use Rattle.vz_rules.specs.World.{World, FrameData, Surface, Submission, Scene, is_on, is_waiting, is_active, active_frames, frame_on, opening}
 use Rattle.vz_rules.specs.Scene.{scene_of, scene_at}
 use Rattle.vz_rules.specs.Step.{step_in, accepted_frames}
 use Rattle.vz_rules.specs.Kept.{HasSize, KeepsAlways, KeepsStates, is_open}
@@ -61,7 +61,7 @@ one_size w i j h p q same =
     let one : a.0 ≡ b.0 = at_same w.surfaces n.0 m.0 a.0 b.0 n.1 m.1
     (surfaces_differ w.clients w.surfaces h.always.clients h.always.surfaces n.0 m.0 a.0 b.0 n.1 m.1
     (ap (λ x. same_surface x b.0.id) a.2 ∙ (ap (same_surface i.id) b.2 ∙ same))) in
-    sym a.3 ∙ (ap (λ (c : Created). c.size) one ∙ b.3)
+    sym a.3 ∙ (ap (λ (c : Surface). c.size) one ∙ b.3)
 
 pub accepted_is : (w : World) → Holds w → IsAccepted (accepted_frames w)
 accepted_is w h =

@@ -5,7 +5,7 @@ use Rattle.vz_ids.specs.declared.SurfaceId.{SurfaceId}
 use Rattle.vz_ids.specs.declared.Sub.{Sub}
 use Rattle.vz_ids.specs.Ids.{same_surface, same_sub}
 use Rattle.vz_rules.specs.declared.entry.State.TheVariants.{Dropped}
-use Rattle.vz_rules.specs.World.{Client, Created, Submission, is_waiting, is_active, is_on, sub_of}
+use Rattle.vz_rules.specs.World.{Client, Surface, Submission, is_waiting, is_active, is_on, sub_of}
 use Rattle.vz_rules.specs.Messages.{replace_on}
 use Rattle.vz_rules.specs.Kept.{KeepsNumbers, KeepsStates, KeepsFlight, KeepsTime, IsCreated, is_by}
 use Rattle.vz_rules.proofs.Reached.{from_same, self_same}
@@ -16,11 +16,11 @@ use Rattle.vz_rules.proofs.Kept_states.{OpensNone, drops_when, on_and, Stands}
 
 -- Numbers
 
-pub numbers_of_more : (ss : List Created) (subs : List Submission) (new : Created) → KeepsNumbers ss subs → KeepsNumbers (ss ++ new ∷ []) subs
+pub numbers_of_more : (ss : List Surface) (subs : List Submission) (new : Surface) → KeepsNumbers ss subs → KeepsNumbers (ss ++ new ∷ []) subs
 numbers_of_more ss subs new h =
     record { numbered = h.numbered; ordered = h.ordered; created = λ s c. let d = h.created s c in (d.0, push_contains ss new d.0 d.1, d.2, d.3) }
 
-pub numbers_more : (ss : List Created) (subs : List Submission) (new : Submission) → new.submitted.index ≡ count_by (is_on new.submitted.id) subs + 1
+pub numbers_more : (ss : List Surface) (subs : List Submission) (new : Submission) → new.submitted.index ≡ count_by (is_on new.submitted.id) subs + 1
     → new.submitted.sub.ordinal ≡ count_by (is_by new.submitted.sub.client) subs + 1 → IsCreated ss new → KeepsNumbers ss subs → KeepsNumbers ss (subs ++ new ∷ [])
 numbers_more ss subs new index ordinal made h =
     record {
@@ -38,7 +38,7 @@ numbers_more ss subs new index ordinal made h =
     }
 
 -- no two submissions have one name
-pub subs_differ : (ss : List Created) (subs : List Submission) → KeepsNumbers ss subs
+pub subs_differ : (ss : List Surface) (subs : List Submission) → KeepsNumbers ss subs
     → (n m : ℕ) (s t : Submission) → slice_get subs n ≡ Some s → slice_get subs m ≡ Some t → same_sub (sub_of s) (sub_of t) ≡ true → n ≡ m
 subs_differ ss subs h n m s t p q e =
     let both = and_parts (s.submitted.sub.client == t.submitted.sub.client) (s.submitted.sub.ordinal == t.submitted.sub.ordinal) e in
@@ -85,7 +85,7 @@ stays_once n true l h = absurd (cc)
 stays_once n false l h = omega (arith, l)
 
 -- a new submission waits, and none other on its surface
-pub record IsNew (ss : List Created) (subs : List Submission) (new : Submission) : Type 0 where
+pub record IsNew (ss : List Surface) (subs : List Submission) (new : Submission) : Type 0 where
   pub waits : is_waiting new ≡ true
   pub acts : is_active new ≡ false
   pub was : new.was_active ≡ false
@@ -97,7 +97,7 @@ no_and : (a b : Bool) → b ≡ false → (a && b) ≡ false
 no_and true b h = h
 no_and false b h = refl
 
-pub states_more : (ss : List Created) (subs : List Submission) (new : Submission) → KeepsNumbers ss subs → IsNew ss subs new → KeepsStates ss subs
+pub states_more : (ss : List Surface) (subs : List Submission) (new : Submission) → KeepsNumbers ss subs → IsNew ss subs new → KeepsStates ss subs
     → KeepsStates ss (subs ++ new ∷ [])
 states_more ss subs new numbers is h =
     record {
@@ -144,21 +144,21 @@ flight_none subs drawn sub e c = absurd (cc)
 
 -- Time
 
-pub time_of_surfaces : (g : Created → Created) (cs : List Client) (ss : List Created) (now : ℕ) → KeepsSurface g → KeepsTime cs ss now
+pub time_of_surfaces : (g : Surface → Surface) (cs : List Client) (ss : List Surface) (now : ℕ) → KeepsSurface g → KeepsTime cs ss now
     → KeepsTime cs (map g ss) now
 time_of_surfaces g cs ss now name h =
     record {
       tick = h.tick;
-      born = λ s c. let m = contains_map g ss s c in omega (arith, h.born m.0 m.1, name.born m.0, ap (λ (x : Created). x.born) m.2);
+      born = λ s c. let m = contains_map g ss s c in omega (arith, h.born m.0 m.1, name.born m.0, ap (λ (x : Surface). x.born) m.2);
       delivered = h.delivered;
       answered = h.answered;
     }
 
-pub time_of_more : (cs : List Client) (ss : List Created) (new : Created) (now : ℕ) → new.born ≤ now → KeepsTime cs ss now → KeepsTime cs (ss ++ new ∷ []) now
+pub time_of_more : (cs : List Client) (ss : List Surface) (new : Surface) (now : ℕ) → new.born ≤ now → KeepsTime cs ss now → KeepsTime cs (ss ++ new ∷ []) now
 time_of_more cs ss new now b h =
     record {
       tick = h.tick;
-      born = λ s c. elim (contains_push ss new s c) [ inl m ↦ h.born s m | inr e ↦ subst (λ (x : Created). x.born ≤ now) e b ];
+      born = λ s c. elim (contains_push ss new s c) [ inl m ↦ h.born s m | inr e ↦ subst (λ (x : Surface). x.born ≤ now) e b ];
       delivered = h.delivered;
       answered = h.answered;
     }
@@ -169,7 +169,7 @@ pub record IsTimely (now : ℕ) (c : Client) : Type 0 where
   pub answered : c.answered ≤ now
 
 -- the tick goes on, and clients change but are timely
-pub time_of_clients : (k : Client → Client) (cs : List Client) (ss : List Created) (now next : ℕ) → now ≤ next → next ≤ 4294967231
+pub time_of_clients : (k : Client → Client) (cs : List Client) (ss : List Surface) (now next : ℕ) → now ≤ next → next ≤ 4294967231
     → ((c : Client) → Contains cs c → IsTimely now c → IsTimely next (k c)) → KeepsTime cs ss now → KeepsTime (map k cs) ss next
 time_of_clients k cs ss now next l top timely h =
     let was : (c : Client) → Contains cs c → IsTimely now c = λ c p. record { delivered = λ n e. h.delivered c n p e; answered = h.answered c p } in

@@ -6,7 +6,7 @@ use Rattle.vz_ids.specs.declared.SurfaceId.{SurfaceId}
 use Rattle.vz_ids.specs.declared.Sub.{Sub}
 use Rattle.vz_ids.specs.Ids.{same_surface}
 use Rattle.vz_rules.specs.declared.entry.State.TheVariants.{Dropped}
-use Rattle.vz_rules.specs.World.{World, Created, Submission, is_waiting, is_active, is_on}
+use Rattle.vz_rules.specs.World.{World, Surface, Submission, is_waiting, is_active, is_on}
 use Rattle.vz_rules.specs.Reach.{has_id, naming, reach, is_lost, destroy, drop_on, lost_in, clearing, collect}
 use Rattle.vz_rules.specs.Returns.{queue_returns, give_back, mark_fed, feed}
 use Rattle.vz_rules.specs.Kept.{KeepsAlways, is_open}
@@ -25,20 +25,20 @@ use Rattle.vz_rules.proofs.Kept_follows.{always_naming}
 destroyed_names : (kept : List SurfaceId) → KeepsSurface (destroy kept)
 destroyed_names kept = surface_when (λ s. record s { destroyed = true }) (is_lost kept) (record { client = λ s. refl; number = λ s. refl; id = λ s. refl; born = λ s. refl })
 
-destroyed_marks : (t : Bool) (s : Created) → (t ≡ true → s.marked ≡ true) → (s.destroyed ≡ true → s.marked ≡ true)
+destroyed_marks : (t : Bool) (s : Surface) → (t ≡ true → s.marked ≡ true) → (s.destroyed ≡ true → s.marked ≡ true)
     → (cond t (record s { destroyed = true }) s).destroyed ≡ true
     → (cond t (record s { destroyed = true }) s).marked ≡ true
 destroyed_marks true s lost h e = lost refl
 destroyed_marks false s lost h e = h e
 
-lost_marked : (kept : List SurfaceId) (s : Created) → is_lost kept s ≡ true → s.marked ≡ true
+lost_marked : (kept : List SurfaceId) (s : Surface) → is_lost kept s ≡ true → s.marked ≡ true
 lost_marked kept s h = (and_parts s.marked (not s.destroyed) (and_parts (s.marked && not s.destroyed) (not (has_id kept s.id)) h).0).0
 
-stays_by : (t : Bool) (s : Created) → t ≡ false → s.destroyed ≡ false → (cond t (record s { destroyed = true }) s).destroyed ≡ false
+stays_by : (t : Bool) (s : Surface) → t ≡ false → s.destroyed ≡ false → (cond t (record s { destroyed = true }) s).destroyed ≡ false
 stays_by true s h e = absurd (cc)
 stays_by false s h e = e
 
-pub drops : (lost : List Created) → OpensNone (drop_on lost)
+pub drops : (lost : List Surface) → OpensNone (drop_on lost)
 drops lost = drops_when (λ s. (is_waiting s || is_active s) && list_any (λ c. is_on c.id s) lost)
 
 open_on : (o any : Bool) (s : Submission) → is_open s ≡ o → is_open (cond (o && any) (record s { state = Dropped }) s) ≡ true → any ≡ false
@@ -47,7 +47,7 @@ open_on true false s e h = refl
 open_on false any s e h = absurd (both_ways (is_open s) e h)
 
 -- what is open afterwards is on no surface that is lost
-pub open_unlost : (lost : List Created) (s : Submission) → is_open (drop_on lost s) ≡ true → list_any (λ c. is_on c.id s) lost ≡ false
+pub open_unlost : (lost : List Surface) (s : Submission) → is_open (drop_on lost s) ≡ true → list_any (λ c. is_on c.id s) lost ≡ false
 open_unlost lost s h = open_on (is_waiting s || is_active s) (list_any (λ c. is_on c.id s) lost) s refl h
 
 -- and so that surface stands on

@@ -6,7 +6,7 @@ use Rattle.vz_ids.specs.declared.SurfaceId.{SurfaceId}
 use Rattle.vz_ids.specs.declared.SurfaceRange.{SurfaceRange}
 use Rattle.vz_ids.specs.Ids.{same_surface}
 use Rattle.vz_rules.specs.declared.entry.State.TheVariants.{Dropped}
-use Rattle.vz_rules.specs.World.{World, Created, FrameData, Submission, active_frames, frame_on, is_waiting, is_active}
+use Rattle.vz_rules.specs.World.{World, Surface, FrameData, Submission, active_frames, frame_on, is_waiting, is_active}
 use Rattle.vz_rules.specs.Scene.{shown}
 use Rattle.vz_rules.specs.Reach.{has_id, referenced, naming, has_closed, is_temporary, root_list, roots, reach, is_lost, destroy, drop_on, lost_in, clearing, collect}
 use Rattle.vz_rules.specs.Kept.{KeepsAlways, stands_in}
@@ -55,7 +55,7 @@ refers_back w v (Some i) x h cleared reached e =
     let stays = shown_stays w v r.0 h cleared (λ z k. reached z (any_from (same_surface z) (filter_map (shown w) refs) z (filter_map_has (shown w) refs r.0 z r.1 k) (self_same z))) in
     any_from (same_surface x) (filter_map (shown w) refs) m.0 (filter_map_has (shown w) refs r.0 m.0 r.1 (sym stays ∙ r.2)) m.2
 
-gone_id : (t : Bool) (c : Created) → (cond t (record c { destroyed = true }) c).id ≡ c.id
+gone_id : (t : Bool) (c : Surface) → (cond t (record c { destroyed = true }) c).id ≡ c.id
 gone_id true c = refl
 gone_id false c = refl
 
@@ -74,28 +74,28 @@ root_before : (w v : World) (root : Option SurfaceId) (x : SurfaceId) → Cleare
 root_before w v None x cleared e = e
 root_before w v (Some id) x cleared e = root_by (stands_in v.surfaces id) (stands_in w.surfaces id) id x (stands_before w v id cleared) e
 
-temporary_before : (w v : World) (x : SurfaceId) → Cleared w v → has_id (map (λ (c : Created). c.id) (filter (is_temporary v) v.surfaces)) x ≡ true
-    → has_id (map (λ (c : Created). c.id) (filter (is_temporary w) w.surfaces)) x ≡ true
+temporary_before : (w v : World) (x : SurfaceId) → Cleared w v → has_id (map (λ (c : Surface). c.id) (filter (is_temporary v) v.surfaces)) x ≡ true
+    → has_id (map (λ (c : Surface). c.id) (filter (is_temporary w) w.surfaces)) x ≡ true
 temporary_before w v x cleared e =
-    let m = any_at (same_surface x) (map (λ (c : Created). c.id) (filter (is_temporary v) v.surfaces)) e in
-    let c = contains_map (λ (c : Created). c.id) (filter (is_temporary v) v.surfaces) m.0 m.1 in
+    let m = any_at (same_surface x) (map (λ (c : Surface). c.id) (filter (is_temporary v) v.surfaces)) e in
+    let c = contains_map (λ (c : Surface). c.id) (filter (is_temporary v) v.surfaces) m.0 m.1 in
     let f = filter_at (is_temporary v) v.surfaces c.0 c.1 in
     let d = contains_map (destroy (reach w)) w.surfaces c.0 (subst (λ l. Contains l c.0) cleared.surfaces f.0) in
     let stands = not-true c.0.destroyed (and_parts (not c.0.destroyed) (not c.0.named) (and_parts (not c.0.destroyed && not c.0.named) (not (has_closed v c.0.client)) (and_parts (not c.0.destroyed && not c.0.named && not (has_closed v c.0.client)) (nat_lt v.tick (c.0.born + 16)) f.1).0).0).0 in
-    let stays = lost_by (reach w) d.0 (is_lost (reach w) d.0) refl (ap (λ (y : Created). y.destroyed) d.2 ∙ stands) in
+    let stays = lost_by (reach w) d.0 (is_lost (reach w) d.0) refl (ap (λ (y : Surface). y.destroyed) d.2 ∙ stands) in
     let same : d.0 ≡ c.0 = sym (destroys_not (reach w) d.0 stays.0) ∙ d.2 in
     let was : is_temporary w c.0 ≡ true =
     ap (λ t. not c.0.destroyed && not c.0.named && not t && nat_lt w.tick (c.0.born + 16)) (sym (cleared.closed c.0.client))
     ∙ (ap (λ n. not c.0.destroyed && not c.0.named && not (has_closed v c.0.client) && nat_lt n (c.0.born + 16)) (sym cleared.tick) ∙ f.1) in
-    any_from (same_surface x) (map (λ (c : Created). c.id) (filter (is_temporary w) w.surfaces)) c.0.id
-    (map_contains (λ (c : Created). c.id) (filter (is_temporary w) w.surfaces) c.0 (filter_has (is_temporary w) w.surfaces c.0 (subst (λ y. Contains w.surfaces y) same d.1) was))
+    any_from (same_surface x) (map (λ (c : Surface). c.id) (filter (is_temporary w) w.surfaces)) c.0.id
+    (map_contains (λ (c : Surface). c.id) (filter (is_temporary w) w.surfaces) c.0 (filter_has (is_temporary w) w.surfaces c.0 (subst (λ y. Contains w.surfaces y) same d.1) was))
     (ap (same_surface x) c.2 ∙ m.2)
 
 roots_before : (w v : World) (x : SurfaceId) → Cleared w v → has_id (roots v) x ≡ true → has_id (roots w) x ≡ true
 unfolding roots
 roots_before w v x cleared e =
-    let old = map (λ (c : Created). c.id) (filter (is_temporary w) w.surfaces) in
-    let new = map (λ (c : Created). c.id) (filter (is_temporary v) v.surfaces) in
+    let old = map (λ (c : Surface). c.id) (filter (is_temporary w) w.surfaces) in
+    let new = map (λ (c : Surface). c.id) (filter (is_temporary v) v.surfaces) in
     with_added (root_list w) old x
     ∙ (elim (or_cases (has_id (root_list v) x) (has_id new x) (sym (with_added (root_list v) new x) ∙ e)) [
       | inl r ↦ or_left (has_id (root_list w) x) (has_id old x)

@@ -4,7 +4,7 @@ use Rattle.std.specs.Prelude.{nat_lt}
 use Rattle.std.proofs.lemmas.Bool.{and_parts, or_cases, or_right, not-true, not_from_false}
 use Rattle.vz_ids.specs.declared.SurfaceId.{SurfaceId}
 use Rattle.vz_ids.specs.Ids.{same_surface}
-use Rattle.vz_rules.specs.World.{World, Created, FrameData, Submission, active_frames, frame_on, is_waiting, is_active}
+use Rattle.vz_rules.specs.World.{World, Surface, FrameData, Submission, active_frames, frame_on, is_waiting, is_active}
 use Rattle.vz_rules.specs.Scene.{shown_frame, shown}
 use Rattle.vz_rules.specs.Reach.{has_id, has_closed, is_temporary, root_list, roots, reach}
 use Rattle.vz_rules.specs.Kept.{KeepsAlways, stands_in}
@@ -15,21 +15,21 @@ use Rattle.vz_rules.proofs.Kept_reach.{refers, with_added}
 
 -- the surfaces that exist
 abbrev standing : World → List SurfaceId
-standing w = map (λ (c : Created). c.id) (filter (λ (c : Created). not c.destroyed) w.surfaces)
+standing w = map (λ (c : Surface). c.id) (filter (λ (c : Surface). not c.destroyed) w.surfaces)
 
 in_standing : (w : World) (x : SurfaceId) → stands_in w.surfaces x ≡ true → has_id (standing w) x ≡ true
 in_standing w x h =
     let m = stands_at w.surfaces x h in
     any_from (same_surface x) (standing w) m.0.id
-    (map_contains (λ (c : Created). c.id) (filter (λ (c : Created). not c.destroyed) w.surfaces) m.0
-    (filter_has (λ (c : Created). not c.destroyed) w.surfaces m.0 m.1 (not_from_false m.0.destroyed m.3)))
+    (map_contains (λ (c : Surface). c.id) (filter (λ (c : Surface). not c.destroyed) w.surfaces) m.0
+    (filter_has (λ (c : Surface). not c.destroyed) w.surfaces m.0 m.1 (not_from_false m.0.destroyed m.3)))
     (ap (λ i. same_surface i m.0.id) (sym (from_same m.0.id x m.2)) ∙ self_same m.0.id)
 
 from_standing : (w : World) (x : SurfaceId) → has_id (standing w) x ≡ true → stands_in w.surfaces x ≡ true
 from_standing w x h =
     let m = any_at (same_surface x) (standing w) h in
-    let c = contains_map (λ (c : Created). c.id) (filter (λ (c : Created). not c.destroyed) w.surfaces) m.0 m.1 in
-    let f = filter_at (λ (c : Created). not c.destroyed) w.surfaces c.0 c.1 in
+    let c = contains_map (λ (c : Surface). c.id) (filter (λ (c : Surface). not c.destroyed) w.surfaces) m.0 m.1 in
+    let f = filter_at (λ (c : Surface). not c.destroyed) w.surfaces c.0 c.1 in
     stands_from w.surfaces x c.0 f.0 (ap (λ i. same_surface i x) (c.2 ∙ sym (from_same x m.0 m.2)) ∙ self_same x) (not-true c.0.destroyed f.1)
 
 root_by : (w : World) (t : Bool) (id x : SurfaceId) → stands_in w.surfaces id ≡ t → has_id (cond t (id ∷ []) []) x ≡ true → stands_in w.surfaces x ≡ true
@@ -45,12 +45,12 @@ root_stands w (Some id) x h = root_by w (stands_in w.surfaces id) id x refl h
 roots_stand : (w : World) (x : SurfaceId) → has_id (roots w) x ≡ true → stands_in w.surfaces x ≡ true
 unfolding roots
 roots_stand w x h =
-    let temporary = map (λ (c : Created). c.id) (filter (is_temporary w) w.surfaces) in
+    let temporary = map (λ (c : Surface). c.id) (filter (is_temporary w) w.surfaces) in
     elim (or_cases (has_id (root_list w) x) (has_id temporary x) (sym (with_added (root_list w) temporary x) ∙ h)) [
       | inl r ↦ root_stands w w.root x r
       | inr r ↦
           let m = any_at (same_surface x) temporary r in
-          let c = contains_map (λ (c : Created). c.id) (filter (is_temporary w) w.surfaces) m.0 m.1 in
+          let c = contains_map (λ (c : Surface). c.id) (filter (is_temporary w) w.surfaces) m.0 m.1 in
           let f = filter_at (is_temporary w) w.surfaces c.0 c.1 in
           let d = c.0 in
           let stands = (and_parts (not d.destroyed) (not d.named) (and_parts (not d.destroyed && not d.named) (not (has_closed w d.client))

@@ -5,7 +5,7 @@ use Rattle.std.specs.List.{list_any, list_all}
 use Rattle.std.proofs.lemmas.Bool.{leb-false, and_from, both_ways, eqb-true, eq-eqb, false_from_ne_true}
 use Rattle.vz_ids.specs.declared.SurfaceId.{SurfaceId}
 use Rattle.vz_ids.specs.Ids.{same_sink, same_surface, same_sub}
-use Rattle.vz_rules.specs.World.{World, Client, Created, FrameData, Resource, Submission, active_frames, frame_on, is_waiting, is_active, is_on, is_in_flight, sub_of}
+use Rattle.vz_rules.specs.World.{World, Client, Surface, FrameData, Resource, Submission, active_frames, frame_on, is_waiting, is_active, is_on, is_in_flight, sub_of}
 use Rattle.vz_rules.specs.Settle.{is_met, has_come, is_ready, ready}
 use Rattle.vz_rules.specs.Reach.{has_id, reach, is_lost, lost_in}
 use Rattle.vz_rules.specs.Returns.{holds, is_held}
@@ -19,7 +19,7 @@ use Rattle.vz_rules.proofs.Kept_states.{on_and}
 
 -- Names
 
-pub surfaces_apart : (w : World) (n m : ℕ) (s t : Created) → KeepsAlways w → slice_get w.surfaces n ≡ Some s → slice_get w.surfaces m ≡ Some t
+pub surfaces_apart : (w : World) (n m : ℕ) (s t : Surface) → KeepsAlways w → slice_get w.surfaces n ≡ Some s → slice_get w.surfaces m ≡ Some t
     → same_surface s.id t.id ≡ true → n ≡ m
 surfaces_apart w n m s t h p q e = surfaces_differ w.clients w.surfaces h.clients h.surfaces n m s t p q e
 
@@ -27,15 +27,15 @@ pub subs_apart : (w : World) (n m : ℕ) (s t : Submission) → KeepsAlways w �
     → same_sub (sub_of s) (sub_of t) ≡ true → n ≡ m
 subs_apart w n m s t h p q e = subs_differ w.surfaces w.subs h.numbers n m s t p q e
 
-pub owners_same : (w : World) (s t : Created) → KeepsAlways w → Contains w.surfaces s → Contains w.surfaces t → same_sink s.id.sink t.id.sink ≡ true
+pub owners_same : (w : World) (s t : Surface) → KeepsAlways w → Contains w.surfaces s → Contains w.surfaces t → same_sink s.id.sink t.id.sink ≡ true
     → s.client ≡ t.client
 owners_same w s t h p q e = one_owner w.clients w.surfaces s t h.clients h.surfaces p q (from_same_sink s.id.sink t.id.sink e)
 
 -- the last surface of a client has the greatest number
-pub last_is_greatest : (w : World) (c : ℕ) (s t : Created) → KeepsAlways w → last_in w.surfaces c ≡ Some s → Contains w.surfaces t → t.client ≡ c
+pub last_is_greatest : (w : World) (c : ℕ) (s t : Surface) → KeepsAlways w → last_in w.surfaces c ≡ Some s → Contains w.surfaces t → t.client ≡ c
     → t.number ≤ s.number
 last_is_greatest w c s t h e q same =
-    let at = last_at (λ (x : Created). x.client == c) w.surfaces s e in
+    let at = last_at (λ (x : Surface). x.client == c) w.surfaces s e in
     let n = contains_at w.surfaces t q in
     earlier_is_less w.clients w.surfaces n.0 at.0 t s h.surfaces n.1 at.1.0 (same ∙ sym (eqb-true s.client c at.1.1)) (at.1.2 n.0 t n.1 (eq-eqb t.client c same))
 
@@ -131,7 +131,7 @@ kept_by true false false e p q = absurd (cc)
 kept_by false d h e p q = absurd (cc)
 
 -- what is marked and exists is reached
-pub marked_reached : (w : World) (s : Created) → Keeps w → Contains w.surfaces s → s.marked ≡ true → s.destroyed ≡ false → has_id (reach w) s.id ≡ true
+pub marked_reached : (w : World) (s : Surface) → Keeps w → Contains w.surfaces s → s.marked ≡ true → s.destroyed ≡ false → has_id (reach w) s.id ≡ true
 unfolding lost_in
 marked_reached w s h c m d = kept_by s.marked s.destroyed (has_id (reach w) s.id) (none_filtered (is_lost (reach w)) w.surfaces s h.none_lost c) m d
 

@@ -10,7 +10,7 @@ use Rattle.vz_pixels.specs.Block.{Block, IsBlock}
 use Rattle.vz_frame.specs.Fits.{within, fits_colour, fits_block}
 use Rattle.vz_frame.specs.Frame.{frame_size}
 use Rattle.vz_rules.specs.Plan.{Plan, IsPlan}
-use Rattle.vz_rules.specs.World.{World, Client, Created, Resource, Submission}
+use Rattle.vz_rules.specs.World.{World, Client, Surface, Resource, Submission}
 use Rattle.vz_rules.specs.Kept.{KeepsAlways, KeepsPlan, KeepsMessages, AreShort, is_by, is_surface_of, relates}
 use Rattle.vz_rules.proofs.Kept_last.{surfaces_differ}
 use Rattle.vz_rules.proofs.Members.{contains_at, at_same, at_within, contains_here, contains_there, contains_cases, contains_none}
@@ -94,7 +94,7 @@ subs_few p w is a h =
 
 surfaces_few : (p : Plan) (w : World) → IsPlan p → KeepsAlways w → KeepsPlan p w → length w.surfaces ≤ 65536
 surfaces_few p w is a h =
-    let some = counted_few (λ (s : Created). true) (λ (c : Client). is_surface_of c.number) 4096 w.surfaces w.clients (λ s q e.
+    let some = counted_few (λ (s : Surface). true) (λ (c : Client). is_surface_of c.number) 4096 w.surfaces w.clients (λ s q e.
     let owner = a.surfaces.of_clients s q in
     (owner.0, owner.1, eq-eqb s.client owner.0.number (sym owner.2))) (λ c q. omega (arith, a.few_created c.number, few_of p w is a h c q)) in
     omega (arith, times_more (length w.clients) 4096 _ (clients_few p w is h) some, count_all w.surfaces)
@@ -130,14 +130,14 @@ lists_short p w is a h k =
 -- Sizes
 
 -- a surface has the size of each frame that was accepted on it
-pub surface_size : (w : World) (s : Submission) (c : Created) → KeepsAlways w → KeepsMessages w → Contains w.subs s → Contains w.surfaces c → same_surface c.id s.submitted.id ≡ true
+pub surface_size : (w : World) (s : Submission) (c : Surface) → KeepsAlways w → KeepsMessages w → Contains w.subs s → Contains w.surfaces c → same_surface c.id s.submitted.id ≡ true
     → c.size ≡ frame_size s.submitted.frame
 surface_size w s c a k p q same =
     let made = k.sizes s p in
     let n = contains_at w.surfaces c q in
     let m = contains_at w.surfaces made.0 made.1 in
     let place = surfaces_differ w.clients w.surfaces a.clients a.surfaces n.0 m.0 c made.0 n.1 m.1 (ap (same_surface c.id) made.2 ∙ same) in
-    ap (λ (x : Created). x.size) (at_same w.surfaces n.0 m.0 c made.0 n.1 m.1 place) ∙ made.3
+    ap (λ (x : Surface). x.size) (at_same w.surfaces n.0 m.0 c made.0 n.1 m.1 place) ∙ made.3
 
 -- so all these have one size
 pub frames_size : (w : World) (s t : Submission) → KeepsAlways w → KeepsMessages w → Contains w.subs s → Contains w.subs t → same_surface s.submitted.id t.submitted.id ≡ true

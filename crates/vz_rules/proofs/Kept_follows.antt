@@ -2,7 +2,7 @@
 use Rattle.std.proofs.Common.{◌≡◌, ℕ, zero, suc, Bool, true, false, not, ◌&&◌, inr, List, map, map-id, filter, length, refl, cond, subst}
 use Rattle.std.specs.List.{list_any}
 use Rattle.std.proofs.lemmas.Bool.{and_parts}
-use Rattle.vz_rules.specs.World.{World, Created, Submission, is_waiting}
+use Rattle.vz_rules.specs.World.{World, Surface, Submission, is_waiting}
 use Rattle.vz_rules.specs.Settle.{is_ready, ready, after_round, marked_by, is_before, round, rounds, settle}
 use Rattle.vz_rules.specs.Reach.{name_one, naming, is_named_now}
 use Rattle.vz_rules.specs.Kept.{KeepsAlways}
@@ -15,14 +15,14 @@ use Rattle.vz_rules.proofs.Kept_worlds.{always_parts, stands_map, holds_from}
 
 -- A round
 
-marked_names : (ss : List Created) (activated : List Submission) → KeepsSurface (marked_by ss activated)
+marked_names : (ss : List Surface) (activated : List Submission) → KeepsSurface (marked_by ss activated)
 marked_names ss activated = surface_when (λ s. record s { marked = true }) (λ s. list_any (is_before ss s) activated) (record { client = λ s. refl; number = λ s. refl; id = λ s. refl; born = λ s. refl })
 
-marked_stands : (t : Bool) (s : Created) → (cond t (record s { marked = true }) s).destroyed ≡ s.destroyed
+marked_stands : (t : Bool) (s : Surface) → (cond t (record s { marked = true }) s).destroyed ≡ s.destroyed
 marked_stands true s = refl
 marked_stands false s = refl
 
-marked_marks : (t : Bool) (s : Created) → (s.destroyed ≡ true → s.marked ≡ true) → (cond t (record s { marked = true }) s).destroyed ≡ true
+marked_marks : (t : Bool) (s : Surface) → (s.destroyed ≡ true → s.marked ≡ true) → (cond t (record s { marked = true }) s).destroyed ≡ true
     → (cond t (record s { marked = true }) s).marked ≡ true
 marked_marks true s h e = refl
 marked_marks false s h e = h e
@@ -66,16 +66,16 @@ always_settle w h = always_rounds (length w.subs) w h
 named_names : (w : World) → KeepsSurface (name_one w)
 named_names w = surface_when (λ s. record s { named = true }) (λ s. not s.destroyed && is_named_now w s.id) (record { client = λ s. refl; number = λ s. refl; id = λ s. refl; born = λ s. refl })
 
-named_stands : (t : Bool) (s : Created) → (cond t (record s { named = true }) s).destroyed ≡ s.destroyed
+named_stands : (t : Bool) (s : Surface) → (cond t (record s { named = true }) s).destroyed ≡ s.destroyed
 named_stands true s = refl
 named_stands false s = refl
 
-named_marks : (t : Bool) (s : Created) → (s.destroyed ≡ true → s.marked ≡ true) → (cond t (record s { named = true }) s).destroyed ≡ true
+named_marks : (t : Bool) (s : Surface) → (s.destroyed ≡ true → s.marked ≡ true) → (cond t (record s { named = true }) s).destroyed ≡ true
     → (cond t (record s { named = true }) s).marked ≡ true
 named_marks true s h e = h e
 named_marks false s h e = h e
 
-named_safe : (t : Bool) (s : Created) → IsSafe s → IsSafe (cond t (record s { named = true }) s)
+named_safe : (t : Bool) (s : Surface) → IsSafe s → IsSafe (cond t (record s { named = true }) s)
 named_safe true s h = h
 named_safe false s h = h
 

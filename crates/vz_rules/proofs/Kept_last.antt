@@ -8,7 +8,7 @@ use Rattle.vz_ids.specs.declared.LocalSurfaceId.{LocalSurfaceId}
 use Rattle.vz_ids.specs.declared.SurfaceId.{SurfaceId}
 use Rattle.vz_ids.specs.Ids.{same_sink, same_local, same_surface, is_raised}
 use Rattle.vz_frame.specs.Frame.{first_of}
-use Rattle.vz_rules.specs.World.{Client, Created}
+use Rattle.vz_rules.specs.World.{Client, Surface}
 use Rattle.vz_rules.specs.Scene.{or_else}
 use Rattle.vz_rules.specs.Messages.{violates, is_last}
 use Rattle.vz_rules.specs.Kept.{KeepsClients, KeepsSurfaces, IsOfClient, last_in, is_surface_of}
@@ -105,11 +105,11 @@ last_map g p (x ∷ xs) same =
 -- Which surface is the last
 
 -- of two surfaces of a client the earlier one has the smaller number
-pub earlier_is_less : (cs : List Client) (ss : List Created) (n m : ℕ) (s t : Created) → KeepsSurfaces cs ss → slice_get ss n ≡ Some s → slice_get ss m ≡ Some t
+pub earlier_is_less : (cs : List Client) (ss : List Surface) (n m : ℕ) (s t : Surface) → KeepsSurfaces cs ss → slice_get ss n ≡ Some s → slice_get ss m ≡ Some t
     → s.client ≡ t.client → n ≤ m → s.number ≤ t.number
 earlier_is_less cs ss n m s t h p q same l =
     elim (cases_order n m) [
-      | inl e ↦ omega (arith, ap (λ (x : Created). x.number) (at_same ss n m s t p q e))
+      | inl e ↦ omega (arith, ap (λ (x : Surface). x.number) (at_same ss n m s t p q e))
       | inr r ↦ elim r [
         | inl k ↦ omega (
           arith,
@@ -140,22 +140,22 @@ one_client cs c d h p q e =
     at_same cs n.0 m.0 c d n.1 m.1 (h.distinct n.0 m.0 c d n.1 m.1 (ap (λ x. same_sink x d.sink) e ∙ self_same_sink d.sink))
 
 -- surfaces of one sink are of one client
-pub one_owner : (cs : List Client) (ss : List Created) (s t : Created) → KeepsClients cs → KeepsSurfaces cs ss → Contains ss s → Contains ss t
+pub one_owner : (cs : List Client) (ss : List Surface) (s t : Surface) → KeepsClients cs → KeepsSurfaces cs ss → Contains ss s → Contains ss t
     → s.id.sink ≡ t.id.sink → s.client ≡ t.client
 one_owner cs ss s t hc hs p q e =
     let a = hs.of_clients s p in
     let b = hs.of_clients t q in
     sym a.2 ∙ (ap (λ (x : Client). x.number) (one_client cs a.0 b.0 hc a.1 b.1 (a.3 ∙ (e ∙ sym b.3))) ∙ b.2)
 
-locals_same : (s t : Created) → same_surface s.id t.id ≡ true → same_local s.id.local t.id.local ≡ true
+locals_same : (s t : Surface) → same_surface s.id t.id ≡ true → same_local s.id.local t.id.local ≡ true
 locals_same s t h = (and_parts (same_sink s.id.sink t.id.sink) (same_local s.id.local t.id.local) h).1
 
 same_back : (a b : SurfaceId) → same_surface a b ≡ true → same_surface b a ≡ true
 same_back a b h = ap (λ x. same_surface x a) (sym (from_same a b h)) ∙ self_same a
 
 -- no two surfaces have one id
-pub surfaces_differ : (cs : List Client) (ss : List Created) → KeepsClients cs → KeepsSurfaces cs ss
-    → (n m : ℕ) (s t : Created) → slice_get ss n ≡ Some s → slice_get ss m ≡ Some t → same_surface s.id t.id ≡ true → n ≡ m
+pub surfaces_differ : (cs : List Client) (ss : List Surface) → KeepsClients cs → KeepsSurfaces cs ss
+    → (n m : ℕ) (s t : Surface) → slice_get ss n ≡ Some s → slice_get ss m ≡ Some t → same_surface s.id t.id ≡ true → n ≡ m
 surfaces_differ cs ss hc hs n m s t p q h =
     let owner = one_owner cs ss s t hc hs (at_contains ss n s p) (at_contains ss m t q) (ap (λ (x : SurfaceId). x.sink) (from_same s.id t.id h)) in
     elim (cases_order n m) [
@@ -168,7 +168,7 @@ surfaces_differ cs ss hc hs n m s t p q h =
 
 -- Surfaces with one more
 
-end_of : (ss : List Created) (new : Created) (m : ℕ) (t : Created) → slice_get (ss ++ new ∷ []) m ≡ Some t → m ≤ length ss
+end_of : (ss : List Surface) (new : Surface) (m : ℕ) (t : Surface) → slice_get (ss ++ new ∷ []) m ≡ Some t → m ≤ length ss
 end_of ss new m t q = elim (at_push ss new m t q) [ inl r ↦ omega (arith, at_within ss m t r.0) | inr r ↦ omega (arith, r.0) ]
 
 goes_far : (a b c : LocalSurfaceId) → is_raised a b ≡ true → is_raised b c ≡ true → is_raised a c ≡ true
@@ -194,47 +194,47 @@ goes_by false true h e = refl
 goes_by false false h e = absurd (cc)
 
 -- an id that does not violate the last one, and is not it, goes on from all of the client
-pub raised_from_all : (cs : List Client) (ss : List Created) (c : ℕ) (local : LocalSurfaceId) (o : Option Created) → KeepsSurfaces cs ss → last_in ss c ≡ o
+pub raised_from_all : (cs : List Client) (ss : List Surface) (c : ℕ) (local : LocalSurfaceId) (o : Option Surface) → KeepsSurfaces cs ss → last_in ss c ≡ o
     → violates o local ≡ false → is_last o local ≡ false
-    → (n : ℕ) (s : Created) → slice_get ss n ≡ Some s → s.client ≡ c → is_raised s.id.local local ≡ true
-raised_from_all cs ss c local None h e v l n s p same = absurd (last_none (λ (x : Created). x.client == c) ss s e (at_contains ss n s p) (eq-eqb s.client c same))
+    → (n : ℕ) (s : Surface) → slice_get ss n ≡ Some s → s.client ≡ c → is_raised s.id.local local ≡ true
+raised_from_all cs ss c local None h e v l n s p same = absurd (last_none (λ (x : Surface). x.client == c) ss s e (at_contains ss n s p) (eq-eqb s.client c same))
 raised_from_all cs ss c local (Some last) h e v l n s p same =
-    let at = last_at (λ (x : Created). x.client == c) ss last e in
+    let at = last_at (λ (x : Surface). x.client == c) ss last e in
     let m = at.0 in
     let on : is_raised last.id.local local ≡ true = goes_by (same_local last.id.local local) (is_raised last.id.local local) v l in
     let owner : s.client ≡ last.client = same ∙ sym (eqb-true last.client c at.1.1) in
     elim (cases_order n m) [
-      | inl f ↦ ap (λ (x : Created). is_raised x.id.local local) (at_same ss n m s last p at.1.0 f) ∙ on
+      | inl f ↦ ap (λ (x : Surface). is_raised x.id.local local) (at_same ss n m s last p at.1.0 f) ∙ on
       | inr r ↦ elim r [
         | inl k ↦ goes_far s.id.local last.id.local local (h.go_on n m s last p at.1.0 k owner) on
         | inr k ↦ absurd (omega (arith, k, at.1.2 n s p (eq-eqb s.client c same)))
       ]
     ]
 
-pub surfaces_more : (cs : List Client) (ss : List Created) (new : Created) → new.number ≡ count_by (is_surface_of new.client) ss + 1
+pub surfaces_more : (cs : List Client) (ss : List Surface) (new : Surface) → new.number ≡ count_by (is_surface_of new.client) ss + 1
     → IsOfClient cs new.client new.id
-    → ((n : ℕ) (s : Created) → slice_get ss n ≡ Some s → s.client ≡ new.client → is_raised s.id.local new.id.local ≡ true) → new.destroyed ≡ false
+    → ((n : ℕ) (s : Surface) → slice_get ss n ≡ Some s → s.client ≡ new.client → is_raised s.id.local new.id.local ≡ true) → new.destroyed ≡ false
     → KeepsSurfaces cs ss → KeepsSurfaces cs (ss ++ new ∷ [])
 surfaces_more cs ss new number owner goes stands h =
     record {
       numbered = λ n s p. elim (at_push ss new n s p) [
         | inl r ↦ h.numbered n s r.0 ∙ ap (λ l. count_by (is_surface_of s.client) l + 1) (sym r.1)
-        | inr r ↦ subst (λ (x : Created). x.number ≡ count_by (is_surface_of x.client) (take n (ss ++ new ∷ [])) + 1) r.1
+        | inr r ↦ subst (λ (x : Surface). x.number ≡ count_by (is_surface_of x.client) (take n (ss ++ new ∷ [])) + 1) r.1
             (number ∙ ap (λ l. count_by (is_surface_of new.client) l + 1) (sym r.2))
       ];
       of_clients = λ s c. elim (contains_push ss new s c) [
         | inl m ↦ h.of_clients s m
-        | inr e ↦ subst (λ (x : Created). IsOfClient cs x.client x.id) e owner
+        | inr e ↦ subst (λ (x : Surface). IsOfClient cs x.client x.id) e owner
       ];
       go_on = λ n m s t p q l same. elim (at_push ss new n s p) [
         | inl a ↦ elim (at_push ss new m t q) [
           | inl b ↦ h.go_on n m s t a.0 b.0 l same
-          | inr b ↦ subst (λ (x : Created). is_raised s.id.local x.id.local ≡ true) b.1 (goes n s a.0 (same ∙ ap (λ (x : Created). x.client) (sym b.1)))
+          | inr b ↦ subst (λ (x : Surface). is_raised s.id.local x.id.local ≡ true) b.1 (goes n s a.0 (same ∙ ap (λ (x : Surface). x.client) (sym b.1)))
         ]
         | inr a ↦ absurd (omega (arith, a.0, l, end_of ss new m t q))
       ];
       destroyed = λ s c d. elim (contains_push ss new s c) [
         | inl m ↦ h.destroyed s m d
-        | inr e ↦ absurd (both_ways new.destroyed stands (ap (λ (x : Created). x.destroyed) e ∙ d))
+        | inr e ↦ absurd (both_ways new.destroyed stands (ap (λ (x : Surface). x.destroyed) e ∙ d))
       ];
     }

@@ -7,7 +7,7 @@ use Rattle.vz_pixels.specs.Block.{Block}
 use Rattle.vz_rules.specs.declared.entry.Reply.TheVariants as reply
 use Rattle.vz_rules.specs.declared.entry.Refusal.{Refusal}
 use Rattle.vz_rules.specs.declared.entry.Refusal.TheVariants as refusal
-use Rattle.vz_rules.specs.World.{World, Client, Created, Submission}
+use Rattle.vz_rules.specs.World.{World, Client, Surface, Submission}
 use Rattle.vz_rules.specs.Returns.{holds}
 use Rattle.vz_rules.specs.Messages.{Answer, says, took, taking, refused, unless_refused, upload_answer, answer_tick, reclaim, root_answer, relate, hierarchy_refusal, hierarchy_answer, await_answer, mark_of}
 use Rattle.vz_rules.specs.Kept.{KeepsAlways, KeepsShelf}
@@ -149,16 +149,16 @@ leaving x = record x { closed = true }
 marked_names : (c : ℕ) → KeepsSurface (mark_of c)
 marked_names c = surface_when (λ s. record s { marked = true }) (λ s. s.client == c) (record { client = λ s. refl; number = λ s. refl; id = λ s. refl; born = λ s. refl })
 
-mark_stands : (t : Bool) (s : Created) → (cond t (record s { marked = true }) s).destroyed ≡ s.destroyed
+mark_stands : (t : Bool) (s : Surface) → (cond t (record s { marked = true }) s).destroyed ≡ s.destroyed
 mark_stands true s = refl
 mark_stands false s = refl
 
-mark_marks : (t : Bool) (s : Created) → (s.destroyed ≡ true → s.marked ≡ true) → (cond t (record s { marked = true }) s).destroyed ≡ true
+mark_marks : (t : Bool) (s : Surface) → (s.destroyed ≡ true → s.marked ≡ true) → (cond t (record s { marked = true }) s).destroyed ≡ true
     → (cond t (record s { marked = true }) s).marked ≡ true
 mark_marks true s h e = refl
 mark_marks false s h e = h e
 
-mark_safe : (t : Bool) (s : Created) → (t ≡ true → ⊥) → IsSafe s → IsSafe (cond t (record s { marked = true }) s)
+mark_safe : (t : Bool) (s : Surface) → (t ≡ true → ⊥) → IsSafe s → IsSafe (cond t (record s { marked = true }) s)
 mark_safe true s no_mark h = absurd (no_mark refl)
 mark_safe false s no_mark h = h
 
@@ -184,7 +184,7 @@ always_closed w c h =
       marks = λ s p. mark_marks (s.client == c.number) s;
       safe = λ x s p o e. mark_safe (s.client == c.number) s (λ t.
           let m = contains_map (λ (y : Client). cond (y.number == c.number) (took (leaving y)) y) w.clients x p in
-          let at = last_at (λ (y : Created). y.client == x.number) w.surfaces s e in
+          let at = last_at (λ (y : Surface). y.client == x.number) w.surfaces s e in
           let number : x.number ≡ c.number = sym (eqb-true s.client x.number at.1.1) ∙ eqb-true s.client c.number t in
           left_closed c.number m.0 (ap (λ (y : Client). y.closed) m.2 ∙ o) (ap (λ (y : Client). y.number) m.2 ∙ number));
       states = states_keep (λ s. s) w.surfaces (map (mark_of c.number) w.surfaces) w.subs nothing_opens

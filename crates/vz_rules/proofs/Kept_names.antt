@@ -2,7 +2,7 @@
 use Rattle.std.proofs.Common.{◌≡◌, ℕ, ◌+◌, Bool, true, ◌==◌, List, map, take, ap, sym, ◌∙◌, cond, subst, Contains, count_by}
 use Rattle.vz_ids.specs.declared.SurfaceId.{SurfaceId}
 use Rattle.vz_ids.specs.Ids.{same_sink, same_surface, is_raised}
-use Rattle.vz_rules.specs.World.{Client, Created, Submission, is_on}
+use Rattle.vz_rules.specs.World.{Client, Surface, Submission, is_on}
 use Rattle.vz_rules.specs.Kept.{KeepsClients, KeepsSurfaces, KeepsNumbers, IsOfClient, IsCreated, is_surface_of, is_by}
 use Rattle.vz_rules.proofs.Members.{when_same, contains_map, map_contains, at_map}
 use Rattle.vz_rules.proofs.Counts.{count_same, take_map}
@@ -13,20 +13,20 @@ pub record KeepsName (k : Client → Client) : Type 0 where
   pub sink : (c : Client) → (k c).sink ≡ c.sink
 
 -- a surface changes and keeps its name
-pub record KeepsSurface (g : Created → Created) : Type 0 where
-  pub client : (s : Created) → (g s).client ≡ s.client
-  pub number : (s : Created) → (g s).number ≡ s.number
-  pub id : (s : Created) → (g s).id ≡ s.id
-  pub born : (s : Created) → (g s).born ≡ s.born
+pub record KeepsSurface (g : Surface → Surface) : Type 0 where
+  pub client : (s : Surface) → (g s).client ≡ s.client
+  pub number : (s : Surface) → (g s).number ≡ s.number
+  pub id : (s : Surface) → (g s).id ≡ s.id
+  pub born : (s : Surface) → (g s).born ≡ s.born
 
 -- where it changes under a test
-pub surface_when : (h : Created → Created) (test : Created → Bool) → KeepsSurface h → KeepsSurface (λ s. cond (test s) (h s) s)
+pub surface_when : (h : Surface → Surface) (test : Surface → Bool) → KeepsSurface h → KeepsSurface (λ s. cond (test s) (h s) s)
 surface_when h test name =
     record {
-      client = λ s. when_same (λ (x : Created). x.client) h (test s) s (name.client s);
-      number = λ s. when_same (λ (x : Created). x.number) h (test s) s (name.number s);
-      id = λ s. when_same (λ (x : Created). x.id) h (test s) s (name.id s);
-      born = λ s. when_same (λ (x : Created). x.born) h (test s) s (name.born s);
+      client = λ s. when_same (λ (x : Surface). x.client) h (test s) s (name.client s);
+      number = λ s. when_same (λ (x : Surface). x.number) h (test s) s (name.number s);
+      id = λ s. when_same (λ (x : Surface). x.id) h (test s) s (name.id s);
+      born = λ s. when_same (λ (x : Surface). x.born) h (test s) s (name.born s);
     }
 
 pub clients_keep : (k : Client → Client) (cs : List Client) → KeepsName k → KeepsClients cs → KeepsClients (map k cs)
@@ -45,7 +45,7 @@ of_client_keep : (k : Client → Client) (cs : List Client) (c : ℕ) (id : Surf
 of_client_keep k cs c id name h = (k h.0, map_contains k cs h.0 h.1, name.number h.0 ∙ h.2, name.sink h.0 ∙ h.3)
 
 -- surfaces stay, and clients keep their names
-pub surfaces_of_clients : (k : Client → Client) (cs : List Client) (ss : List Created) → KeepsName k → KeepsSurfaces cs ss → KeepsSurfaces (map k cs) ss
+pub surfaces_of_clients : (k : Client → Client) (cs : List Client) (ss : List Surface) → KeepsName k → KeepsSurfaces cs ss → KeepsSurfaces (map k cs) ss
 surfaces_of_clients k cs ss name h =
     record {
       numbered = h.numbered;
@@ -55,15 +55,15 @@ surfaces_of_clients k cs ss name h =
     }
 
 -- surfaces keep their names, and one that is destroyed is marked
-pub surfaces_keep : (g : Created → Created) (cs : List Client) (ss : List Created) → KeepsSurface g
-    → ((s : Created) → Contains ss s → (s.destroyed ≡ true → s.marked ≡ true) → (g s).destroyed ≡ true → (g s).marked ≡ true)
+pub surfaces_keep : (g : Surface → Surface) (cs : List Client) (ss : List Surface) → KeepsSurface g
+    → ((s : Surface) → Contains ss s → (s.destroyed ≡ true → s.marked ≡ true) → (g s).destroyed ≡ true → (g s).marked ≡ true)
     → KeepsSurfaces cs ss → KeepsSurfaces cs (map g ss)
 surfaces_keep g cs ss name marks h =
     record {
       numbered = λ n s at.
           let m = at_map g ss n s at in
-          let same : s.client ≡ m.0.client = ap (λ (x : Created). x.client) (sym m.2) ∙ name.client m.0 in
-          ap (λ (x : Created). x.number) (sym m.2)
+          let same : s.client ≡ m.0.client = ap (λ (x : Surface). x.client) (sym m.2) ∙ name.client m.0 in
+          ap (λ (x : Surface). x.number) (sym m.2)
           ∙ (name.number m.0
           ∙ (h.numbered n m.0 m.1
           ∙ ap (λ k. k + 1) (sym (
@@ -72,33 +72,33 @@ surfaces_keep g cs ss name marks h =
           ))));
       of_clients = λ s c.
           let m = contains_map g ss s c in
-          subst (λ (x : Created). IsOfClient cs x.client x.id) m.2
+          subst (λ (x : Surface). IsOfClient cs x.client x.id) m.2
           (subst (λ c. IsOfClient cs c (g m.0).id) (sym (name.client m.0)) (subst (λ id. IsOfClient cs m.0.client id) (sym (name.id m.0)) (h.of_clients m.0 m.1)));
       go_on = λ n m s t p q l same.
           let a = at_map g ss n s p in
           let b = at_map g ss m t q in
           let one : a.0.client ≡ b.0.client =
-          sym (name.client a.0) ∙ (ap (λ (x : Created). x.client) a.2 ∙ (same ∙ (ap (λ (x : Created). x.client) (sym b.2) ∙ name.client b.0))) in
-          ap (λ (x : Created). is_raised x.id.local t.id.local) (sym a.2)
-          ∙ (ap (λ (x : Created). is_raised (g a.0).id.local x.id.local) (sym b.2)
+          sym (name.client a.0) ∙ (ap (λ (x : Surface). x.client) a.2 ∙ (same ∙ (ap (λ (x : Surface). x.client) (sym b.2) ∙ name.client b.0))) in
+          ap (λ (x : Surface). is_raised x.id.local t.id.local) (sym a.2)
+          ∙ (ap (λ (x : Surface). is_raised (g a.0).id.local x.id.local) (sym b.2)
           ∙ (ap (λ (x : SurfaceId). is_raised x.local (g b.0).id.local) (name.id a.0)
           ∙ (ap (λ (x : SurfaceId). is_raised a.0.id.local x.local) (name.id b.0) ∙ h.go_on n m a.0 b.0 a.1 b.1 l one)));
       destroyed = λ s c d.
           let m = contains_map g ss s c in
-          ap (λ (x : Created). x.marked) (sym m.2) ∙ marks m.0 m.1 (h.destroyed m.0 m.1) (ap (λ (x : Created). x.destroyed) m.2 ∙ d);
+          ap (λ (x : Surface). x.marked) (sym m.2) ∙ marks m.0 m.1 (h.destroyed m.0 m.1) (ap (λ (x : Surface). x.destroyed) m.2 ∙ d);
     }
 
-created_keep : (g : Created → Created) (ss : List Created) (s : Submission) → KeepsSurface g → IsCreated ss s → IsCreated (map g ss) s
+created_keep : (g : Surface → Surface) (ss : List Surface) (s : Submission) → KeepsSurface g → IsCreated ss s → IsCreated (map g ss) s
 created_keep g ss s name h = (g h.0, map_contains g ss h.0 h.1, name.id h.0 ∙ h.2, name.client h.0 ∙ h.3)
 
 -- submissions stay, and surfaces keep their names
-pub numbers_of_surfaces : (g : Created → Created) (ss : List Created) (subs : List Submission) → KeepsSurface g → KeepsNumbers ss subs
+pub numbers_of_surfaces : (g : Surface → Surface) (ss : List Surface) (subs : List Submission) → KeepsSurface g → KeepsNumbers ss subs
     → KeepsNumbers (map g ss) subs
 numbers_of_surfaces g ss subs name h =
     record { numbered = h.numbered; ordered = h.ordered; created = λ s c. created_keep g ss s name (h.created s c) }
 
 -- submissions keep what they were accepted with
-pub numbers_keep : (f : Submission → Submission) (ss : List Created) (subs : List Submission) → ((s : Submission) → (f s).submitted ≡ s.submitted)
+pub numbers_keep : (f : Submission → Submission) (ss : List Surface) (subs : List Submission) → ((s : Submission) → (f s).submitted ≡ s.submitted)
     → KeepsNumbers ss subs → KeepsNumbers ss (map f subs)
 numbers_keep f ss subs name h =
     record {

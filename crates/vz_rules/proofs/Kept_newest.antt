@@ -6,7 +6,7 @@ use Rattle.vz_ids.specs.declared.LocalSurfaceId.{LocalSurfaceId}
 use Rattle.vz_ids.specs.declared.SurfaceId.{SurfaceId}
 use Rattle.vz_ids.specs.declared.SurfaceRange.{SurfaceRange}
 use Rattle.vz_ids.specs.Ids.{same_sink, same_surface, same_group, is_raised, newer, at_least}
-use Rattle.vz_rules.specs.World.{Client, Created, FrameData}
+use Rattle.vz_rules.specs.World.{Client, Surface, FrameData}
 use Rattle.vz_rules.specs.Scene.{newer_frame, newest, in_range, from_start, after_start, or_else, shown_frame}
 use Rattle.vz_rules.specs.Kept.{KeepsClients, KeepsSurfaces}
 use Rattle.vz_rules.proofs.Reached.{from_same, from_same_sink}
@@ -130,7 +130,7 @@ on_rises a b h =
     ]
 
 -- of two surfaces of one client one goes on from the other, or they are one
-pub in_line : (cs : List Client) (ss : List Created) (s t : Created) → KeepsSurfaces cs ss → Contains ss s → Contains ss t → s.client ≡ t.client
+pub in_line : (cs : List Client) (ss : List Surface) (s t : Surface) → KeepsSurfaces cs ss → Contains ss s → Contains ss t → s.client ≡ t.client
     → (is_raised s.id.local t.id.local ≡ true) ⊎ ((is_raised t.id.local s.id.local ≡ true) ⊎ (s ≡ t))
 in_line cs ss s t h p q same =
     let n = contains_at ss s p in
@@ -144,10 +144,10 @@ in_line cs ss s t h p q same =
     ]
 
 -- a frame on a surface that was created
-abbrev pub IsOnCreated : List Created → FrameData → Type 0
-IsOnCreated ss i = (c : Created) × Contains ss c × (c.id ≡ i.id)
+abbrev pub IsOnCreated : List Surface → FrameData → Type 0
+IsOnCreated ss i = (c : Surface) × Contains ss c × (c.id ≡ i.id)
 
-newer_by_rank : (cs : List Client) (ss : List Created) (a b : FrameData) → KeepsClients cs → KeepsSurfaces cs ss → IsOnCreated ss a → IsOnCreated ss b
+newer_by_rank : (cs : List Client) (ss : List Surface) (a b : FrameData) → KeepsClients cs → KeepsSurfaces cs ss → IsOnCreated ss a → IsOnCreated ss b
     → a.id.sink ≡ b.id.sink → a.id.local.token.0 ≡ b.id.local.token.0 → newer a.id.local b.id.local ≡ nat_lt (rank b) (rank a)
 newer_by_rank cs ss a b hc hs x y sink token =
     let owner = one_owner cs ss x.0 y.0 hc hs x.1 y.1 (ap (λ (i : SurfaceId). i.sink) x.2 ∙ (sink ∙ ap (λ (i : SurfaceId). i.sink) (sym y.2))) in
@@ -162,7 +162,7 @@ newer_by_rank cs ss a b hc hs x y sink token =
       | inl l ↦ absurd (omega (arith, less, on_rises x.0.id.local y.0.id.local l, ranks, others))
       | inr r ↦ elim r [
         | inl l ↦ ap (λ (i : SurfaceId). is_raised i.local a.id.local) (sym y.2) ∙ (ap (λ (i : SurfaceId). is_raised y.0.id.local i.local) (sym x.2) ∙ l)
-        | inr l ↦ absurd (omega (arith, less, ranks, others, ap (λ (c : Created). c.id.local.parent + c.id.local.child) l))
+        | inr l ↦ absurd (omega (arith, less, ranks, others, ap (λ (c : Surface). c.id.local.parent + c.id.local.child) l))
       ]
     ]))
 
@@ -178,7 +178,7 @@ grouped a b h =
     ]
 
 -- frames of one group stand by rank
-pub group_ranks : (cs : List Client) (ss : List Created) (id : SurfaceId) (p : FrameData → Bool) (xs : List FrameData) → KeepsClients cs → KeepsSurfaces cs ss
+pub group_ranks : (cs : List Client) (ss : List Surface) (id : SurfaceId) (p : FrameData → Bool) (xs : List FrameData) → KeepsClients cs → KeepsSurfaces cs ss
     → ((i : FrameData) → Contains xs i → IsOnCreated ss i) → ((i : FrameData) → p i ≡ true → (i.id.sink ≡ id.sink) × (i.id.local.token.0 ≡ id.local.token.0))
     → ByRank (filter p xs)
 group_ranks cs ss id p xs hc hs made grouped a b c d =
@@ -214,7 +214,7 @@ kept_in : (p kept : FrameData → Bool) (xs : List FrameData) (o : Option FrameD
 kept_in p kept xs None ranks e k = ap newest (filter_twice p kept xs ∙ ap (filter kept) (none_at_all (filter p xs) e))
 kept_in p kept xs (Some i) ranks e k = ap newest (filter_twice p kept xs) ∙ newest_kept kept (filter p xs) i ranks e (k i refl)
 
-starts_by : (cs : List Client) (ss : List Created) (start : Option SurfaceId) (end : SurfaceId) (kept : FrameData → Bool) (xs : List FrameData) (o : Option FrameData)
+starts_by : (cs : List Client) (ss : List Surface) (start : Option SurfaceId) (end : SurfaceId) (kept : FrameData → Bool) (xs : List FrameData) (o : Option FrameData)
     → KeepsClients cs → KeepsSurfaces cs ss
     → ((i : FrameData) → Contains xs i → IsOnCreated ss i) → newest (filter (after_start start end) xs) ≡ o → ((i : FrameData) → o ≡ Some i → kept i ≡ true)
     → newest (filter (after_start start end) (filter kept xs)) ≡ o
@@ -234,7 +234,7 @@ either_kept kept None b c d f g k = ap (λ o. or_else o d) (f (λ i e. absurd (c
 either_kept kept (Some a) b c d f g k = ap (λ o. or_else o d) (f k)
 
 -- what a range shows stays where it is kept
-pub shown_kept : (cs : List Client) (ss : List Created) (range : SurfaceRange) (kept : FrameData → Bool) (xs : List FrameData) → KeepsClients cs → KeepsSurfaces cs ss
+pub shown_kept : (cs : List Client) (ss : List Surface) (range : SurfaceRange) (kept : FrameData → Bool) (xs : List FrameData) → KeepsClients cs → KeepsSurfaces cs ss
     → ((i : FrameData) → Contains xs i → IsOnCreated ss i) → ((i : FrameData) → shown_frame xs range ≡ Some i → kept i ≡ true)
     → shown_frame (filter kept xs) range ≡ shown_frame xs range
 unfolding shown_frame

@@ -5,7 +5,7 @@ use Rattle.std.proofs.lemmas.Bool.{and_parts, both_ways, not-true, false_from_ne
 use Rattle.vz_ids.specs.declared.SurfaceId.{SurfaceId}
 use Rattle.vz_ids.specs.declared.SurfaceRange.{SurfaceRange}
 use Rattle.vz_ids.specs.Ids.{same_surface}
-use Rattle.vz_rules.specs.World.{World, Created, FrameData, Submission, active_frames, frame_on, is_active}
+use Rattle.vz_rules.specs.World.{World, Surface, FrameData, Submission, active_frames, frame_on, is_active}
 use Rattle.vz_rules.specs.Scene.{shown_frame, shown}
 use Rattle.vz_rules.specs.Reach.{has_id, has_closed, reach, is_lost, destroy, lost_in}
 use Rattle.vz_rules.specs.Kept.{KeepsAlways}
@@ -15,7 +15,7 @@ use Rattle.vz_rules.proofs.Kept_newest.{IsOnCreated, shown_kept}
 
 -- a frame is on no surface that is lost
 abbrev pub unlost : World → FrameData → Bool
-unlost w i = not (list_any (λ (c : Created). same_surface i.id c.id) (lost_in w))
+unlost w i = not (list_any (λ (c : Surface). same_surface i.id c.id) (lost_in w))
 
 -- what a world leaves when the lost surfaces are destroyed, as far as reaching goes
 pub record Cleared (w v : World) : Type 0 where
@@ -26,19 +26,19 @@ pub record Cleared (w v : World) : Type 0 where
   pub closed : (c : ℕ) → has_closed v c ≡ has_closed w c
 
 -- a surface that is reached is not lost
-pub reached_not_lost : (w : World) (c : Created) → has_id (reach w) c.id ≡ true → is_lost (reach w) c ≡ false
+pub reached_not_lost : (w : World) (c : Surface) → has_id (reach w) c.id ≡ true → is_lost (reach w) c ≡ false
 reached_not_lost w c h =
     false_from_ne_true (is_lost (reach w) c) (λ e. both_ways (has_id (reach w) c.id) (not-true (has_id (reach w) c.id) (and_parts (c.marked && not c.destroyed) (not (has_id (reach w) c.id)) e).1) h)
 
-pub destroys_not : (kept : List SurfaceId) (c : Created) → is_lost kept c ≡ false → destroy kept c ≡ c
+pub destroys_not : (kept : List SurfaceId) (c : Surface) → is_lost kept c ≡ false → destroy kept c ≡ c
 destroys_not kept c h = ap (λ (t : Bool). cond t (record c { destroyed = true }) c) h
 
 -- a frame on a reached surface stays
 pub reached_unlost : (w : World) (i : FrameData) → has_id (reach w) i.id ≡ true → unlost w i ≡ true
 unfolding lost_in
 reached_unlost w i h =
-    not_from_false (list_any (λ (c : Created). same_surface i.id c.id) (lost_in w)) (false_from_ne_true (list_any (λ (c : Created). same_surface i.id c.id) (lost_in w)) (λ e.
-    let m = any_at (λ (c : Created). same_surface i.id c.id) (lost_in w) e in
+    not_from_false (list_any (λ (c : Surface). same_surface i.id c.id) (lost_in w)) (false_from_ne_true (list_any (λ (c : Surface). same_surface i.id c.id) (lost_in w)) (λ e.
+    let m = any_at (λ (c : Surface). same_surface i.id c.id) (lost_in w) e in
     let lost = filter_at (is_lost (reach w)) w.surfaces m.0 m.1 in
     both_ways (is_lost (reach w) m.0) (reached_not_lost w m.0 (ap (has_id (reach w)) (sym (from_same i.id m.0.id m.2)) ∙ h)) lost.1))
 

@@ -5,7 +5,7 @@ use Rattle.std.specs.List.{list_any}
 use Rattle.std.proofs.lemmas.Bool.{and_parts, and_from, or_cases, or_left, or_right, both_ways, not-true, false_from_ne_true}
 use Rattle.vz_ids.specs.declared.SurfaceId.{SurfaceId}
 use Rattle.vz_ids.specs.Ids.{same_surface}
-use Rattle.vz_rules.specs.World.{World, Created, FrameData, Submission, active_frames, frame_on, is_active}
+use Rattle.vz_rules.specs.World.{World, Surface, FrameData, Submission, active_frames, frame_on, is_active}
 use Rattle.vz_rules.specs.Scene.{shown}
 use Rattle.vz_rules.specs.Closure.{adding}
 use Rattle.vz_rules.specs.Reach.{has_id, referenced, names, is_named_now, name_one, naming, has_closed, is_temporary, root_list, roots, reach, is_lost, destroy, lost_in}
@@ -21,7 +21,7 @@ has_here xs x y c e = any_from (same_surface x) xs y c e
 -- What is reached
 
 -- a reached surface stays as it is
-reached_here : (w v : World) → Cleared w v → (c : Created) → Contains w.surfaces c → has_id (reach w) c.id ≡ true → Contains v.surfaces c
+reached_here : (w v : World) → Cleared w v → (c : Surface) → Contains w.surfaces c → has_id (reach w) c.id ≡ true → Contains v.surfaces c
 reached_here w v cleared c p e =
     subst (λ l. Contains l c) (sym cleared.surfaces)
     (subst (λ d. Contains (map (destroy (reach w)) w.surfaces) d) (destroys_not (reach w) c (reached_not_lost w c e)) (map_contains (destroy (reach w)) w.surfaces c p))
@@ -49,19 +49,19 @@ root_stays w v (Some id) x cleared k e =
     root_by (stands_in w.surfaces id) (stands_in v.surfaces id) id x (λ s same. reached_stands w v id cleared s (ap (has_id (reach w)) (sym (from_same x id same)) ∙ k)) e
 
 temporary_stays : (w v : World) (x : SurfaceId) → Cleared w v → has_id (reach w) x ≡ true
-    → has_id (map (λ (c : Created). c.id) (filter (is_temporary w) w.surfaces)) x ≡ true
-    → has_id (map (λ (c : Created). c.id) (filter (is_temporary v) v.surfaces)) x ≡ true
+    → has_id (map (λ (c : Surface). c.id) (filter (is_temporary w) w.surfaces)) x ≡ true
+    → has_id (map (λ (c : Surface). c.id) (filter (is_temporary v) v.surfaces)) x ≡ true
 temporary_stays w v x cleared k e =
-    let m = any_at (same_surface x) (map (λ (c : Created). c.id) (filter (is_temporary w) w.surfaces)) e in
-    let c = contains_map (λ (c : Created). c.id) (filter (is_temporary w) w.surfaces) m.0 m.1 in
+    let m = any_at (same_surface x) (map (λ (c : Surface). c.id) (filter (is_temporary w) w.surfaces)) e in
+    let c = contains_map (λ (c : Surface). c.id) (filter (is_temporary w) w.surfaces) m.0 m.1 in
     let f = filter_at (is_temporary w) w.surfaces c.0 c.1 in
     let same : x ≡ c.0.id = from_same x m.0 m.2 ∙ sym c.2 in
     let here = reached_here w v cleared c.0 f.0 (ap (has_id (reach w)) (sym same) ∙ k) in
     let now : is_temporary v c.0 ≡ true =
     ap (λ t. not c.0.destroyed && not c.0.named && not t && nat_lt v.tick (c.0.born + 16)) (cleared.closed c.0.client)
     ∙ (ap (λ n. not c.0.destroyed && not c.0.named && not (has_closed w c.0.client) && nat_lt n (c.0.born + 16)) cleared.tick ∙ f.1) in
-    any_from (same_surface x) (map (λ (c : Created). c.id) (filter (is_temporary v) v.surfaces)) c.0.id
-    (map_contains (λ (c : Created). c.id) (filter (is_temporary v) v.surfaces) c.0 (filter_has (is_temporary v) v.surfaces c.0 here now))
+    any_from (same_surface x) (map (λ (c : Surface). c.id) (filter (is_temporary v) v.surfaces)) c.0.id
+    (map_contains (λ (c : Surface). c.id) (filter (is_temporary v) v.surfaces) c.0 (filter_has (is_temporary v) v.surfaces c.0 here now))
     (ap (λ i. same_surface i c.0.id) same ∙ self_same c.0.id)
 
 pub with_added : (xs more : List SurfaceId) (x : SurfaceId) → has_id (adding same_surface xs more) x ≡ (has_id xs x || has_id more x)
@@ -70,8 +70,8 @@ with_added xs more x = adding_has SurfaceId same_surface from_same self_same (λ
 roots_stay : (w v : World) (x : SurfaceId) → Cleared w v → has_id (reach w) x ≡ true → has_id (roots w) x ≡ true → has_id (roots v) x ≡ true
 unfolding roots
 roots_stay w v x cleared k e =
-    let old = map (λ (c : Created). c.id) (filter (is_temporary w) w.surfaces) in
-    let new = map (λ (c : Created). c.id) (filter (is_temporary v) v.surfaces) in
+    let old = map (λ (c : Surface). c.id) (filter (is_temporary w) w.surfaces) in
+    let new = map (λ (c : Surface). c.id) (filter (is_temporary v) v.surfaces) in
     with_added (root_list v) new x
     ∙ (elim (or_cases (has_id (root_list w) x) (has_id old x) (sym (with_added (root_list w) old x) ∙ e)) [
       | inl r ↦ or_left (has_id (root_list v) x) (has_id new x)
@@ -122,7 +122,7 @@ reach_stays w v h cleared x e =
     has_both z (old.closed y z k.0 q) (new.closed y z k.1 (referenced_stay w v y z h cleared k.0 q)))
     x e)).1
 
-pub lost_by : (kept : List SurfaceId) (c : Created) (t : Bool) → is_lost kept c ≡ t → (cond t (record c { destroyed = true }) c).destroyed ≡ false
+pub lost_by : (kept : List SurfaceId) (c : Surface) (t : Bool) → is_lost kept c ≡ t → (cond t (record c { destroyed = true }) c).destroyed ≡ false
     → (t ≡ false) × (c.destroyed ≡ false)
 lost_by kept c true e h = absurd (cc)
 lost_by kept c false e h = (refl, h)
@@ -141,17 +141,17 @@ none_lost_after w v h cleared =
     let outer = and_parts (c.marked && not c.destroyed) (not (has_id (reach v) c.id)) e in
     let inner = and_parts c.marked (not c.destroyed) outer.0 in
     let m = contains_map (destroy (reach w)) w.surfaces c (subst (λ l. Contains l c) cleared.surfaces p) in
-    let stays = lost_by (reach w) m.0 (is_lost (reach w) m.0) refl (ap (λ (x : Created). x.destroyed) m.2 ∙ not-true c.destroyed inner.1) in
+    let stays = lost_by (reach w) m.0 (is_lost (reach w) m.0) refl (ap (λ (x : Surface). x.destroyed) m.2 ∙ not-true c.destroyed inner.1) in
     let same : m.0 ≡ c = sym (destroys_not (reach w) m.0 stays.0) ∙ m.2 in
-    let reached = not_lost m.0.marked m.0.destroyed (has_id (reach w) m.0.id) stays.0 (ap (λ (x : Created). x.marked) same ∙ inner.0) stays.1 in
-    both_ways (has_id (reach v) c.id) (not-true (has_id (reach v) c.id) outer.1) (reach_stays w v h cleared c.id (ap (λ (x : Created). has_id (reach w) x.id) (sym same) ∙ reached))))
+    let reached = not_lost m.0.marked m.0.destroyed (has_id (reach w) m.0.id) stays.0 (ap (λ (x : Surface). x.marked) same ∙ inner.0) stays.1 in
+    both_ways (has_id (reach v) c.id) (not-true (has_id (reach v) c.id) outer.1) (reach_stays w v h cleared c.id (ap (λ (x : Surface). has_id (reach w) x.id) (sym same) ∙ reached))))
 
 -- Naming
 
-abbrev pub named_by : List Created → SurfaceId → List FrameData → Bool
+abbrev pub named_by : List Surface → SurfaceId → List FrameData → Bool
 named_by ss id active = list_any (λ (i : FrameData). stands_in ss i.id && list_any (names id) i.frame.metadata.references) active
 
-active_one : (t e n : Bool) (s : Submission) (ss : List Created) (id : SurfaceId) (xs : List Submission) → stands_in ss s.submitted.id ≡ e
+active_one : (t e n : Bool) (s : Submission) (ss : List Surface) (id : SurfaceId) (xs : List Submission) → stands_in ss s.submitted.id ≡ e
     → list_any (names id) s.submitted.frame.metadata.references ≡ n → (r : Bool) → r ≡ named_by ss id (map (λ (x : Submission). x.submitted) (filter is_active xs))
     → ((t && e && n) || r) ≡ named_by ss id (map (λ (x : Submission). x.submitted) (cond t (s ∷ filter is_active xs) (filter is_active xs)))
 active_one true e n s ss id xs p q r h =
@@ -171,7 +171,7 @@ unfolding is_named_now
 named_is w id = named_frames w id w.subs
 
 -- fewer surfaces and frames name no more
-named_less : (ss more : List Created) (id : SurfaceId) (xs ys : List FrameData) → ((i : SurfaceId) → stands_in ss i ≡ true → stands_in more i ≡ true)
+named_less : (ss more : List Surface) (id : SurfaceId) (xs ys : List FrameData) → ((i : SurfaceId) → stands_in ss i ≡ true → stands_in more i ≡ true)
     → ((i : FrameData) → Contains xs i → Contains ys i)
     → named_by ss id xs ≡ true → named_by more id ys ≡ true
 named_less ss more id xs ys stands has e =
@@ -180,27 +180,27 @@ named_less ss more id xs ys stands has e =
     any_from (λ (i : FrameData). stands_in more i.id && list_any (names id) i.frame.metadata.references) ys m.0 (has m.0 m.1)
     (and_from (stands_in more m.0.id) (list_any (names id) m.0.frame.metadata.references) (stands m.0.id both.0) both.1)
 
-pub stands_back : (g : Created → Created) (ss : List Created) (id : SurfaceId) → ((c : Created) → (g c).id ≡ c.id)
-    → ((c : Created) → (g c).destroyed ≡ false → c.destroyed ≡ false)
+pub stands_back : (g : Surface → Surface) (ss : List Surface) (id : SurfaceId) → ((c : Surface) → (g c).id ≡ c.id)
+    → ((c : Surface) → (g c).destroyed ≡ false → c.destroyed ≡ false)
     → stands_in (map g ss) id ≡ true → stands_in ss id ≡ true
 stands_back g ss id name stands h =
     let m = stands_at (map g ss) id h in
     let c = contains_map g ss m.0 m.1 in
-    stands_from ss id c.0 c.1 (ap (λ i. same_surface i id) (sym (name c.0) ∙ ap (λ (x : Created). x.id) c.2) ∙ m.2) (stands c.0 (ap (λ (x : Created). x.destroyed) c.2 ∙ m.3))
+    stands_from ss id c.0 c.1 (ap (λ i. same_surface i id) (sym (name c.0) ∙ ap (λ (x : Surface). x.id) c.2) ∙ m.2) (stands c.0 (ap (λ (x : Surface). x.destroyed) c.2 ∙ m.3))
 
 -- every existing surface that is named now was named
 abbrev pub AllNamed : World → Type 0
-AllNamed w = (c : Created) → Contains w.surfaces c → c.destroyed ≡ false → is_named_now w c.id ≡ true → c.named ≡ true
+AllNamed w = (c : Surface) → Contains w.surfaces c → c.destroyed ≡ false → is_named_now w c.id ≡ true → c.named ≡ true
 
-one_id : (t : Bool) (c : Created) → (cond t (record c { named = true }) c).id ≡ c.id
+one_id : (t : Bool) (c : Surface) → (cond t (record c { named = true }) c).id ≡ c.id
 one_id true c = refl
 one_id false c = refl
 
-one_stands : (t : Bool) (c : Created) → (cond t (record c { named = true }) c).destroyed ≡ c.destroyed
+one_stands : (t : Bool) (c : Surface) → (cond t (record c { named = true }) c).destroyed ≡ c.destroyed
 one_stands true c = refl
 one_stands false c = refl
 
-one_named : (t : Bool) (c : Created) → t ≡ true → (cond t (record c { named = true }) c).named ≡ true
+one_named : (t : Bool) (c : Surface) → t ≡ true → (cond t (record c { named = true }) c).named ≡ true
 one_named true c e = refl
 one_named false c e = absurd (cc)
 
@@ -209,34 +209,34 @@ unfolding naming
 named_after w c p d e =
     let m = contains_map (name_one w) w.surfaces c p in
     let t = not m.0.destroyed && is_named_now w m.0.id in
-    let stands : m.0.destroyed ≡ false = sym (one_stands t m.0) ∙ (ap (λ (x : Created). x.destroyed) m.2 ∙ d) in
-    let id : m.0.id ≡ c.id = sym (one_id t m.0) ∙ ap (λ (x : Created). x.id) m.2 in
+    let stands : m.0.destroyed ≡ false = sym (one_stands t m.0) ∙ (ap (λ (x : Surface). x.destroyed) m.2 ∙ d) in
+    let id : m.0.id ≡ c.id = sym (one_id t m.0) ∙ ap (λ (x : Surface). x.id) m.2 in
     let before : is_named_now w m.0.id ≡ true =
     named_is w m.0.id
     ∙ named_less (naming w).surfaces w.surfaces m.0.id (active_frames w.subs) (active_frames w.subs)
     (λ i. stands_back (name_one w) w.surfaces i (λ x. one_id (not x.destroyed && is_named_now w x.id) x) (λ x k. sym (one_stands (not x.destroyed && is_named_now w x.id) x) ∙ k))
     (λ i c. c) (sym (named_is (naming w) m.0.id) ∙ (ap (is_named_now (naming w)) id ∙ e)) in
-    ap (λ (x : Created). x.named) (sym m.2) ∙ one_named t m.0 (and_from (not m.0.destroyed) (is_named_now w m.0.id) (ap not stands) before)
+    ap (λ (x : Surface). x.named) (sym m.2) ∙ one_named t m.0 (and_from (not m.0.destroyed) (is_named_now w m.0.id) (ap not stands) before)
 
 -- as it is after a collection
 pub all_named_after : (w v : World) → Cleared w v → AllNamed w → AllNamed v
 all_named_after w v cleared named c p d e =
     let m = contains_map (destroy (reach w)) w.surfaces c (subst (λ l. Contains l c) cleared.surfaces p) in
-    let stays = lost_by (reach w) m.0 (is_lost (reach w) m.0) refl (ap (λ (x : Created). x.destroyed) m.2 ∙ d) in
+    let stays = lost_by (reach w) m.0 (is_lost (reach w) m.0) refl (ap (λ (x : Surface). x.destroyed) m.2 ∙ d) in
     let same : m.0 ≡ c = sym (destroys_not (reach w) m.0 stays.0) ∙ m.2 in
     let before : is_named_now w m.0.id ≡ true =
     named_is w m.0.id
     ∙ named_less v.surfaces w.surfaces m.0.id (active_frames v.subs) (active_frames w.subs)
     (λ i k. stands_back (destroy (reach w)) w.surfaces i (λ x. gone_id (is_lost (reach w) x) x) (λ x k. (lost_by (reach w) x (is_lost (reach w) x) refl k).1) (ap (λ l. stands_in l i) (sym cleared.surfaces) ∙ k))
     (λ i k. (filter_at (unlost w) (active_frames w.subs) i (subst (λ l. Contains l i) cleared.active k)).0)
-    (sym (named_is v m.0.id) ∙ (ap (λ (x : Created). is_named_now v x.id) same ∙ e)) in
-    ap (λ (x : Created). x.named) (sym same) ∙ named m.0 m.1 stays.1 before
+    (sym (named_is v m.0.id) ∙ (ap (λ (x : Surface). is_named_now v x.id) same ∙ e)) in
+    ap (λ (x : Surface). x.named) (sym same) ∙ named m.0 m.1 stays.1 before
   where
-    gone_id : (t : Bool) (x : Created) → (cond t (record x { destroyed = true }) x).id ≡ x.id
+    gone_id : (t : Bool) (x : Surface) → (cond t (record x { destroyed = true }) x).id ≡ x.id
     gone_id true x = refl
     gone_id false x = refl
 
-named_stays : (t : Bool) (c : Created) → (t ≡ true → c.named ≡ true) → cond t (record c { named = true }) c ≡ c
+named_stays : (t : Bool) (c : Surface) → (t ≡ true → c.named ≡ true) → cond t (record c { named = true }) c ≡ c
 named_stays true c h = ap (λ n. record c { named = n }) (sym (h refl))
 named_stays false c h = refl
 

@@ -10,7 +10,7 @@ use Rattle.vz_ids.specs.declared.Sub.{Sub}
 use Rattle.vz_ids.specs.Ids.{same_surface, same_sub}
 use Rattle.vz_rules.specs.declared.entry.State.{State}
 use Rattle.vz_rules.specs.declared.entry.State.TheVariants.{Waiting, Active, Past, Dropped}
-use Rattle.vz_rules.specs.World.{World, Created, Submission, is_waiting, is_active, is_on, has_sub, sub_of}
+use Rattle.vz_rules.specs.World.{World, Surface, Submission, is_waiting, is_active, is_on, has_sub, sub_of}
 use Rattle.vz_rules.specs.Settle.{is_ready, ready, after_round, number_of, is_before, marked_by, round}
 use Rattle.vz_rules.specs.Singly.{as_one_rises, rising, all_rising}
 use Rattle.vz_rules.specs.Kept.{KeepsAlways}
@@ -125,22 +125,22 @@ module _ (w : World) (h : KeepsAlways w) where
 -- Surfaces
 
 -- the number of a surface that was found
-abbrev number_in : Option Created → ℕ
+abbrev number_in : Option Surface → ℕ
 number_in o = elim o [ Some c ↦ c.number | None ↦ 0 ]
 
-found_by : (g : Created → Created) (c : Created) (t : Bool) (o p : Option Created) → (g c).number ≡ c.number → number_in o ≡ number_in p
+found_by : (g : Surface → Surface) (c : Surface) (t : Bool) (o p : Option Surface) → (g c).number ≡ c.number → number_in o ≡ number_in p
     → number_in (cond t (Some (g c)) o) ≡ number_in (cond t (Some c) p)
 found_by g c true o p e h = e
 found_by g c false o p e h = h
 
-number_map : (g : Created → Created) (id : SurfaceId) (ss : List Created) → ((c : Created) → (g c).id ≡ c.id) → ((c : Created) → (g c).number ≡ c.number)
+number_map : (g : Surface → Surface) (id : SurfaceId) (ss : List Surface) → ((c : Surface) → (g c).id ≡ c.id) → ((c : Surface) → (g c).number ≡ c.number)
     → number_in (find (λ c. same_surface c.id id) (map g ss)) ≡ number_in (find (λ c. same_surface c.id id) ss)
 number_map g id [] names numbers = refl
 number_map g id (c ∷ ss) names numbers =
     ap (λ i. number_in (cond (same_surface i id) (Some (g c)) (find (λ c. same_surface c.id id) (map g ss)))) (names c)
     ∙ found_by g c (same_surface c.id id) (find (λ c. same_surface c.id id) (map g ss)) (find (λ c. same_surface c.id id) ss) (numbers c) (number_map g id ss names numbers)
 
-mark_more : (b k : Bool) (c : Created)
+mark_more : (b k : Bool) (c : Surface)
     → cond (k || false) (record (cond b (record c { marked = true }) c) { marked = true }) (cond b (record c { marked = true }) c) ≡ cond (b || (k || false)) (record c { marked = true }) c
 mark_more true true c = refl
 mark_more true false c = refl
@@ -148,16 +148,16 @@ mark_more false true c = refl
 mark_more false false c = refl
 
 -- one surface, as one more submission becomes active
-marks_one : (ss : List Created) (rs : List Submission) (s : Submission) (c : Created)
+marks_one : (ss : List Surface) (rs : List Submission) (s : Submission) (c : Surface)
     → marked_by (map (marked_by ss rs) ss) (s ∷ []) (marked_by ss rs c) ≡ marked_by ss (rs ++ s ∷ []) c
 marks_one ss rs s c =
     let b = list_any (is_before ss c) rs in
-    let marks : Created → Created = λ d. record d { marked = true } in
+    let marks : Surface → Surface = λ d. record d { marked = true } in
     let g = marked_by ss rs in
-    let client = when_same (λ (x : Created). x.client) marks b c refl in
-    let number = when_same (λ (x : Created). x.number) marks b c refl in
+    let client = when_same (λ (x : Surface). x.client) marks b c refl in
+    let number = when_same (λ (x : Surface). x.number) marks b c refl in
     let place : number_of (map g ss) s ≡ number_of ss s =
-    number_map g s.submitted.id ss (λ d. when_same (λ (x : Created). x.id) marks (list_any (is_before ss d) rs) d refl) (λ d. when_same (λ (x : Created). x.number) marks (list_any (is_before ss d) rs) d refl) in
+    number_map g s.submitted.id ss (λ d. when_same (λ (x : Surface). x.id) marks (list_any (is_before ss d) rs) d refl) (λ d. when_same (λ (x : Surface). x.number) marks (list_any (is_before ss d) rs) d refl) in
     let test : is_before (map g ss) (g c) s ≡ is_before ss c s =
     ap (λ n. (n == s.submitted.sub.client) && nat_lt (g c).number (number_of (map g ss) s)) client
     ∙ (ap (λ n. (c.client == s.submitted.sub.client) && nat_lt n (number_of (map g ss) s)) number ∙ ap (λ n. (c.client == s.submitted.sub.client) && nat_lt c.number n) place) in

@@ -4,7 +4,7 @@ use Rattle.std.proofs.lemmas.Bool.{and_parts, and_from, or_left, or_right, eqb-t
 use Rattle.vz_ids.specs.declared.SurfaceId.{SurfaceId}
 use Rattle.vz_ids.specs.declared.SurfaceRange.{SurfaceRange}
 use Rattle.vz_ids.specs.Ids.{same_sink, same_surface, same_group, is_raised, newer, at_least}
-use Rattle.vz_rules.specs.World.{World, Client, Created, FrameData, Submission, active_frames}
+use Rattle.vz_rules.specs.World.{World, Client, Surface, FrameData, Submission, active_frames}
 use Rattle.vz_rules.specs.Scene.{newest, in_range, after_start, or_else, shown_frame, shown}
 use Rattle.vz_rules.specs.Kept.{KeepsAlways, KeepsClients, KeepsSurfaces}
 use Rattle.vz_rules.proofs.Reached.{from_same_sink, self_same, self_same_sink}
@@ -21,7 +21,7 @@ at_least_from a b sink token on =
     (and_from (same_sink a.sink b.sink) (newer a.local b.local) (ap (λ x. same_sink x b.sink) sink ∙ self_same_sink b.sink)
     (and_from (a.local.token.0 == b.local.token.0) (is_raised b.local a.local) (eq-eqb a.local.token.0 b.local.token.0 token) on))
 
-chain_by : (cs : List Client) (ss : List Created) (s t : Created) → KeepsClients cs → KeepsSurfaces cs ss → Contains ss s → Contains ss t
+chain_by : (cs : List Client) (ss : List Surface) (s t : Surface) → KeepsClients cs → KeepsSurfaces cs ss → Contains ss s → Contains ss t
     → same_group s.id t.id ≡ true
     → (at_least s.id t.id ≡ true) ⊎ (at_least t.id s.id ≡ true)
 chain_by cs ss s t hc hs p q e =
@@ -32,12 +32,12 @@ chain_by cs ss s t hc hs p q e =
       | inl l ↦ inr (at_least_from t.id s.id (sym sink) (sym token) l)
       | inr r ↦ elim r [
         | inl l ↦ inl (at_least_from s.id t.id sink token l)
-        | inr l ↦ inl (or_left (same_surface s.id t.id) _ (ap (λ (x : Created). same_surface s.id x.id) (sym l) ∙ self_same s.id))
+        | inr l ↦ inl (or_left (same_surface s.id t.id) _ (ap (λ (x : Surface). same_surface s.id x.id) (sym l) ∙ self_same s.id))
       ]
     ]
 
 -- of two surfaces of one group one is the other or newer
-pub groups_are_chains : (w : World) (s t : Created) → KeepsAlways w → Contains w.surfaces s → Contains w.surfaces t → same_group s.id t.id ≡ true
+pub groups_are_chains : (w : World) (s t : Surface) → KeepsAlways w → Contains w.surfaces s → Contains w.surfaces t → same_group s.id t.id ≡ true
     → (at_least s.id t.id ≡ true) ⊎ (at_least t.id s.id ≡ true)
 groups_are_chains w s t h p q e = chain_by w.clients w.surfaces s t h.clients h.surfaces p q e
 

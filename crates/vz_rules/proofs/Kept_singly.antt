@@ -7,7 +7,7 @@ use Rattle.vz_ids.specs.declared.Sub.{Sub}
 use Rattle.vz_ids.specs.Ids.{same_surface, same_sub}
 use Rattle.vz_rules.specs.declared.entry.State.{State}
 use Rattle.vz_rules.specs.declared.entry.State.TheVariants.{Waiting, Active, Past, Dropped}
-use Rattle.vz_rules.specs.World.{World, Created, Submission, is_waiting, is_active, is_on, sub_of}
+use Rattle.vz_rules.specs.World.{World, Surface, Submission, is_waiting, is_active, is_on, sub_of}
 use Rattle.vz_rules.specs.Settle.{after_round, is_before, marked_by}
 use Rattle.vz_rules.specs.Reach.{has_id, reach, is_lost, drop_on, lost_in}
 use Rattle.vz_rules.specs.Singly.{as_one_rises, rising, as_one_goes, going, IsMarked}
@@ -50,19 +50,19 @@ active_waits_not s e = by_state s.state e
 
 -- A surface is destroyed
 
-goes_names : (c : Created) → KeepsSurface (as_one_goes c)
+goes_names : (c : Surface) → KeepsSurface (as_one_goes c)
 goes_names c = surface_when (λ s. record s { destroyed = true }) (λ s. same_surface s.id c.id) (record { client = λ s. refl; number = λ s. refl; id = λ s. refl; born = λ s. refl })
 
-goes_marked : (t : Bool) (s : Created) → (t ≡ true → s.marked ≡ true) → (s.destroyed ≡ true → s.marked ≡ true) → (cond t (record s { destroyed = true }) s).destroyed ≡ true
+goes_marked : (t : Bool) (s : Surface) → (t ≡ true → s.marked ≡ true) → (s.destroyed ≡ true → s.marked ≡ true) → (cond t (record s { destroyed = true }) s).destroyed ≡ true
     → (cond t (record s { destroyed = true }) s).marked ≡ true
 goes_marked true s marked h e = marked refl
 goes_marked false s marked h e = h e
 
-goes_safe : (t : Bool) (s : Created) → t ≡ false → IsSafe s → IsSafe (cond t (record s { destroyed = true }) s)
+goes_safe : (t : Bool) (s : Surface) → t ≡ false → IsSafe s → IsSafe (cond t (record s { destroyed = true }) s)
 goes_safe true s e h = absurd (cc)
 goes_safe false s e h = h
 
-goes_not : (t : Bool) (s : Created) → t ≡ false → s.destroyed ≡ false → (cond t (record s { destroyed = true }) s).destroyed ≡ false
+goes_not : (t : Bool) (s : Surface) → t ≡ false → s.destroyed ≡ false → (cond t (record s { destroyed = true }) s).destroyed ≡ false
 goes_not true s e h = absurd (cc)
 goes_not false s e h = h
 
@@ -71,14 +71,14 @@ only true e = e
 only false e = refl
 
 -- what is open afterwards is on another surface, which stands on
-stands_on : (c : Created) (ss : List Created) (s : Submission) → is_open (drop_on (c ∷ []) s) ≡ true → Stands ss s.submitted.id → Stands (map (as_one_goes c) ss) s.submitted.id
+stands_on : (c : Surface) (ss : List Surface) (s : Submission) → is_open (drop_on (c ∷ []) s) ≡ true → Stands ss s.submitted.id → Stands (map (as_one_goes c) ss) s.submitted.id
 stands_on c ss s o h =
     let m = stands_at ss s.submitted.id h in
     let other : same_surface m.0.id c.id ≡ false = ap (λ i. same_surface i c.id) (from_same m.0.id s.submitted.id m.2) ∙ only (is_on c.id s) (open_unlost (c ∷ []) s o) in
     stands_from (map (as_one_goes c) ss) s.submitted.id (as_one_goes c m.0) (map_contains (as_one_goes c) ss m.0 m.1) (ap (λ i. same_surface i s.submitted.id) ((goes_names c).id m.0) ∙ m.2)
     (goes_not (same_surface m.0.id c.id) m.0 other m.3)
 
-pub always_going : (w : World) (c : Created) → KeepsAlways w → IsMarked w c.id → KeepsAlways (going c w)
+pub always_going : (w : World) (c : Surface) → KeepsAlways w → IsMarked w c.id → KeepsAlways (going c w)
 unfolding going
 always_going w c h marked =
     always_parts w (drop_on (c ∷ [])) (as_one_goes c) w.in_flight (record {
@@ -86,7 +86,7 @@ always_going w c h marked =
       surface = goes_names c;
       marks = λ s p. goes_marked (same_surface s.id c.id) s (marked s p);
       safe = λ x s p o e safe.
-          let at = last_at (λ (y : Created). y.client == x.number) w.surfaces s e in
+          let at = last_at (λ (y : Surface). y.client == x.number) w.surfaces s e in
           goes_safe (same_surface s.id c.id) s (false_from_ne_true (same_surface s.id c.id) (λ t. both_ways s.marked safe.1 (marked s (at_contains w.surfaces at.0 s at.1.0) t))) safe;
       states = states_keep (drop_on (c ∷ [])) w.surfaces (map (as_one_goes c) w.surfaces) w.subs (drops (c ∷ [])) (λ s p o. stands_on c w.surfaces s o) h.states;
       flight = flight_keeps (drop_on (c ∷ [])) w.in_flight w.subs (drops (c ∷ [])).submitted h.in_flight;
@@ -95,34 +95,34 @@ always_going w c h marked =
     }) h
 
 -- the others stay marked
-pub marked_on : (w : World) (id : SurfaceId) (c : Created) → IsMarked w id → IsMarked (going c w) id
+pub marked_on : (w : World) (id : SurfaceId) (c : Surface) → IsMarked w id → IsMarked (going c w) id
 unfolding going
 marked_on w id c h s p e =
     let m = contains_map (as_one_goes c) w.surfaces s p in
-    let same : s.id ≡ m.0.id = ap (λ (x : Created). x.id) (sym m.2) ∙ (goes_names c).id m.0 in
-    ap (λ (x : Created). x.marked) (sym m.2)
-    ∙ (when_same (λ (x : Created). x.marked) (λ x. record x { destroyed = true }) (same_surface m.0.id c.id) m.0 refl
+    let same : s.id ≡ m.0.id = ap (λ (x : Surface). x.id) (sym m.2) ∙ (goes_names c).id m.0 in
+    ap (λ (x : Surface). x.marked) (sym m.2)
+    ∙ (when_same (λ (x : Surface). x.marked) (λ x. record x { destroyed = true }) (same_surface m.0.id c.id) m.0 refl
     ∙ h m.0 m.1 (ap (λ i. same_surface i id) (sym same) ∙ e))
 
-pub lost_marked : (w : World) (c : Created) → KeepsAlways w → Contains (lost_in w) c → IsMarked w c.id
+pub lost_marked : (w : World) (c : Surface) → KeepsAlways w → Contains (lost_in w) c → IsMarked w c.id
 unfolding lost_in
 lost_marked w c h l s p e =
     let at = filter_at (is_lost (reach w)) w.surfaces c l in
     let n = contains_at w.surfaces s p in
     let m = contains_at w.surfaces c at.0 in
     let one : s ≡ c = at_same w.surfaces n.0 m.0 s c n.1 m.1 (surfaces_apart w n.0 m.0 s c h n.1 m.1 e) in
-    ap (λ (x : Created). x.marked) one ∙ (and_parts c.marked (not c.destroyed) (and_parts (c.marked && not c.destroyed) (not (has_id (reach w) c.id)) at.1).0).0
+    ap (λ (x : Surface). x.marked) one ∙ (and_parts c.marked (not c.destroyed) (and_parts (c.marked && not c.destroyed) (not (has_id (reach w) c.id)) at.1).0).0
 
 -- A submission becomes active
 
-marked_names : (ss : List Created) (s : Submission) → KeepsSurface (marked_by ss (s ∷ []))
+marked_names : (ss : List Surface) (s : Submission) → KeepsSurface (marked_by ss (s ∷ []))
 marked_names ss s = surface_when (λ c. record c { marked = true }) (λ c. list_any (is_before ss c) (s ∷ [])) (record { client = λ c. refl; number = λ c. refl; id = λ c. refl; born = λ c. refl })
 
-marked_stands : (t : Bool) (c : Created) → (cond t (record c { marked = true }) c).destroyed ≡ c.destroyed
+marked_stands : (t : Bool) (c : Surface) → (cond t (record c { marked = true }) c).destroyed ≡ c.destroyed
 marked_stands true c = refl
 marked_stands false c = refl
 
-marked_marks : (t : Bool) (c : Created) → (c.destroyed ≡ true → c.marked ≡ true) → (cond t (record c { marked = true }) c).destroyed ≡ true → (cond t (record c { marked = true }) c).marked ≡ true
+marked_marks : (t : Bool) (c : Surface) → (c.destroyed ≡ true → c.marked ≡ true) → (cond t (record c { marked = true }) c).destroyed ≡ true → (cond t (record c { marked = true }) c).marked ≡ true
 marked_marks true c h e = refl
 marked_marks false c h e = h e
 

@@ -7,7 +7,7 @@ use Rattle.vz_ids.specs.Ids.{same_surface}
 use Rattle.vz_frame.specs.Fits.{fits_file}
 use Rattle.vz_rules.specs.declared.entry.Returned.{Returned}
 use Rattle.vz_rules.specs.Plan.{Plan, IsPlan}
-use Rattle.vz_rules.specs.World.{World, Client, Created, Resource, Submission, is_on}
+use Rattle.vz_rules.specs.World.{World, Client, Surface, Resource, Submission, is_on}
 use Rattle.vz_rules.specs.Kept.{KeepsAlways, KeepsPlan, HasSmallClient, IsSmallSubmission, IsSmallSurface, IsSmallResource, IsSmallReturn, is_by, is_surface_of, borrows, count_of}
 use Rattle.vz_rules.proofs.Reached.{from_same}
 use Rattle.vz_rules.proofs.Members.{contains_here, contains_there, contains_cases, contains_none, at_contains, at_within, contains_at, all_at}
@@ -59,7 +59,7 @@ few_of p w is a h c q = omega (arith, (a.shelves c q).taken, (small_client p w i
 
 -- Surfaces
 
-pub small_surface : (p : Plan) (w : World) → IsPlan p → KeepsAlways w → KeepsPlan p w → (s : Created) → Contains w.surfaces s → IsSmallSurface s
+pub small_surface : (p : Plan) (w : World) → IsPlan p → KeepsAlways w → KeepsPlan p w → (s : Surface) → Contains w.surfaces s → IsSmallSurface s
 small_surface p w is a h s q =
     let owner = a.surfaces.of_clients s q in
     let client = (small_client p w is a h owner.0 owner.1).0 in

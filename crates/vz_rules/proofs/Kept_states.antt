@@ -5,7 +5,7 @@ use Rattle.std.specs.List.{list_any}
 use Rattle.vz_ids.specs.declared.SurfaceId.{SurfaceId}
 use Rattle.vz_ids.specs.Ids.{same_surface}
 use Rattle.vz_rules.specs.declared.entry.State.TheVariants.{Active, Past, Dropped}
-use Rattle.vz_rules.specs.World.{Created, Submission, is_waiting, is_active, is_on}
+use Rattle.vz_rules.specs.World.{Surface, Submission, is_waiting, is_active, is_on}
 use Rattle.vz_rules.specs.Settle.{after_round}
 use Rattle.vz_rules.specs.Kept.{KeepsStates, is_open, stands_in}
 use Rattle.vz_rules.proofs.Reached.{from_same, self_same}
@@ -37,7 +37,7 @@ drops_when test =
     acts_not true s h = absurd (cc)
     acts_not false s h = h
 
-abbrev pub Stands : List Created → SurfaceId → Type 0
+abbrev pub Stands : List Surface → SurfaceId → Type 0
 Stands ss id = stands_in ss id ≡ true
 
 -- it stands in a state on a surface
@@ -58,7 +58,7 @@ open_before f name s h =
     ]
 
 -- where none opens and the surfaces of the open ones stand
-pub states_keep : (f : Submission → Submission) (ss more : List Created) (subs : List Submission) → OpensNone f
+pub states_keep : (f : Submission → Submission) (ss more : List Surface) (subs : List Submission) → OpensNone f
     → ((s : Submission) → Contains subs s → is_open (f s) ≡ true → Stands ss s.submitted.id → Stands more s.submitted.id)
     → KeepsStates ss subs → KeepsStates more (map f subs)
 states_keep f ss more subs name stands h =
@@ -122,7 +122,7 @@ past_false true any h e = h
 past_false false any h e = absurd (cc)
 
 -- the submissions of a round, of which these are ready
-module _ (becomes : Submission → Bool) (ss : List Created) (subs : List Submission) (waits : (s : Submission) → becomes s ≡ true → is_waiting s ≡ true)
+module _ (becomes : Submission → Bool) (ss : List Surface) (subs : List Submission) (waits : (s : Submission) → becomes s ≡ true → is_waiting s ≡ true)
     (h : KeepsStates ss subs) where
   abbrev risen : List Submission
   risen = filter becomes subs
@@ -224,7 +224,7 @@ module _ (becomes : Submission → Bool) (ss : List Created) (subs : List Submis
       }
 
 -- where the surfaces alone change, and those of the open ones stand on
-pub states_of_surfaces : (ss more : List Created) (subs : List Submission) → ((id : SurfaceId) → Stands ss id → Stands more id) → KeepsStates ss subs
+pub states_of_surfaces : (ss more : List Surface) (subs : List Submission) → ((id : SurfaceId) → Stands ss id → Stands more id) → KeepsStates ss subs
     → KeepsStates more subs
 states_of_surfaces ss more subs stands h =
     record {

@@ -8,7 +8,7 @@ use Rattle.vz_ids.specs.Ids.{same_sink, same_local, same_surface, is_raised}
 use Rattle.vz_frame.specs.declared.frame.CompositorFrame.{CompositorFrame}
 use Rattle.vz_frame.specs.declared.frame.Listing.{Listing}
 use Rattle.vz_frame.specs.Frame.{lists, frame_size}
-use Rattle.vz_rules.specs.World.{World, Client, Created, Resource, Submission, is_on, is_in_flight, last_created}
+use Rattle.vz_rules.specs.World.{World, Client, Surface, Resource, Submission, is_on, is_in_flight, last_created}
 use Rattle.vz_rules.specs.Returns.{holds}
 use Rattle.vz_rules.specs.Messages.{is_unknown, violates, is_last, id_of, new_submission, with_surface, replace_on, lend, submitting, took, accepted}
 use Rattle.vz_rules.specs.Kept.{KeepsAlways, KeepsClients, KeepsSurfaces, KeepsNumbers, KeepsTime, LastStays, IsCreated, HasResource, KeepsShelf, is_by, is_surface_of}
@@ -33,7 +33,7 @@ one_of_number cs c d h p q e =
 -- The surface
 
 -- what is kept with the surface of a submission
-record Grows (w : World) (new : Submission) (ss : List Created) : Type 0 where
+record Grows (w : World) (new : Submission) (ss : List Surface) : Type 0 where
   surfaces : KeepsSurfaces w.clients ss
   last_stays : LastStays w.clients ss
   created : IsCreated ss new
@@ -44,13 +44,13 @@ record Grows (w : World) (new : Submission) (ss : List Created) : Type 0 where
   time : KeepsTime w.clients ss w.tick
 
 -- a submission goes to the last surface of its client
-grows_not : (w : World) (c : Client) (local : LocalSurfaceId) (frame : CompositorFrame) (o : Option Created) → KeepsAlways w → Contains w.clients c
+grows_not : (w : World) (c : Client) (local : LocalSurfaceId) (frame : CompositorFrame) (o : Option Surface) → KeepsAlways w → Contains w.clients c
     → c.closed ≡ false
     → last_created w c.number ≡ o → is_last o local ≡ true → Grows w (new_submission w c local frame) w.surfaces
 unfolding new_submission
 grows_not w c local frame None h p e was is = absurd (cc)
 grows_not w c local frame (Some last) h p e was is =
-    let at = last_at (λ (x : Created). x.client == c.number) w.surfaces last was in
+    let at = last_at (λ (x : Surface). x.client == c.number) w.surfaces last was in
     let here = at_contains w.surfaces at.0 last at.1.0 in
     let client = eqb-true last.client c.number at.1.1 in
     let owner = h.surfaces.of_clients last here in
@@ -69,7 +69,7 @@ grows_not w c local frame (Some last) h p e was is =
     }
 
 -- a submission makes a surface
-grows_one : (w : World) (c : Client) (local : LocalSurfaceId) (frame : CompositorFrame) (new : Created) → KeepsAlways w → Contains w.clients c
+grows_one : (w : World) (c : Client) (local : LocalSurfaceId) (frame : CompositorFrame) (new : Surface) → KeepsAlways w → Contains w.clients c
     → violates (last_created w c.number) local ≡ false → is_last (last_created w c.number) local ≡ false → new.client ≡ c.number
     → new.number ≡ count_by (is_surface_of c.number) w.surfaces + 1 → new.id ≡ id_of c local → new.born ≡ w.tick → new.marked ≡ false → new.destroyed ≡ false
     → Grows w (new_submission w c local frame) (w.surfaces ++ new ∷ [])
@@ -174,7 +174,7 @@ knows w c x frame l h p q none same m =
     subst (λ (y : Client). HasResource y.resources l.id) (one_of_number w.clients c x h.clients p q same) (r.0, r.1, eqb-true r.0.id l.id id.0)
 
 -- the world with the clients, surfaces and submissions that a submission leaves
-abbrev after_submit : World → Client → LocalSurfaceId → CompositorFrame → List Created → World
+abbrev after_submit : World → Client → LocalSurfaceId → CompositorFrame → List Surface → World
 after_submit w c local frame ss =
     record w {
       clients = map (λ x. cond (x.number == c.number) (took (submitting w frame x)) x) w.clients;
@@ -210,7 +210,7 @@ shelf_by false w v c x local frame e h p q none held =
     no_more true n k = absurd (cc)
     no_more false n k = omega arith
 
-always_submitted : (w : World) (c : Client) (local : LocalSurfaceId) (frame : CompositorFrame) (ss : List Created) → Grows w (new_submission w c local frame) ss
+always_submitted : (w : World) (c : Client) (local : LocalSurfaceId) (frame : CompositorFrame) (ss : List Surface) → Grows w (new_submission w c local frame) ss
     → KeepsAlways w
     → Contains w.clients c → list_any (is_unknown c.resources) frame.resources ≡ false → KeepsAlways (after_submit w c local frame ss)
 unfolding new_submission

@@ -9,7 +9,7 @@ use Rattle.vz_rules.specs.declared.entry.Fed.{Fed}
 use Rattle.vz_rules.specs.declared.entry.Lost.{Lost}
 use Rattle.vz_rules.specs.declared.entry.Returned.{Returned}
 use Rattle.vz_rules.specs.Plan.{Plan, IsPlan}
-use Rattle.vz_rules.specs.World.{World, Client, Created, Submission, is_in_flight, is_ended, has_sub, sub_of}
+use Rattle.vz_rules.specs.World.{World, Client, Surface, Submission, is_in_flight, is_ended, has_sub, sub_of}
 use Rattle.vz_rules.specs.Settle.{ready, is_ready, round, activated_over, activated_in, settle}
 use Rattle.vz_rules.specs.Reach.{naming, reach, is_lost, lost_in, lost_of, destroyed_in, collect}
 use Rattle.vz_rules.specs.Returns.{is_held, goes_back, return_of, returns_of, give_back, returned_in, feedback_of, fed_in}
@@ -71,7 +71,7 @@ destroyed_text p w is a h =
     let lost = filter (is_lost (reach v)) v.surfaces in
     all_from has_text_lost (flat_map (lost_of lost) w.clients) (λ l c.
     let x = flat_map_at (lost_of lost) w.clients l c in
-    let m = filter_map_at (λ (s : Created). cond (s.client == x.0.number) (Some (record { client = s.client; surface = s.number })) None) lost l x.2 in
+    let m = filter_map_at (λ (s : Surface). cond (s.client == x.0.number) (Some (record { client = s.client; surface = s.number })) None) lost l x.2 in
     let f = filter_at (is_lost (reach v)) v.surfaces m.0 m.1 in
     let small = small_surface p v is (always_naming w a) (plan_naming p w h) m.0 f.0 in
     ap has_text_lost (sym (lost_by (m.0.client == x.0.number) m.0.client m.0.number l m.2))

@@ -5,7 +5,7 @@ use Rattle.vz_ids.specs.declared.FrameSinkId.{FrameSinkId}
 use Rattle.vz_ids.specs.declared.SurfaceId.{SurfaceId}
 use Rattle.vz_ids.specs.declared.Sub.{Sub}
 use Rattle.vz_ids.specs.Ids.{same_surface}
-use Rattle.vz_rules.specs.World.{World, Client, Created, Submission, Aggregation, is_in_flight, sub_of}
+use Rattle.vz_rules.specs.World.{World, Client, Surface, Submission, Aggregation, is_in_flight, sub_of}
 use Rattle.vz_rules.specs.Returns.{holds}
 use Rattle.vz_rules.specs.Kept.{is_by, is_surface_of, KeepsAlways, KeepsStates, KeepsFlight, KeepsShelf, LastStays, last_in, is_open, stands_in}
 use Rattle.vz_rules.proofs.Members.{contains_map, map_contains, any_at, any_from, found}
@@ -73,18 +73,18 @@ not_destroyed a b h = let both = and_parts a (not b) h in (both.0, not-true b bo
 stands_test : (a b : Bool) → a ≡ true → b ≡ false → (a && not b) ≡ true
 stands_test a b h k = and_from a (not b) h (ap not k)
 
-pub stands_at : (ss : List Created) (id : SurfaceId) → Stands ss id → (c : Created) × Contains ss c × (same_surface c.id id ≡ true) × (c.destroyed ≡ false)
+pub stands_at : (ss : List Surface) (id : SurfaceId) → Stands ss id → (c : Surface) × Contains ss c × (same_surface c.id id ≡ true) × (c.destroyed ≡ false)
 stands_at ss id h =
-    let m = any_at (λ (s : Created). same_surface s.id id && not s.destroyed) ss (sym (found (λ (s : Created). same_surface s.id id && not s.destroyed) ss) ∙ h) in
+    let m = any_at (λ (s : Surface). same_surface s.id id && not s.destroyed) ss (sym (found (λ (s : Surface). same_surface s.id id && not s.destroyed) ss) ∙ h) in
     let both = not_destroyed (same_surface m.0.id id) m.0.destroyed m.2 in
     (m.0, m.1, both.0, both.1)
 
-pub stands_from : (ss : List Created) (id : SurfaceId) (c : Created) → Contains ss c → same_surface c.id id ≡ true → c.destroyed ≡ false → Stands ss id
+pub stands_from : (ss : List Surface) (id : SurfaceId) (c : Surface) → Contains ss c → same_surface c.id id ≡ true → c.destroyed ≡ false → Stands ss id
 stands_from ss id c p e d =
-    found (λ (s : Created). same_surface s.id id && not s.destroyed) ss
-    ∙ any_from (λ (s : Created). same_surface s.id id && not s.destroyed) ss c p (stands_test (same_surface c.id id) c.destroyed e d)
+    found (λ (s : Surface). same_surface s.id id && not s.destroyed) ss
+    ∙ any_from (λ (s : Surface). same_surface s.id id && not s.destroyed) ss c p (stands_test (same_surface c.id id) c.destroyed e d)
 
-pub stands_map : (g : Created → Created) (ss : List Created) (id : SurfaceId) → KeepsSurface g → ((s : Created) → (g s).destroyed ≡ s.destroyed) → Stands ss id
+pub stands_map : (g : Surface → Surface) (ss : List Surface) (id : SurfaceId) → KeepsSurface g → ((s : Surface) → (g s).destroyed ≡ s.destroyed) → Stands ss id
     → Stands (map g ss) id
 stands_map g ss id name same h =
     let m = stands_at ss id h in
@@ -108,21 +108,21 @@ holds_at w s h =
 
 -- Submissions, surfaces and the drawn frame
 
-abbrev with_parts : World → (Submission → Submission) → (Created → Created) → Option (List Sub) → World
+abbrev with_parts : World → (Submission → Submission) → (Surface → Surface) → Option (List Sub) → World
 with_parts w f g drawn = record w { subs = map f w.subs; surfaces = map g w.surfaces; in_flight = drawn }
 
 -- names stay, and what is open or in flight then held before
-pub record StaysParts (w : World) (f : Submission → Submission) (g : Created → Created) (drawn : Option (List Sub)) : Type 0 where
+pub record StaysParts (w : World) (f : Submission → Submission) (g : Surface → Surface) (drawn : Option (List Sub)) : Type 0 where
   pub submitted : (s : Submission) → (f s).submitted ≡ s.submitted
   pub surface : KeepsSurface g
-  pub marks : (s : Created) → Contains w.surfaces s → (s.destroyed ≡ true → s.marked ≡ true) → (g s).destroyed ≡ true → (g s).marked ≡ true
-  pub safe : (c : Client) (s : Created) → Contains w.clients c → c.closed ≡ false → last_in w.surfaces c.number ≡ Some s → IsSafe s → IsSafe (g s)
+  pub marks : (s : Surface) → Contains w.surfaces s → (s.destroyed ≡ true → s.marked ≡ true) → (g s).destroyed ≡ true → (g s).marked ≡ true
+  pub safe : (c : Client) (s : Surface) → Contains w.clients c → c.closed ≡ false → last_in w.surfaces c.number ≡ Some s → IsSafe s → IsSafe (g s)
   pub states : KeepsStates (map g w.surfaces) (map f w.subs)
   pub flight : KeepsFlight drawn (map f w.subs)
   pub opens : (s : Submission) → Contains w.subs s → is_open (f s) ≡ true → is_open s ≡ true
   pub draws : (s : Submission) → Contains w.subs s → is_in_flight drawn (sub_of s) ≡ true → holds w s ≡ true
 
-pub always_parts : (w : World) (f : Submission → Submission) (g : Created → Created) (drawn : Option (List Sub)) → StaysParts w f g drawn → KeepsAlways w
+pub always_parts : (w : World) (f : Submission → Submission) (g : Surface → Surface) (drawn : Option (List Sub)) → StaysParts w f g drawn → KeepsAlways w
     → KeepsAlways (with_parts w f g drawn)
 always_parts w f g drawn stays h =
     let v = with_parts w f g drawn in

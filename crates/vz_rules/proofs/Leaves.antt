@@ -6,7 +6,7 @@ use Rattle.vz_ids.specs.declared.Sub.{Sub}
 use Rattle.vz_ids.specs.declared.SurfaceId.{SurfaceId}
 use Rattle.vz_ids.specs.Ids.{same_sink, at_least}
 use Rattle.vz_rules.specs.declared.entry.State.TheVariants.{Dropped}
-use Rattle.vz_rules.specs.World.{World, Created, Submission, is_waiting, is_active, is_on}
+use Rattle.vz_rules.specs.World.{World, Surface, Submission, is_waiting, is_active, is_on}
 use Rattle.vz_rules.specs.Settle.{is_met, has_come}
 use Rattle.vz_rules.specs.Reach.{naming, drop_on, lost_in, clearing, collect}
 use Rattle.vz_rules.specs.Returns.{queue_returns, give_back, mark_fed, feed}
@@ -26,7 +26,7 @@ module _ (presented : List Sub) (w : World) where
   abbrev pub after : World
   after = feed presented given
 
-  abbrev pub lost : List Created
+  abbrev pub lost : List Surface
   lost = lost_in (naming w)
 
   -- a submission after this

@@ -5,14 +5,14 @@ use Rattle.std.proofs.lemmas.List.Elements.{All-contains}
 use Rattle.vz_geom.specs.declared.Point.{Point}
 use Rattle.vz_geom.specs.Rectangle.{Rectangle, has, sized, meet, moved, bound, Covers}
 use Rattle.vz_geom.proofs.Bounds.{bound_covers}
+use Rattle.vz_geom.proofs.Sets.{has_moved_is, has_meet_is}
 use Rattle.vz_ids.specs.declared.SurfaceId.{SurfaceId}
 use Rattle.vz_ids.specs.declared.SurfaceRange.{SurfaceRange}
 use Rattle.vz_ids.specs.Ids.{same_surface, same_start, same_range}
-use Rattle.vz_frame.specs.Frame.{frame_size}
+use Rattle.vz_frame.specs.Frame.{frame_size, root_damage}
 use Rattle.vz_rules.specs.World.{FrameData, Aggregation}
 use Rattle.vz_rules.specs.Walk.{Placement}
-use Rattle.vz_rules.specs.Damage.{root_damage, index_in, is_between, damage_since, damage_at}
-use Rattle.vz_rules.proofs.Geometry.{has_moved_is, has_meet_is}
+use Rattle.vz_rules.specs.Damage.{index_in, is_between, damage_since, damage_at}
 use Rattle.vz_rules.proofs.Members.{contains_here, contains_there, map_contains, filter_has}
 use Rattle.vz_rules.proofs.Reached.{from_same}
 use Rattle.vz_rules.proofs.Same.{IsSeen}

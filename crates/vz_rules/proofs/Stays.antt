@@ -6,7 +6,7 @@ use Rattle.vz_geom.specs.declared.Size.{Size}
 use Rattle.vz_ids.specs.declared.SurfaceId.{SurfaceId}
 use Rattle.vz_ids.specs.declared.Sub.{Sub}
 use Rattle.vz_rules.specs.declared.entry.State.TheVariants.{Active, Past}
-use Rattle.vz_rules.specs.World.{World, FrameData, Created, Submission, is_waiting, is_active, is_on}
+use Rattle.vz_rules.specs.World.{World, FrameData, Surface, Submission, is_waiting, is_active, is_on}
 use Rattle.vz_rules.specs.Settle.{is_ready, ready, after_round, marked_by, is_before, round, rounds, settle}
 use Rattle.vz_rules.specs.Reach.{name_one, naming, is_named_now, reach, is_lost, destroy, drop_on, lost_in, clearing, collect}
 use Rattle.vz_rules.specs.Returns.{mark_fed, give_back, feed}
@@ -57,15 +57,15 @@ opens_mapped f same opens xs t c o =
     (m.0, m.1, opens m.0 (ap is_open m.2 ∙ o), sym (same m.0) ∙ ap frame_of m.2)
 
 -- a surface changes and keeps its id and size
-pub record KeepsSize (g : Created → Created) : Type 0 where
-  pub id : (s : Created) → (g s).id ≡ s.id
-  pub size : (s : Created) → (g s).size ≡ s.size
+pub record KeepsSize (g : Surface → Surface) : Type 0 where
+  pub id : (s : Surface) → (g s).id ≡ s.id
+  pub size : (s : Surface) → (g s).size ≡ s.size
 
-pub sizes_mapped : (g : Created → Created) → KeepsSize g → (ss : List Created) (id : SurfaceId) (size : Size) → HasSize ss id size → HasSize (map g ss) id size
+pub sizes_mapped : (g : Surface → Surface) → KeepsSize g → (ss : List Surface) (id : SurfaceId) (size : Size) → HasSize ss id size → HasSize (map g ss) id size
 sizes_mapped g same ss id size h = (g h.0, map_contains g ss h.0 h.1, same.id h.0 ∙ h.2, same.size h.0 ∙ h.3)
 
 -- where each submission and each surface changes so
-pub stays_mapped : (w : World) (f : Submission → Submission) (g : Created → Created) → ((s : Submission) → (f s).submitted ≡ s.submitted)
+pub stays_mapped : (w : World) (f : Submission → Submission) (g : Surface → Surface) → ((s : Submission) → (f s).submitted ≡ s.submitted)
     → ((s : Submission) → is_open (f s) ≡ true → is_open s ≡ true)
     → KeepsSize g → Stays w (record w { subs = map f w.subs; surfaces = map g w.surfaces })
 stays_mapped w f g same opens size =
@@ -84,14 +84,14 @@ round_open true u s waits o = or_left (is_waiting s) (is_active s) (waits refl)
 round_open false true s waits o = absurd (cc)
 round_open false false s waits o = o
 
-marked_size : (ss : List Created) (risen : List Submission) → KeepsSize (marked_by ss risen)
+marked_size : (ss : List Surface) (risen : List Submission) → KeepsSize (marked_by ss risen)
 marked_size ss risen = record { id = λ s. by_id (list_any (is_before ss s) risen) s; size = λ s. by_size (list_any (is_before ss s) risen) s }
   where
-    by_id : (t : Bool) (s : Created) → (cond t (record s { marked = true }) s).id ≡ s.id
+    by_id : (t : Bool) (s : Surface) → (cond t (record s { marked = true }) s).id ≡ s.id
     by_id true s = refl
     by_id false s = refl
 
-    by_size : (t : Bool) (s : Created) → (cond t (record s { marked = true }) s).size ≡ s.size
+    by_size : (t : Bool) (s : Surface) → (cond t (record s { marked = true }) s).size ≡ s.size
     by_size true s = refl
     by_size false s = refl
 
@@ -122,22 +122,22 @@ stays_settle w = stays_rounds (length w.subs) w
 named_size : (w : World) → KeepsSize (name_one w)
 named_size w = record { id = λ s. by_id (not s.destroyed && is_named_now w s.id) s; size = λ s. by_size (not s.destroyed && is_named_now w s.id) s }
   where
-    by_id : (t : Bool) (s : Created) → (cond t (record s { named = true }) s).id ≡ s.id
+    by_id : (t : Bool) (s : Surface) → (cond t (record s { named = true }) s).id ≡ s.id
     by_id true s = refl
     by_id false s = refl
 
-    by_size : (t : Bool) (s : Created) → (cond t (record s { named = true }) s).size ≡ s.size
+    by_size : (t : Bool) (s : Surface) → (cond t (record s { named = true }) s).size ≡ s.size
     by_size true s = refl
     by_size false s = refl
 
 destroyed_size : (kept : List SurfaceId) → KeepsSize (destroy kept)
 destroyed_size kept = record { id = λ s. by_id (is_lost kept s) s; size = λ s. by_size (is_lost kept s) s }
   where
-    by_id : (t : Bool) (s : Created) → (cond t (record s { destroyed = true }) s).id ≡ s.id
+    by_id : (t : Bool) (s : Surface) → (cond t (record s { destroyed = true }) s).id ≡ s.id
     by_id true s = refl
     by_id false s = refl
 
-    by_size : (t : Bool) (s : Created) → (cond t (record s { destroyed = true }) s).size ≡ s.size
+    by_size : (t : Bool) (s : Surface) → (cond t (record s { destroyed = true }) s).size ≡ s.size
     by_size true s = refl
     by_size false s = refl
 

@@ -15,7 +15,7 @@ use Rattle.vz_rules.specs.declared.entry.Event.TheVariants as event
 use Rattle.vz_rules.specs.declared.entry.Entry.{Entry}
 use Rattle.vz_rules.specs.declared.entry.Fed.{Fed}
 use Rattle.vz_rules.specs.declared.entry.State.TheVariants.{Active, Past, Dropped}
-use Rattle.vz_rules.specs.World.{World, Client, Created, Submission, is_waiting, is_active, is_ended, is_on, is_in_flight, sub_of, has_sub, opening, FrameData, client_at}
+use Rattle.vz_rules.specs.World.{World, Client, Surface, Submission, is_waiting, is_active, is_ended, is_on, is_in_flight, sub_of, has_sub, opening, FrameData, client_at}
 use Rattle.vz_rules.specs.Settle.{has_come, is_ready, ready, after_round, round, rounds, activated_over, settle, activated_in}
 use Rattle.vz_rules.specs.Reach.{drop_on, lost_in, naming, clearing, collect}
 use Rattle.vz_rules.specs.Returns.{give_back, feedback_of, mark_fed, feed, fed_in}
@@ -101,7 +101,7 @@ module _ (t : Submission → Bool) (steady : IsSteady t) where
   collect_count : (w : World) → count_by t (collect w).subs ≡ count_by t w.subs
   unfolding collect clearing naming
   collect_count w =
-      let lost : List Created = lost_in (naming w) in
+      let lost : List Surface = lost_in (naming w) in
       count_map (drop_on lost) t w.subs (λ s. steady.dropped ((is_waiting s || is_active s) && list_any (λ c. is_on c.id s) lost) s)
 
   follow_count : (w : World) → count_by t (collect (settle w)).subs ≡ count_by t w.subs
@@ -200,7 +200,7 @@ settle_acts w sub h = rounds_act _ w sub h
 collect_acts : (w : World) (sub : Sub) → count_by (has_acted sub) (collect w).subs ≡ count_by (has_acted sub) w.subs
 unfolding collect clearing naming
 collect_acts w sub =
-    let lost : List Created = lost_in (naming w) in
+    let lost : List Surface = lost_in (naming w) in
     count_map (drop_on lost) (has_acted sub) w.subs (λ s.
     let r = dropped_rest ((is_waiting s || is_active s) && list_any (λ c. is_on c.id s) lost) s in
     ap (λ i. same_sub sub i.sub && (drop_on lost s).was_active) r.0 ∙ ap (λ b. is_named sub s && b) r.2)
@@ -208,7 +208,7 @@ collect_acts w sub =
 follow_fresh : (w : World) → list_all is_fresh w.subs ≡ true → list_all is_fresh (collect (settle w)).subs ≡ true
 unfolding collect clearing naming settle
 follow_fresh w h =
-    let lost : List Created = lost_in (naming (settle w)) in
+    let lost : List Surface = lost_in (naming (settle w)) in
     all_map (drop_on lost) is_fresh (settle w).subs (λ s. fresh_dropped ((is_waiting s || is_active s) && list_any (λ c. is_on c.id s) lost) s) (rounds_fresh _ w h)
 
 -- Feedback

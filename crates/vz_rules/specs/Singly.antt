@@ -3,7 +3,7 @@ use Rattle.std.specs.Prelude.{true, ◌&&◌, List, [], ◌∷◌, map, if◌the
 use Rattle.std.specs.List.{Contains}
 use Rattle.vz_ids.specs.declared.SurfaceId.{SurfaceId}
 use Rattle.vz_ids.specs.Ids.{same_surface, same_sub}
-use Rattle.vz_rules.specs.World.{World, Submission, Created, is_active, is_on, sub_of}
+use Rattle.vz_rules.specs.World.{World, Submission, Surface, is_active, is_on, sub_of}
 use Rattle.vz_rules.specs.Settle.{marked_by}
 use Rattle.vz_rules.specs.Reach.{drop_on}
 use Rattle.vz_rules.specs.declared.entry.State.TheVariants.{Active, Past}
@@ -25,18 +25,18 @@ all_rising [] w = w
 all_rising (s ∷ ss) w = all_rising ss (rising s w)
 
 -- a surface is destroyed if it has this id
-abbrev pub as_one_goes : Created → Created → Created
+abbrev pub as_one_goes : Surface → Surface → Surface
 as_one_goes c d = if same_surface d.id c.id then record d { destroyed = true } else d
 
 -- one surface is destroyed, and its waiting and its active submission are dropped
-unfoldable pub going : Created → World → World
+unfoldable pub going : Surface → World → World
 going c w = record w { surfaces = map (as_one_goes c) w.surfaces; subs = map (drop_on (c ∷ [])) w.subs }
 
 -- these surfaces are destroyed, one after another
-unfoldable pub all_going : List Created → World → World
+unfoldable pub all_going : List Surface → World → World
 all_going [] w = w
 all_going (c ∷ cs) w = all_going cs (going c w)
 
 -- the surface with this id is marked, if there is one
 abbrev pub IsMarked : World → SurfaceId → Type 0
-IsMarked w id = (s : Created) → Contains w.surfaces s → IsTrue (same_surface s.id id) → IsTrue s.marked
+IsMarked w id = (s : Surface) → Contains w.surfaces s → IsTrue (same_surface s.id id) → IsTrue s.marked

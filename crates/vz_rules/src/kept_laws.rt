@@ -16,7 +16,7 @@ ghost use Rattle.vz_rules.specs.declared.entry.Event.TheVariants as event;
 ghost use Rattle.vz_rules.specs.declared.entry.Refusal.{Refusal};
 ghost use Rattle.vz_rules.specs.declared.entry.Returned.{Returned};
 ghost use Rattle.vz_rules.specs.Plan.{Plan, IsPlan};
-ghost use Rattle.vz_rules.specs.World.{World, Client, Created, FrameData, Resource, Submission, opening, active_frames, frame_on, is_waiting, is_active, is_in_flight, last_created, exists, sub_of};
+ghost use Rattle.vz_rules.specs.World.{World, Client, Surface, FrameData, Resource, Submission, opening, active_frames, frame_on, is_waiting, is_active, is_in_flight, last_created, exists, sub_of};
 ghost use Rattle.vz_rules.specs.Scene.{shown, in_range, after_start};
 ghost use Rattle.vz_rules.specs.Settle.{is_met, ready, has_come, round, settle};
 ghost use Rattle.vz_rules.specs.Reach.{has_id, reach, lost_in, naming, clearing, collect};
@@ -74,7 +74,7 @@ pub fn names_differ()
         → Contains w.clients d → c.number ≡ d.number → c ≡ d }
     ensures sinks { (w : World) (c d : Client) → KeepsAlways w → Contains w.clients c
         → Contains w.clients d → c.sink ≡ d.sink → c ≡ d }
-    ensures surfaces { (w : World) (n m : ℕ) (s t : Created) → KeepsAlways w
+    ensures surfaces { (w : World) (n m : ℕ) (s t : Surface) → KeepsAlways w
         → slice_get w.surfaces n ≡ Some s → slice_get w.surfaces m ≡ Some t
         → IsTrue (same_surface s.id t.id) → n ≡ m }
     ensures submissions { (w : World) (n m : ℕ) (s t : Submission) → KeepsAlways w
@@ -86,12 +86,12 @@ pub fn names_differ()
 /// surface that a client created last has the greatest number. An active submission is the one
 /// that is seen on its surface.
 pub fn surfaces_are_owned()
-    ensures sinks { (w : World) (s t : Created) → KeepsAlways w → Contains w.surfaces s
+    ensures sinks { (w : World) (s t : Surface) → KeepsAlways w → Contains w.surfaces s
         → Contains w.surfaces t → IsTrue (same_sink s.id.sink t.id.sink) → s.client ≡ t.client }
     ensures submissions { (w : World) (s t : Submission) → KeepsAlways w → Contains w.subs s
         → Contains w.subs t → IsTrue (same_surface s.submitted.id t.submitted.id)
         → s.submitted.sub.client ≡ t.submitted.sub.client }
-    ensures last { (w : World) (c : ℕ) (s t : Created) → KeepsAlways w → last_created w c ≡ Some s
+    ensures last { (w : World) (c : ℕ) (s t : Surface) → KeepsAlways w → last_created w c ≡ Some s
         → Contains w.surfaces t → t.client ≡ c → t.number ≤ s.number }
     ensures seen { (w : World) (s : Submission) → KeepsAlways w → Contains w.subs s
         → IsTrue (is_active s) → frame_on s.submitted.id (active_frames w.subs) ≡ Some s.submitted }
@@ -103,7 +103,7 @@ pub fn numbers_are_small()
         → (c : Client)
         → Contains w.clients c → HasSmallClient c.number × (c.taken ≤ MOST_MESSAGES) }
     ensures surfaces { (p : Plan) (w : World) → IsPlan p → KeepsAlways w → KeepsPlan p w
-        → (s : Created) → Contains w.surfaces s → IsSmallSurface s }
+        → (s : Surface) → Contains w.surfaces s → IsSmallSurface s }
     ensures submissions { (p : Plan) (w : World) → IsPlan p → KeepsAlways w → KeepsPlan p w
         → (s : Submission) → Contains w.subs s → IsSmallSubmission s }
     ensures resources { (p : Plan) (w : World) → IsPlan p → KeepsAlways w → KeepsPlan p w
@@ -123,7 +123,7 @@ pub fn lists_are_short()
 /// A surface has one size, and each frame accepted on it has that size. Each block has sides from
 /// 1 to 256.
 pub fn sizes_are_kept()
-    ensures surface { (w : World) (s : Submission) (c : Created) → KeepsAlways w → KeepsMessages w
+    ensures surface { (w : World) (s : Submission) (c : Surface) → KeepsAlways w → KeepsMessages w
         → Contains w.subs s → Contains w.surfaces c → IsTrue (same_surface c.id s.submitted.id)
         → c.size ≡ frame_size s.submitted.frame }
     ensures frames { (w : World) (s t : Submission) → KeepsAlways w → KeepsMessages w
@@ -175,7 +175,7 @@ pub fn nothing_is_late()
         → IsFalse (has_come w s) }
     ensures due { (w : World) (s : Submission) → Keeps w → Contains w.subs s → IsTrue (is_waiting s)
         → IsFalse (list_all (is_met w) s.submitted.frame.metadata.dependencies) × (w.tick < s.due) }
-    ensures marked { (w : World) (s : Created) → Keeps w → Contains w.surfaces s → IsTrue s.marked
+    ensures marked { (w : World) (s : Surface) → Keeps w → Contains w.surfaces s → IsTrue s.marked
         → IsFalse s.destroyed → IsTrue (has_id (reach w) s.id) }
     ensures unfed { (w : World) (s : Submission) → Keeps w → Contains w.subs s → IsFalse s.fed
         → IsTrue (is_open s) ⊎ IsTrue (is_in_flight w.in_flight (sub_of s)) }
@@ -227,7 +227,7 @@ pub fn histories_are_spelled()
 
 /// The existing surfaces of a group form a chain: of any two, one is the other or newer than it.
 pub fn groups_are_chains()
-    ensures surfaces { (w : World) (s t : Created) → KeepsAlways w → Contains w.surfaces s
+    ensures surfaces { (w : World) (s t : Surface) → KeepsAlways w → Contains w.surfaces s
         → Contains w.surfaces t → IsTrue (same_group s.id t.id)
         → IsTrue (at_least s.id t.id) ⊎ IsTrue (at_least t.id s.id) }
     ensures submissions { (w : World) (s t : Submission) → KeepsAlways w → Contains w.subs s
@@ -262,8 +262,8 @@ pub fn ranges_show_the_newest()
 /// collection destroys the lost surfaces one after another, in any order.
 pub fn changes_go_one_by_one()
     ensures round { (w : World) → KeepsAlways w → round w ≡ all_rising (ready w) w }
-    ensures clearing { (w : World) (cs : List Created) → KeepsAlways w → ((c : Created)
-        → Contains cs c → Contains (lost_in w) c) → ((c : Created) → Contains (lost_in w) c
+    ensures clearing { (w : World) (cs : List Surface) → KeepsAlways w → ((c : Surface)
+        → Contains cs c → Contains (lost_in w) c) → ((c : Surface) → Contains (lost_in w) c
         → Contains cs c) → clearing w ≡ all_going cs w }
 {}
 
@@ -275,10 +275,10 @@ pub fn single_changes_keep()
         → IsTrue (is_waiting s) → KeepsAlways (rising s w) }
     ensures waits { (w : World) (s t : Submission) → Contains w.subs t → IsTrue (is_waiting t)
         → IsFalse (same_sub (sub_of t) (sub_of s)) → Contains (rising s w).subs t }
-    ensures going { (w : World) (c : Created) → KeepsAlways w → IsMarked w c.id
+    ensures going { (w : World) (c : Surface) → KeepsAlways w → IsMarked w c.id
         → KeepsAlways (going c w) }
-    ensures marked { (w : World) (id : SurfaceId) (c : Created) → IsMarked w id
+    ensures marked { (w : World) (id : SurfaceId) (c : Surface) → IsMarked w id
         → IsMarked (going c w) id }
-    ensures lost { (w : World) (c : Created) → KeepsAlways w → Contains (lost_in w) c
+    ensures lost { (w : World) (c : Surface) → KeepsAlways w → Contains (lost_in w) c
         → IsMarked w c.id }
 {}

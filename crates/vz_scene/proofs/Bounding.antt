@@ -4,19 +4,11 @@ use Rattle.std.specs.Int.{int_min, int_max}
 use Rattle.std.proofs.lemmas.Int.{ints, clamps}
 use Rattle.std.proofs.lemmas.List.{drop_all, drop_more}
 use Rattle.vz_geom.specs.Rectangle.{Rectangle, is_empty_rect, no_rectangle, with_sides, hull, join, bound}
+use Rattle.vz_frame.specs.Frame.{root_damage}
 use Rattle.vz_rules.specs.World.{FrameData}
-use Rattle.vz_rules.specs.Damage.{root_damage, is_between}
-use Rattle.vz_scene.specs.Limits.{IsInReach}
-
-pub nothing_in_reach : IsInReach no_rectangle
-nothing_in_reach =
-    record {
-      first = record { left = omega (arith, ints); right = omega (arith, ints); top = omega (arith, ints); bottom = omega (arith, ints) };
-      wide = omega (arith, ints);
-      high = omega (arith, ints);
-      right = omega (arith, ints);
-      bottom = omega (arith, ints);
-    }
+use Rattle.vz_rules.specs.Damage.{is_between}
+use Rattle.vz_placement.specs.Limits.{IsInReach}
+use Rattle.vz_placement.proofs.Sides.{nothing_in_reach}
 
 sides_in_reach : (x y w h : ℤ) → IsInReach (record { x = x; y = y; w = w; h = h }) → IsInReach (with_sides x y w h)
 unfolding with_sides

@@ -8,11 +8,11 @@ use Rattle.std.specs.Option.{option_map}
 use Rattle.std.proofs.lemmas.Option.{slice_get-get_or, slice_get_within, slice_get-map}
 use Rattle.std.proofs.lemmas.Grind.{take_at_read}
 use Rattle.vz_ids.specs.declared.SurfaceId.{SurfaceId}
-use Rattle.vz_ids.specs.Ids.{same_sink, same_group, newer, at_least}
+use Rattle.vz_ids.specs.Ids.{same_sink, same_group, newer, at_least, group_of}
 use Rattle.vz_rules.specs.World.{FrameData}
-use Rattle.vz_scene.specs.declared.key.GroupKey.{GroupKey}
-use Rattle.vz_scene.specs.Groups.{is_newer, IsChain, IsNewest, by_group, group_of, frames_at, frames_in, HasGroups}
-use Rattle.vz_scene.proofs.Ages.{both, eq_is, eq_so, at_least_is, at_least_trans, newer_is, newer_so}
+use Rattle.vz_scene.specs.Groups.{is_newer, IsChain, IsNewest, by_group, frames_at, frames_in, HasGroups}
+use Rattle.vz_ids.proofs.Ages.{both, eq_is, eq_so, at_least_is, at_least_trans, newer_is, newer_so}
+use Rattle.vz_ids.specs.declared.GroupKey.{GroupKey}
 use Rattle.vz_scene.proofs.Showing.{clash, newer_reaches}
 use Rattle.vz_scene.proofs.Ties.{group_ties}
 

@@ -6,11 +6,12 @@ use Rattle.vz_geom.specs.Rectangle.{Rectangle, bound}
 use Rattle.vz_ids.specs.declared.SurfaceId.{SurfaceId}
 use Rattle.vz_ids.specs.Ids.{same_sink, same_local, same_surface}
 use Rattle.vz_rules.specs.World.{FrameData, Aggregation}
-use Rattle.vz_rules.specs.Damage.{damage_since, root_damage}
-use Rattle.vz_scene.specs.Limits.{IsInReach}
+use Rattle.vz_rules.specs.Damage.{damage_since}
+use Rattle.vz_placement.specs.Limits.{IsInReach}
 use Rattle.vz_scene.specs.declared.key.FrameKey.{FrameKey}
 use Rattle.vz_scene.specs.Order.{by_frame, frame_key, AreDamages}
-use Rattle.vz_scene.proofs.Ages.{both, eq_is}
+use Rattle.vz_ids.proofs.Ages.{both, eq_is}
+use Rattle.vz_frame.specs.Frame.{root_damage}
 use Rattle.vz_scene.proofs.Ties.{frame_ties}
 
 one_surface : (a b : SurfaceId) → same_surface a b ≡ true → a ≡ b

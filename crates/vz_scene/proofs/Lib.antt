@@ -1,10 +1,8 @@
 pub mod Stacking
 pub mod Rooting
-pub mod Fitting
-pub mod Rooms
 pub mod Bounding
+pub mod Cursors
 pub mod Ties
-pub mod Ages
 pub mod Showing
 pub mod Chains
 pub mod Known

@@ -5,11 +5,11 @@ use Rattle.std.specs.BTreeMap.{BTreeMap, get}
 use Rattle.std.specs.Ordering.{is_eq}
 use Rattle.std.proofs.lemmas.List.Folds.{list_any-append}
 use Rattle.vz_ids.specs.declared.SurfaceId.{SurfaceId}
-use Rattle.vz_ids.specs.Ids.{same_group, at_least}
-use Rattle.vz_scene.specs.declared.key.GroupKey.{GroupKey}
-use Rattle.vz_scene.specs.Groups.{by_group, group_of}
+use Rattle.vz_ids.specs.Ids.{same_group, at_least, group_of}
+use Rattle.vz_scene.specs.Groups.{by_group}
 use Rattle.vz_scene.specs.Reached.{is_at_least_in, is_reached, reaches, AreNewest}
-use Rattle.vz_scene.proofs.Ages.{at_least_trans}
+use Rattle.vz_ids.proofs.Ages.{at_least_trans}
+use Rattle.vz_ids.specs.declared.GroupKey.{GroupKey}
 use Rattle.vz_scene.proofs.Chains.{one_key}
 use Rattle.vz_scene.proofs.Showing.{clash, never, group_from}
 use Rattle.vz_scene.proofs.Ties.{group_ties}

@@ -7,7 +7,7 @@ use Rattle.vz_rules.specs.World.{FrameData, frame_on}
 use Rattle.vz_rules.specs.Scene.{newest, newer_frame, from_start, in_range, after_start}
 use Rattle.vz_rules.proofs.Members.{contains_here, contains_there, contains_none, contains_cases, any_from, any_none, find_at, found, filter_at, filter_has, filter_none}
 use Rattle.vz_scene.specs.Groups.{is_newer, IsNewest, FindsNewest, that_passes}
-use Rattle.vz_scene.proofs.Ages.{both, at_least_is, at_least_trans, newer_once, eq_so}
+use Rattle.vz_ids.proofs.Ages.{both, at_least_is, at_least_trans, newer_once, eq_so}
 use Rattle.vz_scene.proofs.Ties.{surface_sym}
 
 pub clash : (t : Bool) → t ≡ true → t ≡ false → ⊥

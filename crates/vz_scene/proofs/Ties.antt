@@ -19,8 +19,8 @@ use Rattle.std.proofs.lemmas.Bool.Decides.{nat_tests}
 use Rattle.vz_ids.specs.declared.SurfaceId.{SurfaceId}
 use Rattle.vz_ids.specs.declared.SurfaceRange.{SurfaceRange}
 use Rattle.vz_ids.specs.contracts.SurfaceIdPartialEq.TheImpl as surface_eq
-use Rattle.vz_ids.specs.Ids.{same_sink, same_local, same_surface, same_start, same_range, same_group}
-use Rattle.vz_scene.specs.Groups.{by_group, group_of}
+use Rattle.vz_ids.specs.Ids.{same_sink, same_local, same_surface, same_start, same_range, same_group, group_of}
+use Rattle.vz_scene.specs.Groups.{by_group}
 use Rattle.vz_scene.specs.Order.{by_surface, by_range, by_frame, frame_key, HasNumbers, HasShown}
 
 then_ties : (x y : Ordering) → is_eq (ordering_then x y) ≡ (is_eq x && is_eq y)

@@ -4,10 +4,10 @@ use Rattle.std.specs.List.{Contains}
 use Rattle.std.specs.BTreeMap.{BTreeMap, get}
 use Rattle.std.specs.declared.cmp.Ordering.{Ordering}
 use Rattle.vz_ids.specs.declared.SurfaceId.{SurfaceId}
-use Rattle.vz_ids.specs.Ids.{same_sink, same_group, newer}
+use Rattle.vz_ids.specs.declared.GroupKey.{GroupKey}
+use Rattle.vz_ids.specs.contracts.GroupKeyOrd.TheImpl as group_ord
+use Rattle.vz_ids.specs.Ids.{same_sink, same_group, newer, group_of}
 use Rattle.vz_rules.specs.World.{FrameData}
-use Rattle.vz_scene.specs.declared.key.GroupKey.{GroupKey}
-use Rattle.vz_scene.specs.contracts.key.GroupKeyOrd.TheImpl as group_ord
 
 -- the frame is on a newer surface than the other, in the same group
 abbrev pub is_newer : FrameData → FrameData → Bool
@@ -31,10 +31,6 @@ FindsNewest test xs (Some x) = IsNewest test xs x
 -- the order of groups, by sink and token
 abbrev pub by_group : GroupKey → GroupKey → Ordering
 by_group = (group_ord.ghosts).cmp
-
--- the key of a surface's group
-abbrev pub group_of : SurfaceId → GroupKey
-group_of id = record { sink = id.sink; token = id.local.token }
 
 -- the frames that a map has for a key
 abbrev pub frames_at : BTreeMap GroupKey (List FrameData) → GroupKey → List FrameData

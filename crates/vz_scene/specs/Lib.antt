@@ -1,7 +1,6 @@
 pub mod Walking
 pub mod Visits
 pub mod Counted
-pub mod Limits
 pub mod Order
 pub mod Groups
 pub mod Seen

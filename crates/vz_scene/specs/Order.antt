@@ -13,7 +13,7 @@ use Rattle.vz_ids.specs.Ids.{same_surface, same_range}
 use Rattle.vz_geom.specs.Rectangle.{Rectangle}
 use Rattle.vz_rules.specs.World.{FrameData, Aggregation}
 use Rattle.vz_rules.specs.Damage.{damage_since}
-use Rattle.vz_scene.specs.Limits.{IsInReach}
+use Rattle.vz_placement.specs.Limits.{IsInReach}
 use Rattle.vz_scene.specs.declared.key.FrameKey.{FrameKey}
 use Rattle.vz_scene.specs.contracts.key.FrameKeyOrd.TheImpl as frame_ord
 

@@ -3,9 +3,9 @@ use Rattle.std.specs.Prelude.{◌≡◌, Bool, false, ◌||◌, Option, Some, No
 use Rattle.std.specs.List.{list_any}
 use Rattle.std.specs.BTreeMap.{BTreeMap, get}
 use Rattle.vz_ids.specs.declared.SurfaceId.{SurfaceId}
-use Rattle.vz_ids.specs.Ids.{at_least}
-use Rattle.vz_scene.specs.declared.key.GroupKey.{GroupKey}
-use Rattle.vz_scene.specs.Groups.{by_group, group_of}
+use Rattle.vz_ids.specs.Ids.{at_least, group_of}
+use Rattle.vz_ids.specs.declared.GroupKey.{GroupKey}
+use Rattle.vz_scene.specs.Groups.{by_group}
 
 -- there is a surface, and it is the same as the other or newer in its group
 abbrev pub is_at_least_in : Option SurfaceId → SurfaceId → Bool

@@ -6,7 +6,7 @@ use Rattle.vz_ids.specs.declared.SurfaceId.{SurfaceId}
 use Rattle.vz_frame.specs.declared.frame.RenderPass.{RenderPass}
 use Rattle.vz_frame.specs.declared.frame.DrawQuad.{DrawQuad}
 use Rattle.vz_rules.specs.World.{FrameData}
-use Rattle.vz_scene.specs.Limits.{HasRoom, room_for}
+use Rattle.vz_placement.specs.Limits.{HasRoom, room_for}
 use Rattle.vz_rules.specs.Walk.{Placement, Visit, WalkRange, WalkNamed, quad_walked, pass_walked, groups_walked, range_walked, walk, too_much}
 
 -- the quads of a pass that remain to be walked: the pass at a place of a submitted frame, from one

@@ -5,19 +5,18 @@ ghost use Rattle.std.specs.Ordering.{is_eq};
 ghost use Rattle.std.specs.Option.{option_copied};
 ghost use Rattle.vz_ids.specs.declared.SurfaceId.{SurfaceId as Surface};
 ghost use Rattle.vz_ids.specs.Ids.{same_group, same_surface};
+ghost use Rattle.vz_ids.specs.declared.GroupKey.{GroupKey as Key};
 ghost use Rattle.vz_rules.specs.World.{FrameData, frame_on};
 ghost use Rattle.vz_rules.specs.Scene.{in_range, after_start, newest, shown_frame};
-ghost use Rattle.vz_scene.specs.declared.key.GroupKey.{GroupKey as Key};
 ghost use Rattle.vz_scene.specs.Groups.{by_group, HasGroups, frames_at, frames_in, that_passes};
 
 use crate::group::Group;
-use crate::key::{GroupKey, group_of};
 use crate::scene;
 use crate::submitted::SubmittedFrame;
 use std::alloc::{AllocError, Global};
 use std::collections::BTreeMap;
 use std::marker::Model;
-use vz_ids::{SurfaceId, SurfaceRange};
+use vz_ids::{GroupKey, SurfaceId, SurfaceRange};
 
 /// The active frames in the order of acceptance, and an index of them by group. A group is
 /// searched by halves if each of its frames is newer than the one before it, as it is for those
@@ -66,7 +65,7 @@ fn add<'b, 'a>(
         ≡ frames_in groups.old id
         ++ cond (same_group submitted.now.id id) (submitted.now ∷ []) []) }
 {
-    let key = group_of(&submitted.id);
+    let key = submitted.id.group();
     let mut group = take_group(alloc, groups, &key);
     group.add(submitted)?;
     groups.insert(key, group)?;
@@ -170,7 +169,7 @@ impl<'b, 'a> ActiveFrames<'b, 'a> {
     pub fn frame_on(&self, id: &SurfaceId) -> Option<&'b SubmittedFrame<'a>>
         ensures { option_copied result ≡ frame_on id.now self.now }
     {
-        match self.groups.get(&group_of(id)) {
+        match self.groups.get(&id.group()) {
             None => None,
             Some(group) => {
                 if !group.is_chain() {
@@ -186,7 +185,7 @@ impl<'b, 'a> ActiveFrames<'b, 'a> {
     fn newest_in(&self, range: &SurfaceRange) -> Option<&'b SubmittedFrame<'a>>
         ensures { option_copied result ≡ newest (filter (in_range range.now) self.now) }
     {
-        match self.groups.get(&group_of(&range.end)) {
+        match self.groups.get(&range.end.group()) {
             None => None,
             Some(group) => {
                 if !group.is_chain() {
@@ -205,7 +204,7 @@ impl<'b, 'a> ActiveFrames<'b, 'a> {
     {
         match range.start {
             None => None,
-            Some(start) => match self.groups.get(&group_of(&start)) {
+            Some(start) => match self.groups.get(&start.group()) {
                 None => None,
                 Some(group) => {
                     if !group.is_chain() {

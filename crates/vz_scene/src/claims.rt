@@ -4,21 +4,21 @@ ghost use Rattle.std.specs.List.{flat_map};
 ghost use Rattle.std.specs.Option.{option_to_list};
 ghost use Rattle.vz_geom.specs.Display.{IsDisplaySize};
 ghost use Rattle.vz_rules.specs.Damage.{damage_since, damage_at, claims_of, claims, drawn_damage};
-ghost use Rattle.vz_scene.specs.Limits.{IsInReach};
+ghost use Rattle.vz_placement.specs.Limits.{IsInReach};
 ghost use Rattle.vz_scene.specs.Order.{AreDamages};
 ghost use Rattle.vz_scene.specs.Seen.{seen_damage};
 
 use crate::aggregation::Aggregation;
-use crate::damage::{bound, damage_since, frame_rect};
+use crate::damage::{bound, damage_since};
 use crate::index::Index;
 use crate::key::{FrameKey, frame_key};
-use crate::place::{Place, display_rect, moved};
 use crate::submitted::SubmittedFrame;
 use crate::visit::{Kind, Visit};
 use std::alloc::{AllocError, Global};
 use std::collections::BTreeMap;
 use vz_geom::{Rect, Size};
 use vz_ids::SurfaceId;
+use vz_placement::{Placement, frame_rect, moved};
 
 /// The damage on a frame's surface since the last aggregation. It is computed once for each
 /// frame. Condition: the damages that are already known are right.
@@ -44,13 +44,14 @@ fn known_damage(
 
 /// The part of a surface's damage that is seen at a place. Condition: it is the damage since the
 /// last aggregation.
-fn seen_damage(damage: &Rect, submitted: &SubmittedFrame<'_>, place: &Place) -> Rect
+fn seen_damage(damage: &Rect, submitted: &SubmittedFrame<'_>, place: &Placement) -> Rect
     requires { IsInReach damage.now }
     ensures { result ≡ seen_damage damage.now submitted.now place.now }
 {
-    let surface = moved(&frame_rect(submitted), place.shift);
-    let window = place.window.intersect(&surface);
-    window.intersect(&moved(damage, place.shift))
+    let shift = place.shift();
+    let surface = moved(&frame_rect(submitted.frame()), shift);
+    let window = place.window().intersect(&surface);
+    window.intersect(&moved(damage, shift))
 }
 
 /// What one visit of the walk claims, if anything. Condition: the known damages are right.
@@ -133,12 +134,12 @@ fn claims(
     ensures { IfOk result (λ v. v.items ≡ claims size last.now accepted.now root.now visits.now) }
 {
     match last {
-        None => Ok(vec![in alloc; display_rect(size)]?),
+        None => Ok(vec![in alloc; Rect::of_display(size)]?),
         Some(aggregation) => {
             if aggregation.root == *root {
                 Ok(all_claims(alloc, aggregation, accepted, visits)?)
             } else {
-                Ok(vec![in alloc; display_rect(size)]?)
+                Ok(vec![in alloc; Rect::of_display(size)]?)
             }
         }
     }

@@ -4,14 +4,13 @@ ghost use Rattle.std.specs.Prelude.{false, take, reverse, IsSome, IfSome, IfOk, 
 ghost use Rattle.std.specs.Arc.{arc_value};
 ghost use Rattle.vz_rules.specs.World.{FrameData};
 ghost use Rattle.vz_rules.specs.Paint.{on_path};
-ghost use Rattle.vz_rules.specs.Walk.{Placement, WalkRange};
+ghost use Rattle.vz_rules.specs.Walk.{Placement as OnePlacement, WalkRange};
 ghost use Rattle.vz_rules.specs.Walk.{place_in, groups_walked, walk, weight, too_much};
-ghost use Rattle.vz_scene.specs.Limits.{HasRoom, IsPassInReach, IsQuadInReach, coordinates, room_for};
+ghost use Rattle.vz_placement.specs.Limits.{HasRoom, IsPassInReach, IsQuadInReach, coordinates, room_for};
 ghost use Rattle.vz_scene.specs.Walking.{ranges_of, named_of, walked_at};
 ghost use Rattle.vz_scene.specs.Walking.{cursor_walked, maybe_walked, group_at, next_cursor};
 
 use crate::active_frames::ActiveFrames;
-use crate::place::Place;
 use crate::submitted::SubmittedFrame;
 use crate::visit::Walked;
 use std::alloc::{AllocError, Global};
@@ -19,6 +18,7 @@ use std::marker::Model;
 use std::sync::Arc;
 use vz_frame::{DrawQuad, Material, RenderPass};
 use vz_ids::{SurfaceId, SurfaceRange};
+use vz_placement::Placement;
 
 /// The quads of a pass that are still to be visited, from one quad on. It knows the submitted
 /// frame, the place of the pass in it, the surfaces on the path, and how many more surfaces the
@@ -30,7 +30,7 @@ pub(crate) struct Cursor<'b, 'a> {
     submitted: &'b SubmittedFrame<'a>,
     pass: usize,
     quad: usize,
-    place: Place,
+    place: Placement,
 }
 
 impl<'b, 'a> Model for Cursor<'b, 'a> {
@@ -54,7 +54,7 @@ impl<'b, 'a> Model for Cursor<'b, 'a> {
 /// The last pass with an id among those before a place.
 fn pass_of(passes: &[RenderPass], before: usize, id: u32) -> Option<usize>
     requires { before ≤ length passes.now }
-    ensures found { (ranges : WalkRange) (place : Placement)
+    ensures found { (ranges : WalkRange) (place : OnePlacement)
         → groups_walked ranges (reverse (take before passes.now)) id place
         ≡ group_at ranges passes.now place result }
     ensures before { IfSome result (λ k. k < before) }
@@ -101,7 +101,7 @@ pub(crate) fn enter<'b, 'a>(
     levels: u32,
     path: &[SurfaceId],
     submitted: &'b SubmittedFrame<'a>,
-    place: Place,
+    place: Placement,
 ) -> Result<Option<Cursor<'b, 'a>>, AllocError>
     requires { HasRoom (room_for levels 0) place.shift }
     ensures { (active : List FrameData)
@@ -155,7 +155,7 @@ impl<'b, 'a> Cursor<'b, 'a> {
 
     /// The place of what a quad of this pass draws, with room for the earlier passes and all
     /// surfaces that are left. Conditions: the pass and the quad are within the limits.
-    fn place_of(&self, pass: &RenderPass, quad: &DrawQuad) -> Place
+    fn place_of(&self, pass: &RenderPass, quad: &DrawQuad) -> Placement
         requires pass { IsPassInReach pass.now }
         requires quad { IsQuadInReach quad.now }
         ensures value { result ≡ place_in self.now.place pass.now quad.now }
@@ -166,7 +166,7 @@ impl<'b, 'a> Cursor<'b, 'a> {
 
     /// The cursor for an earlier pass with an id, drawn as a group at a place. Condition: the
     /// place has room for the earlier passes and all surfaces that are left.
-    fn group(&self, id: u32, place: &Place) -> Result<Option<Cursor<'b, 'a>>, AllocError>
+    fn group(&self, id: u32, place: &Placement) -> Result<Option<Cursor<'b, 'a>>, AllocError>
         requires { HasRoom (room_for self.now.levels self.now.pass + coordinates 1) place.now.shift }
         ensures { (active : List FrameData)
             → IfOk result (λ o. maybe_walked active o ≡ named_of active self.now id place.now) }
@@ -195,7 +195,7 @@ impl<'b, 'a> Cursor<'b, 'a> {
         alloc: Global,
         active: &ActiveFrames<'b, 'a>,
         range: SurfaceRange,
-        place: Place,
+        place: Placement,
         walked: &mut Walked<'b, 'a>,
     ) -> Result<Option<Cursor<'b, 'a>>, AllocError>
         requires { HasRoom (room_for self.now.levels 0) place.shift }
@@ -204,7 +204,7 @@ impl<'b, 'a> Cursor<'b, 'a> {
         ensures weight { OnOk result (weight walked.new ≡ weight walked.old) }
     {
         let shown = active.shown_frame(&range);
-        walked.add_shows(range, shown, place.window)?;
+        walked.add_shows(range, shown, place.window())?;
         match shown {
             None => Ok(None),
             Some(submitted) => {

@@ -1,23 +1,20 @@
 //! The damage on a surface since the last aggregation, and what is remembered for the next one.
-ghost use Rattle.std.specs.Prelude.{◌≡◌, map, filter, [], false, IsTrue, IfOk};
-ghost use Rattle.vz_frame.specs.Fits.{fits_rect};
+ghost use Rattle.std.specs.Prelude.{◌≡◌, map, filter, [], false, IfOk};
 ghost use Rattle.std.specs.List.{list_any, filter_map};
 ghost use Rattle.std.specs.Option.{option_map_or};
-ghost use Rattle.vz_geom.specs.Rectangle.{bound, sized};
+ghost use Rattle.vz_geom.specs.Rectangle.{bound};
 ghost use Rattle.std.specs.BTreeSet.{contains};
 ghost use Rattle.vz_ids.specs.Ids.{same_sub};
 ghost use Rattle.vz_scene.specs.Order.{by_sub};
-ghost use Rattle.vz_frame.specs.Frame.{frame_size};
 ghost use Rattle.vz_rules.specs.World.{FrameData};
 ghost use Rattle.vz_rules.specs.Walk.{goes_into};
-ghost use Rattle.vz_rules.specs.Damage.{root_damage, shown_range, of_same_range, is_between};
+ghost use Rattle.vz_rules.specs.Damage.{shown_range, of_same_range, is_between};
 ghost use Rattle.vz_rules.specs.Damage.{damage_since, aggregation_of};
 ghost use Rattle.vz_rules.specs.Closure.{adding};
-ghost use Rattle.vz_scene.specs.Limits.{IsInReach};
+ghost use Rattle.vz_placement.specs.Limits.{IsInReach};
 
 use crate::aggregation::Aggregation;
 use crate::index::Index;
-use crate::place::nothing;
 use crate::submitted::SubmittedFrame;
 use crate::visit::{Kind, Visit};
 use std::alloc::{AllocError, Global};
@@ -25,43 +22,12 @@ use std::collections::BTreeSet;
 use vz_geom::Rect;
 use vz_ids::{Sub, SurfaceId, SurfaceRange};
 
-/// A rectangle of this size at the origin. Condition: it is one of a frame that fits a file.
-fn at_origin(r: &Rect) -> Rect
-    requires { IsTrue (fits_rect r.now) }
-    ensures value { result ≡ sized (record { w = r.now.w; h = r.now.h }) }
-    ensures reach { IsInReach result }
-{
-    Rect::new(0, 0, r.w(), r.h())
-}
-
-/// The rectangle of the size of a submitted frame, at the origin.
-pub(crate) fn frame_rect(submitted: &SubmittedFrame<'_>) -> Rect
-    ensures value { result ≡ sized (frame_size submitted.now.frame) }
-    ensures reach { IsInReach result }
-{
-    match submitted.frame.root_pass() {
-        None => nothing(),
-        Some(pass) => at_origin(&pass.output),
-    }
-}
-
-/// The damage rectangle of the root pass of a submitted frame.
-fn root_damage(submitted: &SubmittedFrame<'_>) -> Rect
-    ensures value { result ≡ root_damage submitted.now.frame }
-    ensures reach { IsInReach result }
-{
-    match submitted.frame.root_pass() {
-        None => nothing(),
-        Some(pass) => pass.damage,
-    }
-}
-
 /// The smallest rectangle around all of these.
 #[tactic(auto, using(std::proofs::lemmas::List::drop_all), unfolding(vz_geom::specs::Rectangle::bound))]
 pub(crate) fn bound(rects: &[Rect]) -> Rect
     ensures { result ≡ bound rects.now }
 {
-    let mut best = nothing();
+    let mut best = Rect::empty();
     let mut k = rects.len();
     while k > 0 {
         k -= 1;
@@ -91,13 +57,13 @@ pub(crate) fn damage_since(
     ensures reach { IsInReach result }
 {
     let from = last.index_in(submitted);
-    let mut best = nothing();
+    let mut best = Rect::empty();
     let mut k = accepted.len();
     while k > 0 {
         k -= 1;
         let frame = &accepted[k];
         if frame.is_between(from, submitted) {
-            best = root_damage(frame).bound(&best);
+            best = frame.frame().root_damage().bound(&best);
         }
     }
     best

@@ -6,7 +6,7 @@ ghost use Rattle.vz_ids.specs.Ids.{at_least};
 ghost use Rattle.vz_rules.specs.World.{FrameData};
 ghost use Rattle.vz_scene.specs.Groups.{is_newer, IsChain, FindsNewest};
 
-use crate::submitted::{SubmittedFrame, is_at_least};
+use crate::submitted::SubmittedFrame;
 use std::alloc::{AllocError, Global};
 use std::marker::Model;
 use vz_ids::SurfaceId;
@@ -84,7 +84,7 @@ impl<'b, 'a> Group<'b, 'a> {
             (λ (i : FrameData). at_least end.now i.id ≡ false) self.now result }
     {
         self.active
-            .partition_point(|submitted| is_at_least(end, &submitted.id))
+            .partition_point(|submitted| end.is_at_least(&submitted.id))
     }
 
     /// The frame on a surface or, if there is none, on the next older one. Condition: the group

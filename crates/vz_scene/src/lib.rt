@@ -18,7 +18,6 @@ mod group;
 mod index;
 mod key;
 mod newest;
-mod place;
 mod scene;
 mod submitted;
 mod surface_set;

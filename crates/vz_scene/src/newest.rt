@@ -6,12 +6,10 @@ ghost use Rattle.vz_ids.specs.declared.SurfaceId.{SurfaceId as Surface};
 ghost use Rattle.vz_ids.specs.Ids.{at_least};
 ghost use Rattle.vz_scene.specs.Reached.{is_at_least_in, reaches, is_reached};
 
-use crate::key::{GroupKey, group_of};
-use crate::submitted::is_at_least;
 use std::alloc::{AllocError, Global};
 use std::collections::BTreeMap;
 use std::marker::Model;
-use vz_ids::SurfaceId;
+use vz_ids::{GroupKey, SurfaceId};
 
 /// Some surfaces, and the newest of them: one of each group, and in a list those that are neither
 /// newer nor older than it. A client's surfaces of one group never need that list.
@@ -45,17 +43,17 @@ fn put(
     ensures err { (d : Surface) → OnErr result (reaches groups.new others.new.items d
         ≡ reaches groups.old others.old.items d) }
 {
-    let key = group_of(id);
+    let key = id.group();
     match groups.get(&key) {
         None => {
             groups.insert(key, *id)?;
             Ok(())
         }
         Some(newest) => {
-            if is_at_least(newest, id) {
+            if newest.is_at_least(id) {
                 return Ok(());
             }
-            if is_at_least(id, newest) {
+            if id.is_at_least(newest) {
                 groups.insert(key, *id)?;
                 return Ok(());
             }
@@ -81,7 +79,7 @@ impl Newest {
     pub fn has(&self, d: &SurfaceId) -> bool
         ensures { result ≡ is_reached self.now d.now }
     {
-        is_at_least_in(self.groups.get(&group_of(d)), d) || is_one_at_least(&self.others, d)
+        is_at_least_in(self.groups.get(&d.group()), d) || is_one_at_least(&self.others, d)
     }
 
     /// Adds a surface. The only error is a failed allocation.
@@ -112,7 +110,7 @@ fn is_at_least_in(newest: Option<&SurfaceId>, d: &SurfaceId) -> bool
 {
     match newest {
         None => false,
-        Some(id) => is_at_least(id, d),
+        Some(id) => id.is_at_least(d),
     }
 }
 
@@ -120,5 +118,5 @@ fn is_at_least_in(newest: Option<&SurfaceId>, d: &SurfaceId) -> bool
 fn is_one_at_least(ids: &[SurfaceId], d: &SurfaceId) -> bool
     ensures { result ≡ is_reached ids.now d.now }
 {
-    ids.iter().any(|id| is_at_least(id, d))
+    ids.iter().any(|id| id.is_at_least(d))
 }

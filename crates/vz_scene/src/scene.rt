@@ -5,7 +5,7 @@ ghost use Rattle.vz_ids.specs.Ids.{same_surface};
 ghost use Rattle.vz_rules.specs.World.{frame_on};
 ghost use Rattle.vz_rules.specs.Scene.{in_range, after_start, newest, newer_frame};
 
-use crate::submitted::{SubmittedFrame, is_at_least};
+use crate::submitted::SubmittedFrame;
 use vz_ids::{SurfaceId, SurfaceRange};
 
 impl<'a> SubmittedFrame<'a> {
@@ -13,10 +13,10 @@ impl<'a> SubmittedFrame<'a> {
     pub(crate) fn is_in(&self, range: &SurfaceRange) -> bool
         ensures { result ≡ in_range range.now self.now }
     {
-        is_at_least(&range.end, &self.id)
+        range.end.is_at_least(&self.id)
             && match range.start {
                 None => true,
-                Some(start) => !start.same_group(&range.end) || is_at_least(&self.id, &start),
+                Some(start) => !start.same_group(&range.end) || self.id.is_at_least(&start),
             }
     }
 
@@ -27,7 +27,7 @@ impl<'a> SubmittedFrame<'a> {
     {
         match range.start {
             None => false,
-            Some(start) => !start.same_group(&range.end) && is_at_least(&self.id, &start),
+            Some(start) => !start.same_group(&range.end) && self.id.is_at_least(&start),
         }
     }
 

@@ -1,7 +1,6 @@
 //! Frames that were submitted and accepted.
 ghost use Rattle.std.specs.Prelude.{◌≡◌, map, IfOk};
-ghost use Rattle.vz_ids.specs.Ids.{at_least};
-ghost use Rattle.vz_scene.specs.Limits.{FitsFile};
+ghost use Rattle.vz_placement.specs.Limits.{FitsFile};
 
 use std::alloc::{AllocError, Global};
 use std::marker::Model;
@@ -25,7 +24,7 @@ impl<'a> Model for SubmittedFrame<'a> {
     ghost use Rattle.std.specs.Prelude.{map};
     ghost use Rattle.std.specs.Arc.{arc_value};
     ghost use Rattle.vz_rules.specs.World.{FrameData};
-    ghost use Rattle.vz_scene.specs.Limits.{FitsFile};
+    ghost use Rattle.vz_placement.specs.Limits.{FitsFile};
 
     ghost Value = { FrameData };
 
@@ -122,11 +121,4 @@ impl<'a> SubmittedFrame<'a> {
             blocks,
         })
     }
-}
-
-/// Whether a surface is the other one or a newer one of its group.
-pub(crate) fn is_at_least(a: &SurfaceId, b: &SurfaceId) -> bool
-    ensures { result ≡ at_least a.now b.now }
-{
-    a == b || (a.sink == b.sink && a.local.newer(&b.local))
 }

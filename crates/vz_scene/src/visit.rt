@@ -4,13 +4,13 @@ ghost use Rattle.std.specs.Option.{option_copied};
 ghost use Rattle.vz_rules.specs.Walk.{Quad as AQuad, Shows as AShowing, Enters as AnEntry};
 ghost use Rattle.vz_rules.specs.Walk.{weight, too_much};
 
-use crate::place::Place;
 use crate::submitted::SubmittedFrame;
 use std::alloc::{AllocError, Global};
 use std::marker::Model;
 use vz_base::limits::{MOST_ON_PATH, MOST_WEIGHT};
 use vz_geom::Rect;
 use vz_ids::SurfaceRange;
+use vz_placement::Placement;
 
 /// One thing that the walk visits.
 #[derive(Drop)]
@@ -33,7 +33,7 @@ pub(crate) enum Kind<'b, 'a> {
         /// The frame on the surface.
         submitted: &'b SubmittedFrame<'a>,
         /// Where the surface is on the display.
-        place: Place,
+        place: Placement,
     },
 }
 
@@ -121,7 +121,7 @@ impl<'b, 'a> Walked<'b, 'a> {
         &mut self,
         depth: usize,
         submitted: &'b SubmittedFrame<'a>,
-        place: Place,
+        place: Placement,
     ) -> Result<(), AllocError>
         ensures visits { OnOk result (self.new
             ≡ self.old ++ AnEntry depth submitted.now place ∷ []) }

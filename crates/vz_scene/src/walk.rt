@@ -7,12 +7,12 @@ ghost use Rattle.vz_scene.specs.Walking.{cursor_walked, stack_walked, IsWalk};
 
 use crate::active_frames::ActiveFrames;
 use crate::cursor::{Cursor, enter};
-use crate::place::whole;
 use crate::visit::Walked;
 use std::alloc::{AllocError, Global};
 use vz_base::limits::MOST_ON_PATH;
 use vz_geom::Size;
 use vz_ids::SurfaceId;
+use vz_placement::Placement;
 
 /// How many surfaces deep the walk goes: one more than the limit allows.
 pub const LEVELS: u32 = MOST_ON_PATH as u32 + 1;
@@ -98,7 +98,7 @@ pub fn walk_of<'b, 'a>(
     match active.frame_on(root) {
         None => Ok(Some(walked)),
         Some(submitted) => {
-            let place = whole(size);
+            let place = Placement::whole(size);
             walked.add_enters(1, submitted, place)?;
             let mut stack = Vec::new(alloc);
             push_some(&mut stack, enter(alloc, LEVELS, &[], submitted, place)?)?;

@@ -8,7 +8,7 @@ use Rattle.vz_rules.specs.Closure.{adding, closure, IsLeastClosed}
 use Rattle.vz_rules.specs.Plan.{has_sink}
 use Rattle.vz_rules.specs.Messages.{children, reaches}
 use Rattle.vz_rules.proofs.Reached.{from_same_sink, self_same_sink, sinks_are_least}
-use Rattle.vz_marking.proofs.Marking.{from_or, left_or, right_or, next_room, Marked, marked_first, marked_next, marked_room, marked_within, marked_all}
+use Rattle.vz_rules.proofs.Marking.{from_or, left_or, right_or, next_room, Marked, marked_first, marked_next, marked_room, marked_within, marked_all}
 
 abbrev Relations : Type 0
 Relations = List (FrameSinkId × FrameSinkId)

@@ -7,8 +7,8 @@ use Rattle.vz_frame.specs.declared.frame.CompositorFrame.{CompositorFrame}
 use Rattle.vz_frame.specs.declared.message.Message.{Message}
 use Rattle.vz_frame.specs.declared.message.Message.TheVariants.{Submit}
 use Rattle.vz_frame.specs.Fits.{fits_local, fits_frame, fits_message}
-use Rattle.vz_scene.specs.Limits.{FitsFile}
-use Rattle.vz_rules.specs.World.{World, Client, Created, Submission, client_at, last_created}
+use Rattle.vz_placement.specs.Limits.{FitsFile}
+use Rattle.vz_rules.specs.World.{World, Client, Surface, Submission, client_at, last_created}
 use Rattle.vz_rules.specs.Messages.{Answer, taking, says, refused, submit_refusal, id_of, new_submission, with_surface, replace_on, lend, answer_tick, accepted, submit_answer, unless_refused}
 use Rattle.vz_rules.specs.declared.entry.Reply.TheVariants as reply
 use Rattle.vz_rules.specs.declared.entry.Refusal.{Refusal}
@@ -45,7 +45,7 @@ accepted_is w v1 v2 v3 x local frame id submission tick ordinal index o n own su
     ∙ (ap (λ i. answer i submission) (sym own) ∙ ap (λ s. answer (id_of x local) s) submissions)))
 
 -- the client is found as before where only surfaces and submissions were added
-pub still_found : (w v1 v2 : World) (c : ℕ) (x : Client) (surfaces : List Created) (f : List Submission → List Submission) → client_at w c ≡ Some x
+pub still_found : (w v1 v2 : World) (c : ℕ) (x : Client) (surfaces : List Surface) (f : List Submission → List Submission) → client_at w c ≡ Some x
     → v1 ≡ record w { surfaces = surfaces } → v2 ≡ record v1 { subs = f v1.subs } → client_at v2 c ≡ Some x
 still_found w v1 v2 c x surfaces f h e1 e2 = ap (λ (u : World). client_at u c) e2 ∙ (ap (λ (u : World). client_at u c) e1 ∙ h)
 

@@ -4,7 +4,7 @@ use Rattle.std.proofs.lemmas.Bool.Decides.{nat_tests}
 use Rattle.vz_ids.specs.declared.FrameSinkId.{FrameSinkId}
 use Rattle.vz_ids.specs.declared.LocalSurfaceId.{LocalSurfaceId}
 use Rattle.vz_pixels.specs.Block.{Block}
-use Rattle.vz_rules.specs.World.{World, Client, Created, client_at, change_client, next_message}
+use Rattle.vz_rules.specs.World.{World, Client, Surface, client_at, change_client, next_message}
 use Rattle.vz_rules.specs.Plan.{Plan}
 use Rattle.vz_frame.specs.declared.message.Message.{Message}
 use Rattle.vz_rules.specs.Messages.{Answer, took, taking, says, refused, in_use, put_resource, upload_answer, root_answer, await_answer, mark_of, unless_refused, relate, hierarchy_refusal, hierarchy_answer, message_answer, known_client_answer, client_answer}
@@ -92,11 +92,11 @@ unfolding await_answer
 await_not_yet w x d e is over = ap (λ (t : Bool). await_by w x None t) (sym over) ∙ ap (λ (o : Option ℕ). await_by w x o w.over) (sym is ∙ e)
 
 -- the client is closed, and its surfaces are marked
-pub left_is : (w v : World) (c : ℕ) (x : Client) → client_at w c ≡ Some x → v ≡ taking (λ (y : Client). record y { closed = true }) x w → (surfaces : List Created) → surfaces ≡ map (mark_of c) v.surfaces
+pub left_is : (w v : World) (c : ℕ) (x : Client) → client_at w c ≡ Some x → v ≡ taking (λ (y : Client). record y { closed = true }) x w → (surfaces : List Surface) → surfaces ≡ map (mark_of c) v.surfaces
     → says reply.Left (record v { surfaces = surfaces }) ≡ says reply.Left (record (taking (λ (y : Client). record y { closed = true }) x w) { surfaces = map (mark_of x.number) w.surfaces })
 left_is w v c x h e surfaces is =
     let with_surfaces : World → World = λ u. record u { surfaces = surfaces } in
-    let with_list : List Created → World = λ l. record (taking (λ (y : Client). record y { closed = true }) x w) { surfaces = l } in
+    let with_list : List Surface → World = λ l. record (taking (λ (y : Client). record y { closed = true }) x w) { surfaces = l } in
     ap (says reply.Left) (ap with_surfaces e ∙ ap with_list (is ∙ (ap (λ (u : World). map (mark_of c) u.surfaces) e ∙ ap (λ n. map (mark_of n) w.surfaces) (sym (number_is w c x h)))))
 
 -- the client that is found is the one that stands there

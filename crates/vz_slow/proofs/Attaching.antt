@@ -9,7 +9,7 @@ use Rattle.vz_rules.specs.Plan.{has_sink}
 use Rattle.vz_rules.specs.Messages.{children, reaches}
 use Rattle.vz_rules.proofs.Members.{any_at, contains_map, filter_at}
 use Rattle.vz_rules.proofs.Reached.{from_same_sink, self_same_sink, sinks_are_least}
-use Rattle.vz_marking.proofs.Marking.{from_or, next_room, Marked, marked_first, marked_next, marked_room, marked_within, marked_all}
+use Rattle.vz_rules.proofs.Marking.{from_or, next_room, Marked, marked_first, marked_next, marked_room, marked_within, marked_all}
 use Rattle.vz_slow.specs.Asked.{AreFew}
 
 -- there is room for the next child

@@ -5,25 +5,25 @@ use Rattle.std.specs.List.{list_any, flat_map}
 use Rattle.vz_ids.specs.declared.SurfaceId.{SurfaceId}
 use Rattle.vz_ids.specs.declared.SurfaceRange.{SurfaceRange}
 use Rattle.vz_ids.specs.Ids.{at_least}
-use Rattle.vz_rules.specs.World.{World, Submission, Created, exists, is_active}
+use Rattle.vz_rules.specs.World.{World, Submission, Surface, exists, is_active}
 use Rattle.vz_rules.specs.Reach.{names, is_named_now, naming}
 use Rattle.vz_state.specs.Naming.{ends_of, is_named_by}
 use Rattle.vz_slow.proofs.Rounds.{any_map}
 
 -- a surface by a test
-abbrev pub named_if : (Created → Bool) → Created → Created
+abbrev pub named_if : (Surface → Bool) → Surface → Surface
 named_if p c = if p c then record c { named = true } else c
 
 -- a surface exists and is named now
-abbrev pub newly_named : World → Created → Bool
+abbrev pub newly_named : World → Surface → Bool
 newly_named w c = not c.destroyed && is_named_now w c.id
 
 -- what the flags make of a world is its naming
-pub naming_is : (w v : World) → v ≡ w → (surfaces : List Created) → surfaces ≡ map (named_if (newly_named w)) v.surfaces → ◌≡◌ {A = World} (record v { surfaces = surfaces }) (naming w)
+pub naming_is : (w v : World) → v ≡ w → (surfaces : List Surface) → surfaces ≡ map (named_if (newly_named w)) v.surfaces → ◌≡◌ {A = World} (record v { surfaces = surfaces }) (naming w)
 unfolding naming
 naming_is w v e surfaces is =
     let with_surfaces : World → World = λ u. record u { surfaces = surfaces } in
-    let with_list : List Created → World = λ l. record w { surfaces = l } in
+    let with_list : List Surface → World = λ l. record w { surfaces = l } in
     ap with_surfaces e ∙ ap with_list (is ∙ ap (λ (u : World). map (named_if (newly_named w)) u.surfaces) e)
 
 -- an end of a submission's references names a surface where a reference of it does
@@ -46,7 +46,7 @@ ends_name w id (s ∷ ss) =
     ∙ ap (λ t. (is_active s && exists w s.submitted.id && list_any (names id) s.submitted.frame.metadata.references) || t) (ends_name w id ss))
 
 -- the flags by the ends are those of the surfaces that are named now
-pub flags_are : (w : World) (subs : List Submission) (ends : List SurfaceId) (surfaces : List Created) → subs ≡ w.subs → ends ≡ flat_map (ends_of w) subs
+pub flags_are : (w : World) (subs : List Submission) (ends : List SurfaceId) (surfaces : List Surface) → subs ≡ w.subs → ends ≡ flat_map (ends_of w) subs
     → map (is_named_by ends) surfaces ≡ map (newly_named w) surfaces
 unfolding is_named_now
 flags_are w subs ends surfaces e is =

@@ -72,16 +72,16 @@ reached_small p w r =
 -- Room
 
 -- no room is wanted while no frame is in flight
-pub no_room : (w : World) (r : Roomy Returned) (f : Roomy Fed) → w.in_flight ≡ None → r.list ≡ [] → f.list ≡ [] → HasRoom w r f
-no_room w r f e a b = record { room = λ t. absurd (none_is_some w.in_flight e t); no_returned = a; no_fed = b }
+pub no_room : (w : World) (r : Roomy Returned) (f : Roomy Fed) (place : Bool) → w.in_flight ≡ None → r.list ≡ [] → f.list ≡ [] → HasRoom w r f place
+no_room w r f place e a b = record { room = λ t. absurd (none_is_some w.in_flight e t); no_returned = a; no_fed = b }
   where
     none_is_some : (o : Option (List Sub)) → o ≡ None → is_some o ≡ true → ⊥
     none_is_some o e t = let u : is_some o ≡ false = ap is_some e in cc
 
 -- the machine at its opening
-pub slow_opening : (p : Plan) (r : Roomy Returned) (f : Roomy Fed) → IsPlan p → r.list ≡ [] → f.list ≡ [] → IsSlow p (record (opening p) { over = false }) r f
+pub slow_opening : (p : Plan) (r : Roomy Returned) (f : Roomy Fed) (place : Bool) → IsPlan p → r.list ≡ [] → f.list ≡ [] → IsSlow p (record (opening p) { over = false }) r f place
 unfolding opening
-slow_opening p r f is a b = record { reached = reached_first p false is; has_room = no_room (record (opening p) { over = false }) r f refl a b }
+slow_opening p r f place is a b = record { reached = reached_first p false is; has_room = no_room (record (opening p) { over = false }) r f place refl a b }
 
 pub opening_view : (p : Plan) → ◌≡◌ {A = Machine} (record { plan = p; world = record (opening p) { over = false } }) (record { plan = p; world = opening p })
 unfolding opening
@@ -95,11 +95,11 @@ pub over_is : (p : Plan) (w v : World) (e : Effects) → Keeps w → e ≡ no_ef
 over_is p w v e k f g = (λ i. record { reply = reply.Ended; effects = f i; world = g i }) ∙ sym (over_idles p w k)
 
 -- what is kept is kept, with the Over mark too
-pub slow_over : (p : Plan) (w : World) (r : Roomy Returned) (f : Roomy Fed) → IsSlow p w r f → IsSlow p (record w { over = true }) r f
-slow_over p w r f h =
+pub slow_over : (p : Plan) (w : World) (r : Roomy Returned) (f : Roomy Fed) (place : Bool) → IsSlow p w r f place → IsSlow p (record w { over = true }) r f place
+slow_over p w r f place h =
     record {
       reached = subst (IsReached p) (ap (λ (o : Outcome). o.world) (over_idles p w h.reached.keeps)) (reached_step p w event.Over h.reached);
-      has_room = record { room = λ t. let m = h.has_room.room t in record { returned = m.returned; fed = m.fed }; no_returned = h.has_room.no_returned; no_fed = h.has_room.no_fed };
+      has_room = record { room = λ t. let m = h.has_room.room t in record { returned = m.returned; fed = m.fed; effects = m.effects }; no_returned = h.has_room.no_returned; no_fed = h.has_room.no_fed };
     }
 
 -- the world in which no frame is in flight
@@ -146,12 +146,12 @@ unfolding opening
 opening_root p over = refl
 
 -- after the end of a frame none is in flight, and no room is wanted
-pub slow_done : (p : Plan) (w v : World) (x : Reply) (e : Effects) (r : Roomy Returned) (f : Roomy Fed) → IsReached p w
-    → ◌≡◌ {A = Outcome} (record { reply = x; effects = e; world = v }) (step_in p w event.Done) → v.in_flight ≡ None → r.list ≡ [] → f.list ≡ [] → IsSlow p v r f
-slow_done p w v x e r f h is none a b =
+pub slow_done : (p : Plan) (w v : World) (x : Reply) (e : Effects) (r : Roomy Returned) (f : Roomy Fed) (place : Bool) → IsReached p w
+    → ◌≡◌ {A = Outcome} (record { reply = x; effects = e; world = v }) (step_in p w event.Done) → v.in_flight ≡ None → r.list ≡ [] → f.list ≡ [] → IsSlow p v r f place
+slow_done p w v x e r f place h is none a b =
     record {
       reached = subst (IsReached p) (sym (ap (λ (o : Outcome). o.world) is)) (reached_step p w event.Done h);
-      has_room = no_room v r f none a b;
+      has_room = no_room v r f place none a b;
     }
 
 -- nothing is in flight at the opening

@@ -4,7 +4,7 @@ use Rattle.std.specs.List.{list_any}
 use Rattle.vz_ids.specs.declared.SurfaceId.{SurfaceId}
 use Rattle.vz_ids.specs.Ids.{same_surface, at_least}
 use Rattle.vz_scene.specs.Reached.{is_reached}
-use Rattle.vz_rules.specs.World.{World, Submission, Created, is_active, is_on, sub_of}
+use Rattle.vz_rules.specs.World.{World, Submission, Surface, is_active, is_on, sub_of}
 use Rattle.vz_rules.specs.Settle.{is_ready, ready, is_before, after_round, round, rounds, activated_over}
 use Rattle.vz_rules.specs.declared.entry.State.TheVariants.{Active, Past}
 use Rattle.vz_rules.proofs.Settled.{round_stays, rounds_stay}
@@ -17,7 +17,7 @@ any_map p f [] = refl
 any_map p f (x ∷ xs) = ap (λ t. p (f x) || t) (any_map p f xs)
 
 -- the names of what rose
-pub subs_noted : (surfaces : List Created) (xs : List Submission) → map (λ (r : Risen). r.sub) (map (risen_of surfaces) xs) ≡ map sub_of xs
+pub subs_noted : (surfaces : List Surface) (xs : List Submission) → map (λ (r : Risen). r.sub) (map (risen_of surfaces) xs) ≡ map sub_of xs
 subs_noted surfaces [] = refl
 subs_noted surfaces (x ∷ xs) = ap (λ l. x.submitted.sub ∷ l) (subs_noted surfaces xs)
 
@@ -26,30 +26,30 @@ abbrev pub gone_on : (Submission → Bool) → (Submission → Bool) → Submiss
 gone_on p q s = if p s then record s { state = Active; was_active = true } else (if is_active s && q s then record s { state = Past } else s)
 
 -- a surface by a test
-abbrev pub marked_if : (Created → Bool) → Created → Created
+abbrev pub marked_if : (Surface → Bool) → Surface → Surface
 marked_if p c = if p c then record c { marked = true } else c
 
 -- what the flags make of a world is a round
 pub round_is : (w v : World) → v ≡ w → (rs : List Risen) → rs ≡ map (risen_of w.surfaces) (ready w)
     → (bs : List Bool) → bs ≡ map (is_ready w) w.subs → (ts : List Bool) → ts ≡ map (on_same rs) w.subs → (ms : List Bool) → ms ≡ map (on_later rs) w.surfaces
     → (submissions : List Submission) → ((p q : Submission → Bool) → bs ≡ map p v.subs → ts ≡ map q v.subs → submissions ≡ map (gone_on p q) v.subs)
-    → (surfaces : List Created) → ((p : Created → Bool) → ms ≡ map p v.surfaces → surfaces ≡ map (marked_if p) v.surfaces)
+    → (surfaces : List Surface) → ((p : Surface → Bool) → ms ≡ map p v.surfaces → surfaces ≡ map (marked_if p) v.surfaces)
     → ◌≡◌ {A = World} (record v { subs = submissions; surfaces = surfaces }) (round w)
 unfolding round
 round_is w v e rs rises bs becomes ts replaced ms marked submissions submissions_are surfaces surfaces_are =
     let q : Submission → Bool = λ s. list_any (is_on s.submitted.id) (ready w) in
     let same : on_same rs ≡ q = λ i s. (ap (λ (l : List Risen). on_same l s) rises ∙ any_map (λ (r : Risen). same_surface r.id s.submitted.id) (risen_of w.surfaces) (ready w)) i in
-    let m : Created → Bool = λ c. list_any (is_before w.surfaces c) (ready w) in
+    let m : Surface → Bool = λ c. list_any (is_before w.surfaces c) (ready w) in
     let later : on_later rs ≡ m = λ i c. (ap (λ (l : List Risen). on_later l c) rises ∙ any_map (λ (r : Risen). (c.client == r.sub.client) && nat_lt c.number r.number) (risen_of w.surfaces) (ready w)) i in
     let one : submissions ≡ map (gone_on (is_ready w) q) w.subs =
     submissions_are (is_ready w) (on_same rs) (becomes ∙ ap (λ (x : World). map (is_ready w) x.subs) (sym e)) (replaced ∙ ap (λ (x : World). map (on_same rs) x.subs) (sym e))
     ∙ (ap (λ (x : World). map (gone_on (is_ready w) (on_same rs)) x.subs) e ∙ ap (λ (h : Submission → Bool). map (gone_on (is_ready w) h) w.subs) same) in
     let two : surfaces ≡ map (marked_if m) w.surfaces =
     surfaces_are (on_later rs) (marked ∙ ap (λ (x : World). map (on_later rs) x.surfaces) (sym e))
-    ∙ (ap (λ (x : World). map (marked_if (on_later rs)) x.surfaces) e ∙ ap (λ (h : Created → Bool). map (marked_if h) w.surfaces) later) in
+    ∙ (ap (λ (x : World). map (marked_if (on_later rs)) x.surfaces) e ∙ ap (λ (h : Surface → Bool). map (marked_if h) w.surfaces) later) in
     let with_both : World → World = λ x. record x { subs = submissions; surfaces = surfaces } in
     let with_subs : List Submission → World = λ l. record w { subs = l; surfaces = surfaces } in
-    let with_surfaces : List Created → World = λ l. record w { subs = map (gone_on (is_ready w) q) w.subs; surfaces = l } in
+    let with_surfaces : List Surface → World = λ l. record w { subs = map (gone_on (is_ready w) q) w.subs; surfaces = l } in
     ap with_both e ∙ (ap with_subs one ∙ ap with_surfaces two)
 
 -- one round first, and then one fewer
@@ -83,7 +83,7 @@ pub activated_end : (n : ℕ) (w : World) → map sub_of (ready w) ≡ [] → ac
 activated_end n w h = activated_none n w (none_named (ready w) h)
 
 -- where nothing is noted, nothing becomes active
-pub none_risen : (surfaces : List Created) (xs : List Submission) (rs : List Risen) → rs ≡ map (risen_of surfaces) xs → rs ≡ [] → map sub_of xs ≡ []
+pub none_risen : (surfaces : List Surface) (xs : List Submission) (rs : List Risen) → rs ≡ map (risen_of surfaces) xs → rs ≡ [] → map sub_of xs ≡ []
 none_risen surfaces [] rs e h = refl
 none_risen surfaces (x ∷ xs) rs e h = absurd (cc)
 

@@ -1,5 +1,5 @@
 -- The state of the plain machine, and the room that it keeps.
-use Rattle.std.specs.Prelude.{◌≡◌, ◌≤◌, true, is_some, []}
+use Rattle.std.specs.Prelude.{◌≡◌, ◌≤◌, Bool, true, is_some, []}
 use Rattle.vz_frame.specs.Roomy.{Roomy}
 use Rattle.vz_rules.specs.Plan.{Plan, IsPlan}
 use Rattle.vz_rules.specs.World.{World, opening}
@@ -25,21 +25,23 @@ pub record IsReached (p : Plan) (w : World) : Type 0 where
   pub keeps_plan : KeepsPlan p w
   pub keeps_messages : KeepsMessages w
 
--- there is room for all outstanding references and all outstanding feedback
-pub record IsRoom (w : World) (r : Roomy Returned) (f : Roomy Fed) : Type 0 where
+-- there is room for all outstanding references and all outstanding feedback, and a place for the
+-- effects
+pub record IsRoom (w : World) (r : Roomy Returned) (f : Roomy Fed) (e : Bool) : Type 0 where
   pub returned : all_outs w.clients ≤ r.spare
   pub fed : unfed w.subs ≤ f.spare
+  pub effects : e ≡ true
 
 -- the same while a frame is in flight; and the lists are empty
-pub record HasRoom (w : World) (r : Roomy Returned) (f : Roomy Fed) : Type 0 where
-  pub room : is_some w.in_flight ≡ true → IsRoom w r f
+pub record HasRoom (w : World) (r : Roomy Returned) (f : Roomy Fed) (e : Bool) : Type 0 where
+  pub room : is_some w.in_flight ≡ true → IsRoom w r f e
   pub no_returned : r.list ≡ []
   pub no_fed : f.list ≡ []
 
 -- what always holds of the plain machine
-pub record IsSlow (p : Plan) (w : World) (r : Roomy Returned) (f : Roomy Fed) : Type 0 where
+pub record IsSlow (p : Plan) (w : World) (r : Roomy Returned) (f : Roomy Fed) (e : Bool) : Type 0 where
   pub reached : IsReached p w
-  pub has_room : HasRoom w r f
+  pub has_room : HasRoom w r f e
 
 -- the reply, the effects and the world are those of the outcome
 abbrev pub IsOutcome : Outcome → Reply × Effects → World → Type 0

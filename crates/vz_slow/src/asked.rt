@@ -38,7 +38,11 @@ fn listed_in(message: Option<&Message>) -> u64
     match message {
         None => 0,
         Some(message) => match message {
-            Message::Submit { local: _, frame } => frame.resources.as_slice().len() as u64,
+            Message::Submit { local: _, frame } => frame
+                .as_frame()
+                .resources
+                .as_slice()
+                .len() as u64,
             _ => 0,
         },
     }

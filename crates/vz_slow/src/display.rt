@@ -1,26 +1,17 @@
 //! The steps of the display except for a draw, and the effects of each step.
 ghost use Rattle.std.specs.Prelude.{◌≡◌, ◌≤◌, [], true, IfOk, OnOk};
+ghost use Rattle.vz_base.specs.declared.limits.TheConstants.{LAST_TICK};
 ghost use Rattle.vz_rules.specs.Messages.{says};
-ghost use Rattle.vz_rules.specs.Step.{next_tick, begin_answer, outcome_of};
+ghost use Rattle.vz_rules.specs.Step.{begin_answer, outcome_of};
 ghost use Rattle.vz_rules.specs.declared.entry.Reply.{Reply as Said};
 ghost use Rattle.vz_state.specs.Attached.{attached_sinks};
 
 use crate::world::World;
 use std::alloc::AllocError;
-use vz_base::limits::LAST_TICK;
 use vz_frame::{List, Room};
 use vz_ids::FrameSinkId;
-use vz_rules::{Effects, Plan, Reply};
+use vz_rules::{BoxedEffects, Effects, Plan, Reply, next_tick};
 use vz_state::{deliver_all, make_room, reached};
-
-/// The next tick. Condition: this one is not after the last one.
-fn next_tick(tick: u32) -> u32
-    requires { tick ≤ LAST_TICK }
-    ensures value { result ≡ next_tick tick }
-    ensures kept { result ≤ LAST_TICK }
-{
-    if tick == LAST_TICK { tick } else { tick + 1 }
-}
 
 impl<'a> World<'a> {
     /// The sinks that the first file's sink reaches.
@@ -55,7 +46,7 @@ impl<'a> World<'a> {
 
     /// The effects of a change that presents nothing: activation, collection, returned resources
     /// and feedback.
-    pub(crate) fn follow(&mut self) -> Result<Effects, AllocError>
+    pub(crate) fn follow(&mut self) -> Result<BoxedEffects, AllocError>
         ensures effects { IfOk result (λ e. (r : Said)
             → e ≡ (outcome_of [] (says r self.old)).effects) }
         ensures world { OnOk result ((r : Said)
@@ -69,11 +60,15 @@ impl<'a> World<'a> {
         let mut fed = Room::new(self.alloc);
         make_room(&mut fed, self.unfed())?;
         self.feed(&[], &mut fed);
-        Ok(Effects {
+        let effects = Effects {
             activated: List::from_vec(activated),
             destroyed: List::from_vec(destroyed),
             returned: returned.into_list(),
             fed: fed.into_list(),
-        })
+        };
+        let Ok(effects) = BoxedEffects::new(self.alloc, effects) else {
+            return Err(AllocError);
+        };
+        Ok(effects)
     }
 }

@@ -13,7 +13,7 @@ use std::alloc::AllocError;
 use vz_geom::Size;
 use vz_pixels::{Memory, Pixel};
 use vz_plain::picture;
-use vz_rules::{Effects, Reply};
+use vz_rules::{BoxedEffects, Reply};
 
 impl<'a> Slow<'a> {
     /// The size of the display.
@@ -27,7 +27,7 @@ impl<'a> Slow<'a> {
     /// Draws. If the reply is Drawn, it also paints what was to be seen: a colour for each pixel,
     /// row by row from the top. The only error is `Memory`, if an allocation fails; then the
     /// machine is in the world before.
-    pub fn draw_picture(&mut self) -> Result<(Reply, Effects, Option<Vec<Pixel>>), Memory>
+    pub fn draw_picture(&mut self) -> Result<(Reply, BoxedEffects, Option<Vec<Pixel>>), Memory>
         ensures step { IfOk result (λ d. IsOutcome (step_in self.old.plan self.old.world event.Draw)
             (d.0, d.1) self.new.world) }
         ensures picture { IfOk result (λ d. option_map (λ v. v.items) d.2
@@ -42,7 +42,7 @@ impl<'a> Slow<'a> {
     }
 
     /// As `draw_picture`. It paints the picture before the machine takes its step.
-    fn draw_and_paint(&mut self) -> Result<(Reply, Effects, Option<Vec<Pixel>>), AllocError>
+    fn draw_and_paint(&mut self) -> Result<(Reply, BoxedEffects, Option<Vec<Pixel>>), AllocError>
         ensures step { IfOk result (λ d. IsOutcome (step_in self.old.plan self.old.world event.Draw)
             (d.0, d.1) self.new.world) }
         ensures picture { IfOk result (λ d. option_map (λ v. v.items) d.2

@@ -211,6 +211,7 @@ impl<'a> World<'a> {
                         Ok(self.upload(c, used, *id, block)?)
                     }
                     Message::Submit { local, frame } => {
+                        let frame = frame.as_frame();
                         let last = last_created(&self.surfaces, c);
                         let refusal = submit_refusal(last, client.resources(), local, frame);
                         let blocks = blocks_of(self.alloc, client.resources(), frame)?;

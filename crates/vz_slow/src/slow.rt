@@ -5,7 +5,7 @@ ghost use Rattle.vz_rules.specs.World.{opening, active_frames};
 ghost use Rattle.vz_rules.specs.Messages.{says};
 ghost use Rattle.vz_rules.specs.Step.{outcome_of, step_in, NamesClient};
 ghost use Rattle.vz_rules.specs.Log.{rest_in};
-ghost use Rattle.vz_rules.specs.Kept.{Keeps, no_effects};
+ghost use Rattle.vz_rules.specs.Kept.{Keeps};
 ghost use Rattle.vz_rules.specs.Plan.{Plan as Planned};
 ghost use Rattle.vz_slow.specs.Reaching.{IsReached, IsOutcome, HasRoom, world_at};
 
@@ -16,7 +16,7 @@ use std::mem;
 use vz_frame::{List, Room};
 use vz_ids::SurfaceId;
 use vz_pixels::Memory;
-use vz_rules::{Effects, Event, Fed, Plan, Reply, Rest, Returned};
+use vz_rules::{BoxedEffects, Effects, EffectsRoom, Event, Fed, Plan, Reply, Rest, Returned};
 use vz_scene::SubmittedFrame;
 use vz_state::{Client, active_frames, make_room};
 
@@ -42,6 +42,7 @@ pub struct Slow<'a> {
     pub(crate) stage: Stage<'a>,
     returned: Room<Returned>,
     fed: Room<Fed>,
+    effects: EffectsRoom,
 }
 
 impl<'a> Model for Slow<'a> {
@@ -52,19 +53,7 @@ impl<'a> Model for Slow<'a> {
 
     ghost view = { λ m. record { plan = m.plan.now; world = world_at m.plan.now m.stage } };
 
-    ghost invariant = { λ m. IsSlow m.plan.now (world_at m.plan.now m.stage) m.returned m.fed };
-}
-
-/// Effects in which nothing happened.
-fn nothing(alloc: Global) -> Effects
-    ensures { result ≡ no_effects }
-{
-    Effects {
-        activated: List::new(alloc),
-        destroyed: List::new(alloc),
-        returned: List::new(alloc),
-        fed: List::new(alloc),
-    }
+    ghost invariant = { λ m. IsSlow m.plan.now (world_at m.plan.now m.stage) m.returned m.fed m.effects };
 }
 
 /// An empty list with room for `n` items.
@@ -78,15 +67,22 @@ fn room_for<T: Drop>(alloc: Global, n: usize) -> Result<Room<T>, AllocError>
 
 /// Room for what the end of the drawn frame returns and for its feedback, if there is such a
 /// frame.
-fn rooms_for(alloc: Global, world: &World<'_>) -> Result<(Room<Returned>, Room<Fed>), AllocError>
-    ensures { IfOk result (λ r. HasRoom world.now r.0 r.1) }
+fn rooms_for(
+    alloc: Global,
+    world: &World<'_>,
+) -> Result<(Room<Returned>, Room<Fed>, EffectsRoom), AllocError>
+    ensures { IfOk result (λ r. HasRoom world.now r.0 r.1 r.2) }
 {
     if !world.in_flight.is_some() {
-        return Ok((Room::new(alloc), Room::new(alloc)));
+        return Ok((Room::new(alloc), Room::new(alloc), EffectsRoom::new(alloc)));
     }
     let returned = room_for(alloc, world.outs()?)?;
     let fed = room_for(alloc, world.unfed())?;
-    Ok((returned, fed))
+    let mut effects = EffectsRoom::new(alloc);
+    let Ok(()) = effects.reserve() else {
+        return Err(AllocError);
+    };
+    Ok((returned, fed, effects))
 }
 
 impl<'a> Slow<'a> {
@@ -101,6 +97,7 @@ impl<'a> Slow<'a> {
             stage: Stage::Opening { over: false },
             returned: Room::new(alloc),
             fed: Room::new(alloc),
+            effects: EffectsRoom::new(alloc),
         }
     }
 
@@ -121,9 +118,10 @@ impl<'a> Slow<'a> {
         ensures ok { OnOk result (self.new ≡ record self.old { world = next.entry }) }
         ensures err { OnErr result (self.new ≡ self.old) }
     {
-        let (returned, fed) = rooms_for(self.alloc, &next)?;
+        let (returned, fed, effects) = rooms_for(self.alloc, &next)?;
         self.returned = returned;
         self.fed = fed;
+        self.effects = effects;
         self.stage = Stage::Running(next);
         Ok(())
     }
@@ -134,7 +132,7 @@ impl<'a> Slow<'a> {
         &mut self,
         mut next: World<'a>,
         reply: Reply,
-    ) -> Result<(Reply, Effects), AllocError>
+    ) -> Result<(Reply, BoxedEffects), AllocError>
         requires { IsReached self.old.plan (outcome_of [] (says reply next)).world }
         ensures ok { IfOk result
             (λ o. IsOutcome (outcome_of [] (says reply next.entry)) o self.new.world) }
@@ -149,7 +147,7 @@ impl<'a> Slow<'a> {
 
 impl<'a> Slow<'a> {
     /// Takes the next message of a client. Condition: the plan has that client.
-    fn client(&mut self, c: u32) -> Result<(Reply, Effects), AllocError>
+    fn client(&mut self, c: u32) -> Result<(Reply, BoxedEffects), AllocError>
         requires { NamesClient self.old.plan (event.Client c) }
         ensures ok { IfOk result
             (λ o. IsOutcome (step_in self.old.plan self.old.world (event.Client c)) o self.new.world) }
@@ -162,7 +160,7 @@ impl<'a> Slow<'a> {
     }
 
     /// Takes a begin-frame.
-    fn begin(&mut self) -> Result<(Reply, Effects), AllocError>
+    fn begin(&mut self) -> Result<(Reply, BoxedEffects), AllocError>
         ensures ok { IfOk result
             (λ o. IsOutcome (step_in self.old.plan self.old.world event.Begin) o self.new.world) }
         ensures plan { self.new.plan ≡ self.old.plan }
@@ -174,7 +172,7 @@ impl<'a> Slow<'a> {
     }
 
     /// Draws.
-    fn draw(&mut self) -> Result<(Reply, Effects), AllocError>
+    fn draw(&mut self) -> Result<(Reply, BoxedEffects), AllocError>
         ensures ok { IfOk result
             (λ o. IsOutcome (step_in self.old.plan self.old.world event.Draw) o self.new.world) }
         ensures plan { self.new.plan ≡ self.old.plan }
@@ -187,30 +185,36 @@ impl<'a> Slow<'a> {
 
     /// Ends the drawn frame, if there is one. It allocates nothing: no submission becomes active,
     /// no surface is destroyed, and there is room for what is returned and for feedback.
-    pub fn done(&mut self) -> (Reply, Effects)
+    pub fn done(&mut self) -> (Reply, BoxedEffects)
         ensures step { IsOutcome (step_in self.old.plan self.old.world event.Done) result self.new.world }
         ensures plan { self.new.plan ≡ self.old.plan }
     {
         match &mut self.stage {
-            Stage::Opening { .. } => (Reply::Nothing, nothing(self.alloc)),
-            Stage::Running(world) => { done(self.alloc, world, &mut self.returned, &mut self.fed) }
+            Stage::Opening { .. } => (Reply::Nothing, BoxedEffects::none()),
+            Stage::Running(world) => done(
+                self.alloc,
+                world,
+                &mut self.returned,
+                &mut self.fed,
+                &mut self.effects,
+            ),
         }
     }
 
     /// Sets the Over mark: no client will wait for a begin-frame any more. It allocates nothing,
     /// as the step has no effects.
-    pub fn over(&mut self) -> (Reply, Effects)
+    pub fn over(&mut self) -> (Reply, BoxedEffects)
         ensures step { IsOutcome (step_in self.old.plan self.old.world event.Over) result self.new.world }
         ensures plan { self.new.plan ≡ self.old.plan }
     {
         mark_over(&mut self.stage);
-        (Reply::Ended, nothing(self.alloc))
+        (Reply::Ended, BoxedEffects::none())
     }
 
     /// Makes one step and returns its reply and its effects. The only error is `Memory`, if an
     /// allocation fails; then the machine is in the world before. Condition: a client's event
     /// names a client of the plan.
-    pub fn step(&mut self, event: Event) -> Result<(Reply, Effects), Memory>
+    pub fn step(&mut self, event: Event) -> Result<(Reply, BoxedEffects), Memory>
         requires { NamesClient self.old.plan event }
         ensures step { IfOk result
             (λ o. IsOutcome (step_in self.old.plan self.old.world event) o self.new.world) }
@@ -294,16 +298,17 @@ fn done(
     world: &mut World<'_>,
     returned: &mut Room<Returned>,
     fed: &mut Room<Fed>,
-) -> (Reply, Effects)
+    room: &mut EffectsRoom,
+) -> (Reply, BoxedEffects)
     requires kept { Keeps world.old }
-    requires room { HasRoom world.old returned.old fed.old }
+    requires room { HasRoom world.old returned.old fed.old room.old }
     ensures step { (p : Planned) → IsOutcome (step_in p world.old event.Done) result world.new }
     ensures none { world.new.in_flight ≡ None }
     ensures returned { returned.new.list ≡ [] }
     ensures fed { fed.new.list ≡ [] }
 {
     match world.in_flight.take() {
-        None => (Reply::Nothing, nothing(alloc)),
+        None => (Reply::Nothing, BoxedEffects::none()),
         Some(presented) => {
             let mut queued = mem::replace(returned, Room::new(alloc));
             let mut told = mem::replace(fed, Room::new(alloc));
@@ -315,7 +320,7 @@ fn done(
                 returned: queued.into_list(),
                 fed: told.into_list(),
             };
-            (Reply::Shown, effects)
+            (Reply::Shown, room.fill(effects))
         }
     }
 }

@@ -4,7 +4,7 @@ ghost use Rattle.vz_base.specs.declared.limits.TheConstants.{MOST_FILES, MOST_ME
 ghost use Rattle.vz_ids.specs.declared.LocalSurfaceId.{LocalSurfaceId as Local};
 ghost use Rattle.vz_rules.specs.World.{Client as ClientState, client_at, last_created};
 ghost use Rattle.vz_rules.specs.Messages.{says, submit_refusal, id_of, blocks_of, new_submission, with_surface, replace_on, accepted, submit_answer};
-ghost use Rattle.vz_scene.specs.Limits.{FitsFile};
+ghost use Rattle.vz_placement.specs.Limits.{FitsFile};
 ghost use Rattle.vz_state.specs.Small.{IsSmall};
 
 use crate::world::World;

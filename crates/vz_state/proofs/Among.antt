@@ -7,7 +7,7 @@ use Rattle.vz_ids.specs.declared.FrameSinkId.{FrameSinkId}
 use Rattle.vz_ids.specs.declared.Sub.{Sub}
 use Rattle.vz_ids.specs.Ids.{same_sink, same_sub, same_surface}
 use Rattle.vz_rules.specs.Plan.{has_sink}
-use Rattle.vz_rules.specs.World.{Submission, Created, has_sub, is_on}
+use Rattle.vz_rules.specs.World.{Submission, Surface, has_sub, is_on}
 use Rattle.vz_scene.proofs.Ties.{any_same, surface_sym}
 
 eq_sym : (a b : ℕ) → (a == b) ≡ (b == a)
@@ -28,5 +28,5 @@ copied_some None = refl
 copied_some (Some b) = refl
 
 -- a submission is on one of these surfaces
-pub on_one : (surfaces : List Created) (s : Submission) → list_any (λ (c : Created). same_surface c.id s.submitted.id) surfaces ≡ list_any (λ (c : Created). is_on c.id s) surfaces
-on_one surfaces s = any_same _ (λ (c : Created). is_on c.id s) surfaces (λ c. surface_sym c.id s.submitted.id)
+pub on_one : (surfaces : List Surface) (s : Submission) → list_any (λ (c : Surface). same_surface c.id s.submitted.id) surfaces ≡ list_any (λ (c : Surface). is_on c.id s) surfaces
+on_one surfaces s = any_same _ (λ (c : Surface). is_on c.id s) surfaces (λ c. surface_sym c.id s.submitted.id)

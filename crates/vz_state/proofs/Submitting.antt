@@ -10,7 +10,7 @@ use Rattle.vz_frame.specs.declared.frame.CompositorFrame.{CompositorFrame}
 use Rattle.vz_frame.specs.declared.frame.Listing.{Listing}
 use Rattle.vz_frame.specs.declared.rules.Rule.{Rule}
 use Rattle.vz_frame.specs.Frame.{first_broken}
-use Rattle.vz_rules.specs.World.{Created, Resource}
+use Rattle.vz_rules.specs.World.{Surface, Resource}
 use Rattle.vz_rules.specs.Messages.{first_some, when, is_unknown, violates, has_other_size, submit_refusal}
 use Rattle.vz_rules.specs.declared.entry.Refusal.{Refusal}
 use Rattle.vz_rules.specs.declared.entry.Refusal.TheVariants as refusal
@@ -21,7 +21,7 @@ first_of_four o a b t =
     first_some (option_map (λ rule. refusal.Malformed rule) o ∷ when a refusal.UnknownResource ∷ when b refusal.InvariantsViolation ∷ when t refusal.SizeMismatch ∷ [])
 
 -- it is the reason for which a submission is refused
-pub refusal_is : (last : Option Created) (resources : List Resource) (local : LocalSurfaceId) (frame : CompositorFrame) (o : Option Rule) (a b t : Bool)
+pub refusal_is : (last : Option Surface) (resources : List Resource) (local : LocalSurfaceId) (frame : CompositorFrame) (o : Option Rule) (a b t : Bool)
     → first_broken frame ≡ o → list_any (is_unknown resources) frame.resources ≡ a → violates last local ≡ b → has_other_size last local frame ≡ t
     → first_of_four o a b t ≡ submit_refusal last resources local frame
 unfolding submit_refusal

@@ -2,11 +2,11 @@
 -- determine it.
 use Rattle.std.specs.Prelude.{◌&&◌, ◌||◌, not, true, false, Option, None, Some, is_none, List, [], if◌then◌else◌}
 use Rattle.vz_ids.specs.declared.Sub.{Sub}
-use Rattle.vz_rules.specs.World.{World, Submission, Created, has_sub, is_in_flight, is_ended, sub_of}
+use Rattle.vz_rules.specs.World.{World, Submission, Surface, has_sub, is_in_flight, is_ended, sub_of}
 use Rattle.vz_rules.specs.declared.entry.Fed.{Fed}
 
 -- a world with these submissions and surfaces, and these submissions in flight
-abbrev pub holding : List Submission → List Created → Option (List Sub) → World
+abbrev pub holding : List Submission → List Surface → Option (List Sub) → World
 holding submissions surfaces in_flight =
     record {
       clients = [];

@@ -4,7 +4,7 @@ use Rattle.std.specs.List.{list_any}
 use Rattle.vz_ids.specs.declared.SurfaceId.{SurfaceId}
 use Rattle.vz_ids.specs.Ids.{same_surface, at_least}
 use Rattle.vz_scene.specs.Reached.{is_reached}
-use Rattle.vz_rules.specs.World.{World, Submission, Created}
+use Rattle.vz_rules.specs.World.{World, Submission, Surface}
 use Rattle.vz_rules.specs.Settle.{number_of, is_ready, ready}
 use Rattle.vz_state.specs.declared.risen.Risen.{Risen}
 use Rattle.vz_state.specs.declared.risen.Signs.{Signs}
@@ -23,7 +23,7 @@ rises_to d r = at_least r.id d
 
 -- what is noted of an activated submission: its surface, its name, and the surface's number at its
 -- client
-abbrev pub risen_of : List Created → Submission → Risen
+abbrev pub risen_of : List Surface → Submission → Risen
 risen_of surfaces s = record { id = s.submitted.id; sub = s.submitted.sub; number = number_of surfaces s }
 
 -- an activated submission is on the surface of this submission
@@ -31,7 +31,7 @@ abbrev pub on_same : List Risen → Submission → Bool
 on_same rs s = list_any (λ (r : Risen). same_surface r.id s.submitted.id) rs
 
 -- an activated submission is on a later surface of the same client
-abbrev pub on_later : List Risen → Created → Bool
+abbrev pub on_later : List Risen → Surface → Bool
 on_later rs c = list_any (λ (r : Risen). (c.client == r.sub.client) && nat_lt c.number r.number) rs
 
 -- what becomes active in a round, and how that affects each submission and each surface

@@ -1,6 +1,6 @@
 //! Changes in place, by flags that were computed before anything changes.
 ghost use Rattle.std.specs.Prelude.{◌≡◌, ◌&&◌, length, map, if◌then◌else◌, true, Bool};
-ghost use Rattle.vz_rules.specs.World.{is_active, Submission as SubmissionState, Created};
+ghost use Rattle.vz_rules.specs.World.{is_active, Submission as SubmissionState, Surface as Created};
 ghost use Rattle.vz_rules.specs.declared.entry.State.TheVariants.{Active as Acts, Past as Passed};
 
 use crate::submission::Submission;

@@ -3,7 +3,6 @@ ghost use Rattle.std.specs.Prelude.{◌≡◌};
 ghost use Rattle.std.specs.List.{list_any};
 ghost use Rattle.std.specs.Option.{option_copied};
 ghost use Rattle.vz_rules.specs.Messages.{is_unknown, violates, is_last, has_other_size, submit_refusal};
-ghost use Rattle.vz_ids.specs.Ids.{is_raised};
 ghost use Rattle.vz_frame.specs.Frame.{same_size};
 
 use crate::resource::{Resource, is_unknown};
@@ -20,22 +19,13 @@ fn is_same_size(a: Size, b: Size) -> bool
     !(a.w < b.w) && !(b.w < a.w) && !(a.h < b.h) && !(b.h < a.h)
 }
 
-/// Whether neither number of the new id is smaller, and at least one is greater.
-fn is_raised(old: &LocalSurfaceId, new: &LocalSurfaceId) -> bool
-    ensures { result ≡ is_raised old.now new.now }
-{
-    old.parent <= new.parent
-        && old.child <= new.child
-        && (old.parent < new.parent || old.child < new.child)
-}
-
 /// Whether the id is neither the last one of the client nor allowed after it.
 fn violates(last: Option<&Surface>, local: &LocalSurfaceId) -> bool
     ensures { result ≡ violates (option_copied last.entry) local.now }
 {
     match last {
         None => false,
-        Some(surface) => surface.id.local != *local && !is_raised(&surface.id.local, local),
+        Some(surface) => surface.id.local != *local && !local.is_raised(&surface.id.local),
     }
 }
 

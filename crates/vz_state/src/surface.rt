@@ -25,7 +25,7 @@ pub struct Surface {
 }
 
 impl Model for Surface {
-    ghost use Rattle.vz_rules.specs.World.{Created};
+    ghost use Rattle.vz_rules.specs.World.{Surface as Created};
 
     ghost Value = { Created };
 

@@ -16,7 +16,7 @@ use Rattle.vz_rules.proofs.Members.{at_contains, any_from, found}
 use Rattle.vz_machine.specs.Stepping.{HasClient, asked, waits_at, idle_at, answered_at, attached_at, listed_at, listed_in}
 use Rattle.vz_support.specs.Sent.{sender_at}
 use Rattle.vz_support.specs.Sending.{IsSender}
-use Rattle.vz_support.proofs.Standing.{tells_next}
+use Rattle.vz_support.proofs.Clients_kept.{tells_next}
 use Rattle.vz_sinks.specs.Relating.{standing, attached_in}
 use Rattle.vz_sinks.proofs.Same_seats.{standing_is, attached_as}
 use Rattle.vz_support.specs.Supporting.{Supported, IsSupport, is_await}

@@ -1,8 +1,8 @@
 mod Listed
 pub mod Sending
 pub mod Messaging
-pub mod Standing
-pub mod Staying
+pub mod Clients_kept
+pub mod Support_kept
 pub mod Asking
 mod Taking
 mod Requesting

@@ -6,7 +6,7 @@ use Rattle.vz_rules.specs.Plan.{Plan}
 use Rattle.vz_rules.specs.World.{opening}
 use Rattle.vz_support.specs.Sent.{Sender, opened}
 use Rattle.vz_support.specs.Sending.{AreSenders}
-use Rattle.vz_support.proofs.Standing.{opens}
+use Rattle.vz_support.proofs.Clients_kept.{opens}
 use Rattle.vz_sinks.specs.Relating.{Related, seats_from}
 use Rattle.vz_sinks.proofs.Same_seats.{opened_as, first_as}
 use Rattle.vz_support.specs.Supporting.{IsSupport}

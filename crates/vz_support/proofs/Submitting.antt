@@ -21,10 +21,10 @@ use Rattle.vz_support.specs.Sent.{Sender, nobody, sender_at, taking_one, giving_
 use Rattle.vz_support.specs.Changed.{ChangesOne}
 use Rattle.vz_support.specs.Sending.{IsSender, AreSenders}
 use Rattle.vz_support.proofs.Sending.{some_number}
-use Rattle.vz_support.proofs.Standing.{tells_unknown, tells_blocks}
+use Rattle.vz_support.proofs.Clients_kept.{tells_unknown, tells_blocks}
 use Rattle.vz_support.proofs.Messaging.{follows_accepted}
 use Rattle.vz_support.specs.Supporting.{Supported, IsSupport, HasTaken, Sends}
-use Rattle.vz_support.proofs.Staying.{stays_like}
+use Rattle.vz_support.proofs.Support_kept.{stays_like}
 use Rattle.vz_support.proofs.Asking.{numbered_there}
 use Rattle.vz_support.proofs.Taking.{two_changes, takes, ticked_seat, here_is, some_is, sent_is, noted_at}
 use Rattle.vz_support.proofs.Requesting.{same_client}

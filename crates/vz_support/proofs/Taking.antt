@@ -19,7 +19,7 @@ use Rattle.vz_support.proofs.Sending.{some_number}
 use Rattle.vz_support.proofs.Messaging.{follows_plain, follows_reclaim, follows_noted, follows_stored, follows_closed}
 use Rattle.vz_sinks.specs.Relating.{Related, seat_of, close_one}
 use Rattle.vz_support.specs.Supporting.{Supported, IsSupport, Sends}
-use Rattle.vz_support.proofs.Staying.{same_seats, related_by}
+use Rattle.vz_support.proofs.Support_kept.{same_seats, related_by}
 use Rattle.vz_support.proofs.Asking.{next_same}
 
 pub same_number : (a b : ℕ) → ◌≡◌ {A = Option Message} (Some (DidNotProduce a)) (Some (DidNotProduce b)) → a ≡ b

@@ -4,7 +4,7 @@ use Rattle.vz_rules.specs.declared.entry.Reply.TheVariants.{Ticked}
 use Rattle.vz_rules.specs.Plan.{Plan}
 use Rattle.vz_rules.specs.World.{World}
 use Rattle.vz_rules.specs.Step.{next_tick, begin_answer}
-use Rattle.vz_support.proofs.Standing.{stays_begun}
+use Rattle.vz_support.proofs.Clients_kept.{stays_begun}
 use Rattle.vz_sinks.specs.Relating.{Related, delivered_to}
 use Rattle.vz_sinks.proofs.Same_seats.{delivered_as}
 use Rattle.vz_support.specs.Supporting.{Supported, IsSupport}

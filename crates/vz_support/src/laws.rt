@@ -10,7 +10,7 @@ ghost use Rattle.vz_frame.specs.Frame.{first_of};
 ghost use Rattle.vz_frame.specs.declared.frame.CompositorFrame.{CompositorFrame};
 ghost use Rattle.vz_frame.specs.declared.message.Message.TheVariants.{Close};
 ghost use Rattle.vz_rules.specs.Plan.{Plan};
-ghost use Rattle.vz_rules.specs.World.{World, Machine, Created, Submission, Client, opening, client_at, next_message};
+ghost use Rattle.vz_rules.specs.World.{World, Machine, Surface, Submission, Client, opening, client_at, next_message};
 ghost use Rattle.vz_rules.specs.Settle.{round, settle};
 ghost use Rattle.vz_rules.specs.Reach.{naming, clearing, collect};
 ghost use Rattle.vz_rules.specs.Returns.{give_back, feed};
@@ -45,7 +45,7 @@ pub fn support_stays_in_rounds()
 pub fn support_stays_in_collections()
     ensures naming { (p : Plan) (w : World) (v : Supported)
         → IsSupport p w v → IsSupport p (naming w) v }
-    ensures going { (p : Plan) (w : World) (c : Created) (v : Supported)
+    ensures going { (p : Plan) (w : World) (c : Surface) (v : Supported)
         → IsSupport p w v → IsSupport p (going c w) v }
     ensures clearing { (p : Plan) (w : World) (v : Supported)
         → IsSupport p w v → IsSupport p (clearing w) v }
@@ -109,7 +109,7 @@ pub fn clients_stay()
         → AreSenders p w list → AreSenders p (round w) list }
     ensures naming { (p : Plan) (w : World) (list : List Sender)
         → AreSenders p w list → AreSenders p (naming w) list }
-    ensures going { (p : Plan) (w : World) (c : Created) (list : List Sender)
+    ensures going { (p : Plan) (w : World) (c : Surface) (list : List Sender)
         → AreSenders p w list → AreSenders p (going c w) list }
     ensures returns { (p : Plan) (w : World) (list : List Sender)
         → AreSenders p w list → AreSenders p (give_back w) list }

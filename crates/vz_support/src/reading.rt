@@ -34,7 +34,11 @@ fn listed_in(message: Option<&Message>) -> u64
     match message {
         None => 0,
         Some(message) => match message {
-            Message::Submit { local: _, frame } => frame.resources.as_slice().len() as u64,
+            Message::Submit { local: _, frame } => frame
+                .as_frame()
+                .resources
+                .as_slice()
+                .len() as u64,
             _ => 0,
         },
     }
@@ -54,13 +58,6 @@ impl Support {
         ensures { (p : Plan) (w : World) → IsSupport p w self.now → result ≡ w.root }
     {
         self.root
-    }
-
-    /// Whether the Over mark is set, so that no begin-frame comes any more.
-    pub fn is_over(&self) -> bool
-        ensures { (p : Plan) (w : World) → IsSupport p w self.now → result ≡ w.over }
-    {
-        self.over
     }
 
     /// The sink of a client. Condition: the client exists.

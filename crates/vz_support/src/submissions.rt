@@ -17,7 +17,7 @@ use crate::own_messages::note;
 use crate::support::Support;
 use std::alloc::Global;
 use vz_base::Memory;
-use vz_frame::{CompositorFrame, List, Listing, Message};
+use vz_frame::{BoxedFrame, List, Listing, Message};
 use vz_ids::{FrameSinkId, LocalSurfaceId};
 use vz_pixels::PixelBlock;
 
@@ -25,7 +25,7 @@ impl Support {
     /// Takes a submission by value and returns its local surface id and its frame. If the
     /// submission is refused, nothing else changes. Conditions: the client exists, and this is
     /// its next message.
-    pub fn take_submission(&mut self, c: u32) -> (LocalSurfaceId, CompositorFrame)
+    pub fn take_submission(&mut self, c: u32) -> (LocalSurfaceId, BoxedFrame)
         requires some { 1 ≤ c }
         requires known { c ≤ length self.old.clients }
         requires next { (local : Local) × (frame : Frame) × IsNext self.old c (Submit local frame) }
@@ -59,7 +59,7 @@ impl Support {
 
     /// Puts a submission that was taken back as the client's next message. Conditions: the client
     /// exists, and its submission was taken.
-    pub fn put_back(&mut self, c: u32, local: LocalSurfaceId, frame: CompositorFrame)
+    pub fn put_back(&mut self, c: u32, local: LocalSurfaceId, frame: BoxedFrame)
         requires some { 1 ≤ c }
         requires known { c ≤ length self.old.clients }
         requires taken { (before : Supported) × HasTaken c before self.old }

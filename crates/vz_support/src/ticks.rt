@@ -1,23 +1,13 @@
 //! Begin-frames, and the end.
-ghost use Rattle.std.specs.Prelude.{◌≡◌, ◌≤◌, true};
-ghost use Rattle.vz_base.specs.declared.limits.TheConstants.{LAST_TICK as last};
+ghost use Rattle.std.specs.Prelude.{◌≡◌, true};
 ghost use Rattle.vz_rules.specs.Plan.{Plan};
 ghost use Rattle.vz_rules.specs.World.{World};
 ghost use Rattle.vz_rules.specs.declared.entry.Reply.TheVariants.{Ticked};
-ghost use Rattle.vz_rules.specs.Step.{next_tick, begin_answer};
+ghost use Rattle.vz_rules.specs.Step.{begin_answer};
 ghost use Rattle.vz_support.specs.Supporting.{IsSupport};
 
 use crate::support::Support;
-use vz_base::limits::LAST_TICK;
-
-/// The next tick. Condition: this one is not after the last one.
-fn next_tick(tick: u32) -> u32
-    requires { tick ≤ last }
-    ensures value { result ≡ next_tick tick }
-    ensures bounded { result ≤ last }
-{
-    if tick == LAST_TICK { tick } else { tick + 1 }
-}
+use vz_rules::next_tick;
 
 impl Support {
     /// Begins a frame: the tick rises by one and is delivered to each client that is attached and

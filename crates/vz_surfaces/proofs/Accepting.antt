@@ -10,7 +10,7 @@ use Rattle.vz_ids.specs.Ids.{same_surface, is_raised}
 use Rattle.vz_pixels.specs.Block.{Block}
 use Rattle.vz_frame.specs.declared.frame.CompositorFrame.{CompositorFrame}
 use Rattle.vz_rules.specs.declared.entry.State.TheVariants.{Dropped}
-use Rattle.vz_rules.specs.World.{Created, FrameData, Submission, is_waiting, is_active, is_on}
+use Rattle.vz_rules.specs.World.{Surface as Created, FrameData, Submission, is_waiting, is_active, is_on}
 use Rattle.vz_rules.specs.Messages.{is_last, violates, replace_on}
 use Rattle.vz_rules.specs.Scene.{or_else}
 use Rattle.vz_rules.specs.Kept.{last_in, is_surface_of}

@@ -4,7 +4,7 @@ use Rattle.std.proofs.lemmas.Bool.{both_ways}
 use Rattle.std.specs.Option.{option_map}
 use Rattle.vz_ids.specs.declared.SurfaceId.{SurfaceId}
 use Rattle.vz_ids.specs.declared.Sub.{Sub}
-use Rattle.vz_rules.specs.World.{FrameData, Submission, Created, is_waiting, is_on, sub_of}
+use Rattle.vz_rules.specs.World.{FrameData, Submission, Surface as Created, is_waiting, is_on, sub_of}
 use Rattle.vz_surfaces.specs.declared.held.Held.{Held}
 use Rattle.vz_surfaces.specs.declared.table.Surface.{Surface}
 use Rattle.vz_surfaces.specs.declared.table.Table.{Table}

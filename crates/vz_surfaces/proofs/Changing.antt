@@ -3,7 +3,7 @@ use Rattle.std.proofs.Common.{◌≡◌, ℕ, ◌+◌, Bool, true, false, ◌&&�
 use Rattle.std.specs.Option.{option_map}
 use Rattle.vz_geom.specs.declared.Size.{Size}
 use Rattle.vz_ids.specs.declared.LocalSurfaceId.{LocalSurfaceId}
-use Rattle.vz_rules.specs.World.{Created, FrameData, Submission}
+use Rattle.vz_rules.specs.World.{Surface, FrameData, Submission}
 use Rattle.vz_rules.specs.Kept.{last_in, is_surface_of, is_by}
 use Rattle.vz_rules.proofs.Counts.{count_cons}
 use Rattle.vz_rules.proofs.Members.{contains_at}
@@ -15,20 +15,20 @@ use Rattle.vz_surfaces.specs.Memory.{KeepsOwners}
 use Rattle.vz_surfaces.proofs.Finding.{count_kept, find_none}
 
 -- a surface keeps what is counted
-pub record KeepsCounted (g : Created → Created) : Type 0 where
-  pub client : (c : Created) → (g c).client ≡ c.client
-  pub id : (c : Created) → (g c).id ≡ c.id
-  pub size : (c : Created) → (g c).size ≡ c.size
+pub record KeepsCounted (g : Surface → Surface) : Type 0 where
+  pub client : (c : Surface) → (g c).client ≡ c.client
+  pub id : (c : Surface) → (g c).id ≡ c.id
+  pub size : (c : Surface) → (g c).size ≡ c.size
 
 abbrev Named : Type 0
 Named = LocalSurfaceId × Size
 
-read_by : (g : Created → Created) (o : Option Created) → KeepsCounted g
-    → option_map {U = Named} (λ (s : Created). (s.id.local, s.size)) (option_map g o) ≡ option_map {U = Named} (λ (s : Created). (s.id.local, s.size)) o
+read_by : (g : Surface → Surface) (o : Option Surface) → KeepsCounted g
+    → option_map {U = Named} (λ (s : Surface). (s.id.local, s.size)) (option_map g o) ≡ option_map {U = Named} (λ (s : Surface). (s.id.local, s.size)) o
 read_by g None h = refl
 read_by g (Some c) h = λ i. Some (((h.id c i).local, h.size c i))
 
-pub owners_stay : (o : Owners) (f : Submission → Submission) (g : Created → Created) (st : Stored) → ((s : Submission) → Contains st.subs s → (f s).submitted ≡ s.submitted) → KeepsCounted g
+pub owners_stay : (o : Owners) (f : Submission → Submission) (g : Surface → Surface) (st : Stored) → ((s : Submission) → Contains st.subs s → (f s).submitted ≡ s.submitted) → KeepsCounted g
     → KeepsOwners o st → KeepsOwners o (record { surfaces = map g st.surfaces; subs = map f st.subs })
 unfolding last_of
 owners_stay o f g st same counted h =
@@ -36,21 +36,21 @@ owners_stay o f g st same counted h =
       accepted = λ c n. h.accepted c n ∙ sym (count_kept (is_by c) f st.subs (λ s p. ap (λ (i : FrameData). i.sub.client == c) (same s p)));
       created = λ c n. h.created c n ∙ sym (count_kept (is_surface_of c) g st.surfaces (λ s p. ap (λ k. k == c) (counted.client s)));
       last = λ c n. h.last c n
-          ∙ sym (ap (option_map {U = Named} (λ (s : Created). (s.id.local, s.size))) (last_map g (λ (s : Created). s.client == c) st.surfaces (λ s. ap (λ k. k == c) (counted.client s)))
+          ∙ sym (ap (option_map {U = Named} (λ (s : Surface). (s.id.local, s.size))) (last_map g (λ (s : Surface). s.client == c) st.surfaces (λ s. ap (λ k. k == c) (counted.client s)))
           ∙ read_by g (last_in st.surfaces c) counted);
     }
 
 -- One fewer
 
 -- no two that pass stand at two places
-abbrev pub OncePasses : (Created → Bool) → List Created → Type 0
-OncePasses p ss = (n m : ℕ) (s t : Created) → slice_get ss n ≡ Some s → slice_get ss m ≡ Some t → p s ≡ true → p t ≡ true → n ≡ m
+abbrev pub OncePasses : (Surface → Bool) → List Surface → Type 0
+OncePasses p ss = (n m : ℕ) (s t : Surface) → slice_get ss n ≡ Some s → slice_get ss m ≡ Some t → p s ≡ true → p t ≡ true → n ≡ m
 
-module _ (p nd : Created → Bool) (h : Created → Created) (ends : (c : Created) → nd (h c) ≡ false) where
-  abbrev gone_at : Created → Created
+module _ (p nd : Surface → Bool) (h : Surface → Surface) (ends : (c : Surface) → nd (h c) ≡ false) where
+  abbrev gone_at : Surface → Surface
   gone_at c = cond (p c) (h c) c
 
-  behind : (c : Created) (ss : List Created) → OncePasses p (c ∷ ss) → p c ≡ true → (s : Created) → Contains ss s → p s ≡ false
+  behind : (c : Surface) (ss : List Surface) → OncePasses p (c ∷ ss) → p c ≡ true → (s : Surface) → Contains ss s → p s ≡ false
   behind c ss once e s q =
       let m = contains_at ss s q in
       elim (p s) as (λ (t : Bool). p s ≡ t → t ≡ false) [
@@ -58,10 +58,10 @@ module _ (p nd : Created → Bool) (h : Created → Created) (ends : (c : Create
         | false ↦ λ f. refl
       ] refl
 
-  stays_by : (c : Created) → p c ≡ false → nd (gone_at c) ≡ nd c
+  stays_by : (c : Surface) → p c ≡ false → nd (gone_at c) ≡ nd c
   stays_by c e = ap (λ (t : Bool). nd (cond t (h c) c)) e
 
-  pub one_goes : (ss : List Created) (x : Created) → OncePasses p ss → find (λ c. p c && nd c) ss ≡ Some x → count_by nd (map gone_at ss) + 1 ≡ count_by nd ss
+  pub one_goes : (ss : List Surface) (x : Surface) → OncePasses p ss → find (λ c. p c && nd c) ss ≡ Some x → count_by nd (map gone_at ss) + 1 ≡ count_by nd ss
   one_goes [] x once e = absurd (cc)
   one_goes (c ∷ ss) x once e =
       let later : OncePasses p ss = λ n m s t q r u v. let k : suc n ≡ suc m = once (suc n) (suc m) s t q r u v in omega (arith, k) in
@@ -76,7 +76,7 @@ module _ (p nd : Created → Bool) (h : Created → Created) (ends : (c : Create
                   let after = count_cons nd c ss ∙ ap (λ (t : Bool). cond t 1 0 + count_by nd ss) k in
                   omega (arith, before, after, rest)
               | false ↦ λ k l.
-                  let no_way : ◌≡◌ {A = Option Created} None (Some x) = sym (find_none (λ c. p c && nd c) ss (λ s q. ap (λ b. b && nd s) (none s q))) ∙ l in
+                  let no_way : ◌≡◌ {A = Option Surface} None (Some x) = sym (find_none (λ c. p c && nd c) ss (λ s q. ap (λ b. b && nd s) (none s q))) ∙ l in
                   absurd (cc)
             ] refl g
         | false ↦ λ f g.

@@ -6,7 +6,7 @@ use Rattle.vz_ids.specs.declared.SurfaceId.{SurfaceId}
 use Rattle.vz_ids.specs.declared.Sub.{Sub}
 use Rattle.vz_ids.specs.Ids.{same_surface}
 use Rattle.vz_rules.specs.declared.entry.State.TheVariants.{Dropped}
-use Rattle.vz_rules.specs.World.{Created, Submission, is_waiting, is_active, is_on, sub_of}
+use Rattle.vz_rules.specs.World.{Surface, Submission, is_waiting, is_active, is_on, sub_of}
 use Rattle.vz_rules.specs.Messages.{mark_of}
 use Rattle.vz_rules.proofs.Reached.{from_same, self_same}
 use Rattle.vz_rules.proofs.Members.{when_same, contains_map, find_at}
@@ -27,21 +27,21 @@ use Rattle.vz_surfaces.proofs.Naming.{name_of, one_named}
 
 marks_kept : (c : ℕ) → KeepsKept (mark_of c)
 marks_kept c =
-    let marks = λ (s : Created). record s { marked = true } in
+    let marks = λ (s : Surface). record s { marked = true } in
     record {
-      client = λ s. when_same (λ (y : Created). y.client) marks (s.client == c) s refl;
-      number = λ s. when_same (λ (y : Created). y.number) marks (s.client == c) s refl;
-      id = λ s. when_same (λ (y : Created). y.id) marks (s.client == c) s refl;
-      destroyed = λ s. when_same (λ (y : Created). y.destroyed) marks (s.client == c) s refl;
+      client = λ s. when_same (λ (y : Surface). y.client) marks (s.client == c) s refl;
+      number = λ s. when_same (λ (y : Surface). y.number) marks (s.client == c) s refl;
+      id = λ s. when_same (λ (y : Surface). y.id) marks (s.client == c) s refl;
+      destroyed = λ s. when_same (λ (y : Surface). y.destroyed) marks (s.client == c) s refl;
     }
 
 marks_counted : (c : ℕ) → KeepsCounted (mark_of c)
 marks_counted c =
-    let marks = λ (s : Created). record s { marked = true } in
+    let marks = λ (s : Surface). record s { marked = true } in
     record {
-      client = λ s. when_same (λ (y : Created). y.client) marks (s.client == c) s refl;
-      id = λ s. when_same (λ (y : Created). y.id) marks (s.client == c) s refl;
-      size = λ s. when_same (λ (y : Created). y.size) marks (s.client == c) s refl;
+      client = λ s. when_same (λ (y : Surface). y.client) marks (s.client == c) s refl;
+      id = λ s. when_same (λ (y : Surface). y.id) marks (s.client == c) s refl;
+      size = λ s. when_same (λ (y : Surface). y.size) marks (s.client == c) s refl;
     }
 
 pub marked_at : (c : ℕ) (st : Stored) (q : SurfaceId) → surface_at (marking c st) q ≡ surface_at st q
@@ -80,39 +80,39 @@ drops_on id subs =
 
 ends_counted : (id : SurfaceId) → KeepsCounted (ended_at id)
 ends_counted id =
-    let ends = λ (s : Created). record s { destroyed = true } in
+    let ends = λ (s : Surface). record s { destroyed = true } in
     record {
-      client = λ s. when_same (λ (y : Created). y.client) ends (same_surface s.id id) s refl;
-      id = λ s. when_same (λ (y : Created). y.id) ends (same_surface s.id id) s refl;
-      size = λ s. when_same (λ (y : Created). y.size) ends (same_surface s.id id) s refl;
+      client = λ s. when_same (λ (y : Surface). y.client) ends (same_surface s.id id) s refl;
+      id = λ s. when_same (λ (y : Surface). y.id) ends (same_surface s.id id) s refl;
+      size = λ s. when_same (λ (y : Surface). y.size) ends (same_surface s.id id) s refl;
     }
 
-ends_not : (t : Bool) (s : Created) → (t && not (cond t (record s { destroyed = true }) s).destroyed) ≡ false
+ends_not : (t : Bool) (s : Surface) → (t && not (cond t (record s { destroyed = true }) s).destroyed) ≡ false
 ends_not true s = refl
 ends_not false s = refl
 
-ended_id : (id : SurfaceId) (s : Created) → (ended_at id s).id ≡ s.id
+ended_id : (id : SurfaceId) (s : Surface) → (ended_at id s).id ≡ s.id
 ended_id id s = (ends_counted id).id s
 
-pub ended_none : (id : SurfaceId) (ss : List Created) → standing id (map (ended_at id) ss) ≡ None
+pub ended_none : (id : SurfaceId) (ss : List Surface) → standing id (map (ended_at id) ss) ≡ None
 ended_none id ss =
     find_none (λ s. same_surface s.id id && not s.destroyed) (map (ended_at id) ss) (λ s p.
     let t = contains_map (ended_at id) ss s p in
-    subst (λ (x : Created). (same_surface x.id id && not x.destroyed) ≡ false) t.2
+    subst (λ (x : Surface). (same_surface x.id id && not x.destroyed) ≡ false) t.2
     (ap (λ i. same_surface i id && not (ended_at id t.0).destroyed) (ended_id id t.0) ∙ ends_not (same_surface t.0.id id) t.0))
 
 -- an id is not another
-other_id : (id q : SurfaceId) (s : Created) → same_surface id q ≡ false → same_surface s.id q ≡ true → same_surface s.id id ≡ false
+other_id : (id q : SurfaceId) (s : Surface) → same_surface id q ≡ false → same_surface s.id q ≡ true → same_surface s.id id ≡ false
 other_id id q s apart on = never (same_surface s.id id) (λ e. sym apart ∙ (ap (λ x. same_surface x q) (sym (from_same s.id id e)) ∙ on))
 
-ended_same : (id : SurfaceId) (s : Created) → same_surface s.id id ≡ false → ended_at id s ≡ s
+ended_same : (id : SurfaceId) (s : Surface) → same_surface s.id id ≡ false → ended_at id s ≡ s
 ended_same id s e = ap (λ (t : Bool). cond t (record s { destroyed = true }) s) e
 
-pub ended_apart : (id q : SurfaceId) (ss : List Created) → same_surface id q ≡ false → standing q (map (ended_at id) ss) ≡ standing q ss
+pub ended_apart : (id q : SurfaceId) (ss : List Surface) → same_surface id q ≡ false → standing q (map (ended_at id) ss) ≡ standing q ss
 ended_apart id q ss apart =
     find_fixed (λ s. same_surface s.id q && not s.destroyed) (ended_at id) ss
     (λ s p. elim (same_surface s.id q) as (λ (t : Bool). same_surface s.id q ≡ t → (same_surface (ended_at id s).id q && not (ended_at id s).destroyed) ≡ (same_surface s.id q && not s.destroyed)) [
-      | true ↦ λ e. ap (λ (x : Created). same_surface x.id q && not x.destroyed) (ended_same id s (other_id id q s apart e))
+      | true ↦ λ e. ap (λ (x : Surface). same_surface x.id q && not x.destroyed) (ended_same id s (other_id id q s apart e))
       | false ↦ λ e. ap (λ b. b && not (ended_at id s).destroyed) (ap (λ i. same_surface i q) (ended_id id s) ∙ e) ∙ sym (ap (λ b. b && not s.destroyed) e)
     ] refl)
     (λ s p e. ended_same id s (other_id id q s apart (and_parts (same_surface s.id q) (not s.destroyed) e).0))
@@ -136,7 +136,7 @@ unfolding destroying
 gone_owners id st o h = owners_stay o (dropped_at id) (ended_at id) st (drops_on id st.subs).submitted (ends_counted id) h
 
 -- one fewer exists
-pub gone_count : (id : SurfaceId) (st : Stored) (c : Created) → KeepsStored st → standing id st.surfaces ≡ Some c → existing_count (destroying id st) + 1 ≡ existing_count st
+pub gone_count : (id : SurfaceId) (st : Stored) (c : Surface) → KeepsStored st → standing id st.surfaces ≡ Some c → existing_count (destroying id st) + 1 ≡ existing_count st
 unfolding existing_count destroying
 gone_count id st c keeps e =
     one_goes (λ s. same_surface s.id id) (λ s. not s.destroyed) (λ s. record s { destroyed = true }) (λ s. refl) st.surfaces c

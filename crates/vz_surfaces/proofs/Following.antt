@@ -10,7 +10,7 @@ use Rattle.vz_frame.specs.declared.frame.CompositorFrame.{CompositorFrame}
 use Rattle.vz_frame.specs.declared.message.Message.TheVariants.{Close}
 use Rattle.vz_rules.specs.declared.entry.State.TheVariants.{Dropped, Past, Active}
 use Rattle.vz_rules.specs.Plan.{Plan}
-use Rattle.vz_rules.specs.World.{World, Client, Created, Submission, is_waiting, is_active, is_on, sub_of, opening}
+use Rattle.vz_rules.specs.World.{World, Client, Surface, Submission, is_waiting, is_active, is_on, sub_of, opening}
 use Rattle.vz_rules.specs.Settle.{number_of, is_before, marked_by}
 use Rattle.vz_rules.specs.Reach.{drop_on}
 use Rattle.vz_rules.specs.Messages.{accepted, new_submission, with_surface, blocks_of, is_last, replace_on, mark_of, message_answer}
@@ -24,7 +24,7 @@ use Rattle.vz_rules.proofs.Kept_last.{last_map}
 use Rattle.vz_surfaces.specs.Stored.{Stored, bare_surface, bare_sub, stored_of, nothing_stored, surface_of, new_surface, creating, accepted_as, waiting_with, storing, named_in, raising, activating, marking, ended_at, dropped_at, destroying}
 
 -- both lists agree
-pub agree : {a b : List Created} {x y : List Submission} → a ≡ b → x ≡ y → ◌≡◌ {A = Stored} (record { surfaces = a; subs = x }) (record { surfaces = b; subs = y })
+pub agree : {a b : List Surface} {x y : List Submission} → a ≡ b → x ≡ y → ◌≡◌ {A = Stored} (record { surfaces = a; subs = x }) (record { surfaces = b; subs = y })
 agree p q = λ i. record { surfaces = p i; subs = q i }
 
 -- two changes in the other order
@@ -38,14 +38,14 @@ started p = refl
 
 -- Accepting
 
-pub last_bare : (ss : List Created) (c : ℕ) → last_in (map bare_surface ss) c ≡ option_map bare_surface (last_in ss c)
+pub last_bare : (ss : List Surface) (c : ℕ) → last_in (map bare_surface ss) c ≡ option_map bare_surface (last_in ss c)
 last_bare ss c = last_map bare_surface (λ s. s.client == c) ss (λ x. refl)
 
-is_last_bare : (o : Option Created) (local : LocalSurfaceId) → is_last (option_map bare_surface o) local ≡ is_last o local
+is_last_bare : (o : Option Surface) (local : LocalSurfaceId) → is_last (option_map bare_surface o) local ≡ is_last o local
 is_last_bare None local = refl
 is_last_bare (Some s) local = refl
 
-created_by : (t : Bool) (ss : List Created) (new : Created) → map bare_surface (cond t ss (ss ++ new ∷ [])) ≡ cond t (map bare_surface ss) (map bare_surface ss ++ bare_surface new ∷ [])
+created_by : (t : Bool) (ss : List Surface) (new : Surface) → map bare_surface (cond t ss (ss ++ new ∷ [])) ≡ cond t (map bare_surface ss) (map bare_surface ss ++ bare_surface new ∷ [])
 created_by true ss new = refl
 created_by false ss new = map-append bare_surface ss (new ∷ [])
 
@@ -84,20 +84,20 @@ follows_accepted w c local frame =
 pub self_sub : (s : Sub) → same_sub s s ≡ true
 self_sub s = and_from (s.client == s.client) (s.ordinal == s.ordinal) (eq-eqb s.client s.client refl) (eq-eqb s.ordinal s.ordinal refl)
 
-number_by : (o : Option Created) → (elim (option_map bare_surface o) as (λ o. ℕ) [ Some c ↦ c.number | None ↦ 0 ]) ≡ (elim o as (λ o. ℕ) [ Some c ↦ c.number | None ↦ 0 ])
+number_by : (o : Option Surface) → (elim (option_map bare_surface o) as (λ o. ℕ) [ Some c ↦ c.number | None ↦ 0 ]) ≡ (elim o as (λ o. ℕ) [ Some c ↦ c.number | None ↦ 0 ])
 number_by None = refl
 number_by (Some c) = refl
 
-number_bare : (ss : List Created) (s : Submission) → number_of (map bare_surface ss) (bare_sub s) ≡ number_of ss s
+number_bare : (ss : List Surface) (s : Submission) → number_of (map bare_surface ss) (bare_sub s) ≡ number_of ss s
 number_bare ss s =
-    ap (λ (o : Option Created). elim o as (λ o. ℕ) [ Some c ↦ c.number | None ↦ 0 ]) (find_map (λ c. same_surface c.id s.submitted.id) bare_surface ss (λ x. refl))
+    ap (λ (o : Option Surface). elim o as (λ o. ℕ) [ Some c ↦ c.number | None ↦ 0 ]) (find_map (λ c. same_surface c.id s.submitted.id) bare_surface ss (λ x. refl))
     ∙ number_by (find (λ c. same_surface c.id s.submitted.id) ss)
 
-marked_when : (t : Bool) (c : Created) → bare_surface (cond t (record c { marked = true }) c) ≡ cond t (record (bare_surface c) { marked = true }) (bare_surface c)
+marked_when : (t : Bool) (c : Surface) → bare_surface (cond t (record c { marked = true }) c) ≡ cond t (record (bare_surface c) { marked = true }) (bare_surface c)
 marked_when true c = refl
 marked_when false c = refl
 
-marked_bare : (ss : List Created) (s : Submission) (c : Created) → bare_surface (marked_by ss (s ∷ []) c) ≡ marked_by (map bare_surface ss) (bare_sub s ∷ []) (bare_surface c)
+marked_bare : (ss : List Surface) (s : Submission) (c : Surface) → bare_surface (marked_by ss (s ∷ []) c) ≡ marked_by (map bare_surface ss) (bare_sub s ∷ []) (bare_surface c)
 marked_bare ss s c =
     marked_when (is_before ss c s || false) c
     ∙ ap (λ n. cond (((c.client == s.submitted.sub.client) && Rattle.std.specs.Prelude.nat_lt c.number n) || false) (record (bare_surface c) { marked = true }) (bare_surface c)) (sym (number_bare ss s))
@@ -141,7 +141,7 @@ pub follows_closed : (w : World) (c : Client) → stored_of (message_answer w c 
 unfolding stored_of message_answer marking
 follows_closed w c = agree (map_turned bare_surface (mark_of c.number) (mark_of c.number) w.surfaces (λ s. marked_when (s.client == c.number) s)) refl
 
-ends_by : (t : Bool) (c : Created) → bare_surface (cond t (record c { destroyed = true }) c) ≡ cond t (record (bare_surface c) { destroyed = true }) (bare_surface c)
+ends_by : (t : Bool) (c : Surface) → bare_surface (cond t (record c { destroyed = true }) c) ≡ cond t (record (bare_surface c) { destroyed = true }) (bare_surface c)
 ends_by true c = refl
 ends_by false c = refl
 
@@ -149,7 +149,7 @@ or_no : (a b : Bool) (s : Submission) → cond (a && (b || false)) (record s { s
 or_no a true s = refl
 or_no a false s = refl
 
-pub follows_destroyed : (w : World) (c : Created) → stored_of (going c w) ≡ destroying c.id (stored_of w)
+pub follows_destroyed : (w : World) (c : Surface) → stored_of (going c w) ≡ destroying c.id (stored_of w)
 unfolding stored_of going destroying
 follows_destroyed w c =
     agree (map_turned bare_surface (as_one_goes c) (ended_at c.id) w.surfaces (λ d. ends_by (same_surface d.id c.id) d))

@@ -12,7 +12,7 @@ use Rattle.vz_ids.specs.Ids.{same_sink, same_surface, same_group, same_sub, is_r
 use Rattle.vz_pixels.specs.Block.{Block}
 use Rattle.vz_frame.specs.declared.frame.CompositorFrame.{CompositorFrame}
 use Rattle.vz_rules.specs.declared.entry.State.TheVariants.{Active, Past, Dropped}
-use Rattle.vz_rules.specs.World.{Created, FrameData, Submission, is_waiting, is_active, is_on, sub_of}
+use Rattle.vz_rules.specs.World.{Surface, FrameData, Submission, is_waiting, is_active, is_on, sub_of}
 use Rattle.vz_rules.specs.Settle.{is_before, marked_by}
 use Rattle.vz_rules.specs.Messages.{is_last, violates, replace_on, mark_of}
 use Rattle.vz_rules.specs.Singly.{as_one_rises}
@@ -27,7 +27,7 @@ use Rattle.vz_surfaces.specs.Keeping.{KeepsStored}
 use Rattle.vz_surfaces.specs.Memory.{IsSinkOf}
 use Rattle.vz_surfaces.specs.declared.groups.Groups.{Groups}
 use Rattle.vz_surfaces.specs.Chains.{is_group, chain_at, newest_at, reaches, newer_local, is_newer_id, IsRising, KeepsGroups}
-use Rattle.vz_surfaces.proofs.Ages.{at_least_is, at_least_trans}
+use Rattle.vz_ids.proofs.Ages.{at_least_is, at_least_trans}
 use Rattle.vz_surfaces.proofs.Telling.{read_same, filter_all}
 use Rattle.vz_surfaces.proofs.Others.{never}
 use Rattle.vz_surfaces.proofs.Accepting.{replaces_on}
@@ -76,8 +76,8 @@ reach_group a b e =
     group_from a b (λ i. record { client_id = x.client i; sink_id = x.sink i }) x.token
 
 -- the surfaces of a group that exist
-abbrev pub chain_of : SurfaceId → List Created → List SurfaceId
-chain_of q ss = map (λ (c : Created). c.id) (filter (λ (c : Created). same_group c.id q && not c.destroyed) ss)
+abbrev pub chain_of : SurfaceId → List Surface → List SurfaceId
+chain_of q ss = map (λ (c : Surface). c.id) (filter (λ (c : Surface). same_group c.id q && not c.destroyed) ss)
 
 -- groups that read alike
 pub groups_alike : (old new : Groups) (st : Stored) → ((q : SurfaceId) → chain_at new q ≡ chain_at old q) → ((q : SurfaceId) → newest_at new q ≡ newest_at old q) → KeepsGroups old st → KeepsGroups new st
@@ -95,18 +95,18 @@ module _ (st : Stored) (c : ℕ) (sink : FrameSinkId) (local : LocalSurfaceId) (
   abbrev id_new : SurfaceId
   id_new = surface_of sink local
 
-  abbrev new_one : Created
+  abbrev new_one : Surface
   new_one = new_surface c id_new frame st.surfaces
 
   chain_by : (t : Bool) (q : SurfaceId) → chain_of q (cond t st.surfaces (st.surfaces ++ new_one ∷ [])) ≡ cond (not t && same_group id_new q) (chain_of q st.surfaces ++ id_new ∷ []) (chain_of q st.surfaces)
   chain_by true q = refl
   chain_by false q =
-      ap (map (λ (c : Created). c.id)) (filter-append (λ (c : Created). same_group c.id q && not c.destroyed) st.surfaces (new_one ∷ [])) ∙ by (same_group id_new q)
+      ap (map (λ (c : Surface). c.id)) (filter-append (λ (c : Surface). same_group c.id q && not c.destroyed) st.surfaces (new_one ∷ [])) ∙ by (same_group id_new q)
     where
-      by : (b : Bool) → map (λ (c : Created). c.id) (filter (λ (c : Created). same_group c.id q && not c.destroyed) st.surfaces ++ cond (b && true) (new_one ∷ []) [])
+      by : (b : Bool) → map (λ (c : Surface). c.id) (filter (λ (c : Surface). same_group c.id q && not c.destroyed) st.surfaces ++ cond (b && true) (new_one ∷ []) [])
           ≡ cond b (chain_of q st.surfaces ++ id_new ∷ []) (chain_of q st.surfaces)
-      by true = map-append (λ (c : Created). c.id) (filter (λ (c : Created). same_group c.id q && not c.destroyed) st.surfaces) (new_one ∷ [])
-      by false = ap (map (λ (c : Created). c.id)) (append-nil (filter (λ (c : Created). same_group c.id q && not c.destroyed) st.surfaces))
+      by true = map-append (λ (c : Surface). c.id) (filter (λ (c : Surface). same_group c.id q && not c.destroyed) st.surfaces) (new_one ∷ [])
+      by false = ap (map (λ (c : Surface). c.id)) (append-nil (filter (λ (c : Surface). same_group c.id q && not c.destroyed) st.surfaces))
 
   or_none : (a : Bool) → (a || false) ≡ a
   or_none true = refl
@@ -123,8 +123,8 @@ module _ (st : Stored) (c : ℕ) (sink : FrameSinkId) (local : LocalSurfaceId) (
   newer_all : KeepsStored st → IsSinkOf c sink st → violates (last_in st.surfaces c) local ≡ false → is_last (last_in st.surfaces c) local ≡ false
       → (q x : SurfaceId) → same_group id_new q ≡ true → Contains (chain_of q st.surfaces) x → is_newer_id id_new x ≡ true
   newer_all keeps of v l q x g p =
-      let m = contains_map (λ (c : Created). c.id) (filter (λ (c : Created). same_group c.id q && not c.destroyed) st.surfaces) x p in
-      let f = filter_at (λ (c : Created). same_group c.id q && not c.destroyed) st.surfaces m.0 m.1 in
+      let m = contains_map (λ (c : Surface). c.id) (filter (λ (c : Surface). same_group c.id q && not c.destroyed) st.surfaces) x p in
+      let f = filter_at (λ (c : Surface). same_group c.id q && not c.destroyed) st.surfaces m.0 m.1 in
       let in_q = same_groups m.0.id q (and_parts (same_group m.0.id q) (not m.0.destroyed) f.1).0 in
       let here = same_groups id_new q g in
       let n = contains_at st.surfaces m.0 f.0 in
@@ -256,7 +256,7 @@ module _ (st : Stored) (x : Submission) (keeps : KeepsStored st) (in_it : Waits_
               (and_from (m.token.0 == id_at.local.token.0) (is_raised id_at.local m) (eq-eqb m.token.0 id_at.local.token.0 (token ∙ sym here.1))
               (ap (λ (i : SurfaceId). is_raised i.local m) (sym b.2) ∙ (ap (λ (i : SurfaceId). is_raised b.0.id.local i.local) (sym left) ∙ on))))
           | inr same ↦
-              let one : m ≡ id_at.local = ap (λ (i : SurfaceId). i.local) (sym left ∙ (ap (λ (c : Created). c.id) same ∙ b.2)) in
+              let one : m ≡ id_at.local = ap (λ (i : SurfaceId). i.local) (sym left ∙ (ap (λ (c : Surface). c.id) same ∙ b.2)) in
               or_left (same_surface u v) (same_sink u.sink v.sink && newer m id_at.local) (ap (λ (l : LocalSurfaceId). same_surface (record { sink = d.sink; local = l }) v) one ∙ self_same v)
         ]
       ]
@@ -277,10 +277,10 @@ module _ (st : Stored) (x : Submission) (keeps : KeepsStored st) (in_it : Waits_
 
   marks_same : (q : SurfaceId) → chain_of q (map (marked_by st.surfaces (x ∷ [])) st.surfaces) ≡ chain_of q st.surfaces
   marks_same q =
-      let marks = λ (c : Created). record c { marked = true } in
-      read_same (marked_by st.surfaces (x ∷ [])) (λ (c : Created). c.id) (λ (c : Created). same_group c.id q && not c.destroyed) st.surfaces
-      (λ c. when_same (λ (y : Created). y.id) marks (list_any (is_before st.surfaces c) (x ∷ [])) c refl)
-      (λ c. when_same (λ (y : Created). same_group y.id q && not y.destroyed) marks (list_any (is_before st.surfaces c) (x ∷ [])) c refl)
+      let marks = λ (c : Surface). record c { marked = true } in
+      read_same (marked_by st.surfaces (x ∷ [])) (λ (c : Surface). c.id) (λ (c : Surface). same_group c.id q && not c.destroyed) st.surfaces
+      (λ c. when_same (λ (y : Surface). y.id) marks (list_any (is_before st.surfaces c) (x ∷ [])) c refl)
+      (λ c. when_same (λ (y : Surface). same_group y.id q && not y.destroyed) marks (list_any (is_before st.surfaces c) (x ∷ [])) c refl)
 
   or_false : (a b : Bool) → b ≡ false → (a || b) ≡ a
   or_false true b e = refl
@@ -325,31 +325,31 @@ module _ (st : Stored) (x : Submission) (keeps : KeepsStored st) (in_it : Waits_
 pub marked_groups : (c : ℕ) (st : Stored) (g : Groups) → KeepsGroups g st → KeepsGroups g (marking c st)
 unfolding marking was_reached
 marked_groups c st g h =
-    let marks = λ (s : Created). record s { marked = true } in
+    let marks = λ (s : Surface). record s { marked = true } in
     record {
-      chain = λ q. h.chain q ∙ sym (read_same (mark_of c) (λ (c : Created). c.id) (λ (c : Created). same_group c.id q && not c.destroyed) st.surfaces
-          (λ s. when_same (λ (y : Created). y.id) marks (s.client == c) s refl)
-          (λ s. when_same (λ (y : Created). same_group y.id q && not y.destroyed) marks (s.client == c) s refl));
+      chain = λ q. h.chain q ∙ sym (read_same (mark_of c) (λ (c : Surface). c.id) (λ (c : Surface). same_group c.id q && not c.destroyed) st.surfaces
+          (λ s. when_same (λ (y : Surface). y.id) marks (s.client == c) s refl)
+          (λ s. when_same (λ (y : Surface). same_group y.id q && not y.destroyed) marks (s.client == c) s refl));
       rising = h.rising;
       reached = h.reached;
       made = h.made;
     }
 
-one_ends : (id q : SurfaceId) (c : Created) (rest : List Created) (same in_q : Bool) → same_surface c.id id ≡ same → same_group c.id q ≡ in_q
-    → map (λ (c : Created). c.id) (cond (same_group (cond same (record c { destroyed = true }) c).id q && not (cond same (record c { destroyed = true }) c).destroyed) (cond same (record c { destroyed = true }) c ∷ rest) rest)
-    ≡ cond (in_q && not c.destroyed) (cond (not same) (c.id ∷ map (λ (c : Created). c.id) rest) (map (λ (c : Created). c.id) rest)) (map (λ (c : Created). c.id) rest)
+one_ends : (id q : SurfaceId) (c : Surface) (rest : List Surface) (same in_q : Bool) → same_surface c.id id ≡ same → same_group c.id q ≡ in_q
+    → map (λ (c : Surface). c.id) (cond (same_group (cond same (record c { destroyed = true }) c).id q && not (cond same (record c { destroyed = true }) c).destroyed) (cond same (record c { destroyed = true }) c ∷ rest) rest)
+    ≡ cond (in_q && not c.destroyed) (cond (not same) (c.id ∷ map (λ (c : Surface). c.id) rest) (map (λ (c : Surface). c.id) rest)) (map (λ (c : Surface). c.id) rest)
 one_ends id q c rest true in_q e f = gone (same_group c.id q) ∙ sym (both_same (in_q && not c.destroyed))
   where
-    gone : (b : Bool) → map (λ (c : Created). c.id) (cond (b && false) (record c { destroyed = true } ∷ rest) rest) ≡ map (λ (c : Created). c.id) rest
+    gone : (b : Bool) → map (λ (c : Surface). c.id) (cond (b && false) (record c { destroyed = true } ∷ rest) rest) ≡ map (λ (c : Surface). c.id) rest
     gone true = refl
     gone false = refl
 
-    both_same : (b : Bool) → cond b (map (λ (c : Created). c.id) rest) (map (λ (c : Created). c.id) rest) ≡ map (λ (c : Created). c.id) rest
+    both_same : (b : Bool) → cond b (map (λ (c : Surface). c.id) rest) (map (λ (c : Surface). c.id) rest) ≡ map (λ (c : Surface). c.id) rest
     both_same true = refl
     both_same false = refl
-one_ends id q c rest false in_q e f = ap (λ (b : Bool). map (λ (c : Created). c.id) (cond (b && not c.destroyed) (c ∷ rest) rest)) f ∙ by (in_q && not c.destroyed)
+one_ends id q c rest false in_q e f = ap (λ (b : Bool). map (λ (c : Surface). c.id) (cond (b && not c.destroyed) (c ∷ rest) rest)) f ∙ by (in_q && not c.destroyed)
   where
-    by : (b : Bool) → map (λ (c : Created). c.id) (cond b (c ∷ rest) rest) ≡ cond b (c.id ∷ map (λ (c : Created). c.id) rest) (map (λ (c : Created). c.id) rest)
+    by : (b : Bool) → map (λ (c : Surface). c.id) (cond b (c ∷ rest) rest) ≡ cond b (c.id ∷ map (λ (c : Surface). c.id) rest) (map (λ (c : Surface). c.id) rest)
     by true = refl
     by false = refl
 
@@ -357,18 +357,18 @@ one_filtered : (x : SurfaceId) (rest : List SurfaceId) (p : SurfaceId → Bool) 
 one_filtered x rest p true = refl
 one_filtered x rest p false = refl
 
-ids_cond : (b : Bool) (c : Created) (rest : List Created) → map (λ (c : Created). c.id) (cond b (c ∷ rest) rest) ≡ cond b (c.id ∷ map (λ (c : Created). c.id) rest) (map (λ (c : Created). c.id) rest)
+ids_cond : (b : Bool) (c : Surface) (rest : List Surface) → map (λ (c : Surface). c.id) (cond b (c ∷ rest) rest) ≡ cond b (c.id ∷ map (λ (c : Surface). c.id) rest) (map (λ (c : Surface). c.id) rest)
 ids_cond true c rest = refl
 ids_cond false c rest = refl
 
 -- one surface goes from its group
-ends_chain : (id q : SurfaceId) (ss : List Created) → chain_of q (map (ended_at id) ss) ≡ filter (λ (x : SurfaceId). not (same_surface x id)) (chain_of q ss)
+ends_chain : (id q : SurfaceId) (ss : List Surface) → chain_of q (map (ended_at id) ss) ≡ filter (λ (x : SurfaceId). not (same_surface x id)) (chain_of q ss)
 ends_chain id q [] = refl
 ends_chain id q (c ∷ ss) =
     let p = λ (x : SurfaceId). not (same_surface x id) in
-    one_ends id q c (filter (λ (c : Created). same_group c.id q && not c.destroyed) (map (ended_at id) ss)) (same_surface c.id id) (same_group c.id q) refl refl
+    one_ends id q c (filter (λ (c : Surface). same_group c.id q && not c.destroyed) (map (ended_at id) ss)) (same_surface c.id id) (same_group c.id q) refl refl
     ∙ (ap (λ l. cond (same_group c.id q && not c.destroyed) (cond (not (same_surface c.id id)) (c.id ∷ l) l) l) (ends_chain id q ss)
-    ∙ sym (ap (filter p) (ids_cond (same_group c.id q && not c.destroyed) c (filter (λ (c : Created). same_group c.id q && not c.destroyed) ss))
+    ∙ sym (ap (filter p) (ids_cond (same_group c.id q && not c.destroyed) c (filter (λ (c : Surface). same_group c.id q && not c.destroyed) ss))
     ∙ one_filtered c.id (chain_of q ss) p (same_group c.id q && not c.destroyed)))
 
 pub gone_groups : (id : SurfaceId) (st : Stored) (old new : Groups) → KeepsGroups old st
@@ -393,8 +393,8 @@ gone_groups id st old new h chain newest =
     gone_by q true g = refl
     gone_by q false g =
         sym (filter_all (λ (x : SurfaceId). not (same_surface x id)) (chain_at old q) (λ x p.
-        let m = contains_map (λ (c : Created). c.id) (filter (λ (c : Created). same_group c.id q && not c.destroyed) st.surfaces) x (subst (λ l. Contains l x) (h.chain q) p) in
-        let f = filter_at (λ (c : Created). same_group c.id q && not c.destroyed) st.surfaces m.0 m.1 in
+        let m = contains_map (λ (c : Surface). c.id) (filter (λ (c : Surface). same_group c.id q && not c.destroyed) st.surfaces) x (subst (λ l. Contains l x) (h.chain q) p) in
+        let f = filter_at (λ (c : Surface). same_group c.id q && not c.destroyed) st.surfaces m.0 m.1 in
         let on : same_group x q ≡ true = ap (λ i. same_group i q) (sym m.2) ∙ (and_parts (same_group m.0.id q) (not m.0.destroyed) f.1).0 in
         ap not (never (same_surface x id) (λ e. sym g ∙ (ap (λ i. same_group i q) (sym (from_same x id e)) ∙ on)))))
 

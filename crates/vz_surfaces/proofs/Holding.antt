@@ -12,7 +12,7 @@ use Rattle.vz_ids.specs.Ids.{same_surface}
 use Rattle.vz_pixels.specs.Block.{Block}
 use Rattle.vz_frame.specs.declared.frame.CompositorFrame.{CompositorFrame}
 use Rattle.vz_frame.specs.Frame.{frame_size}
-use Rattle.vz_rules.specs.World.{Created, Submission, is_waiting, is_on, sub_of}
+use Rattle.vz_rules.specs.World.{Surface as Created, Submission, is_waiting, is_on, sub_of}
 use Rattle.vz_rules.specs.Messages.{is_last, violates}
 use Rattle.vz_rules.specs.Kept.{last_in, stands_in, is_surface_of, is_by}
 use Rattle.vz_rules.proofs.Reached.{from_same, self_same}

@@ -1,7 +1,7 @@
 -- What always holds of the machine's state always holds of a store.
 use Rattle.std.proofs.Common.{◌≡◌, ◌+◌, ◌≤◌, true, List, map, take, refl, ap, sym, ◌∙◌, subst, count_by}
 use Rattle.vz_ids.specs.Ids.{is_raised}
-use Rattle.vz_rules.specs.World.{World, Client, Created, Submission}
+use Rattle.vz_rules.specs.World.{World, Client, Surface, Submission}
 use Rattle.vz_rules.specs.Kept.{KeepsAlways, KeepsSurfaces, KeepsNumbers, IsOfClient, is_surface_of, is_by}
 use Rattle.vz_rules.proofs.Members.{contains_map, map_contains, at_map}
 use Rattle.vz_rules.proofs.Counts.{count_same, take_map}
@@ -11,27 +11,27 @@ use Rattle.vz_surfaces.specs.Stored.{bare_surface, bare_sub, stored_of}
 use Rattle.vz_surfaces.specs.Keeping.{KeepsStored}
 use Rattle.vz_surfaces.proofs.Telling.{stands_bare}
 
-surfaces_bare : (cs : List Client) (ss : List Created) → KeepsSurfaces cs ss → KeepsSurfaces cs (map bare_surface ss)
+surfaces_bare : (cs : List Client) (ss : List Surface) → KeepsSurfaces cs ss → KeepsSurfaces cs (map bare_surface ss)
 surfaces_bare cs ss h =
     record {
       numbered = λ n s at.
           let m = at_map bare_surface ss n s at in
-          subst (λ (x : Created). x.number ≡ count_by (is_surface_of x.client) (take n (map bare_surface ss)) + 1) m.2
+          subst (λ (x : Surface). x.number ≡ count_by (is_surface_of x.client) (take n (map bare_surface ss)) + 1) m.2
           (h.numbered n m.0 m.1
           ∙ ap (λ k. k + 1) (sym (ap (count_by (is_surface_of m.0.client)) (take_map bare_surface n ss) ∙ count_same bare_surface (is_surface_of m.0.client) (is_surface_of m.0.client) (take n ss) (λ x. refl))));
-      of_clients = λ s c. let m = contains_map bare_surface ss s c in subst (λ (x : Created). IsOfClient cs x.client x.id) m.2 (h.of_clients m.0 m.1);
+      of_clients = λ s c. let m = contains_map bare_surface ss s c in subst (λ (x : Surface). IsOfClient cs x.client x.id) m.2 (h.of_clients m.0 m.1);
       go_on = λ n m s t p q l same.
           let a = at_map bare_surface ss n s p in
           let b = at_map bare_surface ss m t q in
-          subst (λ (x : Created). is_raised x.id.local t.id.local ≡ true) a.2
-          (subst (λ (x : Created). is_raised a.0.id.local x.id.local ≡ true) b.2
-          (h.go_on n m a.0 b.0 a.1 b.1 l (ap (λ (x : Created). x.client) a.2 ∙ (same ∙ ap (λ (x : Created). x.client) (sym b.2)))));
+          subst (λ (x : Surface). is_raised x.id.local t.id.local ≡ true) a.2
+          (subst (λ (x : Surface). is_raised a.0.id.local x.id.local ≡ true) b.2
+          (h.go_on n m a.0 b.0 a.1 b.1 l (ap (λ (x : Surface). x.client) a.2 ∙ (same ∙ ap (λ (x : Surface). x.client) (sym b.2)))));
       destroyed = λ s c d.
           let m = contains_map bare_surface ss s c in
-          ap (λ (x : Created). x.marked) (sym m.2) ∙ h.destroyed m.0 m.1 (ap (λ (x : Created). x.destroyed) m.2 ∙ d);
+          ap (λ (x : Surface). x.marked) (sym m.2) ∙ h.destroyed m.0 m.1 (ap (λ (x : Surface). x.destroyed) m.2 ∙ d);
     }
 
-numbers_bare : (ss : List Created) (subs : List Submission) → KeepsNumbers ss subs → KeepsNumbers (map bare_surface ss) subs
+numbers_bare : (ss : List Surface) (subs : List Submission) → KeepsNumbers ss subs → KeepsNumbers (map bare_surface ss) subs
 numbers_bare ss subs h =
     record {
       numbered = h.numbered;

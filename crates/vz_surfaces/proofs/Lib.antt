@@ -1,5 +1,5 @@
 pub mod Following
-pub mod Staying
+pub mod Stores_kept
 pub mod Telling
 pub mod Kept_of_world
 mod Finding
@@ -15,7 +15,6 @@ mod Destroying
 mod Holding
 mod Storing
 mod Storing_whole
-mod Ages
 mod Grouping
 mod Linking
 mod Retaining

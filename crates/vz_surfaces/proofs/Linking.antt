@@ -4,7 +4,7 @@ use Rattle.std.proofs.lemmas.List.{map-append}
 use Rattle.std.proofs.lemmas.Bool.{and_parts}
 use Rattle.vz_ids.specs.declared.SurfaceId.{SurfaceId}
 use Rattle.vz_ids.specs.Ids.{same_surface, same_group}
-use Rattle.vz_rules.specs.World.{Created}
+use Rattle.vz_rules.specs.World.{Surface}
 use Rattle.vz_rules.proofs.Reached.{self_same}
 use Rattle.vz_rules.proofs.Members.{contains_push, contains_map, map_contains, filter_at}
 use Rattle.vz_surfaces.specs.Stored.{Stored}
@@ -84,8 +84,8 @@ links_more t0 t1 g0 g1 last id key fresh keys links h = record { keys = λ q l c
 -- what is in a chain is of its group
 pub chain_group : (g : Groups) (st : Stored) → KeepsGroups g st → (q x : SurfaceId) → Contains (chain_at g q) x → same_group x q ≡ true
 chain_group g st h q x p =
-    let test = λ (c : Created). same_group c.id q && not c.destroyed in
-    let m = contains_map (λ (c : Created). c.id) (filter test st.surfaces) x (subst (λ l. Contains l x) (h.chain q) p) in
+    let test = λ (c : Surface). same_group c.id q && not c.destroyed in
+    let m = contains_map (λ (c : Surface). c.id) (filter test st.surfaces) x (subst (λ l. Contains l x) (h.chain q) p) in
     let f = filter_at test st.surfaces m.0 m.1 in
     ap (λ i. same_group i q) (sym m.2) ∙ (and_parts (same_group m.0.id q) (not m.0.destroyed) f.1).0
 

@@ -11,7 +11,7 @@ use Rattle.vz_ids.specs.declared.SurfaceId.{SurfaceId}
 use Rattle.vz_ids.specs.Ids.{same_surface}
 use Rattle.vz_pixels.specs.Block.{Block}
 use Rattle.vz_frame.specs.declared.frame.CompositorFrame.{CompositorFrame}
-use Rattle.vz_rules.specs.World.{Created, Submission}
+use Rattle.vz_rules.specs.World.{Surface, Submission}
 use Rattle.vz_rules.specs.Settle.{is_before, marked_by}
 use Rattle.vz_rules.specs.Messages.{is_last, mark_of}
 use Rattle.vz_rules.specs.Kept.{last_in, is_surface_of}
@@ -32,48 +32,48 @@ client_test : (c q : ℕ) → nat_eq c q ≡ (c == q)
 client_test c q = grind (arith, nat_tests)
 
 -- the list of a client
-abbrev pub list_of : ℕ → List Created → List Numbered
-list_of q ss = map numbered_of (filter (λ (x : Created). (x.client == q) && not x.destroyed) ss)
+abbrev pub list_of : ℕ → List Surface → List Numbered
+list_of q ss = map numbered_of (filter (λ (x : Surface). (x.client == q) && not x.destroyed) ss)
 
 pub lists_alike : (old new : Standing) (st : Stored) → ((q : ℕ) → list_at new q ≡ list_at old q) → KeepsLists old st → KeepsLists new st
 lists_alike old new st same h = record { lists = λ q. same q ∙ h.lists q; rise = λ q. subst Rises (sym (same q)) (h.rise q) }
 
 -- surfaces keep what lists have of them
-lists_same : (g : Created → Created) (s : Standing) (st : Stored) (ss : List Submission) → ((x : Created) → numbered_of (g x) ≡ numbered_of x) → ((q : ℕ) (x : Created) → (((g x).client == q) && not (g x).destroyed) ≡ ((x.client == q) && not x.destroyed))
+lists_same : (g : Surface → Surface) (s : Standing) (st : Stored) (ss : List Submission) → ((x : Surface) → numbered_of (g x) ≡ numbered_of x) → ((q : ℕ) (x : Surface) → (((g x).client == q) && not (g x).destroyed) ≡ ((x.client == q) && not x.destroyed))
     → KeepsLists s st → KeepsLists s (record { surfaces = map g st.surfaces; subs = ss })
 lists_same g s st ss same test h =
-    record { lists = λ q. h.lists q ∙ sym (read_same g numbered_of (λ (x : Created). (x.client == q) && not x.destroyed) st.surfaces same (test q)); rise = h.rise }
+    record { lists = λ q. h.lists q ∙ sym (read_same g numbered_of (λ (x : Surface). (x.client == q) && not x.destroyed) st.surfaces same (test q)); rise = h.rise }
 
 pub raised_lists : (s : Standing) (st : Stored) (x : Submission) → KeepsLists s st → KeepsLists s (raising x st)
 unfolding raising
 raised_lists s st x h =
-    let marks = λ (c : Created). record c { marked = true } in
+    let marks = λ (c : Surface). record c { marked = true } in
     lists_same (marked_by st.surfaces (x ∷ [])) s st _
     (λ c. when_same numbered_of marks (list_any (is_before st.surfaces c) (x ∷ [])) c refl)
-    (λ q c. when_same (λ (y : Created). (y.client == q) && not y.destroyed) marks (list_any (is_before st.surfaces c) (x ∷ [])) c refl) h
+    (λ q c. when_same (λ (y : Surface). (y.client == q) && not y.destroyed) marks (list_any (is_before st.surfaces c) (x ∷ [])) c refl) h
 
 pub marked_lists : (s : Standing) (st : Stored) (c : ℕ) → KeepsLists s st → KeepsLists s (marking c st)
 unfolding marking
 marked_lists s st c h =
-    let marks = λ (c : Created). record c { marked = true } in
+    let marks = λ (c : Surface). record c { marked = true } in
     lists_same (mark_of c) s st st.subs (λ x. when_same numbered_of marks (x.client == c) x refl)
-    (λ q x. when_same (λ (y : Created). (y.client == q) && not y.destroyed) marks (x.client == c) x refl) h
+    (λ q x. when_same (λ (y : Surface). (y.client == q) && not y.destroyed) marks (x.client == c) x refl) h
 
 -- Accepting
 
 module _ (st : Stored) (c : ℕ) (sink : FrameSinkId) (local : LocalSurfaceId) (frame : CompositorFrame) (blocks : List Block) where
-  abbrev fresh_one : Created
+  abbrev fresh_one : Surface
   fresh_one = new_surface c (surface_of sink local) frame st.surfaces
 
   list_by : (t : Bool) (q : ℕ) → list_of q (cond t st.surfaces (st.surfaces ++ fresh_one ∷ [])) ≡ cond (not t && (c == q)) (list_of q st.surfaces ++ numbered_of fresh_one ∷ []) (list_of q st.surfaces)
   list_by true q = refl
   list_by false q =
-      ap (map numbered_of) (filter-append (λ (x : Created). (x.client == q) && not x.destroyed) st.surfaces (fresh_one ∷ [])) ∙ by (c == q)
+      ap (map numbered_of) (filter-append (λ (x : Surface). (x.client == q) && not x.destroyed) st.surfaces (fresh_one ∷ [])) ∙ by (c == q)
     where
-      by : (b : Bool) → map numbered_of (filter (λ (x : Created). (x.client == q) && not x.destroyed) st.surfaces ++ cond (b && true) (fresh_one ∷ []) [])
+      by : (b : Bool) → map numbered_of (filter (λ (x : Surface). (x.client == q) && not x.destroyed) st.surfaces ++ cond (b && true) (fresh_one ∷ []) [])
           ≡ cond b (list_of q st.surfaces ++ numbered_of fresh_one ∷ []) (list_of q st.surfaces)
-      by true = map-append numbered_of (filter (λ (x : Created). (x.client == q) && not x.destroyed) st.surfaces) (fresh_one ∷ [])
-      by false = ap (map numbered_of) (append-nil (filter (λ (x : Created). (x.client == q) && not x.destroyed) st.surfaces))
+      by true = map-append numbered_of (filter (λ (x : Surface). (x.client == q) && not x.destroyed) st.surfaces) (fresh_one ∷ [])
+      by false = ap (map numbered_of) (append-nil (filter (λ (x : Surface). (x.client == q) && not x.destroyed) st.surfaces))
 
   pub stored_lists : (old new : Standing) (o : Owners) (last : Bool) (created : ℕ) → HasNumber c → KeepsOwners o st → KeepsMarks o st → KeepsLists old st → last ≡ is_last (last_in st.surfaces c) local → created ≡ (owner_at o c).created
       → ((q : ℕ) → list_at new q ≡ cond (not last && nat_eq c q) (list_at old q ++ record { number = created + 1; id = surface_of sink local } ∷ []) (list_at old q)) → KeepsLists new (storing c sink local frame blocks st)
@@ -96,15 +96,15 @@ module _ (st : Stored) (c : ℕ) (sink : FrameSinkId) (local : LocalSurfaceId) (
       rises q true true e =
           subst (λ (x : Bool). Rises (cond x (list_at old q ++ record { number = created + 1; id = surface_of sink local } ∷ []) (list_at old q))) (sym e)
           (rises_more (list_at old q) (record { number = created + 1; id = surface_of sink local }) (h.rise q) (λ x p.
-          let m = contains_map numbered_of (filter (λ (x : Created). (x.client == q) && not x.destroyed) st.surfaces) x (subst (λ l. Contains l x) (h.lists q) p) in
-          let f = filter_at (λ (x : Created). (x.client == q) && not x.destroyed) st.surfaces m.0 m.1 in
+          let m = contains_map numbered_of (filter (λ (x : Surface). (x.client == q) && not x.destroyed) st.surfaces) x (subst (λ l. Contains l x) (h.lists q) p) in
+          let f = filter_at (λ (x : Surface). (x.client == q) && not x.destroyed) st.surfaces m.0 m.1 in
           let own : m.0.client ≡ c = eqb-true m.0.client q (and_parts (m.0.client == q) (not m.0.destroyed) f.1).0 ∙ sym (eqb-true c q (sym (client_test c q) ∙ e)) in
           omega (arith, (hm.numbers m.0 f.0).1, ap (λ k. (owner_at o k).created) own, made, ap (λ (y : Numbered). y.number) m.2)))
       rises q true false e = subst (λ (x : Bool). Rises (cond x (list_at old q ++ record { number = created + 1; id = surface_of sink local } ∷ []) (list_at old q))) (sym e) (h.rise q)
 
 -- Destroying
 
-ends_one : (id : SurfaceId) (q : ℕ) (c : Created) (rest : List Created) (same in_q : Bool) → same_surface c.id id ≡ same → (c.client == q) ≡ in_q
+ends_one : (id : SurfaceId) (q : ℕ) (c : Surface) (rest : List Surface) (same in_q : Bool) → same_surface c.id id ≡ same → (c.client == q) ≡ in_q
     → map numbered_of (cond (((cond same (record c { destroyed = true }) c).client == q) && not (cond same (record c { destroyed = true }) c).destroyed) (cond same (record c { destroyed = true }) c ∷ rest) rest)
     ≡ cond (in_q && not c.destroyed) (cond (not same) (numbered_of c ∷ map numbered_of rest) (map numbered_of rest)) (map numbered_of rest)
 ends_one id q c rest true in_q e f = gone (c.client == q) ∙ sym (both_same (in_q && not c.destroyed))
@@ -126,21 +126,21 @@ filtered_one : (x : Numbered) (rest : List Numbered) (p : Numbered → Bool) (b 
 filtered_one x rest p true = refl
 filtered_one x rest p false = refl
 
-mapped_cond : (b : Bool) (c : Created) (rest : List Created) → map numbered_of (cond b (c ∷ rest) rest) ≡ cond b (numbered_of c ∷ map numbered_of rest) (map numbered_of rest)
+mapped_cond : (b : Bool) (c : Surface) (rest : List Surface) → map numbered_of (cond b (c ∷ rest) rest) ≡ cond b (numbered_of c ∷ map numbered_of rest) (map numbered_of rest)
 mapped_cond true c rest = refl
 mapped_cond false c rest = refl
 
-ends_list : (id : SurfaceId) (q : ℕ) (ss : List Created) → list_of q (map (ended_at id) ss) ≡ filter (λ (x : Numbered). not (same_surface x.id id)) (list_of q ss)
+ends_list : (id : SurfaceId) (q : ℕ) (ss : List Surface) → list_of q (map (ended_at id) ss) ≡ filter (λ (x : Numbered). not (same_surface x.id id)) (list_of q ss)
 ends_list id q [] = refl
 ends_list id q (c ∷ ss) =
     let p = λ (x : Numbered). not (same_surface x.id id) in
-    ends_one id q c (filter (λ (x : Created). (x.client == q) && not x.destroyed) (map (ended_at id) ss)) (same_surface c.id id) (c.client == q) refl refl
+    ends_one id q c (filter (λ (x : Surface). (x.client == q) && not x.destroyed) (map (ended_at id) ss)) (same_surface c.id id) (c.client == q) refl refl
     ∙ (ap (λ l. cond ((c.client == q) && not c.destroyed) (cond (not (same_surface c.id id)) (numbered_of c ∷ l) l) l) (ends_list id q ss)
-    ∙ sym (ap (filter p) (mapped_cond ((c.client == q) && not c.destroyed) c (filter (λ (x : Created). (x.client == q) && not x.destroyed) ss))
+    ∙ sym (ap (filter p) (mapped_cond ((c.client == q) && not c.destroyed) c (filter (λ (x : Surface). (x.client == q) && not x.destroyed) ss))
     ∙ filtered_one (numbered_of c) (list_of q ss) p ((c.client == q) && not c.destroyed)))
 
 -- the surface of an id is of one client alone
-pub gone_lists : (id : SurfaceId) (c : ℕ) (st : Stored) (old new : Standing) → KeepsLists old st → ((s : Created) → Contains st.surfaces s → same_surface s.id id ≡ true → s.client ≡ c)
+pub gone_lists : (id : SurfaceId) (c : ℕ) (st : Stored) (old new : Standing) → KeepsLists old st → ((s : Surface) → Contains st.surfaces s → same_surface s.id id ≡ true → s.client ≡ c)
     → ((q : ℕ) → list_at new q ≡ cond (nat_eq c q) (filter (λ (x : Numbered). not (same_surface x.id id)) (list_at old q)) (list_at old q)) → KeepsLists new (destroying id st)
 unfolding destroying
 gone_lists id c st old new h one goes =
@@ -153,8 +153,8 @@ gone_lists id c st old new h one goes =
     gone_by q true g = refl
     gone_by q false g =
         sym (filter_all (λ (x : Numbered). not (same_surface x.id id)) (list_at old q) (λ x p.
-        let m = contains_map numbered_of (filter (λ (x : Created). (x.client == q) && not x.destroyed) st.surfaces) x (subst (λ l. Contains l x) (h.lists q) p) in
-        let f = filter_at (λ (x : Created). (x.client == q) && not x.destroyed) st.surfaces m.0 m.1 in
+        let m = contains_map numbered_of (filter (λ (x : Surface). (x.client == q) && not x.destroyed) st.surfaces) x (subst (λ l. Contains l x) (h.lists q) p) in
+        let f = filter_at (λ (x : Surface). (x.client == q) && not x.destroyed) st.surfaces m.0 m.1 in
         let own = eqb-true m.0.client q (and_parts (m.0.client == q) (not m.0.destroyed) f.1).0 in
         ap not (never (same_surface x.id id) (λ e. sym g ∙ same_client (sym (one m.0 f.0 (ap (λ (y : Numbered). same_surface y.id id) m.2 ∙ e)) ∙ own)))))
       where
@@ -166,7 +166,7 @@ gone_lists id c st old new h one goes =
 
 -- Marked ones
 
-front_one : (n : ℕ) (q : ℕ) (c : Created) (rest : List Numbered) (ids : List SurfaceId) (in_q nd m : Bool) → ids ≡ map (λ (x : Numbered). x.id) (filter (λ (x : Numbered). nat_le x.number n) rest)
+front_one : (n : ℕ) (q : ℕ) (c : Surface) (rest : List Numbered) (ids : List SurfaceId) (in_q nd m : Bool) → ids ≡ map (λ (x : Numbered). x.id) (filter (λ (x : Numbered). nat_le x.number n) rest)
     → (in_q ≡ true → m ≡ nat_le c.number n)
     → map (λ (x : Numbered). x.id) (filter (λ (x : Numbered). nat_le x.number n) (cond (in_q && nd) (numbered_of c ∷ rest) rest)) ≡ cond (in_q && m && nd) (c.id ∷ ids) ids
 front_one n q c rest ids false nd m e f = sym e
@@ -183,16 +183,16 @@ front_one n q c rest ids true true m e f = by (nat_le c.number n) m (f refl)
     by true false g = absurd (cc)
     by false true g = absurd (cc)
 
-marks_front : (n q : ℕ) (ss : List Created) → ((s : Created) → Contains ss s → (s.client == q) ≡ true → s.marked ≡ nat_le s.number n)
-    → map (λ (x : Numbered). x.id) (filter (λ (x : Numbered). nat_le x.number n) (list_of q ss)) ≡ map (λ (s : Created). s.id) (filter (λ (s : Created). (s.client == q) && s.marked && not s.destroyed) ss)
+marks_front : (n q : ℕ) (ss : List Surface) → ((s : Surface) → Contains ss s → (s.client == q) ≡ true → s.marked ≡ nat_le s.number n)
+    → map (λ (x : Numbered). x.id) (filter (λ (x : Numbered). nat_le x.number n) (list_of q ss)) ≡ map (λ (s : Surface). s.id) (filter (λ (s : Surface). (s.client == q) && s.marked && not s.destroyed) ss)
 marks_front n q [] h = refl
 marks_front n q (c ∷ ss) h =
-    ap (λ l. map (λ (x : Numbered). x.id) (filter (λ (x : Numbered). nat_le x.number n) l)) (mapped_cond ((c.client == q) && not c.destroyed) c (filter (λ (x : Created). (x.client == q) && not x.destroyed) ss))
-    ∙ (front_one n q c (list_of q ss) (map (λ (s : Created). s.id) (filter (λ (s : Created). (s.client == q) && s.marked && not s.destroyed) ss)) (c.client == q) (not c.destroyed) c.marked
+    ap (λ l. map (λ (x : Numbered). x.id) (filter (λ (x : Numbered). nat_le x.number n) l)) (mapped_cond ((c.client == q) && not c.destroyed) c (filter (λ (x : Surface). (x.client == q) && not x.destroyed) ss))
+    ∙ (front_one n q c (list_of q ss) (map (λ (s : Surface). s.id) (filter (λ (s : Surface). (s.client == q) && s.marked && not s.destroyed) ss)) (c.client == q) (not c.destroyed) c.marked
     (sym (marks_front n q ss (λ s p. h s (contains_there c s ss p)))) (h c (contains_here c ss))
-    ∙ sym (ids_cond ((c.client == q) && c.marked && not c.destroyed) (filter (λ (s : Created). (s.client == q) && s.marked && not s.destroyed) ss)))
+    ∙ sym (ids_cond ((c.client == q) && c.marked && not c.destroyed) (filter (λ (s : Surface). (s.client == q) && s.marked && not s.destroyed) ss)))
   where
-    ids_cond : (b : Bool) (rest : List Created) → map (λ (s : Created). s.id) (cond b (c ∷ rest) rest) ≡ cond b (c.id ∷ map (λ (s : Created). s.id) rest) (map (λ (s : Created). s.id) rest)
+    ids_cond : (b : Bool) (rest : List Surface) → map (λ (s : Surface). s.id) (cond b (c ∷ rest) rest) ≡ cond b (c.id ∷ map (λ (s : Surface). s.id) rest) (map (λ (s : Surface). s.id) rest)
     ids_cond true rest = refl
     ids_cond false rest = refl
 
@@ -207,18 +207,18 @@ front_marked s o st q h hm =
 -- the numbers of a client's surfaces begin at 1
 pub numbers_begin : (s : Standing) (o : Owners) (st : Stored) (q : ℕ) → KeepsLists s st → KeepsMarks o st → (x : Numbered) → Contains (list_at s q) x → 1 ≤ x.number
 numbers_begin s o st q h hm x c =
-    let m = contains_map numbered_of (filter (λ (y : Created). (y.client == q) && not y.destroyed) st.surfaces) x (subst (λ l. Contains l x) (h.lists q) c) in
-    let f = filter_at (λ (y : Created). (y.client == q) && not y.destroyed) st.surfaces m.0 m.1 in
+    let m = contains_map numbered_of (filter (λ (y : Surface). (y.client == q) && not y.destroyed) st.surfaces) x (subst (λ l. Contains l x) (h.lists q) c) in
+    let f = filter_at (λ (y : Surface). (y.client == q) && not y.destroyed) st.surfaces m.0 m.1 in
     omega (arith, (hm.numbers m.0 f.0).0, ap (λ (y : Numbered). y.number) m.2)
 
 -- How many are marked
 
-marked_few : (q : ℕ) (ss : List Created) → length (filter (λ (s : Created). (s.client == q) && s.marked && not s.destroyed) ss) ≤ count_by (λ (s : Created). (s.client == q) && not s.destroyed) ss
+marked_few : (q : ℕ) (ss : List Surface) → length (filter (λ (s : Surface). (s.client == q) && s.marked && not s.destroyed) ss) ≤ count_by (λ (s : Surface). (s.client == q) && not s.destroyed) ss
 marked_few q [] = omega arith
-marked_few q (c ∷ ss) = omega (arith, by (c.client == q) c.marked (not c.destroyed), count_cons (λ (s : Created). (s.client == q) && not s.destroyed) c ss, marked_few q ss)
+marked_few q (c ∷ ss) = omega (arith, by (c.client == q) c.marked (not c.destroyed), count_cons (λ (s : Surface). (s.client == q) && not s.destroyed) c ss, marked_few q ss)
   where
-    by : (a m d : Bool) → length (cond (a && m && d) (c ∷ filter (λ (s : Created). (s.client == q) && s.marked && not s.destroyed) ss) (filter (λ (s : Created). (s.client == q) && s.marked && not s.destroyed) ss))
-        ≤ cond (a && d) 1 0 + length (filter (λ (s : Created). (s.client == q) && s.marked && not s.destroyed) ss)
+    by : (a m d : Bool) → length (cond (a && m && d) (c ∷ filter (λ (s : Surface). (s.client == q) && s.marked && not s.destroyed) ss) (filter (λ (s : Surface). (s.client == q) && s.marked && not s.destroyed) ss))
+        ≤ cond (a && d) 1 0 + length (filter (λ (s : Surface). (s.client == q) && s.marked && not s.destroyed) ss)
     by true true true = omega arith
     by true true false = omega arith
     by true false true = omega arith
@@ -226,16 +226,16 @@ marked_few q (c ∷ ss) = omega (arith, by (c.client == q) c.marked (not c.destr
     by false m d = omega arith
 
 -- those of the first clients that exist
-abbrev in_first : ℕ → Created → Bool
+abbrev in_first : ℕ → Surface → Bool
 in_first n s = nat_le s.client n && not s.destroyed
 
-count_split : (n : ℕ) (ss : List Created) → count_by (in_first n) ss + count_by (λ (s : Created). (s.client == (n + 1)) && not s.destroyed) ss ≤ count_by (in_first (n + 1)) ss
+count_split : (n : ℕ) (ss : List Surface) → count_by (in_first n) ss + count_by (λ (s : Surface). (s.client == (n + 1)) && not s.destroyed) ss ≤ count_by (in_first (n + 1)) ss
 count_split n [] = omega arith
 count_split n (c ∷ ss) =
     omega (
       arith,
       count_cons (in_first n) c ss,
-      count_cons (λ (s : Created). (s.client == (n + 1)) && not s.destroyed) c ss,
+      count_cons (λ (s : Surface). (s.client == (n + 1)) && not s.destroyed) c ss,
       count_cons (in_first (n + 1)) c ss,
       count_split n ss,
       by (nat_le c.client n) (c.client == (n + 1)) (nat_le c.client (n + 1)) (not c.destroyed) (λ e. grind (arith, nat_tests)) (λ e. grind (arith, nat_tests)) (λ e f. grind (arith, nat_tests)),
@@ -251,9 +251,9 @@ count_split n (c ∷ ss) =
     by false true d nd f g h = let e : d ≡ true = g refl in rw e (omega arith)
     by false false d nd f g h = omega arith
 
-all_first : (n : ℕ) (ss : List Created) → count_by (in_first n) ss ≤ count_by (λ (s : Created). not s.destroyed) ss
+all_first : (n : ℕ) (ss : List Surface) → count_by (in_first n) ss ≤ count_by (λ (s : Surface). not s.destroyed) ss
 all_first n [] = omega arith
-all_first n (c ∷ ss) = omega (arith, count_cons (in_first n) c ss, count_cons (λ (s : Created). not s.destroyed) c ss, all_first n ss, by (nat_le c.client n) (not c.destroyed))
+all_first n (c ∷ ss) = omega (arith, count_cons (in_first n) c ss, count_cons (λ (s : Surface). not s.destroyed) c ss, all_first n ss, by (nat_le c.client n) (not c.destroyed))
   where
     by : (a d : Bool) → cond (a && d) 1 0 ≤ cond d 1 0
     by true d = omega arith
@@ -267,7 +267,7 @@ marked_first (suc n) st =
     omega (
       arith,
       length-append (marked_to n st) (marked_of (n + 1) st),
-      length-map (filter (λ (s : Created). (s.client == (n + 1)) && s.marked && not s.destroyed) st.surfaces) (λ (s : Created). s.id),
+      length-map (filter (λ (s : Surface). (s.client == (n + 1)) && s.marked && not s.destroyed) st.surfaces) (λ (s : Surface). s.id),
       marked_first n st,
       marked_few (n + 1) st.surfaces,
       count_split n st.surfaces,

@@ -9,7 +9,7 @@ use Rattle.vz_ids.specs.Ids.{same_surface}
 use Rattle.vz_geom.specs.declared.Size.{Size}
 use Rattle.vz_pixels.specs.Block.{Block}
 use Rattle.vz_frame.specs.declared.frame.CompositorFrame.{CompositorFrame}
-use Rattle.vz_rules.specs.World.{Created, Submission}
+use Rattle.vz_rules.specs.World.{Surface, Submission}
 use Rattle.vz_rules.specs.Settle.{is_before, marked_by}
 use Rattle.vz_rules.specs.Messages.{is_last, mark_of}
 use Rattle.vz_rules.specs.Kept.{last_in, is_surface_of}
@@ -24,26 +24,26 @@ use Rattle.vz_surfaces.specs.Memory.{owner_at, HasNumber, KeepsOwners, KeepsMark
 use Rattle.vz_surfaces.proofs.Raising.{Waits_in}
 
 -- a surface keeps its number and its mark
-pub record KeepsMark (g : Created → Created) : Type 0 where
-  pub client : (c : Created) → (g c).client ≡ c.client
-  pub number : (c : Created) → (g c).number ≡ c.number
-  pub marked : (c : Created) → (g c).marked ≡ c.marked
+pub record KeepsMark (g : Surface → Surface) : Type 0 where
+  pub client : (c : Surface) → (g c).client ≡ c.client
+  pub number : (c : Surface) → (g c).number ≡ c.number
+  pub marked : (c : Surface) → (g c).marked ≡ c.marked
 
-numbered_in : (o : Owners) (s t : Created) → t.client ≡ s.client → t.number ≡ s.number → (1 ≤ s.number) × (s.number ≤ (owner_at o s.client).created) → (1 ≤ t.number) × (t.number ≤ (owner_at o t.client).created)
+numbered_in : (o : Owners) (s t : Surface) → t.client ≡ s.client → t.number ≡ s.number → (1 ≤ s.number) × (s.number ≤ (owner_at o s.client).created) → (1 ≤ t.number) × (t.number ≤ (owner_at o t.client).created)
 numbered_in o s t c n h = (omega (arith, n, h.0), omega (arith, n, h.1, ap (λ k. (owner_at o k).created) c))
 
 pub gone_marks : (id : SurfaceId) (st : Stored) (o : Owners) → KeepsMarks o st → KeepsMarks o (destroying id st)
 unfolding destroying
 gone_marks id st o h =
-    let ends = λ (s : Created). record s { destroyed = true } in
+    let ends = λ (s : Surface). record s { destroyed = true } in
     record {
-      clients = λ t p. let m = contains_map (ended_at id) st.surfaces t p in subst (λ (s : Created). HasNumber s.client) m.2
-          (subst HasNumber (sym (when_same (λ (y : Created). y.client) ends (same_surface m.0.id id) m.0 refl)) (h.clients m.0 m.1));
-      numbers = λ t p. let m = contains_map (ended_at id) st.surfaces t p in subst (λ (s : Created). (1 ≤ s.number) × (s.number ≤ (owner_at o s.client).created)) m.2
-          (numbered_in o m.0 (ended_at id m.0) (when_same (λ (y : Created). y.client) ends (same_surface m.0.id id) m.0 refl) (when_same (λ (y : Created). y.number) ends (same_surface m.0.id id) m.0 refl) (h.numbers m.0 m.1));
-      marks = λ t p. let m = contains_map (ended_at id) st.surfaces t p in subst (λ (s : Created). s.marked ≡ nat_le s.number (owner_at o s.client).marked_to) m.2
-          (when_same (λ (y : Created). y.marked) ends (same_surface m.0.id id) m.0 refl
-          ∙ (h.marks m.0 m.1 ∙ sym (when_same (λ (y : Created). nat_le y.number (owner_at o y.client).marked_to) ends (same_surface m.0.id id) m.0 refl)));
+      clients = λ t p. let m = contains_map (ended_at id) st.surfaces t p in subst (λ (s : Surface). HasNumber s.client) m.2
+          (subst HasNumber (sym (when_same (λ (y : Surface). y.client) ends (same_surface m.0.id id) m.0 refl)) (h.clients m.0 m.1));
+      numbers = λ t p. let m = contains_map (ended_at id) st.surfaces t p in subst (λ (s : Surface). (1 ≤ s.number) × (s.number ≤ (owner_at o s.client).created)) m.2
+          (numbered_in o m.0 (ended_at id m.0) (when_same (λ (y : Surface). y.client) ends (same_surface m.0.id id) m.0 refl) (when_same (λ (y : Surface). y.number) ends (same_surface m.0.id id) m.0 refl) (h.numbers m.0 m.1));
+      marks = λ t p. let m = contains_map (ended_at id) st.surfaces t p in subst (λ (s : Surface). s.marked ≡ nat_le s.number (owner_at o s.client).marked_to) m.2
+          (when_same (λ (y : Surface). y.marked) ends (same_surface m.0.id id) m.0 refl
+          ∙ (h.marks m.0 m.1 ∙ sym (when_same (λ (y : Surface). nat_le y.number (owner_at o y.client).marked_to) ends (same_surface m.0.id id) m.0 refl)));
       created = h.created;
     }
 
@@ -123,7 +123,7 @@ module _ (old new : Owners) (c n : ℕ) (set : (q : ℕ) → 1 ≤ q → owner_a
           )
       by false e = omega (arith, at_other_client q k.0 e, same_created q k.0, h.created q k)
 
-marked_when : (t : Bool) (s : Created) → (cond t (record s { marked = true }) s).marked ≡ cond t true s.marked
+marked_when : (t : Bool) (s : Surface) → (cond t (record s { marked = true }) s).marked ≡ cond t true s.marked
 marked_when true s = refl
 marked_when false s = refl
 
@@ -133,25 +133,25 @@ pub marking_marks : (old new : Owners) (c : ℕ) (st : Stored) → HasNumber c �
 unfolding marking
 marking_marks old new c st number h set =
     let n = (owner_at old c).created in
-    let marks = λ (s : Created). record s { marked = true } in
+    let marks = λ (s : Surface). record s { marked = true } in
     record {
-      clients = λ t p. let m = contains_map (mark_of c) st.surfaces t p in subst (λ (s : Created). HasNumber s.client) m.2
-          (subst HasNumber (sym (when_same (λ (y : Created). y.client) marks (m.0.client == c) m.0 refl)) (h.clients m.0 m.1));
+      clients = λ t p. let m = contains_map (mark_of c) st.surfaces t p in subst (λ (s : Surface). HasNumber s.client) m.2
+          (subst HasNumber (sym (when_same (λ (y : Surface). y.client) marks (m.0.client == c) m.0 refl)) (h.clients m.0 m.1));
       numbers = λ t p.
           let m = contains_map (mark_of c) st.surfaces t p in
           let was = h.numbers m.0 m.1 in
-          subst (λ (s : Created). (1 ≤ s.number) × (s.number ≤ (owner_at new s.client).created)) m.2
-          (numbered_in new m.0 (mark_of c m.0) (when_same (λ (y : Created). y.client) marks (m.0.client == c) m.0 refl) (when_same (λ (y : Created). y.number) marks (m.0.client == c) m.0 refl)
+          subst (λ (s : Surface). (1 ≤ s.number) × (s.number ≤ (owner_at new s.client).created)) m.2
+          (numbered_in new m.0 (mark_of c m.0) (when_same (λ (y : Surface). y.client) marks (m.0.client == c) m.0 refl) (when_same (λ (y : Surface). y.number) marks (m.0.client == c) m.0 refl)
           (was.0, omega (arith, was.1, same_created old new c n set m.0.client (h.clients m.0 m.1).0)));
       marks = λ t p.
           let m = contains_map (mark_of c) st.surfaces t p in
           let k = h.clients m.0 m.1 in
-          subst (λ (s : Created). s.marked ≡ nat_le s.number (owner_at new s.client).marked_to) m.2
-          (marked_when (m.0.client == c) m.0 ∙ (by m.0 m.1 (m.0.client == c) refl ∙ sym (when_same (λ (y : Created). nat_le y.number (owner_at new y.client).marked_to) marks (m.0.client == c) m.0 refl)));
+          subst (λ (s : Surface). s.marked ≡ nat_le s.number (owner_at new s.client).marked_to) m.2
+          (marked_when (m.0.client == c) m.0 ∙ (by m.0 m.1 (m.0.client == c) refl ∙ sym (when_same (λ (y : Surface). nat_le y.number (owner_at new y.client).marked_to) marks (m.0.client == c) m.0 refl)));
       created = capped old new c n set st h (λ q e k. omega (arith, ap (λ k. (owner_at old k).created) e));
     }
   where
-    by : (s : Created) → Contains st.surfaces s → (t : Bool) → (s.client == c) ≡ t → cond t true s.marked ≡ nat_le s.number (owner_at new s.client).marked_to
+    by : (s : Surface) → Contains st.surfaces s → (t : Bool) → (s.client == c) ≡ t → cond t true s.marked ≡ nat_le s.number (owner_at new s.client).marked_to
     by s p true e =
         let k = h.clients s p in
         let same = eqb-true s.client c e in
@@ -171,57 +171,57 @@ mark_max k n m h = by (nat_lt k n) refl (nat_le (n - 1) m) refl
     by false e false f = grind (arith, nat_tests)
 
 -- the surface of an id is one
-pub one_surface : (st : Stored) (s t : Created) → KeepsStored st → Contains st.surfaces s → Contains st.surfaces t → s.id ≡ t.id → s ≡ t
+pub one_surface : (st : Stored) (s t : Surface) → KeepsStored st → Contains st.surfaces s → Contains st.surfaces t → s.id ≡ t.id → s ≡ t
 one_surface st s t keeps p q e =
     let n = contains_at st.surfaces s p in
     let m = contains_at st.surfaces t q in
     at_same st.surfaces n.0 m.0 s t n.1 m.1
     (surfaces_differ keeps.clients st.surfaces keeps.sinks keeps.surfaces n.0 m.0 s t n.1 m.1 (ap (λ i. same_surface i t.id) e ∙ self_same t.id))
 
-number_by : (st : Stored) (x : Submission) (s : Created) → KeepsStored st → Contains st.surfaces s → s.id ≡ x.submitted.id → (o : Option Created) → find (λ c. same_surface c.id x.submitted.id) st.surfaces ≡ o
+number_by : (st : Stored) (x : Submission) (s : Surface) → KeepsStored st → Contains st.surfaces s → s.id ≡ x.submitted.id → (o : Option Surface) → find (λ c. same_surface c.id x.submitted.id) st.surfaces ≡ o
     → (elim o as (λ o. ℕ) [ Some c ↦ c.number | None ↦ 0 ]) ≡ s.number
 number_by st x s keeps p e None f =
     absurd (both_ways (is_some (find (λ c. same_surface c.id x.submitted.id) st.surfaces)) (ap is_some f)
     (found (λ c. same_surface c.id x.submitted.id) st.surfaces ∙ any_from (λ c. same_surface c.id x.submitted.id) st.surfaces s p (ap (λ i. same_surface i x.submitted.id) e ∙ self_same x.submitted.id)))
 number_by st x s keeps p e (Some t) f =
     let there = find_at (λ c. same_surface c.id x.submitted.id) st.surfaces t f in
-    ap (λ (c : Created). c.number) (one_surface st t s keeps there.0 p (from_same t.id x.submitted.id there.1 ∙ sym e))
+    ap (λ (c : Surface). c.number) (one_surface st t s keeps there.0 p (from_same t.id x.submitted.id there.1 ∙ sym e))
 
 module _ (st : Stored) (x : Submission) (keeps : KeepsStored st) (in_it : Waits_in st x) where
   -- the surface on which it waits is one of its client's
-  pub own_client : (s : Created) → Contains st.surfaces s → s.id ≡ x.submitted.id → s.client ≡ x.submitted.sub.client
+  pub own_client : (s : Surface) → Contains st.surfaces s → s.id ≡ x.submitted.id → s.client ≡ x.submitted.sub.client
   own_client s p e =
       let made = keeps.numbers.created x in_it.there in
-      ap (λ (c : Created). c.client) (one_surface st s made.0 keeps p made.1 (e ∙ sym made.2)) ∙ made.3
+      ap (λ (c : Surface). c.client) (one_surface st s made.0 keeps p made.1 (e ∙ sym made.2)) ∙ made.3
 
-  pub raised_marks : (old new : Owners) (c0 : Created) → Contains st.surfaces c0 → c0.id ≡ x.submitted.id → KeepsMarks old st
+  pub raised_marks : (old new : Owners) (c0 : Surface) → Contains st.surfaces c0 → c0.id ≡ x.submitted.id → KeepsMarks old st
       → ((q : ℕ) → 1 ≤ q → owner_at new q ≡ cond (q == x.submitted.sub.client) (marked_up (c0.number - 1) (owner_at old x.submitted.sub.client)) (owner_at old q)) → KeepsMarks new (raising x st)
   unfolding raising
   raised_marks old new c0 there named h set =
       let c = x.submitted.sub.client in
       let n = c0.number - 1 in
-      let marks = λ (s : Created). record s { marked = true } in
+      let marks = λ (s : Surface). record s { marked = true } in
       let own = own_client c0 there named in
       record {
-        clients = λ t p. let m = contains_map (marked_by st.surfaces (x ∷ [])) st.surfaces t p in subst (λ (s : Created). HasNumber s.client) m.2
-            (subst HasNumber (sym (when_same (λ (y : Created). y.client) marks (is_before st.surfaces m.0 x || false) m.0 refl)) (h.clients m.0 m.1));
+        clients = λ t p. let m = contains_map (marked_by st.surfaces (x ∷ [])) st.surfaces t p in subst (λ (s : Surface). HasNumber s.client) m.2
+            (subst HasNumber (sym (when_same (λ (y : Surface). y.client) marks (is_before st.surfaces m.0 x || false) m.0 refl)) (h.clients m.0 m.1));
         numbers = λ t p.
             let m = contains_map (marked_by st.surfaces (x ∷ [])) st.surfaces t p in
             let was = h.numbers m.0 m.1 in
-            subst (λ (s : Created). (1 ≤ s.number) × (s.number ≤ (owner_at new s.client).created)) m.2
-            (numbered_in new m.0 (marked_by st.surfaces (x ∷ []) m.0) (when_same (λ (y : Created). y.client) marks (is_before st.surfaces m.0 x || false) m.0 refl)
-            (when_same (λ (y : Created). y.number) marks (is_before st.surfaces m.0 x || false) m.0 refl)
+            subst (λ (s : Surface). (1 ≤ s.number) × (s.number ≤ (owner_at new s.client).created)) m.2
+            (numbered_in new m.0 (marked_by st.surfaces (x ∷ []) m.0) (when_same (λ (y : Surface). y.client) marks (is_before st.surfaces m.0 x || false) m.0 refl)
+            (when_same (λ (y : Surface). y.number) marks (is_before st.surfaces m.0 x || false) m.0 refl)
             (was.0, omega (arith, was.1, same_created old new c n set m.0.client (h.clients m.0 m.1).0)));
         marks = λ t p.
             let m = contains_map (marked_by st.surfaces (x ∷ [])) st.surfaces t p in
-            subst (λ (s : Created). s.marked ≡ nat_le s.number (owner_at new s.client).marked_to) m.2
+            subst (λ (s : Surface). s.marked ≡ nat_le s.number (owner_at new s.client).marked_to) m.2
             (marked_when (is_before st.surfaces m.0 x || false) m.0
             ∙ (ap (λ k. cond (((m.0.client == c) && nat_lt m.0.number k) || false) true m.0.marked) (number_by st x c0 keeps there named (find (λ c. same_surface c.id x.submitted.id) st.surfaces) refl)
-            ∙ (by m.0 m.1 (m.0.client == c) refl ∙ sym (when_same (λ (y : Created). nat_le y.number (owner_at new y.client).marked_to) marks (is_before st.surfaces m.0 x || false) m.0 refl))));
+            ∙ (by m.0 m.1 (m.0.client == c) refl ∙ sym (when_same (λ (y : Surface). nat_le y.number (owner_at new y.client).marked_to) marks (is_before st.surfaces m.0 x || false) m.0 refl))));
         created = capped old new c n set st h (λ q e k. omega (arith, (h.numbers c0 there).1, ap (λ k. (owner_at old k).created) (own ∙ sym e)));
       }
     where
-      by : (s : Created) → Contains st.surfaces s → (t : Bool) → (s.client == x.submitted.sub.client) ≡ t → cond ((t && nat_lt s.number c0.number) || false) true s.marked ≡ nat_le s.number (owner_at new s.client).marked_to
+      by : (s : Surface) → Contains st.surfaces s → (t : Bool) → (s.client == x.submitted.sub.client) ≡ t → cond ((t && nat_lt s.number c0.number) || false) true s.marked ≡ nat_le s.number (owner_at new s.client).marked_to
       by s p true e =
           ap (cond (nat_lt s.number c0.number || false) true) (h.marks s p)
           ∙ (mark_max s.number c0.number (owner_at old s.client).marked_to (h.numbers c0 there).0
@@ -231,7 +231,7 @@ module _ (st : Stored) (x : Submission) (keeps : KeepsStored st) (in_it : Waits_
 -- Accepting
 
 module _ (st : Stored) (c : ℕ) (sink : FrameSinkId) (local : LocalSurfaceId) (frame : CompositorFrame) (blocks : List Block) where
-  abbrev the_fresh : Created
+  abbrev the_fresh : Surface
   the_fresh = new_surface c (surface_of sink local) frame st.surfaces
 
   grown_by : (t : Bool) (o : Owner) (local : LocalSurfaceId) (size : Size) → o.created ≤ (counting t local size o).created
@@ -243,18 +243,18 @@ module _ (st : Stored) (c : ℕ) (sink : FrameSinkId) (local : LocalSurfaceId) (
   unfolding storing
   stored_marks old new last size owner number ho h at is set =
       record {
-        clients = λ s p. in_all (λ s. HasNumber s.client) s (is_last (last_in st.surfaces c) local) (λ q. h.clients s q) (λ f e. subst (λ (s : Created). HasNumber s.client) e number) p;
+        clients = λ s p. in_all (λ s. HasNumber s.client) s (is_last (last_in st.surfaces c) local) (λ q. h.clients s q) (λ f e. subst (λ (s : Surface). HasNumber s.client) e number) p;
         numbers = λ s p. in_all (λ s. (1 ≤ s.number) × (s.number ≤ (owner_at new s.client).created)) s (is_last (last_in st.surfaces c) local)
             (λ q. let was = h.numbers s q in (was.0, omega (arith, was.1, grows s.client (h.clients s q))))
-            (λ f e. subst (λ (s : Created). (1 ≤ s.number) × (s.number ≤ (owner_at new s.client).created)) e (omega arith, fresh_number f)) p;
+            (λ f e. subst (λ (s : Surface). (1 ≤ s.number) × (s.number ≤ (owner_at new s.client).created)) e (omega arith, fresh_number f)) p;
         marks = λ s p. in_all (λ s. s.marked ≡ nat_le s.number (owner_at new s.client).marked_to) s (is_last (last_in st.surfaces c) local)
             (λ q. h.marks s q ∙ ap (nat_le s.number) (sym (marked_same s.client (h.clients s q))))
-            (λ f e. subst (λ (s : Created). s.marked ≡ nat_le s.number (owner_at new s.client).marked_to) e
+            (λ f e. subst (λ (s : Surface). s.marked ≡ nat_le s.number (owner_at new s.client).marked_to) e
             (sym (ap (nat_le (count_by (is_surface_of c) st.surfaces + 1)) (marked_same c number) ∙ above (count_by (is_surface_of c) st.surfaces) (owner_at old c).marked_to (omega (arith, h.created c number, ho.created c number))))) p;
         created = λ q k. omega (arith, marked_same q k, h.created q k, grows q k);
       }
     where
-      in_all : (P : Created → Type 0) (s : Created) (t : Bool) → (Contains st.surfaces s → P s) → (t ≡ false → the_fresh ≡ s → P s) → Contains (cond t st.surfaces (st.surfaces ++ the_fresh ∷ [])) s → P s
+      in_all : (P : Surface → Type 0) (s : Surface) (t : Bool) → (Contains st.surfaces s → P s) → (t ≡ false → the_fresh ≡ s → P s) → Contains (cond t st.surfaces (st.surfaces ++ the_fresh ∷ [])) s → P s
       in_all P s true f g p = f p
       in_all P s false f g p = elim (contains_push st.surfaces the_fresh s p) [ inl m ↦ f m | inr e ↦ g refl e ]
 

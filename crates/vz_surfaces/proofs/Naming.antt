@@ -13,7 +13,7 @@ use Rattle.vz_pixels.specs.Block.{Block}
 use Rattle.vz_frame.specs.declared.frame.CompositorFrame.{CompositorFrame}
 use Rattle.vz_frame.specs.Frame.{frame_size}
 use Rattle.vz_rules.specs.declared.entry.State.TheVariants.{Dropped}
-use Rattle.vz_rules.specs.World.{Created, FrameData, Submission, is_waiting, is_on, sub_of}
+use Rattle.vz_rules.specs.World.{Surface, FrameData, Submission, is_waiting, is_on, sub_of}
 use Rattle.vz_rules.specs.Messages.{is_last, replace_on}
 use Rattle.vz_rules.specs.Kept.{last_in, is_surface_of, is_by}
 use Rattle.vz_rules.proofs.Members.{contains_map, contains_push, push_contains, push_contains_last, contains_at, at_same, find_at}
@@ -121,10 +121,10 @@ module _ (st : Stored) (c : ℕ) (sink : FrameSinkId) (local : LocalSurfaceId) (
 abbrev Named : Type 0
 Named = LocalSurfaceId × Size
 
-abbrev name_and_size : Option Created → Option Named
-name_and_size o = option_map {U = Named} (λ (s : Created). (s.id.local, s.size)) o
+abbrev name_and_size : Option Surface → Option Named
+name_and_size o = option_map {U = Named} (λ (s : Surface). (s.id.local, s.size)) o
 
-pub last_ties : (o : Option Created) (local : LocalSurfaceId) → is_named_last (name_and_size o) local ≡ is_last o local
+pub last_ties : (o : Option Surface) (local : LocalSurfaceId) → is_named_last (name_and_size o) local ≡ is_last o local
 last_ties None local = refl
 last_ties (Some s) local = refl
 
@@ -144,10 +144,10 @@ owners_by r v old new c owner set here others q h =
     ] refl)
 
 module _ (st : Stored) (c : ℕ) (sink : FrameSinkId) (local : LocalSurfaceId) (frame : CompositorFrame) (blocks : List Block) where
-  abbrev the_one : Created
+  abbrev the_one : Surface
   the_one = new_surface c (surface_of sink local) frame st.surfaces
 
-  abbrev the_surfaces : Bool → List Created
+  abbrev the_surfaces : Bool → List Surface
   the_surfaces t = cond t st.surfaces (st.surfaces ++ the_one ∷ [])
 
   by_client : (q : ℕ) → count_by (is_by q) (storing c sink local frame blocks st).subs ≡ count_by (is_by q) st.subs + cond (c == q) 1 0
@@ -170,11 +170,11 @@ module _ (st : Stored) (c : ℕ) (sink : FrameSinkId) (local : LocalSurfaceId) (
 
   last_here : (t : Bool) (o : Owner) → o.last ≡ name_and_size (last_in st.surfaces c) → cond t o.last (Some (local, frame_size frame)) ≡ name_and_size (last_in (the_surfaces t) c)
   last_here true o e = e
-  last_here false o e = sym (ap name_and_size (last_push (λ (s : Created). s.client == c) st.surfaces the_one true (eq-eqb c c refl)))
+  last_here false o e = sym (ap name_and_size (last_push (λ (s : Surface). s.client == c) st.surfaces the_one true (eq-eqb c c refl)))
 
   last_apart : (t : Bool) (q : ℕ) → (q == c) ≡ false → name_and_size (last_in st.surfaces q) ≡ name_and_size (last_in (the_surfaces t) q)
   last_apart true q e = refl
-  last_apart false q e = sym (ap name_and_size (last_push (λ (s : Created). s.client == q) st.surfaces the_one false (flip q c e)))
+  last_apart false q e = sym (ap name_and_size (last_push (λ (s : Surface). s.client == q) st.surfaces the_one false (flip q c e)))
 
   pub stored_owners : (old new : Owners) (last : Bool) (size : Size) (owner : Owner) → HasNumber c → KeepsOwners old st → last ≡ is_named_last (owner_at old c).last local → size ≡ frame_size frame
       → owner ≡ counting last local size (owner_at old c) → ((q : ℕ) → 1 ≤ q → owner_at new q ≡ cond (q == c) owner (owner_at old q)) → KeepsOwners new (storing c sink local frame blocks st)

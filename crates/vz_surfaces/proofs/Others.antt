@@ -6,7 +6,7 @@ use Rattle.vz_ids.specs.declared.SurfaceId.{SurfaceId}
 use Rattle.vz_ids.specs.Ids.{same_surface}
 use Rattle.vz_rules.specs.declared.entry.State.{State}
 use Rattle.vz_rules.specs.declared.entry.State.TheVariants.{Waiting, Active, Past, Dropped}
-use Rattle.vz_rules.specs.World.{Created, Submission, is_waiting, is_active, is_on}
+use Rattle.vz_rules.specs.World.{Surface, Submission, is_waiting, is_active, is_on}
 use Rattle.vz_rules.proofs.Reached.{from_same}
 use Rattle.vz_rules.proofs.Rising.{find_map}
 use Rattle.vz_surfaces.specs.Reading.{standing}
@@ -65,7 +65,7 @@ module _ (id : SurfaceId) (f : Submission → Submission) (subs : List Submissio
 
 -- what is kept of a surface, where what is on it is kept alike
 pub kept_alike : (q : SurfaceId) (subs new : List Submission) → count_by (is_on q) new ≡ count_by (is_on q) subs → held_in is_waiting q new ≡ held_in is_waiting q subs
-    → held_in is_active q new ≡ held_in is_active q subs → (c : Created) → kept_of q new c ≡ kept_of q subs c
+    → held_in is_active q new ≡ held_in is_active q subs → (c : Surface) → kept_of q new c ≡ kept_of q subs c
 kept_alike q subs new n w a c = λ i. record { client = c.client; number = c.number; accepted = n i; waiting = w i; active = a i }
 
 pub mapped_alike : {A B : Type 0} (f g : A → B) (o : Option A) → ((x : A) → f x ≡ g x) → option_map f o ≡ option_map g o
@@ -73,23 +73,23 @@ mapped_alike f g None h = refl
 mapped_alike f g (Some x) h = ap (λ z. Some z) (h x)
 
 -- a surface changes and keeps what is kept of it
-pub record KeepsKept (g : Created → Created) : Type 0 where
-  pub client : (c : Created) → (g c).client ≡ c.client
-  pub number : (c : Created) → (g c).number ≡ c.number
-  pub id : (c : Created) → (g c).id ≡ c.id
-  pub destroyed : (c : Created) → (g c).destroyed ≡ c.destroyed
+pub record KeepsKept (g : Surface → Surface) : Type 0 where
+  pub client : (c : Surface) → (g c).client ≡ c.client
+  pub number : (c : Surface) → (g c).number ≡ c.number
+  pub id : (c : Surface) → (g c).id ≡ c.id
+  pub destroyed : (c : Surface) → (g c).destroyed ≡ c.destroyed
 
-kept_through : (g : Created → Created) (q : SurfaceId) (subs : List Submission) (o : Option Created) → KeepsKept g → option_map (kept_of q subs) (option_map g o) ≡ option_map (kept_of q subs) o
+kept_through : (g : Surface → Surface) (q : SurfaceId) (subs : List Submission) (o : Option Surface) → KeepsKept g → option_map (kept_of q subs) (option_map g o) ≡ option_map (kept_of q subs) o
 kept_through g q subs None h = refl
 kept_through g q subs (Some c) h =
     λ i. Some (record { client = h.client c i; number = h.number c i; accepted = count_by (is_on q) subs; waiting = held_in is_waiting q subs; active = held_in is_active q subs })
 
-pub surfaces_kept : (g : Created → Created) (q : SurfaceId) (ss : List Created) (subs : List Submission) → KeepsKept g
+pub surfaces_kept : (g : Surface → Surface) (q : SurfaceId) (ss : List Surface) (subs : List Submission) → KeepsKept g
     → option_map (kept_of q subs) (standing q (map g ss)) ≡ option_map (kept_of q subs) (standing q ss)
 surfaces_kept g q ss subs h =
     ap (option_map (kept_of q subs))
-    (find_map (λ (c : Created). same_surface c.id q && not c.destroyed) g ss (λ c. ap (λ i. same_surface i q && not (g c).destroyed) (h.id c) ∙ ap (λ b. same_surface c.id q && not b) (h.destroyed c)))
+    (find_map (λ (c : Surface). same_surface c.id q && not c.destroyed) g ss (λ c. ap (λ i. same_surface i q && not (g c).destroyed) (h.id c) ∙ ap (λ b. same_surface c.id q && not b) (h.destroyed c)))
     ∙ kept_through g q subs (standing q ss) h
 
-pub count_standing : (g : Created → Created) (ss : List Created) → KeepsKept g → count_by (λ (s : Created). not s.destroyed) (map g ss) ≡ count_by (λ (s : Created). not s.destroyed) ss
-count_standing g ss h = count_kept (λ (s : Created). not s.destroyed) g ss (λ c p. ap not (h.destroyed c))
+pub count_standing : (g : Surface → Surface) (ss : List Surface) → KeepsKept g → count_by (λ (s : Surface). not s.destroyed) (map g ss) ≡ count_by (λ (s : Surface). not s.destroyed) ss
+count_standing g ss h = count_kept (λ (s : Surface). not s.destroyed) g ss (λ c p. ap not (h.destroyed c))

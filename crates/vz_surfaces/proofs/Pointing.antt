@@ -7,7 +7,7 @@ use Rattle.vz_ids.specs.Ids.{same_sink, same_surface, newer, at_least}
 use Rattle.vz_rules.proofs.Facts.{length_map}
 use Rattle.vz_surfaces.specs.declared.groups.Link.{Link}
 use Rattle.vz_surfaces.specs.Chains.{ids_of, is_newer_id, IsRising}
-use Rattle.vz_surfaces.proofs.Ages.{at_least_trans}
+use Rattle.vz_ids.proofs.Ages.{at_least_trans}
 
 -- what stands behind is newer
 pub rising_at : (xs : List SurfaceId) (i j : ℕ) (d : SurfaceId) → IsRising xs → i < j → j < length xs → is_newer_id (get_or xs j d) (get_or xs i d) ≡ true

@@ -7,7 +7,7 @@ use Rattle.vz_ids.specs.declared.SurfaceId.{SurfaceId}
 use Rattle.vz_ids.specs.declared.Sub.{Sub}
 use Rattle.vz_ids.specs.Ids.{same_surface, same_sub}
 use Rattle.vz_rules.specs.declared.entry.State.TheVariants.{Active, Past}
-use Rattle.vz_rules.specs.World.{Created, FrameData, Submission, is_waiting, is_active, is_on, sub_of}
+use Rattle.vz_rules.specs.World.{Surface, FrameData, Submission, is_waiting, is_active, is_on, sub_of}
 use Rattle.vz_rules.specs.Settle.{is_before, marked_by}
 use Rattle.vz_rules.specs.Singly.{as_one_rises}
 use Rattle.vz_rules.proofs.Reached.{self_same}
@@ -88,23 +88,23 @@ acts_by true past t h e = absurd (cc)
 acts_by false true t h e = absurd (cc)
 acts_by false false t h e = refl
 
-mark_kept : (x : Submission) (ss : List Created) → KeepsKept (marked_by ss (x ∷ []))
+mark_kept : (x : Submission) (ss : List Surface) → KeepsKept (marked_by ss (x ∷ []))
 mark_kept x ss =
-    let marks = λ (c : Created). record c { marked = true } in
+    let marks = λ (c : Surface). record c { marked = true } in
     record {
-      client = λ c. when_same (λ (y : Created). y.client) marks (list_any (is_before ss c) (x ∷ [])) c refl;
-      number = λ c. when_same (λ (y : Created). y.number) marks (list_any (is_before ss c) (x ∷ [])) c refl;
-      id = λ c. when_same (λ (y : Created). y.id) marks (list_any (is_before ss c) (x ∷ [])) c refl;
-      destroyed = λ c. when_same (λ (y : Created). y.destroyed) marks (list_any (is_before ss c) (x ∷ [])) c refl;
+      client = λ c. when_same (λ (y : Surface). y.client) marks (list_any (is_before ss c) (x ∷ [])) c refl;
+      number = λ c. when_same (λ (y : Surface). y.number) marks (list_any (is_before ss c) (x ∷ [])) c refl;
+      id = λ c. when_same (λ (y : Surface). y.id) marks (list_any (is_before ss c) (x ∷ [])) c refl;
+      destroyed = λ c. when_same (λ (y : Surface). y.destroyed) marks (list_any (is_before ss c) (x ∷ [])) c refl;
     }
 
-mark_counted : (x : Submission) (ss : List Created) → KeepsCounted (marked_by ss (x ∷ []))
+mark_counted : (x : Submission) (ss : List Surface) → KeepsCounted (marked_by ss (x ∷ []))
 mark_counted x ss =
-    let marks = λ (c : Created). record c { marked = true } in
+    let marks = λ (c : Surface). record c { marked = true } in
     record {
-      client = λ c. when_same (λ (y : Created). y.client) marks (list_any (is_before ss c) (x ∷ [])) c refl;
-      id = λ c. when_same (λ (y : Created). y.id) marks (list_any (is_before ss c) (x ∷ [])) c refl;
-      size = λ c. when_same (λ (y : Created). y.size) marks (list_any (is_before ss c) (x ∷ [])) c refl;
+      client = λ c. when_same (λ (y : Surface). y.client) marks (list_any (is_before ss c) (x ∷ [])) c refl;
+      id = λ c. when_same (λ (y : Surface). y.id) marks (list_any (is_before ss c) (x ∷ [])) c refl;
+      size = λ c. when_same (λ (y : Surface). y.size) marks (list_any (is_before ss c) (x ∷ [])) c refl;
     }
 
 module _ (st : Stored) (x : Submission) (keeps : KeepsStored st) (in_it : Waits_in st x) where
@@ -179,7 +179,7 @@ module _ (st : Stored) (x : Submission) (keeps : KeepsStored st) (in_it : Waits_
   unfolding surface_at raising
   raised_here = surfaces_kept (marked_by st.surfaces (x ∷ [])) id_up st.surfaces (map up st.subs) (mark_kept x st.surfaces) ∙ by (standing id_up st.surfaces)
     where
-      held : (c : Created) → kept_of id_up (map up st.subs) c ≡ raised (kept_of id_up st.subs c)
+      held : (c : Surface) → kept_of id_up (map up st.subs) c ≡ raised (kept_of id_up st.subs c)
       held c =
           λ i. record {
             client = c.client;
@@ -189,7 +189,7 @@ module _ (st : Stored) (x : Submission) (keeps : KeepsStored st) (in_it : Waits_
             active = (acts_now ∙ sym waited) i;
           }
 
-      by : (o : Option Created) → option_map (kept_of id_up (map up st.subs)) o ≡ option_map raised (option_map (kept_of id_up st.subs) o)
+      by : (o : Option Surface) → option_map (kept_of id_up (map up st.subs)) o ≡ option_map raised (option_map (kept_of id_up st.subs) o)
       by None = refl
       by (Some c) = ap (λ z. Some z) (held c)
 

@@ -7,7 +7,7 @@ use Rattle.std.proofs.lemmas.Bool.{and_parts, and_from, both_ways, or_right}
 use Rattle.vz_ids.specs.declared.SurfaceId.{SurfaceId}
 use Rattle.vz_ids.specs.declared.SurfaceRange.{SurfaceRange}
 use Rattle.vz_ids.specs.Ids.{same_sink, same_surface, same_group, newer, at_least}
-use Rattle.vz_rules.specs.World.{Created, FrameData, Submission, is_active, is_on, active_frames}
+use Rattle.vz_rules.specs.World.{Surface as Created, FrameData, Submission, is_active, is_on, active_frames}
 use Rattle.vz_rules.specs.Scene.{or_else, newest, newer_frame, in_range, from_start, after_start, shown_frame, id_of_frame}
 use Rattle.vz_rules.specs.Kept.{stands_in}
 use Rattle.vz_rules.proofs.Reached.{from_same, self_same}
@@ -19,7 +19,7 @@ use Rattle.vz_surfaces.specs.declared.table.Table.{Table}
 use Rattle.vz_surfaces.specs.declared.groups.Groups.{Groups}
 use Rattle.vz_surfaces.specs.Memory.{look, kept_of, surface_at, KeepsTable}
 use Rattle.vz_surfaces.specs.Chains.{chain_at, is_newer_id, IsRising, KeepsGroups, starts_from}
-use Rattle.vz_surfaces.proofs.Ages.{newer_once, at_least_trans}
+use Rattle.vz_ids.proofs.Ages.{newer_once, at_least_trans}
 use Rattle.vz_surfaces.proofs.Finding.{find_end}
 use Rattle.vz_surfaces.proofs.Others.{never}
 use Rattle.vz_surfaces.proofs.Grouping.{reach_group, rising_less, same_groups, group_from}

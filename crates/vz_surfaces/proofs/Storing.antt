@@ -6,7 +6,7 @@ use Rattle.vz_ids.specs.declared.SurfaceId.{SurfaceId}
 use Rattle.vz_ids.specs.declared.Sub.{Sub}
 use Rattle.vz_ids.specs.Ids.{same_surface}
 use Rattle.vz_rules.specs.declared.entry.Lost.{Lost}
-use Rattle.vz_rules.specs.World.{Created, FrameData, Submission, is_waiting, is_active, is_on, sub_of, active_frames, frame_on}
+use Rattle.vz_rules.specs.World.{Surface as Created, FrameData, Submission, is_waiting, is_active, is_on, sub_of, active_frames, frame_on}
 use Rattle.vz_rules.specs.Kept.{stands_in}
 use Rattle.vz_rules.proofs.Reached.{from_same}
 use Rattle.vz_rules.proofs.Members.{contains_none}

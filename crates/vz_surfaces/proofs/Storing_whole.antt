@@ -7,7 +7,7 @@ use Rattle.vz_ids.specs.declared.SurfaceId.{SurfaceId}
 use Rattle.vz_ids.specs.declared.SurfaceRange.{SurfaceRange}
 use Rattle.vz_ids.specs.declared.Sub.{Sub}
 use Rattle.vz_ids.specs.Ids.{same_surface}
-use Rattle.vz_rules.specs.World.{Created, Submission, is_waiting, is_active, sub_of}
+use Rattle.vz_rules.specs.World.{Surface as Created, Submission, is_waiting, is_active, sub_of}
 use Rattle.vz_rules.specs.Kept.{stands_in}
 use Rattle.vz_rules.proofs.Reached.{from_same}
 use Rattle.vz_rules.proofs.Members.{contains_none, find_at}

@@ -8,7 +8,7 @@ use Rattle.vz_ids.specs.declared.LocalSurfaceId.{LocalSurfaceId}
 use Rattle.vz_ids.specs.declared.SurfaceId.{SurfaceId}
 use Rattle.vz_ids.specs.declared.SurfaceRange.{SurfaceRange}
 use Rattle.vz_ids.specs.Ids.{same_sink, same_surface, at_least}
-use Rattle.vz_rules.specs.World.{World, Client, Created, FrameData, Submission, is_waiting, is_active, is_on, active_frames, frame_on, existing, exists, last_created}
+use Rattle.vz_rules.specs.World.{World, Client, Surface, FrameData, Submission, is_waiting, is_active, is_on, active_frames, frame_on, existing, exists, last_created}
 use Rattle.vz_rules.specs.Scene.{shown, shown_frame, id_of_frame}
 use Rattle.vz_rules.specs.Settle.{is_met}
 use Rattle.vz_rules.specs.Kept.{KeepsAlways, last_in, stands_in}
@@ -21,31 +21,31 @@ use Rattle.vz_surfaces.specs.Stored.{bare_surface, bare_sub, stored_of}
 use Rattle.vz_surfaces.specs.Reading.{stands, standing, existing_count, has_mark, marked_of, last_of, seen_frames, active_on, waiting_at, shown_in, was_reached}
 use Rattle.vz_surfaces.proofs.Following.{last_bare}
 
-pub standing_bare : (ss : List Created) (id : SurfaceId) → standing id (map bare_surface ss) ≡ option_map bare_surface (standing id ss)
-standing_bare ss id = find_map (λ (s : Created). same_surface s.id id && not s.destroyed) bare_surface ss (λ x. refl)
+pub standing_bare : (ss : List Surface) (id : SurfaceId) → standing id (map bare_surface ss) ≡ option_map bare_surface (standing id ss)
+standing_bare ss id = find_map (λ (s : Surface). same_surface s.id id && not s.destroyed) bare_surface ss (λ x. refl)
 
 some_mapped : {A B : Type 0} (f : A → B) (o : Option A) → is_some (option_map f o) ≡ is_some o
 some_mapped f None = refl
 some_mapped f (Some a) = refl
 
-pub stands_bare : (ss : List Created) (id : SurfaceId) → stands_in (map bare_surface ss) id ≡ stands_in ss id
+pub stands_bare : (ss : List Surface) (id : SurfaceId) → stands_in (map bare_surface ss) id ≡ stands_in ss id
 stands_bare ss id = ap is_some (standing_bare ss id) ∙ some_mapped bare_surface (standing id ss)
 
 pub tells_exists : (w : World) (id : SurfaceId) → stands (stored_of w) id ≡ exists w id
 unfolding stands stored_of
 tells_exists w id = stands_bare w.surfaces id
 
-mark_bare : (o : Option Created) → (elim (option_map bare_surface o) as (λ o. Bool) [ Some c ↦ c.marked | None ↦ false ]) ≡ (elim o as (λ o. Bool) [ Some c ↦ c.marked | None ↦ false ])
+mark_bare : (o : Option Surface) → (elim (option_map bare_surface o) as (λ o. Bool) [ Some c ↦ c.marked | None ↦ false ]) ≡ (elim o as (λ o. Bool) [ Some c ↦ c.marked | None ↦ false ])
 mark_bare None = refl
 mark_bare (Some c) = refl
 
 pub tells_marks : (w : World) (id : SurfaceId) → has_mark (stored_of w) id ≡ (elim (existing w id) as (λ o. Bool) [ Some c ↦ c.marked | None ↦ false ])
 unfolding has_mark stored_of
-tells_marks w id = ap (λ (o : Option Created). elim o as (λ o. Bool) [ Some c ↦ c.marked | None ↦ false ]) (standing_bare w.surfaces id) ∙ mark_bare (standing id w.surfaces)
+tells_marks w id = ap (λ (o : Option Surface). elim o as (λ o. Bool) [ Some c ↦ c.marked | None ↦ false ]) (standing_bare w.surfaces id) ∙ mark_bare (standing id w.surfaces)
 
-pub tells_count : (w : World) → existing_count (stored_of w) ≡ count_by (λ (s : Created). not s.destroyed) w.surfaces
+pub tells_count : (w : World) → existing_count (stored_of w) ≡ count_by (λ (s : Surface). not s.destroyed) w.surfaces
 unfolding existing_count stored_of
-tells_count w = count_same bare_surface (λ (s : Created). not s.destroyed) (λ (s : Created). not s.destroyed) w.surfaces (λ x. refl)
+tells_count w = count_same bare_surface (λ (s : Surface). not s.destroyed) (λ (s : Surface). not s.destroyed) w.surfaces (λ x. refl)
 
 -- what is read of those that pass, where it is not changed
 pub read_same : {A B : Type 0} (f : A → A) (r : A → B) (p : A → Bool) (xs : List A) → ((x : A) → r (f x) ≡ r x) → ((x : A) → p (f x) ≡ p x) → map r (filter p (map f xs)) ≡ map r (filter p xs)
@@ -57,20 +57,20 @@ read_same f r p (x ∷ xs) e g =
     by true rest = ap (λ y. y ∷ map r (filter p (map f xs))) (e x) ∙ ap (λ l. r x ∷ l) rest
     by false rest = rest
 
-pub tells_marked : (w : World) (c : ℕ) → marked_of c (stored_of w) ≡ map (λ s. s.id) (filter (λ (s : Created). (s.client == c) && s.marked && not s.destroyed) w.surfaces)
+pub tells_marked : (w : World) (c : ℕ) → marked_of c (stored_of w) ≡ map (λ s. s.id) (filter (λ (s : Surface). (s.client == c) && s.marked && not s.destroyed) w.surfaces)
 unfolding marked_of stored_of
-tells_marked w c = read_same bare_surface (λ s. s.id) (λ (s : Created). (s.client == c) && s.marked && not s.destroyed) w.surfaces (λ x. refl) (λ x. refl)
+tells_marked w c = read_same bare_surface (λ s. s.id) (λ (s : Surface). (s.client == c) && s.marked && not s.destroyed) w.surfaces (λ x. refl) (λ x. refl)
 
 abbrev Named : Type 0
 Named = LocalSurfaceId × Size
 
-last_read : (o : Option Created) → option_map {U = Named} (λ (s : Created). (s.id.local, s.size)) (option_map bare_surface o) ≡ option_map {U = Named} (λ (s : Created). (s.id.local, s.size)) o
+last_read : (o : Option Surface) → option_map {U = Named} (λ (s : Surface). (s.id.local, s.size)) (option_map bare_surface o) ≡ option_map {U = Named} (λ (s : Surface). (s.id.local, s.size)) o
 last_read None = refl
 last_read (Some s) = refl
 
-pub tells_last : (w : World) (c : ℕ) → last_of c (stored_of w) ≡ option_map {U = Named} (λ (s : Created). (s.id.local, s.size)) (last_created w c)
+pub tells_last : (w : World) (c : ℕ) → last_of c (stored_of w) ≡ option_map {U = Named} (λ (s : Surface). (s.id.local, s.size)) (last_created w c)
 unfolding last_of stored_of
-tells_last w c = ap (option_map {U = Named} (λ (s : Created). (s.id.local, s.size))) (last_bare w.surfaces c) ∙ last_read (last_in w.surfaces c)
+tells_last w c = ap (option_map {U = Named} (λ (s : Surface). (s.id.local, s.size))) (last_bare w.surfaces c) ∙ last_read (last_in w.surfaces c)
 
 pub tells_met : (w : World) (d : SurfaceId) → is_met w d ≡ (was_reached (stored_of w) d || list_any (λ (c : Client). c.closed && same_sink c.sink d.sink) w.clients)
 unfolding is_met was_reached stored_of
@@ -131,7 +131,7 @@ waits_on_none w id h none =
     let there : stands_in w.surfaces s.submitted.id ≡ true = h.states.stand s c (or_left (is_waiting s) (is_active s) parts.0) in
     both_ways (stands_in w.surfaces id) none (ap (stands_in w.surfaces) (sym (from_same s.submitted.id id parts.1)) ∙ there)))
 
-waiting_by : (w : World) (id : SurfaceId) (o : Option Created) → KeepsAlways w → standing id (stored_of w).surfaces ≡ o
+waiting_by : (w : World) (id : SurfaceId) (o : Option Surface) → KeepsAlways w → standing id (stored_of w).surfaces ≡ o
     → (elim o as (λ o. Option FrameData) [ Some c ↦ option_map (λ (s : Submission). s.submitted) (find (λ s. is_waiting s && is_on id s) (stored_of w).subs) | None ↦ None ])
     ≡ option_map (λ (s : Submission). s.submitted) (find (λ s. is_waiting s && is_on id s) w.subs)
 unfolding stored_of

@@ -6,11 +6,10 @@ use Rattle.std.specs.Map.{lookup}
 use Rattle.vz_ids.specs.declared.LocalSurfaceId.{LocalSurfaceId}
 use Rattle.vz_ids.specs.declared.SurfaceId.{SurfaceId}
 use Rattle.vz_ids.specs.declared.SurfaceRange.{SurfaceRange}
-use Rattle.vz_ids.specs.Ids.{same_sink, same_group, newer, at_least}
-use Rattle.vz_rules.specs.World.{Created, Submission}
+use Rattle.vz_ids.specs.contracts.GroupKeyPartialEq.TheImpl.{eq-value as group_eq}
+use Rattle.vz_ids.specs.Ids.{same_sink, same_group, newer, at_least, group_of}
+use Rattle.vz_rules.specs.World.{Surface as Created, Submission}
 use Rattle.vz_rules.specs.Scene.{or_else}
-use Rattle.vz_surfaces.specs.contracts.groups.GroupKeyPartialEq.TheImpl.{eq-value as group_eq}
-use Rattle.vz_surfaces.specs.declared.groups.GroupKey.{GroupKey}
 use Rattle.vz_surfaces.specs.declared.groups.Link.{Link}
 use Rattle.vz_surfaces.specs.declared.groups.Group.{Group}
 use Rattle.vz_surfaces.specs.declared.groups.Groups.{Groups}
@@ -23,17 +22,13 @@ use Rattle.vz_surfaces.specs.declared.waits.Waits.{Waits}
 use Rattle.vz_surfaces.specs.declared.owners.Owners.{Owners}
 use Rattle.vz_surfaces.specs.Memory.{key_at, under, Keeps, KeepsMarks}
 
--- the group of a surface
-abbrev pub key_of : SurfaceId → GroupKey
-key_of id = record { sink = id.sink; token = id.local.token }
-
 -- two surfaces are in one group, as maps test it
 abbrev pub is_group : SurfaceId → SurfaceId → Bool
-is_group a b = group_eq.it (key_of a) (key_of b)
+is_group a b = group_eq.it (group_of a) (group_of b)
 
 -- the group of a surface, if there is one
 abbrev pub group_at : Groups → SurfaceId → Option Group
-group_at g id = lookup (group_eq.it (key_of id)) g.groups.entries
+group_at g id = lookup (group_eq.it (group_of id)) g.groups.entries
 
 -- a link without a surface
 abbrev pub no_link : Link

@@ -15,7 +15,7 @@ use Rattle.vz_ids.specs.contracts.SurfaceIdPartialEq.TheImpl.{eq-value as surfac
 use Rattle.vz_ids.specs.contracts.SubPartialEq.TheImpl.{eq-value as sub_eq}
 use Rattle.vz_pixels.specs.Block.{Block}
 use Rattle.vz_frame.specs.declared.frame.CompositorFrame.{CompositorFrame}
-use Rattle.vz_rules.specs.World.{Created, Submission, is_waiting, is_active, is_on, sub_of}
+use Rattle.vz_rules.specs.World.{Surface as Created, Submission, is_waiting, is_active, is_on, sub_of}
 use Rattle.vz_rules.specs.Kept.{is_by, is_surface_of}
 use Rattle.vz_surfaces.specs.declared.held.Held.{Held}
 use Rattle.vz_surfaces.specs.declared.table.Surface.{Surface}

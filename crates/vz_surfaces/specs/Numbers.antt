@@ -3,7 +3,7 @@ use Rattle.std.specs.Prelude.{◌≡◌, ℕ, ◌<◌, Bool, not, ◌&&◌, ◌=
 use Rattle.std.specs.Option.{option_map_or}
 use Rattle.std.specs.List.{Contains}
 use Rattle.std.specs.Map.{lookup}
-use Rattle.vz_rules.specs.World.{Created}
+use Rattle.vz_rules.specs.World.{Surface}
 use Rattle.vz_surfaces.specs.declared.standing.Numbered.{Numbered}
 use Rattle.vz_surfaces.specs.declared.standing.Row.{Row}
 use Rattle.vz_surfaces.specs.declared.standing.Standing.{Standing}
@@ -27,10 +27,10 @@ Rises [] = Unit {0}
 Rises (x ∷ xs) = ((y : Numbered) → Contains xs y → x.number < y.number) × Rises xs
 
 -- a surface with its number
-abbrev pub numbered_of : Created → Numbered
+abbrev pub numbered_of : Surface → Numbered
 numbered_of c = record { number = c.number; id = c.id }
 
 -- the lists have the existing surfaces of each client, in the order of creation
 pub record KeepsLists (s : Standing) (st : Stored) : Type 0 where
-  pub lists : (c : ℕ) → list_at s c ≡ map numbered_of (filter (λ (x : Created). (x.client == c) && not x.destroyed) st.surfaces)
+  pub lists : (c : ℕ) → list_at s c ≡ map numbered_of (filter (λ (x : Surface). (x.client == c) && not x.destroyed) st.surfaces)
   pub rise : (c : ℕ) → Rises (list_at s c)

@@ -7,7 +7,7 @@ use Rattle.vz_ids.specs.declared.LocalSurfaceId.{LocalSurfaceId}
 use Rattle.vz_ids.specs.declared.SurfaceId.{SurfaceId}
 use Rattle.vz_ids.specs.declared.SurfaceRange.{SurfaceRange}
 use Rattle.vz_ids.specs.Ids.{same_surface, at_least}
-use Rattle.vz_rules.specs.World.{FrameData, Created, Submission, active_frames, frame_on, is_waiting, is_on}
+use Rattle.vz_rules.specs.World.{FrameData, Surface, Submission, active_frames, frame_on, is_waiting, is_on}
 use Rattle.vz_rules.specs.Scene.{shown_frame, id_of_frame}
 use Rattle.vz_rules.specs.Kept.{last_in, stands_in}
 use Rattle.vz_surfaces.specs.declared.held.Held.{Held}
@@ -18,12 +18,12 @@ unfoldable pub stands : Stored → SurfaceId → Bool
 stands st id = stands_in st.surfaces id
 
 -- the surface with this id, if it exists
-abbrev pub standing : SurfaceId → List Created → Option Created
+abbrev pub standing : SurfaceId → List Surface → Option Surface
 standing id surfaces = find (λ s. same_surface s.id id && not s.destroyed) surfaces
 
 -- how many surfaces exist
 unfoldable pub existing_count : Stored → ℕ
-existing_count st = count_by (λ (s : Created). not s.destroyed) st.surfaces
+existing_count st = count_by (λ (s : Surface). not s.destroyed) st.surfaces
 
 -- the surface exists and is marked
 unfoldable pub has_mark : Stored → SurfaceId → Bool
@@ -31,7 +31,7 @@ has_mark st id = elim (standing id st.surfaces) [ Some c ↦ c.marked | None ↦
 
 -- the marked surfaces of a client that exist, in the order of creation
 unfoldable pub marked_of : ℕ → Stored → List SurfaceId
-marked_of c st = map (λ s. s.id) (filter (λ (s : Created). (s.client == c) && s.marked && not s.destroyed) st.surfaces)
+marked_of c st = map (λ s. s.id) (filter (λ (s : Surface). (s.client == c) && s.marked && not s.destroyed) st.surfaces)
 
 -- the same for the first so many clients, client by client
 unfoldable pub marked_to : ℕ → Stored → List SurfaceId
@@ -40,7 +40,7 @@ marked_to (suc n) st = marked_to n st ++ marked_of (n + 1) st
 
 -- the local id and the size of the last surface that a client created
 unfoldable pub last_of : ℕ → Stored → Option (LocalSurfaceId × Size)
-last_of c st = option_map (λ (s : Created). (s.id.local, s.size)) (last_in st.surfaces c)
+last_of c st = option_map (λ (s : Surface). (s.id.local, s.size)) (last_in st.surfaces c)
 
 -- the active frames on existing surfaces, in the order of acceptance
 abbrev pub seen_frames : Stored → List FrameData

@@ -9,7 +9,7 @@ use Rattle.vz_pixels.specs.Block.{Block}
 use Rattle.vz_frame.specs.declared.frame.CompositorFrame.{CompositorFrame}
 use Rattle.vz_frame.specs.Frame.{frame_size}
 use Rattle.vz_rules.specs.declared.entry.State.TheVariants.{Waiting, Dropped}
-use Rattle.vz_rules.specs.World.{World, FrameData, Created, Submission, is_waiting, is_active, is_on, sub_of}
+use Rattle.vz_rules.specs.World.{World, FrameData, Surface, Submission, is_waiting, is_active, is_on, sub_of}
 use Rattle.vz_rules.specs.Settle.{marked_by}
 use Rattle.vz_rules.specs.Messages.{is_last, replace_on, mark_of}
 use Rattle.vz_rules.specs.Singly.{as_one_rises}
@@ -18,11 +18,11 @@ use Rattle.vz_rules.specs.Kept.{is_by, is_surface_of, last_in}
 -- all created surfaces and all accepted submissions; fields that a store does not have are 0 or
 -- false
 pub record Stored : Type 0 where
-  pub surfaces : List Created
+  pub surfaces : List Surface
   pub subs : List Submission
 
 -- a surface without the tick of its creation and without whether it was named
-abbrev pub bare_surface : Created → Created
+abbrev pub bare_surface : Surface → Surface
 bare_surface c = record c { born = 0; named = false }
 
 -- a submission without its deadline and without whether it had feedback
@@ -42,7 +42,7 @@ abbrev pub surface_of : FrameSinkId → LocalSurfaceId → SurfaceId
 surface_of sink local = record { sink = sink; local = local }
 
 -- a new surface of a client, in the size of its first frame
-abbrev pub new_surface : ℕ → SurfaceId → CompositorFrame → List Created → Created
+abbrev pub new_surface : ℕ → SurfaceId → CompositorFrame → List Surface → Surface
 new_surface c id frame surfaces =
     record {
       client = c;
@@ -56,7 +56,7 @@ new_surface c id frame surfaces =
     }
 
 -- the surfaces, with a new one unless the local id is that of the client's last surface
-abbrev pub creating : ℕ → FrameSinkId → LocalSurfaceId → CompositorFrame → List Created → List Created
+abbrev pub creating : ℕ → FrameSinkId → LocalSurfaceId → CompositorFrame → List Surface → List Surface
 creating c sink local frame surfaces =
     if is_last (last_in surfaces c) local then surfaces
     else surfaces ++ new_surface c (surface_of sink local) frame surfaces ∷ []
@@ -102,7 +102,7 @@ unfoldable pub marking : ℕ → Stored → Stored
 marking c st = record st { surfaces = map (mark_of c) st.surfaces }
 
 -- a surface is destroyed if it has this id
-abbrev pub ended_at : SurfaceId → Created → Created
+abbrev pub ended_at : SurfaceId → Surface → Surface
 ended_at id c = if same_surface c.id id then record c { destroyed = true } else c
 
 -- a waiting or active submission on the surface with this id is dropped

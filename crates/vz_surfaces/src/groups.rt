@@ -4,31 +4,14 @@ ghost use Rattle.std.specs.Option.{option_copied};
 ghost use Rattle.vz_ids.specs.declared.SurfaceId.{SurfaceId as Id};
 ghost use Rattle.vz_ids.specs.Ids.{same_surface, at_least};
 ghost use Rattle.vz_surfaces.specs.declared.groups.Link.{Link as One};
-ghost use Rattle.vz_surfaces.specs.Chains.{is_group, key_of, group_at, links_at, ids_of, chain_at, newest_at, reaches, newer_local, IsRising, last_acting, newest_to};
+ghost use Rattle.vz_surfaces.specs.Chains.{is_group, group_at, links_at, ids_of, chain_at, newest_at, reaches, newer_local, IsRising, last_acting, newest_to};
 
 use crate::table::Table;
 use indexmap::IndexMap;
 use smallvec::SmallVec;
 use std::alloc::Global;
 use vz_base::Memory;
-use vz_ids::{EmbedToken, FrameSinkId, LocalSurfaceId, SurfaceId};
-
-/// A group: the surfaces of one sink with one embed token.
-#[derive(Clone, Copy, PartialEq, Eq, Hash)]
-pub(crate) struct GroupKey {
-    sink: FrameSinkId,
-    token: EmbedToken,
-}
-
-/// The group of a surface.
-fn key_of(id: &SurfaceId) -> GroupKey
-    ensures { result ≡ key_of id.now }
-{
-    GroupKey {
-        sink: id.sink,
-        token: id.local.token,
-    }
-}
+use vz_ids::{EmbedToken, FrameSinkId, GroupKey, LocalSurfaceId, SurfaceId};
 
 /// A surface of a group, with its key in the table.
 #[derive(Clone, Copy)]
@@ -78,13 +61,6 @@ pub(crate) struct Groups {
     groups: IndexMap<GroupKey, Group>,
 }
 
-/// Whether a surface is the other one or a newer one of its group.
-pub(crate) fn is_at_least(id: &SurfaceId, than: &SurfaceId) -> bool
-    ensures { result ≡ at_least id.now than.now }
-{
-    *id == *than || (id.sink == than.sink && id.local.newer(&than.local))
-}
-
 /// Appends a surface.
 fn append(chain: &mut SmallVec<Link, FEW>, link: Link) -> Result<(), Memory>
     ensures ok { OnOk result (chain.new.items ≡ chain.old.items ++ link ∷ []) }
@@ -111,7 +87,7 @@ impl Groups {
         ensures err { (q : Id) → OnErr result (links_at self.new q ≡ links_at self.old q) }
         ensures newest { (q : Id) → newest_at self.new q ≡ newest_at self.old q }
     {
-        let key = key_of(&link.id);
+        let key = link.id.group();
         match self.groups.get_mut(&key) {
             Some(group) => append(&mut group.chain, link),
             None => {
@@ -136,7 +112,7 @@ impl Groups {
         ensures newest { (q : Id) → newest_at self.new q ≡ cond (is_group id.now q)
             (newer_local id.now.local (newest_at self.old q)) (newest_at self.old q) }
     {
-        if let Some(group) = self.groups.get_mut(&key_of(id)) {
+        if let Some(group) = self.groups.get_mut(&id.group()) {
             group.newest = newer_of(group.newest, id.local);
         }
     }
@@ -148,7 +124,7 @@ impl Groups {
             (links_at self.old q) }
         ensures newest { (q : Id) → newest_at self.new q ≡ newest_at self.old q }
     {
-        if let Some(group) = self.groups.get_mut(&key_of(id)) {
+        if let Some(group) = self.groups.get_mut(&id.group()) {
             forget(&mut group.chain, id);
         }
     }
@@ -157,17 +133,17 @@ impl Groups {
     pub(crate) fn was_active(&self, d: &SurfaceId) -> bool
         ensures { result ≡ reaches (newest_at self.now d.now) d.now }
     {
-        match self.groups.get(&key_of(d)) {
+        match self.groups.get(&d.group()) {
             None => false,
             Some(group) => match group.newest {
                 None => false,
-                Some(local) => is_at_least(
-                    &SurfaceId {
+                Some(local) => {
+                    let newest = SurfaceId {
                         sink: d.sink,
                         local,
-                    },
-                    d,
-                ),
+                    };
+                    newest.is_at_least(d)
+                }
             },
         }
     }
@@ -179,7 +155,7 @@ impl Groups {
         requires { IsRising (chain_at self.now end.now) }
         ensures { option_copied result ≡ newest_to table.now self.now end.now }
     {
-        match self.groups.get(&key_of(end)) {
+        match self.groups.get(&end.group()) {
             None => None,
             Some(group) => last_active(up_to(group.chain.as_slice(), end), table),
         }
@@ -190,7 +166,7 @@ impl Groups {
     pub(crate) fn newest<'a>(&'a self, start: &SurfaceId, table: &Table) -> Option<&'a Link>
         ensures { option_copied result ≡ last_acting table.now (links_at self.now start.now) }
     {
-        match self.groups.get(&key_of(start)) {
+        match self.groups.get(&start.group()) {
             None => None,
             Some(group) => last_active(group.chain.as_slice(), table),
         }
@@ -228,7 +204,7 @@ fn up_to<'a>(chain: &'a [Link], end: &SurfaceId) -> &'a [Link]
     requires { IsRising (ids_of chain.now) }
     ensures { result.now ≡ filter (λ (l : One). at_least end.now l.id) chain.now }
 {
-    let count = chain.partition_point(|link| is_at_least(end, &link.id));
+    let count = chain.partition_point(|link| end.is_at_least(&link.id));
     &chain[..count]
 }
 

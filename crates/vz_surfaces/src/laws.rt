@@ -13,7 +13,7 @@ ghost use Rattle.vz_pixels.specs.Block.{Block};
 ghost use Rattle.vz_frame.specs.declared.frame.CompositorFrame.{CompositorFrame};
 ghost use Rattle.vz_frame.specs.declared.message.Message.TheVariants.{Close};
 ghost use Rattle.vz_rules.specs.Plan.{Plan};
-ghost use Rattle.vz_rules.specs.World.{World, Client, Created, Submission, opening, exists, existing, active_frames, frame_on, is_waiting, is_active, is_on, last_created, sub_of};
+ghost use Rattle.vz_rules.specs.World.{World, Client, Surface, Submission, opening, exists, existing, active_frames, frame_on, is_waiting, is_active, is_on, last_created, sub_of};
 ghost use Rattle.vz_rules.specs.Scene.{shown};
 ghost use Rattle.vz_rules.specs.Settle.{is_met};
 ghost use Rattle.vz_rules.specs.Reach.{naming};
@@ -37,7 +37,7 @@ pub fn stores_follow()
         → stored_of (rising s w) ≡ activating (sub_of s) (stored_of w) }
     ensures closed { (w : World) (c : Client)
         → stored_of (message_answer w c Close).world ≡ marking c.number (stored_of w) }
-    ensures destroyed { (w : World) (c : Created)
+    ensures destroyed { (w : World) (c : Surface)
         → stored_of (going c w) ≡ destroying c.id (stored_of w) }
 {}
 
@@ -69,12 +69,12 @@ pub fn stores_tell()
     ensures marks { (w : World) (id : SurfaceId) → has_mark (stored_of w) id
         ≡ (elim (existing w id) [ Some c ↦ c.marked | None ↦ false ]) }
     ensures count { (w : World) → existing_count (stored_of w)
-        ≡ count_by (λ (s : Created). not s.destroyed) w.surfaces }
+        ≡ count_by (λ (s : Surface). not s.destroyed) w.surfaces }
     ensures marked { (w : World) (c : ℕ) → marked_of c (stored_of w)
-        ≡ map (λ s. s.id) (filter (λ (s : Created). (s.client == c) && s.marked && not s.destroyed)
+        ≡ map (λ s. s.id) (filter (λ (s : Surface). (s.client == c) && s.marked && not s.destroyed)
         w.surfaces) }
     ensures last { (w : World) (c : ℕ) → last_of c (stored_of w)
-        ≡ option_map (λ (s : Created). (s.id.local, s.size)) (last_created w c) }
+        ≡ option_map (λ (s : Surface). (s.id.local, s.size)) (last_created w c) }
     ensures met { (w : World) (d : SurfaceId) → is_met w d ≡ (was_reached (stored_of w) d
         || list_any (λ (c : Client). c.closed && same_sink c.sink d.sink) w.clients) }
     ensures seen { (w : World) → KeepsAlways w

@@ -9,12 +9,12 @@ ghost use Rattle.vz_surfaces.specs.Names.{AreNamed};
 use std::alloc::Global;
 use std::marker::Model;
 use vz_base::Memory;
-use vz_frame::{CompositorFrame, DrawQuad, List, Listing, Material, RenderPass};
+use vz_frame::{BoxedFrame, CompositorFrame, DrawQuad, List, Listing, Material, RenderPass};
 
 /// A frame with its names resolved. Contracts see the frame alone.
 #[derive(Drop)]
 pub struct NamedFrame {
-    frame: CompositorFrame,
+    frame: BoxedFrame,
     places: List<List<Option<usize>>>,
 }
 
@@ -31,7 +31,7 @@ impl Model for NamedFrame {
 
 impl NamedFrame {
     /// Joins a frame and the places of its names. Condition: the places are right.
-    pub(crate) fn new(frame: CompositorFrame, places: List<List<Option<usize>>>) -> NamedFrame
+    pub(crate) fn new(frame: BoxedFrame, places: List<List<Option<usize>>>) -> NamedFrame
         requires { AreNamed frame places }
         ensures { result ≡ frame }
     {
@@ -42,7 +42,7 @@ impl NamedFrame {
     pub fn frame(&self) -> &CompositorFrame
         ensures { result.now ≡ self.now }
     {
-        &self.frame
+        self.frame.as_frame()
     }
 
     /// The place to which the name in a quad leads; `pass` is the place of the quad's pass in the

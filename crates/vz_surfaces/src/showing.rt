@@ -4,7 +4,7 @@ ghost use Rattle.std.specs.Option.{option_copied};
 ghost use Rattle.vz_ids.specs.Ids.{same_group};
 ghost use Rattle.vz_surfaces.specs.Chains.{IsRising, chain_at, that_passes, starts_from, newest_to, newest_from, shown_link};
 
-use crate::groups::{Groups, Link, is_at_least};
+use crate::groups::{Groups, Link};
 use crate::table::Table;
 use vz_ids::{SurfaceId, SurfaceRange};
 
@@ -15,7 +15,7 @@ fn starts_from(range: &SurfaceRange, id: &SurfaceId) -> bool
 {
     match range.start {
         None => true,
-        Some(start) => !start.same_group(&range.end) || is_at_least(id, &start),
+        Some(start) => !start.same_group(&range.end) || id.is_at_least(&start),
     }
 }
 
@@ -53,7 +53,7 @@ fn newest_from<'a>(groups: &'a Groups, table: &Table, range: &SurfaceRange) -> O
             match groups.newest(&start, table) {
                 None => None,
                 Some(link) => {
-                    if is_at_least(&link.id, &start) {
+                    if link.id.is_at_least(&start) {
                         Some(link)
                     } else {
                         None

@@ -4,7 +4,7 @@ ghost use Rattle.std.specs.List.{Contains};
 ghost use Rattle.std.specs.Option.{option_copied, option_map};
 ghost use Rattle.indexmap.specs.IndexMap.{spare as spare_of};
 ghost use Rattle.vz_ids.specs.declared.SurfaceId.{SurfaceId as Id};
-ghost use Rattle.vz_rules.specs.World.{Created as Surface, Submission, is_on, is_waiting, sub_of};
+ghost use Rattle.vz_rules.specs.World.{Surface, Submission, is_on, is_waiting, sub_of};
 ghost use Rattle.vz_rules.specs.Messages.{violates, is_last};
 ghost use Rattle.vz_rules.specs.Scene.{shown_frame};
 ghost use Rattle.vz_rules.specs.Kept.{is_by, last_in};
@@ -29,7 +29,7 @@ use crate::waits::Waits;
 use std::alloc::Global;
 use std::marker::Model;
 use vz_base::Memory;
-use vz_frame::{CompositorFrame, List, Room};
+use vz_frame::{BoxedFrame, List, Room};
 use vz_geom::Size;
 use vz_ghost::GhostList;
 use vz_ids::{FrameSinkId, LocalSurfaceId, Sub, SurfaceId, SurfaceRange};
@@ -214,9 +214,9 @@ impl Store {
         c: u32,
         sink: FrameSinkId,
         local: LocalSurfaceId,
-        frame: CompositorFrame,
+        frame: BoxedFrame,
         blocks: List<PixelBlock>,
-    ) -> Result<Taken, CompositorFrame>
+    ) -> Result<Taken, BoxedFrame>
         requires number { HasNumber c }
         requires keeps { KeepsStored self.old }
         requires sink { IsSinkOf c sink self.old }
@@ -237,7 +237,7 @@ impl Store {
         let id = SurfaceId { sink, local };
         let owner = self.owners.get(c);
         let last = owner.is_last(&local);
-        let Ok(places) = places_of(self.alloc, &frame) else {
+        let Ok(places) = places_of(self.alloc, frame.as_frame()) else {
             return Err(frame);
         };
         let Ok(()) = grow(
@@ -252,7 +252,7 @@ impl Store {
         ) else {
             return Err(frame);
         };
-        let size = frame.size();
+        let size = frame.as_frame().size();
         let acceptance = note(
             &mut self.told,
             Acceptance {

@@ -2,7 +2,7 @@
 ghost use Rattle.std.specs.Prelude.{◌≡◌, ◌++◌, ◌∷◌, []};
 ghost use Rattle.vz_surfaces.specs.declared.told.Told.TheVariants.{Accepted};
 
-use vz_frame::{CompositorFrame, List};
+use vz_frame::{BoxedFrame, List};
 use vz_ghost::GhostList;
 use vz_ids::{FrameSinkId, LocalSurfaceId, Sub, SurfaceId};
 use vz_pixels::PixelBlock;
@@ -13,7 +13,7 @@ pub(crate) struct Acceptance {
     pub(crate) client: u32,
     pub(crate) sink: FrameSinkId,
     pub(crate) local: LocalSurfaceId,
-    pub(crate) frame: CompositorFrame,
+    pub(crate) frame: BoxedFrame,
     pub(crate) blocks: List<PixelBlock>,
 }
 

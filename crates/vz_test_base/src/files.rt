@@ -52,7 +52,7 @@ fn is_frame_tested(alloc: Global, file: &ClientFile, expected: &str) -> bool {
 fn first_frame(file: &ClientFile) -> Option<&CompositorFrame> {
     for message in &file.messages {
         if let Message::Submit { frame, .. } = message {
-            return Some(frame);
+            return Some(frame.as_frame());
         }
     }
     None

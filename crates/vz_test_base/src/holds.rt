@@ -36,7 +36,7 @@ fn put_message(out: &mut String, message: &Message) -> Result<(), AllocError> {
         Message::Upload { id, block } => write!(out, "; Upload {id} {:?}", block.pixels()),
         Message::Submit { local, frame } => {
             write!(out, "; Submit {local:?}")?;
-            put_frame(out, frame)
+            put_frame(out, frame.as_frame())
         }
         Message::DidNotProduce(number) => write!(out, "; DidNotProduce {number}"),
         Message::Reclaim => out.push_str("; Reclaim"),

@@ -23,7 +23,7 @@ pub fn calls_of_shelf<L: Ledger, R: Threads + Wait + AllocGlobal + Sync>(
     }
     for shelf in 1..MANY {
         let left = left_by(rt, row, Failing { shelf, sink: 0 }, steps)?;
-        if left.run.status == 0 {
+        if u32::from(left.run.status) == row.status {
             return Ok(Some(shelf - 1));
         }
         if !is_cut_short(row, &left) {
@@ -47,7 +47,7 @@ fn misses_line<L: Ledger, R: Threads + Wait + AllocGlobal + Sync>(
             && left.run.history.as_slice().len() == row.entries as usize
             && left.shelf.bytes_of(FRAMES) == row.due(FRAMES)
             && has_log(row, &left)
-            && again.run.status == 0,
+            && u32::from(again.run.status) == row.status,
     )
 }
 

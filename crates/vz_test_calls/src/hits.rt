@@ -127,7 +127,9 @@ fn events_alike(alloc: Global, plan: &Plan, same: Plan, events: &[Event]) -> Res
 {
     let size = plan.size();
     let mut plain = PlainMachine::new(alloc, plan);
-    let mut fast = Manager::open(alloc, same)?;
+    let Ok(mut fast) = Manager::open(alloc, same) else {
+        return Err(Memory);
+    };
     let mut alike = are_alike(alloc, &plain, &fast, &size)?;
     for event in events {
         take(alloc, &mut plain, *event)?;
@@ -215,7 +217,7 @@ fn is_on(size: &Size, p: Point) -> bool
     requires { IsDisplaySize size.now }
     ensures { result ≡ has (sized size.now) p }
 {
-    Rect::new(0, 0, size.w, size.h).contains(p)
+    Rect::of_display(*size).contains(p)
 }
 
 /// The same at a point.

@@ -1,4 +1,5 @@
 //! The gates of the tests, as one type: the program is built once for each type of gate.
+use crate::course::CourseGate;
 use crate::meeting::MeetingGate;
 use crate::order::OrderGate;
 use crate::piped::PipedGate;
@@ -17,6 +18,7 @@ pub enum TestGate {
     Order(OrderGate),
     Meeting(MeetingGate),
     Piped(PipedGate),
+    Course(CourseGate),
 }
 
 impl TestGate {
@@ -26,6 +28,7 @@ impl TestGate {
             TestGate::Order(gate) => gate.is_told(),
             TestGate::Meeting(gate) => gate.all_met(),
             TestGate::Piped(gate) => gate.all_met(),
+            TestGate::Course(gate) => gate.is_told(),
         }
     }
 
@@ -35,6 +38,7 @@ impl TestGate {
             TestGate::Order(_) => {}
             TestGate::Meeting(_) => {}
             TestGate::Piped(gate) => gate.write(),
+            TestGate::Course(_) => {}
         }
     }
 }
@@ -45,6 +49,7 @@ impl Gate for TestGate {
             TestGate::Order(gate) => gate.call(actor, turn, Side::Before),
             TestGate::Meeting(gate) => gate.before(actor, turn),
             TestGate::Piped(gate) => gate.before(actor, turn),
+            TestGate::Course(gate) => gate.call(actor, turn, Side::Before),
         }
     }
 
@@ -53,6 +58,7 @@ impl Gate for TestGate {
             TestGate::Order(gate) => gate.call(actor, turn, Side::After),
             TestGate::Meeting(_) => {}
             TestGate::Piped(gate) => gate.after(actor),
+            TestGate::Course(gate) => gate.call(actor, turn, Side::After),
         }
     }
 }

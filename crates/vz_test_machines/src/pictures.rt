@@ -46,7 +46,7 @@ fn left_by_plain<L: Ledger, R: Threads + AllocGlobal + Sync>(
     let _files = plan.files();
     let machine = PlainMachine::new(rt.alloc(), plan);
     let mut steps = Steps::<L>::new(blank);
-    play(rt, rt.alloc(), machine, plan.size(), events, 2, &mut steps)
+    play(rt.alloc(), machine, plan.size(), events, 2, &mut steps)
 }
 
 /// Appends the bytes of pixels.

@@ -7,11 +7,12 @@ ghost use Rattle.vz_geom.specs.Display.{IsDisplaySize};
 ghost use Rattle.vz_rules.specs.Step.{NamesClient};
 
 use std::alloc::Global;
+use viz_run::event_of;
 use vz_base::limits::MOST_FILES;
 use vz_frame::ClientFile;
 use vz_gen::make;
 use vz_geom::Size;
-use vz_player::{event_of, is_of_plan};
+use vz_player::is_of_plan;
 use vz_rules::{Event, Plan};
 
 /// The display of the files by rule.

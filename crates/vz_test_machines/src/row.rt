@@ -5,9 +5,9 @@ use crate::plans::all_fit;
 use std::alloc::Global;
 use std::test::Fail;
 use vz_base::Memory;
-use vz_base::limits::MOST_FILES;
 use vz_frame::{
-    Blend, ClientFile, CompositorFrame, DrawQuad, List, Material, Message, Metadata, RenderPass,
+    Blend, BoxedFrame, ClientFile, CompositorFrame, DrawQuad, List, Material, Message, Metadata,
+    RenderPass,
 };
 use vz_geom::{Point, Rect, Size};
 use vz_ids::{EmbedToken, FrameSinkId, ParentAllocator};
@@ -63,33 +63,42 @@ fn submission(alloc: Global, high: i32) -> Result<Message, Memory>
 {
     Ok(Message::Submit {
         local: ParentAllocator::new(EmbedToken(1)).current(),
-        frame: frame(alloc, high)?,
+        frame: BoxedFrame::new(alloc, frame(alloc, high)?)?,
     })
 }
 
-/// A client's file with three submissions, of which the second has another size.
-fn file(alloc: Global) -> Result<ClientFile, Memory> {
+/// Three submissions, of which the second has another size.
+fn submissions(alloc: Global) -> Result<Vec<Message>, Memory> {
     let first = submission(alloc, 2)?;
     let second = submission(alloc, 3)?;
     let third = submission(alloc, 2)?;
     let messages = Vec::from_array(alloc, [first, second, third])?;
-    Ok(ClientFile {
+    Ok(messages)
+}
+
+/// The plan of one client with three submissions, on a display of 4 by 2.
+pub(crate) fn plan(alloc: Global) -> Result<Plan, Fail>
+    ensures { IfOk result (λ p. 1 ≤ length p.files) }
+{
+    let messages = submissions(alloc)?;
+    let plan = plan_of(alloc, messages)?;
+    Ok(plan)
+}
+
+/// The plan of one client with these messages, on a display of 4 by 2.
+pub(crate) fn plan_of(alloc: Global, messages: Vec<Message>) -> Result<Plan, Fail>
+    ensures { IfOk result (λ p. length p.files ≡ 1) }
+{
+    let mut files = Vec::new(alloc);
+    files.push(ClientFile {
         format: 1,
         sink: FrameSinkId {
             client_id: 1,
             sink_id: 1,
         },
         messages: List::from_vec(messages),
-    })
-}
-
-/// The plan of one client with that file, on a display of 4 by 2.
-pub(crate) fn plan(alloc: Global) -> Result<Plan, Fail>
-    ensures { IfOk result (λ p. 1 ≤ length p.files) }
-{
-    let mut files = Vec::new(alloc);
-    files.push(file(alloc)?)?;
-    if files.is_empty() || files.len() > MOST_FILES || !all_fit(&files) {
+    })?;
+    if files.len() != 1 || !all_fit(&files) {
         return Err("no plan")?;
     }
     match Plan::new(files, Size { w: 4, h: 2 }) {

@@ -166,7 +166,7 @@ fn whole(size: &Size) -> Rect
     requires { IsDisplaySize size.now }
     ensures { Covers (sized size.now) result }
 {
-    Rect::new(0, 0, size.w, size.h)
+    Rect::of_display(*size)
 }
 
 /// Takes an event of a machine's plan, and gives the picture of a drawing.

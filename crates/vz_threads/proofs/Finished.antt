@@ -15,7 +15,7 @@ use Rattle.vz_display.proofs.Drawings.{first_is}
 use Rattle.vz_player.specs.Played.{Played, played_at, frames_of as frames_by}
 use Rattle.vz_player.specs.Taken.{AddsFrames}
 use Rattle.vz_player.proofs.Adding.{HasAdded, more_added, front_added, others_kept}
-use Rattle.vz_player.proofs.Behaving.{then_behaves, behaves_as}
+use Rattle.vz_outside.proofs.Behaving.{then_behaves, behaves_as}
 use Rattle.vz_player.proofs.Growing.{frames_then_frames}
 use Rattle.vz_threads.specs.Courses.{IsRun, frames_of}
 use Rattle.vz_threads.specs.Outlets.{Outlook, file_of}

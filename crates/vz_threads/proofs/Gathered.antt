@@ -10,7 +10,7 @@ use Rattle.vz_outside.specs.declared.shelf.ShelfError.{ShelfError}
 use Rattle.vz_outside.specs.declared.shelf.ShelfError.TheVariants.{Memory}
 use Rattle.vz_outside.proofs.Calls.{call_same, kept_same, append_nothing}
 use Rattle.vz_outside.proofs.Rises.{ok_not_failed}
-use Rattle.vz_rules.specs.Plan.{Plan}
+use Rattle.vz_rules.specs.Plan.{Plan, message_counts}
 use Rattle.vz_rules.specs.declared.entry.Entry.{Entry}
 use Rattle.vz_rules.specs.Step.{Legal, LegalFrom}
 use Rattle.vz_rules.specs.Course.{displayed, IsPaced}
@@ -20,7 +20,7 @@ use Rattle.vz_desk.specs.declared.totals.Totals.{Totals}
 use Rattle.vz_desk.specs.Totals.{DisplayTotals, no_totals, no_display_totals, AreTotals}
 use Rattle.vz_desk.specs.Owners.{Owner, fresh, fresh_from, IsSameOwner}
 use Rattle.vz_desk.specs.Gathering.{IsGatheredClient, IsGatheredDisplay}
-use Rattle.vz_threads.specs.Courses.{frames_of, message_counts}
+use Rattle.vz_threads.specs.Courses.{frames_of}
 use Rattle.vz_threads.specs.Crews.{IsAtWork, IsCrew, CrewWorksOn, messages_of, HasTakenAll}
 use Rattle.vz_threads.specs.Outlets.{Outlook, file_of}
 use Rattle.vz_threads.specs.Rounds.{Setup, IsCut, HasPlayed, HasEnded, PlaysAll, IsCutShort}

@@ -24,7 +24,7 @@ use Rattle.vz_rules.specs.Course.{is_of_client, is_drawn, displayed, IsShow, Are
 use Rattle.vz_rules.specs.Frames.{drawn_frame_of}
 use Rattle.vz_machine.specs.Pictured.{Pictured}
 use Rattle.vz_machine.specs.Stepping.{ShowsDrawn}
-use Rattle.vz_player.proofs.Behaving.{memory_behaves}
+use Rattle.vz_outside.proofs.Behaving.{memory_behaves}
 use Rattle.vz_desk.specs.Books.{numbered}
 use Rattle.vz_desk.specs.Flights.{flies_by}
 use Rattle.vz_desk.specs.Owners.{Owner, IsSameOwner, MakesNone}

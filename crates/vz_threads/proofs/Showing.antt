@@ -22,7 +22,7 @@ use Rattle.vz_display.proofs.Histories.{drawn_is, written_is, steps_is, other_is
 use Rattle.vz_player.specs.Played.{first_played}
 use Rattle.vz_player.proofs.Frames.{last_whole}
 use Rattle.vz_player.proofs.Adding.{HasAdded, none_added, more_added, front_added, still_open}
-use Rattle.vz_player.proofs.Behaving.{then_behaves}
+use Rattle.vz_outside.proofs.Behaving.{then_behaves}
 use Rattle.vz_player.proofs.Growing.{frames_then_frames, one_frame}
 use Rattle.vz_player.proofs.Taking.{shows_written, frame_is}
 use Rattle.vz_threads.specs.Courses.{frames_of}

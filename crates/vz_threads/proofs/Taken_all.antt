@@ -7,7 +7,7 @@ use Rattle.std.proofs.lemmas.Bool.{ltb-true, ne_eqb}
 use Rattle.std.proofs.lemmas.Bool.Decides.{nat_tests}
 use Rattle.std.proofs.lemmas.Option.{slice_get_past}
 use Rattle.vz_frame.specs.declared.message.ClientFile.{ClientFile}
-use Rattle.vz_rules.specs.Plan.{Plan}
+use Rattle.vz_rules.specs.Plan.{Plan, message_counts}
 use Rattle.vz_rules.specs.World.{World, Client, Scene, client_at, new_client, new_clients, next_message}
 use Rattle.vz_rules.specs.Scene.{scene_of}
 use Rattle.vz_geom.specs.Rectangle.{is_empty_rect}
@@ -29,7 +29,7 @@ use Rattle.vz_rules.proofs.Members.{all_at, all_from, contains_cases, contains_n
 use Rattle.vz_rules.proofs.Prefixes.{legal-at}
 use Rattle.vz_rules.proofs.Taken.{taken_are}
 use Rattle.vz_player.specs.Played.{Played}
-use Rattle.vz_threads.specs.Courses.{IsRun, message_counts}
+use Rattle.vz_threads.specs.Courses.{IsRun}
 use Rattle.vz_threads.specs.Tails.{IsTail, AddsTail, TookAll}
 use Rattle.vz_threads.proofs.Quiet.{reply_of}
 use Rattle.vz_threads.proofs.Places.{at_split, all_pass}

@@ -5,7 +5,7 @@ use Rattle.std.proofs.lemmas.List.Elements.{filter-append}
 use Rattle.std.specs.Option.{option_and_then}
 use Rattle.vz_frame.specs.declared.message.ClientFile.{ClientFile}
 use Rattle.vz_frame.specs.declared.message.Message.{Message}
-use Rattle.vz_rules.specs.Plan.{Plan}
+use Rattle.vz_rules.specs.Plan.{Plan, message_counts}
 use Rattle.vz_rules.specs.declared.entry.Event.TheVariants as event
 use Rattle.vz_rules.specs.declared.entry.Reply.TheVariants as reply
 use Rattle.vz_rules.specs.declared.entry.Refusal.TheVariants as refusal
@@ -18,7 +18,6 @@ use Rattle.vz_rules.specs.Accounts.{takes, message_at}
 use Rattle.vz_rules.proofs.Cases.{message_cases, number_at}
 use Rattle.vz_rules.proofs.Numbered.{client_there, numbers_are}
 use Rattle.vz_rules.proofs.Taken.{taken_are}
-use Rattle.vz_threads.specs.Courses.{message_counts}
 use Rattle.vz_threads.specs.Crews.{messages_of}
 
 -- a reply is that a message comes too early

@@ -18,7 +18,7 @@ use Rattle.vz_desk.specs.Totals.{DisplayTotals}
 use Rattle.vz_desk.specs.Owners.{Owner}
 use Rattle.vz_desk.specs.Gathering.{IsGatheredClient, IsGatheredDisplay}
 use Rattle.vz_player.proofs.Adding.{HasAdded, none_added, more_added, front_added, others_kept}
-use Rattle.vz_player.proofs.Behaving.{memory_behaves, then_behaves}
+use Rattle.vz_outside.proofs.Behaving.{memory_behaves, then_behaves}
 use Rattle.vz_threads.specs.Courses.{frames_of}
 use Rattle.vz_pipe.specs.Ends.{PipeId, Taking}
 use Rattle.vz_threads.specs.Outlets.{Outlook, Fixed, file_of}

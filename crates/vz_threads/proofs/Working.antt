@@ -1,7 +1,7 @@
 -- What an end at work keeps.
 use Rattle.std.proofs.Common.{◌≡◌, ℕ, ◌+◌, ◌<◌, ◌≤◌, Bool, true, false, cond, Option, Some, List, [], ◌∷◌, ◌++◌, map, length, refl, ap, sym, ◌∙◌, subst, arith}
 use Rattle.atomic_table.specs.Seated.{TableId}
-use Rattle.vz_rules.specs.Plan.{Plan}
+use Rattle.vz_rules.specs.Plan.{Plan, message_counts}
 use Rattle.vz_rules.specs.declared.entry.Entry.{Entry}
 use Rattle.vz_rules.specs.Whole.{is_in_time}
 use Rattle.vz_rules.specs.Accounts.{takes}
@@ -13,7 +13,6 @@ use Rattle.vz_desk.specs.Books.{numbered}
 use Rattle.vz_desk.specs.declared.totals.Totals.{Totals}
 use Rattle.vz_desk.specs.Owners.{Owner, IsSameOwner, MakesNone, Stands}
 use Rattle.vz_desk.specs.Answers.{Told, is_early, Answered, Waited}
-use Rattle.vz_threads.specs.Courses.{message_counts}
 use Rattle.vz_threads.specs.Crews.{messages_of, IsAtWork, MayTake, WorksOn}
 use Rattle.vz_threads.proofs.Taking.{IsEarly, took_one}
 

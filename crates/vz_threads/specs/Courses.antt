@@ -1,6 +1,5 @@
 -- What a run with a thread for each client gives.
-use Rattle.std.specs.Prelude.{ℕ, Bool, IsTrue, List, map, length}
-use Rattle.vz_frame.specs.declared.message.ClientFile.{ClientFile}
+use Rattle.std.specs.Prelude.{ℕ, Bool, IsTrue, List}
 use Rattle.vz_rules.specs.Plan.{Plan}
 use Rattle.vz_rules.specs.declared.entry.Entry.{Entry}
 use Rattle.vz_rules.specs.Step.{world, Legal}
@@ -20,7 +19,3 @@ pub record IsRun (p : Plan) (rounds : ℕ) (paced : Bool) (h : List Entry) : Typ
 -- the bytes of the frames that a history writes, with so many buffers
 abbrev pub frames_of : Plan → List Entry → ℕ → List ℕ
 frames_of p h buffers = frames_bytes (written p h buffers)
-
--- how many messages each client's file has
-abbrev pub message_counts : Plan → List ℕ
-message_counts p = map (λ (file : ClientFile). length file.messages) p.files

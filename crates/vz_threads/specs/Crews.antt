@@ -1,11 +1,10 @@
 -- The end of a client while its messages are taken, by its thread or after all threads have ended.
 use Rattle.std.specs.Prelude.{◌≡◌, ℕ, ◌-◌, ◌≤◌, true, ◌⊎◌, All, Some, List, map, reverse, length, slice_index}
 use Rattle.atomic_table.specs.Seated.{TableId}
-use Rattle.vz_rules.specs.Plan.{Plan}
+use Rattle.vz_rules.specs.Plan.{Plan, message_counts}
 use Rattle.vz_desk.specs.declared.totals.Totals.{Totals}
 use Rattle.vz_desk.specs.Owners.{Owner}
 use Rattle.vz_desk.specs.Answers.{TellsIdle}
-use Rattle.vz_threads.specs.Courses.{message_counts}
 use Rattle.vz_threads.specs.declared.crew.Started.{Started}
 use Rattle.vz_threads.specs.declared.crew.Started.TheVariants.{Running, Here}
 

@@ -5,7 +5,7 @@ use Rattle.vz_pixels.specs.Colour.{Colour}
 use Rattle.vz_outside.specs.Shelved.{Shelved, Name, KeepsOthers, Appends, AppendsFront, Behaves}
 use Rattle.vz_outside.specs.declared.shelf.ShelfError.{ShelfError}
 use Rattle.vz_outside.specs.declared.shelf.ShelfError.TheVariants.{Memory}
-use Rattle.vz_rules.specs.Plan.{Plan}
+use Rattle.vz_rules.specs.Plan.{Plan, message_counts}
 use Rattle.vz_rules.specs.declared.entry.Event.TheVariants as event
 use Rattle.vz_rules.specs.declared.entry.Entry.{Entry}
 use Rattle.vz_rules.specs.Step.{Legal}
@@ -15,7 +15,7 @@ use Rattle.vz_rules.specs.Frames.{written, frames_bytes}
 use Rattle.vz_desk.specs.declared.totals.Totals.{Totals}
 use Rattle.vz_desk.specs.Totals.{DisplayTotals, no_display_totals}
 use Rattle.vz_desk.specs.Owners.{Owner, fresh, fresh_from, IsSameOwner}
-use Rattle.vz_threads.specs.Courses.{frames_of, message_counts}
+use Rattle.vz_threads.specs.Courses.{frames_of}
 use Rattle.vz_threads.specs.Crews.{CrewWorksOn}
 use Rattle.vz_threads.specs.Outlets.{Outlook, file_of}
 use Rattle.vz_threads.specs.Rounds.{Setup, MayBegin, AreShown, PlaysAll, IsCutShort}

@@ -3,7 +3,7 @@
 use Rattle.std.specs.Prelude.{◌≡◌, ℕ, ◌-◌, ◌<◌, ◌≤◌, IsTrue, IsFalse, List, ◌++◌, length, take, get_or}
 use Rattle.std.specs.List.{Contains}
 use Rattle.vz_base.specs.declared.limits.TheConstants.{LAST_TICK}
-use Rattle.vz_rules.specs.Plan.{Plan}
+use Rattle.vz_rules.specs.Plan.{Plan, message_counts}
 use Rattle.vz_rules.specs.declared.entry.Entry.{Entry}
 use Rattle.vz_rules.specs.World.{World, Submission, is_waiting}
 use Rattle.vz_rules.specs.Step.{world}
@@ -11,7 +11,6 @@ use Rattle.vz_rules.specs.Course.{AreBegins, IsShow, some_waits}
 use Rattle.vz_rules.specs.Whole.{mine}
 use Rattle.vz_rules.specs.Accounts.{takes}
 use Rattle.vz_player.specs.Played.{Played}
-use Rattle.vz_threads.specs.Courses.{message_counts}
 
 -- these begin-frames follow a history, and before each of them some submission waits
 pub record AreAwaited (p : Plan) (h begins : List Entry) : Type 0 where

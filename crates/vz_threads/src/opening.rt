@@ -2,7 +2,7 @@
 ghost use Rattle.std.specs.Prelude.{◌≡◌, ◌≤◌, [], length, vec_capacity, IfOk};
 ghost use Rattle.vz_base.specs.declared.limits.TheConstants.{MOST_FILES};
 ghost use Rattle.vz_rules.specs.World.{opening};
-ghost use Rattle.vz_threads.specs.Courses.{message_counts};
+ghost use Rattle.vz_rules.specs.Plan.{message_counts};
 ghost use Rattle.vz_threads.specs.Runs.{IsOpened};
 
 use crate::crew::Started;

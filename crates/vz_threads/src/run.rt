@@ -4,10 +4,10 @@ ghost use Rattle.vz_base.specs.declared.limits.TheConstants.{MOST_BUFFERS, MOST_
 ghost use Rattle.vz_outside.specs.Shelved.{Writing, KeepsOthers, Appends, AppendsFront, Behaves};
 ghost use Rattle.vz_rules.specs.Frames.{painted};
 ghost use Rattle.vz_rules.specs.Log.{rest_of};
-ghost use Rattle.vz_rules.specs.Plan.{IsPlan};
+ghost use Rattle.vz_rules.specs.Plan.{IsPlan, message_counts};
 ghost use Rattle.vz_rules.specs.Step.{Legal};
 ghost use Rattle.vz_rules.specs.World.{opening};
-ghost use Rattle.vz_threads.specs.Courses.{IsRun, frames_of, message_counts};
+ghost use Rattle.vz_threads.specs.Courses.{IsRun, frames_of};
 
 use crate::chosen::run_chosen;
 use crate::finish::finish_run;

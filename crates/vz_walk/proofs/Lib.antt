@@ -1,11 +1,8 @@
-pub mod Fitting
-pub mod Rooms
 pub mod Meeting
 pub mod Passing
-pub mod Standing
+pub mod Walk_steps
 pub mod Seeing
 pub mod Rooting
 pub mod Alike
 pub mod Weighing
-pub mod Sides
 pub mod Pairing

@@ -11,7 +11,7 @@ use Rattle.vz_rules.proofs.Remembered.{shown_in}
 use Rattle.vz_surfaces.specs.Stored.{Stored}
 use Rattle.vz_surfaces.specs.Reading.{seen_frames, active_on}
 use Rattle.vz_surfaces.specs.Keeping.{KeepsFrames}
-use Rattle.vz_walk.specs.Limits.{FitsFile}
+use Rattle.vz_placement.specs.Limits.{FitsFile}
 
 seen_fits : (st : Stored) (i : FrameData) → KeepsFrames st → Contains (seen_frames st) i → FitsFile i.frame
 seen_fits st i keeps c =

@@ -1,4 +1,3 @@
-pub mod Limits
 pub mod Meeting
 pub mod Walking
 pub mod Scenes

@@ -11,7 +11,7 @@ use Rattle.vz_rules.specs.Walk.{Placement, Visit, Enters, WalkRange, WalkNamed, 
 use Rattle.vz_rules.specs.Paint.{on_path}
 use Rattle.vz_surfaces.specs.Stored.{Stored}
 use Rattle.vz_surfaces.specs.Keeping.{KeepsStored, KeepsFrames}
-use Rattle.vz_walk.specs.Limits.{FitsFile}
+use Rattle.vz_placement.specs.Limits.{FitsFile}
 use Rattle.vz_walk.specs.declared.path.Path.{Path}
 use Rattle.vz_walk.specs.declared.path.Path.{Start, Behind'}
 

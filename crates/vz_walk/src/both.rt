@@ -1,10 +1,10 @@
 //! Two visitors that go along on one walk.
 ghost use Rattle.std.specs.Prelude.{◌≡◌, false};
 
-use crate::place::Place;
 use crate::visitor::Visitor;
 use vz_geom::Rect;
 use vz_ids::SurfaceRange;
+use vz_placement::Placement;
 use vz_surfaces::Seen;
 
 /// Two visitors that go along on one walk: each visit is reported to the first, and then to the
@@ -58,7 +58,7 @@ impl<A: Visitor, B: Visitor> Visitor for Both<A, B> {
         self.second.shows(range, shown, seen)
     }
 
-    fn enters(&mut self, depth: u32, frame: &Seen<'_>, place: &Place) -> bool {
+    fn enters(&mut self, depth: u32, frame: &Seen<'_>, place: &Placement) -> bool {
         if !self.first.enters(depth, frame, place) {
             self.first_stopped = true;
             return false;

@@ -1,12 +1,12 @@
 //! What goes along on a walk.
 ghost use Rattle.std.specs.Prelude.{List, [], ◌∷◌};
 ghost use Rattle.vz_rules.specs.Walk.{Visit, Quad, Shows, Enters};
-ghost use Rattle.vz_walk.specs.Limits.{FitsFile, HasRoom};
+ghost use Rattle.vz_placement.specs.Limits.{FitsFile, HasRoom};
 ghost use Rattle.vz_walk.specs.Meeting.{Meets};
 
-use crate::place::Place;
 use vz_geom::Rect;
 use vz_ids::SurfaceRange;
+use vz_placement::Placement;
 use vz_surfaces::Seen;
 
 /// Gets a report of each visit of a walk, in order. Each method returns whether the walk goes on.
@@ -31,7 +31,7 @@ pub trait Visitor {
     /// The walk enters a surface: `depth` surfaces are on the path then, and the frame and its
     /// place are given. Conditions: the frame fits a message file, and the place is within the
     /// limits.
-    fn enters(&mut self, depth: u32, frame: &Seen<'_>, place: &Place) -> bool
+    fn enters(&mut self, depth: u32, frame: &Seen<'_>, place: &Placement) -> bool
         requires fits { FitsFile frame.now.frame }
         requires room { HasRoom 0 place.now.shift }
         ensures { Meets has_met has_stopped result self.old self.new

@@ -5,21 +5,20 @@ ghost use Rattle.vz_rules.specs.Walk.{walk};
 ghost use Rattle.vz_surfaces.specs.Reading.{seen_frames};
 ghost use Rattle.vz_surfaces.specs.Keeping.{KeepsStored, KeepsFrames};
 ghost use Rattle.vz_surfaces.specs.Names.{place_named};
-ghost use Rattle.vz_walk.specs.Limits.{FitsFile, HasRoom, IsPassInReach, IsQuadInReach};
-ghost use Rattle.vz_walk.specs.Limits.{coordinates, room_for};
+ghost use Rattle.vz_placement.specs.Limits.{FitsFile, HasRoom, IsPassInReach, IsQuadInReach, coordinates, room_for};
 ghost use Rattle.vz_walk.specs.Meeting.{Meets};
 ghost use Rattle.vz_walk.specs.Scenes.{walked_in};
 ghost use Rattle.vz_walk.specs.Walking.{ids, ranges_of, quad_of, pass_of, group_at};
 ghost use Rattle.vz_walk.specs.Walking.{shown_at};
 
 use crate::path::Path;
-use crate::place::Place;
 use crate::visitor::Visitor;
 use std::marker::Model;
 use vz_base::limits::MOST_ON_PATH;
 use vz_frame::{DrawQuad, Material, RenderPass};
 use vz_geom::Size;
 use vz_ids::{SurfaceId, SurfaceRange};
+use vz_placement::Placement;
 use vz_surfaces::{NamedFrame, Seen, Store};
 
 /// How many surfaces deep the walk goes: one more than the limit allows.
@@ -60,7 +59,7 @@ fn surface<V: Visitor>(
     levels: u32,
     path: &Path<'_>,
     seen: &Seen<'_>,
-    place: &Place,
+    place: &Placement,
     visitor: &mut V,
 ) -> bool
     requires keeps { KeepsStored store.now }
@@ -96,7 +95,7 @@ impl<'b, 's> Walker<'b, 's> {
     /// The walk in one pass of the frame. Conditions: the pass exists, and the place has room for
     /// it, those before it and all surfaces that are left.
     #[cycle(walk)]
-    fn pass<V: Visitor>(&self, k: usize, place: &Place, visitor: &mut V) -> bool
+    fn pass<V: Visitor>(&self, k: usize, place: &Placement, visitor: &mut V) -> bool
         requires there { k < length self.now.frame.passes }
         requires room { HasRoom (room_for self.now.levels (k + 1)) place.now.shift }
         ensures { Meets V.has_met V.has_stopped result visitor.old visitor.new
@@ -123,7 +122,7 @@ impl<'b, 's> Walker<'b, 's> {
         pass: &RenderPass,
         quad: &DrawQuad,
         leads_to: Option<usize>,
-        place: &Place,
+        place: &Placement,
         visitor: &mut V,
     ) -> bool
         requires there { k < length self.now.frame.passes }
@@ -153,7 +152,7 @@ impl<'b, 's> Walker<'b, 's> {
     /// The walk in an earlier pass that a quad draws. Conditions: the pass exists, and its place
     /// has room for it, those before it and all surfaces that are left.
     #[cycle(walk)]
-    fn group<V: Visitor>(&self, k: usize, place: &Place, visitor: &mut V) -> bool
+    fn group<V: Visitor>(&self, k: usize, place: &Placement, visitor: &mut V) -> bool
         requires there { k < length self.now.frame.passes }
         requires room { HasRoom (room_for self.now.levels (k + 1) + coordinates 1)
             place.now.shift }
@@ -167,7 +166,7 @@ impl<'b, 's> Walker<'b, 's> {
     /// A range, and the walk in the surface that it shows, unless that is on the path. Condition:
     /// the place has room for all surfaces that are left.
     #[cycle(walk)]
-    fn range<V: Visitor>(&self, range: &SurfaceRange, place: &Place, visitor: &mut V) -> bool
+    fn range<V: Visitor>(&self, range: &SurfaceRange, place: &Placement, visitor: &mut V) -> bool
         requires { HasRoom (room_for self.now.levels 0) place.now.shift }
         ensures { Meets V.has_met V.has_stopped result visitor.old visitor.new
             (ranges_of self.now range.now place.now) }
@@ -185,7 +184,7 @@ impl<'b, 's> Walker<'b, 's> {
     /// The walk in a shown surface, unless it is on the path. Conditions: its frame fits a
     /// message file, and the place has room for all surfaces that are left.
     #[cycle(walk)]
-    fn shown<V: Visitor>(&self, seen: &Seen<'_>, place: &Place, visitor: &mut V) -> bool
+    fn shown<V: Visitor>(&self, seen: &Seen<'_>, place: &Placement, visitor: &mut V) -> bool
         requires fits { FitsFile seen.now.frame }
         requires room { HasRoom (room_for self.now.levels 0) place.now.shift }
         ensures { Meets V.has_met V.has_stopped result visitor.old visitor.new
@@ -215,7 +214,7 @@ pub fn walk<V: Visitor>(store: &Store, root: &SurfaceId, size: Size, visitor: &m
     match store.frame_on(root) {
         None => true,
         Some(seen) => {
-            let place = Place::whole(size);
+            let place = Placement::whole(size);
             if !visitor.enters(1, &seen, &place) {
                 return false;
             }

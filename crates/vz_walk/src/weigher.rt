@@ -5,12 +5,12 @@ ghost use Rattle.vz_surfaces.specs.Keeping.{KeepsStored, KeepsFrames};
 ghost use Rattle.vz_walk.specs.Scenes.{walked_in};
 ghost use Rattle.vz_walk.specs.Weighing.{IsWeightOf};
 
-use crate::place::Place;
 use crate::visitor::Visitor;
 use crate::walker::walk;
 use vz_base::limits::{MOST_ON_PATH, MOST_WEIGHT};
 use vz_geom::{Rect, Size};
 use vz_ids::{SurfaceId, SurfaceRange};
+use vz_placement::Placement;
 use vz_surfaces::{Seen, Store};
 
 /// A visitor that counts quads and stops the walk at the limit: exactly if more than
@@ -48,7 +48,7 @@ impl Visitor for Weigher {
         true
     }
 
-    fn enters(&mut self, depth: u32, _: &Seen<'_>, _: &Place) -> bool {
+    fn enters(&mut self, depth: u32, _: &Seen<'_>, _: &Placement) -> bool {
         depth <= MOST_ON_PATH as u32
     }
 }

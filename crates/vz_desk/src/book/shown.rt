@@ -1,5 +1,5 @@
 //! What the display asks of a book, and how a book ends.
-ghost use Rattle.std.specs.Prelude.{◌≡◌, OnOk, OnErr, IfSome, length, is_none, true};
+ghost use Rattle.std.specs.Prelude.{◌≡◌, OnOk, OnErr, None, IfSome, length, is_none, true};
 ghost use Rattle.vz_rules.specs.declared.entry.Event.TheVariants as event;
 ghost use Rattle.vz_rules.specs.Step.{NamesClient, Legal};
 ghost use Rattle.vz_desk.specs.Books.{booked_on, machine_of};
@@ -21,9 +21,10 @@ impl<M: Machine, S: Copy> Book<M, S> {
         self.history.as_slice().len() as u64
     }
 
-    /// Takes the event Done: it ends the drawn frame, if one is in flight. The only error is
-    /// `Memory`, and then nothing changes.
+    /// Takes the event Done: it ends the drawn frame, if one is in flight. Condition: no reason is
+    /// kept. The only error is `Memory`, and then nothing changes.
     pub fn empty_done(&mut self) -> Result<(), Memory>
+        requires running { self.old.reason ≡ None }
         ensures ok { OnOk result (self.new ≡ booked_on self.old event.Done) }
         ensures err { OnErr result (self.new ≡ self.old) }
     {
@@ -59,8 +60,10 @@ impl<M: Machine, S: Copy> Book<M, S> {
 
     /// A client for which a pause has to wait. If `last` is such a client, the answer is `last`,
     /// and the others are not asked. It is None exactly if each attached client is idle or has
-    /// answered the current begin-frame.
+    /// answered the current begin-frame. Condition: no reason is kept, so that no pause goes on
+    /// after a stop.
     pub fn restless(&self, last: u32) -> Option<u32>
+        requires running { self.now.reason ≡ None }
         ensures calm { is_none result ≡ is_calm self.now.plan (machine_of self.now).world }
         ensures restless { IfSome result (λ c. restless_at (machine_of self.now) c ≡ true) }
     {
@@ -68,6 +71,31 @@ impl<M: Machine, S: Copy> Book<M, S> {
             return Some(last);
         }
         self.first_restless()
+    }
+
+    /// Whether a pause may end: each attached client is idle or has answered the current
+    /// begin-frame. If it may not, the book keeps that a pause waits. Condition: no reason is
+    /// kept.
+    pub fn pause(&mut self) -> bool
+        requires running { self.old.reason ≡ None }
+        ensures same { self.new ≡ self.old }
+        ensures calm { result ≡ is_calm self.old.plan (machine_of self.old).world }
+    {
+        let restless = self.restless(self.awaited.unwrap_or(0));
+        let calm = restless.is_none();
+        self.awaited = restless;
+        calm
+    }
+
+    /// Whether a pause waits, and may end now. Condition: no reason is kept.
+    pub fn ends_pause(&self) -> bool
+        requires running { self.now.reason ≡ None }
+        ensures { result ≡ true → is_calm self.now.plan (machine_of self.now).world ≡ true }
+    {
+        match self.awaited {
+            None => false,
+            Some(client) => self.restless(client).is_none(),
+        }
     }
 
     /// Returns the machine and the history. It takes no memory.
@@ -81,6 +109,7 @@ impl<M: Machine, S: Copy> Book<M, S> {
             clients: _,
             history,
             reason: _,
+            awaited: _,
         } = self;
         Gathered { machine, history }
     }

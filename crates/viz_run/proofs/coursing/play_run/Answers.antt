@@ -1,6 +1,6 @@
 use Rattle.std.proofs.Common.{subst}
 use Rattle.vz_outside.proofs.Calls.{ran_one, ran_then_ran}
-use Rattle.vz_player.proofs.Behaving.{on_err, behaves_at, behaves_as, then_behaves}
+use Rattle.vz_outside.proofs.Behaving.{on_err, behaves_at, behaves_as, then_behaves}
 use Rattle.vz_player.proofs.Outs.{made_stands, none_made, log_stands, log_cut, stands_whole}
 use Rattle.vz_outside.specs.Shelved.{Appends, AppendsFront}
 use Rattle.vz_rules.specs.Log.{log_text}
@@ -77,8 +77,10 @@ write_log-requires g c =
     let b = g.F.Shelf.shelved c.create_outputs.new.shelf in
     let d = g.F.Shelf.shelved c.show_run.new.shelf in
     let before = made_stands w.frames.now w.log.now outputs a b made.frames made.log made.others made.behaves in
-    (shown_stands w.frames.now w.log.now c.requires.apart outputs a b d (frames_of p h (buffer_count w.buffers)) before shown.others
-    shown.frames (ran_one c.in_ok-rest.rest b d shown.behaves)).log_is.writing
+    record {
+      «open» = (shown_stands w.frames.now w.log.now c.requires.apart outputs a b d (frames_of p h (buffer_count w.buffers)) before shown.others
+          shown.frames (ran_one c.in_ok-rest.rest b d shown.behaves)).log_is.writing;
+    }
 
 pub returns-in_err-write_log-clause-begun : goal.returns-in_err-write_log-clause-begun
 returns-in_err-write_log-clause-begun g c =

@@ -1,5 +1,5 @@
 use Rattle.std.proofs.Common.{sym, ap, ◌∙◌}
-use Rattle.vz_player.proofs.Behaving.{on_err}
+use Rattle.vz_outside.proofs.Behaving.{on_err}
 use Rattle.vz_rules.specs.Plan.{Plan, IsPlan}
 use Rattle.viz_run.specs.Planned.{demo_plan}
 use Rattle.viz_run.specs.Demo.{demo_events}

@@ -1,5 +1,5 @@
 use Rattle.std.proofs.Common.{arith}
-use Rattle.vz_player.proofs.Behaving.{on_err}
+use Rattle.vz_outside.proofs.Behaving.{on_err}
 use Rattle.viz_run.proofs.Takes.{one_taken, goes_on, stopped_at}
 use Rattle.viz_run.proofs.demo.take_all.Goals as goal
 

@@ -1,10 +1,9 @@
-use Rattle.std.proofs.Common.{ℕ, length, sym, ap, ◌∙◌, arith}
+use Rattle.std.proofs.Common.{ℕ, length, sym, ap, ◌∙◌, arith, List}
 use Rattle.vz_outside.proofs.Calls.{ran_none, ran_one, ran_then_ran}
-use Rattle.viz_run.proofs.Behaving.{missing_before}
+use Rattle.vz_outside.proofs.Behaving.{missing_before}
 use Rattle.viz_run.specs.Read.{texts, contents}
 use Rattle.viz_run.specs.Refusals.{plan_read}
 use Rattle.viz_run.specs.Schedule.{events_of}
-use Rattle.std.proofs.Common.{List}
 use Rattle.viz_run.specs.Stepped.{refused_of}
 use Rattle.viz_run.proofs.Stepping.{ok_is_none}
 use Rattle.viz_run.proofs.Stopping.{stops_at, stops_after}

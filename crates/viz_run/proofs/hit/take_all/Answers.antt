@@ -1,5 +1,5 @@
 use Rattle.std.proofs.Common.{sym, subst, take}
-use Rattle.vz_player.proofs.Behaving.{on_err}
+use Rattle.vz_outside.proofs.Behaving.{on_err}
 use Rattle.viz_run.specs.Taken.{HasTested}
 use Rattle.viz_run.proofs.Takes.{one_tested}
 use Rattle.viz_run.proofs.hit.take_all.Goals as goal

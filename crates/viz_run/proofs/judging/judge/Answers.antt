@@ -6,7 +6,7 @@ use Rattle.vz_outside.proofs.Calls.{ran_none, ran_one, ran_then_ran, files_then_
 use Rattle.vz_check.specs.Verdict.{IsVerdict}
 use Rattle.vz_geom.specs.declared.Size.{Size}
 use Rattle.vz_rules.specs.Plan.{Plan}
-use Rattle.viz_run.proofs.Behaving.{missing_before}
+use Rattle.vz_outside.proofs.Behaving.{missing_before}
 use Rattle.viz_run.specs.Read.{texts, contents}
 use Rattle.viz_run.specs.Refusals.{plan_read}
 use Rattle.viz_run.specs.Judged.{refused_of}

@@ -10,7 +10,7 @@ loop-entry-init c = refl
 pub loop-entry-preserved : goal.loop-entry-preserved
 loop-entry-preserved c =
     upto_more c.args.history.now c.loop-entry.entry-index c.entry-item.result c.loop-entry.count c.saturating_add-count.result c.entry-item.result
-    c.loop-entry-test.true c.entry-item.is c.loop-entry.invariant (c.saturating_add-count.ensures ∙ ap (λ n. upto_most (c.loop-entry.count + n)) c.len.ensures)
+    c.loop-entry-test.true c.entry-item.is c.loop-entry.invariant (c.saturating_add-count.ensures ∙ ap (λ n. upto_most (c.loop-entry.count + n)) c.returned_in.ensures)
 
 pub returns : goal.returns
 returns c = c.loop-entry.invariant ∙ ap (λ h. upto_most (return_count h)) (take_all c.loop-entry.entry-index c.args.history.now c.loop-entry-test.false)

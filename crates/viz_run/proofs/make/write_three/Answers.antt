@@ -1,4 +1,4 @@
-use Rattle.vz_player.proofs.Behaving.{on_err}
+use Rattle.vz_outside.proofs.Behaving.{on_err}
 use Rattle.viz_run.proofs.Making.{first_begun, second_begun, third_begun, all_whole}
 use Rattle.viz_run.proofs.Asked_names.{names_apart}
 use Rattle.viz_run.proofs.make.write_three.Goals as goal

@@ -1,4 +1,4 @@
-use Rattle.viz_run.proofs.Behaving.{then_behaves, behaves_as, behaves_at, missing_before}
+use Rattle.vz_outside.proofs.Behaving.{then_behaves, behaves_as, behaves_at, missing_before}
 use Rattle.viz_run.proofs.Gathering.{read_next, misses_here, one_longer}
 use Rattle.viz_run.proofs.named_files.read_files.Goals as goal
 

@@ -1,6 +1,6 @@
 use Rattle.std.proofs.Common.{rules, inl, inr, refl}
 use Rattle.viz_run.proofs.Demo_fits.{planned}
-use Rattle.vz_player.proofs.Behaving.{on_err}
+use Rattle.vz_outside.proofs.Behaving.{on_err}
 use Rattle.vz_outside.proofs.Calls.{ran_none, ran_one}
 use Rattle.vz_words.specs.Words.{texts}
 use Rattle.viz_run.proofs.Stopping.{stops_at, stops_after}

@@ -1,6 +1,6 @@
 use Rattle.std.proofs.Common.{ℕ, All, take, sym, ap, subst, ◌∙◌}
 use Rattle.vz_base.specs.declared.limits.TheConstants.{DEFAULT_BUFFERS}
-use Rattle.vz_player.proofs.Behaving.{on_err}
+use Rattle.vz_outside.proofs.Behaving.{on_err}
 use Rattle.vz_geom.specs.Display.{IsDisplaySize}
 use Rattle.vz_player.specs.Played.{Played}
 use Rattle.vz_rules.specs.Plan.{Plan}

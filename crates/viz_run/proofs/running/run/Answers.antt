@@ -8,13 +8,12 @@ use Rattle.vz_outside.specs.declared.shelf.ShelfError.TheVariants as shelf_error
 use Rattle.vz_geom.specs.declared.Size.{Size}
 use Rattle.viz_run.specs.Read.{texts}
 use Rattle.viz_run.specs.Refusals.{plan_read}
-use Rattle.vz_player.proofs.Behaving.{on_err}
+use Rattle.vz_outside.proofs.Behaving.{on_err}
 use Rattle.vz_manager.proofs.Crossing.{manager_send}
 use Rattle.viz_run.specs.Commands.{output_names}
 use Rattle.viz_run.specs.Ends.{outputs_of}
-use Rattle.vz_rules.specs.Plan.{Plan, IsPlan}
+use Rattle.vz_rules.specs.Plan.{Plan, IsPlan, message_counts}
 use Rattle.vz_rules.specs.declared.entry.Entry.{Entry}
-use Rattle.vz_threads.specs.Courses.{message_counts}
 use Rattle.viz_run.specs.Lines.{end_line}
 use Rattle.viz_run.specs.Site.{site}
 use Rattle.viz_run.specs.Ran.{command_of, counts_of}

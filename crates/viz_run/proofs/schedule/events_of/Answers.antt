@@ -1,4 +1,4 @@
-use Rattle.std.proofs.Common.{◌+◌, length, get_or, refl, ◌∙◌, sym}
+use Rattle.std.proofs.Common.{◌+◌, ◌≤◌, length, get_or, refl, ◌∙◌, sym, subst, arith}
 use Rattle.viz_run.proofs.Flaws.{error_is, refused_is}
 use Rattle.viz_run.proofs.Schedules.{events_more, flawed_here, none_flawed, draws_more, asked_of}
 use Rattle.viz_run.proofs.schedule.events_of.Goals as goal
@@ -20,12 +20,14 @@ loop-at-preserved c =
     c.is_draw.ensures c.from-draws.ensures in (
       events_more c.args.plan.now bytes c.loop-at.at (get_or bytes c.loop-at.at 0) (c.loop-at.draws + c.from-draws.result) c.loop-at.events.items c.push_event.new.events.items
           c.loop-at-test.true refl c.files-clients.ensures.kept.few_files c.loop-at.invariant.0 drawn
-          (asked_of c.args.plan.now (length c.files-clients.result.now) c.size-size.result (c.loop-at.draws + c.from-draws.result) (get_or bytes c.loop-at.at 0) _ c.loop-at.invariant.4 c.loop-at.invariant.3 (sym c.rule_broken.ensures ∙ c.in_default.is))
-          c.in_ok-push_event.ensures,
+          (asked_of c.args.plan.now (length c.files-clients.result.now) c.size-size.result (c.loop-at.draws + c.from-draws.result) (get_or bytes c.loop-at.at 0) _ c.loop-at.invariant.4 c.loop-at.invariant.3 (sym c.rule_broken.ensures ∙ c.in_default-rule_broken.is))
+          c.push_event.ensures.pushed,
       drawn,
       c.loop-at.invariant.2,
       c.loop-at.invariant.3,
       c.loop-at.invariant.4,
+      omega (arith, c.push_event.ensures.one, c.loop-at.invariant.5),
+      subst (λ n. length bytes ≤ n) (sym c.push_event.ensures.room) c.loop-at.invariant.6,
     )
 
 pub returns-clause-accepted : goal.returns-clause-accepted

@@ -5,7 +5,7 @@ use Rattle.std.specs.declared.string.String.{String}
 use Rattle.vz_outside.proofs.Calls.{ran_one, ran_then_ran}
 use Rattle.vz_outside.specs.declared.shelf.ShelfError.TheVariants as shelf_error
 use Rattle.viz_run.specs.Read.{texts}
-use Rattle.vz_player.proofs.Behaving.{on_err}
+use Rattle.vz_outside.proofs.Behaving.{on_err}
 use Rattle.viz_run.specs.Commands.{output_names}
 use Rattle.viz_run.specs.Ends.{outputs_of}
 use Rattle.vz_rules.specs.Plan.{Plan, IsPlan}

@@ -3,14 +3,13 @@ use Rattle.std.proofs.Common.{rules, ◌≡◌, ◌∙◌, List, length, refl, s
 use Rattle.std.proofs.lemmas.List.{length-map}
 use Rattle.std.specs.String.{string_bytes}
 use Rattle.std.specs.declared.string.String.{String}
-use Rattle.vz_callers.specs.Turns.{message_counts}
 use Rattle.vz_geom.specs.declared.Size.{Size}
 use Rattle.viz_run.specs.Read.{texts}
 use Rattle.viz_run.specs.Refusals.{plan_read}
 use Rattle.vz_manager.proofs.Crossing.{manager_send}
-use Rattle.vz_player.proofs.Behaving.{on_err}
+use Rattle.vz_outside.proofs.Behaving.{on_err}
 use Rattle.vz_outside.specs.declared.shelf.ShelfError.TheVariants as shelf_error
-use Rattle.vz_rules.specs.Plan.{Plan, IsPlan}
+use Rattle.vz_rules.specs.Plan.{Plan, IsPlan, message_counts}
 use Rattle.vz_rules.specs.declared.entry.Entry.{Entry}
 use Rattle.viz_run.specs.Lines.{done_text, drawn_count}
 use Rattle.viz_run.specs.Ran.{counts_of}

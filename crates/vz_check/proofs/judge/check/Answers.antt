@@ -2,10 +2,10 @@ use Rattle.std.proofs.Common.{rules, ◌<◌, ◌≤◌, Some, None, length, tak
 use Rattle.vz_outside.proofs.Calls.{ran_one, ran_then_ran, ran_behaves}
 use Rattle.vz_journal.specs.Answers.{IsFirstEntry}
 use Rattle.vz_check.specs.Judged.{IsJudged, IsFound}
-use Rattle.vz_check.proofs.Behaving.{behaves_as, behaves_at, then_behaves}
+use Rattle.vz_outside.proofs.Behaving.{behaves_as, behaves_at, then_behaves}
 use Rattle.vz_check.proofs.Giving.{still_open}
 use Rattle.vz_check.specs.Verdict.{frames_of}
-use Rattle.vz_check.proofs.Standing.{stands_first, more_stand, entry_judged, end_judged, none_judged, was_read, line_some, fewer, left_of}
+use Rattle.vz_check.proofs.Log_so_far.{stands_first, more_stand, entry_judged, end_judged, none_judged, was_read, line_some, fewer, left_of}
 use Rattle.vz_check.proofs.judge.check.Goals as goal
 
 pub loop-at-init : goal.loop-at-init
@@ -23,7 +23,8 @@ returns-in_err-what-in-Some-clause-behaves g c =
     let before = was_read c.args.plan.now c.args.log.now c.args.slot (g.F.Shelf.shelved c.args.shelf.now) (g.F.Shelf.shelved c.loop-at.shelf) c.loop-at.machine c.loop-at.at c.loop-at.count c.loop-at.invariant in
     behaves_at _ _ (g.F.Shelf.shelved c.args.shelf.now) (g.F.Shelf.shelved c.fault_of.new.shelf) c.from_residual-in_err-what-in-Some.ensures.1
     (behaves_as _ (g.F.Shelf.shelved c.args.shelf.now) (g.F.Shelf.shelved c.fault_of.new.shelf)
-    (then_behaves _ (g.F.Shelf.shelved c.args.shelf.now) (g.F.Shelf.shelved c.loop-at.shelf) (g.F.Shelf.shelved c.fault_of.new.shelf) before.ran c.in_err-what-in-Some.ensures.behaves (λ never. never)))
+    (then_behaves _ (g.F.Shelf.shelved c.args.shelf.now) (g.F.Shelf.shelved c.loop-at.shelf) (g.F.Shelf.shelved c.fault_of.new.shelf) before.ran c.in_err-what-in-Some.ensures.behaves (λ never. never))
+    (λ never. never))
 
 pub returns-in-Some-2-clause-verdict : goal.returns-in-Some-2-clause-verdict
 returns-in-Some-2-clause-verdict g c =
@@ -47,6 +48,20 @@ loop-at-preserved g c =
     c.in-Some.entry c.in-Some.length c.loop-at.invariant c.files.ensures.kept first found c.in_ok-what-in-Some.ensures.plan c.in_ok-what-in-Some.ensures.kept
     (ran_one c.in_ok-what-in-Some.field-0 (g.F.Shelf.shelved c.loop-at.shelf) (g.F.Shelf.shelved c.fault_of.new.shelf) c.in_ok-what-in-Some.ensures.behaves)
 
+pub loop-at-smaller-in-None-2 : goal.loop-at-smaller-in-None-2
+loop-at-smaller-in-None-2 g c =
+    let here : c.loop-at.at < length c.args.log.now = search rules in
+    let first : IsFirstEntry (left_of c.args.log.now c.loop-at.at) (Some (c.in-Some.entry, c.in-Some.length)) = subst (IsFirstEntry (left_of c.args.log.now c.loop-at.at)) c.in-Some.is c.in_ok-read_entry.ensures in
+    fewer (length c.args.log.now) c.loop-at.at c.in-Some.length here (line_some (left_of c.args.log.now c.loop-at.at) c.in-Some.entry c.in-Some.length first)
+
+pub loop-at-preserved-in-None-2 : goal.loop-at-preserved-in-None-2
+loop-at-preserved-in-None-2 g c =
+    let first : IsFirstEntry (left_of c.args.log.now c.loop-at.at) (Some (c.in-Some.entry, c.in-Some.length)) = subst (IsFirstEntry (left_of c.args.log.now c.loop-at.at)) c.in-Some.is c.in_ok-read_entry.ensures in
+    let found = subst (IsFound c.loop-at.machine c.in-Some.entry.event (take c.in-Some.length (left_of c.args.log.now c.loop-at.at)) c.args.slot (g.F.Shelf.shelved c.loop-at.shelf) (g.F.Shelf.shelved c.fault_of.new.shelf) c.fault_of.new.machine) c.in-None-2.is c.in_ok-what-in-Some.ensures.found in
+    more_stand c.args.plan.now c.args.log.now c.args.slot (g.F.Shelf.shelved c.args.shelf.now) (g.F.Shelf.shelved c.loop-at.shelf) (g.F.Shelf.shelved c.fault_of.new.shelf) c.loop-at.machine c.fault_of.new.machine c.loop-at.at c.loop-at.count
+    c.in-Some.entry c.in-Some.length c.loop-at.invariant c.files.ensures.kept first found c.in_ok-what-in-Some.ensures.plan c.in_ok-what-in-Some.ensures.kept
+    (ran_one c.in_ok-what-in-Some.field-0 (g.F.Shelf.shelved c.loop-at.shelf) (g.F.Shelf.shelved c.fault_of.new.shelf) c.in_ok-what-in-Some.ensures.behaves)
+
 pub returns-clause-verdict : goal.returns-clause-verdict
 returns-clause-verdict g c =
     let all : length c.args.log.now ≤ c.loop-at.at = search rules in
@@ -58,7 +73,8 @@ returns-in_err-what-in-None-clause-behaves g c =
     let before = was_read c.args.plan.now c.args.log.now c.args.slot (g.F.Shelf.shelved c.args.shelf.now) (g.F.Shelf.shelved c.loop-at.shelf) c.loop-at.machine c.loop-at.at c.loop-at.count c.loop-at.invariant in
     behaves_at _ _ (g.F.Shelf.shelved c.args.shelf.now) (g.F.Shelf.shelved c.fault_at_end.new.shelf) c.from_residual-in_err-what-in-None.ensures.1
     (behaves_as _ (g.F.Shelf.shelved c.args.shelf.now) (g.F.Shelf.shelved c.fault_at_end.new.shelf)
-    (then_behaves _ (g.F.Shelf.shelved c.args.shelf.now) (g.F.Shelf.shelved c.loop-at.shelf) (g.F.Shelf.shelved c.fault_at_end.new.shelf) before.ran c.in_err-what-in-None.ensures.behaves (λ never. never)))
+    (then_behaves _ (g.F.Shelf.shelved c.args.shelf.now) (g.F.Shelf.shelved c.loop-at.shelf) (g.F.Shelf.shelved c.fault_at_end.new.shelf) before.ran c.in_err-what-in-None.ensures.behaves (λ never. never))
+    (λ never. never))
 
 pub returns-in-None-clause-behaves : goal.returns-in-None-clause-behaves
 returns-in-None-clause-behaves g c =

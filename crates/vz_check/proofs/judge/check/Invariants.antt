@@ -1,5 +1,5 @@
 use Rattle.std.proofs.Common.{◌-◌, length}
-use Rattle.vz_check.proofs.Standing.{StandsSome}
+use Rattle.vz_check.proofs.Log_so_far.{StandsSome}
 use Rattle.vz_check.proofs.judge.check.Given as goal
 
 -- the entries so far have no fault

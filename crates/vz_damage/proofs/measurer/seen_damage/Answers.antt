@@ -12,7 +12,7 @@ returns-clause-value c =
     let damage = c.args.damage.now in
     c.intersect.ensures.value
     ∙ (ap (λ (w : Rectangle). meet w c.moved.result) c.window.ensures
-    ∙ (ap (meet place.window) (c.moved.ensures ∙ (ap (moved c.inside_frame-part.result) c.shift.ensures
+    ∙ (ap (meet place.window) (c.moved.ensures ∙ (ap (moved c.inside_frame-part.result) c.shift.ensures.value
     ∙ ap (λ (r : Rectangle). moved r place.shift)
     (c.inside_frame-part.ensures.value ∙ ap (λ (f : CompositorFrame). meet (sized (frame_size f)) damage)
     (c.frame.ensures ∙ ap (λ (h : Held). h.frame) c.held.ensures))))

@@ -1,7 +1,7 @@
 use Rattle.std.proofs.Common.{◌++◌, None, replicate, sym, ap, ◌∙◌, arith}
 use Rattle.std.proofs.lemmas.List.{append-nil, map-append}
 use Rattle.vz_deadlines.specs.declared.slots.Slot.{Slot}
-use Rattle.vz_deadlines.specs.Standing.{held_in}
+use Rattle.vz_deadlines.specs.Slots.{held_in}
 use Rattle.vz_deadlines.proofs.Freed.{filled_more}
 use Rattle.vz_deadlines.proofs.slots.fill.Goals as goal
 

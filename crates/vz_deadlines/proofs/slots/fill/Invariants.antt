@@ -1,5 +1,5 @@
 use Rattle.std.proofs.Common.{◌≡◌, ◌≤◌, ◌+◌, ◌++◌, replicate, None, vec_len, vec_capacity}
-use Rattle.vz_deadlines.specs.Standing.{held_in}
+use Rattle.vz_deadlines.specs.Slots.{held_in}
 use Rattle.vz_deadlines.proofs.slots.fill.Given as goal
 
 -- so many free slots are put, and there is room for the others

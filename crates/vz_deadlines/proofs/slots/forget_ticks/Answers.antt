@@ -1,5 +1,5 @@
 use Rattle.std.proofs.Common.{refl, ap, ◌∙◌}
-use Rattle.vz_deadlines.specs.Standing.{held_in, are_unbounded}
+use Rattle.vz_deadlines.specs.Slots.{held_in, are_unbounded}
 use Rattle.vz_deadlines.proofs.Freed.{forgotten_next, forgotten_all, forgotten_held, forgotten_ticks}
 use Rattle.vz_deadlines.proofs.slots.forget_ticks.Goals as goal
 

@@ -2,7 +2,7 @@ use Rattle.std.proofs.Common.{[], ◌∷◌, ◌++◌, length, IsTrue, subst, sy
 use Rattle.std.proofs.lemmas.List.{append-nil}
 use Rattle.std.proofs.Math.Nat.{le_trans}
 use Rattle.std.proofs.lemmas.Bool.Decides.{nat_tests}
-use Rattle.vz_deadlines.specs.Standing.{standing, held_in, are_from}
+use Rattle.vz_deadlines.specs.Slots.{standing, held_in, are_from}
 use Rattle.vz_deadlines.proofs.Halves.{bounded_none, half_kept, from_first, joined, parted}
 use Rattle.vz_deadlines.proofs.Stands.{due_long, standing_first, standing_parts, put_parts, from_parts, skipped_due, skipped_left, due_empty, from_empty, left_long, held_each, due_fits}
 use Rattle.vz_deadlines.proofs.walk.+take_due.Goals as goal

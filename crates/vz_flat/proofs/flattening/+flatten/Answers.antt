@@ -7,7 +7,7 @@ use Rattle.vz_walk.specs.Walking.{ids}
 use Rattle.vz_flat.specs.Flattening.{Stand, earlier_of, passes_in, ranges_of, group_here, group_at, group_in}
 use Rattle.vz_flat.proofs.Wholes.{frame_whole}
 use Rattle.vz_flat.proofs.Named.{tile_drawn, name_drawn, name_before, pass_there, pass_whole}
-use Rattle.vz_flat.proofs.Standing.{group_room, name_room, no_passes, quad_room, surface_room, seen_whole, none_yet, one_more, surface_is}
+use Rattle.vz_flat.proofs.Flat_steps.{group_room, name_room, no_passes, quad_room, surface_room, seen_whole, none_yet, one_more, surface_is}
 use Rattle.vz_flat.proofs.flattening.+flatten.Goals as goal
 
 pub Flattener::named-inside-inner-requires-clause-pass : goal.Flattener::named-inside-inner-requires-clause-pass

@@ -9,21 +9,21 @@ use Rattle.vz_flat.proofs.tile.first_texel.Goals as goal
 pub overflow_add-result : goal.overflow_add-result
 overflow_add-result c =
     let n = c.corner-first.ensures.near in
-    let x = ap (λ (p : Point). p.x) c.shift-shift.ensures in
+    let x = ap (λ (p : Point). p.x) c.shift-shift.ensures.value in
     omega (arith, ints, x, n.left, n.right)
 
 pub overflow_add-result-2 : goal.overflow_add-result-2
 overflow_add-result-2 c =
     let n = c.corner-first.ensures.near in
-    let y = ap (λ (p : Point). p.y) c.shift-shift.ensures in
+    let y = ap (λ (p : Point). p.y) c.shift-shift.ensures.value in
     omega (arith, ints, y, n.top, n.bottom)
 
 pub returns : goal.returns
 returns c =
     let n = c.corner-first.ensures.near in
     let r = c.requires in
-    let x = ap (λ (p : Point). p.x) c.shift-shift.ensures in
-    let y = ap (λ (p : Point). p.y) c.shift-shift.ensures in
+    let x = ap (λ (p : Point). p.x) c.shift-shift.ensures.value in
+    let y = ap (λ (p : Point). p.y) c.shift-shift.ensures.value in
     let a = ap (λ (p : Point). p.x) c.corner-first.ensures.value ∙ ap (λ (r : Rectangle). r.x) c.window.ensures in
     let b = ap (λ (p : Point). p.y) c.corner-first.ensures.value ∙ ap (λ (r : Rectangle). r.y) c.window.ensures in
     let tx = c.ranges.tx.fits in

@@ -8,12 +8,12 @@ use Rattle.vz_frame.specs.declared.frame.DrawQuad.{DrawQuad}
 use Rattle.vz_rules.specs.Scene.{shown_frame}
 use Rattle.vz_rules.specs.Paint.{on_path}
 use Rattle.vz_surfaces.specs.Reading.{seen_frames}
-use Rattle.vz_walk.specs.Limits.{HasRoom, coordinates, room_for}
+use Rattle.vz_placement.specs.Limits.{HasRoom, coordinates, room_for}
 use Rattle.vz_walk.specs.Walking.{ids}
-use Rattle.vz_walk.proofs.Rooms.{room_less}
+use Rattle.vz_placement.proofs.Rooms.{room_less}
 use Rattle.vz_flat.proofs.Wholes.{frame_whole}
 use Rattle.vz_flat.proofs.Named.{pass_there, pass_whole}
-use Rattle.vz_flat.proofs.Standing.{name_room, quad_room, surface_room, seen_whole}
+use Rattle.vz_flat.proofs.Flat_steps.{name_room, quad_room, surface_room, seen_whole}
 use Rattle.vz_hit.specs.Hitting.{Stand, in_window, quads_of, material_of, entered}
 use Rattle.vz_hit.proofs.Adding.{adds_none, adds_then, adds_as, leaves_all, leaves_less, leaves_none}
 use Rattle.vz_hit.proofs.Rooms.{named_room, kept_room}

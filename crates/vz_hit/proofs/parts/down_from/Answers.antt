@@ -17,4 +17,4 @@ pub returns-then-bottom-at : goal.returns-then-bottom-at
 returns-then-bottom-at c p =
     let edge = c.bottom-bottom.ensures.value in
     let past = c.if-bottom-at.true in
-    ap (λ (s : Rectangle). has s p) c.nothing.ensures ∙ none_down c.args.r.now c.args.at p (omega (arith, ints))
+    ap (λ (s : Rectangle). has s p) c.empty.ensures ∙ none_down c.args.r.now c.args.at p (omega (arith, ints))

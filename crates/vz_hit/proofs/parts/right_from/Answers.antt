@@ -17,4 +17,4 @@ pub returns-then-right-at : goal.returns-then-right-at
 returns-then-right-at c p =
     let edge = c.right-right.ensures.value in
     let past = c.if-right-at.true in
-    ap (λ (s : Rectangle). has s p) c.nothing.ensures ∙ none_from c.args.r.now c.args.at p (omega (arith, ints))
+    ap (λ (s : Rectangle). has s p) c.empty.ensures ∙ none_from c.args.r.now c.args.at p (omega (arith, ints))

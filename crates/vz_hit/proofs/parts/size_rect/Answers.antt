@@ -3,7 +3,7 @@ use Rattle.vz_geom.specs.Rectangle.{sized}
 use Rattle.vz_frame.specs.declared.frame.CompositorFrame.{CompositorFrame}
 use Rattle.vz_frame.specs.Frame.{frame_size}
 use Rattle.vz_surfaces.specs.declared.held.Held.{Held}
-use Rattle.vz_flat.proofs.Sizes.{held_fits, size_in_reach}
+use Rattle.vz_flat.proofs.Sizes.{held_fits}
 use Rattle.vz_hit.proofs.parts.size_rect.Goals as goal
 
 pub frame_rect-requires : goal.frame_rect-requires
@@ -11,10 +11,5 @@ frame_rect-requires c = held_fits c.frame.result.now c.held.result.now c.args.se
 
 pub returns-clause-value : goal.returns-clause-value
 returns-clause-value c =
-    c.frame_rect.ensures
+    c.frame_rect.ensures.value
     ∙ ap (λ (f : CompositorFrame). sized (frame_size f)) (c.frame.ensures ∙ ap (λ (h : Held). h.frame) c.held.ensures)
-
-pub returns-clause-reach : goal.returns-clause-reach
-returns-clause-reach c =
-    size_in_reach c.frame.result.now c.frame_rect.result
-    (held_fits c.frame.result.now c.held.result.now c.args.seen.now c.frame.ensures c.held.ensures c.requires) c.frame_rect.ensures

@@ -1,7 +1,7 @@
 use Rattle.std.proofs.Common.{ap, arith}
 use Rattle.std.proofs.lemmas.Int.{ints}
 use Rattle.vz_geom.specs.declared.Point.{Point}
-use Rattle.vz_rules.proofs.Geometry.{same_point}
+use Rattle.vz_geom.proofs.Points.{same_point}
 use Rattle.vz_hit.specs.declared.region.Hit.{Hit}
 use Rattle.vz_hit.proofs.regions.hit_at.Goals as goal
 

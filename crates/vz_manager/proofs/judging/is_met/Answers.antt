@@ -1,5 +1,5 @@
 use Rattle.std.proofs.Common.{None, true, false, refl, sym, ◌∙◌}
-use Rattle.vz_live.proofs.Asked.{met_asked}
+use Rattle.vz_surface_manager.proofs.Asked.{met_asked}
 use Rattle.vz_manager.proofs.judging.is_met.Goals as goal
 
 pub returns-then-ever_active : goal.returns-then-ever_active

@@ -3,9 +3,9 @@ use Rattle.vz_rules.specs.declared.entry.Effects.{Effects}
 use Rattle.vz_rules.specs.Settle.{settle}
 use Rattle.vz_rules.specs.Reach.{naming, clearing, collect, destroyed_in}
 use Rattle.vz_rules.specs.Returns.{give_back, returned_in, fed_in}
-use Rattle.vz_lending.specs.Lent.{NoneReleased, resources_out}
-use Rattle.vz_settling.specs.declared.settling.Settling.{Settling}
-use Rattle.vz_settling.specs.Settles.{AreSettling}
+use Rattle.vz_returns.specs.Lent.{NoneReleased, resources_out}
+use Rattle.vz_surface_manager.specs.declared.surface_manager.SurfaceManager.{SurfaceManager}
+use Rattle.vz_surface_manager.specs.Settles.{AreSettling}
 use Rattle.vz_manager.specs.Followed.{new_id}
 use Rattle.vz_manager.proofs.Follows.{NamesKeep, asks_in, outcome_world, effects_are}
 use Rattle.vz_manager.proofs.outcome.follow.Goals as goal
@@ -121,6 +121,6 @@ returns-clause-out c =
       ap (λ v. resources_out v.lent) c.feed.ensures.rest,
       c.give_back.ensures.out,
       c.collect.ensures.out,
-      ap (λ (v : Settling). resources_out v.live.lent) c.keep.ensures.rest,
+      ap (λ (v : SurfaceManager). resources_out v.live.lent) c.keep.ensures.rest,
       c.settle.ensures.out,
     )

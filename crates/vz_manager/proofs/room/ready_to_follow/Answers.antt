@@ -26,5 +26,6 @@ returns c =
         reached = omega (arith, c.in_ok-ready.ensures.reached, c.in_ok-reached.ensures, c.in_ok-risen.ensures, c.count.ensures.count, lack);
         none_found = c.in_ok-ready.ensures.none_found;
         found = omega (arith, c.in_ok-ready.ensures.found, c.in_ok-reached.ensures, c.in_ok-risen.ensures, c.count.ensures.count, lack);
+        effects = c.in_ok-reserve.ensures.ok;
       };
     }

@@ -1,4 +1,4 @@
-use Rattle.std.proofs.Common.{ap}
+use Rattle.std.proofs.Common.{ap, ◌∙◌}
 use Rattle.vz_frame.specs.declared.frame.CompositorFrame.{CompositorFrame}
 use Rattle.vz_manager.proofs.Submits.{sends}
 use Rattle.vz_manager.proofs.Taken_in.{taken_accepting, taken_room, taken_as, taken_live, taken_out, is_back}
@@ -35,7 +35,7 @@ returns-in-Ok-clause-support c p w x local frame h =
     let its = sends p w c.args.c x local frame c.args.support.now c.args.settling.now h.submits in
     let e = c.take_submission-frame.ensures.frame p w x local frame its h.submits.kept in
     c.accept-in-Ok.ensures p w x local frame c.args.support.now its h.submits.kept c.take_submission-frame.ensures.taken
-    (ap (λ (f : CompositorFrame). f.metadata.ack) e.1)
+    (ap (λ (f : CompositorFrame). f.metadata.ack) (c.as_frame.ensures ∙ e.1))
 
 pub returns-in-Ok-clause-live : goal.returns-in-Ok-clause-live
 returns-in-Ok-clause-live c p w x local frame h =

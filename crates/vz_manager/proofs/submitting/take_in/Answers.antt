@@ -1,6 +1,6 @@
 use Rattle.std.proofs.Common.{IsFalse, sym, subst}
 use Rattle.vz_rules.specs.Messages.{accepted}
-use Rattle.vz_waiting.specs.Awaiting.{is_among}
+use Rattle.vz_surface_manager.specs.Waits.{is_among}
 use Rattle.vz_manager.proofs.Taken_in.{arrives, still_waiting, is_told, is_taken_in, is_within}
 use Rattle.vz_manager.proofs.submitting.take_in.Goals as goal
 

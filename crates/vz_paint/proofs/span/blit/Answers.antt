@@ -3,9 +3,10 @@ use Rattle.std.specs.List.{list_all}
 use Rattle.std.specs.Prelude.{Some}
 use Rattle.vz_geom.specs.Rectangle.{plus, minus, corner}
 use Rattle.vz_pixels.specs.Colour.{Colour, transparent, is_opaque}
+use Rattle.vz_frame.proofs.Parts.{length_part}
 use Rattle.vz_rules.specs.Paint.{texel_of}
 use Rattle.vz_paint.specs.Row.{right_of}
-use Rattle.vz_paint.proofs.Spanned.{mixed, length_part}
+use Rattle.vz_paint.proofs.Spanned.{mixed}
 use Rattle.vz_paint.proofs.Blitted.{fits_block, columns_fit, rows_fit, across, texel_same, listed}
 use Rattle.vz_paint.proofs.Opaque_texels.{opaque_part}
 use Rattle.vz_paint.proofs.span.blit.Goals as goal

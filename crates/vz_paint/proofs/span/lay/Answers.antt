@@ -1,6 +1,7 @@
 use Rattle.std.proofs.Common.{take, drop, ◌-◌, get_or, arith}
 use Rattle.vz_pixels.specs.Colour.{transparent}
-use Rattle.vz_paint.proofs.Spanned.{mixed, part_of, length_part}
+use Rattle.vz_frame.proofs.Parts.{part_of, length_part}
+use Rattle.vz_paint.proofs.Spanned.{mixed}
 use Rattle.vz_paint.proofs.span.lay.Goals as goal
 
 pub returns-clause-each : goal.returns-clause-each

@@ -4,7 +4,7 @@ use Rattle.vz_rules.specs.declared.entry.Event.TheVariants.{Client}
 use Rattle.vz_rules.specs.Step.{NamesClient}
 use Rattle.vz_player.specs.Taken.{StopsAmong, AddsFramesFront}
 use Rattle.vz_player.proofs.Adding.{others_kept}
-use Rattle.vz_player.proofs.Behaving.{on_err, behaves_at, then_behaves}
+use Rattle.vz_outside.proofs.Behaving.{on_err, behaves_at, then_behaves}
 use Rattle.vz_player.proofs.Taking.{none_played, plan_stays, stopped_stays, more_played, stops_there, front_there}
 use Rattle.vz_player.proofs.to_shelf.play_frames.Goals as goal
 

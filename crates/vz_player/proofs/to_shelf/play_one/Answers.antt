@@ -1,7 +1,7 @@
 use denote.Param.Send.{param_send}
 use Rattle.std.proofs.Common.{rules, ◌≡◌, true, false, ap, ◌∙◌}
 use Rattle.vz_player.specs.Taken.{AddsFramesFront}
-use Rattle.vz_player.proofs.Behaving.{on_err}
+use Rattle.vz_outside.proofs.Behaving.{on_err}
 use Rattle.vz_player.proofs.Taking.{plan_on, stopped_on, turn_stopped, none_written, written_frame, frame_is, shows_written, frame_added, frame_begun}
 use Rattle.vz_player.proofs.to_shelf.play_one.Goals as goal
 

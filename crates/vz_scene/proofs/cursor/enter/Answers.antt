@@ -4,9 +4,9 @@ use Rattle.vz_frame.specs.declared.frame.CompositorFrame.{CompositorFrame}
 use Rattle.vz_frame.specs.declared.frame.RenderPass.{RenderPass}
 use Rattle.vz_rules.specs.World.{FrameData}
 use Rattle.vz_scene.specs.Walking.{Cursor, cursor_walked}
-use Rattle.vz_scene.specs.Limits.{FitsFile}
-use Rattle.vz_scene.proofs.Rooms.{enter_bounded}
+use Rattle.vz_placement.specs.Limits.{FitsFile}
 use Rattle.vz_scene.proofs.Stacking.{enter_zero, enter_none, enter_is}
+use Rattle.vz_scene.proofs.Cursors.{enter_bounded}
 use Rattle.vz_scene.proofs.cursor.enter.Goals as goal
 
 pub returns-then-levels-eq0 : goal.returns-then-levels-eq0

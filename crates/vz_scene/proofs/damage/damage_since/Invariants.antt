@@ -1,6 +1,6 @@
 use Rattle.std.proofs.Common.{◌≡◌, ◌≤◌, length}
 use Rattle.vz_geom.specs.Rectangle.{bound}
-use Rattle.vz_scene.specs.Limits.{IsInReach}
+use Rattle.vz_placement.specs.Limits.{IsInReach}
 use Rattle.vz_scene.proofs.Bounding.{damages_from}
 use Rattle.vz_scene.proofs.damage.damage_since.Given as goal
 

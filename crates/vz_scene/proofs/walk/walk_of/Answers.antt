@@ -1,7 +1,7 @@
 use Rattle.std.proofs.Common.{sym, ap, ◌∙◌}
 use Rattle.std.specs.Option.{option_copied}
 use Rattle.vz_rules.specs.Walk.{whole, walk_of, too_much}
-use Rattle.vz_scene.proofs.Rooms.{place_room, room_first}
+use Rattle.vz_placement.proofs.Rooms.{place_room, room_first}
 use Rattle.vz_scene.proofs.Rooting.{walk_none, walk_some, nothing_is_little}
 use Rattle.vz_scene.proofs.walk.walk_of.Goals as goal
 

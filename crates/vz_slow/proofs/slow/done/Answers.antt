@@ -2,6 +2,9 @@ use Rattle.std.proofs.Common.{is_some, sym, ap, ◌∙◌, arith}
 use Rattle.vz_frame.specs.Roomy.{Roomy}
 use Rattle.vz_rules.specs.World.{World}
 use Rattle.vz_rules.specs.Returns.{feed}
+use Rattle.vz_rules.specs.declared.entry.Effects.{Effects}
+use Rattle.vz_rules.specs.declared.entry.Reply.TheVariants as reply
+use Rattle.vz_rules.specs.Step.{Outcome}
 use Rattle.vz_rules.specs.declared.entry.Returned.{Returned}
 use Rattle.vz_rules.specs.declared.entry.Fed.{Fed}
 use Rattle.vz_state.specs.Outs.{unfed}
@@ -17,15 +20,21 @@ feed-requires c =
     let spare = ap (λ (r : Roomy Fed). r.spare) c.replace-told.ensures.value in
     omega arith
 
+pub fill-requires : goal.fill-requires
+fill-requires c =
+    let was = ap (λ (u : World). u.in_flight) (sym c.world.view_is) ∙ (sym c.take.ensures.value ∙ c.in-Some.is) in
+    (c.requires.room.room (ap is_some was)).effects
+
 pub returns-in-None-clause-step : goal.returns-in-None-clause-step
 returns-in-None-clause-step c = λ p.
-    done_nothing p c.args.world.now _ c.nothing.result c.requires.kept (ap (λ (u : World). u.in_flight) (sym c.world.view_is) ∙ (sym c.take.ensures.value ∙ c.in-None.is)) c.nothing.ensures
+    done_nothing p c.args.world.now _ c.none.result c.requires.kept (ap (λ (u : World). u.in_flight) (sym c.world.view_is) ∙ (sym c.take.ensures.value ∙ c.in-None.is)) c.none.ensures
     (landed_is c.args.world.now _ c.take.new.self c.world.view_is c.take.ensures.after)
 
 pub returns-in-Some-clause-step : goal.returns-in-Some-clause-step
 returns-in-Some-clause-step c = λ p.
     let was = ap (λ (u : World). u.in_flight) (sym c.world.view_is) ∙ (sym c.take.ensures.value ∙ c.in-Some.is) in
-    done_shown p c.args.world.now _ c.give_back.new.self c.feed.new.self c.in-Some.presented c.as_slice.result.now c.new-in-Some-2.result c.new-in-Some-3.result c.into_list.result c.into_list-in-Some.result
+    (ap (λ (e : Effects). record { reply = reply.Shown; effects = e; world = c.feed.new.self }) c.fill.ensures)
+    ∙ done_shown p c.args.world.now _ c.give_back.new.self c.feed.new.self c.in-Some.presented c.as_slice.result.now c.new-in-Some-2.result c.new-in-Some-3.result c.into_list.result c.into_list-in-Some.result
     c.requires.kept was c.as_slice.ensures
     (landed_is c.args.world.now _ c.take.new.self c.world.view_is c.take.ensures.after) c.give_back.ensures.world c.feed.ensures.world c.new-in-Some-2.ensures c.new-in-Some-3.ensures
     (put_into_none c.replace-queued.result c.give_back.new.told _ c.give_back.ensures.told (ap (λ (r : Roomy Returned). r.list) c.replace-queued.ensures.value ∙ c.requires.room.no_returned) c.into_list.result c.into_list.ensures)

@@ -1,11 +1,11 @@
 use Rattle.std.proofs.Common.{◌<◌, Bool, true, false, get_or, if◌then◌else◌, ap, ◌∙◌, arith, length}
 use Rattle.std.proofs.lemmas.List.{length-set}
-use Rattle.vz_rules.specs.World.{Created}
+use Rattle.vz_rules.specs.World.{Surface}
 use Rattle.vz_state.proofs.Flagged.{changed, flag_at}
 use Rattle.vz_state.proofs.flags.mark_by.Goals as goal
 
 -- a surface by its flag
-abbrev by_flag : Created → Bool → Created
+abbrev by_flag : Surface → Bool → Surface
 by_flag s a = if a then record s { marked = true } else s
 
 pub loop-k-preserved : goal.loop-k-preserved

@@ -1,11 +1,11 @@
 use Rattle.std.proofs.Common.{ℕ, ◌==◌, if◌then◌else◌, Option, Some, None, sym, ap, ◌∙◌}
-use Rattle.vz_rules.specs.World.{Client, Created}
+use Rattle.vz_rules.specs.World.{Client, Surface}
 use Rattle.vz_rules.specs.declared.entry.Lost.{Lost}
 use Rattle.vz_state.proofs.Rooming.{none_more, some_more}
 use Rattle.vz_state.proofs.lost.add_lost.Goals as goal
 
 -- a surface's name, if it is this client's
-abbrev name_for : ℕ → Created → Option Lost
+abbrev name_for : ℕ → Surface → Option Lost
 name_for n s = if s.client == n then Some (record { client = s.client; surface = s.number }) else None
 
 pub loop-surface-preserved-in_default : goal.loop-surface-preserved-in_default

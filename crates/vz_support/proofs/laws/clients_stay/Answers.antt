@@ -1,4 +1,4 @@
-use Rattle.vz_support.proofs.Standing.{stays_rising, stays_round, stays_named, stays_going, stays_given, stays_fed, stays_begun, stays_drawn, stays_done}
+use Rattle.vz_support.proofs.Clients_kept.{stays_rising, stays_round, stays_named, stays_going, stays_given, stays_fed, stays_begun, stays_drawn, stays_done}
 use Rattle.vz_support.proofs.laws.clients_stay.Goals as goal
 
 pub returns : goal.returns

@@ -1,4 +1,4 @@
-use Rattle.vz_support.proofs.Standing.{tells_next, tells_unknown, tells_blocks}
+use Rattle.vz_support.proofs.Clients_kept.{tells_next, tells_unknown, tells_blocks}
 use Rattle.vz_support.proofs.laws.clients_tell.Goals as goal
 
 pub returns : goal.returns

@@ -1,4 +1,4 @@
-use Rattle.vz_support.proofs.Staying.{stays_given, stays_fed, stays_drawn, stays_done}
+use Rattle.vz_support.proofs.Support_kept.{stays_given, stays_fed, stays_drawn, stays_done}
 use Rattle.vz_support.proofs.laws.support_stays_at_ends.Goals as goal
 
 pub returns : goal.returns

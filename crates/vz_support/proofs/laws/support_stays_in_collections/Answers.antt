@@ -1,4 +1,4 @@
-use Rattle.vz_support.proofs.Staying.{stays_named, stays_going, stays_cleared, stays_collected}
+use Rattle.vz_support.proofs.Support_kept.{stays_named, stays_going, stays_cleared, stays_collected}
 use Rattle.vz_support.proofs.laws.support_stays_in_collections.Goals as goal
 
 pub returns : goal.returns

@@ -1,4 +1,4 @@
-use Rattle.vz_support.proofs.Staying.{stays_rising, stays_round, stays_settled}
+use Rattle.vz_support.proofs.Support_kept.{stays_rising, stays_round, stays_settled}
 use Rattle.vz_support.proofs.laws.support_stays_in_rounds.Goals as goal
 
 pub returns : goal.returns

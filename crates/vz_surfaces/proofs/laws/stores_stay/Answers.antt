@@ -1,4 +1,4 @@
-use Rattle.vz_surfaces.proofs.Staying.{stays_named, stays_given, stays_fed, stays_taken, stays_uploaded, stays_related, stays_rooted, stays_begun, stays_ticked, stays_drawn, stays_done}
+use Rattle.vz_surfaces.proofs.Stores_kept.{stays_named, stays_given, stays_fed, stays_taken, stays_uploaded, stays_related, stays_rooted, stays_begun, stays_ticked, stays_drawn, stays_done}
 use Rattle.vz_surfaces.proofs.laws.stores_stay.Goals as goal
 
 pub returns : goal.returns

@@ -1,7 +1,7 @@
 use Rattle.std.proofs.Common.{◌∙◌, sym, subst}
 use mathlib.Core.List.{IsPrefix}
 use Rattle.vz_outside.specs.Shelved.{Appends, AppendsFront}
-use Rattle.vz_player.proofs.Behaving.{on_err}
+use Rattle.vz_outside.proofs.Behaving.{on_err}
 use Rattle.vz_threads.specs.Pipes.{BeginsLeft}
 use Rattle.vz_threads.proofs.Through.{left_added, left_begun}
 use Rattle.vz_threads.proofs.writer.write_left.Goals as goal

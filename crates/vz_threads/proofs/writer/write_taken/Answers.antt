@@ -1,6 +1,6 @@
 use Rattle.std.proofs.Common.{◌∙◌, subst}
 use Rattle.vz_outside.specs.Shelved.{Appends, AppendsFront}
-use Rattle.vz_player.proofs.Behaving.{on_err}
+use Rattle.vz_outside.proofs.Behaving.{on_err}
 use Rattle.vz_threads.specs.Pipes.{bytes_of}
 use Rattle.vz_threads.proofs.Through.{frame_added, frame_begun}
 use Rattle.vz_threads.proofs.writer.write_taken.Goals as goal

@@ -14,13 +14,13 @@ use Rattle.vz_rules.specs.Walk.{Quad, Shows, Enters, range_walked, walk, place_i
 use Rattle.vz_surfaces.specs.Reading.{seen_frames}
 use Rattle.vz_surfaces.specs.Names.{place_named}
 use Rattle.vz_surfaces.specs.declared.held.Held.{Held}
-use Rattle.vz_walk.specs.Limits.{HasRoom, FitsFile, coordinates, room_for}
+use Rattle.vz_placement.specs.Limits.{HasRoom, FitsFile, coordinates, room_for}
 use Rattle.vz_walk.specs.Walking.{Stand, ids, ranges_of, named_of, quad_of, pass_in, group_at, shown_at}
-use Rattle.vz_walk.proofs.Fitting.{pass_at_in_reach, quad_at_in_reach, few_passes}
-use Rattle.vz_walk.proofs.Rooms.{room_less, place_room, drawn_room, room_minus}
+use Rattle.vz_placement.proofs.Fitting.{pass_at_in_reach, quad_at_in_reach, few_passes}
+use Rattle.vz_placement.proofs.Rooms.{room_less, place_room, drawn_room, room_minus}
 use Rattle.vz_walk.proofs.Meeting.{met_none, met_as, met_some, met_then, met_last}
-use Rattle.vz_walk.proofs.Standing.{quads_next, quads_all, pass_is, group_is, name_is, name_before, inner_of, quad_is, behind, range_is}
-use Rattle.vz_walk.proofs.Standing.{again_is, enters_is}
+use Rattle.vz_walk.proofs.Walk_steps.{quads_next, quads_all, pass_is, group_is, name_is, name_before, inner_of, quad_is, behind, range_is}
+use Rattle.vz_walk.proofs.Walk_steps.{again_is, enters_is}
 use Rattle.vz_walk.proofs.Passing.{no_levels, no_passes, root_pass_is}
 use Rattle.vz_walk.proofs.Seeing.{shown_fits}
 use Rattle.vz_walk.proofs.walker.+walk.Goals as goal

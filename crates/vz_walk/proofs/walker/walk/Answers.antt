@@ -3,7 +3,7 @@ use Rattle.vz_rules.specs.Walk.{Enters, walk, whole}
 use Rattle.vz_surfaces.specs.Reading.{seen_frames}
 use Rattle.vz_walk.proofs.Meeting.{met_none, met_as, met_some, met_then}
 use Rattle.vz_walk.proofs.Rooting.{root_none, root_some}
-use Rattle.vz_walk.proofs.Rooms.{place_room, room_first}
+use Rattle.vz_placement.proofs.Rooms.{place_room, room_first}
 use Rattle.vz_walk.proofs.Seeing.{frame_fits}
 use Rattle.vz_walk.proofs.walker.walk.Goals as goal
 

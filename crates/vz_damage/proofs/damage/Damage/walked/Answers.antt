@@ -71,9 +71,9 @@ returns-else-has_root-clause-measured g c =
     (ap (λ (m : Measurer). m.ranges) c.new-measurer.ensures ∙ c.requires.free) c.requires.starts c.walk.ensures
     c.if-not-walk.false in
     let walked = walked_in c.args.size c.args.root.now c.args.store.now in
-    measure_is c.args.self.now c.args.store.now c.args.root.now c.args.size c.measured-else-has_root.result c.display_rect-whole.result
+    measure_is c.args.self.now c.args.store.now c.args.root.now c.args.size c.measured-else-has_root.result c.of_display-whole.result
     c.parts-damage.result.1 c.measured-else-has_root.ensures.changed c.measured-else-has_root.ensures.kept
-    (c.display_rect-whole.ensures
+    (c.of_display-whole.ensures
     ∙ damage_other c.args.size c.args.self.now.surfaces c.args.root.now walked c.args.self.now.last c.requires.size
     (sym c.has_root.ensures ∙ c.if-has_root.false))
     (c.parts-damage.ensures.ranges ∙ ranges_are _ _ _ _ (scene_in c.args.root.now c.args.store.now) walked met)

@@ -2,7 +2,7 @@ use Rattle.std.proofs.Common.{cond, None, ap, ◌∙◌}
 use Rattle.indexmap.specs.IndexMap.{get, spare as spare_of}
 use Rattle.vz_ids.specs.Ids.{same_sub}
 use Rattle.vz_deadlines.specs.Timing.{due_at, left_at}
-use Rattle.vz_deadlines.specs.Standing.{standing}
+use Rattle.vz_deadlines.specs.Slots.{standing}
 use Rattle.vz_deadlines.proofs.Stands.{left_standing}
 use Rattle.vz_deadlines.proofs.Begun.{new_ones, begun_fits, kept_begun}
 use Rattle.vz_deadlines.proofs.deadlines.Deadlines.begin.Goals as goal

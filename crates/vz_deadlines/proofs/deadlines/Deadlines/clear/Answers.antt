@@ -2,7 +2,7 @@ use Rattle.std.proofs.Common.{sym, ap, ◌∙◌}
 use Rattle.indexmap.specs.IndexMap.{get, spare as spare_of}
 use Rattle.vz_ids.specs.Ids.{same_sub}
 use Rattle.vz_deadlines.specs.Timing.{waits, without}
-use Rattle.vz_deadlines.specs.Standing.{standing}
+use Rattle.vz_deadlines.specs.Slots.{standing}
 use Rattle.vz_deadlines.proofs.Dues.{cleared_waits}
 use Rattle.vz_deadlines.proofs.Keeps.{freed_some, kept_freed, freed_is, kept_lost, lost_waits, untold_waits, without_none}
 use Rattle.vz_deadlines.proofs.deadlines.Deadlines.clear.Goals as goal

@@ -1,7 +1,7 @@
 use Rattle.std.proofs.Common.{ap, sym, subst}
 use Rattle.indexmap.specs.IndexMap.{get, spare as spare_of}
 use Rattle.vz_ids.specs.Ids.{same_sub}
-use Rattle.vz_deadlines.specs.Standing.{standing, AreKept}
+use Rattle.vz_deadlines.specs.Slots.{standing, AreKept}
 use Rattle.vz_deadlines.proofs.Keeps.{kept_none}
 use Rattle.vz_deadlines.proofs.deadlines.Deadlines.new.Goals as goal
 

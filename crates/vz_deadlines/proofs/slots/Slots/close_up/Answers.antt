@@ -1,7 +1,7 @@
 use Rattle.std.proofs.Common.{◌≡◌, length, filter, is_some, vec_len, rules, ap, sym, subst, ◌∙◌, arith}
 use Rattle.std.proofs.lemmas.Fn.{filter_same}
 use Rattle.vz_deadlines.specs.declared.slots.Slot.{Slot}
-use Rattle.vz_deadlines.specs.Standing.{held_in, AreBounded}
+use Rattle.vz_deadlines.specs.Slots.{held_in, AreBounded}
 use Rattle.vz_deadlines.proofs.Freed.{unbounded_bounded, whole_written, held_long, closed_up}
 use Rattle.vz_deadlines.proofs.slots.Slots.close_up.Goals as goal
 

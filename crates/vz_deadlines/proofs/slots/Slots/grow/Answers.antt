@@ -1,5 +1,5 @@
 use Rattle.std.proofs.Common.{rules, ap, sym, subst, ◌∙◌}
-use Rattle.vz_deadlines.specs.Standing.{held_in, AreBounded}
+use Rattle.vz_deadlines.specs.Slots.{held_in, AreBounded}
 use Rattle.vz_deadlines.proofs.Freed.{unbounded_bounded, whole_written, held_long}
 use Rattle.vz_deadlines.proofs.slots.Slots.grow.Goals as goal
 

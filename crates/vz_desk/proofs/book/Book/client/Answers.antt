@@ -5,7 +5,7 @@ use Rattle.vz_desk.proofs.Telling.{tells_next}
 use Rattle.vz_desk.proofs.book.Book.client.Goals as goal
 
 pub invariant_of-self-2 : goal.invariant_of-self-2
-invariant_of-self-2 g c = keeps_on (g.M.Machine.state c.self.inside.machine) (g.M.Machine.state c.client.new.self) _ _ c.args.self.now (event.Client c.args.client) _ _ _ _ _ _ c.self.invariant c.self.view_is c.in_ok-step.ensures.answer c.in_ok-step.ensures.world c.entry_of-entry.ensures c.in_ok-reserve.ensures.list c.put.ensures.list c.requires
+invariant_of-self-2 g c = keeps_on (g.M.Machine.state c.self.inside.machine) (g.M.Machine.state c.client.new.self) _ _ c.args.self.now (event.Client c.args.client) _ _ _ _ _ _ c.self.invariant c.self.view_is c.in_ok-step.ensures.answer c.in_ok-step.ensures.world c.entry_of-entry.ensures c.in_ok-reserve.ensures.list c.put.ensures.list c.requires.known
     (λ _. let a = c.in_ok-reserve.ensures.ok in let b = c.put.ensures.spare in omega arith)
 
 pub returns-clause-ok : goal.returns-clause-ok

@@ -1,4 +1,5 @@
-use Rattle.std.proofs.Common.{refl, ap, sym, ◌∙◌, is_none}
+use Rattle.std.proofs.Common.{refl, ap, sym, ◌∙◌}
+use Rattle.vz_desk.specs.Books.{numbered}
 use Rattle.vz_desk.proofs.Displaying.{quiet_display}
 use Rattle.vz_desk.proofs.Pausing.{paused}
 use Rattle.vz_desk.proofs.desk.Desk.look.Goals as goal
@@ -9,8 +10,8 @@ invariant_of-d g c = let e = c.enter-book.ensures in let l = c.leave.ensures in
 
 pub invariant_of-d-2 : goal.invariant_of-d-2
 invariant_of-d-2 g c = let e = c.enter-book.ensures in let l = c.leave-2.ensures in
-    (quiet_display c.d.inside.token c.enter-book.new.token c.enter-book.result _ c.d.invariant.0 (record { first = e.same; planned = e.plan; found = e.seen; later = e.later; stays = e.mine; legal = c.reason.ensures.legal }) c.leave-2.new.token c.enter-book.result.history (record { second = l.same; rests = l.outside; seen = l.seen }) refl, c.d.invariant.1, c.d.invariant.2)
+    (quiet_display c.d.inside.token c.enter-book.new.token c.enter-book.result _ c.d.invariant.0 (record { first = e.same; planned = e.plan; found = e.seen; later = e.later; stays = e.mine; legal = c.reason.ensures.legal }) c.leave-2.new.token c.pause-calm.new.self.history (record { second = l.same; rests = l.outside; seen = l.seen }) (ap (λ b. b.history) c.pause-calm.ensures.same), c.d.invariant.1, c.d.invariant.2)
 
 pub returns-clause-calm : goal.returns-clause-calm
-returns-clause-calm g c = λ none. let e = c.enter-book.ensures in let l = c.leave-2.ensures in
-    paused c.d.inside.token c.enter-book.new.token c.leave-2.new.token c.enter-book.result _ (record { first = e.same; planned = e.plan; found = e.seen; later = e.later; stays = e.mine; legal = c.reason.ensures.legal }) (record { second = l.same; rests = l.outside; seen = l.seen }) (sym c.restless-restless.ensures.calm ∙ ap is_none none)
+returns-clause-calm g c = λ calm. let e = c.enter-book.ensures in let l = c.leave-2.ensures in
+    paused c.d.inside.token c.enter-book.new.token c.leave-2.new.token c.enter-book.result _ (record { first = e.same; planned = e.plan; found = e.seen; later = e.later; stays = e.mine; legal = c.reason.ensures.legal }) (record { second = l.same; rests = l.outside; seen = l.seen ∙ ap (λ b. numbered b.history) c.pause-calm.ensures.same }) (sym c.pause-calm.ensures.calm ∙ calm)

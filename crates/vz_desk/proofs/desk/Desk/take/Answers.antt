@@ -1,4 +1,4 @@
-use Rattle.std.proofs.Common.{ap, sym, subst, ◌∙◌, inr}
+use Rattle.std.proofs.Common.{◌≡◌, None, rules, ap, sym, subst, ◌∙◌, inr}
 use mathlib.Core.List.{IsPrefix}
 use Rattle.vz_loans.specs.Rule.{places}
 use Rattle.vz_rules.specs.declared.entry.Event.TheVariants as event
@@ -6,7 +6,7 @@ use Rattle.vz_desk.specs.Books.{numbered}
 use Rattle.vz_desk.specs.Owners.{owner_of, IsSameOwner}
 use Rattle.vz_desk.specs.Answers.{Told}
 use Rattle.vz_desk.proofs.Owning.{turned_end}
-use Rattle.vz_desk.proofs.Calling.{plan_kept, client_leaves, entered, client_end, client_told, few_there, waits_out, last_made, same_owner, later_still}
+use Rattle.vz_desk.proofs.Calling.{plan_kept, runs_on, client_leaves, entered, client_end, client_told, few_there, waits_out, last_made, same_owner, later_still}
 use Rattle.vz_desk.proofs.desk.Desk.take.Goals as goal
 
 pub invariant_of-end : goal.invariant_of-end
@@ -40,6 +40,9 @@ leave-requires-in-Ok-clause-plan g c κs within = plan_kept c.enter-book.result 
 
 pub leave-requires-in-Ok-clause-entries : goal.leave-requires-in-Ok-clause-entries
 leave-requires-in-Ok-clause-entries g c κs within = inr (_, client_leaves c.enter-book.new.token c.enter-book.result c.client.new.self c.number-client.result c.enter-book.ensures.seen c.number-client.ensures c.in-Ok.ensures.ok)
+
+pub ends_pause-calm-requires-clause-running : goal.ends_pause-calm-requires-clause-running
+ends_pause-calm-requires-clause-running g c κs within = let none : c.enter-book.result.reason ≡ None = search rules in runs_on c.enter-book.result c.client.new.self (event.Client c.number-client.result) c.in-Ok.ensures.ok none
 
 pub with-end-inside-requires : goal.with-end-inside-requires
 with-end-inside-requires g c = record {

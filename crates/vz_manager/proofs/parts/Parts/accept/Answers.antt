@@ -15,14 +15,14 @@ read_submission-requires-clause-submits c =
 pub returns-in_err-make_room-clause-err : goal.returns-in_err-make_room-clause-err
 returns-in_err-make_room-clause-err c p w old =
     on_err c.from_residual-in_err-make_room.result _
-    (c.make_room.ensures.serves p w _ _ _ (subst (Serves p w) (sym c.self.view_is) old))
+    (c.make_room.ensures.serves p w _ _ _ _ (subst (Serves p w) (sym c.self.view_is) old))
 
 pub take_in-requires-clause-takes : goal.take_in-requires-clause-takes
 take_in-requires-clause-takes c =
     let s = c.requires.stands in
     let h = subst (Serves s.0 s.1) (sym c.self.view_is) s.5 in
     let comes = c.in_ok-coming.ensures s.0 s.1 s.2 s.3 s.4 (is_submitting s.0 s.1 c.args.c s.2 s.3 s.4 _ h s.6) in
-    let still = c.make_room.ensures.serves s.0 s.1 _ _ _ h in (
+    let still = c.make_room.ensures.serves s.0 s.1 _ _ _ _ h in (
       s.0,
       s.1,
       s.2,
@@ -35,7 +35,7 @@ take_in-requires-clause-takes c =
 pub returns-in_err-taken-clause-err : goal.returns-in_err-taken-clause-err
 returns-in_err-taken-clause-err c p w old =
     let h = subst (Serves p w) (sym c.self.view_is) old in
-    let still = c.make_room.ensures.serves p w _ _ _ h in
+    let still = c.make_room.ensures.serves p w _ _ _ _ h in
     on_err c.from_residual-in_err-taken.result _
     (serves_back p w _ c.take_in.new.support c.take_in.new.settling still (c.in_err-taken.ensures.back p w h.keeps.always h.support)
     c.in_err-taken.ensures.err)
@@ -45,7 +45,7 @@ finish-requires-clause-follows c =
     let s = c.requires.stands in
     let h = subst (Serves s.0 s.1) (sym c.self.view_is) s.5 in
     let comes = c.in_ok-coming.ensures s.0 s.1 s.2 s.3 s.4 (is_submitting s.0 s.1 c.args.c s.2 s.3 s.4 _ h s.6) in
-    let still = c.make_room.ensures.serves s.0 s.1 _ _ _ h in
+    let still = c.make_room.ensures.serves s.0 s.1 _ _ _ _ h in
     let room = c.in_ok-make_room.ensures.room in
     let takes = is_taking_in s.0 s.1 c.args.c s.2 s.3 s.4 _ c.in_ok-coming.coming c.make_room.new.following still s.6 comes room in
     let arrived = has_arrived s.0 s.1 c.args.c s.2 s.3 s.4 _ c.in_ok-coming.coming c.make_room.new.following c.in_ok-taken.taken
@@ -64,7 +64,7 @@ finish-requires-clause-room c =
     let s = c.requires.stands in
     let h = subst (Serves s.0 s.1) (sym c.self.view_is) s.5 in
     let comes = c.in_ok-coming.ensures s.0 s.1 s.2 s.3 s.4 (is_submitting s.0 s.1 c.args.c s.2 s.3 s.4 _ h s.6) in
-    let still = c.make_room.ensures.serves s.0 s.1 _ _ _ h in
+    let still = c.make_room.ensures.serves s.0 s.1 _ _ _ _ h in
     let room = c.in_ok-make_room.ensures.room in
     let takes = is_taking_in s.0 s.1 c.args.c s.2 s.3 s.4 _ c.in_ok-coming.coming c.make_room.new.following still s.6 comes room in
     let arrived = has_arrived s.0 s.1 c.args.c s.2 s.3 s.4 _ c.in_ok-coming.coming c.make_room.new.following c.in_ok-taken.taken
@@ -78,7 +78,7 @@ pub returns-clause-step : goal.returns-clause-step
 returns-clause-step c p w x local frame old allowed =
     let h = subst (Serves p w) (sym c.self.view_is) old in
     let comes = c.in_ok-coming.ensures p w x local frame (is_submitting p w c.args.c x local frame _ h allowed) in
-    let still = c.make_room.ensures.serves p w _ _ _ h in
+    let still = c.make_room.ensures.serves p w _ _ _ _ h in
     let room = c.in_ok-make_room.ensures.room in
     let takes = is_taking_in p w c.args.c x local frame _ c.in_ok-coming.coming c.make_room.new.following still allowed comes room in
     let arrived = has_arrived p w c.args.c x local frame _ c.in_ok-coming.coming c.make_room.new.following c.in_ok-taken.taken
@@ -97,7 +97,7 @@ pub returns-clause-serves : goal.returns-clause-serves
 returns-clause-serves c p w x local frame old allowed =
     let h = subst (Serves p w) (sym c.self.view_is) old in
     let comes = c.in_ok-coming.ensures p w x local frame (is_submitting p w c.args.c x local frame _ h allowed) in
-    let still = c.make_room.ensures.serves p w _ _ _ h in
+    let still = c.make_room.ensures.serves p w _ _ _ _ h in
     let room = c.in_ok-make_room.ensures.room in
     let takes = is_taking_in p w c.args.c x local frame _ c.in_ok-coming.coming c.make_room.new.following still allowed comes room in
     let arrived = has_arrived p w c.args.c x local frame _ c.in_ok-coming.coming c.make_room.new.following c.in_ok-taken.taken

@@ -1,10 +1,10 @@
 use Rattle.std.proofs.Common.{refl, ap, sym, ◌∙◌, subst, arith}
 use Rattle.vz_rules.specs.declared.entry.Event.TheVariants as event
 use Rattle.vz_rules.specs.Step.{begin_answer}
-use Rattle.vz_waiting.proofs.Standing.{as_many}
+use Rattle.vz_surface_manager.proofs.Waits_on.{as_many}
 use Rattle.vz_surfaces.specs.Reading.{existing_count}
-use Rattle.vz_lending.specs.Lent.{resources_out}
-use Rattle.vz_live.specs.Living.{Live}
+use Rattle.vz_returns.specs.Lent.{resources_out}
+use Rattle.vz_surface_manager.specs.Live.{Live}
 use Rattle.vz_manager.specs.Serving.{Serves}
 use Rattle.vz_manager.proofs.Stepped.{followed_answer, serves_followed}
 use Rattle.vz_manager.proofs.Own_changes.{between, begins, begin_sent, begin_leaves, ticked_room, risen_follows, risen_room}

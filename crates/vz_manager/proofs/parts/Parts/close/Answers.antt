@@ -2,8 +2,8 @@ use Rattle.std.proofs.Common.{refl, ap, sym, ◌∙◌, subst, arith}
 use Rattle.vz_frame.specs.declared.message.Message.TheVariants.{Close}
 use Rattle.vz_rules.specs.declared.entry.Event.TheVariants as event
 use Rattle.vz_rules.specs.Messages.{message_answer}
-use Rattle.vz_lending.specs.Lent.{resources_out}
-use Rattle.vz_live.specs.Living.{Live}
+use Rattle.vz_returns.specs.Lent.{resources_out}
+use Rattle.vz_surface_manager.specs.Live.{Live}
 use Rattle.vz_manager.specs.Serving.{Serves}
 use Rattle.vz_manager.proofs.Following.{sends_next}
 use Rattle.vz_manager.proofs.Stepped.{followed_answer, serves_followed}

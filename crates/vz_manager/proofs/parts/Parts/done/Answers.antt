@@ -4,7 +4,7 @@ use Rattle.vz_rules.specs.declared.entry.Fed.{Fed}
 use Rattle.vz_rules.specs.declared.entry.Returned.{Returned}
 use Rattle.vz_rules.specs.Returns.{give_back, returned_in, fed_in}
 use Rattle.vz_rules.specs.Ends.{landed}
-use Rattle.vz_live.specs.Living.{Live}
+use Rattle.vz_surface_manager.specs.Live.{Live}
 use Rattle.vz_manager.specs.Serving.{Serves}
 use Rattle.vz_manager.proofs.Resting.{appended}
 use Rattle.vz_manager.proofs.Landings.{flying, places_there, step_idle, serves_idle, step_landed}
@@ -49,6 +49,12 @@ land-requires-clause-places c =
       ap (λ (r : Roomy Fed). r.spare) c.replace-fed.ensures.value,
     )
 
+pub shown-requires : goal.shown-requires
+shown-requires c =
+    let s = c.requires.stands in
+    let h = subst (Serves s.0 s.1) (sym c.self.view_is) s.2 in
+    h.lands.effects (sym c.is_flying.ensures ∙ c.if-not-is_flying.false)
+
 pub returns-clause-step : goal.returns-clause-step
 returns-clause-step c p w old =
     let h = subst (Serves p w) (sym c.self.view_is) old in
@@ -66,7 +72,7 @@ returns-clause-serves c p w old =
     let f = flying p w _ h (sym c.is_flying.ensures ∙ c.if-not-is_flying.false) in
     let support = support_landed p w f.0 _ f.1.flies (c.support_stays_at_ends.ensures.done p w _ h.support) in
     let waiting = waiting_landed w f.0 _ f.1.flies (c.waiting_ones_stay.ensures.done w _ h.settling.waiting) in
-    serves_landed p w _ f.0 c.land.new.self _ _ h f.1.flies
+    serves_landed p w _ f.0 c.land.new.self _ _ c.shown.new.room h f.1.flies
     (c.support_stays_at_ends.ensures.feedback p (give_back (landed w)) f.0 _
     (c.support_stays_at_ends.ensures.returns p (landed w) _ support))
     (c.land.ensures.live w f.0 f.1)

@@ -1,7 +1,7 @@
 use Rattle.std.proofs.Common.{None, is_some, sym, ◌∙◌, subst, ap, arith}
-use Rattle.vz_live.specs.Living.{Live}
-use Rattle.vz_live.specs.Drawing.{Measures, Flies}
-use Rattle.vz_live.proofs.Drawn.{reply_is}
+use Rattle.vz_surface_manager.specs.Live.{Live}
+use Rattle.vz_surface_manager.specs.Drawn_frame.{Measures, Flies}
+use Rattle.vz_surface_manager.proofs.Drawn.{reply_is}
 use Rattle.vz_manager.specs.Serving.{Served, Serves}
 use Rattle.vz_manager.specs.Showing.{IsToShow}
 use Rattle.vz_manager.proofs.Showing.{on_err, none_flying, step_unchanged, step_changed}
@@ -38,7 +38,7 @@ returns-in_err-ops-clause-err c p w old =
     let now = subst (IsToShow x.0 x.1 c.args.root.now) (sym c.self.view_is) x.2 in
     let h = subst (Serves p w) (sym c.self.view_is) old in
     on_err c.from_residual.result _
-    (serves_still p w _ c.self.inside.settling.live c.ready_to_show.new.returned c.self.inside.fed h
+    (serves_still p w _ c.self.inside.settling.live c.ready_to_show.new.returned c.self.inside.fed c.ready_to_show.new.landed h
     (none_flying x.0 x.1 _ c.args.root.now now) h.settling.live h.released
     (c.ready_to_show.ensures.list ∙ h.lands.none_returned) h.lands.none_fed)
 
@@ -55,7 +55,7 @@ returns-in_err-show-clause-err c p w old =
     let now = subst (IsToShow x.0 x.1 c.args.root.now) (sym c.self.view_is) x.2 in
     let h = subst (Serves p w) (sym c.self.view_is) old in
     on_err c.from_residual-in_err-show.result _
-    (serves_still p w _ c.show.new.self c.ready_to_show.new.returned c.show.new.fed h
+    (serves_still p w _ c.show.new.self c.ready_to_show.new.returned c.show.new.fed c.ready_to_show.new.landed h
     (ap (λ (v : Live). is_some v.flight) c.in_err-show.ensures.err ∙ none_flying x.0 x.1 _ c.args.root.now now)
     (c.in_err-show.ensures.kept w None h.settling.live) c.show.ensures.released
     (c.ready_to_show.ensures.list ∙ h.lands.none_returned) (c.show.ensures.list ∙ h.lands.none_fed))
@@ -96,9 +96,9 @@ returns-clause-serves c p w old =
     let h = subst (IsToShow p w c.args.root.now) (sym c.self.view_is) old in
     let flown = subst (λ (v : Served). Flies c.args.root.now v.size v.settling.live c.args.flight) (sym c.self.view_is) c.requires.flown in
     let m = subst (λ (v : Served). Measures c.args.root.now v.size v.settling.live c.args.measured) (sym c.self.view_is) c.requires.measured in
-    serves_drawn p w _ c.show.new.self c.ready_to_show.new.returned c.show.new.fed h.serves
+    serves_drawn p w _ c.show.new.self c.ready_to_show.new.returned c.show.new.fed c.ready_to_show.new.landed h.serves
     (c.support_stays_at_ends.ensures.draw p w _ h.serves.support)
     (c.in_ok-show.ensures.live p w c.args.root.now _ c.in-Some.damage h.shows flown m (sym c.changed.ensures ∙ c.in-Some.is))
     (c.waiting_ones_stay.ensures.draw p w _ h.serves.settling.waiting) c.show.ensures.released
     (c.ready_to_show.ensures.list ∙ h.serves.lands.none_returned) (c.show.ensures.list ∙ h.serves.lands.none_fed)
-    (omega (arith, c.in_ok-ops.ensures.room, c.show.ensures.out)) c.in_ok-show.ensures.room
+    (omega (arith, c.in_ok-ops.ensures.room, c.show.ensures.out)) c.in_ok-show.ensures.room c.in_ok-ops.ensures.landed

@@ -1,7 +1,7 @@
 use Rattle.std.proofs.Common.{sym, subst}
 use Rattle.vz_rules.specs.declared.entry.Reply.TheVariants as reply
-use Rattle.vz_live.specs.Drawing.{Measures, Flies}
-use Rattle.vz_live.proofs.Drawn.{there}
+use Rattle.vz_surface_manager.specs.Drawn_frame.{Measures, Flies}
+use Rattle.vz_surface_manager.proofs.Drawn.{there}
 use Rattle.vz_manager.specs.Serving.{Serves}
 use Rattle.vz_manager.specs.Showing.{IsToMeasure}
 use Rattle.vz_manager.proofs.Showing.{on_err, serves_measured, measures_still, flies_still, found_heavy, found_shows}

@@ -4,7 +4,7 @@ use Rattle.vz_rules.specs.declared.entry.Reply.TheVariants as reply
 use Rattle.vz_rules.specs.Messages.{says, taking, reclaim}
 use Rattle.vz_rules.proofs.Cases.{number_at}
 use Rattle.vz_rules.proofs.Kept_answers.{keeps_reclaimed}
-use Rattle.vz_lending.specs.Lent.{IsLender}
+use Rattle.vz_returns.specs.Lent.{IsLender}
 use Rattle.vz_manager.specs.Serving.{Serves}
 use Rattle.vz_manager.proofs.Resting.{appended}
 use Rattle.vz_manager.proofs.Following.{reclaim_sent, step_of, serves_with, sends_next, client_here, lender_here}

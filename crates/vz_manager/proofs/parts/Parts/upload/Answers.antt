@@ -3,7 +3,7 @@ use Rattle.vz_rules.specs.declared.entry.Event.TheVariants as event
 use Rattle.vz_rules.specs.Messages.{in_use, upload_answer}
 use Rattle.vz_rules.proofs.Cases.{number_at}
 use Rattle.vz_rules.proofs.Kept_answers.{keeps_upload}
-use Rattle.vz_lending.specs.Lent.{IsLender}
+use Rattle.vz_returns.specs.Lent.{IsLender}
 use Rattle.vz_manager.specs.Serving.{Serves}
 use Rattle.vz_manager.proofs.Following.{upload_sent, upload_refused, upload_stored, step_of}
 use Rattle.vz_manager.proofs.Following.{serves_on, sends_next, client_here, lender_here}

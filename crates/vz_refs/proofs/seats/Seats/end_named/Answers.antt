@@ -20,4 +20,4 @@ pub returns-clause-ends : goal.returns-clause-ends
 returns-clause-ends c = c.loop-k.invariant.0
 
 pub returns-clause-rid : goal.returns-clause-rid
-returns-clause-rid c = all_done c.args.range.now c.loop-k.self _ _ c.loop-k.invariant.0.stands c.group_of-group.ensures (omega (arith, c.loop-k-test.false)) c.loop-k.invariant.1
+returns-clause-rid c = all_done c.args.range.now c.loop-k.self _ _ c.loop-k.invariant.0.stands c.group-group.ensures (omega (arith, c.loop-k-test.false)) c.loop-k.invariant.1

@@ -8,20 +8,20 @@ pub shrink-last-requires : goal.shrink-last-requires
 shrink-last-requires c =
     let s = c.args.self.now in
     let some = not_empty same_name from_name self_name seat_of (kept_in s) (name_in s) (size_in s) c.requires.stands c.args.name.now c.in-Some.gone (sym c.swap_remove.ensures.value ∙ c.in-Some.is) in
-    omega (arith, some, ap (size_in s) c.group_of-group.ensures)
+    omega (arith, some, ap (size_in s) c.group-group.ensures)
 
 pub unwrap-moved-requires : goal.unwrap-moved-requires
 unwrap-moved-requires c =
     let s = c.args.self.now in
     ap is_some c.swap_remove-in-Some.ensures.value
     ∙ end_in same_name from_name self_name seat_of (kept_in s) (name_in s) (size_in s) c.requires.stands c.args.name.now c.in-Some.gone (sym c.swap_remove.ensures.value ∙ c.in-Some.is)
-    c.shrink-last.result c.group_of-group.result c.group_of-group.ensures c.shrink-last.ensures.size
+    c.shrink-last.result c.group-group.result c.group-group.ensures c.shrink-last.ensures.size
 
 pub returns-in-Some-clause-stands : goal.returns-in-Some-clause-stands
 returns-in-Some-clause-stands c =
     let s = c.args.self.now in
     one_fewer_in same_name from_name self_name seat_of (kept_in s) (name_in s) (size_in s) c.requires.stands c.args.name.now c.in-Some.gone (sym c.swap_remove.ensures.value ∙ c.in-Some.is)
-    c.shrink-last.result c.group_of-group.result c.group_of-group.ensures c.shrink-last.ensures.size
+    c.shrink-last.result c.group-group.result c.group-group.ensures c.shrink-last.ensures.size
     c.unwrap-moved.result (sym c.swap_remove-in-Some.ensures.value ∙ c.unwrap-moved.ensures) (λ k. record k { at = c.in-Some.gone.at }) (λ k. refl)
     _ _ c.swap_remove.ensures.updates.0 c.seat.ensures.kept _ _ c.swap_remove-in-Some.ensures.updates.0 c.write.ensures.values _ c.shrink-last.ensures.sizes
 
@@ -29,7 +29,7 @@ pub returns-in-Some-clause-names : goal.returns-in-Some-clause-names
 returns-in-Some-clause-names c =
     let s = c.args.self.now in
     stood_in same_name from_name self_name seat_of (kept_in s) (name_in s) (size_in s) c.requires.stands c.args.name.now c.in-Some.gone (sym c.swap_remove.ensures.value ∙ c.in-Some.is)
-    c.shrink-last.result c.group_of-group.result c.group_of-group.ensures c.shrink-last.ensures.size
+    c.shrink-last.result c.group-group.result c.group-group.ensures c.shrink-last.ensures.size
     c.unwrap-moved.result (sym c.swap_remove-in-Some.ensures.value ∙ c.unwrap-moved.ensures) (λ k. record k { at = c.in-Some.gone.at }) (λ k. refl)
     _ _ c.swap_remove.ensures.updates.0 c.seat.ensures.kept _ _ c.swap_remove-in-Some.ensures.updates.0 c.write.ensures.values _ c.shrink-last.ensures.sizes
 

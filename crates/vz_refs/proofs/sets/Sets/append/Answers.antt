@@ -11,8 +11,8 @@ use Rattle.vz_refs.proofs.sets.Sets.append.Goals as goal
 
 pub overflow_add-at : goal.overflow_add-at
 overflow_add-at c =
-    let few = no_more same_place from_place self_place (λ k. record { group = c.group_of-group.result; at = k }) (λ j k e. ap (λ p. p.at) e) c.self.inside.ends.entries c.size_of-at.result
-    (λ k low. c.self.invariant.seated.filled (record { group = c.group_of-group.result; at = k }) (omega (arith, low, c.size_of-at.ensures))) in
+    let few = no_more same_place from_place self_place (λ k. record { group = c.group-group.result; at = k }) (λ j k e. ap (λ p. p.at) e) c.self.inside.ends.entries c.size_of-at.result
+    (λ k low. c.self.invariant.seated.filled (record { group = c.group-group.result; at = k }) (omega (arith, low, c.size_of-at.ensures))) in
     omega (arith, few, c.len-2.ensures.small, c.len-2.ensures.len)
 
 pub overflow_add-slot : goal.overflow_add-slot
@@ -28,6 +28,6 @@ invariant_of-self c =
     let end = updated _ same_place places c.self.inside.ends c.insert-2.new.self _ _ (of_ok _ _ c.unwrap-2.result c.unwrap-2.ensures c.insert-2.ensures.updates) in
     let grown = updated _ same_key groups c.self.inside.sizes c.insert-3.new.self _ _ (of_ok _ _ c.unwrap-3.result c.unwrap-3.ensures c.insert-3.ensures.updates) in
     subst (λ l. IsIndexed l (get same_surface c.write.new.map) (get same_nth c.insert.new.self) (get same_place c.insert-2.new.self) (get same_key c.insert-3.new.self)) (sym c.lengthen.ensures)
-    (appended_in _ _ _ _ _ c.self.invariant c.args.id c.args.range c.count.result c.size_of-at.result c.group_of-group.result (ap (λ v. is_set v.list c.args.id) c.self.view_is ∙ c.requires.set)
-    (c.count.ensures ∙ sym (ap (λ v. length (ranges_of v.list c.args.id)) c.self.view_is)) c.group_of-group.ensures c.size_of-at.ensures
+    (appended_in _ _ _ _ _ c.self.invariant c.args.id c.args.range c.count.result c.size_of-at.result c.group-group.result (ap (λ v. is_set v.list c.args.id) c.self.view_is ∙ c.requires.set)
+    (c.count.ensures ∙ sym (ap (λ v. length (ranges_of v.list c.args.id)) c.self.view_is)) c.group-group.ensures c.size_of-at.ensures
     _ (written _ same_surface surfaces c.self.inside.counts c.write.new.map c.args.id (c.count.result + 1) c.write.ensures.values) _ put _ end _ grown)

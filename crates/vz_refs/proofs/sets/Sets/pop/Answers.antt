@@ -18,14 +18,14 @@ pub overflow_sub-last : goal.overflow_sub-last
 overflow_sub-last c =
     let was = found _ same_nth nths c.self.inside.edges _ _ _ c.swap_remove.ensures.value c.unwrap-edge.ensures in
     let low = (c.self.invariant.seated.placed _ c.unwrap-edge.result was).1 in
-    let size = c.size_of-last.ensures ∙ ap (λ h. or_zero (get same_key c.self.inside.sizes h)) c.group_of-group.ensures in
+    let size = c.size_of-last.ensures ∙ ap (λ h. or_zero (get same_key c.self.inside.sizes h)) c.group-group.ensures in
     omega (arith, low, size)
 
 pub unwrap-moved-requires : goal.unwrap-moved-requires
 unwrap-moved-requires c =
     let was = found _ same_nth nths c.self.inside.edges _ _ _ c.swap_remove.ensures.value c.unwrap-edge.ensures in
     let low = (c.self.invariant.seated.placed _ c.unwrap-edge.result was).1 in
-    let size = c.size_of-last.ensures ∙ ap (λ h. or_zero (get same_key c.self.inside.sizes h)) c.group_of-group.ensures in
+    let size = c.size_of-last.ensures ∙ ap (λ h. or_zero (get same_key c.self.inside.sizes h)) c.group-group.ensures in
     ap is_some (sym (at_key _ same_place places c.self.inside.ends _ _ c.swap_remove-2.ensures.value))
     ∙ c.self.invariant.seated.filled _ (omega (arith, low, size, c.size_of-last.ensures))
 
@@ -34,13 +34,13 @@ invariant_of-self c =
     let many = ap (λ v. length (ranges_of v.list c.args.id)) c.self.view_is in
     let was = found _ same_nth nths c.self.inside.edges _ _ _ c.swap_remove.ensures.value c.unwrap-edge.ensures in
     let low = (c.self.invariant.seated.placed _ c.unwrap-edge.result was).1 in
-    let size = c.size_of-last.ensures ∙ ap (λ h. or_zero (get same_key c.self.inside.sizes h)) c.group_of-group.ensures in
+    let size = c.size_of-last.ensures ∙ ap (λ h. or_zero (get same_key c.self.inside.sizes h)) c.group-group.ensures in
     let last = found _ same_place places c.self.inside.ends _ _ _ c.swap_remove-2.ensures.value c.unwrap-moved.ensures in
     subst (λ l. IsIndexed l (get same_surface c.write-3.new.map) (get same_nth c.move_edge.new.edges) (get same_place c.write.new.map) (get same_key c.write-2.new.map)) (sym c.shorten.ensures)
-    (popped_in _ _ _ _ _ c.self.invariant c.args.id (c.count.result - 1) (c.size_of-last.result - 1) c.unwrap-edge.result c.unwrap-moved.result c.group_of-group.result
-    (omega (arith, c.requires, c.count.ensures, many)) was c.group_of-group.ensures (omega (arith, low, size, c.size_of-last.ensures)) last
+    (popped_in _ _ _ _ _ c.self.invariant c.args.id (c.count.result - 1) (c.size_of-last.result - 1) c.unwrap-edge.result c.unwrap-moved.result c.group-group.result
+    (omega (arith, c.requires, c.count.ensures, many)) was c.group-group.ensures (omega (arith, low, size, c.size_of-last.ensures)) last
     _ (written _ same_surface surfaces c.self.inside.counts c.write-3.new.map c.args.id (c.count.result - 1) c.write-3.ensures.values)
     _ _ (updated _ same_nth nths c.self.inside.edges c.swap_remove.new.self _ None c.swap_remove.ensures.updates) c.move_edge.ensures.values
     _ _ (updated _ same_place places c.self.inside.ends c.swap_remove-2.new.self _ None c.swap_remove-2.ensures.updates)
     (written _ same_place places c.swap_remove-2.new.self c.write.new.map _ c.unwrap-moved.result c.write.ensures.values)
-    _ (written _ same_key groups c.self.inside.sizes c.write-2.new.map c.group_of-group.result (c.size_of-last.result - 1) c.write-2.ensures.values))
+    _ (written _ same_key groups c.self.inside.sizes c.write-2.new.map c.group-group.result (c.size_of-last.result - 1) c.write-2.ensures.values))

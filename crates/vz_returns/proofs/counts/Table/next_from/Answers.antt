@@ -1,5 +1,5 @@
 use Rattle.std.proofs.Common.{◌≡◌, true, false, ap, sym, ◌∙◌, arith}
-use Rattle.vz_returns.specs.Holding.{is_rising}
+use Rattle.vz_returns.specs.Held.{is_rising}
 use Rattle.vz_returns.proofs.Orders.{rising_order}
 use Rattle.vz_returns.proofs.Least.{none_yet, next_entry}
 use Rattle.vz_returns.proofs.counts.Table.next_from.Goals as goal

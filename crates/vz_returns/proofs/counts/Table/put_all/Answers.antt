@@ -1,5 +1,5 @@
 use Rattle.std.proofs.Common.{◌<◌, ◌+◌, length, sym, subst}
-use Rattle.vz_returns.specs.Holding.{from_on}
+use Rattle.vz_returns.specs.Held.{from_on}
 use Rattle.vz_returns.proofs.Least.{ArePut, put_none, put_fits, put_one, put_all_in}
 use Rattle.vz_returns.proofs.counts.Table.put_all.Goals as goal
 

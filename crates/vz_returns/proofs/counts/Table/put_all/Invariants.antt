@@ -1,5 +1,5 @@
 use Rattle.std.proofs.Common.{length}
-use Rattle.vz_returns.specs.Holding.{from_on}
+use Rattle.vz_returns.specs.Held.{from_on}
 use Rattle.vz_returns.proofs.Least.{ArePut}
 use Rattle.vz_returns.proofs.counts.Table.put_all.Given as goal
 

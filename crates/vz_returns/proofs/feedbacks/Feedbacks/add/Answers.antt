@@ -1,5 +1,5 @@
 use Rattle.std.proofs.Common.{ap, ◌∙◌, insert}
-use Rattle.vz_returns.specs.Feeding.{in_order, is_open, place_in}
+use Rattle.vz_returns.specs.Unfed.{in_order, is_open, place_in}
 use Rattle.vz_returns.proofs.Kept.{opened_in_order}
 use Rattle.vz_returns.proofs.feedbacks.Feedbacks.add.Goals as goal
 

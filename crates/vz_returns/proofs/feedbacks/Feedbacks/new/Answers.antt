@@ -1,5 +1,5 @@
 use Rattle.std.proofs.Common.{ap, ◌∙◌}
-use Rattle.vz_returns.specs.Feeding.{in_order}
+use Rattle.vz_returns.specs.Unfed.{in_order}
 use Rattle.vz_returns.proofs.Halved.{none_in_order}
 use Rattle.vz_returns.proofs.feedbacks.Feedbacks.new.Goals as goal
 

@@ -1,5 +1,5 @@
 use Rattle.std.proofs.Common.{length, ap, ◌-◌, arith}
-use Rattle.vz_returns.specs.Holding.{alive_of}
+use Rattle.vz_returns.specs.Held.{alive_of}
 use Rattle.vz_returns.proofs.Orders.{least_kept}
 use Rattle.vz_returns.proofs.holder.Holder.hold.Goals as goal
 

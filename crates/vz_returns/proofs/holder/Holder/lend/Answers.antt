@@ -1,5 +1,5 @@
 use Rattle.std.proofs.Common.{length, ap, ◌-◌, arith}
-use Rattle.vz_returns.proofs.Orders.{least_kept, least_used, least_room}
+use Rattle.vz_returns.proofs.Orders.{least_kept, least_used, least_room, no_error}
 use Rattle.vz_returns.proofs.holder.Holder.lend.Goals as goal
 
 -- the first that is alive: there is room for its counts and for its return
@@ -15,6 +15,12 @@ returns-then-counts-eq0-clause-spare c =
     let used = least_used c.ready.new.self.spare now.counts.spare c.put.new.self.spare (now.queue.spare - length now.counts.list) (now.queue.spare - length c.put.new.self.list)
     (ap (λ v. v.spare) c.self-then-counts-eq0.view_is) c.put.ensures.spare (omega (arith, c.put.ensures.len)) in
     omega (arith, used, c.in_ok-ready.ensures.spare)
+
+pub returns-then-counts-eq0-clause-kept : goal.returns-then-counts-eq0-clause-kept
+returns-then-counts-eq0-clause-kept c =
+    let now = c.self-then-counts-eq0.inside in
+    let room = least_room c.ready.new.self.spare now.counts.spare (now.queue.spare - length now.counts.list) (ap (λ v. v.spare) c.self-then-counts-eq0.view_is) in
+    no_error c.put.result _ (c.put.ensures.succeeds (omega (arith, c.in_ok-ready.ensures.ok, room.0)))
 
 -- another is alive
 pub set-requires : goal.set-requires

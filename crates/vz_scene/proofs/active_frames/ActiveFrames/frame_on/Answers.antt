@@ -10,7 +10,7 @@ pub returns-in-None : goal.returns-in-None
 returns-in-None c =
     let id = c.args.id.now in
     let all = c.self.inside.all.now in
-    found_on id all [] None (group_none c.self.inside.groups all id c.group_of.result c.self.invariant c.group_of.ensures c.in-None.ensures.value) (λ y h. absurd (contains_none y h))
+    found_on id all [] None (group_none c.self.inside.groups all id c.group.result c.self.invariant c.group.ensures c.in-None.ensures.value) (λ y h. absurd (contains_none y h))
     ∙ ap (frame_on id) c.self.view_is
 
 pub returns-else-not-is_chain : goal.returns-else-not-is_chain
@@ -19,5 +19,5 @@ returns-else-not-is_chain c =
     let all = c.self.inside.all.now in
     c.only_on.ensures
     ∙ (found_on id all c.in-Some.group.now (option_copied c.newest_up_to-found.result)
-    (group_is c.self.inside.groups all id c.group_of.result c.in-Some.group.now c.self.invariant c.group_of.ensures c.in-Some.ensures.value) c.newest_up_to-found.ensures
+    (group_is c.self.inside.groups all id c.group.result c.in-Some.group.now c.self.invariant c.group.ensures c.in-Some.ensures.value) c.newest_up_to-found.ensures
     ∙ ap (frame_on id) c.self.view_is)

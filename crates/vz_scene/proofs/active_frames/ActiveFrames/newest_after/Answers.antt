@@ -14,7 +14,7 @@ returns-in-None-get c =
     let range = c.args.range.now in
     let start = c.in-Some.start in
     let all = c.self.inside.all.now in
-    found_after range start all [] None c.in-Some.is (group_none c.self.inside.groups all start c.group_of.result c.self.invariant c.group_of.ensures c.in-None-get.ensures.value) (λ y h. absurd (contains_none y h))
+    found_after range start all [] None c.in-Some.is (group_none c.self.inside.groups all start c.group.result c.self.invariant c.group.ensures c.in-None-get.ensures.value) (λ y h. absurd (contains_none y h))
     ∙ ap (λ l. newest (filter (after_start range.start range.end) l)) c.self.view_is
 
 pub returns-else-not-is_chain : goal.returns-else-not-is_chain
@@ -24,5 +24,5 @@ returns-else-not-is_chain c =
     let all = c.self.inside.all.now in
     c.only_after.ensures
     ∙ (found_after range start all c.in-Some-get.group.now (option_copied c.newest-found.result) c.in-Some.is
-    (group_is c.self.inside.groups all start c.group_of.result c.in-Some-get.group.now c.self.invariant c.group_of.ensures c.in-Some-get.ensures.value) c.newest-found.ensures
+    (group_is c.self.inside.groups all start c.group.result c.in-Some-get.group.now c.self.invariant c.group.ensures c.in-Some-get.ensures.value) c.newest-found.ensures
     ∙ ap (λ l. newest (filter (after_start range.start range.end) l)) c.self.view_is)

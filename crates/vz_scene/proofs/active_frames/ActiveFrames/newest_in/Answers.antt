@@ -10,7 +10,7 @@ pub returns-in-None : goal.returns-in-None
 returns-in-None c =
     let range = c.args.range.now in
     let all = c.self.inside.all.now in
-    found_in range all [] None (group_none c.self.inside.groups all range.end c.group_of.result c.self.invariant c.group_of.ensures c.in-None.ensures.value) (λ y h. absurd (contains_none y h))
+    found_in range all [] None (group_none c.self.inside.groups all range.end c.group.result c.self.invariant c.group.ensures c.in-None.ensures.value) (λ y h. absurd (contains_none y h))
     ∙ ap (λ l. newest (filter (in_range range) l)) c.self.view_is
 
 pub returns-else-not-is_chain : goal.returns-else-not-is_chain
@@ -19,5 +19,5 @@ returns-else-not-is_chain c =
     let all = c.self.inside.all.now in
     c.only_in.ensures
     ∙ (found_in range all c.in-Some.group.now (option_copied c.newest_up_to-found.result)
-    (group_is c.self.inside.groups all range.end c.group_of.result c.in-Some.group.now c.self.invariant c.group_of.ensures c.in-Some.ensures.value) c.newest_up_to-found.ensures
+    (group_is c.self.inside.groups all range.end c.group.result c.in-Some.group.now c.self.invariant c.group.ensures c.in-Some.ensures.value) c.newest_up_to-found.ensures
     ∙ ap (λ l. newest (filter (in_range range) l)) c.self.view_is)

@@ -1,8 +1,8 @@
 use Rattle.std.proofs.Common.{◌+◌, subst, ap, ◌∙◌, arith}
 use Rattle.vz_rules.specs.Walk.{place_in}
-use Rattle.vz_scene.specs.Limits.{HasRoom, coordinates, room_for}
+use Rattle.vz_placement.specs.Limits.{HasRoom, coordinates, room_for}
 use Rattle.vz_scene.specs.Walking.{Cursor}
-use Rattle.vz_scene.proofs.Rooms.{room_less, place_room, drawn_room}
+use Rattle.vz_placement.proofs.Rooms.{room_less, place_room, drawn_room}
 use Rattle.vz_scene.proofs.cursor.Cursor.place_of.Goals as goal
 
 pub place_in-requires-clause-room : goal.place_in-requires-clause-room

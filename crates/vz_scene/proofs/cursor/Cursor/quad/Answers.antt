@@ -1,8 +1,8 @@
 use Rattle.std.proofs.Common.{◌+◌, [], refl, ap, ◌∙◌, arith}
 use Rattle.vz_frame.specs.declared.frame.Material.TheVariants as material
-use Rattle.vz_scene.specs.Limits.{coordinates, room_for}
+use Rattle.vz_placement.specs.Limits.{coordinates, room_for}
 use Rattle.vz_scene.specs.Walking.{named_of, ranges_of}
-use Rattle.vz_scene.proofs.Rooms.{room_less}
+use Rattle.vz_placement.proofs.Rooms.{room_less}
 use Rattle.vz_scene.proofs.Stacking.{quad_more}
 use Rattle.vz_scene.proofs.cursor.Cursor.quad.Goals as goal
 

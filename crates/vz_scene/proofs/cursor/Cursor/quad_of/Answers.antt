@@ -1,7 +1,7 @@
 use Rattle.std.proofs.Common.{length, ap, ◌∙◌, arith}
 use Rattle.vz_frame.specs.declared.frame.CompositorFrame.{CompositorFrame}
 use Rattle.vz_scene.specs.Walking.{Cursor}
-use Rattle.vz_scene.proofs.Fitting.{pass_at_in_reach, quad_at_in_reach}
+use Rattle.vz_placement.proofs.Fitting.{pass_at_in_reach, quad_at_in_reach}
 use Rattle.vz_scene.proofs.Stacking.{cursor_done, cursor_next}
 use Rattle.vz_scene.proofs.cursor.Cursor.quad_of.Goals as goal
 

@@ -13,15 +13,15 @@ use Rattle.vz_slow.proofs.slow.Slow.done.Goals as goal
 pub invariant_of-self-in-Running : goal.invariant_of-self-in-Running
 invariant_of-self-in-Running c =
     let p = c.self.inside.plan.now in
-    slow_done p _ c.done.new.world c.done.result.0 c.done.result.1 c.done.new.returned c.done.new.fed (subst (λ s. IsReached p (world_at p s)) c.in-Running.is c.self.invariant.reached)
+    slow_done p _ c.done.new.world c.done.result.0 c.done.result.1 c.done.new.returned c.done.new.fed c.done.new.room (subst (λ s. IsReached p (world_at p s)) c.in-Running.is c.self.invariant.reached)
     (c.done.ensures.step p) c.done.ensures.none c.done.ensures.returned c.done.ensures.fed
 
 pub returns-in-Opening-clause-step : goal.returns-in-Opening-clause-step
 returns-in-Opening-clause-step c =
     let p = c.self.inside.plan.now in
     let at : Stage → World = λ s. world_at p s in
-    ap (λ (s : Stage). doing p s c.nothing.result) c.in-Opening.is
-    ∙ (opening_done p c.in-Opening.over c.nothing.result c.self.invariant.reached.plan c.nothing.ensures
+    ap (λ (s : Stage). doing p s c.none.result) c.in-Opening.is
+    ∙ (opening_done p c.in-Opening.over c.none.result c.self.invariant.reached.plan c.none.ensures
     ∙ (ap (λ (s : Stage). step_in p (at s) event.Done) (sym c.in-Opening.is) ∙ ap (λ (m : Machine). step_in m.plan m.world event.Done) c.self.view_is))
   where
     doing : Plan → Stage → Effects → Outcome

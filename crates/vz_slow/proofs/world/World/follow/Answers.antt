@@ -5,7 +5,8 @@ use Rattle.vz_slow.proofs.world.World.follow.Goals as goal
 
 pub returns-clause-effects : goal.returns-clause-effects
 returns-clause-effects c = λ r.
-    follow_effects c.args.self.now c.settle.new.self c.collect.new.self c.give_back.new.self [] r _ _ _ _
+    c.in-Ok.ensures
+    ∙ follow_effects c.args.self.now c.settle.new.self c.collect.new.self c.give_back.new.self [] r _ _ _ _
     c.in_ok-activated.ensures.world c.in_ok-destroyed.ensures.world c.give_back.ensures.world
     (c.from_vec.ensures ∙ c.in_ok-activated.ensures.activated) (c.from_vec-2.ensures ∙ c.in_ok-destroyed.ensures.destroyed)
     (c.into_list.ensures ∙ (c.give_back.ensures.told.list ∙ ap (λ l. l ++ returned_in c.collect.new.self) (c.make_room.ensures.list ∙ c.new-returned.ensures)))

@@ -1,8 +1,9 @@
 use Rattle.std.proofs.Common.{◌==◌, Option, List, reverse, filter, sym, ap, ◌∙◌}
 use Rattle.std.specs.Option.{option_copied}
-use Rattle.vz_rules.specs.World.{World, Client, Created, Resource, last_created}
+use Rattle.vz_rules.specs.World.{World, Client, Surface, Resource, last_created}
 use Rattle.vz_rules.specs.Messages.{message_answer, in_use, submit_refusal, blocks_of}
 use Rattle.vz_frame.specs.Frame.{first_of}
+use Rattle.vz_frame.specs.declared.message.Message.TheVariants.{Submit}
 use Rattle.vz_ids.specs.declared.FrameSinkId.{FrameSinkId}
 use Rattle.vz_ids.specs.declared.LocalSurfaceId.{LocalSurfaceId}
 use Rattle.vz_ids.specs.declared.SurfaceId.{SurfaceId}
@@ -15,7 +16,9 @@ abbrev on_sink : FrameSinkId → LocalSurfaceId → SurfaceId
 on_sink k local = record { sink = k; local = local }
 
 pub submit-requires-clause-fits : goal.submit-requires-clause-fits
-submit-requires-clause-fits c = frame_fits c.args.message.now c.in-Submit.local c.in-Submit.frame c.requires.fits c.in-Submit.is
+submit-requires-clause-fits c =
+    frame_fits c.args.message.now c.in-Submit.local c.as_frame-frame.result.now c.requires.fits
+    (c.in-Submit.is ∙ ap (λ f. Submit c.in-Submit.local f) (sym c.as_frame-frame.ensures))
 
 pub returns-in-None : goal.returns-in-None
 returns-in-None c = λ x h.
@@ -78,15 +81,15 @@ returns-in_ok-submit-in-Submit c = λ x h.
     (ap option_copied c.in-Some.is) in
     let w = c.args.self.now in
     let local = c.in-Submit.local in
-    let frame = c.in-Submit.frame in
+    let frame = c.as_frame-frame.result.now in
     let resources = c.resources-in-Submit.ensures ∙ ap (λ (y : Client). y.resources) own in
     let resource = c.resources-in-Submit-2.ensures ∙ ap (λ (y : Client). y.resources) own in
     let last = c.last_created-last.ensures
-    ∙ (ap (λ (l : List Created). first_of (reverse (filter (λ (s : Created). s.client == c.args.c) l))) (c.deref-in-Submit.ensures.value ∙ ap (λ (u : World). u.surfaces) c.self.view_is)
+    ∙ (ap (λ (l : List Surface). first_of (reverse (filter (λ (s : Surface). s.client == c.args.c) l))) (c.deref-in-Submit.ensures.value ∙ ap (λ (u : World). u.surfaces) c.self.view_is)
     ∙ ap (last_created w) (sym (number_is w c.args.c x h))) in
     c.in_ok-submit-in-Submit.ensures x local h
-    (c.submit_refusal-refusal.ensures ∙ (ap (λ (o : Option Created). submit_refusal o c.resources-in-Submit.result.now local frame) last
+    (c.submit_refusal-refusal.ensures ∙ (ap (λ (o : Option Surface). submit_refusal o c.resources-in-Submit.result.now local frame) last
     ∙ ap (λ (l : List Resource). submit_refusal (last_created w x.number) l local frame) resources))
     (ap (λ (k : FrameSinkId). on_sink k local) (sym (c.sink-sink.ensures ∙ ap (λ (y : Client). y.sink) own)))
     (c.in_ok-blocks-in-Submit.ensures ∙ ap (λ (l : List Resource). blocks_of l frame) resource)
-    ∙ ap (message_answer w x) (sym c.in-Submit.is)
+    ∙ (ap (λ f. message_answer w x (Submit local f)) c.as_frame-frame.ensures ∙ ap (message_answer w x) (sym c.in-Submit.is))

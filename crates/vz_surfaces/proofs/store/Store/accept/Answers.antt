@@ -6,6 +6,7 @@ use Rattle.vz_surfaces.proofs.Listing.{lists_alike}
 use Rattle.vz_surfaces.specs.Chains.{Stands, KeepsGroups, KeepsLinks}
 use Rattle.vz_ids.specs.declared.SurfaceId.{SurfaceId}
 use Rattle.vz_frame.specs.declared.frame.CompositorFrame.{CompositorFrame}
+use Rattle.vz_frame.specs.Frame.{frame_size}
 use Rattle.vz_surfaces.specs.Memory.{Keeps, KeepsMarks, look, is_key, holding, is_named_last, waiting_on}
 use Rattle.vz_surfaces.proofs.Lodging.{same_keyed, keys_same, no_key}
 use Rattle.vz_surfaces.proofs.Linking.{chain_more, links_same, links_more}
@@ -104,7 +105,7 @@ invariant_of-self-2 c =
           (record {
             kept = accepted_keeps c.args.self.now c.args.c c.args.sink c.args.local c.requires.keeps c.requires.number c.requires.sink c.requires.goes_on c.args.frame c.args.blocks inside.table c.grow.new.table c.open.new.self
                 c.hold-index.new.self inside.waits c.grow.new.waits c.remove.new.self c.put.new.self inside.owners c.set.new.self c.get-owner.result c.counting.result c.is_last-last.result c.size-size.result c.note-acceptance.result
-                c.sub_of-waited.result kept c.in-Ok-grow.ensures.table c.in-Ok-grow.ensures.waits c.size-size.ensures c.get-owner.ensures c.is_last-last.ensures c.note-acceptance.ensures.back
+                c.sub_of-waited.result kept c.in-Ok-grow.ensures.table c.in-Ok-grow.ensures.waits (c.size-size.ensures ∙ ap frame_size c.as_frame-2.ensures) c.get-owner.ensures c.is_last-last.ensures c.note-acceptance.ensures.back
                 c.open.ensures.surfaces c.open.ensures.len (held_so c) (ap length c.hold-index.ensures.keys) c.hold-index.ensures.keyed (waited c) c.remove.ensures.none c.remove.ensures.others c.put.ensures c.counting.ensures c.set.ensures;
             groups = accepted_groups c.args.self.now c.args.c c.args.sink c.args.local c.requires.keeps c.requires.number c.requires.sink c.requires.goes_on c.args.frame c.args.blocks inside.owners c.get-owner.result inside.groups c.grow.new.groups
                 c.is_last-last.result kept.owners (subst (KeepsGroups inside.groups) c.self.view_is c.self.invariant.0.groups) c.get-owner.ensures c.is_last-last.ensures (chain_more inside.groups c.grow.new.groups c.is_last-last.result (record { id = record { sink = c.args.sink; local = c.args.local }; key = c.grow.new.table.surfaces.vacant_key }) c.in-Ok-grow.ensures.chain) c.in-Ok-grow.ensures.newest;

@@ -1,0 +1,9 @@
+pub mod Parts_of_calls
+pub mod Cutting
+pub mod Said_of_bytes
+pub mod Said_of_steps
+pub mod Said_of_logs
+pub mod Said_of_points
+pub mod Said_of_files
+pub mod Tested_more
+pub mod One_file

@@ -1,0 +1,244 @@
+//! The calls that C and C++ make in process. `viz.h` says what each takes and answers.
+//!
+//! No call keeps anything: what it allocates it gives back before it returns, and what it answers
+//! stands in the rooms of the caller. So any number of threads may call at once.
+#![tactic(auto)]
+
+ghost use Rattle.std.specs.Prelude.{◌≡◌, ◌≢◌, ◌≤◌, ◌⊎◌, None, Some, false, pos, take, length, map};
+ghost use Rattle.vz_check.specs.declared.verdict.Verdict.TheVariants.{Yes};
+ghost use Rattle.vz_codec.specs.Grammar.{wrong};
+ghost use Rattle.vz_codec.specs.Spelling.{file_bytes};
+ghost use Rattle.vz_codec.specs.declared.fault.FileRule.{FileRule as Rule};
+ghost use Rattle.vz_gen.specs.Make.{make};
+ghost use Rattle.viz_c.specs.Calls.{is_call, is_hit_call, is_gen_call, size_of, cut};
+ghost use Rattle.viz_c.specs.Calls.{schedule_refused_of, log_refused_of};
+ghost use Rattle.viz_c.specs.Hitting.{Hits, HitsSome};
+ghost use Rattle.viz_c.specs.Judging.{Judges, JudgesNo};
+ghost use Rattle.viz_c.specs.Making.{MakesMore};
+ghost use Rattle.viz_c.specs.Numbers.{rule_number, IsCause, IsWithin};
+ghost use Rattle.viz_c.specs.Rooms.{Keeps, KeepsRest};
+ghost use Rattle.viz_c.specs.Stepping.{AreStepped, NeedsRoom};
+ghost use Rattle.viz_c.specs.declared.answer.TheConstants.{DONE, MEMORY, CALL, ROOM, REFUSED, FAULT, NOTHING};
+
+mod answer;
+mod call;
+mod check;
+mod decode;
+mod given;
+mod hit;
+mod room;
+mod rounds;
+mod solo;
+mod step;
+
+use crate::answer::{CALL, Cause};
+use crate::call::{is_call, size_of};
+use crate::check::{judge, tell_check};
+use crate::decode::tell_decoding;
+use crate::hit::{Target, hit, is_inside, point_of, tell_hit};
+use crate::rounds::{is_gen_call, make_files, tell_made};
+use crate::step::{step, tell_step};
+use std::alloc::Global;
+use std::marker::Brand;
+use std::sync::ledger::Blank;
+
+/// The version of these calls. It rises if one of them changes.
+const VERSION: u32 = 1;
+
+/// The version of these calls: that of `viz.h` is `VIZ_VERSION`.
+#[unsafe(no_mangle)]
+pub extern "C" fn viz_version() -> u32
+    ensures { result ≡ 1 }
+{
+    VERSION
+}
+
+/// Whether these bytes are a message file. The answer is 0 if they are; 1 to 7 if they are not,
+/// which is the rule that the first field that is wrong breaks, and then `at` gets the place of
+/// that field in bytes from the front; or 8 if an allocation failed.
+#[unsafe(no_mangle)]
+pub extern "C" fn viz_decode(alloc: Global, bytes: &[u8], at: &mut usize) -> u32
+    ensures accepted { result ≡ DONE → wrong bytes.now ≡ None }
+    ensures refused { (rule : Rule) → result ≡ rule_number rule
+        → wrong bytes.now ≡ Some (record { at = at.new; rule = rule }) }
+    ensures range { result ≤ MEMORY }
+    // Otherwise the place stays.
+    ensures at_kept { (result ≡ DONE) ⊎ (result ≡ MEMORY) → at.new ≡ at.old }
+{
+    tell_decoding(&vz_codec::decode(alloc, bytes), at)
+}
+
+/// Gives the events of a schedule to the machine. The display has these sides. The files of the
+/// clients come one after the other in `files`, and have these lengths.
+///
+/// The answer is 0 if the frames and the log stand at the front of their rooms, and then the two
+/// lengths are theirs. It is 8 if an allocation failed; 9 if the sides, the number of files or
+/// their lengths are not allowed; 10 if a room is too small, and then the lengths are those that
+/// are needed; 11 if an input is refused, and then `cause` says which, where and why. The rooms
+/// keep what is in them unless the answer is 0.
+#[unsafe(no_mangle)]
+pub extern "C" fn viz_step(
+    alloc: Global,
+    w: u32,
+    h: u32,
+    schedule: &[u8],
+    files: &[u8],
+    lengths: &[usize],
+    frames: &mut [u8],
+    frames_len: &mut usize,
+    log: &mut [u8],
+    log_len: &mut usize,
+    cause: &mut Cause,
+) -> u32
+    // With 0 a legal history of exactly these events came about, the frames are those that it
+    // writes on two buffers, the log is its text, and no input is refused.
+    ensures done { result ≡ DONE → AreStepped (size_of w h) (cut lengths.now files.now) schedule.now
+        (take frames_len.new frames.new) (take log_len.new log.new) }
+    // With 10 the same holds of some frames and some log of these lengths, and one of them is
+    // longer than its room.
+    ensures room { result ≡ ROOM → NeedsRoom (size_of w h) (cut lengths.now files.now)
+        schedule.now (length frames.old) (length log.old) frames_len.new log_len.new }
+    // With 11 the cause is that of the first input that is refused.
+    ensures refused { result ≡ REFUSED → IsCause
+        (schedule_refused_of (size_of w h) (cut lengths.now files.now) schedule.now) cause.new }
+    // With 9 the call is not allowed, and a call that is not allowed gets no other answer.
+    ensures call { result ≡ CALL → is_call w h files.now lengths.now ≡ false }
+    ensures no_other { is_call w h files.now lengths.now ≡ false → result ≡ CALL }
+    // There is no other answer than these and 8, so that a call with accepted inputs and large
+    // rooms gets 0 unless an allocation failed.
+    ensures range { (result ≡ DONE) ⊎ IsWithin MEMORY REFUSED result }
+    // Nothing else is written into the rooms.
+    ensures kept { result ≢ DONE → Keeps frames.old frames.new × Keeps log.old log.new }
+    ensures behind { result ≡ DONE → KeepsRest frames_len.new frames.old frames.new
+        × KeepsRest log_len.new log.old log.new }
+    // The lengths stay with all answers but 0 and 10, and the cause with all but 11.
+    ensures lengths_kept { result ≢ DONE → result ≢ ROOM
+        → (frames_len.new ≡ frames_len.old) × (log_len.new ≡ log_len.old) }
+    ensures cause_kept { result ≢ REFUSED → cause.new ≡ cause.old }
+{
+    if !is_call(w, h, files, lengths) {
+        return CALL;
+    }
+    let size = size_of(w, h);
+    let left = step::<Brand>(alloc, Blank::new(1), size, schedule, files, lengths);
+    tell_step(&left, frames, frames_len, log, log_len, cause)
+}
+
+/// Checks a log and its frames, with the plain machine and the plain painter.
+///
+/// The answer is 0 if the log is that of a history that the machine makes and the bytes are its
+/// frames; 12 if not, and then `entry` is the first entry that has a fault, from 1 on, and `what`
+/// its first fault: 1 to 5 for the text, the reply, the frame, the rest and the length. It is 8 if
+/// an allocation failed; 9 if the sides, the number of files or their lengths are not allowed; 11
+/// if an input is refused, and then `cause` says which, where and why.
+#[unsafe(no_mangle)]
+pub extern "C" fn viz_check(
+    alloc: Global,
+    w: u32,
+    h: u32,
+    frames: &[u8],
+    log: &[u8],
+    files: &[u8],
+    lengths: &[usize],
+    entry: &mut u64,
+    what: &mut u32,
+    cause: &mut Cause,
+) -> u32
+    ensures agrees { result ≡ DONE → Judges (size_of w h) (cut lengths.now files.now)
+        log.now frames.now Yes }
+    ensures differs { result ≡ FAULT → JudgesNo (size_of w h) (cut lengths.now files.now)
+        log.now frames.now entry.new what.new }
+    ensures refused { result ≡ REFUSED → IsCause
+        (log_refused_of (cut lengths.now files.now) log.now) cause.new }
+    ensures call { result ≡ CALL → is_call w h files.now lengths.now ≡ false }
+    ensures no_other { is_call w h files.now lengths.now ≡ false → result ≡ CALL }
+    ensures range { (result ≡ DONE) ⊎ IsWithin MEMORY FAULT result }
+    ensures no_room { result ≢ ROOM }
+    // The entry and the fault stay with all answers but 12, and the cause with all but 11.
+    ensures found_kept { result ≢ FAULT → (entry.new ≡ entry.old) × (what.new ≡ what.old) }
+    ensures cause_kept { result ≢ REFUSED → cause.new ≡ cause.old }
+{
+    if !is_call(w, h, files, lengths) {
+        return CALL;
+    }
+    let verdict = judge(alloc, size_of(w, h), frames, log, files, lengths);
+    tell_check(&verdict, entry, what, cause)
+}
+
+/// Gives the events of a schedule to the machine without painting, and finds which surface is hit
+/// in column `x` and row `y` of the last drawing, both from 0 on.
+///
+/// The answer is 0 if a surface is hit, which `target` gets; 13 if none is there, or nothing was
+/// drawn. It is 8 if an allocation failed; 9 if the sides, the number of files or their lengths
+/// are not allowed, or the point is not on the display; 11 if an input is refused, and then
+/// `cause` says which, where and why.
+#[unsafe(no_mangle)]
+pub extern "C" fn viz_hit(
+    alloc: Global,
+    w: u32,
+    h: u32,
+    schedule: &[u8],
+    x: u32,
+    y: u32,
+    files: &[u8],
+    lengths: &[usize],
+    target: &mut Target,
+    cause: &mut Cause,
+) -> u32
+    ensures hit { result ≡ DONE → HitsSome (size_of w h) (cut lengths.now files.now) schedule.now
+        (record { x = pos x; y = pos y }) target.new }
+    ensures nothing { result ≡ NOTHING → Hits (size_of w h) (cut lengths.now files.now)
+        schedule.now (record { x = pos x; y = pos y }) None }
+    ensures refused { result ≡ REFUSED → IsCause
+        (schedule_refused_of (size_of w h) (cut lengths.now files.now) schedule.now) cause.new }
+    ensures call { result ≡ CALL → is_hit_call w h x y files.now lengths.now ≡ false }
+    ensures no_other { is_hit_call w h x y files.now lengths.now ≡ false → result ≡ CALL }
+    ensures range { (result ≡ DONE) ⊎ IsWithin MEMORY NOTHING result }
+    ensures no_room { result ≢ ROOM }
+    ensures no_fault { result ≢ FAULT }
+    // The target stays with all answers but 0, and the cause with all but 11.
+    ensures target_kept { result ≢ DONE → target.new ≡ target.old }
+    ensures cause_kept { result ≢ REFUSED → cause.new ≡ cause.old }
+{
+    if !is_call(w, h, files, lengths) {
+        return CALL;
+    }
+    if !is_inside(w, h, x, y) {
+        return CALL;
+    }
+    let point = point_of(x, y);
+    let found = hit(alloc, size_of(w, h), point, schedule, files, lengths);
+    tell_hit(&found, target, cause)
+}
+
+/// Makes the message files of a page and its two children for so many rounds, one after the other
+/// in `files`. There has to be room for three lengths.
+///
+/// The answer is 0 if the files stand at the front of their room; 10 if it is too small. With
+/// either, `files_len` is the length of all of them, and `lengths` has that of each. It is 8 if an
+/// allocation failed; 9 if there may not be so many rounds, or not three lengths.
+#[unsafe(no_mangle)]
+pub extern "C" fn viz_gen(
+    alloc: Global,
+    rounds: u32,
+    files: &mut [u8],
+    files_len: &mut usize,
+    lengths: &mut [usize],
+) -> u32
+    ensures done { result ≡ DONE
+        → cut lengths.new (take files_len.new files.new) ≡ map file_bytes (make rounds) }
+    ensures room { result ≡ ROOM → MakesMore rounds (length files.old) files_len.new lengths.new }
+    ensures call { result ≡ CALL → is_gen_call rounds lengths.old ≡ false }
+    ensures no_other { is_gen_call rounds lengths.old ≡ false → result ≡ CALL }
+    ensures range { (result ≡ DONE) ⊎ IsWithin MEMORY ROOM result }
+    ensures kept { result ≢ DONE → Keeps files.old files.new }
+    ensures behind { result ≡ DONE → KeepsRest files_len.new files.old files.new }
+    // The lengths stay with all answers but 0 and 10.
+    ensures lengths_kept { result ≢ DONE → result ≢ ROOM
+        → (files_len.new ≡ files_len.old) × (lengths.new ≡ lengths.old) }
+{
+    if !is_gen_call(rounds, lengths) {
+        return CALL;
+    }
+    tell_made(&make_files(alloc, rounds), files, files_len, lengths)
+}

@@ -1,0 +1,142 @@
+/* The compositor in process. Example: is this a message file?
+ *
+ *     size_t at;
+ *     uint32_t answer = viz_decode(bytes, n, &at);     // VIZ_DONE, or a rule, which is broken at byte `at`
+ *
+ * Link crates/viz_c/out/libviz_c.a, and the kit's c/liblibc_c.a (the heap over malloc, realloc and free).
+ * README.md says what is proved of each call.
+ *
+ * For every call:
+ * - No pointer may be null, not even with a length of 0.
+ * - What a call writes overlaps nothing else that it is given.
+ * - A call keeps nothing. What it allocates it frees before it returns, so a want of memory loses nothing.
+ *   Any number of threads may call at the same time, but no signal handler may.
+ * - The stack has to have 256 KiB left.
+ * - Lengths and places count bytes, sides and points count pixels.
+ */
+#ifndef VIZ_H
+#define VIZ_H
+
+#include <stddef.h>
+#include <stdint.h>
+
+#ifdef __cplusplus
+extern "C" {
+#endif
+
+/* The version of these calls, which viz_version answers. */
+#define VIZ_VERSION 1
+
+/* The number of lengths that viz_gen tells. */
+#define VIZ_GEN_FILES 3
+
+/* What a call answers. */
+enum viz_answer {
+    VIZ_DONE = 0,
+
+    /* Rules of a message file or of a schedule: also the reason of a viz_cause. */
+    VIZ_MAGIC = 1,    /* the first four bytes are not VIZC */
+    VIZ_FORMAT = 2,   /* the file's version is neither 1 nor 2 */
+    VIZ_SHORT = 3,    /* the field needs more bytes than are left */
+    VIZ_TAG = 4,      /* a tag, a flag, a blend mode or an event is unknown */
+    VIZ_LIMIT = 5,    /* a number, a count, an id or a rectangle is out of its range */
+    VIZ_COLOUR = 6,   /* a channel of a colour exceeds its alpha */
+    VIZ_TRAILING = 7, /* bytes are left after the last message */
+
+    VIZ_MEMORY = 8,   /* an allocation failed */
+    VIZ_CALL = 9,     /* a number of the call is out of its range */
+    VIZ_ROOM = 10,    /* a room is too small; the lengths say how much is needed */
+    VIZ_REFUSED = 11, /* an input is refused; the viz_cause says which, where and why */
+    VIZ_FAULT = 12,   /* viz_check: the log or its frames have a fault */
+    VIZ_NOTHING = 13, /* viz_hit: no surface is hit */
+
+    /* Reasons of a viz_cause alone. */
+    VIZ_SINK_TAKEN = 14, /* an earlier client's file has the same sink */
+    VIZ_LONG = 15        /* the input is too long */
+};
+
+/* What viz_check finds. */
+enum viz_what {
+    VIZ_LOG_TEXT = 1, /* the line is not in the grammar of the log at its place */
+    VIZ_REPLY = 2,    /* the plan has no such client, or the machine replies otherwise */
+    VIZ_FRAME = 3,    /* the next bytes of the frames are not the picture that the entry draws */
+    VIZ_REST = 4,     /* the lines after the entries are not what is outstanding */
+    VIZ_LENGTH = 5    /* bytes are left after the last frame */
+};
+
+/* Where and why an input is refused. */
+struct viz_cause {
+    uint32_t file;   /* the client whose file it is, from 1 on, or 0 for the schedule or the log */
+    uint32_t reason; /* VIZ_MAGIC to VIZ_TRAILING, VIZ_SINK_TAKEN or VIZ_LONG */
+    size_t at;       /* how many bytes of that input come before the fault */
+};
+
+/* A surface that is hit, and the point in it, from the surface's top left. */
+struct viz_target {
+    uint32_t client_id;
+    uint32_t sink_id;
+    uint32_t parent;
+    uint32_t child;
+    uint64_t token_low;  /* the lower 64 bits of the token */
+    uint64_t token_high; /* the upper 64 bits of the token */
+    int32_t x;
+    int32_t y;
+};
+
+/* VIZ_VERSION of the library. */
+uint32_t viz_version(void);
+
+/* Whether `bytes` is a message file. It answers VIZ_DONE, VIZ_MEMORY, or the rule that is broken first, VIZ_MAGIC to
+ * VIZ_TRAILING, and then `at` gets the place. */
+uint32_t viz_decode(const uint8_t *bytes, size_t bytes_n, size_t *at);
+
+/* In the calls below the display has `w` by `h` pixels, 1 to 2,048 each. The clients' message files, 1 to 16, come one
+ * after the other in `files`; `lengths` has the length of each, which together are files_n. Otherwise the answer is
+ * VIZ_CALL. A schedule has one byte an event: 1 to 16 for that client's next message, 17 Begin, 18 Draw, 19 Done and
+ * 20 Over. */
+
+/* Gives the events of a schedule to the machine, which has two buffers. It answers
+ * - VIZ_DONE: the frames are at the front of `frames` (four bytes a pixel: red, green, blue, alpha; row by row from
+ *   the top, one frame after the other), and the log at the front of `log` (ASCII, no zero byte at its end).
+ *   frames_len and log_len get their lengths.
+ * - VIZ_ROOM: one of the rooms is too small. The lengths are set, and the rooms are as before. A call with rooms of
+ *   length 0 asks for the lengths; it takes as long as the call that is answered with VIZ_DONE.
+ * - VIZ_CALL, VIZ_REFUSED, VIZ_MEMORY: nothing but `cause` is set, which VIZ_REFUSED sets. */
+uint32_t viz_step(uint32_t w, uint32_t h, const uint8_t *schedule, size_t schedule_n,
+                  const uint8_t *files, size_t files_n, const size_t *lengths, size_t lengths_n,
+                  uint8_t *frames, size_t frames_room, size_t *frames_len,
+                  uint8_t *log, size_t log_room, size_t *log_len, struct viz_cause *cause);
+
+/* Whether a log is that of the machine, and the bytes are its frames. It uses another machine and another painter than
+ * viz_step: plain ones, which are slow. It answers
+ * - VIZ_DONE: yes.
+ * - VIZ_FAULT: no. `entry` gets the first entry that has a fault, from 1 on (after the last entry: their number plus
+ *   1), and `what` the first fault there, an enum viz_what.
+ * - VIZ_CALL, VIZ_REFUSED (sets `cause`), VIZ_MEMORY. */
+uint32_t viz_check(uint32_t w, uint32_t h, const uint8_t *frames, size_t frames_n, const uint8_t *log, size_t log_n,
+                   const uint8_t *files, size_t files_n, const size_t *lengths, size_t lengths_n,
+                   uint64_t *entry, uint32_t *what, struct viz_cause *cause);
+
+/* Which surface is hit in column x and row y of the last drawing, both from 0 on and on the display. It paints nothing.
+ * It answers
+ * - VIZ_DONE: a surface, which `target` gets.
+ * - VIZ_NOTHING: none is there, or nothing was drawn.
+ * - VIZ_CALL, VIZ_REFUSED (sets `cause`), VIZ_MEMORY. */
+uint32_t viz_hit(uint32_t w, uint32_t h, const uint8_t *schedule, size_t schedule_n, uint32_t x, uint32_t y,
+                 const uint8_t *files, size_t files_n, const size_t *lengths, size_t lengths_n,
+                 struct viz_target *target, struct viz_cause *cause);
+
+/* Makes the message files of a page and its two children for `rounds` rounds, 1 to 1,000. lengths_n has to be
+ * VIZ_GEN_FILES. It answers
+ * - VIZ_DONE: the three files come one after the other at the front of `files`.
+ * - VIZ_ROOM: `files` is too small, and is as before.
+ * - VIZ_CALL, VIZ_MEMORY.
+ * With the first two, files_len gets the length of all three, and `lengths` that of each. */
+uint32_t viz_gen(uint32_t rounds, uint8_t *files, size_t files_room, size_t *files_len,
+                 size_t *lengths, size_t lengths_n);
+
+#ifdef __cplusplus
+}
+#endif
+
+#endif

@@ -1,9 +1,0 @@
-pub mod Owes
-pub mod Noted
-pub mod Sorting
-pub mod Standing
-pub mod Events
-pub mod Given
-pub mod Staying
-pub mod Resting
-pub mod Single

@@ -1,7 +1,0 @@
-use Rattle.vz_feeding.proofs.Events.{owed_accepted}
-use Rattle.vz_feeding.proofs.feeding.Feeding.accept.Goals as goal
-
-pub returns-clause-owed : goal.returns-clause-owed
-returns-clause-owed c = λ w client local frame keeps o name told.
-    owed_accepted w client local frame _ _ _ c.args.sub c.args.replaced c.dropped_by.result keeps o name told c.dropped_by.ensures
-    c.note.ensures.noted c.add.ensures.added

@@ -1,6 +1,0 @@
-use Rattle.std.proofs.Common.{◌∙◌, sym}
-use Rattle.vz_flight.proofs.Rostered.{nothing_met}
-use Rattle.vz_flight.proofs.flyer.Flyer.new.Goals as goal
-
-pub returns : goal.returns
-returns c = c.new.ensures ∙ sym nothing_met

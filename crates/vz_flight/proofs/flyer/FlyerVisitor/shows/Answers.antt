@@ -1,9 +1,0 @@
-use Rattle.std.proofs.Common.{true, refl}
-use Rattle.vz_rules.specs.Walk.{Shows}
-use Rattle.vz_flight.specs.declared.flyer.Flyer.{Flyer}
-use Rattle.vz_flight.proofs.Rostered.{meets_one}
-use Rattle.vz_flight.proofs.flyer.FlyerVisitor.shows.Goals as goal
-
-pub returns : goal.returns
-returns c = meets_one (λ (f : Flyer). f.roster) true c.args.self.now c.args.self.now (Shows c.args.arg2.now c.args.arg3.now c.args.arg4.now)
-    (λ e. refl)

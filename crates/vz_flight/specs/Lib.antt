@@ -1,2 +1,0 @@
-pub mod Flying
-pub mod Drawn

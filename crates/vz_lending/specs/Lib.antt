@@ -1,4 +1,0 @@
-pub mod Lent
-pub mod Listed
-pub mod Changes
-pub mod Quiet

@@ -1,0 +1,310 @@
+-- The references that are alive, as surfaces and submissions change.
+use Rattle.std.proofs.Common.{◌≡◌, ℕ, ◌+◌, ◌≤◌, Bool, true, false, not, ◌&&◌, ◌||◌, ◌==◌, Option, Some, None, is_some, List, [], ◌∷◌, map, find, count_by, refl, ap, sym, subst, ◌∙◌, arith, cond, Contains}
+use Rattle.std.specs.List.{list_any}
+use Rattle.std.specs.Option.{option_map}
+use Rattle.std.proofs.lemmas.Bool.{and_parts, and_from}
+use Rattle.vz_ids.specs.declared.SurfaceId.{SurfaceId}
+use Rattle.vz_ids.specs.Ids.{same_surface, same_sub}
+use Rattle.vz_frame.specs.declared.frame.Listing.{Listing}
+use Rattle.vz_frame.specs.Frame.{lists}
+use Rattle.vz_rules.specs.declared.entry.State.{State}
+use Rattle.vz_rules.specs.declared.entry.State.TheVariants.{Waiting, Active, Past, Dropped}
+use Rattle.vz_rules.specs.World.{World, Surface, Submission, exists, is_waiting, is_active, is_on, is_in_flight, sub_of}
+use Rattle.vz_rules.specs.Settle.{marked_by}
+use Rattle.vz_rules.specs.Reach.{drop_on}
+use Rattle.vz_rules.specs.Singly.{as_one_rises, rising, as_one_goes, going}
+use Rattle.vz_rules.specs.Kept.{KeepsAlways, borrows, stands_in}
+use Rattle.vz_rules.proofs.Reached.{from_same}
+use Rattle.vz_rules.proofs.Members.{contains_at, at_same, find_at, found, any_map, when_same}
+use Rattle.vz_rules.proofs.Rising.{find_map}
+use Rattle.vz_rules.proofs.Counts.{count_none}
+use Rattle.vz_rules.proofs.Kept_facts.{subs_apart}
+use Rattle.vz_rules.proofs.Kept_small.{one_submitter}
+use Rattle.vz_rules.proofs.Kept_last.{one_owner}
+use Rattle.vz_returns.specs.Released.{holds_there, holds_in_flight, alive_in}
+use Rattle.vz_returns.specs.Listed.{lists_twice, waiting_listings, active_listings}
+use Rattle.vz_returns.proofs.Test_counts.{IsSplit, split_and, count_split, count_alike, count_both, one_found, share, found_shares}
+
+-- Tests
+
+pub split_by : (x y c : Bool) → x ≡ y → c ≡ false → IsSplit x y c
+split_by true true true e f = absurd (cc)
+split_by true true false e f = refl
+split_by true false c e f = absurd (cc)
+split_by false true c e f = absurd (cc)
+split_by false false true e f = absurd (cc)
+split_by false false false e f = refl
+
+pub split_gone : (x y c : Bool) → x ≡ true → y ≡ false → c ≡ true → IsSplit x y c
+split_gone true false true e f g = refl
+split_gone true false false e f g = absurd (cc)
+split_gone true true c e f g = absurd (cc)
+split_gone false y c e f g = absurd (cc)
+
+pub not_both : (t : Submission) → is_waiting t ≡ true → is_active t ≡ false
+not_both t h = by t.state h
+  where
+    by : (x : State) → (elim x as (λ x. Bool) [ Waiting ↦ true | _ ↦ false ]) ≡ true
+        → (elim x as (λ x. Bool) [ Active ↦ true | _ ↦ false ]) ≡ false
+    by Waiting e = refl
+    by Active e = absurd (cc)
+    by Past e = refl
+    by Dropped e = refl
+
+pub false_and : (a : Bool) → (a && false) ≡ false
+false_and true = refl
+false_and false = refl
+
+or_true : (a : Bool) → (a || true) ≡ true
+or_true true = refl
+or_true false = refl
+
+-- Surfaces that exist
+
+some_mapped : {A B : Type 0} (f : A → B) (o : Option A) → is_some (option_map f o) ≡ is_some o
+some_mapped f None = refl
+some_mapped f (Some a) = refl
+
+-- a surface exists as before where each keeps its name and is destroyed where it was
+pub exists_kept : (g : Surface → Surface) (ss : List Surface) (id : SurfaceId) → ((s : Surface) → (g s).id ≡ s.id)
+    → ((s : Surface) → (g s).destroyed ≡ s.destroyed) → stands_in (map g ss) id ≡ stands_in ss id
+exists_kept g ss id name gone =
+    ap is_some (find_map (λ (s : Surface). same_surface s.id id && not s.destroyed) g ss
+    (λ s. (λ i. same_surface (name s i) id && not (gone s i))))
+    ∙ some_mapped g (find (λ (s : Surface). same_surface s.id id && not s.destroyed) ss)
+
+pub exists_risen : (s : Submission) (w : World) (id : SurfaceId) → exists (rising s w) id ≡ exists w id
+unfolding rising
+exists_risen s w id =
+    exists_kept (marked_by w.surfaces (s ∷ [])) w.surfaces id
+    (λ c. when_same (λ (x : Surface). x.id) (λ c. record c { marked = true }) _ c refl)
+    (λ c. when_same (λ (x : Surface). x.destroyed) (λ c. record c { marked = true }) _ c refl)
+
+gone_test : (c d : Surface) (id : SurfaceId) (t : Bool) → same_surface id c.id ≡ t
+    → (same_surface (as_one_goes c d).id id && not (as_one_goes c d).destroyed) ≡ cond t false (same_surface d.id id && not d.destroyed)
+gone_test c d id true e = by (same_surface d.id c.id) refl
+  where
+    by : (b : Bool) → same_surface d.id c.id ≡ b
+        → (same_surface (cond b (record d { destroyed = true }) d).id id && not (cond b (record d { destroyed = true }) d).destroyed)
+        ≡ false
+    by true f = false_and (same_surface d.id id)
+    by false f = ap (λ t. t && not d.destroyed) (ap (same_surface d.id) (from_same id c.id e) ∙ f)
+gone_test c d id false e = by (same_surface d.id c.id) refl
+  where
+    by : (b : Bool) → same_surface d.id c.id ≡ b
+        → (same_surface (cond b (record d { destroyed = true }) d).id id && not (cond b (record d { destroyed = true }) d).destroyed)
+        ≡ (same_surface d.id id && not d.destroyed)
+    by true f =
+        let other : same_surface d.id id ≡ false = other_one (same_surface d.id id) refl f in
+        false_and (same_surface d.id id) ∙ ap (λ t. t && not d.destroyed) (sym other)
+      where
+        other_one : (k : Bool) → same_surface d.id id ≡ k → same_surface d.id c.id ≡ true → k ≡ false
+        other_one true g h = let bad : true ≡ false = sym (ap (λ x. same_surface x c.id) (sym (from_same d.id id g)) ∙ h) ∙ e in absurd (cc)
+        other_one false g h = refl
+    by false f = refl
+
+any_none_of : {A : Type 0} (xs : List A) → list_any (λ (x : A). false) xs ≡ false
+any_none_of [] = refl
+any_none_of (x ∷ xs) = any_none_of xs
+
+pub exists_gone : (c : Surface) (w : World) (id : SurfaceId) → same_surface id c.id ≡ true → exists (going c w) id ≡ false
+unfolding going
+exists_gone c w id e =
+    found (λ (s : Surface). same_surface s.id id && not s.destroyed) (map (as_one_goes c) w.surfaces)
+    ∙ (any_map (as_one_goes c) (λ (s : Surface). same_surface s.id id && not s.destroyed) (λ d. false) w.surfaces
+    (λ d. gone_test c d id true e) ∙ any_none_of w.surfaces)
+
+pub exists_left : (c : Surface) (w : World) (id : SurfaceId) → same_surface id c.id ≡ false → exists (going c w) id ≡ exists w id
+unfolding going
+exists_left c w id e =
+    found (λ (s : Surface). same_surface s.id id && not s.destroyed) (map (as_one_goes c) w.surfaces)
+    ∙ (any_map (as_one_goes c) (λ (s : Surface). same_surface s.id id && not s.destroyed)
+    (λ (d : Surface). same_surface d.id id && not d.destroyed) w.surfaces (λ d. gone_test c d id false e)
+    ∙ sym (found (λ (s : Surface). same_surface s.id id && not s.destroyed) w.surfaces))
+
+-- Where each submission keeps what it was accepted with
+
+pub alive_step : (w v : World) (f : Submission → Submission) (ended : Submission → Bool) → v.subs ≡ map f w.subs → v.in_flight ≡ w.in_flight
+    → ((s : Submission) → (f s).submitted ≡ s.submitted)
+    → ((s : Submission) → Contains w.subs s → IsSplit (holds_there w s) (holds_there v (f s)) (ended s))
+    → (c id : ℕ) → alive_in w c id ≡ alive_in v c id + count_by (λ s. borrows c id s && ended s) w.subs
+unfolding alive_in
+alive_step w v f ended subs flight same split c id =
+    let there =
+    count_split f (λ s. borrows c id s && holds_there w s) (λ s. borrows c id s && holds_there v s) (λ s. borrows c id s && ended s) w.subs
+    (λ s q.
+    subst (λ (i : Bool). IsSplit (borrows c id s && holds_there w s) (i && holds_there v (f s)) (borrows c id s && ended s))
+    (ap (λ i. (i.sub.client == c) && list_any (lists id) i.frame.resources) (sym (same s)))
+    (split_and (borrows c id s) (holds_there w s) (holds_there v (f s)) (ended s) (split s q))) in
+    let flies =
+    count_alike f (λ s. borrows c id s && holds_in_flight w s) (λ s. borrows c id s && holds_in_flight v s) w.subs (λ s q.
+    (λ i. ((same s i).sub.client == c) && list_any (lists id) (same s i).frame.resources && is_in_flight (flight i) (same s i).sub)) in
+    let moved = ap (λ l. count_by (λ s. borrows c id s && holds_there v s) l) subs in
+    let moved_too = ap (λ l. count_by (λ s. borrows c id s && holds_in_flight v s) l) subs in
+    omega (arith, there, flies, moved, moved_too)
+
+-- of the submissions on a surface that pass a test there is at most one
+pub one_there : (p : Submission → Bool) (id : SurfaceId) (subs : List Submission) → count_by (λ s. is_on id s && p s) subs ≤ 1
+    → count_by (λ s. p s && is_on id s) subs ≤ 1
+one_there p id subs few =
+    subst (λ n. n ≤ 1) (sym (count_both (λ s. p s && is_on id s) (λ s. is_on id s && p s) (λ s. false) subs
+    (λ s q. split_by _ _ false (swap (p s) (is_on id s)) refl) ∙ none subs)) few
+  where
+    swap : (a b : Bool) → (a && b) ≡ (b && a)
+    swap true true = refl
+    swap true false = refl
+    swap false true = refl
+    swap false false = refl
+
+    none : (subs : List Submission)
+        → count_by (λ s. is_on id s && p s) subs + count_by (λ (s : Submission). false) subs ≡ count_by (λ s. is_on id s && p s) subs
+    none subs = omega (arith, count_none (λ (s : Submission). false) subs (λ s q. refl))
+
+-- Where one becomes active
+
+module _ (w : World) (h : KeepsAlways w) where
+  pub one_named : (s t : Submission) → Contains w.subs s → Contains w.subs t → same_sub (sub_of s) (sub_of t) ≡ true → s ≡ t
+  one_named s t p q e =
+      let n = contains_at w.subs s p in
+      let m = contains_at w.subs t q in
+      at_same w.subs n.0 m.0 s t n.1 m.1 (subs_apart w n.0 m.0 s t h n.1 m.1 e)
+
+  -- what is found on a surface with some submission of a client is that client's
+  pub own_on : (p : Submission → Bool) (s t : Submission) → Contains w.subs s → find (λ x. p x && is_on s.submitted.id x) w.subs ≡ Some t
+      → t.submitted.sub.client ≡ s.submitted.sub.client
+  own_on p s t q e =
+      let at = find_at (λ x. p x && is_on s.submitted.id x) w.subs t e in
+      one_submitter w h t s at.0 q (and_parts (p t) (is_on s.submitted.id t) at.1).1
+
+  -- and on a surface that a client created
+  pub own_of : (p : Submission → Bool) (d : Surface) (t : Submission) → Contains w.surfaces d
+      → find (λ x. p x && is_on d.id x) w.subs ≡ Some t → t.submitted.sub.client ≡ d.client
+  own_of p d t q e =
+      let at = find_at (λ x. p x && is_on d.id x) w.subs t e in
+      let made = h.numbers.created t at.0 in
+      let same = from_same t.submitted.id d.id (and_parts (p t) (is_on d.id t) at.1).1 in
+      sym made.3 ∙ one_owner w.clients w.surfaces made.0 d h.clients h.surfaces made.1 q (ap (λ (i : SurfaceId). i.sink) (made.2 ∙ same))
+
+  module _ (s : Submission) (known : Contains w.subs s) (waits : is_waiting s ≡ true) where
+    risen_frame : (t : Submission) → (as_one_rises s t).submitted ≡ t.submitted
+    risen_frame t = by (same_sub (sub_of t) (sub_of s)) (is_active t && is_on s.submitted.id t)
+      where
+        by : (a b : Bool) → (cond a (record t { state = Active; was_active = true }) (cond b (record t { state = Past }) t)).submitted
+            ≡ t.submitted
+        by true b = refl
+        by false true = refl
+        by false false = refl
+
+    risen_split : (t : Submission) → Contains w.subs t
+        → IsSplit (holds_there w t) (holds_there (rising s w) (as_one_rises s t)) (is_active t && is_on s.submitted.id t)
+    risen_split t q =
+        let e : exists (rising s w) (as_one_rises s t).submitted.id
+        ≡ exists w t.submitted.id = exists_risen s w (as_one_rises s t).submitted.id ∙ ap (λ i. exists w i.id) (risen_frame t) in
+        subst (λ b. IsSplit (holds_there w t) ((is_waiting (as_one_rises s t) || is_active (as_one_rises s t)) && b)
+        (is_active t && is_on s.submitted.id t)) (sym e)
+        (by (same_sub (sub_of t) (sub_of s)) (is_active t && is_on s.submitted.id t) refl refl)
+      where
+        by : (a b : Bool) → same_sub (sub_of t) (sub_of s) ≡ a → (is_active t && is_on s.submitted.id t) ≡ b
+            → IsSplit (holds_there w t) ((is_waiting
+            (cond a (record t { state = Active; was_active = true }) (cond b (record t { state = Past }) t))
+            || is_active (cond a (record t { state = Active; was_active = true }) (cond b (record t { state = Past }) t))) && exists w
+            t.submitted.id) b
+        by true b e f =
+            let one = one_named t s q known e in
+            let wait : is_waiting t ≡ true = ap is_waiting one ∙ waits in
+            let none : b ≡ false = sym f ∙ ap (λ x. x && is_on s.submitted.id t) (not_both t wait) in
+            split_by _ _ b (ap (λ x. (x || is_active t) && exists w t.submitted.id) wait) none
+        by false true e f =
+            let acts = (and_parts (is_active t) (is_on s.submitted.id t) f).0 in
+            let open_one : (is_waiting t || is_active t) ≡ true = ap (λ x. is_waiting t || x) acts ∙ or_true (is_waiting t) in
+            split_gone _ _ true (and_from _ _ open_one (h.states.stand t q open_one)) refl refl
+        by false false e f = split_by _ _ false refl refl
+
+    pub alive_risen : (client : ℕ) (L : List Listing) → s.submitted.sub.client ≡ client → L ≡ active_listings w s.submitted.id
+        → lists_twice L ≡ false
+        → (c id : ℕ) → alive_in w c id ≡ alive_in (rising s w) c id + share client L c id
+    unfolding rising
+    alive_risen client L own listed once c id =
+        let there : Submission → Bool = λ x. is_active x && is_on s.submitted.id x in
+        alive_step w (rising s w) (as_one_rises s) there refl refl risen_frame risen_split c id
+        ∙ ap (λ n. alive_in (rising s w) c id + n)
+        (one_found (borrows c id) there w.subs (find there w.subs)
+        (one_there is_active s.submitted.id w.subs (h.states.one_is_active s.submitted.id)) refl
+        ∙ found_shares client L c id (find there w.subs) (λ t e. own_on is_active s t known e ∙ own) listed once)
+
+  -- Where a surface is destroyed
+
+  module _ (d : Surface) (known : Contains w.surfaces d) where
+    left_frame : (t : Submission) → (drop_on (d ∷ []) t).submitted ≡ t.submitted
+    left_frame t = when_same (λ (x : Submission). x.submitted) (λ x. record x { state = Dropped })
+        ((is_waiting t || is_active t) && list_any (λ c. is_on c.id t) (d ∷ [])) t refl
+
+    -- it waits or is active there
+    gone_there : Submission → Bool
+    gone_there t = (is_waiting t && is_on d.id t) || (is_active t && is_on d.id t)
+
+    gone_split : (t : Submission) → Contains w.subs t
+        → IsSplit (holds_there w t) (holds_there (going d w) (drop_on (d ∷ []) t)) (gone_there t)
+    unfolding gone_there
+    gone_split t q = subst (λ i. IsSplit (holds_there w t)
+        ((is_waiting (drop_on (d ∷ []) t) || is_active (drop_on (d ∷ []) t)) && exists (going d w) i) (gone_there t))
+        (sym (ap (λ x. x.id) (left_frame t)))
+        (by (is_waiting t || is_active t) (is_on d.id t) refl refl)
+      where
+        on_one : (a b on : Bool) → on ≡ true → ((a && on) || (b && on)) ≡ (a || b)
+        on_one true b true e = refl
+        on_one false true true e = refl
+        on_one false false true e = refl
+        on_one a b false e = absurd (cc)
+
+        on_none : (a b on : Bool) → on ≡ false → ((a && on) || (b && on)) ≡ false
+        on_none a b true e = absurd (cc)
+        on_none true true false e = refl
+        on_none true false false e = refl
+        on_none false true false e = refl
+        on_none false false false e = refl
+
+        by : (o on : Bool) → (is_waiting t || is_active t) ≡ o → is_on d.id t ≡ on
+            → IsSplit ((is_waiting t || is_active t) && exists w t.submitted.id)
+            ((is_waiting (cond (o && (on || false)) (record t { state = Dropped }) t)
+            || is_active (cond (o && (on || false)) (record t { state = Dropped }) t)) && exists (going d w) t.submitted.id)
+            ((is_waiting t && is_on d.id t) || (is_active t && is_on d.id t))
+        by true true e f = split_gone _ _ _ (and_from _ _ e (h.states.stand t q e)) refl
+            (on_one (is_waiting t) (is_active t) (is_on d.id t) f ∙ e)
+        by true false e f = split_by _ _ _ (ap (λ b. (is_waiting t || is_active t) && b) (sym (exists_left d w t.submitted.id f)))
+            (on_none (is_waiting t) (is_active t) (is_on d.id t) f)
+        by false true e f =
+            split_by _ _ _ (ap (λ o. o && exists w t.submitted.id) e ∙ sym (ap (λ o. o && exists (going d w) t.submitted.id) e))
+            (on_one (is_waiting t) (is_active t) (is_on d.id t) f ∙ e)
+        by false false e f = split_by _ _ _ (ap (λ b. (is_waiting t || is_active t) && b) (sym (exists_left d w t.submitted.id f)))
+            (on_none (is_waiting t) (is_active t) (is_on d.id t) f)
+
+    either_one : (t : Submission) → IsSplit (gone_there t) (is_waiting t && is_on d.id t) (is_active t && is_on d.id t)
+    unfolding gone_there
+    either_one t = by (is_waiting t) (is_active t) (is_on d.id t) (not_both t)
+      where
+        by : (a b on : Bool) → (a ≡ true → b ≡ false) → IsSplit ((a && on) || (b && on)) (a && on) (b && on)
+        by true true on none = let bad : true ≡ false = none refl in absurd (cc)
+        by true false true none = refl
+        by true false false none = refl
+        by false true true none = refl
+        by false true false none = refl
+        by false false on none = refl
+
+    pub alive_gone : (client : ℕ) (L M : List Listing) → d.client ≡ client → L ≡ waiting_listings w d.id → M ≡ active_listings w d.id
+        → lists_twice L ≡ false → lists_twice M ≡ false
+        → (c id : ℕ) → alive_in w c id ≡ alive_in (going d w) c id + (share client L c id + share client M c id)
+    unfolding going
+    alive_gone client L M own first second once once_too c id =
+        let waits : Submission → Bool = λ x. is_waiting x && is_on d.id x in
+        let acts : Submission → Bool = λ x. is_active x && is_on d.id x in
+        let all = alive_step w (going d w) (drop_on (d ∷ [])) gone_there refl refl left_frame gone_split c id in
+        let both = count_both (λ s. borrows c id s && gone_there s) (λ s. borrows c id s && waits s) (λ s. borrows c id s && acts s) w.subs
+        (λ t q. split_and (borrows c id t) _ _ _ (either_one t)) in
+        let one =
+        one_found (borrows c id) waits w.subs (find waits w.subs) (one_there is_waiting d.id w.subs (h.states.one_waits d.id)) refl
+        ∙ found_shares client L c id (find waits w.subs) (λ t e. own_of is_waiting d t known e ∙ own) first once in
+        let two =
+        one_found (borrows c id) acts w.subs (find acts w.subs) (one_there is_active d.id w.subs (h.states.one_is_active d.id)) refl
+        ∙ found_shares client M c id (find acts w.subs) (λ t e. own_of is_active d t known e ∙ own) second once_too in
+        omega (arith, all, both, one, two)

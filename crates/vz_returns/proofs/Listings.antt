@@ -1,0 +1,109 @@
+-- Listings one after the other: what is left of them, and what is counted on the way.
+use Rattle.std.proofs.Common.{◌≡◌, ℕ, suc, ◌+◌, ◌<◌, ◌≤◌, Bool, true, false, ◌==◌, ◌||◌, List, [], ◌∷◌, length, drop, slice_index_or, refl, ap, sym, subst, ◌∙◌, arith, cond, Contains}
+use Rattle.std.specs.List.{list_any}
+use Rattle.std.proofs.Math.Seq.{drop-cons}
+use Rattle.std.proofs.Math.ListN.{drop_of_length-le}
+use Rattle.std.proofs.lemmas.Bool.Decides.{nat_tests}
+use Rattle.vz_frame.specs.declared.frame.Listing.{Listing}
+use Rattle.vz_frame.specs.Frame.{lists}
+use Rattle.vz_rules.proofs.Members.{contains_here, contains_there, contains_map, none_at}
+use Rattle.vz_rules.proofs.Counts.{count_cons}
+use Rattle.vz_returns.specs.Held.{Holding, received_of, alive_of, lent, shared}
+use Rattle.vz_returns.specs.Released.{times}
+use Rattle.vz_returns.proofs.Releases.{to_eqb, received_lent, alive_lent, received_shared, alive_shared}
+use Rattle.vz_returns.specs.Lent.{Suffice, IsCountable, AreCountable}
+use Rattle.vz_returns.specs.Listed.{ids_of, lists_twice}
+
+one_more : (k : ℕ) → suc k ≡ k + 1
+one_more k = omega arith
+
+pub left_next : {A : Type 0} (L : List A) (k : ℕ) (d : A) → k < length L → drop k L ≡ slice_index_or L k d ∷ drop (k + 1) L
+left_next L k d inside = drop-cons L k d inside ∙ ap (λ n. slice_index_or L k d ∷ drop n L) (one_more k)
+
+pub left_none : {A : Type 0} (L : List A) (k : ℕ) → length L ≤ k → drop k L ≡ []
+left_none L k over = drop_of_length-le L over
+
+-- what is done one after the other
+pub done_next : {S : Type 0} (f : List ℕ → S → S) (g : ℕ → S → S) → ((id : ℕ) (ids : List ℕ) (s : S) → f (id ∷ ids) s ≡ f ids (g id s))
+    → (L : List Listing) (k : ℕ) (d : Listing) (now new : S) (all : S) → k < length L → f (ids_of (drop k L)) now ≡ all
+    → new ≡ g (slice_index_or L k d).id now → f (ids_of (drop (k + 1) L)) new ≡ all
+done_next f g step L k d now new all inside was is =
+    ap (f (ids_of (drop (k + 1) L))) is
+    ∙ (sym (step (slice_index_or L k d).id (ids_of (drop (k + 1) L)) now)
+    ∙ (sym (ap (λ l. f (ids_of l) now) (left_next L k d inside)) ∙ was))
+
+pub or_no : (a b : Bool) → (a || b) ≡ false → (a ≡ false) × (b ≡ false)
+or_no true b h = absurd (cc)
+or_no false b h = (refl, h)
+
+pub other_way : (a b : ℕ) → (a == b) ≡ false → (b == a) ≡ false
+other_way a b e = grind (arith, nat_tests, e)
+
+pub once_parts : (L : List Listing) (k : ℕ) (d : Listing) → k < length L → lists_twice (drop k L) ≡ false
+    → (list_any (λ (b : Listing). lists (slice_index_or L k d).id b) (drop (k + 1) L) ≡ false) × (lists_twice (drop (k + 1) L) ≡ false)
+once_parts L k d inside once = or_no _ _ (sym (ap lists_twice (left_next L k d inside)) ∙ once)
+
+-- one that is listed later is another one
+pub is_other : (id j : ℕ) (rest : List Listing) → list_any (λ (b : Listing). lists id b) rest ≡ false → Contains (ids_of rest) j
+    → (id == j) ≡ false
+is_other id j rest none there =
+    let m = contains_map (λ (l : Listing). l.id) rest j there in
+    other_way j id (ap (λ n. n == id) (sym m.2) ∙ none_at (λ (b : Listing). lists id b) rest m.0 none m.1)
+
+pub countable_same : (h h' : Holding) (j : ℕ) → received_of j h'.counted ≡ received_of j h.counted
+    → alive_of j h'.counted ≡ alive_of j h.counted → IsCountable j h → IsCountable j h'
+countable_same h h' j r a is = record { received = omega (arith, r, is.received); alive = omega (arith, a, is.alive) }
+
+pub countable_lent : (id : ℕ) (rest : List Listing) (h : Holding) → list_any (λ (b : Listing). lists id b) rest ≡ false
+    → AreCountable (id ∷ ids_of rest) h → AreCountable (ids_of rest) (lent id h)
+countable_lent id rest h none are j there =
+    let other = is_other id j rest none there in
+    countable_same h (lent id h) j (received_lent j id h
+    ∙ ap (λ (t : Bool). cond t (received_of j h.counted + 1) (received_of j h.counted)) other)
+    (alive_lent j id h ∙ ap (λ (t : Bool). cond t (alive_of j h.counted + 1) (alive_of j h.counted)) other)
+    (are j (contains_there id j (ids_of rest) there))
+
+pub countable_shared : (id : ℕ) (rest : List Listing) (h : Holding) → list_any (λ (b : Listing). lists id b) rest ≡ false
+    → AreCountable (id ∷ ids_of rest) h → AreCountable (ids_of rest) (shared id h)
+countable_shared id rest h none are j there =
+    let other = is_other id j rest none there in
+    countable_same h (shared id h) j (received_shared j id h)
+    (alive_shared j id h ∙ ap (λ (t : Bool). cond t (alive_of j h.counted + 1) (alive_of j h.counted)) other)
+    (are j (contains_there id j (ids_of rest) there))
+
+pub times_at : (j id : ℕ) (ids : List ℕ) (t : Bool) → (id == j) ≡ t → times j (id ∷ ids) ≡ cond t 1 0 + times j ids
+times_at j id ids t e = count_cons (λ n. n == j) id ids ∙ ap {B = ℕ} (λ (b : Bool). cond b 1 0 + times j ids) e
+
+pub first_some : (id : ℕ) (ids : List ℕ) (h : Holding) → Suffice (id ∷ ids) h → 0 < alive_of id h.counted
+first_some id ids h s = omega (arith, s id, times_at id id ids true (to_eqb id id refl))
+
+pub suffice_shared : (id : ℕ) (ids : List ℕ) (h : Holding) → Suffice (id ∷ ids) h → Suffice ids (shared id h)
+suffice_shared id ids h s j = by (id == j) refl
+  where
+    by : (t : Bool) → (id == j) ≡ t → times j ids ≤ alive_of j (shared id h).counted
+    by true e = omega (
+      arith,
+      s j,
+      times_at j id ids true e,
+      alive_shared j id h
+          ∙ ap (λ (t : Bool). cond t (alive_of j h.counted + 1) (alive_of j h.counted)) e,
+    )
+    by false e = omega (
+      arith,
+      s j,
+      times_at j id ids false e,
+      alive_shared j id h
+          ∙ ap (λ (t : Bool). cond t (alive_of j h.counted + 1) (alive_of j h.counted)) e,
+    )
+
+-- the countables and the references of what is left
+pub left_countable : (L : List Listing) (k : ℕ) (d : Listing) (h : Holding) → k < length L → AreCountable (ids_of (drop k L)) h
+    → AreCountable ((slice_index_or L k d).id ∷ ids_of (drop (k + 1) L)) h
+left_countable L k d h inside are = subst (λ l. AreCountable (ids_of l) h) (left_next L k d inside) are
+
+pub left_suffice : (L : List Listing) (k : ℕ) (d : Listing) (h : Holding) → k < length L → Suffice (ids_of (drop k L)) h
+    → Suffice ((slice_index_or L k d).id ∷ ids_of (drop (k + 1) L)) h
+left_suffice L k d h inside s = subst (λ l. Suffice (ids_of l) h) (left_next L k d inside) s
+
+pub first_countable : (id : ℕ) (ids : List ℕ) (h : Holding) → AreCountable (id ∷ ids) h → IsCountable id h
+first_countable id ids h are = are id (contains_here id ids)

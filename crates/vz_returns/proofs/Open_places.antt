@@ -1,0 +1,118 @@
+-- Those that await feedback are those that have places, where one is added and where one is noted.
+use Rattle.std.proofs.Common.{◌≡◌, ℕ, zero, suc, ◌+◌, ◌-◌, ◌<◌, Bool, true, false, not, ◌&&◌, ◌||◌, Option, Some, None, is_some, List, [], ◌∷◌, length, insert, min, Result, Ok, Err, OnOk, IfOk, refl, ap, sym, subst, ◌∙◌, arith, cond}
+use Rattle.std.specs.List.{list_all}
+use Rattle.std.specs.Map.{lookup}
+use Rattle.std.proofs.lemmas.Bool.Decides.{nat_tests}
+use Rattle.vz_ids.specs.declared.Sub.{Sub}
+use Rattle.vz_ids.specs.Ids.{same_sub}
+use Rattle.vz_returns.specs.Unfed.{before, in_order, is_open, place_in, opened, fed}
+use Rattle.vz_returns.proofs.Kept.{both, from_same_sub, opened_has, fed_has, opened_in_order, fed_in_order}
+use Rattle.vz_returns.proofs.Halved.{none_left}
+use Rattle.std.proofs.Math.Nat.{min-le_right}
+use Rattle.vz_returns.specs.Notes.{AreKept, room_for}
+
+-- How many
+
+insert_length : (list : List Sub) (n : ℕ) (s : Sub) → length (insert list n s) ≡ length list + 1
+insert_length [] zero s = refl
+insert_length [] (suc n) s = refl
+insert_length (x ∷ list) zero s = omega arith
+insert_length (x ∷ list) (suc n) s = let rest = insert_length list n s in omega (arith, rest)
+
+unlike : (a b : Sub) → before a b ≡ true → same_sub b a ≡ false
+unlike a b h = grind (arith, nat_tests)
+
+pub none_behind : (x : Sub) (list : List Sub) → list_all (before x) list ≡ true → is_open list x ≡ false
+none_behind x [] h = refl
+none_behind x (y ∷ list) h =
+    let parts = both (before x y) (list_all (before x) list) h in
+    (λ i. unlike x y parts.0 i || none_behind x list parts.1 i)
+
+pub fed_length : (list : List Sub) (s : Sub) → in_order list ≡ true → is_open list s ≡ true → length (fed s list) + 1 ≡ length list
+unfolding in_order
+fed_length [] s sorted there = absurd (cc)
+fed_length (x ∷ list) s sorted there =
+    let order = both (list_all (before x) list) (in_order list) sorted in
+    by (λ t. fed_length list s order.1 t) (same_sub x s) refl there (order.0)
+  where
+    by : ((is_open list s ≡ true) → length (fed s list) + 1 ≡ length list) → (b : Bool) → same_sub x s ≡ b → (b || is_open list s) ≡ true
+        → list_all (before x) list ≡ true
+        → length (cond (not b) (x ∷ fed s list) (fed s list)) + 1 ≡ length (x ∷ list)
+    by rest true e h all =
+        let none : is_open list s ≡ false = ap (is_open list) (sym (from_same_sub x s e)) ∙ none_behind x list all in
+        let same = ap length (none_left list s none) in
+        omega (arith, same)
+    by rest false e h all = let r = rest h in omega (arith, r)
+
+-- One is noted
+
+told_none : (a b : Bool) (o : Option ℕ) (v : Option ℕ) → v ≡ cond a None o → b ≡ is_some o → (not a && b) ≡ is_some v
+told_none true b o v e h = ap is_some (sym e)
+told_none false b o v e h = h ∙ ap is_some (sym e)
+
+pub kept_noted : (unfed fewer : List Sub) (places left : List (Sub × ℕ)) (s : Sub) (n free rest : ℕ) → AreKept unfed places free
+    → fewer ≡ fed s unfed → Some n ≡ lookup (same_sub s) places
+    → ((t : Sub) → lookup (same_sub t) left ≡ cond (same_sub s t) None (lookup (same_sub t) places)) → length left + 1 ≡ length places
+    → rest + 1 ≡ free → AreKept fewer left rest
+kept_noted unfed fewer places left s n free rest k list found others len less =
+    let there : is_open unfed s ≡ true = k.same s ∙ ap is_some (sym found) in
+    let long = ap length list in
+    let one = fed_length unfed s k.sorted there in
+    let count = k.count in
+    let room = k.room in
+    record {
+      sorted = ap in_order list ∙ fed_in_order unfed s k.sorted;
+      same = λ t. ap (λ l. is_open l t) list ∙ fed_has unfed s t ∙
+          told_none (same_sub s t) (is_open unfed t) (lookup (same_sub t) places) (lookup (same_sub t) left) (others t) (k.same t);
+      count = omega (arith, long, one, len, count);
+      room = omega (arith, len, room, less);
+    }
+
+-- how many await feedback or have it due
+pub count_noted : (unfed fewer : List Sub) (places : List (Sub × ℕ)) (s : Sub) (n free : ℕ) → AreKept unfed places free
+    → fewer ≡ fed s unfed → Some n ≡ lookup (same_sub s) places → length fewer + 1 ≡ length unfed
+count_noted unfed fewer places s n free k list found =
+    let there : is_open unfed s ≡ true = k.same s ∙ ap is_some (sym found) in
+    ap (λ l. length l + 1) list ∙ fed_length unfed s k.sorted there
+
+-- One is added
+
+told_some : (a b : Bool) (m : ℕ) (o : Option ℕ) (v : Option ℕ) → v ≡ cond a (Some m) o → b ≡ is_some o → (a || b) ≡ is_some v
+told_some true b m o v e h = ap is_some (sym e)
+told_some false b m o v e h = h ∙ ap is_some (sym e)
+
+pub kept_added : (unfed more : List Sub) (places longer : List (Sub × ℕ)) (s : Sub) (m free : ℕ) → AreKept unfed places free
+    → more ≡ opened s unfed → lookup (same_sub s) places ≡ None
+    → ((t : Sub) → lookup (same_sub t) longer ≡ cond (same_sub s t) (Some m) (lookup (same_sub t) places))
+    → length longer ≡ length places + 1 → length places < free → AreKept more longer free
+kept_added unfed more places longer s m free k list new others len less =
+    let none : is_open unfed s ≡ false = k.same s ∙ ap is_some new in
+    let long = ap length list ∙ insert_length unfed (place_in unfed s) s in
+    let count = k.count in
+    record {
+      sorted = ap in_order list ∙ opened_in_order unfed s k.sorted none;
+      same = λ t. ap (λ l. is_open l t) list ∙ opened_has unfed s t ∙
+          told_some (same_sub s t) (is_open unfed t) m (lookup (same_sub t) places) (lookup (same_sub t) longer) (others t) (k.same t);
+      count = omega (arith, long, len, count);
+      room = omega (arith, len, less);
+    }
+
+pub more_by_one : (unfed more : List Sub) (s : Sub) → more ≡ opened s unfed → length more ≡ length unfed + 1
+more_by_one unfed more s list = ap length list ∙ insert_length unfed (place_in unfed s) s
+
+-- what holds of a call's value, where it is unwrapped
+pub on_ok : {A E : Type 0} (P : Type 0) (r : Result A E) (v : A) → r ≡ Ok v → OnOk r P → P
+on_ok P (Ok w) v e h = h
+on_ok P (Err f) v e h = absurd (cc)
+
+pub if_ok : {A E : Type 0} (P : A → Type 0) (r : Result A E) (v : A) → r ≡ Ok v → IfOk r P → P v
+if_ok P (Ok w) v e h = let same : w ≡ v = cc in subst P same h
+if_ok P (Err f) v e h = absurd (cc)
+
+-- one more entry, where the key is new
+pub one_longer : (a b : ℕ) (old found : Option ℕ) → old ≡ found → found ≡ None → a ≡ b + cond (is_some old) 0 1 → a ≡ b + 1
+one_longer a b old found e f h = h ∙ ap {B = ℕ} (λ (o : Option ℕ). b + cond (is_some o) 0 1) (e ∙ f)
+
+-- where there is room for one more, it can have its feedback due
+pub has_free : (a b free n : ℕ) → 0 < room_for a b (free - n) → n < free
+has_free a b free n h = let p = min-le_right a (min b (free - n)) in let q = min-le_right b (free - n) in omega (arith, h, p, q)

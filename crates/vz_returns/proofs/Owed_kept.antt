@@ -1,0 +1,188 @@
+-- What leaves that which is owed as it is.
+use Rattle.std.proofs.Common.{◌≡◌, ℕ, ◌+◌, ◌<◌, Bool, true, false, not, ◌&&◌, ◌||◌, ⊎_elim, Option, Some, None, is_some, List, [], ◌∷◌, slice_get, Contains, count_by, refl, ap, sym, subst, ◌∙◌, arith, cond}
+use Rattle.std.specs.Option.{option_and_then}
+use Rattle.vz_geom.specs.Rectangle.{is_empty_rect}
+use Rattle.vz_ids.specs.declared.FrameSinkId.{FrameSinkId}
+use Rattle.vz_ids.specs.declared.LocalSurfaceId.{LocalSurfaceId}
+use Rattle.vz_ids.specs.declared.Sub.{Sub}
+use Rattle.vz_ids.specs.Ids.{same_sub}
+use Rattle.vz_pixels.specs.Block.{Block}
+use Rattle.vz_frame.specs.declared.frame.CompositorFrame.{CompositorFrame}
+use Rattle.vz_frame.specs.declared.message.Message.TheVariants.{Close}
+use Rattle.vz_rules.specs.declared.entry.Event.TheVariants.{Over}
+use Rattle.vz_rules.specs.declared.entry.Fed.{Fed}
+use Rattle.vz_rules.specs.declared.entry.Refusal.{Refusal}
+use Rattle.vz_rules.specs.Plan.{Plan, IsPlan}
+use Rattle.vz_rules.specs.World.{World, Client, Scene, Submission, is_waiting, is_active, is_ended, is_in_flight, sub_of}
+use Rattle.vz_rules.specs.Scene.{scene_of}
+use Rattle.vz_rules.specs.Reach.{naming}
+use Rattle.vz_rules.specs.Returns.{give_back, feedback_of}
+use Rattle.vz_rules.specs.Walk.{walk_of, walked_subs, too_much}
+use Rattle.vz_rules.specs.Damage.{drawn_damage}
+use Rattle.vz_rules.specs.Messages.{Answer, unless_refused, taking, in_use, new_submission, message_answer, upload_answer, hierarchy_answer, hierarchy_refusal, root_answer, await_answer}
+use Rattle.vz_rules.specs.Step.{begin_answer, draw_answer, scene_answer, accepted_frames, answer_to}
+use Rattle.vz_rules.specs.Kept.{Keeps, KeepsAlways, KeepsPlan, KeepsMessages, is_by}
+use Rattle.vz_rules.proofs.Members.{at_contains, contains_here}
+use Rattle.vz_rules.proofs.Kept_facts.{unfed_open}
+use Rattle.vz_rules.proofs.Kept_few.{lists_short}
+use Rattle.vz_returns.specs.declared.due.Due.{Due}
+use Rattle.vz_returns.specs.Owed.{Owed, AreOwed, place_of, gets_at}
+use Rattle.vz_returns.proofs.Owes.{none_some, yes_no, same_self, owes_same}
+use Rattle.vz_returns.proofs.Events.{new_name}
+
+pub stays_named : (w : World) (f : Owed) → AreOwed w f → AreOwed (naming w) f
+unfolding naming
+stays_named w f o = o
+
+pub stays_returned : (w : World) (f : Owed) → AreOwed w f → AreOwed (give_back w) f
+unfolding give_back
+stays_returned w f o = o
+
+pub stays_taken : (g : Client → Client) (c : Client) (w : World) (f : Owed) → AreOwed w f → AreOwed (taking g c w) f
+stays_taken g c w f o = o
+
+-- one of two answers
+answered : (t : Bool) (a b : Answer) (f : Owed) → AreOwed a.world f → AreOwed b.world f → AreOwed (cond t a b).world f
+answered true a b f o q = o
+answered false a b f o q = q
+
+refused_or : (w : World) (c : Client) (r : Option Refusal) (a : Answer) (f : Owed) → AreOwed w f → AreOwed a.world f
+    → AreOwed (unless_refused w c r a).world f
+refused_or w c None a f o q = q
+refused_or w c (Some r) a f o q = o
+
+pub stays_uploaded : (w : World) (c : Client) (id : ℕ) (block : Block) (f : Owed) → AreOwed w f
+    → AreOwed (upload_answer w c id block).world f
+unfolding upload_answer
+stays_uploaded w c id block f o = answered (in_use c.resources id) _ _ f o o
+
+pub stays_related : (w : World) (c : Client) (parent child : FrameSinkId) (f : Owed) → AreOwed w f
+    → AreOwed (hierarchy_answer w c parent child).world f
+unfolding hierarchy_answer
+stays_related w c parent child f o = refused_or w c (hierarchy_refusal w c parent child) _ f o o
+
+pub stays_rooted : (w : World) (c : Client) (local : LocalSurfaceId) (f : Owed) → AreOwed w f → AreOwed (root_answer w c local).world f
+unfolding root_answer
+stays_rooted w c local f o = answered (Rattle.std.specs.Prelude.eqb c.number 1) _ _ f o o
+
+begun_by : (r : Option ℕ) (g : ℕ → Answer) (b : Answer) (f : Owed) → ((n : ℕ) → AreOwed (g n).world f) → AreOwed b.world f
+    → AreOwed (elim r as (λ _. Answer) [ Some n ↦ g n | None ↦ b ]).world f
+begun_by None g b f o q = q
+begun_by (Some n) g b f o q = o n
+
+pub stays_begun : (w : World) (c : Client) (f : Owed) → AreOwed w f → AreOwed (await_answer w c).world f
+unfolding await_answer
+stays_begun w c f o = begun_by c.delivered _ _ f (λ n. o) (answered w.over _ _ f o o)
+
+pub stays_closed : (w : World) (c : Client) (f : Owed) → AreOwed w f → AreOwed (message_answer w c Close).world f
+unfolding message_answer
+stays_closed w c f o = o
+
+pub stays_ticked : (p : Plan) (w : World) (f : Owed) → AreOwed w f → AreOwed (begin_answer p w).world f
+unfolding begin_answer
+stays_ticked p w f o = o
+
+pub stays_over : (p : Plan) (w : World) (f : Owed) → AreOwed w f → AreOwed (answer_to p w Over).world f
+unfolding answer_to
+stays_over p w f o = o
+
+-- Between steps
+
+stood : (fed a b flies : Bool) (x : Fed) → (fed ≡ false → (a || b) ≡ true)
+    → ◌≡◌ {A = Option Fed} (cond fed None (cond (not (a || b) && not flies) (Some x) None)) None
+stood true a b flies x h = refl
+stood false a b flies x h = ap (λ t. cond (not t && not flies) (Some x) None) (h refl)
+
+held_back : (fed ends flies : Bool) (x : Fed) → (fed ≡ false → ends ≡ true → flies ≡ true)
+    → ◌≡◌ {A = Option Fed} (cond fed None (cond (ends && not flies) (Some x) None)) None
+held_back true ends flies x h = refl
+held_back false false flies x h = refl
+held_back false true flies x h = ap (λ t. cond (true && not t) (Some x) None) (h refl refl)
+
+not_ended : (t : Bool) → t ≡ true → not t ≡ true → true ≡ false
+not_ended true h k = absurd (cc)
+not_ended false h k = absurd (cc)
+
+-- none gets feedback
+pub none_gets : (w : World) (s : Submission) → Keeps w → Contains w.subs s → feedback_of w [] s ≡ None
+none_gets w s h c =
+    held_back s.fed (is_ended s) (is_in_flight w.in_flight (sub_of s)) _ (λ e ends.
+    ⊎_elim (λ stands. let no_way : true ≡ false = not_ended (is_waiting s || is_active s) stands ends in absurd (cc)) (λ flies. flies)
+    (unfed_open w s h c e))
+
+-- nor where a frame is drawn now
+none_gets_drawn : (w : World) (drawn : List Sub) (s : Submission) → Keeps w → w.in_flight ≡ None → Contains w.subs s
+    → feedback_of (record w { in_flight = Some drawn }) [] s ≡ None
+none_gets_drawn w drawn s h none c =
+    stood s.fed (is_waiting s) (is_active s) (is_in_flight (Some drawn) (sub_of s)) _ (λ e.
+    ⊎_elim (λ stands. stands) (λ flies. let no_way : true ≡ false = sym flies ∙ ap (λ o. is_in_flight o (sub_of s)) none in absurd (cc))
+    (unfed_open w s h c e))
+
+drawn_owed : (w : World) (drawn : List Sub) (f : Owed) → Keeps w → w.in_flight ≡ None → AreOwed w f
+    → AreOwed (record w { in_flight = Some drawn }) f
+drawn_owed w drawn f h none o =
+    let flying = record w { in_flight = Some drawn } in
+    owes_same (feedback_of w []) (feedback_of flying []) w.subs f (λ s c. none_gets_drawn w drawn s h none c ∙ sym (none_gets w s h c)) o
+
+scene_owed : (p : Plan) (w : World) (scene : Scene) (f : Owed) → Keeps w → w.in_flight ≡ None → AreOwed w f
+    → AreOwed (scene_answer p w scene).world f
+unfolding scene_answer
+scene_owed p w scene f h none o =
+    let walked = walk_of p.size scene in
+    let damage = drawn_damage p.size w.last (accepted_frames w) scene.root walked in
+    answered (too_much walked) _ _ f o
+    (answered (is_some w.last && is_empty_rect damage) _ _ f o (drawn_owed w (walked_subs scene walked) f h none o))
+
+seen_or : (r : Option Scene) (g : Scene → Answer) (b : Answer) (f : Owed) → ((s : Scene) → AreOwed (g s).world f) → AreOwed b.world f
+    → AreOwed (elim r as (λ _. Answer) [ Some s ↦ g s | None ↦ b ]).world f
+seen_or None g b f o q = q
+seen_or (Some s) g b f o q = o s
+
+busy_or : (w : World) (v : Option (List Sub)) (a b : Answer) (f : Owed) → w.in_flight ≡ v → AreOwed a.world f
+    → (w.in_flight ≡ None → AreOwed b.world f) → AreOwed (cond (is_some v) a b).world f
+busy_or w None a b f e o q = q e
+busy_or w (Some drawn) a b f e o q = o
+
+pub stays_drawn : (p : Plan) (w : World) (f : Owed) → Keeps w → AreOwed w f → AreOwed (draw_answer p w).world f
+unfolding draw_answer
+stays_drawn p w f h o =
+    busy_or w w.in_flight _ _ f refl o (λ none. seen_or (scene_of w) (scene_answer p w) _ f (λ s. scene_owed p w s f h none o) o)
+
+-- What is known
+
+pub new_unplaced : (w : World) (c : Client) (local : LocalSurfaceId) (frame : CompositorFrame) (f : Owed) → KeepsAlways w → AreOwed w f
+    → place_of f (sub_of (new_submission w c local frame)) ≡ None
+unfolding new_submission
+new_unplaced w c local frame f keeps o = by (place_of f sub) refl
+  where
+    sub : Sub
+    sub = record { client = c.number; ordinal = count_by (is_by c.number) w.subs + 1 }
+
+    by : (v : Option ℕ) → place_of f sub ≡ v → v ≡ None
+    by None e = refl
+    by (Some n) e =
+        let m = o.only sub n e in
+        let no_way : true ≡ false = yes_no (same_sub sub (sub_of m.0)) (ap (same_sub sub) m.2 ∙ same_self sub)
+        (new_name w keeps c.number n m.0 m.1) in
+        absurd (cc)
+
+pub few_accepted : (p : Plan) (w : World) (f : Owed) → IsPlan p → KeepsAlways w → KeepsPlan p w → KeepsMessages w → AreOwed w f
+    → f.accepted < 18446744073709551615
+few_accepted p w f plan keeps of_plan messages o =
+    let short = (lists_short p w plan keeps of_plan messages).subs in
+    omega (arith, o.accepted, short)
+
+pub nothing_due : (w : World) (f : Owed) → Keeps w → AreOwed w f → f.due ≡ []
+nothing_due w f h o = by f.due refl
+  where
+    gets_none : (n : ℕ) (v : Option Submission) → slice_get w.subs n ≡ v → option_and_then (feedback_of w []) v ≡ None
+    gets_none n None e = refl
+    gets_none n (Some s) e = none_gets w s h (at_contains w.subs n s e)
+
+    by : (list : List Due) → f.due ≡ list → list ≡ []
+    by [] e = refl
+    by (d ∷ list) e =
+        let found = o.due d (subst (λ l. Contains l d) (sym e) (contains_here d list)) in
+        let no_way : true ≡ false = none_some d.fed (gets_at (feedback_of w []) w.subs d.place)
+        (gets_none d.place (slice_get w.subs d.place) refl) found in
+        absurd (cc)

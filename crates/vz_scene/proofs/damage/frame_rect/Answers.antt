@@ -1,7 +1,0 @@
-use Rattle.std.proofs.Common.{sym, ap, ◌∙◌}
-use Rattle.std.specs.Option.{option_copied}
-use Rattle.vz_scene.proofs.Fitting.{root_output_fits}
-use Rattle.vz_scene.proofs.damage.frame_rect.Goals as goal
-
-pub at_origin-requires : goal.at_origin-requires
-at_origin-requires c = root_output_fits c.submitted.inside.frame.now c.in-Some.pass.now c.submitted.invariant (sym c.root_pass.ensures ∙ ap option_copied c.in-Some.is)

@@ -1,6 +1,0 @@
-use Rattle.vz_settling.proofs.Going_on.{AreGoing}
-use Rattle.vz_settling.proofs.collecting.destroy_all.Given as goal
-
--- those of the first so many that are not reached are destroyed and told
-abbrev pub invariant-loop-id : goal.invariant-loop-id
-invariant-loop-id l = AreGoing l.marked l.reached.list l.fn.settling l.fn.destroyed l.id-index l.settling l.destroyed

@@ -1,0 +1,300 @@
+-- A drawing: what is answered, and what hangs on surfaces stands for the state that it leaves.
+use Rattle.std.proofs.Common.{◌≡◌, ◌&&◌, Bool, true, false, Option, Some, None}
+use Rattle.std.proofs.Common.{is_some, List, refl, ap, sym, ◌∙◌, subst, arith, cond, Contains}
+use Rattle.std.specs.Option.{option_map}
+use Rattle.std.specs.Prelude.{IfSome}
+use Rattle.vz_geom.specs.declared.Size.{Size}
+use Rattle.vz_geom.specs.Rectangle.{Rectangle, is_empty_rect}
+use Rattle.vz_ids.specs.declared.SurfaceId.{SurfaceId}
+use Rattle.vz_ids.specs.declared.Sub.{Sub}
+use Rattle.vz_rules.specs.declared.entry.Reply.TheVariants as reply
+use Rattle.vz_rules.specs.Plan.{Plan}
+use Rattle.vz_rules.specs.World.{World, Scene, FrameData, Submission, Aggregation, active_frames, frame_on}
+use Rattle.vz_rules.specs.Scene.{scene_of}
+use Rattle.vz_rules.specs.Walk.{walk_of, too_much}
+use Rattle.vz_rules.specs.Damage.{aggregation_of, drawn_damage}
+use Rattle.vz_rules.specs.Messages.{Answer, says}
+use Rattle.vz_rules.specs.Step.{draw_answer, scene_answer, accepted_frames}
+use Rattle.vz_rules.specs.Kept.{IsWhole}
+use Rattle.vz_rules.proofs.Members.{contains_map}
+use Rattle.vz_surface_manager.specs.Kept_surfaces.{AreKept}
+use Rattle.vz_surface_manager.proofs.Sets_kept.{stays_same}
+use Rattle.vz_surfaces.specs.Stored.{Stored, stored_of, bare_sub}
+use Rattle.vz_surfaces.specs.Reading.{active_on, seen_frames}
+use Rattle.vz_surfaces.specs.Keeping.{KeepsStored, KeepsFrames}
+use Rattle.vz_surfaces.proofs.Stores_kept as stored
+use Rattle.vz_surfaces.proofs.Telling.{seen_all, tells_active}
+use Rattle.vz_surfaces.proofs.Kept_of_world.{keeps_of_world}
+use Rattle.vz_walk.specs.Scenes.{scene_in, walked_in}
+use Rattle.vz_damage.specs.Told.{Damaged, told_on, with_seen}
+use Rattle.vz_damage.specs.Accepted.{scene_from}
+use Rattle.vz_damage.specs.Measured.{Measurement, told_damage, without_indices}
+use Rattle.vz_damage.proofs.Entering.{measured_is_drawn}
+use Rattle.vz_surface_manager.specs.Told_damage.{AreTold}
+use Rattle.vz_surface_manager.specs.Allowed.{drawn_reply}
+use Rattle.vz_surface_manager.proofs.Read.{tells_last}
+use Rattle.vz_surface_manager.proofs.Seen.{reply_drawn, told_drawn}
+use Rattle.vz_surface_manager.proofs.Viewed.{rootless, unseen_root, seen_root}
+use Rattle.vz_returns.specs.Lent.{Lent, AreLent, NoneReleased}
+use Rattle.vz_returns.proofs.Lent_kept.{lent_alike, lent_ordered, lent_none_drawn}
+use Rattle.vz_returns.proofs.Owed_kept as owed
+use Rattle.vz_surface_manager.specs.Flown.{Flown, AreFlown, subs_of}
+use Rattle.vz_surface_manager.specs.Rosters.{IsRosterOf, flown_from}
+use Rattle.vz_surface_manager.proofs.Flights_kept.{flown_some}
+use Rattle.vz_surface_manager.proofs.Drawn_flights.{flown_active, flown_drawn, flown_still}
+use Rattle.vz_surface_manager.specs.Live.{Live, AreLive, AreWhole}
+use Rattle.vz_surface_manager.specs.Drawn_frame.{IsDrawing, IsSeen, IsShowing, IsLifting, Measures}
+use Rattle.vz_surface_manager.proofs.Quiet.{live_by}
+
+none_some : {A : Type 0} (o : Option A) → is_some o ≡ false → o ≡ None
+none_some None e = refl
+none_some (Some x) e = absurd (cc)
+
+-- The answers
+
+-- behind the test for a frame in flight
+abbrev by_scene : Plan → World → Option Scene → Answer
+by_scene p w o = elim o [ Some s ↦ scene_answer p w s | None ↦ says reply.NoRoot w ]
+
+busy_answer : (p : Plan) (w : World) → is_some w.in_flight ≡ true → draw_answer p w ≡ says reply.Busy w
+unfolding draw_answer
+busy_answer p w e = ap (λ (t : Bool). cond t (says reply.Busy w) (by_scene p w (scene_of w))) e
+
+free_answer : (p : Plan) (w : World) (o : Option Scene) → is_some w.in_flight ≡ false → scene_of w ≡ o → draw_answer p w ≡ by_scene p w o
+unfolding draw_answer
+free_answer p w o e f =
+    ap (λ (t : Bool). cond t (says reply.Busy w) (by_scene p w (scene_of w))) e ∙ ap (by_scene p w) f
+
+heavy_answer : (p : Plan) (w : World) (s : Scene) → too_much (walk_of p.size s) ≡ true → scene_answer p w s ≡ says reply.TooMuch w
+unfolding scene_answer
+heavy_answer p w s e = first (too_much (walk_of p.size s)) _ e
+  where
+    first : (t : Bool) (a : Answer) → t ≡ true → cond t (says reply.TooMuch w) a ≡ says reply.TooMuch w
+    first true a f = refl
+    first false a f = absurd (cc)
+
+-- What a drawing leaves
+
+one_of : (P : World → Type 0) (t : Bool) (a b : Answer) → P a.world → P b.world → P (cond t a b).world
+one_of P true a b first other = first
+one_of P false a b first other = other
+
+drawn_as : (P : World → Type 0) (p : Plan) (w : World)
+    → ((last : Option Aggregation) (flight : Option (List Sub)) → P (record w { last = last; in_flight = flight }))
+    → P (draw_answer p w).world
+unfolding draw_answer scene_answer
+drawn_as P p w h = one_of P (is_some w.in_flight) _ _ (h w.last w.in_flight) (seen (scene_of w))
+  where
+    seen : (o : Option Scene) → P (by_scene p w o).world
+    seen None = h w.last w.in_flight
+    seen (Some s) =
+        one_of P (too_much (walk_of p.size s)) _ _ (h w.last w.in_flight)
+        (one_of P (is_some w.last && is_empty_rect (drawn_damage p.size w.last (accepted_frames w) s.root (walk_of p.size s))) _ _
+        (h _ w.in_flight) (h _ _))
+
+frames_stored : (w : World) → AreWhole w.subs → KeepsFrames (stored_of w)
+unfolding stored_of
+frames_stored w h s c =
+    let m = contains_map bare_sub w.subs s c in
+    subst IsWhole (ap (λ (x : Submission). x.submitted) m.2) (h m.0 m.1)
+
+module _ (p : Plan) (w : World) (root : Option SurfaceId) (size : Size) (v : Live) (h : IsDrawing p w root size v) where
+  pub store_keeps : KeepsStored v.store
+  store_keeps = subst KeepsStored (sym h.live.store) (keeps_of_world w h.keeps.always)
+
+  pub frames_fit : KeepsFrames v.store
+  frames_fit = subst KeepsFrames (sym h.live.store) (frames_stored w h.live.whole)
+
+  pub busy_is : is_some v.flight ≡ true → draw_answer p w ≡ says reply.Busy w
+  busy_is e = busy_answer p w (sym (flown_some w v.flight h.live.flown) ∙ e)
+
+  pub free_is : is_some v.flight ≡ false → is_some w.in_flight ≡ false
+  free_is e = sym (flown_some w v.flight h.live.flown) ∙ e
+
+  pub rootless_is : is_some v.flight ≡ false → root ≡ None → draw_answer p w ≡ says reply.NoRoot w
+  rootless_is e f = free_answer p w None (free_is e) (rootless w (h.rooted ∙ f))
+
+module _ (p : Plan) (w : World) (root : SurfaceId) (size : Size) (v : Live) (h : IsDrawing p w (Some root) size v) where
+  active_is : active_on v.store root ≡ frame_on root (active_frames w.subs)
+  active_is = ap (λ (st : Stored). active_on st root) h.live.store ∙ tells_active w root h.keeps.always
+
+  unseen_is : is_some v.flight ≡ false → is_some (active_on v.store root) ≡ false → draw_answer p w ≡ says reply.NoRoot w
+  unseen_is e f =
+      free_answer p w None (free_is p w (Some root) size v h e)
+      (unseen_root w root h.rooted (sym active_is ∙ none_some (active_on v.store root) f))
+
+  seen_is : is_some (active_on v.store root) ≡ true → scene_of w ≡ Some (scene_from root w)
+  seen_is f = by (active_on v.store root) f (sym active_is)
+    where
+      by : (o : Option FrameData) → is_some o ≡ true → frame_on root (active_frames w.subs) ≡ o → scene_of w ≡ Some (scene_from root w)
+      by None e g = absurd (cc)
+      by (Some i) e g = seen_root w root i h.rooted g
+
+  frames_are : seen_frames v.store ≡ active_frames w.subs
+  frames_are = ap (λ (st : Stored). seen_frames st) h.live.store ∙ seen_all w h.keeps.always
+
+  walked_is : walked_in size root v.store ≡ walk_of p.size (scene_from root w)
+  walked_is = λ i. walk_of (sym h.sized_as i) (record { root = root; active = frames_are i })
+
+  heavy_is : is_some v.flight ≡ false → is_some (active_on v.store root) ≡ true → too_much (walked_in size root v.store) ≡ true
+      → draw_answer p w ≡ says reply.TooMuch w
+  heavy_is e f g =
+      free_answer p w (Some (scene_from root w)) (free_is p w (Some root) size v h e) (seen_is f)
+      ∙ heavy_answer p w (scene_from root w) (sym (ap too_much walked_is) ∙ g)
+
+  shows_is : is_some v.flight ≡ false → is_some (active_on v.store root) ≡ true → too_much (walked_in size root v.store) ≡ false
+      → IsShowing p w root size v
+  shows_is e f g =
+      record {
+        drawing = h;
+        walks = record {
+          free = free_is p w (Some root) size v h e;
+          seen = seen_is f;
+          fits = sym (ap too_much walked_is) ∙ g;
+        };
+      }
+
+-- What a call finds, where a root is given and no frame is in flight
+
+module _ (p : Plan) (w : World) (given : Option SurfaceId) (root : SurfaceId) (size : Size) (u v : Live) (e : u ≡ v) (f : given ≡ Some root)
+    (h : IsDrawing p w given size v) (free : is_some v.flight ≡ false) where
+  rooted_there : IsDrawing p w (Some root) size u
+  rooted_there = subst (λ (o : Option SurfaceId). IsDrawing p w o size u) f (subst (IsDrawing p w given size) (sym e) h)
+
+  free_there : is_some u.flight ≡ false
+  free_there = ap (λ (x : Live). is_some x.flight) e ∙ free
+
+  pub unseen_there : is_some (active_on u.store root) ≡ false → draw_answer p w ≡ says reply.NoRoot w
+  unseen_there g = unseen_is p w root size u rooted_there free_there g
+
+  pub seen_there : is_some (active_on u.store root) ≡ true → IsSeen p w root size v
+  seen_there g = subst (IsSeen p w root size) e (record { drawing = rooted_there; free = free_there; there = g })
+
+-- What a walk finds
+
+-- what holds of what is there
+pub there : {A : Type 0} (P : A → Type 0) (o : Option A) (x : A) → o ≡ Some x → IfSome o P → P x
+there P o x e h = subst (λ k. IfSome k P) e h
+
+module _ (p : Plan) (w : World) (root : SurfaceId) (size : Size) (v : Live) (h : IsSeen p w root size v) where
+  pub heavy_there : too_much (walked_in size root v.store) ≡ true → draw_answer p w ≡ says reply.TooMuch w
+  heavy_there g = heavy_is p w root size v h.drawing h.free h.there g
+
+  pub shows_there : too_much (walked_in size root v.store) ≡ false → IsShowing p w root size v
+  shows_there g = shows_is p w root size v h.drawing h.free h.there g
+
+-- A drawing that walks
+
+module _ (p : Plan) (w : World) (root : SurfaceId) (size : Size) (v : Live) (h : IsShowing p w root size v) where
+  abbrev done : World
+  done = (draw_answer p w).world
+
+  -- no frame is in flight before it
+  pub flightless : is_some v.flight ≡ false
+  flightless = flown_some w v.flight h.drawing.live.flown ∙ h.walks.free
+
+  none_flies : w.in_flight ≡ None
+  none_flies = none_some w.in_flight h.walks.free
+
+  -- what is answered
+
+  damage_is : told_damage size v.damaged.last v.damaged.surfaces root (walked_in size root v.store)
+      ≡ drawn_damage p.size w.last (accepted_frames w) root (walk_of p.size (scene_from root w))
+  damage_is =
+      (λ i. told_damage (sym h.drawing.sized_as i) (h.drawing.live.told.last i) v.damaged.surfaces root
+      (walked_is p w root size v h.drawing i))
+      ∙ measured_is_drawn w v.damaged.surfaces p.size root h.drawing.keeps.always
+      (tells_last w v.damaged h.drawing.keeps.always h.drawing.live.told)
+
+  -- what is measured tells what is answered
+  pub reply_is : (m : Measurement) → Measures root size v m → drawn_reply m.changed ≡ (draw_answer p w).reply
+  reply_is m is =
+      ap drawn_reply is.changed ∙ sym (reply_drawn p w root h.walks v.damaged _ h.drawing.live.told damage_is)
+
+  reply_none : (m : Measurement) → Measures root size v m → m.changed ≡ None → (draw_answer p w).reply ≡ reply.Unchanged
+  reply_none m is e = sym (reply_is m is) ∙ ap drawn_reply e
+
+  reply_some : (m : Measurement) (damage : Rectangle) → Measures root size v m → m.changed ≡ Some damage
+      → (draw_answer p w).reply ≡ reply.Drawn damage
+  reply_some m damage is e = sym (reply_is m is) ∙ ap drawn_reply e
+
+  -- what is left
+
+  kept_is : without_indices (aggregation_of (scene_in root v.store) (walked_in size root v.store))
+      ≡ without_indices (aggregation_of (scene_from root w) (walk_of p.size (scene_from root w)))
+  kept_is =
+      λ i.
+      let scene : Scene = record { root = root; active = frames_are p w root size v h.drawing i } in
+      without_indices (aggregation_of scene (walk_of (sym h.drawing.sized_as i) scene))
+
+  told_is : (m : Measurement) (d : Damaged) → Measures root size v m → d.last ≡ Some m.kept
+      → ((id : SurfaceId) → told_on d.surfaces id ≡ option_map with_seen (told_on v.damaged.surfaces id)) → AreTold done d
+  told_is m d is last tells =
+      told_drawn p w root h.walks v.damaged d h.drawing.live.told tells
+      (last ∙ ap (λ (a : Aggregation). Some a) (is.kept ∙ kept_is))
+
+  live_left : (lent : List Lent) (d : Damaged) (flight : Option (List Flown)) → AreLent done lent → AreTold done d → AreFlown done flight
+      → AreLive done None (record v { lent = lent; damaged = d; flight = flight })
+  live_left lent d flight is_lent is_told is_flown =
+      live_by w done None None v _ (drawn_as (λ (u : World). u.subs ≡ w.subs) p w (λ l f. refl))
+      (h.drawing.live.store ∙ sym (stored.stays_drawn p w)) is_lent
+      (owed.stays_drawn p w v.owed.owed h.drawing.keeps h.drawing.live.owed)
+      (drawn_as (λ (u : World). AreKept u None v.kept) p w (λ l f.
+      stays_same w (record w { last = l; in_flight = f }) None v.kept refl refl refl (λ n. refl) h.drawing.live.kept))
+      is_told is_flown refl (omega arith) h.drawing.live
+
+  left_alike : (u : World) (lent : List Lent) → u.clients ≡ w.clients → u.surfaces ≡ w.surfaces → u.subs ≡ w.subs
+      → done.in_flight ≡ u.in_flight
+      → AreLent u lent → AreLent done lent
+  left_alike u lent clients surfaces subs flight is =
+      lent_alike u done lent
+      (record {
+        clients = drawn_as (λ (x : World). x.clients ≡ w.clients) p w (λ l f. refl) ∙ sym clients;
+        surfaces = drawn_as (λ (x : World). x.surfaces ≡ w.surfaces) p w (λ l f. refl) ∙ sym surfaces;
+        subs = drawn_as (λ (x : World). x.subs ≡ w.subs) p w (λ l f. refl) ∙ sym subs;
+        in_flight = flight;
+      }) is
+
+  -- where nothing changed
+  pub live_unchanged : (m : Measurement) (d : Damaged) → Measures root size v m → m.changed ≡ None → d.last ≡ Some m.kept
+      → ((id : SurfaceId) → told_on d.surfaces id ≡ option_map with_seen (told_on v.damaged.surfaces id))
+      → AreLive done None (record v { damaged = d })
+  live_unchanged m d is none last tells =
+      let flown = flown_still p w root h.walks v.flight (reply_none m is none) h.drawing.live.flown in
+      live_left v.lent d v.flight
+      (left_alike w v.lent refl refl refl (flown.drawn ∙ sym h.drawing.live.flown.drawn) h.drawing.live.lent)
+      (told_is m d is last tells) flown
+
+  -- where a frame is drawn
+
+  from_is : (flown : List Flown) → flown ≡ flown_from size root v.store → flown ≡ flown_from p.size root (stored_of w)
+  from_is flown e = e ∙ (λ i. flown_from (sym h.drawing.sized_as i) root (h.drawing.live.store i))
+
+  pub lifting : (flown roster : List Flown) (items : List Lent) → flown ≡ flown_from size root v.store → IsRosterOf flown roster
+      → AreLent w items → NoneReleased items → IsLifting p w roster items
+  lifting flown roster items e is lent none =
+      record {
+        plan = h.drawing.plan;
+        always = h.drawing.keeps.always;
+        of_plan = h.drawing.of_plan;
+        whole = h.drawing.live.whole;
+        listed = λ f c.
+            flown_active w (seen_all w h.drawing.keeps.always) p.size root f
+            (subst (λ (l : List Flown). Contains l f) (from_is flown e) (is.only f c));
+        before = is.before;
+        none_released = none;
+        lent = lent_none_drawn w items none_flies lent;
+      }
+
+  pub live_drawn : (flown roster : List Flown) (lent : List Lent) (m : Measurement) (d : Damaged) (damage : Rectangle)
+      → flown ≡ flown_from size root v.store → IsRosterOf flown roster → AreLent (record w { in_flight = Some (subs_of roster) }) lent
+      → Measures root size v m → m.changed ≡ Some damage → d.last ≡ Some m.kept
+      → ((id : SurfaceId) → told_on d.surfaces id ≡ option_map with_seen (told_on v.damaged.surfaces id))
+      → AreLive done None (record v { lent = lent; damaged = d; flight = Some flown })
+  live_drawn flown roster lent m d damage e names is_lent is some last tells =
+      let flies : AreFlown done (Some flown) = subst (λ (l : List Flown). AreFlown done (Some l)) (sym (from_is flown e))
+      (flown_drawn p w root h.walks (seen_all w h.drawing.keeps.always) damage (reply_some m damage is some)) in
+      live_left lent d (Some flown)
+      (left_alike (record w { in_flight = Some (subs_of flown) }) lent refl refl refl flies.drawn
+      (lent_ordered w (subs_of roster) (subs_of flown) lent names.names is_lent))
+      (told_is m d is last tells) flies

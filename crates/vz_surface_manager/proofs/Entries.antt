@@ -1,0 +1,54 @@
+-- Submissions among the entries of a map, as they are looked up and put in.
+use Rattle.std.proofs.Common.{◌≡◌, Bool, true, false, ◌||◌, Option, Some, is_some, List, [], ◌∷◌, ◌++◌, refl, ap, sym, ◌∙◌, cond}
+use Rattle.std.proofs.Common.{if◌then◌else◌}
+use Rattle.std.specs.List.{list_any}
+use Rattle.std.specs.Map.{lookup}
+use Rattle.indexmap.specs.IndexMap.{insert_entry}
+use Rattle.vz_ids.specs.declared.Sub.{Sub}
+use Rattle.vz_ids.specs.Ids.{same_sub}
+use Rattle.vz_ids.specs.contracts.SubPartialEq.TheImpl as sub_eq
+use Rattle.vz_frame.specs.declared.frame.Listing.{Listing}
+use Rattle.vz_rules.specs.Closure.{adding}
+use Rattle.vz_rules.specs.World.{has_sub}
+use Rattle.vz_rules.proofs.Members.{any_map}
+use Rattle.vz_surface_manager.specs.Flown.{Flown, subs_of}
+use Rattle.vz_surface_manager.specs.Rosters.{same_flown}
+
+abbrev pub same_key : Sub → Sub → Bool
+same_key = (sub_eq.ghosts).eq
+
+found_step : {A : Type 0} (t : Bool) (x : A) (rest : Option A) → (t || is_some rest) ≡ is_some (cond t (Some x) rest)
+found_step true x rest = refl
+found_step false x rest = refl
+
+-- a submission is among the entries
+pub looked : (xs : List Flown) (sub : Sub) → has_sub (subs_of xs) sub ≡ is_some (lookup (same_key sub) xs)
+looked [] sub = refl
+looked (x ∷ xs) sub =
+    ap (λ t. same_sub sub x.0 || t) (looked xs sub) ∙ found_step (same_sub sub x.0) x.1 (lookup (same_key sub) xs)
+
+put_step : (t rest : Bool) (x : Flown) (sub : Sub) (l : List Listing) (xs new : List Flown) → (t || rest) ≡ false
+    → (rest ≡ false → new ≡ xs ++ (sub, l) ∷ []) → (if t then (x.0, l) ∷ xs else x ∷ new) ≡ (x ∷ xs) ++ (sub, l) ∷ []
+put_step true rest x sub l xs new e h = absurd (cc)
+put_step false rest x sub l xs new e h = ap (λ (k : List Flown). x ∷ k) (h e)
+
+-- one that is not goes to the end
+pub put_last : (xs : List Flown) (sub : Sub) (l : List Listing) → has_sub (subs_of xs) sub ≡ false
+    → insert_entry same_key xs sub l ≡ xs ++ (sub, l) ∷ []
+put_last [] sub l e = refl
+put_last (x ∷ xs) sub l e =
+    put_step (same_sub sub x.0) (has_sub (subs_of xs) sub) x sub l xs (insert_entry same_key xs sub l) e (put_last xs sub l)
+
+-- a submission of this name is there
+pub named : (xs : List Flown) (f : Flown) → list_any (same_flown f) xs ≡ has_sub (subs_of xs) f.0
+named xs f = sym (any_map (λ (g : Flown). g.0) (same_sub f.0) (same_flown f) xs (λ g. refl))
+
+abbrev noted : Bool → List Flown → Flown → List Flown
+noted t xs f = if t then xs else xs ++ f ∷ []
+
+-- one that is there is not noted again, and one that is not is
+pub noted_again : (xs : List Flown) (f : Flown) → has_sub (subs_of xs) f.0 ≡ true → xs ≡ adding same_flown xs (f ∷ [])
+noted_again xs f e = sym (ap (λ t. noted t xs f) (named xs f ∙ e))
+
+pub noted_new : (xs : List Flown) (f : Flown) → has_sub (subs_of xs) f.0 ≡ false → xs ++ f ∷ [] ≡ adding same_flown xs (f ∷ [])
+noted_new xs f e = sym (ap (λ t. noted t xs f) (named xs f ∙ e))

@@ -1,0 +1,110 @@
+-- What goes back to clients, and what is temporary: what stands for a state stands for the next one.
+use Rattle.std.proofs.Common.{◌≡◌, ℕ, ◌+◌, ◌≤◌, Option, Some, None, List, [], map, refl, ap, sym, ◌∙◌, subst, arith, Contains, Bool, true, false, ◌∷◌, ◌++◌, length, cond}
+use Rattle.vz_base.specs.declared.limits.TheConstants.{TEMPORARY_TICKS}
+use Rattle.vz_ids.specs.declared.FrameSinkId.{FrameSinkId}
+use Rattle.vz_ids.specs.declared.SurfaceId.{SurfaceId}
+use Rattle.vz_ids.specs.declared.Sub.{Sub}
+use Rattle.vz_frame.specs.declared.message.Message.TheVariants.{Close}
+use Rattle.vz_rules.specs.Plan.{Plan}
+use Rattle.vz_rules.specs.World.{World, Client, Surface}
+use Rattle.vz_rules.specs.Returns.{give_back, feed, mark_fed}
+use Rattle.vz_rules.specs.Messages.{taking, reclaim, message_answer}
+use Rattle.vz_rules.specs.Step.{begin_answer, next_tick}
+use Rattle.vz_rules.specs.Kept.{KeepsAlways}
+use Rattle.std.proofs.lemmas.List.{length-append}
+use Rattle.vz_refs.specs.Referring.{Referring, Ranged, Temporary, is_named_in, lasting, of_others, keeping}
+use Rattle.vz_surface_manager.specs.Kept_surfaces.{AreKept}
+use Rattle.vz_surface_manager.proofs.Sets_kept.{stays_given, stays_taken}
+use Rattle.vz_surface_manager.proofs.Fed_kept.{stays_fed}
+use Rattle.vz_surface_manager.proofs.Ticked_kept.{kept_ticking}
+use Rattle.vz_surface_manager.proofs.Closed_kept.{kept_closing}
+use Rattle.vz_surface_manager.proofs.Kept_new.{kept_new}
+use Rattle.vz_surfaces.specs.Stored.{Stored, marking}
+use Rattle.vz_surfaces.proofs.Stores_kept as stored
+use Rattle.vz_surfaces.proofs.Following.{follows_closed}
+use Rattle.vz_surfaces.proofs.Telling.{tells_exists}
+use Rattle.vz_surface_manager.proofs.Stored.{told_stays, last_given, last_fed, last_begun}
+use Rattle.vz_surface_manager.proofs.Told_messages.{told_closed}
+use Rattle.vz_returns.specs.Lent.{Lent, AreLent}
+use Rattle.vz_returns.proofs.Lent_kept.{lent_fed, lent_begun, lent_closed}
+use Rattle.vz_returns.specs.Owed.{OwedAndRoom, AreOwed}
+use Rattle.vz_returns.proofs.Owed_kept as owed
+use Rattle.vz_surface_manager.proofs.Flights_kept.{flown_given, flown_fed, flown_taking, flown_begun, flown_closed}
+use Rattle.vz_surface_manager.specs.Live.{Live, AreLive}
+use Rattle.vz_surface_manager.specs.Changes.{IsNew}
+use Rattle.vz_surface_manager.proofs.Live_kept.{kept_same}
+use Rattle.vz_surface_manager.proofs.Quiet.{live_from, live_by, feeds_only}
+
+given_subs : (w : World) → (give_back w).subs ≡ w.subs
+unfolding give_back
+given_subs w = refl
+
+pub live_given : (w : World) (but : Option SurfaceId) (v : Live) (lent : List Lent) → AreLent (give_back w) lent → AreLive w but v → AreLive (give_back w) but (record v { lent = lent })
+live_given w but v lent is h =
+    live_by w (give_back w) but but v _ (given_subs w) (h.store ∙ sym (stored.stays_given w)) is (owed.stays_returned w v.owed.owed h.owed) (stays_given w but v.kept h.kept)
+    (told_stays w (give_back w) v.damaged tells_exists (stored.stays_given w) (last_given w) h.told) (flown_given w v.flight h.flown) refl (omega arith) h
+
+fed_subs : (presented : List Sub) (w : World) → (feed presented w).subs ≡ map (mark_fed w presented) w.subs
+unfolding feed
+fed_subs presented w = refl
+
+pub live_fed : (w : World) (but : Option SurfaceId) (v : Live) (f : OwedAndRoom) → AreOwed (feed [] w) f.owed → AreLive w but v → AreLive (feed [] w) but (record v { owed = f })
+live_fed w but v f is h =
+    live_from w (feed [] w) but but v _ (mark_fed w []) (fed_subs [] w) (feeds_only w []) (h.store ∙ sym (stored.stays_fed [] w)) (lent_fed [] w v.lent h.lent) is
+    (stays_fed [] w but v.kept h.kept) (told_stays w (feed [] w) v.damaged tells_exists (stored.stays_fed [] w) (last_fed [] w) h.told)
+    (flown_fed [] w v.flight h.flown) refl (omega arith) h
+
+pub live_reclaimed : (w : World) (but : Option SurfaceId) (c : Client) (v : Live) (lent : List Lent) → AreLent (taking reclaim c w) lent → AreLive w but v
+    → AreLive (taking reclaim c w) but (record v { lent = lent })
+live_reclaimed w but c v lent is h =
+    live_by w (taking reclaim c w) but but v _ refl (h.store ∙ sym (stored.stays_taken reclaim c w)) is (owed.stays_taken reclaim c w v.owed.owed h.owed)
+    (stays_taken w but v.kept reclaim c (λ x. refl) (λ x. refl) h.kept)
+    (told_stays w (taking reclaim c w) v.damaged tells_exists (stored.stays_taken reclaim c w) refl h.told) (flown_taking reclaim c w v.flight h.flown) refl (omega arith) h
+
+begun_subs : (p : Plan) (w : World) → (begin_answer p w).world.subs ≡ w.subs
+unfolding begin_answer
+begun_subs p w = refl
+
+pub live_ticked : (p : Plan) (w : World) (but : Option SurfaceId) (v : Live) (r : Referring) (tick : ℕ) → KeepsAlways w → tick ≡ next_tick w.tick
+    → r.sets ≡ v.kept.sets → r.temporary ≡ lasting tick v.kept.temporary → r.spare ≡ v.kept.spare → AreLive w but v → AreLive (begin_answer p w).world but (record v { kept = r })
+live_ticked p w but v r tick always next sets temporary spare h =
+    live_by w (begin_answer p w).world but but v _ (begun_subs p w) (h.store ∙ sym (stored.stays_ticked p w)) (lent_begun p w v.lent h.lent) (owed.stays_ticked p w v.owed.owed h.owed)
+    (kept_same (begin_answer p w).world but _ r sets (temporary ∙ ap (λ n. lasting n v.kept.temporary) next) (kept_ticking p w but v.kept always h.kept))
+    (told_stays w (begin_answer p w).world v.damaged tells_exists (stored.stays_ticked p w) (last_begun p w) h.told) (flown_begun p w v.flight h.flown) refl
+    (omega (arith, spare)) h
+
+closed_subs : (w : World) (c : Client) → (message_answer w c Close).world.subs ≡ w.subs
+unfolding message_answer
+closed_subs w c = refl
+
+pub live_closed : (w : World) (c : Client) (v : Live) (store : Stored) (r : Referring) (client : ℕ) (sink : FrameSinkId) → KeepsAlways w → Contains w.clients c → c.number ≡ client → c.sink ≡ sink
+    → store ≡ marking client v.store → r.sets ≡ v.kept.sets → r.temporary ≡ of_others sink v.kept.temporary → r.spare ≡ v.kept.spare → AreLive w None v
+    → AreLive (message_answer w c Close).world None (record v { store = store; kept = r })
+live_closed w c v store r client sink always known number own marked sets temporary spare h =
+    live_by w (message_answer w c Close).world None None v _ (closed_subs w c)
+    (marked ∙ ((λ i. marking (back i) (h.store i)) ∙ sym (follows_closed w c))) (lent_closed w c v.lent h.lent) (owed.stays_closed w c v.owed.owed h.owed)
+    (kept_same (message_answer w c Close).world None _ r sets (temporary ∙ ap (λ s. of_others s v.kept.temporary) (sym own)) (kept_closing w c v.kept always known h.kept))
+    (told_closed w c v.damaged h.told) (flown_closed w c v.flight h.flown) refl (omega (arith, spare)) h
+  where
+    back : client ≡ c.number
+    back = sym number
+
+pub live_kept : (w : World) (c : Surface) (v : Live) (r : Referring) (id : SurfaceId) (until : ℕ) → KeepsAlways w → IsNew w c id → until ≡ w.tick + TEMPORARY_TICKS
+    → r.sets ≡ v.kept.sets → r.temporary ≡ keeping v.kept.sets id until v.kept.temporary → r.spare ≡ v.kept.spare → AreLive w (Some id) v → AreLive w None (record v { kept = r })
+live_kept w c v r id until always new late sets temporary spare h =
+    live_by w w (Some id) None v _ refl h.store h.lent h.owed
+    (kept_same w None _ r sets (temporary ∙ (λ i. keeping v.kept.sets (back i) (late i) v.kept.temporary))
+    (kept_new w c v.kept always new.named new.known new.born new.exists new.stays new.now (subst (λ d. AreKept w (Some d) v.kept) (sym new.name) h.kept)))
+    h.told h.flown refl (omega (arith, spare)) h
+  where
+    back : id ≡ c.id
+    back = sym new.name
+
+-- at most one surface more is kept
+pub keeps_one : (sets : List Ranged) (id : SurfaceId) (until : ℕ) (kept : List Temporary) → length (keeping sets id until kept) ≤ length kept + 1
+unfolding keeping
+keeps_one sets id until kept =
+    elim (is_named_in sets id) as (λ (t : Bool). length (cond t kept (kept ++ record { id = id; until = until } ∷ [])) ≤ length kept + 1) [
+      | true ↦ omega arith
+      | false ↦ omega (arith, length-append kept (record { id = id; until = until } ∷ []))
+    ]

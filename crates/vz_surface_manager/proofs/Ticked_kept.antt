@@ -1,0 +1,117 @@
+-- What is temporary, as a begin-frame comes.
+use Rattle.std.proofs.Common.{◌≡◌, ℕ, ◌+◌, ◌≤◌, Bool, true, false, not, ◌&&◌, ◌||◌, ◌==◌, Option, Some, List, [], ◌∷◌, filter, refl, ap, sym, ◌∙◌, cond, Contains, nat_lt, arith}
+use Rattle.std.proofs.lemmas.Bool.{ltb-true, lt-ltb}
+use Rattle.vz_base.specs.declared.limits.TheConstants.{TEMPORARY_TICKS, LAST_TICK}
+use Rattle.vz_ids.specs.declared.SurfaceId.{SurfaceId}
+use Rattle.vz_ids.specs.Ids.{same_surface}
+use Rattle.vz_rules.specs.Plan.{Plan}
+use Rattle.vz_rules.specs.World.{World, Client, Surface}
+use Rattle.vz_rules.specs.Reach.{is_named_now, has_closed}
+use Rattle.vz_rules.specs.Kept.{KeepsAlways}
+use Rattle.vz_rules.specs.Step.{next_tick, deliver, is_attached, begin_answer}
+use Rattle.vz_rules.proofs.Reached.{from_same, self_same}
+use Rattle.vz_rules.proofs.Members.{contains_here, contains_there, contains_at, at_same, filter_at}
+use Rattle.vz_rules.proofs.Kept_facts.{surfaces_apart}
+use Rattle.vz_refs.specs.Referring.{Temporary}
+use Rattle.vz_refs.specs.Referring.{Referring, lasting}
+use Rattle.vz_surface_manager.specs.Kept_surfaces.{lasts, has_kept, AreKept}
+use Rattle.vz_surface_manager.proofs.Sets_kept.{named_alike, closed_kept}
+
+-- of one id there is one surface
+pub one_surface : (w : World) (s t : Surface) → KeepsAlways w → Contains w.surfaces s → Contains w.surfaces t → s.id ≡ t.id → s ≡ t
+one_surface w s t h c d e =
+    let n = contains_at w.surfaces s c in
+    let m = contains_at w.surfaces t d in
+    at_same w.surfaces n.0 m.0 s t n.1 m.1 (surfaces_apart w n.0 m.0 s t h n.1 m.1 (ap (λ i. same_surface i t.id) e ∙ self_same t.id))
+
+-- those that last beyond a tick
+kept_lasting : (n b : ℕ) (id : SurfaceId) (xs : List Temporary) → ((t : Temporary) → Contains xs t → same_surface t.id id ≡ true → t.until ≡ b)
+    → has_kept (lasting n xs) id ≡ (has_kept xs id && nat_lt n b)
+unfolding lasting
+kept_lasting n b id [] f = refl
+kept_lasting n b id (t ∷ xs) f =
+    by (nat_lt n t.until) refl (same_surface t.id id) refl (kept_lasting n b id xs (λ s c. f s (contains_there t s xs c)))
+  where
+    by : (a : Bool) → nat_lt n t.until ≡ a → (e : Bool) → same_surface t.id id ≡ e → has_kept (filter (λ (t : Temporary). nat_lt n t.until) xs) id ≡ (has_kept xs id && nat_lt n b)
+        → has_kept (cond a (t ∷ filter (λ (t : Temporary). nat_lt n t.until) xs) (filter (λ (t : Temporary). nat_lt n t.until) xs)) id ≡ ((e || has_kept xs id) && nat_lt n b)
+    by true g true e rest =
+        ap (λ q. q || has_kept (filter (λ (t : Temporary). nat_lt n t.until) xs) id) e ∙ sym (ap (nat_lt n) (sym (f t (contains_here t xs) e)) ∙ g)
+    by true g false e rest = ap (λ q. q || has_kept (filter (λ (t : Temporary). nat_lt n t.until) xs) id) e ∙ rest
+    by false g true e rest =
+        let out : nat_lt n b ≡ false = ap (nat_lt n) (sym (f t (contains_here t xs) e)) ∙ g in
+        rest ∙ (ap (λ q. has_kept xs id && q) out ∙ (none (has_kept xs id) ∙ sym out))
+      where
+        none : (q : Bool) → (q && false) ≡ false
+        none true = refl
+        none false = refl
+    by false g false e rest = rest
+
+later : (tick b : ℕ) (q : Bool) → (nat_lt (next_tick tick) b ≡ true → nat_lt tick b ≡ true) → (q && nat_lt (next_tick tick) b) ≡ ((q && nat_lt tick b) && nat_lt (next_tick tick) b)
+later tick b q f = by (nat_lt (next_tick tick) b) refl
+  where
+    none : (q : Bool) → (q && false) ≡ false
+    none true = refl
+    none false = refl
+
+    by : (t : Bool) → nat_lt (next_tick tick) b ≡ t → (q && t) ≡ ((q && nat_lt tick b) && t)
+    by true e = sym (ap (λ u. (q && u) && true) (f e) ∙ ends q)
+      where
+        ends : (q : Bool) → ((q && true) && true) ≡ (q && true)
+        ends true = refl
+        ends false = refl
+    by false e = none q ∙ sym (none (q && nat_lt tick b))
+
+goes_on : (tick : ℕ) → tick ≤ next_tick tick
+goes_on tick = by (tick == LAST_TICK)
+  where
+    by : (t : Bool) → tick ≤ cond t tick (tick + 1)
+    by true = omega arith
+    by false = omega arith
+
+still : (tick b : ℕ) → nat_lt (next_tick tick) b ≡ true → nat_lt tick b ≡ true
+still tick b e = let l = ltb-true (next_tick tick) b e in let g = goes_on tick in lt-ltb tick b (omega (arith, l, g))
+
+delivered_number : (t : Bool) (n : ℕ) (x : Client) → (cond t (record x { delivered = Some n }) x).number ≡ x.number
+delivered_number true n x = refl
+delivered_number false n x = refl
+
+delivered_closed : (t : Bool) (n : ℕ) (x : Client) → (cond t (record x { delivered = Some n }) x).closed ≡ x.closed
+delivered_closed true n x = refl
+delivered_closed false n x = refl
+
+module _ (p : Plan) (w : World) (but : Option SurfaceId) (r : Referring) (always : KeepsAlways w) (h : AreKept w but r) where
+  until_is : (c : Surface) → Contains w.surfaces c → (t : Temporary) → Contains r.temporary t → same_surface t.id c.id ≡ true → t.until ≡ c.born + TEMPORARY_TICKS
+  until_is c m t d e =
+      let k = h.known t d in
+      let one : k.0 ≡ c = one_surface w k.0 c always k.1 m (k.2 ∙ from_same t.id c.id e) in
+      k.3 ∙ ap (λ (s : Surface). s.born + TEMPORARY_TICKS) one
+
+  closed_ticked : (q : ℕ) → has_closed (begin_answer p w).world q ≡ has_closed w q
+  unfolding begin_answer
+  closed_ticked q =
+      closed_kept (deliver p w (next_tick w.tick)) q w.clients (λ x. delivered_number (is_attached p w x && not x.closed) (next_tick w.tick) x)
+      (λ x. delivered_closed (is_attached p w x && not x.closed) (next_tick w.tick) x)
+
+  lasts_ticked : (c : Surface) → lasts (begin_answer p w).world c ≡ (lasts w c && nat_lt (next_tick w.tick) (c.born + TEMPORARY_TICKS))
+  unfolding lasts begin_answer
+  lasts_ticked c =
+      ap (λ k. ((not c.destroyed && not (c.named || k)) && not (has_closed (begin_answer p w).world c.client)) && nat_lt (next_tick w.tick) (c.born + TEMPORARY_TICKS))
+      (named_alike w (begin_answer p w).world c.id refl refl)
+      ∙ (ap (λ k. ((not c.destroyed && not (c.named || is_named_now w c.id)) && not k) && nat_lt (next_tick w.tick) (c.born + TEMPORARY_TICKS)) (closed_ticked c.client)
+      ∙ later w.tick (c.born + TEMPORARY_TICKS) ((not c.destroyed && not (c.named || is_named_now w c.id)) && not (has_closed w c.client)) (still w.tick (c.born + TEMPORARY_TICKS)))
+
+  kept_one : (c : Surface) → Contains w.surfaces c → has_kept (lasting (next_tick w.tick) r.temporary) c.id ≡ (has_kept r.temporary c.id && nat_lt (next_tick w.tick) (c.born + TEMPORARY_TICKS))
+  kept_one c m = kept_lasting (next_tick w.tick) (c.born + TEMPORARY_TICKS) c.id r.temporary (until_is c m)
+
+  pub kept_ticking : AreKept (begin_answer p w).world but (record r { temporary = lasting (next_tick w.tick) r.temporary })
+  unfolding begin_answer lasting
+  kept_ticking =
+      record {
+        sets = h.sets;
+        own = h.own;
+        all_set = h.all_set;
+        lasting = λ c m e. kept_one c m ∙ (ap (λ q. q && nat_lt (next_tick w.tick) (c.born + TEMPORARY_TICKS)) (h.lasting c m e) ∙ sym (lasts_ticked c));
+        fresh = λ c m e. kept_one c m ∙ ap (λ q. q && nat_lt (next_tick w.tick) (c.born + TEMPORARY_TICKS)) (h.fresh c m e);
+        known = λ t m. h.known t (filter_at (λ (t : Temporary). nat_lt (next_tick w.tick) t.until) r.temporary t m).0;
+        noted = h.noted;
+      }

@@ -1,0 +1,17 @@
+pub mod Kept_surfaces
+pub mod Told_damage
+pub mod Allowed
+pub mod Flown
+pub mod Rosters
+pub mod Live
+pub mod Ended_subs
+pub mod Changes
+pub mod Acceptance
+pub mod Roots
+pub mod Frame_end
+pub mod Drawn_frame
+pub mod Last_surface
+pub mod Waits
+pub mod Left_out
+pub mod Settles
+pub mod Collects

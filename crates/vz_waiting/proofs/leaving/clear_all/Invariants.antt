@@ -1,7 +1,0 @@
-use Rattle.std.proofs.Common.{◌≡◌, ◌≤◌, take}
-use Rattle.vz_waiting.specs.Leaving.{due_without}
-use Rattle.vz_waiting.proofs.leaving.clear_all.Given as goal
-
--- those so far have no deadline any more
-abbrev pub invariant-loop-s : goal.invariant-loop-s
-invariant-loop-s l = (l.deadlines.list ≡ due_without (take l.s-index l.subs) l.fn.deadlines.list) × (l.fn.deadlines.spare ≤ l.deadlines.spare)
