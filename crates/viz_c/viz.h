@@ -9,14 +9,15 @@
  * For every call:
  * - No pointer may be null, not even with a length of 0.
  * - What a call writes overlaps nothing else that it is given.
- * - A call keeps nothing. What it allocates it frees before it returns, so a want of memory loses nothing.
- *   Any number of threads may call at the same time, but no signal handler may.
+ * - A call keeps nothing but in a viz_session. What else it allocates it frees before it returns, so a want of memory
+ *   loses nothing. Any number of threads may call at the same time, but no signal handler may.
  * - The stack has to have 256 KiB left.
  * - Lengths and places count bytes, sides and points count pixels.
  */
 #ifndef VIZ_H
 #define VIZ_H
 
+#include <stdbool.h>
 #include <stddef.h>
 #include <stdint.h>
 
@@ -44,11 +45,11 @@ enum viz_answer {
     VIZ_TRAILING = 7, /* bytes are left after the last message */
 
     VIZ_MEMORY = 8,   /* an allocation failed */
-    VIZ_CALL = 9,     /* a number of the call is out of its range */
+    VIZ_CALL = 9,     /* a number of the call is out of its range, or the session is not as the call needs it */
     VIZ_ROOM = 10,    /* a room is too small; the lengths say how much is needed */
     VIZ_REFUSED = 11, /* an input is refused; the viz_cause says which, where and why */
     VIZ_FAULT = 12,   /* viz_check: the log or its frames have a fault */
-    VIZ_NOTHING = 13, /* viz_hit: no surface is hit */
+    VIZ_NOTHING = 13, /* nothing is there to tell */
 
     /* Reasons of a viz_cause alone. */
     VIZ_SINK_TAKEN = 14, /* an earlier client's file has the same sink */
@@ -81,6 +82,25 @@ struct viz_target {
     uint64_t token_high; /* the upper 64 bits of the token */
     int32_t x;
     int32_t y;
+};
+
+/* A rectangle of the display, in pixels from its top left. */
+struct viz_area {
+    int32_t x;
+    int32_t y;
+    int32_t w;
+    int32_t h;
+};
+
+/* A machine that is given one event at a time. It is closed at first, as a struct of zeros is:
+ *
+ *     struct viz_session session = {0};
+ *
+ * The fields belong to the library: read `is_open` if you want, write neither, copy no session that is open, and close
+ * each before its struct goes. A session stays on the thread that opened it. */
+struct viz_session {
+    void *at;
+    bool is_open;
 };
 
 /* VIZ_VERSION of the library. */
@@ -134,6 +154,42 @@ uint32_t viz_hit(uint32_t w, uint32_t h, const uint8_t *schedule, size_t schedul
  * With the first two, files_len gets the length of all three, and `lengths` that of each. */
 uint32_t viz_gen(uint32_t rounds, uint8_t *files, size_t files_room, size_t *files_len,
                  size_t *lengths, size_t lengths_n);
+
+/* A session, event by event: viz_open, then for each event viz_next and what is asked of it, and viz_close. The machine
+ * goes on from where it is, so that an event costs no more than in viz_step. */
+
+/* Opens a session over the message files, before the first event. It answers
+ * - VIZ_DONE: the session is open.
+ * - VIZ_CALL (also if the session is open already), VIZ_REFUSED (sets `cause`) or VIZ_MEMORY: it is as before. */
+uint32_t viz_open(uint32_t w, uint32_t h, const uint8_t *files, size_t files_n, const size_t *lengths, size_t lengths_n,
+                  struct viz_session *session, struct viz_cause *cause);
+
+/* Gives the machine one event: the byte that it has in a schedule. Whether it is refused is in the entry. It answers
+ * - VIZ_DONE: the machine has taken it.
+ * - VIZ_CALL: the session is closed, or the byte is no event, or that of a client whose file is not there.
+ * - VIZ_MEMORY. With this and VIZ_CALL the session is as before: the same event may be tried again. */
+uint32_t viz_next(struct viz_session *session, uint8_t event);
+
+/* The entry of the last event: its line of the log, with the event, the reply and the effects. It answers
+ * - VIZ_DONE: the line is at the front of `line` (ASCII, with its newline, no zero byte), line_len gets its length.
+ * - VIZ_ROOM: `line` is too small, and as before. line_len is set.
+ * - VIZ_NOTHING: there was no event yet.
+ * - VIZ_CALL: the session is closed. VIZ_MEMORY.
+ * The session is as before. */
+uint32_t viz_entry(struct viz_session *session, uint8_t *line, size_t line_room, size_t *line_len);
+
+/* The picture of the last event that was answered Drawn. It paints all of it, whatever changed. It answers
+ * - VIZ_DONE: the pixels are at the front of `pixels` (as one frame of viz_step), pixels_len gets their length, and
+ *   `damage` the rectangle outside which the picture is that of the drawing before.
+ * - VIZ_ROOM: `pixels` is too small, and as before. pixels_len is set.
+ * - VIZ_NOTHING: nothing was drawn yet.
+ * - VIZ_CALL: the session is closed. VIZ_MEMORY.
+ * The session is as before. */
+uint32_t viz_picture(struct viz_session *session, uint8_t *pixels, size_t pixels_room, size_t *pixels_len,
+                     struct viz_area *damage);
+
+/* Closes a session, and frees all that it has. It answers VIZ_DONE, or VIZ_CALL if it is closed already. */
+uint32_t viz_close(struct viz_session *session);
 
 #ifdef __cplusplus
 }

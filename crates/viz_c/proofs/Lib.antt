@@ -7,3 +7,7 @@ pub mod Said_of_points
 pub mod Said_of_files
 pub mod Tested_more
 pub mod One_file
+pub mod Loosened
+pub mod Handled
+pub mod Stepped
+pub mod Painted

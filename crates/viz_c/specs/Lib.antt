@@ -5,3 +5,6 @@ pub mod Stepping
 pub mod Hitting
 pub mod Judging
 pub mod Making
+pub mod Staging
+pub mod Holding
+pub mod Telling

@@ -1,10 +1,12 @@
 //! The calls that C and C++ make in process. `viz.h` says what each takes and answers.
 //!
-//! No call keeps anything: what it allocates it gives back before it returns, and what it answers
-//! stands in the rooms of the caller. So any number of threads may call at once.
+//! No call but those of a session keeps anything: what it allocates it gives back before it
+//! returns, and what it answers stands in the rooms of the caller. So any number of threads may
+//! call at once. What a session keeps, its struct owns, which is the caller's.
 #![tactic(auto)]
 
-ghost use Rattle.std.specs.Prelude.{◌≡◌, ◌≢◌, ◌≤◌, ◌⊎◌, None, Some, false, pos, take, length, map};
+ghost use Rattle.std.specs.Prelude.{◌≡◌, ◌≢◌, ◌≤◌, ◌⊎◌, None, Some, false, true, is_some};
+ghost use Rattle.std.specs.Prelude.{pos, take, length, map};
 ghost use Rattle.vz_check.specs.declared.verdict.Verdict.TheVariants.{Yes};
 ghost use Rattle.vz_codec.specs.Grammar.{wrong};
 ghost use Rattle.vz_codec.specs.Spelling.{file_bytes};
@@ -18,6 +20,8 @@ ghost use Rattle.viz_c.specs.Making.{MakesMore};
 ghost use Rattle.viz_c.specs.Numbers.{rule_number, IsCause, IsWithin};
 ghost use Rattle.viz_c.specs.Rooms.{Keeps, KeepsRest};
 ghost use Rattle.viz_c.specs.Stepping.{AreStepped, NeedsRoom};
+ghost use Rattle.viz_c.specs.Telling.{may_open, Opens, IsGivenTo, IsEntryTold, IsDrawingTold};
+ghost use Rattle.viz_run.specs.Refusals.{file_refused};
 ghost use Rattle.viz_c.specs.declared.answer.TheConstants.{DONE, MEMORY, CALL, ROOM, REFUSED, FAULT, NOTHING};
 
 mod answer;
@@ -25,18 +29,28 @@ mod call;
 mod check;
 mod decode;
 mod given;
+mod handle;
 mod hit;
+mod loose;
+mod next;
+mod open;
 mod room;
 mod rounds;
+mod session;
+mod shot;
 mod solo;
+mod stage;
 mod step;
 
-use crate::answer::{CALL, Cause};
+use crate::answer::{CALL, Cause, DONE};
 use crate::call::{is_call, size_of};
 use crate::check::{judge, tell_check};
 use crate::decode::tell_decoding;
 use crate::hit::{Target, hit, is_inside, point_of, tell_hit};
+use crate::next::{Area, give, tell_entry, tell_picture};
+use crate::open::{open_stage, tell_open};
 use crate::rounds::{is_gen_call, make_files, tell_made};
+use crate::session::Session;
 use crate::step::{step, tell_step};
 use std::alloc::Global;
 use std::marker::Brand;
@@ -241,4 +255,136 @@ pub extern "C" fn viz_gen(
         return CALL;
     }
     tell_made(&make_files(alloc, rounds), files, files_len, lengths)
+}
+
+/// Opens a session over the message files of the clients, which come one after the other in
+/// `files`, and have these lengths. The display has these sides. The session is closed before.
+///
+/// The answer is 0 if the session is open now, before the first event. It is 8 if an allocation
+/// failed; 9 if the session is open already, or the sides, the number of files or their lengths are
+/// not allowed; 11 if a file is refused, and then `cause` says which, where and why. With these the
+/// session is as before.
+#[unsafe(no_mangle)]
+pub extern "C" fn viz_open(
+    alloc: Global,
+    w: u32,
+    h: u32,
+    files: &[u8],
+    lengths: &[usize],
+    session: &mut Session,
+    cause: &mut Cause,
+) -> u32
+    ensures done { result ≡ DONE
+        → Opens (size_of w h) (cut lengths.now files.now) session.new.handle.stage }
+    ensures refused { result ≡ REFUSED
+        → IsCause (file_refused (cut lengths.now files.now)) cause.new }
+    ensures call { result ≡ CALL
+        → may_open w h files.now lengths.now session.old.handle.stage ≡ false }
+    ensures no_other { may_open w h files.now lengths.now session.old.handle.stage ≡ false
+        → result ≡ CALL }
+    ensures range { (result ≡ DONE) ⊎ IsWithin MEMORY REFUSED result }
+    ensures no_room { result ≢ ROOM }
+    ensures kept { result ≢ DONE → session.new.handle.stage ≡ session.old.handle.stage }
+    ensures cause_kept { result ≢ REFUSED → cause.new ≡ cause.old }
+{
+    if session.is_open {
+        return CALL;
+    }
+    if !is_call(w, h, files, lengths) {
+        return CALL;
+    }
+    let opened = open_stage(alloc, size_of(w, h), files, lengths);
+    tell_open(opened, session, cause)
+}
+
+/// Gives the machine of a session one event, by its byte in a schedule.
+///
+/// The answer is 0 if the machine has taken it, and then the session has the entry of the event,
+/// and the picture if something is drawn. It is 8 if an allocation failed; 9 if the session is
+/// closed, or the byte is no event for its plan. With these the session is as before.
+#[unsafe(no_mangle)]
+pub extern "C" fn viz_next(alloc: Global, session: &mut Session, event: u8) -> u32
+    ensures { IsGivenTo session.old.handle.stage event result session.new.handle.stage }
+{
+    if !session.is_open {
+        return CALL;
+    }
+    let mut stage = session.take(alloc);
+    let answer = give(alloc, &mut stage, event);
+    session.put(stage);
+    answer
+}
+
+/// Tells the last entry of a session: its line of the log, with the event, the reply and the
+/// effects.
+///
+/// The answer is 0 if the line stands at the front of its room, and then the length is its own. It
+/// is 8 if an allocation failed; 9 if the session is closed; 10 if the room is too small, and then
+/// the length is what is needed; 13 if there was no event yet. The room keeps what is in it unless
+/// the answer is 0, and the session stays.
+#[unsafe(no_mangle)]
+pub extern "C" fn viz_entry(
+    alloc: Global,
+    session: &mut Session,
+    line: &mut [u8],
+    line_len: &mut usize,
+) -> u32
+    ensures told { IsEntryTold session.old.handle.stage result
+        (record { before = line.old; after = line.new; count = line_len.new }) }
+    ensures len_kept { result ≢ DONE → result ≢ ROOM → line_len.new ≡ line_len.old }
+    ensures kept { session.new.handle.stage ≡ session.old.handle.stage }
+{
+    if !session.is_open {
+        return CALL;
+    }
+    let stage = session.take(alloc);
+    let answer = tell_entry(alloc, &stage, line, line_len);
+    session.put(stage);
+    answer
+}
+
+/// Tells the picture of the last drawing of a session, and the rectangle that changed since the
+/// drawing before.
+///
+/// The answer is 0 if the pixels stand at the front of their room, and then the length is theirs,
+/// and `damage` has the rectangle. It is 8 if an allocation failed; 9 if the session is closed; 10
+/// if the room is too small, and then the length is what is needed; 13 if nothing was drawn yet.
+/// The room keeps what is in it unless the answer is 0, and the session stays.
+#[unsafe(no_mangle)]
+pub extern "C" fn viz_picture(
+    alloc: Global,
+    session: &mut Session,
+    pixels: &mut [u8],
+    pixels_len: &mut usize,
+    damage: &mut Area,
+) -> u32
+    ensures told { IsDrawingTold session.old.handle.stage result
+        (record { before = pixels.old; after = pixels.new; count = pixels_len.new }) damage.new }
+    ensures len_kept { result ≢ DONE → result ≢ ROOM → pixels_len.new ≡ pixels_len.old }
+    ensures damage_kept { result ≢ DONE → damage.new ≡ damage.old }
+    ensures kept { session.new.handle.stage ≡ session.old.handle.stage }
+{
+    if !session.is_open {
+        return CALL;
+    }
+    let stage = session.take(alloc);
+    let answer = tell_picture::<Brand>(alloc, Blank::new(1), &stage, pixels, pixels_len, damage);
+    session.put(stage);
+    answer
+}
+
+/// Closes a session, and gives back all that it allocated. The answer is 0, or 9 if it is closed
+/// already.
+#[unsafe(no_mangle)]
+pub extern "C" fn viz_close(alloc: Global, session: &mut Session) -> u32
+    ensures closed { session.new.handle.stage ≡ None }
+    ensures done { result ≡ DONE → is_some session.old.handle.stage ≡ true }
+    ensures call { result ≡ CALL → session.old.handle.stage ≡ None }
+    ensures range { (result ≡ DONE) ⊎ (result ≡ CALL) }
+{
+    if !session.is_open {
+        return CALL;
+    }
+    drop(session.take(alloc));
+    DONE
 }

@@ -24,6 +24,15 @@ pub struct SoloPicture {
     flat: FlatPicture,
 }
 
+impl SoloPicture {
+    /// What was drawn.
+    pub fn flat(&self) -> &FlatPicture
+        ensures { result.now ≡ self.now.flat }
+    {
+        &self.flat
+    }
+}
+
 /// A picture without its occluded items.
 #[derive(Drop)]
 pub struct SoloThin {

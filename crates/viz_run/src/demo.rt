@@ -91,7 +91,8 @@ where
     ensures front { OnErr result ((n : ℕ)
         × IsHistory (M.state machine).plan (take n events.now) history.new) }
 {
-    let mut player = Player::new(alloc, machine, size, DEFAULT_BUFFERS as u32);
+    let count = events.len();
+    let mut player = Player::new(alloc, machine, size, DEFAULT_BUFFERS as u32, count);
     match take_all(rt, alloc, &mut player, events, gate, steps) {
         Ok(()) => {
             let points = player.display().painted();

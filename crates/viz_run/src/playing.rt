@@ -121,7 +121,8 @@ where
         (F.shelved shelf.old) (F.shelved shelf.new) }
     ensures behaves { Behaves (F.shelved shelf.old) (F.shelved shelf.new) result }
 {
-    let mut player = Player::new(alloc, machine, size, DEFAULT_BUFFERS as u32);
+    let count = events.len();
+    let mut player = Player::new(alloc, machine, size, DEFAULT_BUFFERS as u32, count);
     let file = FrameFile { slot, size };
     match play_frames(rt, alloc, &mut player, events, shelf, file, gate, steps) {
         Ok(()) => {

@@ -8,11 +8,12 @@ ghost use Rattle.vz_buffers.specs.Canvas.{pixel_count};
 ghost use Rattle.vz_machine.specs.Pictured.{IsInside};
 ghost use Rattle.vz_flat.specs.Ops.{value};
 
-use crate::brush::{Sheet, brushes_for, places};
+use crate::brush::{Brush, Sheet, places};
 use crate::choice::choose;
 use crate::ground::{behind, ground_of};
 use crate::painting::FEW_OPS;
 use std::alloc::Global;
+use std::slice::from_mut;
 use std::sync::ledger::Ledger;
 use vz_base::Memory;
 use vz_buffers::{Buffer, Steps};
@@ -21,7 +22,7 @@ use vz_geom::Rect;
 
 /// Paints an area that is not empty, on the caller's thread. Everything is allocated before the
 /// first row.
-fn paint_area_alone<L: Ledger>(
+pub(crate) fn paint_area_alone<L: Ledger>(
     alloc: Global,
     ops: &Ops,
     area: &Rect,
@@ -50,8 +51,8 @@ fn paint_area_alone<L: Ledger>(
         ground: ground.color,
         deepest: ops.deepest(),
     };
-    let mut brushes = brushes_for(alloc, rest, sheet, 1)?;
-    buffer.put_rows_alone(area, brushes.as_mut_slice(), steps);
+    let mut brush = Brush::new(alloc, rest, sheet)?;
+    buffer.put_rows_alone(area, from_mut(&mut brush), steps);
     Ok(())
 }
 

@@ -8,6 +8,7 @@ ghost use Rattle.vz_buffers.specs.Canvas.{pixel_count};
 ghost use Rattle.vz_machine.specs.Pictured.{IsInside};
 ghost use Rattle.vz_flat.specs.Ops.{value};
 
+use crate::alone::paint_area_alone;
 use crate::brush::{Sheet, brushes_for, places};
 use crate::choice::choose;
 use crate::ground::{behind, ground_of};
@@ -40,18 +41,21 @@ fn threads_for<R: Threads>(rt: &R, pixels: u64) -> usize
     }
 }
 
-/// Paints an area that is not empty. Everything is allocated before the first row.
+/// Paints an area that is not empty on so many threads. Everything is allocated before the first
+/// row.
 fn paint_area<L: Ledger, R: Threads + Sync>(
     rt: &R,
     alloc: Global,
     ops: &Ops,
     area: &Rect,
+    threads: usize,
     buffer: &mut Buffer,
     steps: &mut Steps<L>,
 ) -> Result<(), Memory>
     requires sides { IsDisplaySize buffer.old.size }
     requires canvas { length buffer.old.pixels ≡ pixel_count buffer.old.size }
     requires inside { IsInside (sized buffer.old.size) area.now }
+    requires threads { 1 ≤ threads }
     ensures size { buffer.new.size ≡ buffer.old.size }
     ensures painted { OnOk result (buffer.new.pixels ≡ patched area.now
         (points_of buffer.old.size) (map (λ p. value ops.now p black) (points_of buffer.old.size))
@@ -71,7 +75,7 @@ fn paint_area<L: Ledger, R: Threads + Sync>(
         ground: ground.color,
         deepest: ops.deepest(),
     };
-    let mut brushes = brushes_for(alloc, rest, sheet, threads_for(rt, area.area()))?;
+    let mut brushes = brushes_for(alloc, rest, sheet, threads)?;
     buffer.put_rows(rt, area, brushes.as_mut_slice(), steps);
     Ok(())
 }
@@ -106,6 +110,11 @@ pub fn paint<L: Ledger, R: Threads + Sync>(
     if area.is_empty() {
         return Ok(());
     }
-    paint_area(rt, alloc, ops, &area, buffer, steps)?;
+    let threads = threads_for(rt, area.area());
+    if threads == 1 {
+        paint_area_alone(alloc, ops, &area, buffer, steps)?;
+        return Ok(());
+    }
+    paint_area(rt, alloc, ops, &area, threads, buffer, steps)?;
     Ok(())
 }

@@ -62,10 +62,11 @@ impl<M: Machine + Drop> Model for Player<M> {
 }
 
 impl<M: Machine + Drop> Player<M> {
-    /// Makes a player before the first event. It takes no memory. Conditions: the machine is in
-    /// the opening world of its plan, which has at most `MOST_FILES` files and a display of this
+    /// Makes a player before the first event, with room for the entries of `events` events if that
+    /// can be allocated; if not, each entry makes its own room. Conditions: the machine is in the
+    /// opening world of its plan, which has at most `MOST_FILES` files and a display of this
     /// size, and there are 1 to `MOST_BUFFERS` buffers.
-    pub fn new(alloc: Global, machine: M, size: Size, buffers: u32) -> Player<M>
+    pub fn new(alloc: Global, machine: M, size: Size, buffers: u32, events: usize) -> Player<M>
         requires opening { (M.state machine).world ≡ opening (M.state machine).plan }
         requires files { length (M.state machine).plan.files ≤ MOST_FILES }
         requires size { (M.state machine).plan.size ≡ size }
@@ -74,10 +75,12 @@ impl<M: Machine + Drop> Player<M> {
         requires upto { buffers ≤ MOST_BUFFERS }
         ensures { result ≡ first_played (M.state machine).plan buffers }
     {
+        let mut history = Room::new(alloc);
+        let _ = history.reserve(events);
         Player {
             machine,
             display: Display::new(size, buffers),
-            history: Room::new(alloc),
+            history,
             actors: Actors::new(),
             buffers,
             stopped: false,

@@ -67,7 +67,7 @@ where
     ensures counted { IfOk result (λ p. steps.new
         ≡ steps.old + painted (M.state machine).plan p.history buffers) }
 {
-    let mut player = Player::new(alloc, machine, size, buffers);
+    let mut player = Player::new(alloc, machine, size, buffers, events.len());
     let mut frames = Vec::new(alloc);
     let mut painted = Vec::new(alloc);
     for event in events {

@@ -18,8 +18,9 @@ use std::marker::Model;
 use vz_base::Memory;
 use vz_frame::Room;
 use vz_ids::{FrameSinkId, SurfaceId, SurfaceRange};
+use vz_surfaces::Store;
 
-/// A lookup of the surface that a range shows. The store of surfaces implements it.
+/// A lookup of the surface that a range shows.
 pub trait Shows {
     ghost use Rattle.std.specs.Prelude.{Option};
     ghost use Rattle.vz_ids.specs.declared.SurfaceId.{SurfaceId as Id};
@@ -30,6 +31,16 @@ pub trait Shows {
     /// The surface that a range shows, or None if it shows none.
     fn shown(&self, r: &SurfaceRange) -> Option<SurfaceId>
         ensures { result ≡ shows self.now r.now };
+}
+
+impl Shows for Store {
+    ghost use Rattle.vz_surfaces.specs.Reading.{shown_in};
+
+    ghost shows = { λ s r. shown_in s r };
+
+    fn shown(&self, r: &SurfaceRange) -> Option<SurfaceId> {
+        self.shown(r)
+    }
 }
 
 /// The ranges that active frames reference, for each surface, and the temporary references (here:

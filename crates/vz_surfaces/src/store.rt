@@ -9,7 +9,7 @@ ghost use Rattle.vz_rules.specs.Messages.{violates, is_last};
 ghost use Rattle.vz_rules.specs.Scene.{shown_frame};
 ghost use Rattle.vz_rules.specs.Kept.{is_by, last_in};
 ghost use Rattle.vz_surfaces.specs.Stored.{nothing_stored, surface_of, storing, activating, marking, destroying};
-ghost use Rattle.vz_surfaces.specs.Reading.{stands, standing, existing_count, last_of, active_on, waiting_at, seen_frames, held_of, has_mark, marked_to, was_reached};
+ghost use Rattle.vz_surfaces.specs.Reading.{stands, standing, existing_count, last_of, active_on, waiting_at, seen_frames, shown_in, held_of, has_mark, marked_to, was_reached};
 ghost use Rattle.vz_surfaces.specs.Keeping.{KeepsStored};
 ghost use Rattle.vz_surfaces.specs.Chains.{is_group, links_at, newest_at};
 ghost use Rattle.vz_surfaces.specs.Numbers.{list_at, has_room};
@@ -34,7 +34,6 @@ use vz_geom::Size;
 use vz_ghost::GhostList;
 use vz_ids::{FrameSinkId, LocalSurfaceId, Sub, SurfaceId, SurfaceRange};
 use vz_pixels::PixelBlock;
-use vz_refs::Shows;
 use vz_rules::Lost;
 
 /// The surfaces and submissions of the machine's state, as Chromium's `SurfaceManager` keeps
@@ -166,6 +165,16 @@ impl Store {
         match self.table.active(link.key) {
             None => None,
             Some(held) => Some(Seen::new(link.id, held)),
+        }
+    }
+
+    /// The surface that a range shows, among those that exist and have an active submission.
+    pub fn shown(&self, range: &SurfaceRange) -> Option<SurfaceId>
+        ensures { result ≡ shown_in self.now range.now }
+    {
+        match shown_by(&self.groups, &self.table, range) {
+            None => None,
+            Some(link) => Some(link.id),
         }
     }
 
@@ -380,18 +389,4 @@ fn grow(
     let key = table.next_key();
     groups.add(alloc, Link { id, key })?;
     Ok(())
-}
-
-impl Shows for Store {
-    ghost use Rattle.vz_surfaces.specs.Reading.{shown_in};
-
-    ghost shows = { λ s r. shown_in s r };
-
-    /// The surface that a range shows, among those that exist and have an active submission.
-    fn shown(&self, r: &SurfaceRange) -> Option<SurfaceId> {
-        match shown_by(&self.groups, &self.table, r) {
-            None => None,
-            Some(link) => Some(link.id),
-        }
-    }
 }

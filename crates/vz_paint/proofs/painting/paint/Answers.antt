@@ -5,6 +5,10 @@ use Rattle.vz_machine.proofs.Whole.{nothing_patched, nothing_counted, inside_all
 use Rattle.vz_paint.proofs.Painted.{all_points}
 use Rattle.vz_paint.proofs.painting.paint.Goals as goal
 
+pub paint_area_alone-requires-clause-inside : goal.paint_area_alone-requires-clause-inside
+paint_area_alone-requires-clause-inside g c =
+    inside_all c.args.buffer.now.size c.args.area c.requires.inside (sym c.is_empty.ensures.value ∙ c.if-is_empty.false)
+
 pub paint_area-requires-clause-inside : goal.paint_area-requires-clause-inside
 paint_area-requires-clause-inside g c = λ _ _.
     inside_all c.args.buffer.now.size c.args.area c.requires.inside (sym c.is_empty.ensures.value ∙ c.if-is_empty.false)
