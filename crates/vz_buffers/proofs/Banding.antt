@@ -1,14 +1,14 @@
 -- Rows that are put into parts of pixels.
-use Rattle.std.proofs.Common.{◌≡◌, ℕ, zero, suc, ◌+◌, ◌-◌, ◌*◌, ◌≤◌, ◌<◌, ℤ, pos, nat_abs, ◌+ℤ◌, ◌≤ℤ◌, List, [], ◌∷◌, ◌++◌, length, map, take, drop, get_or, refl, ap, ap₂, sym, ◌∙◌, subst, append_assoc, mul_comm, arith}
+use Rattle.std.proofs.Common.{◌≡◌, ℕ, zero, suc, ◌+◌, ◌-◌, ◌*◌, ◌≤◌, ◌<◌, ℤ, pos, nat_abs, ◌+ℤ◌, ◌≤ℤ◌, List, [], ◌∷◌, ◌++◌, length, take, drop, get_or, refl, ap, ap₂, sym, ◌∙◌, subst, append_assoc, mul_comm, arith}
+use borrow.Rule.Slice.PartMut.{put_mid}
 use Rattle.std.specs.List.{All}
 use Rattle.std.proofs.Math.Nat.{mul-le-mul_right}
 use Rattle.std.proofs.lemmas.Int.{ints}
-use Rattle.std.proofs.lemmas.List.{map-append, length-map, length-append, length-take-le, length-drop, take-append-le, drop-append-le}
+use Rattle.std.proofs.lemmas.List.{length-append, length-take-le, length-drop, take-append-le, drop-append-le, drop-drop}
 use Rattle.std.proofs.lemmas.List.Elements.{All-take, All-drop}
 use Rattle.vz_pixels.specs.Colour.{Colour}
-use Rattle.vz_buffers.specs.Canvas.{Canvas, IsCanvas, span_put, colour_bytes, colour_of, colours_of, AreSpelled}
+use Rattle.vz_buffers.specs.Canvas.{Canvas, IsCanvas, span_put}
 use Rattle.vz_buffers.specs.Bands.{Strip, FitsIn, ArePainters, MayPaint, ArePainted, rows_put, rows_from}
-use Rattle.vz_buffers.proofs.Spelling.{take_spelled, drop_spelled, both_spelled, put_is}
 
 take_behind : (xs ys : List Colour) (n m : ℕ) → m ≡ length xs + n → take m (xs ++ ys) ≡ xs ++ take n ys
 take_behind [] ys n m is =
@@ -126,7 +126,7 @@ fits_too : {P : Type 0} (able : P → Type 0) (strip : P → Strip) (width left 
 fits_too able strip width left wide upto [] s some are same = absurd (omega (arith, some))
 fits_too able strip width left wide upto (p ∷ ps) s some are same = subst (FitsIn width left wide) (sym (are.3 0 p some).1 ∙ same 0 p some) are.1
 
-module _ {P : Type 0} (able : P → Type 0) (strip : P → Strip) (width left wide from count : ℕ) (painters : List P) (pixels : List (List ℕ)) (may : MayPaint able strip width left wide from count painters pixels) where
+module _ {P : Type 0} (able : P → Type 0) (strip : P → Strip) (width left wide from count : ℕ) (painters : List P) (pixels : List Colour) (may : MayPaint able strip width left wide from count painters pixels) where
   -- the first painter, alone
   pub one_able : (d : P) → able (get_or painters 0 d)
   one_able d = (may.ready.3 0 d may.some).0
@@ -137,13 +137,8 @@ module _ {P : Type 0} (able : P → Type 0) (strip : P → Strip) (width left wi
   pub one_upto : (d : P) → from + count ≤ (strip (get_or painters 0 d)).high
   one_upto d = subst (λ (s : Strip). from + count ≤ s.high) (sym (may.ready.3 0 d may.some).1) may.ready.2
 
-  pub one_painted : (d : P) (after : List (List ℕ)) → colours_of after ≡ rows_put width left (rows_from from (strip (get_or painters 0 d)).row) count (colours_of pixels) → AreSpelled after
-      → ArePainted strip width left from count painters pixels after
-  one_painted d after is good =
-      record {
-        painted = λ s same. is ∙ ap (λ (z : Strip). rows_put width left (rows_from from z.row) count (colours_of pixels)) (same 0 d may.some);
-        spelled = good;
-      }
+  pub one_painted : (d : P) (after : List Colour) → after ≡ rows_put width left (rows_from from (strip (get_or painters 0 d)).row) count pixels → ArePainted strip width left from count painters pixels after
+  one_painted d after is = λ s same. is ∙ ap (λ (z : Strip). rows_put width left (rows_from from z.row) count pixels) (same 0 d may.some)
 
   -- the pixels of the first rows, and those of the rest
   pub upper_fits : (first : ℕ) → first ≤ count → first * width ≤ length pixels
@@ -152,24 +147,23 @@ module _ {P : Type 0} (able : P → Type 0) (strip : P → Strip) (width left wi
       let all = may.counted in
       omega (arith, most, all)
 
-  pub upper_may : (half first : ℕ) (ours : List P) (top : List (List ℕ)) → 0 < half → half ≤ length painters → first ≤ count → ours ≡ take half painters → top ≡ take (first * width) pixels
+  pub upper_may : (half first : ℕ) (ours : List P) (top : List Colour) → 0 < half → half ≤ length painters → first ≤ count → ours ≡ take half painters → top ≡ take (first * width) pixels
       → MayPaint able strip width left wide from first ours top
   upper_may half first ours top some part few is at =
       let most = may.ready.2 in
       let limit = may.few in
       let long = length-take-le half painters part in
       subst (λ (ps : List P). MayPaint able strip width left wide from first ps top) (sym is)
-      (subst (λ (ts : List (List ℕ)). MayPaint able strip width left wide from first (take half painters) ts) (sym at)
+      (subst (λ (ts : List Colour). MayPaint able strip width left wide from first (take half painters) ts) (sym at)
       (record {
         some = omega (arith, some, long);
         small = may.small;
         few = omega (arith, few, limit);
         ready = (may.ready.0, may.ready.1, omega (arith, most, few), All-take (λ p. able p × (strip p ≡ may.ready.0)) half painters may.ready.3);
         counted = length-take-le (first * width) pixels (upper_fits first few);
-        spelled = take_spelled (first * width) pixels may.spelled;
       }))
 
-  pub lower_may : (half first : ℕ) (theirs : List P) (bottom : List (List ℕ)) → half < length painters → first ≤ count → theirs ≡ drop half painters → bottom ≡ drop (first * width) pixels
+  pub lower_may : (half first : ℕ) (theirs : List P) (bottom : List Colour) → half < length painters → first ≤ count → theirs ≡ drop half painters → bottom ≡ drop (first * width) pixels
       → MayPaint able strip width left wide (from + first) (count - first) theirs bottom
   lower_may half first theirs bottom part few is at =
       let most = may.ready.2 in
@@ -181,80 +175,78 @@ module _ {P : Type 0} (able : P → Type 0) (strip : P → Strip) (width left wi
       let parts : (first + (count - first)) * width ≡ first * width + (count - first) * width = grind arith in
       let counted : count * width ≡ first * width + (count - first) * width = ap (λ n. n * width) (sym whole) ∙ parts in
       subst (λ (ps : List P). MayPaint able strip width left wide (from + first) (count - first) ps bottom) (sym is)
-      (subst (λ (ts : List (List ℕ)). MayPaint able strip width left wide (from + first) (count - first) (drop half painters) ts) (sym at)
+      (subst (λ (ts : List Colour). MayPaint able strip width left wide (from + first) (count - first) (drop half painters) ts) (sym at)
       (record {
         some = omega (arith, part, long);
         small = may.small;
         few = omega (arith, few, limit);
         ready = (may.ready.0, may.ready.1, omega (arith, most, few), All-drop (λ p. able p × (strip p ≡ may.ready.0)) half painters may.ready.3);
         counted = omega (arith, left_over, counted, all);
-        spelled = drop_spelled (first * width) pixels may.spelled;
       }))
 
-  pub both_painted : (half first : ℕ) (ours theirs : List P) (top bottom upper lower : List (List ℕ)) → half ≤ length painters → first ≤ count → ours ≡ take half painters → theirs ≡ drop half painters → pixels ≡ top ++ bottom → length top ≡ first * width
+  pub both_painted : (half first : ℕ) (ours theirs : List P) (top bottom upper lower : List Colour) → half ≤ length painters → first ≤ count → ours ≡ take half painters → theirs ≡ drop half painters → pixels ≡ top ++ bottom → length top ≡ first * width
       → ArePainted strip width left from first ours top upper → ArePainted strip width left (from + first) (count - first) theirs bottom lower
       → ArePainted strip width left from count painters pixels (upper ++ lower)
-  both_painted half first ours theirs top bottom upper lower part few ours_are theirs_are cut long above below =
-      record {
-        painted = λ s same.
-            let fits = fits_too able strip width left wide (from + count) painters s may.some may.ready same in
-            let row = rows_from from s.row in
-            let mine : All (λ p. strip p ≡ s) ours = subst (All (λ p. strip p ≡ s)) (sym ours_are) (All-take (λ p. strip p ≡ s) half painters same) in
-            let other : All (λ p. strip p ≡ s) theirs = subst (All (λ p. strip p ≡ s)) (sym theirs_are) (All-drop (λ p. strip p ≡ s) half painters same) in
-            let whole : first + (count - first) ≡ count = omega (arith, few) in
-            let many : length (colours_of top) ≡ first * width = length-map top colour_of ∙ long in
-            let split : colours_of pixels ≡ colours_of top ++ colours_of bottom = ap colours_of cut ∙ map-append colour_of top bottom in
-            map-append colour_of upper lower
-            ∙ (ap₂ ◌++◌ (above.painted s mine) (below.painted s other ∙ ap (λ r. rows_put width left r (count - first) (colours_of bottom)) (shift from first s.row))
-            ∙ (sym (rows_both width left wide first (count - first) row (colours_of top) (colours_of bottom) (λ k. fits.each (from + k)) fits.inside many)
-            ∙ (ap (λ n. rows_put width left row n (colours_of top ++ colours_of bottom)) whole ∙ ap (rows_put width left row count) (sym split))));
-        spelled = both_spelled upper lower above.spelled below.spelled;
-      }
+  both_painted half first ours theirs top bottom upper lower part few ours_are theirs_are cut long above below = λ s same.
+      let fits = fits_too able strip width left wide (from + count) painters s may.some may.ready same in
+      let row = rows_from from s.row in
+      let mine : All (λ p. strip p ≡ s) ours = subst (All (λ p. strip p ≡ s)) (sym ours_are) (All-take (λ p. strip p ≡ s) half painters same) in
+      let other : All (λ p. strip p ≡ s) theirs = subst (All (λ p. strip p ≡ s)) (sym theirs_are) (All-drop (λ p. strip p ≡ s) half painters same) in
+      let whole : first + (count - first) ≡ count = omega (arith, few) in
+      ap₂ ◌++◌ (above s mine) (below s other ∙ ap (λ r. rows_put width left r (count - first) bottom) (shift from first s.row))
+      ∙ (sym (rows_both width left wide first (count - first) row top bottom (λ k. fits.each (from + k)) fits.inside long)
+      ∙ (ap (λ n. rows_put width left row n (top ++ bottom)) whole ∙ ap (rows_put width left row count) (sym cut)))
 
 -- rows that were painted among more pixels
 pub within_painted :
-    {P : Type 0} (able : P → Type 0) (strip : P → Strip) (width left wide from count : ℕ) (painters : List P) (pixels front below rows rest painted : List (List ℕ)) (s : Strip) → 0 < length painters → ArePainters able strip width left wide count painters → All (λ p. strip p ≡ s) painters →
+    {P : Type 0} (able : P → Type 0) (strip : P → Strip) (width left wide from count : ℕ) (painters : List P) (pixels front below rows rest painted : List Colour) (s : Strip) → 0 < length painters → ArePainters able strip width left wide count painters → All (λ p. strip p ≡ s) painters →
     pixels ≡ front ++ below → length front ≡ from → below ≡ rows ++ rest → length rows ≡ count * width → ArePainted strip width left 0 count painters rows painted →
-    colours_of (front ++ (painted ++ rest)) ≡ rows_put width (from + left) s.row count (colours_of pixels)
+    (front ++ (painted ++ rest)) ≡ rows_put width (from + left) s.row count pixels
 within_painted able strip width left wide from count painters pixels front below rows rest painted s some are same cut long again high done =
     let fits = fits_too able strip width left wide count painters s some are same in
-    let first : length (colours_of front) ≡ from = length-map front colour_of ∙ long in
-    let many : length (colours_of rows) ≡ count * width = length-map rows colour_of ∙ high in
-    let enough : count * width ≤ length (colours_of rows) = omega (arith, many) in
-    let split : colours_of pixels ≡ colours_of front ++ (colours_of rows ++ colours_of rest) =
-    ap colours_of (cut ∙ ap (λ l. front ++ l) again) ∙ (map-append colour_of front (rows ++ rest) ∙ ap (λ l. colours_of front ++ l) (map-append colour_of rows rest)) in
-    map-append colour_of front (painted ++ rest)
-    ∙ (ap (λ l. colours_of front ++ l) (map-append colour_of painted rest
-    ∙ (ap (λ l. l ++ colours_of rest) (done.painted s same ∙ ap (λ r. rows_put width left r count (colours_of rows)) (all_rows s.row))
-    ∙ sym (rows_front width left wide count s.row (colours_of rows) (colours_of rest) fits.each fits.inside enough)))
-    ∙ (sym (rows_behind width left from count s.row (colours_of front) (colours_of rows ++ colours_of rest) first) ∙ ap (rows_put width (from + left) s.row count) (sym split)))
+    let enough : count * width ≤ length rows = omega (arith, high) in
+    let split : pixels ≡ front ++ (rows ++ rest) = cut ∙ ap (λ l. front ++ l) again in
+    ap (λ l. front ++ l) (ap (λ l. l ++ rest) (done s same ∙ ap (λ r. rows_put width left r count rows) (all_rows s.row))
+    ∙ sym (rows_front width left wide count s.row rows rest fits.each fits.inside enough))
+    ∙ (sym (rows_behind width left from count s.row front (rows ++ rest) long) ∙ ap (rows_put width (from + left) s.row count) (sym split))
 
 -- no row was put
-pub band_begins : (width left from : ℕ) (s : Strip) (before : List (List ℕ)) → colours_of before ≡ rows_put width left (rows_from from s.row) 0 (colours_of before)
+pub band_begins : (width left from : ℕ) (s : Strip) (before : List Colour) → before ≡ rows_put width left (rows_from from s.row) 0 before
 unfolding rows_put
 band_begins width left from s before = refl
 
+-- a row that was written in place
+put_in_place : (pixels row : List Colour) (at end : ℕ) → end ≡ at + length row → put_mid at (end - at) pixels row ≡ span_put pixels at row
+unfolding span_put
+put_in_place pixels row at end is =
+    let long : end - at ≡ length row = omega (arith, is) in
+    ap (λ n. take at pixels ++ (row ++ drop n (drop at pixels))) long
+    ∙ (ap (λ l. take at pixels ++ (row ++ l)) (drop-drop (length row) at pixels) ∙ sym (append_assoc (take at pixels) row (drop (at + length row) pixels)))
+
 -- one row more was put
-pub band_more :
-    (width left from k at : ℕ) (s : Strip) (row : List Colour) (before now after : List (List ℕ)) → colours_of now ≡ rows_put width left (rows_from from s.row) k (colours_of before) → at ≡ k * width + left → row ≡ s.row (from + k) →
-    after ≡ take at now ++ map colour_bytes row ++ drop (at + length row) now → colours_of after ≡ rows_put width left (rows_from from s.row) (k + 1) (colours_of before)
+pub band_more : (width left from k at wide : ℕ) (s : Strip) (row before now : List Colour) → now ≡ rows_put width left (rows_from from s.row) k before → at ≡ k * width + left → row ≡ s.row (from + k) → length row ≡ wide
+    → put_mid at ((at + wide) - at) now row ≡ rows_put width left (rows_from from s.row) (k + 1) before
 unfolding rows_put
-band_more width left from k at s row before now after so_far place drawn put =
-    let so = rows_put width left (rows_from from s.row) k (colours_of before) in
+band_more width left from k at wide s row before now so_far place drawn long =
+    let so = rows_put width left (rows_from from s.row) k before in
     let next : suc k ≡ k + 1 = omega arith in
-    put_is now after at row put
+    put_in_place now row at (at + wide) (ap (λ n. at + n) (sym long))
     ∙ (ap (λ l. span_put l at row) so_far
     ∙ (ap (λ n. span_put so n row) place
-    ∙ (ap (span_put so (k * width + left)) drawn ∙ ap (λ n. rows_put width left (rows_from from s.row) n (colours_of before)) next)))
+    ∙ (ap (span_put so (k * width + left)) drawn ∙ ap (λ n. rows_put width left (rows_from from s.row) n before) next)))
+
+-- and they are as many as before
+pub band_long : (pixels row before : List Colour) (at wide : ℕ) → length row ≡ wide → at + wide ≤ length pixels → length pixels ≡ length before → length (put_mid at ((at + wide) - at) pixels row) ≡ length before
+band_long pixels row before at wide long fits all =
+    let end : at + wide ≡ at + length row = ap (λ n. at + n) (sym long) in
+    ap length (put_in_place pixels row at (at + wide) end) ∙ (length_span pixels at row (subst (λ n. n ≤ length pixels) end fits) ∙ all)
 
 -- the row at hand stands inside the pixels
-pub row_inside : (width left wide from k count at : ℕ) (s t : Strip) (row : List Colour) (pixels before : List (List ℕ)) → FitsIn width left wide t → s ≡ t → k < count → length before ≡ count * width → length pixels ≡ length before → at ≡ k * width + left
-    → row ≡ s.row (from + k) → at + length row ≤ length pixels
-row_inside width left wide from k count at s t row pixels before fits same low all long place drawn =
-    let own : length row ≡ wide = ap length (drawn ∙ ap (λ (z : Strip). z.row (from + k)) same) ∙ fits.each (from + k) in
+pub row_inside : (width left wide k count at : ℕ) (t : Strip) (pixels before : List Colour) → FitsIn width left wide t → k < count → length before ≡ count * width → length pixels ≡ length before → at ≡ k * width + left → at + wide ≤ length pixels
+row_inside width left wide k count at t pixels before fits low all long place =
     let enough : count * width ≤ length pixels = omega (arith, all, long) in
     let inside = row_fits width left wide k count (length pixels) fits.inside low enough in
-    omega (arith, own, inside, place)
+    omega (arith, inside, place)
 
 -- the rows above an area, and those of the area
 pub above_fits : (width top count long : ℕ) → (top + count) * width ≤ long → top * width ≤ long

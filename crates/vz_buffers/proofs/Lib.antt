@@ -1,4 +1,3 @@
 mod Places
-mod Spelling
 mod Banding
 pub mod Turning

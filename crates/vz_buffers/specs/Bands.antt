@@ -3,7 +3,7 @@ use Rattle.std.specs.Prelude.{◌≡◌, ℕ, zero, suc, ◌+◌, ◌*◌, ◌�
 use Rattle.std.specs.List.{All}
 use Rattle.vz_base.specs.declared.limits.TheConstants.{GREATEST_DISPLAY_SIDE}
 use Rattle.vz_pixels.specs.Colour.{Colour}
-use Rattle.vz_buffers.specs.Canvas.{span_put, colours_of, AreSpelled}
+use Rattle.vz_buffers.specs.Canvas.{span_put}
 
 -- rows of colours: how many there are, and each by its number
 pub record Strip : Type 0 where
@@ -31,15 +31,14 @@ ArePainters able strip width left wide upto painters =
     (s : Strip) × FitsIn width left wide s × (upto ≤ s.high) × All (λ p. able p × (strip p ≡ s)) painters
 
 -- painters may paint so many rows from one on into the pixels of as many whole rows
-pub record MayPaint {P : Type 0} (able : P → Type 0) (strip : P → Strip) (width left wide from count : ℕ) (painters : List P) (pixels : List (List ℕ)) : Type 0 where
+pub record MayPaint {P : Type 0} (able : P → Type 0) (strip : P → Strip) (width left wide from count : ℕ) (painters : List P) (pixels : List Colour) : Type 0 where
   pub some : 0 < length painters
   pub ready : ArePainters able strip width left wide (from + count) painters
   pub small : width ≤ GREATEST_DISPLAY_SIDE
   pub few : from + count ≤ GREATEST_DISPLAY_SIDE
   pub counted : length pixels ≡ count * width
-  pub spelled : AreSpelled pixels
 
 -- the rows were painted
-pub record ArePainted {P : Type 0} (strip : P → Strip) (width left from count : ℕ) (painters : List P) (before after : List (List ℕ)) : Type 0 where
-  pub painted : (s : Strip) → All (λ p. strip p ≡ s) painters → colours_of after ≡ rows_put width left (rows_from from s.row) count (colours_of before)
-  pub spelled : AreSpelled after
+abbrev pub ArePainted : {P : Type 0} → (P → Strip) → ℕ → ℕ → ℕ → ℕ → List P → List Colour → List Colour → Type 0
+ArePainted strip width left from count painters before after =
+    (s : Strip) → All (λ p. strip p ≡ s) painters → after ≡ rows_put width left (rows_from from s.row) count before

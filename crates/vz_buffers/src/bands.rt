@@ -5,15 +5,13 @@ ghost use Rattle.std.specs.List.{All};
 ghost use Rattle.vz_base.specs.declared.limits.TheConstants.{GREATEST_DISPLAY_SIDE};
 ghost use Rattle.vz_geom.specs.Display.{IsDisplaySize};
 ghost use Rattle.vz_pixels.specs.Colour.{Colour};
-ghost use Rattle.vz_buffers.specs.Canvas.{colours_of, AreSpelled};
 ghost use Rattle.vz_buffers.specs.Bands.{Strip, FitsIn, ArePainters, MayPaint, ArePainted, rows_put, rows_from};
 
-use crate::buffer::put;
 use std::thread::{Threads, join_mut};
 use vz_geom::{Rect, Size};
 use vz_pixels::Pixel;
 
-/// Draws the rows of an area of a display, one at a time, in memory of its own.
+/// Draws the rows of an area of a display, one at a time.
 pub trait RowPainter {
     /// The rows, from the top one on.
     ghost strip: { Self → Strip };
@@ -21,20 +19,15 @@ pub trait RowPainter {
     /// What has to hold for it to draw.
     ghost able: { Self → Type 0 };
 
-    /// The row that it drew last.
-    ghost drawn: { Self → List Colour };
-
-    /// Draws a row. Condition: the row is one of the area.
-    fn draw(&mut self, row: u32)
+    /// Draws a row into these pixels, whatever they are before. Conditions: the row is one of the
+    /// area, and they are as many as it has.
+    fn draw(&mut self, row: u32, into: &mut [Pixel])
         requires able { able self.old }
         requires inside { row < (strip self.old).high }
+        requires wide { length into.old ≡ length ((strip self.old).row row) }
         ensures able { able self.new }
         ensures strip { strip self.new ≡ strip self.old }
-        ensures drawn { drawn self.new ≡ (strip self.old).row row };
-
-    /// The pixels of the row that it drew last.
-    fn row(&self) -> &[Pixel]
-        ensures { result.now ≡ drawn self.now };
+        ensures drawn { into.new ≡ (strip self.old).row row };
 }
 
 /// Where the rows of an area stand among the pixels of a display: the width of the display, the
@@ -124,22 +117,19 @@ pub(crate) struct Band {
 
 /// Paints a band row by row. Conditions: the rows fit, and `pixels` has those of as many whole
 /// rows of the display.
-fn paint_band<P: RowPainter>(place: Place, band: Band, painter: &mut P, pixels: &mut [[u8; 4]])
+fn paint_band<P: RowPainter>(place: Place, band: Band, painter: &mut P, pixels: &mut [Pixel])
     requires able { P.able painter.old }
     requires fits { FitsIn place.width place.left place.wide (P.strip painter.old) }
     requires upto { (band.from + band.count) ≤ (P.strip painter.old).high }
     requires small { place.width ≤ GREATEST_DISPLAY_SIDE }
     requires few { (band.from + band.count) ≤ GREATEST_DISPLAY_SIDE }
     requires pixels { length pixels.old ≡ band.count * place.width }
-    requires spelled { AreSpelled pixels.old }
-    ensures painted { colours_of pixels.new ≡ rows_put place.width place.left
-        (rows_from band.from (P.strip painter.old).row) band.count (colours_of pixels.old) }
-    ensures spelled { AreSpelled pixels.new }
+    ensures painted { pixels.new ≡ rows_put place.width place.left
+        (rows_from band.from (P.strip painter.old).row) band.count pixels.old }
 {
     for k in 0..band.count {
-        painter.draw(band.from + k);
         let at = pixels_in(place.width, k as usize) + place.left;
-        put(pixels, at, painter.row());
+        painter.draw(band.from + k, &mut pixels[at..at + place.wide]);
     }
 }
 
@@ -166,7 +156,7 @@ fn paint_bands<P: RowPainter + Send, R: Threads + Sync>(
     place: Place,
     band: Band,
     painters: &mut [P],
-    pixels: &mut [[u8; 4]],
+    pixels: &mut [Pixel],
 )
     requires { MayPaint P.able P.strip place.width place.left place.wide band.from band.count
         painters.old pixels.old }
@@ -199,10 +189,10 @@ fn paint_both<P: RowPainter + Send, R: Threads + Sync>(
     place: Place,
     first: Band,
     ours: &mut [P],
-    top: &mut [[u8; 4]],
+    top: &mut [Pixel],
     second: Band,
     theirs: &mut [P],
-    bottom: &mut [[u8; 4]],
+    bottom: &mut [Pixel],
 )
     requires first { MayPaint P.able P.strip place.width place.left place.wide
         first.from first.count ours.old top.old }
@@ -236,7 +226,7 @@ pub(crate) fn paint_within<P: RowPainter + Send, R: Threads + Sync>(
     place: Place,
     count: u32,
     painters: &mut [P],
-    pixels: &mut [[u8; 4]],
+    pixels: &mut [Pixel],
 )
     requires some { 0 < length painters.old }
     requires able { ArePainters P.able P.strip place.width place.left place.wide count
@@ -244,11 +234,9 @@ pub(crate) fn paint_within<P: RowPainter + Send, R: Threads + Sync>(
     requires small { place.width ≤ GREATEST_DISPLAY_SIDE }
     requires few { (place.top + count) ≤ GREATEST_DISPLAY_SIDE }
     requires inside { ((place.top + count) * place.width) ≤ length pixels.old }
-    requires spelled { AreSpelled pixels.old }
     ensures painted { (s : Strip) → All (λ p. P.strip p ≡ s) painters.old
-        → colours_of pixels.new ≡ rows_put place.width (place.top * place.width + place.left)
-        s.row count (colours_of pixels.old) }
-    ensures spelled { AreSpelled pixels.new }
+        → pixels.new ≡ rows_put place.width (place.top * place.width + place.left)
+        s.row count pixels.old }
     ensures long { length pixels.new ≡ length pixels.old }
 {
     let (_, below) = pixels.split_at_mut(pixels_in(place.width, place.top));
@@ -258,7 +246,7 @@ pub(crate) fn paint_within<P: RowPainter + Send, R: Threads + Sync>(
 }
 
 /// Paints a band with the first painter alone.
-fn paint_first<P: RowPainter>(place: Place, band: Band, painters: &mut [P], pixels: &mut [[u8; 4]])
+fn paint_first<P: RowPainter>(place: Place, band: Band, painters: &mut [P], pixels: &mut [Pixel])
     requires { MayPaint P.able P.strip place.width place.left place.wide band.from band.count
         painters.old pixels.old }
     ensures { ArePainted P.strip place.width place.left band.from band.count
@@ -272,7 +260,7 @@ pub(crate) fn paint_alone<P: RowPainter>(
     place: Place,
     count: u32,
     painters: &mut [P],
-    pixels: &mut [[u8; 4]],
+    pixels: &mut [Pixel],
 )
     requires some { 0 < length painters.old }
     requires able { ArePainters P.able P.strip place.width place.left place.wide count
@@ -280,11 +268,9 @@ pub(crate) fn paint_alone<P: RowPainter>(
     requires small { place.width ≤ GREATEST_DISPLAY_SIDE }
     requires few { (place.top + count) ≤ GREATEST_DISPLAY_SIDE }
     requires inside { ((place.top + count) * place.width) ≤ length pixels.old }
-    requires spelled { AreSpelled pixels.old }
     ensures painted { (s : Strip) → All (λ p. P.strip p ≡ s) painters.old
-        → colours_of pixels.new ≡ rows_put place.width (place.top * place.width + place.left)
-        s.row count (colours_of pixels.old) }
-    ensures spelled { AreSpelled pixels.new }
+        → pixels.new ≡ rows_put place.width (place.top * place.width + place.left)
+        s.row count pixels.old }
     ensures long { length pixels.new ≡ length pixels.old }
 {
     let (_, below) = pixels.split_at_mut(pixels_in(place.width, place.top));

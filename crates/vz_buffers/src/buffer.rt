@@ -1,8 +1,8 @@
 //! A buffer of pixels.
 ghost use Rattle.std.specs.Prelude.{◌≡◌, ◌+◌, ◌≤◌, ◌≤ℤ◌, ◌<ℤ◌, ◌+ℤ◌, ◌++◌, ◌<◌, pos, nat_abs, length, map, take, drop, replicate, slice_get, Some, IfOk, OnOk, OnErr};
 ghost use Rattle.std.specs.List.{flat_map, All};
-ghost use Rattle.vz_pixels.specs.Colour.{IsPremultiplied, black};
-ghost use Rattle.vz_buffers.specs.Canvas.{IsCanvas, pixel_count, span_put, pixel_place, colour_bytes, AreSpelled};
+ghost use Rattle.vz_pixels.specs.Colour.{black, colour_bytes};
+ghost use Rattle.vz_buffers.specs.Canvas.{IsCanvas, pixel_count, span_put, pixel_place};
 ghost use Rattle.vz_buffers.specs.Bands.{Strip, ArePainters, rows_put};
 ghost use Rattle.vz_geom.specs.Display.{IsDisplaySize};
 ghost use Rattle.vz_geom.specs.Rectangle.{area_of};
@@ -17,30 +17,27 @@ use std::sync::ledger::Ledger;
 use std::thread::Threads;
 use vz_base::Memory;
 use vz_geom::{Rect, Size};
-use vz_pixels::Pixel;
+use vz_pixels::{Pixel, bytes_of};
 
-/// The bytes of opaque black.
-const BLACK: [u8; 4] = [0, 0, 0, 255];
-
-/// The pixels of a display, row by row from the top, and each row from left to right. They are
-/// held as the bytes that a file of frames has, so that a frame is written without a copy.
+/// The pixels of a display, row by row from the top, and each row from left to right. They lie in
+/// memory as the bytes that a file of frames has, so that a frame is written without a copy.
 #[derive(Drop)]
 pub struct Buffer {
     size: Size,
-    pixels: Vec<[u8; 4]>,
+    pixels: Vec<Pixel>,
 }
 
 impl Model for Buffer {
-    ghost use Rattle.vz_buffers.specs.Canvas.{Canvas, IsCanvas, AreSpelled, colours_of};
+    ghost use Rattle.vz_buffers.specs.Canvas.{Canvas, IsCanvas};
 
     ghost Value = { Canvas };
 
-    ghost view = { λ b. record { size = b.size; pixels = colours_of b.pixels.items } };
+    ghost view = { λ b. record { size = b.size; pixels = b.pixels.items } };
 
     ghost invariant = { λ b. IsCanvas (record {
       size = b.size;
-      pixels = colours_of b.pixels.items;
-    }) × AreSpelled b.pixels.items };
+      pixels = b.pixels.items;
+    }) };
 }
 
 impl Buffer {
@@ -54,7 +51,7 @@ impl Buffer {
         ensures err { OnErr result (steps.new ≡ steps.old) }
     {
         let count = pixels_of(&size);
-        let pixels = vec![in alloc; BLACK; count]?;
+        let pixels = vec![in alloc; Pixel::black(); count]?;
         steps.add(count as u64);
         Ok(Buffer { size, pixels })
     }
@@ -121,8 +118,7 @@ impl Buffer {
         requires bottom { y <ℤ self.now.size.h }
         ensures { slice_get self.now.pixels (pixel_place self.now.size x y) ≡ Some result }
     {
-        let [r, g, b, a] = self.pixels[place(&self.size, x, y)];
-        Pixel::premultiplied(r, g, b, a)
+        self.pixels[place(&self.size, x, y)]
     }
 
     /// The bytes of all pixels, row by row from the top, four bytes a pixel: red, green, blue and
@@ -130,7 +126,7 @@ impl Buffer {
     pub fn bytes(&self) -> &[u8]
         ensures { result.now ≡ flat_map colour_bytes self.now.pixels }
     {
-        self.pixels.as_slice().as_flattened()
+        bytes_of(self.pixels.as_slice())
     }
 
     /// A second buffer with the same pixels. The only error is `Memory`.
@@ -167,30 +163,10 @@ fn place(size: &Size, x: i32, y: i32) -> usize
 }
 
 /// Replaces the pixels from index `at` on by a span.
-pub(crate) fn put(pixels: &mut [[u8; 4]], at: usize, row: &[Pixel])
+#[tactic(auto, unfolding(crate::specs::Canvas::span_put))]
+fn put(pixels: &mut [Pixel], at: usize, row: &[Pixel])
     requires { (at + length row.now) ≤ length pixels.old }
-    ensures put { pixels.new ≡ take at pixels.old ++ map colour_bytes row.now
-        ++ drop (at + length row.now) pixels.old }
-    ensures spelled { AreSpelled (map colour_bytes row.now) }
+    ensures { pixels.new ≡ span_put pixels.old at row.now }
 {
-    spell(&mut pixels[at..at + row.len()], row);
-}
-
-/// Writes the bytes of pixels.
-fn spell(span: &mut [[u8; 4]], row: &[Pixel])
-    requires { length span.old ≡ length row.now }
-    ensures put { span.new ≡ map colour_bytes row.now }
-    ensures spelled { AreSpelled (map colour_bytes row.now) }
-{
-    for k in 0..row.len() {
-        span[k] = bytes_of(row[k]);
-    }
-}
-
-/// The bytes of a pixel.
-fn bytes_of(pixel: Pixel) -> [u8; 4]
-    ensures spelled { result ≡ colour_bytes pixel }
-    ensures premultiplied { IsPremultiplied pixel }
-{
-    [pixel.r(), pixel.g(), pixel.b(), pixel.a()]
+    pixels[at..at + row.len()].copy_from_slice(row);
 }

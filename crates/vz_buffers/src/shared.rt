@@ -2,7 +2,8 @@
 ghost use Rattle.std.specs.Prelude.{◌≡◌, IfOk};
 ghost use Rattle.std.specs.Arc.{arc_value};
 ghost use Rattle.std.specs.List.{flat_map};
-ghost use Rattle.vz_buffers.specs.Canvas.{IsCanvas, colour_bytes};
+ghost use Rattle.vz_buffers.specs.Canvas.{IsCanvas};
+ghost use Rattle.vz_pixels.specs.Colour.{colour_bytes};
 
 use crate::Buffer;
 use std::alloc::Global;

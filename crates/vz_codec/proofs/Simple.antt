@@ -9,13 +9,13 @@ use Rattle.std.proofs.Math.Bool.{and_assoc, and_comm}
 use Rattle.vz_geom.specs.Rectangle.{Rectangle}
 use Rattle.vz_ids.specs.declared.LocalSurfaceId.{LocalSurfaceId}
 use Rattle.vz_ids.specs.Ids.{is_valid}
-use Rattle.vz_pixels.specs.Colour.{Colour}
+use Rattle.vz_pixels.specs.Colour.{Colour, colour_bytes}
 use Rattle.vz_frame.specs.Fits.{within, within_z, in_reach, fits_rect, is_number}
 use Rattle.vz_frame.specs.Fits.{fits_sink, fits_local, fits_surface, fits_colour}
 use Rattle.vz_codec.specs.declared.fault.FileRule.{FileRule}
 use Rattle.vz_codec.specs.declared.fault.FileRule.TheVariants as fault
 use Rattle.vz_codec.specs.Spelling.{u8_bytes, u16_bytes, u32_bytes, i32_bytes, u128_bytes, sink_bytes, local_bytes}
-use Rattle.vz_codec.specs.Spelling.{surface_bytes, rect_bytes, colour_bytes}
+use Rattle.vz_codec.specs.Spelling.{surface_bytes, rect_bytes}
 use Rattle.vz_codec.specs.Reading.{number_at, ranged_at, limited_at, tag_at, signed_at, coordinate_at}
 use Rattle.vz_codec.specs.Fields.{Kind, field}
 use Rattle.vz_codec.specs.Reading.{sink_at, local_of, local_at, surface_at, rect_of, rect_at, colour_of, colour_at}

@@ -11,7 +11,7 @@ use Rattle.vz_pixels.specs.Block.{Block, colour_at as texel_at, colours_of, are_
 use Rattle.vz_pixels.proofs.Bytes.{colours_upto, one_more, all_is, whole_is}
 use Rattle.vz_pixels.specs.declared.block.BlockError.{BlockError}
 use Rattle.vz_pixels.specs.declared.block.BlockError.TheVariants.{BadSize, NotPremultiplied}
-use Rattle.vz_codec.specs.Spelling.{colour_bytes}
+use Rattle.vz_pixels.specs.Colour.{colour_bytes}
 use Rattle.vz_codec.specs.Reading.{colour_of, colour_at, many_at}
 use Rattle.vz_codec.proofs.Many.{manys}
 use Rattle.vz_codec.proofs.Simple.{four_bytes, colours_where}

@@ -2,7 +2,8 @@
 ghost use Rattle.std.specs.Prelude.{◌≡◌, ◌++◌, ◌&&◌, is_some, IfSome, OnOk};
 ghost use Rattle.vz_codec.specs.Fields.{field, rectangle};
 ghost use Rattle.vz_codec.specs.Reading.{rect_at, colour_at};
-ghost use Rattle.vz_codec.specs.Spelling.{rect_bytes, colour_bytes};
+ghost use Rattle.vz_codec.specs.Spelling.{rect_bytes};
+ghost use Rattle.vz_pixels.specs.Colour.{colour_bytes};
 ghost use Rattle.vz_frame.specs.Fits.{fits_rect, fits_colour, in_reach, is_side, is_zero};
 
 use crate::error::ReadError;

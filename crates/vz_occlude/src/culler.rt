@@ -10,6 +10,7 @@ ghost use Rattle.vz_occlude.specs.declared.role.Role.TheVariants.{Single, Begins
 ghost use Rattle.vz_occlude.specs.Occlusion.{kept as kept_of, gone as gone_of};
 ghost use Rattle.vz_occlude.specs.Walk_so_far.{IsAt, IsKeptAt, Precedes, HasTaken};
 
+use crate::MOST_OCCLUDERS;
 use crate::occluder::{is_occluded, put_occluder};
 use crate::role::{Role, role_of};
 use std::alloc::Global;
@@ -46,21 +47,23 @@ struct OcclusionCuller {
 }
 
 impl OcclusionCuller {
-    /// A walk that has taken none of these operations yet.
-    fn new(alloc: Global, ops: Vec<Op>) -> OcclusionCuller
-        ensures nothing { IsAt (Done ∷ []) result }
-        ensures ops { result.ops.items ≡ ops.items }
-        ensures kept { result.kept ≡ length ops.items }
+    /// A walk that has taken none of these operations yet, with places for the occluders of a list.
+    /// The only error is `Memory`.
+    fn new(alloc: Global, ops: Vec<Op>) -> Result<OcclusionCuller, Memory>
+        ensures nothing { IfOk result (λ culler. IsAt (Done ∷ []) culler) }
+        ensures ops { IfOk result (λ culler. culler.ops.items ≡ ops.items) }
+        ensures kept { IfOk result (λ culler. culler.kept ≡ length ops.items) }
     {
         let kept = ops.len();
-        OcclusionCuller {
+        let occluders = Vec::with_capacity(alloc, kept.min(MOST_OCCLUDERS))?;
+        Ok(OcclusionCuller {
             ops,
             kept,
-            occluders: Vec::new(alloc),
+            occluders,
             start: 0,
             removed: 0,
             behind: Vec::new(alloc),
-        }
+        })
     }
 
     /// Keeps the operation at an index: it goes to the front of those that were kept.
@@ -153,7 +156,7 @@ fn walked(alloc: Global, ops: Vec<Op>) -> Result<OcclusionCuller, Memory>
     ensures { IfOk result (λ culler. IsAt (levels ops.items) culler) }
 {
     let mut left = ops.len();
-    let mut culler = OcclusionCuller::new(alloc, ops);
+    let mut culler = OcclusionCuller::new(alloc, ops)?;
     while left > 0 {
         left -= 1;
         culler.take(left)?;

@@ -1,9 +1,10 @@
 -- What a brush draws, and what brushes it takes to paint an area.
-use Rattle.std.proofs.Common.{◌≡◌, ℕ, ◌≤◌, ◌<◌, pos, nat_abs, ◌+ℤ◌, ◌≤ℤ◌, ◌<ℤ◌, List, length, map, get_or, sym, ap, ◌∙◌, subst, arith, Bor}
+use Rattle.std.proofs.Common.{◌≡◌, ℕ, ◌≤◌, ◌<◌, pos, nat_abs, ◌+ℤ◌, ◌≤ℤ◌, ◌<ℤ◌, List, ◌++◌, length, take, drop, map, get_or, sym, ap, ◌∙◌, subst, arith, Bor}
 use Rattle.std.specs.List.{All, range_with_len}
 use Rattle.std.proofs.lemmas.Int.{ints}
 use Rattle.std.proofs.lemmas.List.{ext_get_or}
 use Rattle.std.proofs.lemmas.List.Elements.{All-weaker}
+use Rattle.std.proofs.Math.Seq.{take-append_seam}
 use Rattle.std.proofs.lemmas.List.FromFn.{length-map-range_with_len, get_or-map-range_with_len}
 use Rattle.vz_geom.specs.declared.Point.{Point}
 use Rattle.vz_geom.specs.declared.Size.{Size}
@@ -14,9 +15,11 @@ use Rattle.vz_machine.specs.Pictured.{IsInside}
 use Rattle.vz_flat.specs.declared.op.Op.{Op}
 use Rattle.vz_flat.specs.Ops.{value}
 use Rattle.vz_paint.specs.Row.{right_of, place_in, IsStart}
+use Rattle.vz_paint.specs.Stack.{AreRows}
 use Rattle.vz_paint.specs.Strips.{IsArea, IsBrush, strip_of}
 use Rattle.vz_paint.specs.declared.brush.Sheet.{Sheet}
 use Rattle.vz_paint.specs.declared.brush.Brush.{Brush}
+use Rattle.vz_paint.specs.declared.group.OpenGroup.{OpenGroup}
 
 -- a row of an area begins on a display
 pub start_is : (area : Rectangle) (start : Point) → IsArea area → start.x ≡ area.x → IsStart start
@@ -40,6 +43,18 @@ row_short area long on is =
     let right = on.right in
     let wide = on.wide in
     omega (arith, ints, left, right, wide, is)
+
+-- a row of the strip has a colour for each column of the area
+pub row_long : (ops : List Op) (ground : Colour) (area : Rectangle) (k : ℕ) → length ((strip_of ops ground area).row k) ≡ nat_abs area.w
+row_long ops ground area k = length-map-range_with_len (λ (i : ℕ). value ops (place_in area i k) ground) 0 (nat_abs area.w)
+
+-- a brush that has drawn a row can draw the next one
+pub brush_stays : (ops : List Op) (area : Rectangle) (items lent now : List OpenGroup) (len w : ℕ) → IsBrush ops area items → lent ≡ items → length lent ≡ len → length now ≡ length lent → w ≡ nat_abs area.w → AreRows w now → IsBrush ops area (take len (now ++ drop (length now) items))
+brush_stays ops area items lent now len w is same counted long wide rows =
+    let room = is.room in
+    let all = ap length same in
+    subst (IsBrush ops area) (sym (ap (λ n. take n (now ++ drop (length now) items)) (sym (long ∙ counted)) ∙ take-append_seam now (drop (length now) items)))
+    (record { stands = is.stands; whole = is.whole; room = omega (arith, room, long, all); rows = subst (λ n. AreRows n now) wide rows })
 
 -- what was drawn is the row of the strip
 pub row_drawn : (ops : List Op) (ground : Colour) (area : Rectangle) (start : Point) (k : ℕ) (top : List Colour) → start.x ≡ area.x → start.y ≡ area.y +ℤ pos k → length top ≡ nat_abs area.w
@@ -70,7 +85,7 @@ are_painters able strip size ops ground area brushes inside each = (strip_of ops
 
 -- a brush for these operations
 abbrev pub IsReady : List (Bor Op) → Sheet → Brush → Type 0
-IsReady ops sheet b = (b.ops.now ≡ ops) × (b.sheet ≡ sheet) × IsBrush (map (λ r. r.now) b.ops.now) b.sheet.area b.top.items b.groups.items
+IsReady ops sheet b = (b.ops.now ≡ ops) × (b.sheet ≡ sheet) × IsBrush (map (λ r. r.now) b.ops.now) b.sheet.area b.groups.items
 
 strip_is : (ops : List (Bor Op)) (sheet : Sheet) (b : Brush) → b.ops.now ≡ ops → b.sheet ≡ sheet → strip_of (map (λ r. r.now) b.ops.now) b.sheet.ground b.sheet.area ≡ strip_of (map (λ r. r.now) ops) sheet.ground sheet.area
 strip_is ops sheet b of_ops on =
@@ -85,8 +100,8 @@ same_strips ops sheet made brushes is each =
 
 -- and each can draw them
 pub all_able : (ops : List (Bor Op)) (sheet : Sheet) (made brushes : List Brush) → brushes ≡ made → All (IsReady ops sheet) made
-    → All (λ (b : Brush). IsBrush (map (λ r. r.now) b.ops.now) b.sheet.area b.top.items b.groups.items × (strip_of (map (λ r. r.now) b.ops.now) b.sheet.ground b.sheet.area ≡ strip_of (map (λ r. r.now) ops) sheet.ground sheet.area)) brushes
+    → All (λ (b : Brush). IsBrush (map (λ r. r.now) b.ops.now) b.sheet.area b.groups.items × (strip_of (map (λ r. r.now) b.ops.now) b.sheet.ground b.sheet.area ≡ strip_of (map (λ r. r.now) ops) sheet.ground sheet.area)) brushes
 all_able ops sheet made brushes is each =
-    subst (All (λ (b : Brush). IsBrush (map (λ r. r.now) b.ops.now) b.sheet.area b.top.items b.groups.items × (strip_of (map (λ r. r.now) b.ops.now) b.sheet.ground b.sheet.area ≡ strip_of (map (λ r. r.now) ops) sheet.ground sheet.area))) (sym is)
-    (All-weaker (IsReady ops sheet) (λ (b : Brush). IsBrush (map (λ r. r.now) b.ops.now) b.sheet.area b.top.items b.groups.items × (strip_of (map (λ r. r.now) b.ops.now) b.sheet.ground b.sheet.area ≡ strip_of (map (λ r. r.now) ops) sheet.ground sheet.area))
+    subst (All (λ (b : Brush). IsBrush (map (λ r. r.now) b.ops.now) b.sheet.area b.groups.items × (strip_of (map (λ r. r.now) b.ops.now) b.sheet.ground b.sheet.area ≡ strip_of (map (λ r. r.now) ops) sheet.ground sheet.area))) (sym is)
+    (All-weaker (IsReady ops sheet) (λ (b : Brush). IsBrush (map (λ r. r.now) b.ops.now) b.sheet.area b.groups.items × (strip_of (map (λ r. r.now) b.ops.now) b.sheet.ground b.sheet.area ≡ strip_of (map (λ r. r.now) ops) sheet.ground sheet.area))
     (λ b h. (h.2, strip_is ops sheet b h.0 h.1)) made each)

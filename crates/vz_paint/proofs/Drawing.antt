@@ -2,7 +2,7 @@
 use Rattle.std.proofs.Common.{◌≡◌, ℕ, ◌+◌, ◌-◌, ◌≤◌, ◌<◌, true, List, [], ◌∷◌, length, drop, get_or, replicate, refl, sym, ap, ◌∙◌, subst, arith}
 use Rattle.std.specs.Prelude.{nat_lt}
 use Rattle.std.specs.List.{list_all}
-use Rattle.std.proofs.lemmas.Bool.{and_parts, ltb-true}
+use Rattle.std.proofs.lemmas.Bool.{and_parts, ltb-true, eqb-true}
 use Rattle.std.proofs.lemmas.List.{drop_more, get_or-replicate}
 use Rattle.vz_geom.specs.declared.Point.{Point}
 use Rattle.vz_pixels.specs.Colour.{Colour, transparent}
@@ -13,7 +13,7 @@ use Rattle.vz_flat.specs.Ops.{run, value, is_nested, is_inside, is_whole, deepes
 use Rattle.vz_flat.proofs.Nested.{deepest_least, all_dropped}
 use Rattle.vz_paint.specs.declared.group.OpenGroup.{OpenGroup}
 use Rattle.vz_paint.specs.Row.{right_of}
-use Rattle.vz_paint.specs.Stack.{stack_at, AreRows, MayStand, open_after}
+use Rattle.vz_paint.specs.Stack.{drawn_over, drawn_to, AreRows, MayStand, open_after}
 
 -- after k operations: so many groups are open, and what is left makes of each place its value
 pub record IsDrawn (ground : Colour) (start : Point) (w : ℕ) (all : List Op) (most k : ℕ) (top : List Colour) (groups : List OpenGroup) (depth : ℕ) : Type 0 where
@@ -23,11 +23,11 @@ pub record IsDrawn (ground : Colour) (start : Point) (w : ℕ) (all : List Op) (
   pub nested : is_nested depth (drop k all) ≡ true
   pub inside : list_all is_inside (drop k all) ≡ true
   pub room : deepest depth (drop k all) ≤ most
-  pub same : (i : ℕ) → i < w → run (right_of start i) (drop k all) (stack_at start i depth groups) (get_or top i transparent) ≡ value all (right_of start i) ground
+  pub same : (i : ℕ) → i < w → drawn_to start i (drop k all) depth groups top ≡ value all (right_of start i) ground
 
 pub begins : (ground : Colour) (start : Point) (w : ℕ) (all : List Op) (top : List Colour) (groups : List OpenGroup) → is_whole all ≡ true → deepest 0 all ≤ length groups → AreRows w groups → top ≡ replicate w ground → length top ≡ w
     → IsDrawn ground start w all (length groups) 0 top groups 0
-unfolding is_whole value
+unfolding is_whole value drawn_over
 begins ground start w all top groups whole room rows is long =
     let parts = and_parts (is_nested 0 all) (list_all is_inside all) whole in
     record {
@@ -85,7 +85,7 @@ module _ (ground : Colour) (start : Point) (w : ℕ) (all : List Op) (most k : �
       (may_stand depth most op (drop (k + 1) all) (ap (is_nested depth) (sym parts) ∙ is.nested) (subst (λ l. deepest depth l ≤ most) parts is.room))
 
   pub next : (now : List Colour) (then_groups : List OpenGroup) (now_open : ℕ) → now_open ≡ open_after depth op → length now ≡ length top → length then_groups ≡ length groups → AreRows (length top) then_groups
-      → ((i : ℕ) (rest : List Op) → i < length top → run (right_of start i) (op ∷ rest) (stack_at start i depth groups) (get_or top i transparent) ≡ run (right_of start i) rest (stack_at start i now_open then_groups) (get_or now i transparent))
+      → ((i : ℕ) (rest : List Op) → i < length top → drawn_to start i (op ∷ rest) depth groups top ≡ drawn_to start i rest now_open then_groups now)
       → IsDrawn ground start w all most (k + 1) now then_groups now_open
   next now then_groups now_open after long count rows drawn =
       let parts = split all k op low at in
@@ -99,11 +99,13 @@ module _ (ground : Colour) (start : Point) (w : ℕ) (all : List Op) (most k : �
         room = subst (λ n. deepest n (drop (k + 1) all) ≤ most) (sym after) (still_room depth most op (drop (k + 1) all) (subst (λ l. deepest depth l ≤ most) parts is.room));
         same = λ i less.
             sym (drawn i (drop (k + 1) all) (subst (λ n. i < n) (sym is.long) less))
-            ∙ (ap (λ l. run (right_of start i) l (stack_at start i depth groups) (get_or top i transparent)) (sym parts) ∙ is.same i less);
+            ∙ (ap (λ l. drawn_to start i l depth groups top) (sym parts) ∙ is.same i less);
       }
 
 pub ends : (ground : Colour) (start : Point) (w : ℕ) (all : List Op) (most k : ℕ) (top : List Colour) (groups : List OpenGroup) (depth : ℕ) → IsDrawn ground start w all most k top groups depth → length all ≤ k
     → (i : ℕ) → i < w → get_or top i transparent ≡ value all (right_of start i) ground
-unfolding run
+unfolding run is_nested drawn_over
 ends ground start w all most k top groups depth is done i low =
-    ap (λ l. run (right_of start i) l (stack_at start i depth groups) (get_or top i transparent)) (sym (all_dropped all k done)) ∙ is.same i low
+    let none : drop k all ≡ [] = all_dropped all k done in
+    let closed : depth ≡ 0 = eqb-true depth 0 (ap (is_nested depth) (sym none) ∙ is.nested) in
+    ap (λ n. drawn_to start i [] n groups top) (sym closed) ∙ (ap (λ l. drawn_to start i l depth groups top) (sym none) ∙ is.same i low)

@@ -25,11 +25,10 @@ abbrev pub strip_of : List Op → Colour → Rectangle → Strip
 strip_of ops base area =
     record { high = nat_abs area.h; row = λ k. map (λ i. value ops (place_in area i k) base) (range_with_len 0 (nat_abs area.w)) }
 
--- what is needed to draw the rows: valid operations, a row for the area, and one for each group
--- that they have open at once
-pub record IsBrush (ops : List Op) (area : Rectangle) (top : List Colour) (groups : List OpenGroup) : Type 0 where
+-- what is needed to draw the rows: valid operations, and a row for each group that they have open
+-- at once
+pub record IsBrush (ops : List Op) (area : Rectangle) (groups : List OpenGroup) : Type 0 where
   pub stands : IsArea area
   pub whole : is_whole ops ≡ true
   pub room : deepest 0 ops ≤ length groups
-  pub wide : length top ≡ nat_abs area.w
   pub rows : AreRows (nat_abs area.w) groups

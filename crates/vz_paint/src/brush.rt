@@ -24,13 +24,11 @@ pub(crate) struct Sheet {
     pub(crate) deepest: u32,
 }
 
-/// Draws the rows of an area, each in the same memory: one row of pixels, and one more for each
-/// group that may be open at once.
+/// Draws the rows of an area. It has a row of its own for each group that may be open at once.
 #[derive(Drop)]
 pub(crate) struct Brush<'a, 'b> {
     pub(crate) ops: &'b [&'a Op],
     pub(crate) sheet: Sheet,
-    pub(crate) top: Vec<Pixel>,
     pub(crate) groups: Vec<OpenGroup>,
 }
 
@@ -48,17 +46,10 @@ impl<'a, 'b> Brush<'a, 'b> {
         ensures ops { IfOk result (λ b. b.ops.now ≡ ops.now) }
         ensures sheet { IfOk result (λ b. b.sheet ≡ sheet) }
         ensures able { IfOk result (λ b. IsBrush (map (λ r. r.now) b.ops.now) b.sheet.area
-            b.top.items b.groups.items) }
+            b.groups.items) }
     {
-        let columns = width(&sheet.area);
-        let top = vec![in alloc; Pixel::black(); columns]?;
-        let groups = group_rows(alloc, sheet.deepest, columns)?;
-        Ok(Brush {
-            ops,
-            sheet,
-            top,
-            groups,
-        })
+        let groups = group_rows(alloc, sheet.deepest, width(&sheet.area))?;
+        Ok(Brush { ops, sheet, groups })
     }
 }
 
@@ -68,24 +59,17 @@ impl<'a, 'b> RowPainter for Brush<'a, 'b> {
 
     ghost strip = { λ b. strip_of (map (λ r. r.now) b.ops.now) b.sheet.ground b.sheet.area };
 
-    ghost able = { λ b. IsBrush (map (λ r. r.now) b.ops.now) b.sheet.area b.top.items
-        b.groups.items };
+    ghost able = { λ b. IsBrush (map (λ r. r.now) b.ops.now) b.sheet.area b.groups.items };
 
-    ghost drawn = { λ b. b.top.items };
-
-    fn draw(&mut self, row: u32) {
+    fn draw(&mut self, row: u32, into: &mut [Pixel]) {
         let start = row_start(&self.sheet.area, row);
         draw_row(
             self.ops,
             self.sheet.ground,
             start,
-            &mut self.top,
+            into,
             self.groups.as_mut_slice(),
         );
-    }
-
-    fn row(&self) -> &[Pixel] {
-        self.top.as_slice()
     }
 }
 
@@ -148,7 +132,7 @@ pub(crate) fn brushes_for<'a, 'b>(
     requires deepest { deepest 0 (map (λ r. r.now) ops.now) ≤ sheet.deepest }
     ensures count { IfOk result (λ v. length v.items ≡ count) }
     ensures each { IfOk result (λ v. All (λ b. (b.ops.now ≡ ops.now) × (b.sheet ≡ sheet)
-        × IsBrush (map (λ r. r.now) b.ops.now) b.sheet.area b.top.items b.groups.items) v.items) }
+        × IsBrush (map (λ r. r.now) b.ops.now) b.sheet.area b.groups.items) v.items) }
 {
     let mut brushes = Vec::with_capacity(alloc, count)?;
     for _ in 0..count {

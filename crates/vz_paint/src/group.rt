@@ -12,23 +12,23 @@ use vz_frame::Blend;
 use vz_geom::{Point, Rect};
 use vz_pixels::Pixel;
 
-/// A group that is open in a row: the row below it, and how the group's row is blended with that.
+/// A group that is open in a row: its own row, and how that is blended with the row below it.
 #[derive(Drop)]
 pub(crate) struct OpenGroup {
-    pub(crate) below: Vec<Pixel>,
+    pub(crate) row: Vec<Pixel>,
     pub(crate) area: Rect,
     pub(crate) opacity: u8,
     pub(crate) mode: Blend,
 }
 
 impl OpenGroup {
-    /// The rows for a group of this width, in pixels.
+    /// A group whose row has this width, in pixels.
     pub(crate) fn new(alloc: Global, width: usize) -> Result<OpenGroup, Memory>
-        ensures { IfOk result (λ g. length g.below.items ≡ width) }
+        ensures { IfOk result (λ g. length g.row.items ≡ width) }
     {
-        let below = vec![in alloc; Pixel::transparent(); width]?;
+        let row = vec![in alloc; Pixel::transparent(); width]?;
         Ok(OpenGroup {
-            below,
+            row,
             area: Rect::empty(),
             opacity: 0,
             mode: Blend::Over,
@@ -36,46 +36,35 @@ impl OpenGroup {
     }
 }
 
-/// Opens a group: the row so far is kept below it, and the group's own row begins transparent.
-pub(crate) fn begin(
-    top: &mut Vec<Pixel>,
-    group: &mut OpenGroup,
-    area: &Rect,
-    opacity: u8,
-    mode: Blend,
-)
-    requires same { length group.old.below.items ≡ length top.old.items }
-    ensures below { group.new.below.items ≡ top.old.items }
+/// Opens a group: its row begins transparent.
+pub(crate) fn begin(group: &mut OpenGroup, area: &Rect, opacity: u8, mode: Blend)
+    ensures row { group.new.row.items ≡ replicate (length group.old.row.items) transparent }
     ensures area { group.new.area ≡ area.now }
     ensures opacity { group.new.opacity ≡ opacity }
     ensures mode { group.new.mode ≡ mode }
-    ensures top { top.new.items ≡ replicate (length top.old.items) transparent }
 {
-    std::mem::swap(top, &mut group.below);
-    top.fill(Pixel::transparent());
+    group.row.fill(Pixel::transparent());
     group.area = *area;
     group.opacity = opacity;
     group.mode = mode;
 }
 
 /// Ends a group: blends its row with the one below it, at the points of its area.
-pub(crate) fn end(top: &mut Vec<Pixel>, group: &mut OpenGroup, start: Point)
+pub(crate) fn end(below: &mut [Pixel], group: &OpenGroup, start: Point)
     requires start { IsStart start }
-    requires same { length group.old.below.items ≡ length top.old.items }
-    ensures long { length top.new.items ≡ length top.old.items }
-    ensures kept { length group.new.below.items ≡ length top.old.items }
-    ensures each { (i : ℕ) → i < length top.old.items → get_or top.new.items i transparent
-        ≡ (if has group.old.area (right_of start i)
-        then laid group.old.mode (get_or top.old.items i transparent) group.old.opacity
-        (get_or group.old.below.items i transparent)
-        else get_or group.old.below.items i transparent) }
+    requires same { length group.now.row.items ≡ length below.old }
+    ensures long { length below.new ≡ length below.old }
+    ensures each { (i : ℕ) → i < length below.old → get_or below.new i transparent
+        ≡ (if has group.now.area (right_of start i)
+        then laid group.now.mode (get_or group.now.row.items i transparent) group.now.opacity
+        (get_or below.old i transparent)
+        else get_or below.old i transparent) }
 {
-    std::mem::swap(top, &mut group.below);
     lay(
-        top.as_mut_slice(),
+        below,
         start,
         &group.area,
-        &group.below,
+        &group.row,
         group.opacity,
         group.mode,
     );

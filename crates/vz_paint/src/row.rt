@@ -1,11 +1,12 @@
 //! Drawing operations in one row.
-ghost use Rattle.std.specs.Prelude.{◌≡◌, ◌≤◌, ◌<◌, ◌∷◌, ℕ, List, length, map, get_or, replicate, true};
+ghost use Rattle.std.specs.Prelude.{◌≡◌, ◌≤◌, ◌<◌, ◌-◌, ◌∷◌, ℕ, List, length, map, get_or, replicate, true};
 ghost use Rattle.vz_base.specs.declared.limits.TheConstants.{GREATEST_DISPLAY_SIDE};
 ghost use Rattle.vz_pixels.specs.Colour.{transparent};
 ghost use Rattle.vz_flat.specs.declared.op.Op.{Op as Step};
-ghost use Rattle.vz_flat.specs.Ops.{run, value, is_inside, is_whole, deepest};
+ghost use Rattle.vz_flat.specs.declared.op.Op.TheVariants.{Pop};
+ghost use Rattle.vz_flat.specs.Ops.{Group, run, value, is_inside, is_whole, deepest};
 ghost use Rattle.vz_paint.specs.Row.{right_of, IsStart};
-ghost use Rattle.vz_paint.specs.Stack.{stack_at, AreRows, MayStand, open_after};
+ghost use Rattle.vz_paint.specs.Stack.{drawn_to, AreRows, IsItem, MayStand, open_after};
 
 use crate::group::{OpenGroup, begin, end};
 use crate::span::{blit, fill};
@@ -13,30 +14,16 @@ use vz_flat::Op;
 use vz_geom::Point;
 use vz_pixels::Pixel;
 
-/// Draws one operation in a row inside `depth` open groups, and returns how many are open after
-/// it.
-fn draw(
-    op: &Op,
-    start: Point,
-    top: &mut Vec<Pixel>,
-    groups: &mut [OpenGroup],
-    depth: usize,
-) -> usize
+/// Draws a `Fill` or a `Blit` in a row.
+fn draw_item(op: &Op, start: Point, row: &mut [Pixel])
     requires start { IsStart start }
-    requires short { length top.old.items ≤ GREATEST_DISPLAY_SIDE }
-    requires rows { AreRows (length top.old.items) groups.old }
+    requires short { length row.old ≤ GREATEST_DISPLAY_SIDE }
     requires inside { is_inside op.now ≡ true }
-    requires open { depth ≤ length groups.old }
-    requires may { MayStand depth (length groups.old) op.now }
-    ensures depth { result ≡ open_after depth op.now }
-    ensures long { length top.new.items ≡ length top.old.items }
-    ensures count { length groups.new ≡ length groups.old }
-    ensures rows { AreRows (length top.old.items) groups.new }
-    ensures drawn { (i : ℕ) (rest : List Step) → i < length top.old.items
-        → run (right_of start i) (op.now ∷ rest) (stack_at start i depth groups.old)
-        (get_or top.old.items i transparent)
-        ≡ run (right_of start i) rest (stack_at start i result groups.new)
-        (get_or top.new.items i transparent) }
+    ensures long { length row.new ≡ length row.old }
+    ensures drawn { IsItem op.now → (i : ℕ) (rest : List Step) (stack : List Group)
+        → i < length row.old
+        → run (right_of start i) (op.now ∷ rest) stack (get_or row.old i transparent)
+        ≡ run (right_of start i) rest stack (get_or row.new i transparent) }
 {
     match op {
         Op::Fill {
@@ -44,10 +31,7 @@ fn draw(
             color,
             opacity,
             blend,
-        } => {
-            fill(top.as_mut_slice(), start, area, *color, *opacity, *blend);
-            depth
-        }
+        } => fill(row, start, area, *color, *opacity, *blend),
         Op::Blit {
             area,
             block,
@@ -55,17 +39,85 @@ fn draw(
             ty,
             opacity,
             blend,
-        } => {
-            blit(
-                top.as_mut_slice(),
-                start,
-                area,
-                block,
-                tx,
-                ty,
-                *opacity,
-                *blend,
-            );
+        } => blit(row, start, area, block, tx, ty, *opacity, *blend),
+        Op::Push { .. } => {}
+        Op::Pop => {}
+    }
+}
+
+/// Draws a `Fill` or a `Blit` in the row of the innermost of `depth` open groups, or in the lowest
+/// row.
+fn draw_inside(op: &Op, start: Point, lowest: &mut [Pixel], groups: &mut [OpenGroup], depth: usize)
+    requires start { IsStart start }
+    requires short { length lowest.old ≤ GREATEST_DISPLAY_SIDE }
+    requires rows { AreRows (length lowest.old) groups.old }
+    requires inside { is_inside op.now ≡ true }
+    requires open { depth ≤ length groups.old }
+    ensures long { length lowest.new ≡ length lowest.old }
+    ensures count { length groups.new ≡ length groups.old }
+    ensures rows { AreRows (length lowest.old) groups.new }
+    ensures drawn { IsItem op.now → (i : ℕ) (rest : List Step) → i < length lowest.old
+        → drawn_to start i (op.now ∷ rest) depth groups.old lowest.old
+        ≡ drawn_to start i rest depth groups.new lowest.new }
+{
+    if depth == 0 {
+        draw_item(op, start, lowest);
+        return;
+    }
+    draw_item(op, start, groups[depth - 1].row.as_mut_slice());
+}
+
+/// Ends the innermost of `depth` open groups.
+fn end_inside(start: Point, lowest: &mut [Pixel], groups: &mut [OpenGroup], depth: usize)
+    requires start { IsStart start }
+    requires rows { AreRows (length lowest.old) groups.old }
+    requires some { 0 < depth }
+    requires open { depth ≤ length groups.old }
+    ensures long { length lowest.new ≡ length lowest.old }
+    ensures count { length groups.new ≡ length groups.old }
+    ensures rows { AreRows (length lowest.old) groups.new }
+    ensures drawn { (i : ℕ) (rest : List Step) → i < length lowest.old
+        → drawn_to start i (Pop ∷ rest) depth groups.old lowest.old
+        ≡ drawn_to start i rest (depth - 1) groups.new lowest.new }
+{
+    if depth == 1 {
+        end(lowest, &groups[0], start);
+        return;
+    }
+    let (outer, inner) = groups.split_at_mut(depth - 1);
+    end(outer[depth - 2].row.as_mut_slice(), &inner[0], start);
+}
+
+/// Draws one operation in a row inside `depth` open groups, and returns how many are open after
+/// it.
+fn draw(
+    op: &Op,
+    start: Point,
+    lowest: &mut [Pixel],
+    groups: &mut [OpenGroup],
+    depth: usize,
+) -> usize
+    requires start { IsStart start }
+    requires short { length lowest.old ≤ GREATEST_DISPLAY_SIDE }
+    requires rows { AreRows (length lowest.old) groups.old }
+    requires inside { is_inside op.now ≡ true }
+    requires open { depth ≤ length groups.old }
+    requires may { MayStand depth (length groups.old) op.now }
+    ensures depth { result ≡ open_after depth op.now }
+    ensures long { length lowest.new ≡ length lowest.old }
+    ensures count { length groups.new ≡ length groups.old }
+    ensures rows { AreRows (length lowest.old) groups.new }
+    ensures drawn { (i : ℕ) (rest : List Step) → i < length lowest.old
+        → drawn_to start i (op.now ∷ rest) depth groups.old lowest.old
+        ≡ drawn_to start i rest result groups.new lowest.new }
+{
+    match op {
+        Op::Fill { .. } => {
+            draw_inside(op, start, lowest, groups, depth);
+            depth
+        }
+        Op::Blit { .. } => {
+            draw_inside(op, start, lowest, groups, depth);
             depth
         }
         Op::Push {
@@ -73,21 +125,21 @@ fn draw(
             opacity,
             blend,
         } => {
-            begin(top, &mut groups[depth], area, *opacity, *blend);
+            begin(&mut groups[depth], area, *opacity, *blend);
             depth + 1
         }
         Op::Pop => {
-            end(top, &mut groups[depth - 1], start);
+            end_inside(start, lowest, groups, depth);
             depth - 1
         }
     }
 }
 
 /// Fills a row with one colour.
-fn level(top: &mut Vec<Pixel>, ground: Pixel)
-    ensures { top.new.items ≡ replicate (length top.old.items) ground }
+fn level(row: &mut [Pixel], ground: Pixel)
+    ensures { row.new ≡ replicate (length row.old) ground }
 {
-    top.fill(ground);
+    row.fill(ground);
 }
 
 /// Draws operations in a row, on one colour. Conditions: they are valid, and there is a row for
@@ -96,23 +148,23 @@ pub(crate) fn draw_row(
     ops: &[&Op],
     ground: Pixel,
     start: Point,
-    top: &mut Vec<Pixel>,
+    lowest: &mut [Pixel],
     groups: &mut [OpenGroup],
 )
     requires start { IsStart start }
-    requires short { length top.old.items ≤ GREATEST_DISPLAY_SIDE }
-    requires rows { AreRows (length top.old.items) groups.old }
+    requires short { length lowest.old ≤ GREATEST_DISPLAY_SIDE }
+    requires rows { AreRows (length lowest.old) groups.old }
     requires whole { is_whole (map (λ r. r.now) ops.now) ≡ true }
     requires room { deepest 0 (map (λ r. r.now) ops.now) ≤ length groups.old }
-    ensures long { length top.new.items ≡ length top.old.items }
+    ensures long { length lowest.new ≡ length lowest.old }
     ensures count { length groups.new ≡ length groups.old }
-    ensures rows { AreRows (length top.old.items) groups.new }
-    ensures painted { (i : ℕ) → i < length top.old.items → get_or top.new.items i transparent
+    ensures rows { AreRows (length lowest.old) groups.new }
+    ensures painted { (i : ℕ) → i < length lowest.old → get_or lowest.new i transparent
         ≡ value (map (λ r. r.now) ops.now) (right_of start i) ground }
 {
-    level(top, ground);
+    level(lowest, ground);
     let mut depth = 0;
     for op in ops {
-        depth = draw(op, start, top, groups, depth);
+        depth = draw(op, start, lowest, groups, depth);
     }
 }

@@ -2,7 +2,8 @@
 use Rattle.std.specs.Prelude.{◌≡◌, ℕ, true, Option, Some, None, Result, Ok, Err, OnOk, OnErr, List, [], ◌∷◌, ◌++◌}
 use mathlib.Core.List.{IsPrefix}
 use Rattle.std.specs.List.{flat_map}
-use Rattle.vz_buffers.specs.Canvas.{Canvas, colour_bytes}
+use Rattle.vz_pixels.specs.Colour.{colour_bytes}
+use Rattle.vz_buffers.specs.Canvas.{Canvas}
 use Rattle.vz_outside.specs.Shelved.{Shelved, Name, Writing, KeepsOthers, Appends, AppendsFront, Behaves}
 use Rattle.vz_outside.specs.declared.shelf.ShelfError.{ShelfError}
 

@@ -20,4 +20,4 @@ pub returns : goal.returns
 returns g c =
     let a = c.args in
     one_painted g.P.RowPainter.able g.P.RowPainter.strip a.place.width a.place.left a.place.wide a.band.from a.band.count a.painters.now a.pixels.now c.requires _
-    c.paint_band.new.pixels c.paint_band.ensures.painted c.paint_band.ensures.spelled
+    c.paint_band.new.pixels c.paint_band.ensures.painted

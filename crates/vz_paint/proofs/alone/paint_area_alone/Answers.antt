@@ -32,7 +32,7 @@ put_rows_alone-requires-clause-able g c =
     let sheet : Sheet = record { area = c.args.area.now; ground = c.ground_of-ground.result.color; deepest = c.deepest.result } in
     let made = c.in_ok-brush.ensures in
     let one = All-push (IsReady rest sheet) [] c.in_ok-brush.brush (All-nil (IsReady rest sheet)) (made.ops, made.sheet, made.able) in
-    are_painters (λ (b : Brush). IsBrush (map (λ r. r.now) b.ops.now) b.sheet.area b.top.items b.groups.items)
+    are_painters (λ (b : Brush). IsBrush (map (λ r. r.now) b.ops.now) b.sheet.area b.groups.items)
     (λ (b : Brush). strip_of (map (λ r. r.now) b.ops.now) b.sheet.ground b.sheet.area) c.args.buffer.now.size (map (λ r. r.now) rest) c.ground_of-ground.result.color c.args.area.now
     c.from_mut.result.now c.requires.inside (all_able rest sheet (c.in_ok-brush.brush ∷ []) c.from_mut.result.now c.from_mut.ensures.value one)
 

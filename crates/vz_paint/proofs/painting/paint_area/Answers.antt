@@ -29,7 +29,7 @@ pub put_rows-requires-clause-able : goal.put_rows-requires-clause-able
 put_rows-requires-clause-able g c κs within =
     let rest = c.behind-rest.result.now in
     let sheet : Sheet = record { area = c.args.area.now; ground = c.ground_of-ground.result.color; deepest = c.deepest.result } in
-    are_painters (λ (b : Brush). IsBrush (map (λ r. r.now) b.ops.now) b.sheet.area b.top.items b.groups.items)
+    are_painters (λ (b : Brush). IsBrush (map (λ r. r.now) b.ops.now) b.sheet.area b.groups.items)
     (λ (b : Brush). strip_of (map (λ r. r.now) b.ops.now) b.sheet.ground b.sheet.area) c.args.buffer.now.size (map (λ r. r.now) rest) c.ground_of-ground.result.color c.args.area.now
     c.as_mut_slice.result.now c.requires.inside (all_able rest sheet c.in_ok-brushes.brushes.items c.as_mut_slice.result.now c.as_mut_slice.ensures.value c.in_ok-brushes.ensures.each)
 

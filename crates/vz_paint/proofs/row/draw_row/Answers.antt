@@ -9,8 +9,8 @@ pub loop-op-init : goal.loop-op-init
 loop-op-init c =
     let a = c.args in
     let r = c.requires in
-    begins a.ground a.start (length a.top.now.items) (map (λ r. r.now) a.ops.now) c.level.new.top.items a.groups.now r.whole r.room r.rows c.level.ensures
-    (ap length c.level.ensures ∙ length-replicate (length a.top.now.items) _)
+    begins a.ground a.start (length a.lowest.now) (map (λ r. r.now) a.ops.now) c.level.new.row a.groups.now r.whole r.room r.rows c.level.ensures
+    (ap length c.level.ensures ∙ length-replicate (length a.lowest.now) _)
 
 -- the operation at hand
 low_in : (ops : List (Bor Op)) (k : _) → k < length ops → k < length (map (λ (r : Bor Op). r.now) ops)
@@ -23,21 +23,21 @@ pub draw-depth-requires-clause-inside : goal.draw-depth-requires-clause-inside
 draw-depth-requires-clause-inside c =
     let a = c.args in
     let l = c.loop-op in
-    inside_next a.ground a.start (length a.top.now.items) (map (λ r. r.now) a.ops.now) (length a.groups.now) l.op-index l.top.items l.groups l.depth l.invariant
+    inside_next a.ground a.start (length a.lowest.now) (map (λ r. r.now) a.ops.now) (length a.groups.now) l.op-index l.lowest l.groups l.depth l.invariant
     c.op-item.result.now (low_in a.ops.now l.op-index c.loop-op-test.true) (at_hand a.ops.now l.op-index c.op-item.result c.op-item.result c.loop-op-test.true c.op-item.is)
 
 pub draw-depth-requires-clause-open : goal.draw-depth-requires-clause-open
 draw-depth-requires-clause-open c =
     let a = c.args in
     let l = c.loop-op in
-    open_next a.ground a.start (length a.top.now.items) (map (λ r. r.now) a.ops.now) (length a.groups.now) l.op-index l.top.items l.groups l.depth l.invariant
+    open_next a.ground a.start (length a.lowest.now) (map (λ r. r.now) a.ops.now) (length a.groups.now) l.op-index l.lowest l.groups l.depth l.invariant
     c.op-item.result.now (low_in a.ops.now l.op-index c.loop-op-test.true) (at_hand a.ops.now l.op-index c.op-item.result c.op-item.result c.loop-op-test.true c.op-item.is)
 
 pub draw-depth-requires-clause-may : goal.draw-depth-requires-clause-may
 draw-depth-requires-clause-may c =
     let a = c.args in
     let l = c.loop-op in
-    may_next a.ground a.start (length a.top.now.items) (map (λ r. r.now) a.ops.now) (length a.groups.now) l.op-index l.top.items l.groups l.depth l.invariant
+    may_next a.ground a.start (length a.lowest.now) (map (λ r. r.now) a.ops.now) (length a.groups.now) l.op-index l.lowest l.groups l.depth l.invariant
     c.op-item.result.now (low_in a.ops.now l.op-index c.loop-op-test.true) (at_hand a.ops.now l.op-index c.op-item.result c.op-item.result c.loop-op-test.true c.op-item.is)
 
 pub loop-op-preserved : goal.loop-op-preserved
@@ -45,13 +45,13 @@ loop-op-preserved c =
     let a = c.args in
     let l = c.loop-op in
     let e = c.draw-depth.ensures in
-    next a.ground a.start (length a.top.now.items) (map (λ r. r.now) a.ops.now) (length a.groups.now) l.op-index l.top.items l.groups l.depth l.invariant
+    next a.ground a.start (length a.lowest.now) (map (λ r. r.now) a.ops.now) (length a.groups.now) l.op-index l.lowest l.groups l.depth l.invariant
     c.op-item.result.now (low_in a.ops.now l.op-index c.loop-op-test.true) (at_hand a.ops.now l.op-index c.op-item.result c.op-item.result c.loop-op-test.true c.op-item.is)
-    c.draw-depth.new.top.items c.draw-depth.new.groups c.draw-depth.result e.depth e.long e.count e.rows e.drawn
+    c.draw-depth.new.lowest c.draw-depth.new.groups c.draw-depth.result e.depth e.long e.count e.rows e.drawn
 
 pub returns-clause-painted : goal.returns-clause-painted
 returns-clause-painted c =
     let a = c.args in
     let l = c.loop-op in
-    ends a.ground a.start (length a.top.now.items) (map (λ r. r.now) a.ops.now) (length a.groups.now) l.op-index l.top.items l.groups l.depth l.invariant
+    ends a.ground a.start (length a.lowest.now) (map (λ r. r.now) a.ops.now) (length a.groups.now) l.op-index l.lowest l.groups l.depth l.invariant
     (subst (λ n. n ≤ l.op-index) (sym (length-map a.ops.now (λ r. r.now))) c.loop-op-test.false)

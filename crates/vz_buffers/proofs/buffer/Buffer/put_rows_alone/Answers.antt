@@ -1,20 +1,18 @@
 use Rattle.std.proofs.Common.{length, ap, sym, subst, ◌+ℤ◌, ◌≤ℤ◌, arith}
-use Rattle.std.proofs.lemmas.List.{length-map}
-use Rattle.vz_buffers.specs.Canvas.{Canvas, colour_of, colours_of}
+use Rattle.vz_buffers.specs.Canvas.{Canvas}
 use Rattle.vz_buffers.proofs.Banding.{area_fits}
 use Rattle.vz_buffers.proofs.buffer.Buffer.put_rows_alone.Goals as goal
 
 pub paint_alone-requires-clause-inside : goal.paint_alone-requires-clause-inside
 paint_alone-requires-clause-inside g c =
     let items = c.self.inside.pixels.items in
-    let own : Canvas = record { size = c.self.inside.size; pixels = colours_of items } in
+    let own : Canvas = record { size = c.self.inside.size; pixels = items } in
     let place = c.place_of-place in
     let bottom = subst (λ (k : Canvas). (c.args.area.now.y +ℤ c.args.area.now.h) ≤ℤ k.size.h) (sym c.self.view_is) c.requires.bottom in
     let fits =
-    area_fits own c.args.area.now.y c.args.area.now.h place.result.top c.height.result place.result.width c.self.invariant.0 c.requires.top c.requires.sides.1 bottom place.ensures.top
+    area_fits own c.args.area.now.y c.args.area.now.h place.result.top c.height.result place.result.width c.self.invariant c.requires.top c.requires.sides.1 bottom place.ensures.top
     c.height.ensures.value place.ensures.width
     in
     let all = fits.1 in
-    let long = length-map items colour_of in
     let same = ap length c.deref_mut.ensures.value in
-    omega (arith, all, long, same)
+    omega (arith, all, same)
