@@ -4,7 +4,7 @@ use Rattle.std.specs.Prelude.{replicate}
 use Rattle.std.proofs.Math.Nat.{mul-le-mul_left, mul-le-mul_right}
 use lib.Lanes.{zip2, Each1, number_l, digits_l}
 use Rattle.vz_pixels.specs.Colour.{mul}
-use Rattle.vz_kernel.specs.Lanes.{evens, odds, AreBytes}
+use Rattle.vz_kernel.specs.Lanes.{evens, odds, factor_of, AreBytes}
 use Rattle.vz_kernel.proofs.Vectors.{twice, low}
 
 -- the bytes of a lane of two, times 256, over a number
@@ -97,9 +97,9 @@ lane_plus : (a b f p : ℕ) → f ≡ b * 257 - b / 255 + b / 128 → a ≤ 255 
 unfolding mul
 lane_plus a b f p is x y small = plus_high _ p _ (high_by a b f _ _ refl refl is x y) small
 
--- the high halves of lanes times one factor
-abbrev pub highs : ℕ → ℕ → List ℕ → List ℕ
-highs n f xs = zip2 (λ a (b : ℕ). a / 2 ^ b) (zip2 (λ a b. a * b % 4294967296) (map (λ a. a) xs) (replicate n f)) (replicate n 16)
+-- the high halves of lanes times factors
+abbrev pub highs : ℕ → List ℕ → List ℕ → List ℕ
+highs n fs xs = zip2 (λ a (b : ℕ). a / 2 ^ b) (zip2 (λ a b. a * b % 4294967296) (map (λ a. a) xs) (map (λ a. a) fs)) (replicate n 16)
 
 -- high halves and bytes above them, rounded
 abbrev pub sums : ℕ → List ℕ → List ℕ → List ℕ
@@ -109,10 +109,11 @@ sums n hs ps =
 high_small : (z : ℕ) → z % 4294967296 / 65536 < 65536
 high_small z = omega arith
 
-pub highs_small : (n f : ℕ) (xs : List ℕ) → Each1 (λ x. x < 65536) (highs n f xs)
-highs_small n f [] = tt
-highs_small zero f (x ∷ xs) = tt
-highs_small (suc n) f (x ∷ xs) = (high_small (x * f), highs_small n f xs)
+pub highs_small : (n : ℕ) (fs xs : List ℕ) → Each1 (λ x. x < 65536) (highs n fs xs)
+highs_small n fs [] = tt
+highs_small n [] (x ∷ xs) = tt
+highs_small zero (f ∷ fs) (x ∷ xs) = tt
+highs_small (suc n) (f ∷ fs) (x ∷ xs) = (high_small (x * f), highs_small n fs xs)
 
 sum_small : (z : ℕ) → z % 65536 / 256 ≤ 255
 sum_small z = omega arith
@@ -124,10 +125,10 @@ bytes_sums (suc n) (h ∷ hs) [] = tt
 bytes_sums zero (h ∷ hs) (p ∷ ps) = tt
 bytes_sums (suc n) (h ∷ hs) (p ∷ ps) = (sum_small (h + (p * 256 % 65536 + 128) % 65536), bytes_sums n hs ps)
 
-pub sums_are : (n b f : ℕ) (xs ps : List ℕ) → f ≡ b * 257 - b / 255 + b / 128 → b ≤ 255 → length xs ≡ n → AreBytes xs → AreBytes (zip2 (λ x p. p + mul x b) xs ps)
-    → sums n (map (λ a. a) (highs n f (map (λ x. x * 256) xs))) ps ≡ zip2 (λ x p. p + mul x b) xs ps
-sums_are n b f [] ps is y e xs-bytes small = refl
-sums_are zero b f (x ∷ xs) ps is y e xs-bytes small = absurd (omega arith)
-sums_are (suc n) b f (x ∷ xs) [] is y e xs-bytes small = refl
-sums_are (suc n) b f (x ∷ xs) (p ∷ ps) is y e xs-bytes small =
-    λ i. lane_plus x b f p is xs-bytes.0 y small.0 i ∷ sums_are n b f xs ps is y (omega arith) xs-bytes.1 small.1 i
+pub sums_are : (n b : ℕ) (xs ps : List ℕ) → b ≤ 255 → length xs ≡ n → AreBytes xs → AreBytes (zip2 (λ x p. p + mul x b) xs ps)
+    → sums n (map (λ a. a) (highs n (replicate n (factor_of b)) (map (λ x. x * 256) xs))) ps ≡ zip2 (λ x p. p + mul x b) xs ps
+sums_are n b [] ps y e xs-bytes small = refl
+sums_are zero b (x ∷ xs) ps y e xs-bytes small = absurd (omega arith)
+sums_are (suc n) b (x ∷ xs) [] y e xs-bytes small = refl
+sums_are (suc n) b (x ∷ xs) (p ∷ ps) y e xs-bytes small =
+    λ i. lane_plus x b (factor_of b) p refl xs-bytes.0 y small.0 i ∷ sums_are n b xs ps y (omega arith) xs-bytes.1 small.1 i

@@ -57,6 +57,76 @@ woven_is (suc n) (x ∷ xs) (y ∷ ys) e f p q =
     let t = two x y (number_l 65536 (joined n xs ys)) p.0 q.0 in
     (λ i. t.0 i ∷ t.1 i ∷ digits_l 256 (twice n) (t.2 i)) ∙ ap (λ l. x ∷ y ∷ l) (woven_is n xs ys (omega arith) (omega arith) p.1 q.1)
 
+-- each two lanes of bytes as one of 32 bits
+abbrev fours : List ℕ → List ℕ
+fours [] = []
+fours (x ∷ []) = []
+fours (x ∷ y ∷ zs) = (x + 65536 * y) ∷ fours zs
+
+-- the lowest four bytes of two lanes of bytes, over a number
+four : (x y r : ℕ) → x ≤ 255 → y ≤ 255
+    → ((x + 65536 * (y + 65536 * r)) % 256 ≡ x) × ((x + 65536 * (y + 65536 * r)) / 256 % 256 ≡ 0) × ((x + 65536 * (y + 65536 * r)) / 256 / 256 % 256 ≡ y)
+    × ((x + 65536 * (y + 65536 * r)) / 256 / 256 / 256 % 256 ≡ 0) × ((x + 65536 * (y + 65536 * r)) / 256 / 256 / 256 / 256 ≡ r)
+four x y r p q = (omega arith, omega arith, omega arith, omega arith, omega arith)
+
+-- the same bytes as one lane
+one : (x y r : ℕ) → x ≤ 255 → y ≤ 255
+    → ((x + 256 * (0 + 256 * (y + 256 * (0 + 256 * r)))) % 4294967296 ≡ x + 65536 * y) × ((x + 256 * (0 + 256 * (y + 256 * (0 + 256 * r)))) / 4294967296 ≡ r)
+one x y r p q = (omega arith, omega arith)
+
+pub fours_are : (n : ℕ) (xs : List ℕ) → length xs ≡ twice n → AreBytes xs → digits_l 4294967296 n (number_l 256 (digits_l 256 (twice (twice n)) (number_l 65536 xs))) ≡ fours xs
+fours_are zero [] e p = refl
+fours_are zero (x ∷ xs) e p = absurd (omega arith)
+fours_are (suc n) [] e p = absurd (omega arith)
+fours_are (suc n) (x ∷ []) e p = absurd (omega arith)
+fours_are (suc n) (x ∷ y ∷ zs) e p =
+    let m = number_l 65536 zs in
+    let f = four x y m p.0 p.1.0 in
+    let bytes = digits_l 256 (twice (twice n)) m in
+    let o = one x y (number_l 256 bytes) p.0 p.1.0 in
+    (λ i. digits_l 4294967296 (suc n) (f.0 i + 256 * (f.1 i + 256 * (f.2 i + 256 * (f.3 i + 256 * number_l 256 (digits_l 256 (twice (twice n)) (f.4 i)))))))
+    ∙ (λ i. o.0 i ∷ digits_l 4294967296 n (o.1 i)) ∙ ap (λ l. (x + 65536 * y) ∷ l) (fours_are n zs (omega arith) p.1.1)
+
+-- four bytes in one lane, over a number
+four_bytes : (x y z w r : ℕ) → x ≤ 255 → y ≤ 255 → z ≤ 255 → w ≤ 255
+    → (((x + 65536 * z + (y + 65536 * w) * 256 % 4294967296) % 4294967296 + 4294967296 * r) ≡ x + 256 * (y + 256 * (z + 256 * (w + 256 * r))))
+four_bytes x y z w r p q s t = omega arith
+
+-- the bytes of a number
+bytes : (x y z w r : ℕ) → x ≤ 255 → y ≤ 255 → z ≤ 255 → w ≤ 255
+    → ((x + 256 * (y + 256 * (z + 256 * (w + 256 * r)))) % 256 ≡ x) × ((x + 256 * (y + 256 * (z + 256 * (w + 256 * r)))) / 256 % 256 ≡ y) × ((x + 256 * (y + 256 * (z + 256 * (w + 256 * r)))) / 256 / 256 % 256 ≡ z)
+    × ((x + 256 * (y + 256 * (z + 256 * (w + 256 * r)))) / 256 / 256 / 256 % 256 ≡ w) × ((x + 256 * (y + 256 * (z + 256 * (w + 256 * r)))) / 256 / 256 / 256 / 256 ≡ r)
+bytes x y z w r p q s t = (omega arith, omega arith, omega arith, omega arith, omega arith)
+
+-- lanes of which each has four bytes
+abbrev joined_fours : ℕ → List ℕ → List ℕ → List ℕ
+joined_fours n xs ys = zip2 (λ a b. (a + b) % 4294967296) (fours xs) (zip2 (λ a b. a * b % 4294967296) (fours ys) (replicate n 256))
+
+woven_fours : (n : ℕ) (xs ys : List ℕ) → length xs ≡ twice n → length ys ≡ twice n → AreBytes xs → AreBytes ys
+    → digits_l 256 (twice (twice n)) (number_l 4294967296 (joined_fours n xs ys)) ≡ woven xs ys
+woven_fours zero [] ys e f p q = refl
+woven_fours zero (x ∷ xs) ys e f p q = absurd (omega arith)
+woven_fours (suc n) [] ys e f p q = absurd (omega arith)
+woven_fours (suc n) (x ∷ []) ys e f p q = absurd (omega arith)
+woven_fours (suc n) (x ∷ z ∷ xs) [] e f p q = absurd (omega arith)
+woven_fours (suc n) (x ∷ z ∷ xs) (y ∷ []) e f p q = absurd (omega arith)
+woven_fours (suc n) (x ∷ z ∷ xs) (y ∷ w ∷ ys) e f p q =
+    let m = number_l 4294967296 (joined_fours n xs ys) in
+    let b = bytes x y z w m p.0 q.0 p.1.0 q.1.0 in
+    ap (digits_l 256 (twice (twice (suc n)))) (four_bytes x y z w m p.0 q.0 p.1.0 q.1.0)
+    ∙ (λ i. b.0 i ∷ b.1 i ∷ b.2 i ∷ b.3 i ∷ digits_l 256 (twice (twice n)) (b.4 i))
+    ∙ ap (λ l. x ∷ y ∷ z ∷ w ∷ l) (woven_fours n xs ys (omega arith) (omega arith) p.1.1 q.1.1)
+
+-- bytes of lanes that were read as lanes twice as wide
+abbrev wide : ℕ → List ℕ → List ℕ
+wide n xs = digits_l 4294967296 n (number_l 256 (digits_l 256 (twice (twice n)) (number_l 65536 xs)))
+
+pub woven_by_fours_is : (n : ℕ) (xs ys : List ℕ) → length xs ≡ twice n → length ys ≡ twice n → AreBytes xs → AreBytes ys
+    → digits_l 256 (twice (twice n)) (number_l 4294967296 (zip2 (λ a b. (a + b) % 4294967296) (wide n xs) (zip2 (λ a b. a * b % 4294967296) (wide n ys) (replicate n 256)))) ≡ woven xs ys
+woven_by_fours_is n xs ys e f p q =
+    (λ i. digits_l 256 (twice (twice n)) (number_l 4294967296 (zip2 (λ a b. (a + b) % 4294967296) (fours_are n xs e p i) (zip2 (λ a b. a * b % 4294967296) (fours_are n ys f q i) (replicate n 256)))))
+    ∙ woven_fours n xs ys e f p q
+
 -- the second place of each two from a place on, twice
 abbrev places : ℕ → ℕ → List ℕ
 places i zero = []
@@ -110,14 +180,22 @@ parts_is (suc n) [] ys e p q = absurd (omega arith)
 parts_is (suc n) (x ∷ xs) [] e p q = refl
 parts_is (suc n) (x ∷ xs) (y ∷ ys) e p q = (λ i. lane_is x y p.0 q.0 i ∷ parts_is n xs ys (omega arith) p.1 q.1 i)
 
-left : (x : ℕ) → x ≤ 255 → (255 + (65536 - x)) % 65536 ≡ 255 - x
+left : (x : ℕ) → x ≤ 255 → (255 + (256 - x)) % 256 ≡ 255 - x
 left x h = omega arith
 
-pub rest_is : (n : ℕ) (xs : List ℕ) → length xs ≡ n → AreBytes xs → zip2 (λ a b. (a + (65536 - b)) % 65536) (replicate n 255) xs ≡ map (λ x. 255 - x) xs
+pub rest_is : (n : ℕ) (xs : List ℕ) → length xs ≡ n → AreBytes xs → zip2 (λ a b. (a + (256 - b)) % 256) (replicate n 255) xs ≡ map (λ x. 255 - x) xs
 rest_is zero [] e h = refl
 rest_is zero (x ∷ xs) e h = absurd (omega arith)
 rest_is (suc n) [] e h = absurd (omega arith)
 rest_is (suc n) (x ∷ xs) e h = (λ i. left x h.0 i ∷ rest_is n xs (omega arith) h.1 i)
+
+-- what is left of the alphas, from what is left of all
+pub rest_of_alphas : (xs : List ℕ) → doubled (odds (map (λ x. 255 - x) xs)) ≡ map (λ x. 255 - x) (doubled (odds xs))
+rest_of_alphas [] = refl
+rest_of_alphas (x ∷ []) = refl
+rest_of_alphas (x ∷ y ∷ []) = refl
+rest_of_alphas (x ∷ y ∷ z ∷ []) = refl
+rest_of_alphas (x ∷ y ∷ z ∷ w ∷ vs) = ap (λ l. (255 - w) ∷ (255 - w) ∷ l) (rest_of_alphas vs)
 
 pub bytes_fit : (xs : List ℕ) → Each1 (Fits w8) xs → AreBytes xs
 bytes_fit [] h = tt
@@ -137,10 +215,6 @@ pub bytes_doubled : (xs : List ℕ) → AreBytes xs → AreBytes (doubled xs)
 bytes_doubled [] h = tt
 bytes_doubled (x ∷ []) h = tt
 bytes_doubled (x ∷ y ∷ zs) h = (h.1.0, (h.1.0, bytes_doubled zs h.1.1))
-
-pub bytes_rest : (xs : List ℕ) → AreBytes (map (λ x. 255 - x) xs)
-bytes_rest [] = tt
-bytes_rest (x ∷ xs) = (omega arith, bytes_rest xs)
 
 pub small_part : (a b : ℕ) → a ≤ 255 → b ≤ 255 → mul a b ≤ 255
 small_part a b p q = let h = mul_at_most a b p in omega arith

@@ -31,13 +31,18 @@ module _ (f : Colour → Colour → Colour) where
   start_put (suc m) (s ∷ src) (d ∷ dst) e h = ap (λ l. f s d ∷ l) (start_put m src dst (omega arith) (omega arith))
 
   -- m places more
-  pub more_put : (n m j : ℕ) (src dst : List Colour) → j ≡ n + m → length dst ≡ length src → j ≤ length src
+  more_put : (n m j : ℕ) (src dst : List Colour) → j ≡ n + m → length dst ≡ length src → j ≤ length src
       → put_chunk n (mixed_upto f n src dst) (zip2 f (chunk n m src) (chunk n m (mixed_upto f n src dst))) ≡ mixed_upto f j src dst
   more_put zero m j src dst k e h = start_put m src dst e (omega arith) ∙ ap (λ i. mixed_upto f i src dst) (omega arith)
   more_put (suc n) m zero src dst k e h = absurd (omega arith)
   more_put (suc n) m (suc j) [] dst k e h = absurd (omega arith)
   more_put (suc n) m (suc j) (s ∷ src) [] k e h = absurd (omega arith)
   more_put (suc n) m (suc j) (s ∷ src) (d ∷ dst) k e h = ap (λ l. f s d ∷ l) (more_put n m j src dst (omega arith) (omega arith) (omega arith))
+
+  -- m places more, of what was there before
+  pub step_put : (n m j : ℕ) (src dst now next : List Colour) → j ≡ n + m → length dst ≡ length src → j ≤ length src → now ≡ mixed_upto f n src dst
+      → next ≡ put_chunk n now (zip2 f (chunk n m src) (chunk n m now)) → next ≡ mixed_upto f j src dst
+  step_put n m j src dst now next k e h is step = step ∙ ap (λ row. put_chunk n row (zip2 f (chunk n m src) (chunk n m row))) is ∙ more_put n m j src dst k e h
 
   -- one place more
   pub one_more : (n : ℕ) (src dst : List Colour) (t : Colour) → length dst ≡ length src → n < length src
@@ -80,7 +85,7 @@ as_mix g (suc n) (c ∷ row) = ap (λ l. g c ∷ l) (as_mix g n row)
 pub length_changed : (g : Colour → Colour) (n : ℕ) (row : List Colour) → length (changed_upto g n row) ≡ length row
 length_changed g n row = ap length (as_mix g n row) ∙ length_upto (λ _ d. g d) n row row refl
 
-pub more_changed : (g : Colour → Colour) (n m j : ℕ) (row : List Colour) → j ≡ n + m → j ≤ length row
+more_changed : (g : Colour → Colour) (n m j : ℕ) (row : List Colour) → j ≡ n + m → j ≤ length row
     → put_chunk n (changed_upto g n row) (map g (chunk n m (changed_upto g n row))) ≡ changed_upto g j row
 more_changed g n m j row k h =
     let now = changed_upto g n row in
@@ -88,6 +93,10 @@ more_changed g n m j row k h =
     ap (put_chunk n now) (sym (same_map g (chunk n m row) (chunk n m now) long))
     ∙ ap (λ l. put_chunk n l (zip2 (λ _ d. g d) (chunk n m row) (chunk n m l))) (as_mix g n row)
     ∙ more_put (λ _ d. g d) n m j row row k refl h ∙ sym (as_mix g j row)
+
+pub step_changed : (g : Colour → Colour) (n m j : ℕ) (row now next : List Colour) → j ≡ n + m → j ≤ length row → now ≡ changed_upto g n row
+    → next ≡ put_chunk n now (map g (chunk n m now)) → next ≡ changed_upto g j row
+step_changed g n m j row now next k h is step = step ∙ ap (λ r. put_chunk n r (map g (chunk n m r))) is ∙ more_changed g n m j row k h
 
 pub whole_changed : (g : Colour → Colour) (row : List Colour) → changed_upto g (length row) row ≡ map g row
 whole_changed g row = as_mix g (length row) row ∙ whole (λ _ d. g d) row row refl ∙ same_map g row row refl

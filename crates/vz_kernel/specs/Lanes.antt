@@ -1,5 +1,5 @@
 -- The channels of colours as the lanes of vectors.
-use Rattle.std.specs.Prelude.{◌≡◌, ℕ, ◌+◌, ◌*◌, ◌≤◌, List, [], ◌∷◌}
+use Rattle.std.specs.Prelude.{◌≡◌, ℕ, ◌+◌, ◌-◌, ◌*◌, ◌/◌, ◌≤◌, List, [], ◌∷◌, replicate}
 use lib.Lanes.{Each1}
 use Rattle.vz_pixels.specs.Colour.{Colour, IsPremultiplied}
 
@@ -61,3 +61,11 @@ AreBytes xs = Each1 (λ x. x ≤ 255) xs
 pub record AreLanes (v : List ℕ) (cs : List Colour) : Type 0 where
   pub value : v ≡ channels cs
   pub good : Each1 IsPremultiplied cs
+
+-- what a byte times 256 is multiplied by, so that the high half of the product has it by parts of 255
+abbrev pub factor_of : ℕ → ℕ
+factor_of b = b * 257 - b / 255 + b / 128
+
+-- all 32 lanes are the factor of this number
+abbrev pub AreFactors : ℕ → List ℕ → Type 0
+AreFactors b v = v ≡ replicate 32 (factor_of b)

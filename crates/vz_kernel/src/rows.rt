@@ -1,52 +1,42 @@
 //! Rows of pixels laid over other rows, put in their place, or used as their mask; and the same
 //! with one colour in place of a row.
-ghost use Rattle.std.specs.Prelude.{◌≡◌, ◌+◌, ◌≤◌, length, map, List, replicate};
+ghost use Rattle.std.specs.Prelude.{◌≡◌, ◌-◌, length, map, List, replicate};
 ghost use lib.Lanes.{zip2};
 ghost use Rattle.vz_pixels.specs.Colour.{Colour, over, scale};
 ghost use Rattle.vz_kernel.specs.Rows.{laid_over, scaled, kept_in, tinted, faded};
 
 use crate::groups::{load, store};
-use crate::lanes::{alphas, is_clear, is_opaque, odds, parts};
+use crate::lanes::{ALL_HIGH, alphas, high_alphas, is_clear, is_opaque, odds, parts};
 use crate::mixes::{faded, over, scaled, tinted};
 use crate::walks::{Change, Mix, change_row, mix_row};
 use std::simd::prelude::*;
 use vz_pixels::Pixel;
 
-/// Whether four of the sixteen pixels from index `at` on are transparent: where this is false, not
-/// all of them are.
-#[inline(always)]
-fn may_be_clear(row: &[Pixel], at: usize) -> bool
-    requires { at + 16 ≤ length row.now }
-{
-    row[at].a() | row[at + 5].a() | row[at + 10].a() | row[at + 15].a() == 0
-}
-
-/// Whether four of the sixteen pixels from index `at` on are opaque: where this is false, not all
-/// of them are.
-#[inline(always)]
-fn may_be_opaque(row: &[Pixel], at: usize) -> bool
-    requires { at + 16 ≤ length row.now }
-{
-    row[at].a() & row[at + 5].a() & row[at + 10].a() & row[at + 15].a() == 255
-}
-
 /// Lays each pixel over the one at its index. Sixteen opaque pixels are copied, and sixteen
-/// transparent ones change nothing. These tests are made only if four of the sixteen are opaque, or
-/// transparent.
+/// transparent ones change nothing. These tests are made only if the first eight alphas are all
+/// 128 or more, or all less.
 #[derive(Clone, Copy)]
 struct Over;
 
 impl Mix for Over {
     ghost mixed = { λ _ s d. over s d };
 
+    ghost number = { λ _. 0 };
+
     #[inline(always)]
-    fn group(&self, dst: &mut [Pixel], src: &[Pixel], at: usize) {
+    fn number(&self) -> u8 {
+        0
+    }
+
+    #[inline(always)]
+    fn group(&self, dst: &mut [Pixel], src: &[Pixel], at: usize, _factors: u16x32) {
         let top = load(src, at);
-        if may_be_clear(src, at) && is_clear(top) {
+        let high = high_alphas(top);
+        if high == 0 && is_clear(top) {
             return;
         }
-        if may_be_opaque(src, at) && is_opaque(top) {
-            dst[at..at + 16].copy_from_slice(&src[at..at + 16]);
+        if high == ALL_HIGH && is_opaque(top) {
+            store(dst, at, top);
             return;
         }
         let under = load(dst, at);
@@ -69,14 +59,21 @@ struct OverBy {
 impl Mix for OverBy {
     ghost mixed = { λ m s d. over (scale s m.opacity) d };
 
+    ghost number = { λ m. m.opacity };
+
     #[inline(always)]
-    fn group(&self, dst: &mut [Pixel], src: &[Pixel], at: usize) {
+    fn number(&self) -> u8 {
+        self.opacity
+    }
+
+    #[inline(always)]
+    fn group(&self, dst: &mut [Pixel], src: &[Pixel], at: usize, factors: u16x32) {
         let top = load(src, at);
-        if may_be_clear(src, at) && is_clear(top) {
+        if high_alphas(top) == 0 && is_clear(top) {
             return;
         }
         let under = load(dst, at);
-        store(dst, at, over(faded(top, self.opacity), under));
+        store(dst, at, over(faded(top, factors), under));
     }
 
     #[inline(always)]
@@ -94,9 +91,16 @@ struct SrcBy {
 impl Mix for SrcBy {
     ghost mixed = { λ m s _. scale s m.opacity };
 
+    ghost number = { λ m. m.opacity };
+
     #[inline(always)]
-    fn group(&self, dst: &mut [Pixel], src: &[Pixel], at: usize) {
-        store(dst, at, faded(load(src, at), self.opacity));
+    fn number(&self) -> u8 {
+        self.opacity
+    }
+
+    #[inline(always)]
+    fn group(&self, dst: &mut [Pixel], src: &[Pixel], at: usize, factors: u16x32) {
+        store(dst, at, faded(load(src, at), factors));
     }
 
     #[inline(always)]
@@ -113,14 +117,21 @@ struct DstIn;
 impl Mix for DstIn {
     ghost mixed = { λ _ s d. scale d s.a };
 
+    ghost number = { λ _. 0 };
+
     #[inline(always)]
-    fn group(&self, dst: &mut [Pixel], src: &[Pixel], at: usize) {
+    fn number(&self) -> u8 {
+        0
+    }
+
+    #[inline(always)]
+    fn group(&self, dst: &mut [Pixel], src: &[Pixel], at: usize, _factors: u16x32) {
         let top = load(src, at);
-        let alpha = src[at].a();
-        if alpha == 255 && is_opaque(top) {
+        let high = high_alphas(top);
+        if high == ALL_HIGH && is_opaque(top) {
             return;
         }
-        if alpha == 0 && is_clear(top) {
+        if high == 0 && is_clear(top) {
             dst[at..at + 16].fill(Pixel::transparent());
             return;
         }
@@ -143,8 +154,15 @@ struct DstInBy {
 impl Mix for DstInBy {
     ghost mixed = { λ m s d. scale d (scale s m.opacity).a };
 
+    ghost number = { λ _. 0 };
+
     #[inline(always)]
-    fn group(&self, dst: &mut [Pixel], src: &[Pixel], at: usize) {
+    fn number(&self) -> u8 {
+        0
+    }
+
+    #[inline(always)]
+    fn group(&self, dst: &mut [Pixel], src: &[Pixel], at: usize, _factors: u16x32) {
         let by = u16x32::splat(u16::from(self.opacity));
         let kept = parts(alphas(odds(load(src, at))), by);
         let under = load(dst, at);
@@ -166,11 +184,18 @@ struct Tint {
 impl Change for Tint {
     ghost changed = { λ c d. over c.colour d };
 
+    ghost number = { λ c. 255 - c.colour.a };
+
     #[inline(always)]
-    fn group(&self, row: &mut [Pixel], at: usize) {
+    fn number(&self) -> u8 {
+        255 - self.colour.a()
+    }
+
+    #[inline(always)]
+    fn group(&self, row: &mut [Pixel], at: usize, factors: u16x32) {
         let top = load(&[self.colour; 16], 0);
         let under = load(row, at);
-        store(row, at, tinted(top, 255 - self.colour.a(), under));
+        store(row, at, tinted(top, factors, under));
     }
 
     #[inline(always)]
@@ -188,10 +213,17 @@ struct Fade {
 impl Change for Fade {
     ghost changed = { λ c d. scale d c.alpha };
 
+    ghost number = { λ c. c.alpha };
+
     #[inline(always)]
-    fn group(&self, row: &mut [Pixel], at: usize) {
+    fn number(&self) -> u8 {
+        self.alpha
+    }
+
+    #[inline(always)]
+    fn group(&self, row: &mut [Pixel], at: usize, factors: u16x32) {
         let under = load(row, at);
-        store(row, at, faded(under, self.alpha));
+        store(row, at, faded(under, factors));
     }
 
     #[inline(always)]

@@ -1,9 +1,12 @@
 //! Walks along rows: sixteen pixels at a time, and one at a time for the remainder.
-ghost use Rattle.std.specs.Prelude.{◌≡◌, ◌+◌, ◌*◌, ◌≤◌, length, List, map};
+ghost use Rattle.std.specs.Prelude.{◌≡◌, ◌+◌, ◌*◌, ◌≤◌, length, List, map, ℕ};
 ghost use lib.Lanes.{zip2, chunk, put_chunk};
 ghost use Rattle.vz_pixels.specs.Colour.{Colour};
+ghost use Rattle.vz_kernel.specs.Lanes.{AreFactors};
 ghost use Rattle.vz_kernel.specs.Rows.{mixed_upto, changed_upto};
 
+use crate::lanes::{factors, turned};
+use std::simd::prelude::*;
 use vz_pixels::Pixel;
 
 /// How many pixels are taken at a time.
@@ -14,10 +17,18 @@ pub(crate) trait Mix {
     /// What a colour becomes when another is mixed into it.
     ghost mixed: { Self → Colour → Colour → Colour };
 
-    /// Mixes sixteen pixels, from index `at` on.
-    fn group(&self, dst: &mut [Pixel], src: &[Pixel], at: usize)
+    /// The number by which it scales all colours, or 0 if there is none.
+    ghost number: { Self → ℕ };
+
+    /// That number.
+    fn number(&self) -> u8
+        ensures { result ≡ number self.now };
+
+    /// Mixes sixteen pixels, from index `at` on, with the factors of its number.
+    fn group(&self, dst: &mut [Pixel], src: &[Pixel], at: usize, factors: u16x32)
         requires dst { at + 16 ≤ length dst.old }
         requires src { at + 16 ≤ length src.now }
+        requires factors { AreFactors (number self.now) factors }
         ensures { dst.new
             ≡ put_chunk at dst.old (zip2 (mixed self.now) (chunk at 16 src.now) (chunk at 16 dst.old)) };
 
@@ -33,8 +44,10 @@ fn mix_groups<M: Mix>(mix: &M, dst: &mut [Pixel], src: &[Pixel], count: usize)
     requires inside { count * 16 ≤ length src.now }
     ensures { dst.new ≡ mixed_upto (M.mixed mix.now) (count * 16) src.now dst.old }
 {
+    let mut factors = factors(mix.number());
     for k in 0..count {
-        mix.group(dst, src, k * GROUP);
+        mix.group(dst, src, k * GROUP, factors);
+        factors = turned(factors);
     }
 }
 
@@ -67,9 +80,17 @@ pub(crate) trait Change {
     /// What a colour becomes.
     ghost changed: { Self → Colour → Colour };
 
-    /// Changes sixteen pixels, from index `at` on.
-    fn group(&self, row: &mut [Pixel], at: usize)
-        requires { at + 16 ≤ length row.old }
+    /// The number by which it scales colours.
+    ghost number: { Self → ℕ };
+
+    /// That number.
+    fn number(&self) -> u8
+        ensures { result ≡ number self.now };
+
+    /// Changes sixteen pixels, from index `at` on, with the factors of its number.
+    fn group(&self, row: &mut [Pixel], at: usize, factors: u16x32)
+        requires inside { at + 16 ≤ length row.old }
+        requires factors { AreFactors (number self.now) factors }
         ensures { row.new ≡ put_chunk at row.old (map (changed self.now) (chunk at 16 row.old)) };
 
     /// Changes one pixel.
@@ -83,8 +104,10 @@ fn change_groups<C: Change>(change: &C, row: &mut [Pixel], count: usize)
     requires { count * 16 ≤ length row.old }
     ensures { row.new ≡ changed_upto (C.changed change.now) (count * 16) row.old }
 {
+    let mut factors = factors(change.number());
     for k in 0..count {
-        change.group(row, k * GROUP);
+        change.group(row, k * GROUP, factors);
+        factors = turned(factors);
     }
 }
 

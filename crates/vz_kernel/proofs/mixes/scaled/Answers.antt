@@ -11,6 +11,6 @@ returns c cs bs lanes f =
     let q = c.parts-2.ensures.value ∙ (λ i. zip2 mul (c.odds.ensures.value i) c.args.by) in
     let e = lanes.value in
     record {
-      value = c.woven.ensures ∙ (λ i. woven (p i) (q i)) ∙ (λ i. scaled_lanes (e i) (f i)) ∙ scaled_is cs bs;
+      value = c.woven_by_fours.ensures ∙ (λ i. woven (p i) (q i)) ∙ (λ i. scaled_lanes (e i) (f i)) ∙ scaled_is cs bs;
       good = scaled_good cs bs lanes.good;
     }
