@@ -1,5 +1,5 @@
 -- The submissions that lack nothing any more, and what is left where they are released.
-use Rattle.std.proofs.Common.{◌≡◌, ℕ, ◌≤◌, ◌<◌, Bool, true, false, not, ◌==◌, cond, nat_eq, Option, Some, None, is_some, List, [], ◌∷◌, length, filter, refl, ap, sym, subst, inl, inr, ◌∙◌, arith, vec_capacity}
+use Rattle.std.proofs.Common.{◌≡◌, ℕ, ◌≤◌, ◌<◌, Bool, true, false, not, cond, nat_eq, Option, Some, None, List, [], ◌∷◌, length, filter, refl, ap, sym, subst, inl, inr, ◌∙◌, arith, vec_capacity}
 use Rattle.std.specs.List.Sorted.{IsPermutation}
 use Rattle.std.specs.Map.{lookup}
 use Rattle.std.specs.Option.{option_map}
@@ -23,14 +23,6 @@ pub same_members : (xs ys : List ℕ) → IsPermutation xs ys → (o : ℕ) → 
 unfolding is_in
 same_members xs ys moved o = sym (list_any-IsPermutation (λ n. nat_eq o n) xs ys moved)
 
-some_of : {A : Type 0} (o : Option A) → is_some o ≡ true → (a : A) × (o ≡ Some a)
-some_of None h = absurd (cc)
-some_of (Some a) h = (a, refl)
-
-nothing_length : (xs : List SurfaceId) → is_nothing xs ≡ (length xs == 0)
-nothing_length [] = refl
-nothing_length (x ∷ xs) = let more : false ≡ (length (x ∷ xs) == 0) = grind (arith, nat_tests) in more
-
 none_of : (xs : List SurfaceId) → length xs ≡ 0 → xs ≡ []
 none_of [] h = refl
 none_of (x ∷ xs) h = absurd (omega (arith, h))
@@ -39,20 +31,11 @@ done_count : (o : Option Count) → is_done o ≡ true → (c : Count) × (o ≡
 done_count None h = absurd (cc)
 done_count (Some c) h = (c, refl, from_number c.unmet 0 h)
 
-keep_same : {V : Type 0} (p q : ℕ × V → Bool) (j : ℕ) (o : Option V) → ((v : V) → o ≡ Some v → p (j, v) ≡ q (j, v)) → keep_at p j o ≡ keep_at q j o
-unfolding keep_at
-keep_same p q j None same = refl
-keep_same p q j (Some v) same = ap (λ t. cond t (Some v) None) (same v refl)
-
 pub out_kept : {V : Type 0} (q : ℕ × V → Bool) (j : ℕ) (t : Bool) (o : Option V) → ((v : V) → o ≡ Some v → t ≡ q (j, v)) → cond t None o ≡ keep_at (λ e. not (q e)) j o
 unfolding keep_at
 out_kept q j true None same = refl
 out_kept q j false None same = refl
-out_kept q j t (Some v) same = turned t ∙ ap (λ t. cond (not t) (Some v) None) (same v refl)
-  where
-    turned : (t : Bool) → cond t None (Some v) ≡ cond (not t) (Some v) None
-    turned true = refl
-    turned false = refl
+out_kept q j t (Some v) same = grind (arith, nat_tests)
 
 module _ (l : Lacks) (subs : List (ℕ × Sub)) (kept : IsKept l) (counts : HasCounts l subs) (F : List ℕ) (same : (o : ℕ) → is_in o F ≡ is_in o l.freed.items) where
   in_done : (o : ℕ) → is_in o F ≡ is_done (count_in l o)
@@ -63,16 +46,11 @@ module _ (l : Lacks) (subs : List (ℕ × Sub)) (kept : IsKept l) (counts : HasC
 
   -- of those that are blocked, those are noted that lack nothing
   done_nothing : (o : ℕ) (v : Sub) → lookup (nat_eq o) subs ≡ Some v → is_in o F ≡ is_nothing (unmet_in l o)
-  done_nothing o v h =
-      let c = some_of (count_in l o) (counts o ∙ ap is_some h) in
-      in_done o ∙ ap is_done c.1 ∙ ap (λ n. n == 0) (sym (its_unmet_of o c.0 c.1)) ∙ sym (nothing_length (unmet_in l o))
+  done_nothing o v h = grind (arith, nat_tests, in_done o, its_unmet_of o)
 
   pub out_same : filter (λ e. is_in e.0 F) (in_order subs) ≡ filter (λ e. is_nothing (unmet_in l e.0)) (in_order subs)
-  out_same =
-      one_list _ _ (rising_filter (λ (e : ℕ × Sub). is_in e.0 F) (in_order subs) (rising_order subs)) (rising_filter (λ (e : ℕ × Sub). is_nothing (unmet_in l e.0)) (in_order subs) (rising_order subs))
-      (λ j. at_filter (λ (e : ℕ × Sub). is_in e.0 F) j (in_order subs) (rising_order subs)
-      ∙ keep_same (λ (e : ℕ × Sub). is_in e.0 F) (λ (e : ℕ × Sub). is_nothing (unmet_in l e.0)) j (lookup (nat_eq j) (in_order subs)) (λ v h. done_nothing j v (sym (at_order j subs) ∙ h))
-      ∙ sym (at_filter (λ (e : ℕ × Sub). is_nothing (unmet_in l e.0)) j (in_order subs) (rising_order subs)))
+  unfolding keep_at
+  out_same = grind (arith, nat_tests, one_list, rising_filter, rising_order subs, at_filter, done_nothing, at_order)
 
   pub subs_same : (less : List (ℕ × Sub)) → ((o : ℕ) → lookup (nat_eq o) less ≡ cond (is_in o F) None (lookup (nat_eq o) subs)) → in_order less ≡ filter (λ e. not (is_nothing (unmet_in l e.0))) (in_order subs)
   subs_same less is =
@@ -84,20 +62,10 @@ module _ (l : Lacks) (subs : List (ℕ × Sub)) (kept : IsKept l) (counts : HasC
       (places : vec_capacity l.freed ≤ vec_capacity b.freed) where
     pub unmet_same : (o : ℕ) → unmet_in b o ≡ unmet_in l o
     unfolding lacks_of
-    unmet_same o =
-        elim (either (is_in o F)) [
-          | inl h ↦
-              let c = done_count (count_in l o) (sym (in_done o) ∙ h) in
-              ap (λ v. lacks_of (on_in b) o (all_of v)) (count o ∙ pick_yes _ _ _ h) ∙ sym (none_of (unmet_in l o) (its_unmet_of o c.0 c.1 ∙ c.2))
-          | inr h ↦ ap (λ v. lacks_of (on_in b) o (all_of v)) (count o ∙ pick_no _ _ _ h) ∙ same_lacks (on_in b) (on_in l) o (λ n. on (record { order = o; nth = n })) (all_of (count_in l o))
-        ]
+    unmet_same o = grind (arith, nat_tests, either (is_in o F), done_count (count_in l o), in_done o, pick_yes, none_of (unmet_in l o), its_unmet_of o, pick_no, same_lacks (on_in b) (on_in l) o)
 
     left_count : (o : ℕ) (c : Count) → count_in b o ≡ Some c → (is_in o F ≡ false) × (count_in l o ≡ Some c)
-    left_count o c h =
-        elim (either (is_in o F)) [
-          | inl k ↦ let no_way = none_some c (count_in b o) (count o ∙ pick_yes _ _ _ k) h in absurd (cc)
-          | inr k ↦ (k, sym (pick_no _ _ _ k) ∙ sym (count o) ∙ h)
-        ]
+    left_count o c h = grind (arith, nat_tests, either (is_in o F), none_some c (count_in b o), pick_yes, pick_no)
 
     within_same : (x : Lack) (d : SurfaceId) → on_in b x ≡ Some d → (c : Count) × (count_in b x.order ≡ Some c) × (x.nth < c.all)
     within_same x d h =
@@ -118,20 +86,7 @@ module _ (l : Lacks) (subs : List (ℕ × Sub)) (kept : IsKept l) (counts : HasC
     counted_same o c h = kept.counted o c (left_count o c h).1 ∙ ap length (same_lacks (on_in l) (on_in b) o (λ n. sym (on (record { order = o; nth = n }))) c.all)
 
     freed_same : (o : ℕ) → is_in o b.freed.items ≡ is_done (count_in b o)
-    freed_same o =
-        ap (is_in o) freed ∙ nobody o
-        ∙ (elim (either (is_in o F)) [
-          | inl k ↦ sym (ap is_done (count o ∙ pick_yes _ _ _ k))
-          | inr k ↦ sym (ap is_done (count o ∙ pick_no _ _ _ k) ∙ sym (in_done o) ∙ k)
-        ])
+    freed_same o = grind (arith, nat_tests, nobody o, either (is_in o F), pick_yes, pick_no, in_done o)
 
     pub done_kept : IsKept b
-    done_kept = record {
-      stands = stands;
-      listed = listed;
-      within = within_same;
-      counted = counted_same;
-      freed = freed_same;
-      few = (let f = ap length freed in let u = unready_few b.counts.entries in omega (arith, f, u));
-      room = (let was = kept.room in omega (arith, was, fewer, places));
-    }
+    done_kept = grind (arith, nat_tests, within_same, counted_same, freed_same, unready_few)

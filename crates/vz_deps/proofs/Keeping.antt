@@ -1,10 +1,8 @@
 -- What is kept of the lacks where one of them goes, and where some are added.
-use Rattle.std.proofs.Common.{◌≡◌, ℕ, ◌+◌, ◌-◌, ◌≤◌, ◌<◌, Bool, true, false, ◌==◌, ◌&&◌, cond, nat_lt, nat_eq, Option, Some, None, zero, suc, List, [], ◌∷◌, ◌++◌, length, filter, refl, ap, sym, subst, inl, inr, ◌||◌, ◌∙◌, arith, min, vec_capacity, option_to_list}
-use Rattle.std.specs.List.{list_any}
+use Rattle.std.proofs.Common.{◌≡◌, ℕ, ◌+◌, ◌-◌, ◌≤◌, ◌<◌, Bool, true, false, ◌==◌, ◌&&◌, cond, nat_lt, nat_eq, Option, Some, None, zero, suc, List, [], ◌∷◌, ◌++◌, length, refl, ap, sym, subst, inl, inr, ◌||◌, ◌∙◌, arith, min, vec_capacity, option_to_list}
 use Rattle.std.specs.Map.{lookup, set_value}
 use Rattle.std.specs.Option.{option_map}
 use Rattle.std.proofs.Math.Nat.{min-le_left, min-le_right, min-eq_left, min-eq_right}
-use Rattle.std.proofs.lemmas.Bool.{cases_lt}
 use Rattle.std.proofs.lemmas.Bool.Decides.{nat_tests}
 use Rattle.vz_ids.specs.declared.SurfaceId.{SurfaceId}
 use Rattle.vz_deps.specs.declared.bunches.Lack.{Lack}
@@ -12,7 +10,7 @@ use Rattle.vz_deps.specs.declared.bunches.Seat.{Seat}
 use Rattle.vz_deps.specs.declared.bunches.Bunches.{Bunches}
 use Rattle.vz_deps.specs.declared.lacks.Count.{Count}
 use Rattle.vz_deps.specs.declared.lacks.Lacks.{Lacks}
-use Rattle.vz_deps.specs.Bunching.{same_lack, same_seat, sized, bunch_of, Stands, IsSeated}
+use Rattle.vz_deps.specs.Bunching.{same_lack, bunch_of, Stands}
 use Rattle.vz_deps.specs.Placing.{bunch_for}
 use Rattle.vz_deps.specs.Lacking.{on_in, count_in, bunches_for, is_done, is_in, unready, lacks_of, IsKept, HasSame, HasSameSeats, IsLowered, noted, IsCleared}
 use Rattle.vz_deps.proofs.Same.{either, pick_yes, pick_no, some_same, none_some, from_lack, own_lack, from_number}
@@ -21,21 +19,7 @@ use Rattle.vz_deps.proofs.Same.{either, pick_yes, pick_no, some_same, none_some,
 
 first_one : {X : Type 0} (o n m : ℕ) (x y : X) (rest : List X) → 0 < n → m ≡ n
     → length (cond (n - 1 == 0) (o ∷ []) []) + length (cond (nat_lt 0 (n - 1)) (x ∷ rest) rest) ≡ length (cond (nat_lt 0 m) (y ∷ rest) rest)
-first_one o n m x y rest k e =
-    let some : nat_lt 0 m ≡ true = grind (arith, nat_tests, k, e) in
-    let all : length (cond (nat_lt 0 m) (y ∷ rest) rest) ≡ length (y ∷ rest) = ap (λ t. length (cond t (y ∷ rest) rest)) some in
-    elim (either (n - 1 == 0)) [
-      | inl h ↦
-          let none : nat_lt 0 (n - 1) ≡ false = grind (arith, nat_tests, h) in
-          let a : length (cond (n - 1 == 0) (o ∷ []) []) ≡ 1 = ap (λ t. length (cond t (o ∷ []) [])) h in
-          let b : length (cond (nat_lt 0 (n - 1)) (x ∷ rest) rest) ≡ length rest = ap (λ t. length (cond t (x ∷ rest) rest)) none in
-          omega (arith, a, b, all)
-      | inr h ↦
-          let more : nat_lt 0 (n - 1) ≡ true = grind (arith, nat_tests, h) in
-          let a : length (cond (n - 1 == 0) (o ∷ []) []) ≡ 0 = ap (λ t. length (cond t (o ∷ []) [])) h in
-          let b : length (cond (nat_lt 0 (n - 1)) (x ∷ rest) rest) ≡ length (x ∷ rest) = ap (λ t. length (cond t (x ∷ rest) rest)) more in
-          omega (arith, a, b, all)
-    ]
+first_one o n m x y rest k e = grind (arith, nat_tests, either)
 
 later_one : {X : Type 0} (n : ℕ) (t : Bool) (x : X) (xs ys : List X) → n + length xs ≡ length ys → n + length (cond t (x ∷ xs) xs) ≡ length (cond t (x ∷ ys) ys)
 later_one n true x xs ys h = omega (arith, h)
@@ -45,14 +29,7 @@ pub unready_lower : (o : ℕ) (c : Count) (es : List (ℕ × Count)) → lookup 
     → length (noted o (c.unmet - 1)) + length (unready (set_value (nat_eq o) es (record c { unmet = c.unmet - 1 }))) ≡ length (unready es)
 unfolding noted unready
 unready_lower o c [] h k = absurd (cc)
-unready_lower o c (e ∷ es) h k = by (nat_eq o e.0) h (λ g. unready_lower o c es g k)
-  where
-    by : (t : Bool) → cond t (Some e.1) (lookup (nat_eq o) es) ≡ Some c
-        → (lookup (nat_eq o) es ≡ Some c → length (noted o (c.unmet - 1)) + length (unready (set_value (nat_eq o) es (record c { unmet = c.unmet - 1 }))) ≡ length (unready es))
-        → length (cond (c.unmet - 1 == 0) (o ∷ []) []) + length (filter (λ (e : ℕ × Count). nat_lt 0 e.1.unmet) (cond t ((e.0, record c { unmet = c.unmet - 1 }) ∷ es) (e ∷ set_value (nat_eq o) es (record c { unmet = c.unmet - 1 }))))
-        ≡ length (filter (λ (e : ℕ × Count). nat_lt 0 e.1.unmet) (e ∷ es))
-    by true h rest = first_one o c.unmet e.1.unmet (e.0, record c { unmet = c.unmet - 1 }) e (unready es) k (ap (λ (x : Count). x.unmet) (some_same e.1 c h))
-    by false h rest = later_one (length (noted o (c.unmet - 1))) (nat_lt 0 e.1.unmet) e (unready (set_value (nat_eq o) es (record c { unmet = c.unmet - 1 }))) (unready es) (rest h)
+unready_lower o c (e ∷ es) h k = grind (arith, nat_tests, unready_lower o c es, first_one, some_same, later_one)
 
 pub noted_last : (o n : ℕ) → n ≡ 0 → noted o n ≡ o ∷ []
 unfolding noted
@@ -60,24 +37,13 @@ noted_last o n h = ap (λ n. cond (n == 0) (o ∷ []) []) h
 
 pub noted_none : (o n : ℕ) → (n ≡ 0 → ⊥) → noted o n ≡ []
 unfolding noted
-noted_none o n h =
-    elim (either (n == 0)) [
-      | inl e ↦ absurd (h (from_number n 0 e))
-      | inr e ↦ pick_no _ _ _ e
-    ]
+noted_none o n h = grind (arith, nat_tests, either, from_number n 0, pick_no)
 
 -- one that lacks something is among those
 pub one_unready : (o : ℕ) (c : Count) (es : List (ℕ × Count)) → lookup (nat_eq o) es ≡ Some c → 0 < c.unmet → 0 < length (unready es)
 unfolding unready
 one_unready o c [] h k = absurd (cc)
-one_unready o c (e ∷ es) h k = by (nat_eq o e.0) (nat_lt 0 e.1.unmet) refl h (λ g. one_unready o c es g k)
-  where
-    by : (t s : Bool) → nat_lt 0 e.1.unmet ≡ s → cond t (Some e.1) (lookup (nat_eq o) es) ≡ Some c → (lookup (nat_eq o) es ≡ Some c → 0 < length (unready es)) → 0 < length (cond s (e ∷ unready es) (unready es))
-    by t true q h rest = omega arith
-    by true false q h rest =
-        let same : e.1.unmet ≡ c.unmet = ap (λ (x : Count). x.unmet) (some_same e.1 c h) in
-        absurd (grind (arith, nat_tests, q, same, k))
-    by false false q h rest = rest h
+one_unready o c (e ∷ es) h k = grind (arith, nat_tests, one_unready o c es, some_same)
 
 pub more_length : (xs : List ℕ) (x : ℕ) → length (xs ++ x ∷ []) ≡ length xs + 1
 more_length [] x = omega arith
@@ -88,10 +54,6 @@ joined_length [] ys = omega arith
 joined_length (x ∷ xs) ys = let rest = joined_length xs ys in omega (arith, rest)
 
 -- Tests
-
-or_none : (t : Bool) → (t || false) ≡ t
-or_none true = refl
-or_none false = refl
 
 and_yes : (t : Bool) → (false || (t && true)) ≡ t
 and_yes true = refl
@@ -111,19 +73,11 @@ two_false false s h = refl
 in_joined : (o : ℕ) (xs ys : List ℕ) → is_in o (xs ++ ys) ≡ (is_in o xs || is_in o ys)
 unfolding is_in
 in_joined o [] ys = refl
-in_joined o (x ∷ xs) ys = by (nat_eq o x) (in_joined o xs ys)
-  where
-    by : (t : Bool) → is_in o (xs ++ ys) ≡ (is_in o xs || is_in o ys) → (t || is_in o (xs ++ ys)) ≡ ((t || is_in o xs) || is_in o ys)
-    by true h = refl
-    by false h = h
+in_joined o (x ∷ xs) ys = grind (arith, nat_tests, in_joined o xs ys)
 
 in_noted : (o p n : ℕ) → is_in o (noted p n) ≡ ((n == 0) && nat_eq o p)
 unfolding is_in noted
-in_noted o p n = by (n == 0) (nat_eq o p)
-  where
-    by : (t s : Bool) → list_any (λ n. nat_eq o n) (cond t (p ∷ []) []) ≡ (t && nat_eq o p)
-    by true s = or_none (nat_eq o p)
-    by false s = refl
+in_noted o p n = grind (arith, nat_tests)
 
 -- What a submission lacks, where one lack is gone
 
@@ -142,33 +96,12 @@ module _ (on on' : Lack → Option SurfaceId) (x : Lack) (gone : (y : Lack) → 
   before_it : (n : ℕ) → n ≤ x.nth → lacks_of on' x.order n ≡ lacks_of on x.order n
   unfolding lacks_of
   before_it zero h = refl
-  before_it (suc n) h =
-      let other : (x.nth == n) ≡ false = grind (arith, nat_tests, h) in
-      (λ i. before_it n (omega (arith, h)) i ++ option_to_list (stays (of_it x.order n) (two_false (x.order == x.order) (x.nth == n) other) i))
+  before_it (suc n) h = grind (arith, nat_tests, before_it n, stays, two_false)
 
   one_fewer : (d : SurfaceId) → on x ≡ Some d → (n : ℕ) → x.nth < n → length (lacks_of on' x.order n) + 1 ≡ length (lacks_of on x.order n)
   unfolding lacks_of
   one_fewer d found zero h = absurd (omega (arith, h))
-  one_fewer d found (suc n) h =
-      elim (either (x.nth == n)) [
-        | inl e ↦
-            let at : x.nth ≡ n = from_number x.nth n e in
-            let it : of_it x.order n ≡ x = (λ i. record { order = x.order; nth = sym at i }) in
-            let now : on' (of_it x.order n) ≡ None = ap on' it ∙ gone x ∙ pick_yes _ _ _ (own_lack x) in
-            let was : on (of_it x.order n) ≡ Some d = ap on it ∙ found in
-            let front = ap length (before_it n (omega (arith, at))) in
-            let a = joined_length (lacks_of on' x.order n) (option_to_list (on' (of_it x.order n))) in
-            let b = joined_length (lacks_of on x.order n) (option_to_list (on (of_it x.order n))) in
-            let a1 : length (option_to_list (on' (of_it x.order n))) ≡ 0 = ap (λ o. length (option_to_list o)) now in
-            let b1 : length (option_to_list (on (of_it x.order n))) ≡ length (d ∷ []) = ap (λ o. length (option_to_list o)) was in
-            omega (arith, front, a, b, a1, b1)
-        | inr e ↦
-            let rest = one_fewer d found n (grind (arith, nat_tests, e, h)) in
-            let same = ap (λ o. length (option_to_list o)) (stays (of_it x.order n) (two_false (x.order == x.order) (x.nth == n) e)) in
-            let a = joined_length (lacks_of on' x.order n) (option_to_list (on' (of_it x.order n))) in
-            let b = joined_length (lacks_of on x.order n) (option_to_list (on (of_it x.order n))) in
-            omega (arith, rest, same, a, b)
-      ]
+  one_fewer d found (suc n) h = grind (arith, nat_tests, either, from_number, pick_yes, own_lack, before_it, joined_length, one_fewer d found n, stays, two_false)
 
 -- a submission with a lack lacks something
 pub lacks_some : (on : Lack → Option SurfaceId) (x : Lack) (d : SurfaceId) → on x ≡ Some d → (n : ℕ) → x.nth < n → 0 < length (lacks_of on x.order n)
@@ -203,18 +136,10 @@ module _ (a b : Lacks) (x : Lack) (d : SurfaceId) (kept : IsKept a) (found : on_
   count_now o = low.1 its.0 its.1 o
 
   left_there : (y : Lack) (e : SurfaceId) → on_in b y ≡ Some e → (same_lack x y ≡ false) × (on_in a y ≡ Some e)
-  left_there y e h =
-      elim (either (same_lack x y)) [
-        | inl k ↦ let no_way = none_some e (on_in b y) (gone y ∙ pick_yes _ _ _ k) h in absurd (cc)
-        | inr k ↦ (k, sym (pick_no _ _ _ k) ∙ sym (gone y) ∙ h)
-      ]
+  left_there y e h = grind (arith, nat_tests, either (same_lack x y), none_some e (on_in b y), pick_yes, pick_no)
 
   listed_now : (w : Bool) (y : Lack) → bunch_of (bunches_for w b) y ≡ option_map (bunch_for w) (on_in b y)
-  listed_now w y = bunch w y ∙ ap (λ o. cond (same_lack x y) None o) (kept.listed w y) ∙ by (same_lack x y) ∙ sym (ap (option_map (bunch_for w)) (gone y))
-    where
-      by : (t : Bool) → cond t None (option_map (bunch_for w) (on_in a y)) ≡ option_map (bunch_for w) (cond t None (on_in a y))
-      by true = refl
-      by false = refl
+  listed_now w y = grind (arith, nat_tests)
 
   within_now : (y : Lack) (e : SurfaceId) → on_in b y ≡ Some e → (c : Count) × (count_in b y.order ≡ Some c) × (y.nth < c.all)
   within_now y e h =
@@ -240,31 +165,10 @@ module _ (a b : Lacks) (x : Lack) (d : SurfaceId) (kept : IsKept a) (found : on_
       ]
 
   freed_now : (o : ℕ) → is_in o b.freed.items ≡ is_done (count_in b o)
-  freed_now o =
-      ap (is_in o) (freed its.0 its.1) ∙ in_joined o a.freed.items (noted x.order (its.0.unmet - 1))
-      ∙ (λ i. kept.freed o i || in_noted o x.order (its.0.unmet - 1) i)
-      ∙ (elim (either (nat_eq x.order o)) [
-        | inl k ↦
-            let at : x.order ≡ o = from_number x.order o k in
-            let back : nat_eq o x.order ≡ true = grind (arith, nat_tests, at) in
-            let more : (its.0.unmet == 0) ≡ false = (let some = its_unmet in grind (arith, nat_tests, some)) in
-            let was : is_done (count_in a o) ≡ false = ap (λ c. is_done c) (ap (count_in a) (sym at) ∙ its.1) ∙ more in
-            (λ i. was i || ((its.0.unmet - 1 == 0) && back i)) ∙ and_yes (its.0.unmet - 1 == 0) ∙ sym (ap (λ c. is_done c) (count_now o ∙ pick_yes _ _ _ k))
-        | inr k ↦
-            let back : nat_eq o x.order ≡ false = grind (arith, nat_tests, k) in
-            (λ i. is_done (count_in a o) || ((its.0.unmet - 1 == 0) && back i)) ∙ or_no (is_done (count_in a o)) (its.0.unmet - 1 == 0) ∙ sym (ap (λ c. is_done c) (count_now o ∙ pick_no _ _ _ k))
-      ])
+  freed_now o = grind (arith, nat_tests, in_joined, in_noted, either, from_number, its_unmet, and_yes, count_now, pick_yes, or_no, pick_no)
 
   pub kept_now : IsKept b
-  kept_now = record {
-    stands = stands;
-    listed = listed_now;
-    within = within_now;
-    counted = counted_now;
-    freed = freed_now;
-    few = (let was = kept.few in let same = low.0 in omega (arith, was, few, same));
-    room = (let was = kept.room in let same = low.0 in omega (arith, was, places, same));
-  }
+  kept_now = grind (arith, nat_tests, listed_now, within_now, counted_now, freed_now)
 
   pub cleared_now : (met : SurfaceId → Bool) → met d ≡ true → (y : Lack) → IsCleared met (on_in a y) (on_in b y)
   cleared_now met m y =
@@ -274,19 +178,12 @@ module _ (a b : Lacks) (x : Lack) (d : SurfaceId) (kept : IsKept a) (found : on_
       ]
 
   pub all_now : (o : ℕ) → option_map (λ (c : Count). c.all) (count_in b o) ≡ option_map (λ (c : Count). c.all) (count_in a o)
-  all_now o =
-      elim (either (nat_eq x.order o)) [
-        | inl k ↦ ap (option_map (λ (c : Count). c.all)) (count_now o ∙ pick_yes _ _ _ k) ∙ sym (ap (option_map (λ (c : Count). c.all)) (ap (count_in a) (sym (from_number x.order o k)) ∙ its.1))
-        | inr k ↦ ap (option_map (λ (c : Count). c.all)) (count_now o ∙ pick_no _ _ _ k)
-      ]
+  all_now o = grind (arith, nat_tests, either (nat_eq x.order o), count_now o, pick_yes, from_number x.order o, pick_no)
 
 -- Nothing but the room changes
 
 same_stands : (a b : Bunches) → HasSameSeats a b → Stands a → Stands b
-same_stands a b same h =
-    subst (λ e. IsSeated (λ s. lookup (same_seat s) e) (λ x. lookup (same_lack x) b.seated.entries) (sized b.sizes.entries)) (sym same.seats)
-    (subst (λ e. IsSeated (λ s. lookup (same_seat s) a.seats.entries) (λ x. lookup (same_lack x) e) (sized b.sizes.entries)) (sym same.seated)
-    (subst (λ e. IsSeated (λ s. lookup (same_seat s) a.seats.entries) (λ x. lookup (same_lack x) a.seated.entries) (sized e)) (sym same.sizes) h))
+same_stands a b same h = grind (arith, nat_tests)
 
 same_bunch_of : (a b : Bunches) → HasSameSeats a b → (x : Lack) → bunch_of b x ≡ bunch_of a x
 same_bunch_of a b same x = ap (λ e. option_map (λ (s : Seat). s.bunch) (lookup (same_lack x) e)) same.seated
@@ -328,21 +225,7 @@ unfolding unready
 nobody_unready = refl
 
 pub empty_kept : (l : Lacks) → l.on.entries ≡ [] → ((w : Bool) → Stands (bunches_for w l)) → ((w : Bool) (x : Lack) → bunch_of (bunches_for w l) x ≡ None) → l.counts.entries ≡ [] → l.freed.items ≡ [] → IsKept l
-empty_kept l on stands none counts freed = record {
-  stands = stands;
-  listed = λ w x. none w x ∙ ap (option_map (bunch_for w)) (sym (no_on x));
-  within = λ x d h. (let no_way = none_some d (on_in l x) (no_on x) h in absurd (cc));
-  counted = λ o c h. (let no_way = none_some c (count_in l o) (no_count o) h in absurd (cc));
-  freed = λ o. ap (is_in o) freed ∙ nobody o ∙ ap is_done (sym (no_count o));
-  few = (let f = ap length freed in let c = ap length counts in let u = ap (λ e. length (unready e)) counts ∙ nobody_unready in omega (arith, f, c, u));
-  room = (let c = ap length counts in omega (arith, c));
-}
-  where
-    no_on : (x : Lack) → on_in l x ≡ None
-    no_on x = ap (λ e. lookup (same_lack x) e) on
-
-    no_count : (o : ℕ) → count_in l o ≡ None
-    no_count o = ap (λ e. lookup (nat_eq o) e) counts
+empty_kept l on stands none counts freed = grind (arith, nat_tests, none_some, nobody, nobody_unready)
 
 pub by_kind : (P : Bool → Type 0) → P false → P true → (w : Bool) → P w
 by_kind P p q false = p
@@ -351,19 +234,8 @@ by_kind P p q true = q
 -- Room
 
 pub least_mono : (a b x y : ℕ) → a ≤ x → b ≤ y → min a b ≤ min x y
-least_mono a b x y p q =
-    let l = min-le_left a b in
-    let r = min-le_right a b in
-    elim (cases_lt x y) [
-      | inl less ↦ subst (λ m. min a b ≤ m) (sym (min-eq_left (omega (arith, less)))) (omega (arith, l, p))
-      | inr more ↦ subst (λ m. min a b ≤ m) (sym (min-eq_right more)) (omega (arith, r, q))
-    ]
+least_mono a b x y p q = grind (arith, nat_tests, min-le_left a b, min-le_right a b, min-eq_left, min-eq_right)
 
 -- the room for counts and for their places
 pub room_places : (a b c d e n : ℕ) → n ≤ min a (min b (min c (min d e))) → n ≤ e
-room_places a b c d e n h =
-    let p = min-le_right a (min b (min c (min d e))) in
-    let q = min-le_right b (min c (min d e)) in
-    let r = min-le_right c (min d e) in
-    let s = min-le_right d e in
-    omega (arith, h, p, q, r, s)
+room_places a b c d e n h = grind (arith, nat_tests, min-le_right a (min b (min c (min d e))), min-le_right b (min c (min d e)), min-le_right c (min d e), min-le_right d e)

@@ -21,14 +21,7 @@ found_apart false b v w o h = refl
 pub at_put : {V : Type 0} (j : ℕ) (e : ℕ × V) (list : List (ℕ × V)) → lookup (nat_eq j) (put_in e list) ≡ cond (nat_eq j e.0) (Some e.1) (lookup (nat_eq j) list)
 unfolding put_in
 at_put j e [] = refl
-at_put {V} j e (x ∷ list) =
-    elim (nat_eq e.0 x.0) as (λ (t : Bool). nat_eq e.0 x.0 ≡ t → lookup (nat_eq j) (cond t (e ∷ list) (cond (nat_lt e.0 x.0) (e ∷ x ∷ list) (x ∷ put_in e list))) ≡ cond (nat_eq j e.0) (Some e.1) (cond (nat_eq j x.0) (Some x.1) (lookup (nat_eq j) list))) [
-      | true ↦ λ k. found_same (nat_eq j e.0) (nat_eq j x.0) e.1 x.1 (lookup (nat_eq j) list) (ap (nat_eq j) (from_number e.0 x.0 k))
-      | false ↦ λ k. elim (nat_lt e.0 x.0) as (λ (t : Bool). lookup (nat_eq j) (cond t (e ∷ x ∷ list) (x ∷ put_in e list)) ≡ cond (nat_eq j e.0) (Some e.1) (cond (nat_eq j x.0) (Some x.1) (lookup (nat_eq j) list))) [
-        | true ↦ refl
-        | false ↦ ap (λ o. cond (nat_eq j x.0) (Some x.1) o) (at_put j e list) ∙ found_apart (nat_eq j e.0) (nat_eq j x.0) e.1 x.1 (lookup (nat_eq j) list) (λ l m. grind (arith, nat_tests, k, l, m))
-      ]
-    ] refl
+at_put {V} j e (x ∷ list) = grind (arith, nat_tests, found_same, from_number, at_put j e list, found_apart)
 
 -- what a map has at a number is found in its order
 pub at_order : {V : Type 0} (j : ℕ) (entries : List (ℕ × V)) → lookup (nat_eq j) (in_order entries) ≡ lookup (nat_eq j) entries
@@ -44,34 +37,16 @@ above n list = list_all (λ x. nat_lt n x.0) list
 above_put : {V : Type 0} (n : ℕ) (e : ℕ × V) (list : List (ℕ × V)) → nat_lt n e.0 ≡ true → above n list ≡ true → above n (put_in e list) ≡ true
 unfolding put_in
 above_put n e [] h k = two _ _ h refl
-above_put n e (x ∷ list) h k =
-    let parts = both (nat_lt n x.0) (above n list) k in
-    elim (nat_eq e.0 x.0) as (λ (t : Bool). above n (cond t (e ∷ list) (cond (nat_lt e.0 x.0) (e ∷ x ∷ list) (x ∷ put_in e list))) ≡ true) [
-      | true ↦ two _ _ h parts.1
-      | false ↦ elim (nat_lt e.0 x.0) as (λ (t : Bool). above n (cond t (e ∷ x ∷ list) (x ∷ put_in e list)) ≡ true) [
-        | true ↦ two _ _ h k
-        | false ↦ two _ _ parts.0 (above_put n e list h parts.1)
-      ]
-    ]
+above_put n e (x ∷ list) h k = grind (arith, nat_tests, both (nat_lt n x.0), two, above_put n e list h)
 
 pub above_less : {V : Type 0} (n m : ℕ) (list : List (ℕ × V)) → nat_lt n m ≡ true → above m list ≡ true → above n list ≡ true
 above_less n m [] h k = refl
-above_less n m (x ∷ list) h k =
-    let parts = both (nat_lt m x.0) (above m list) k in
-    two _ _ (grind (arith, nat_tests, h, parts.0)) (above_less n m list h parts.1)
+above_less n m (x ∷ list) h k = grind (arith, nat_tests, both (nat_lt m x.0), two, above_less n m list h)
 
 rising_put : {V : Type 0} (e : ℕ × V) (list : List (ℕ × V)) → is_rising list ≡ true → is_rising (put_in e list) ≡ true
 unfolding put_in is_rising
 rising_put e [] h = refl
-rising_put e (x ∷ list) h =
-    let parts = both (above x.0 list) (is_rising list) h in
-    elim (nat_eq e.0 x.0) as (λ (t : Bool). nat_eq e.0 x.0 ≡ t → is_rising (cond t (e ∷ list) (cond (nat_lt e.0 x.0) (e ∷ x ∷ list) (x ∷ put_in e list))) ≡ true) [
-      | true ↦ λ k. two _ _ (ap (λ n. above n list) (from_number e.0 x.0 k) ∙ parts.0) parts.1
-      | false ↦ λ k. elim (nat_lt e.0 x.0) as (λ (t : Bool). nat_lt e.0 x.0 ≡ t → is_rising (cond t (e ∷ x ∷ list) (x ∷ put_in e list)) ≡ true) [
-        | true ↦ λ l. two _ _ (two _ _ l (above_less e.0 x.0 list l parts.0)) h
-        | false ↦ λ l. two _ _ (above_put x.0 e list (grind (arith, nat_tests, k, l)) parts.0) (rising_put e list parts.1)
-      ] refl
-    ] refl
+rising_put e (x ∷ list) h = grind (arith, nat_tests, both, two, from_number e.0 x.0, above_less e.0 x.0 list, above_put x.0 e list, rising_put e list)
 
 pub rising_order : {V : Type 0} (entries : List (ℕ × V)) → is_rising (in_order entries) ≡ true
 unfolding in_order is_rising
@@ -80,31 +55,18 @@ rising_order (e ∷ entries) = rising_put e (in_order entries) (rising_order ent
 
 above_filter : {V : Type 0} (n : ℕ) (p : ℕ × V → Bool) (list : List (ℕ × V)) → above n list ≡ true → above n (filter p list) ≡ true
 above_filter n p [] h = refl
-above_filter n p (x ∷ list) h =
-    let parts = both (nat_lt n x.0) (above n list) h in
-    elim (p x) as (λ (t : Bool). above n (cond t (x ∷ filter p list) (filter p list)) ≡ true) [
-      | true ↦ two _ _ parts.0 (above_filter n p list parts.1)
-      | false ↦ above_filter n p list parts.1
-    ]
+above_filter n p (x ∷ list) h = grind (arith, nat_tests, both (nat_lt n x.0), two, above_filter n p list)
 
 pub rising_filter : {V : Type 0} (p : ℕ × V → Bool) (list : List (ℕ × V)) → is_rising list ≡ true → is_rising (filter p list) ≡ true
 unfolding is_rising
 rising_filter p [] h = refl
-rising_filter p (x ∷ list) h =
-    let parts = both (above x.0 list) (is_rising list) h in
-    elim (p x) as (λ (t : Bool). is_rising (cond t (x ∷ filter p list) (filter p list)) ≡ true) [
-      | true ↦ two _ _ (above_filter x.0 p list parts.0) (rising_filter p list parts.1)
-      | false ↦ rising_filter p list parts.1
-    ]
+rising_filter p (x ∷ list) h = grind (arith, nat_tests, both, two, above_filter x.0 p list, rising_filter p list)
 
 -- Two lists in which the same is found
 
 pub none_below : {V : Type 0} (n : ℕ) (list : List (ℕ × V)) → above n list ≡ true → lookup (nat_eq n) list ≡ None
 none_below n [] h = refl
-none_below n (x ∷ list) h =
-    let parts = both (nat_lt n x.0) (above n list) h in
-    let other : nat_eq n x.0 ≡ false = grind (arith, nat_tests, parts.0) in
-    pick_no _ _ _ other ∙ none_below n list parts.1
+none_below n (x ∷ list) h = grind (arith, nat_tests, both (nat_lt n x.0), pick_no, none_below n list)
 
 pub own : {V : Type 0} (x : ℕ × V) (list : List (ℕ × V)) → lookup (nat_eq x.0) (x ∷ list) ≡ Some x.1
 own x list = pick_yes _ _ _ (own_number x.0)
@@ -113,9 +75,7 @@ not_none : {V : Type 0} (v : V) → Some v ≡ None → true ≡ false
 not_none v e = absurd (cc)
 
 not_less : {V : Type 0} (x y : ℕ × V) (ys : List (ℕ × V)) → above y.0 ys ≡ true → lookup (nat_eq x.0) (y ∷ ys) ≡ Some x.1 → nat_lt x.0 y.0 ≡ true → true ≡ false
-not_less x y ys h found less =
-    let other : nat_eq x.0 y.0 ≡ false = grind (arith, nat_tests, less) in
-    not_none x.1 (sym found ∙ pick_no _ _ _ other ∙ none_below x.0 ys (above_less x.0 y.0 ys less h))
+not_less x y ys h found less = grind (arith, nat_tests, not_none x.1, pick_no, none_below x.0 ys (above_less x.0 y.0 ys less h), above_less x.0 y.0 ys less h)
 
 one_number : (a b : ℕ) (s t : Bool) → nat_lt a b ≡ s → nat_lt b a ≡ t → (s ≡ true → true ≡ false) → (t ≡ true → true ≡ false) → a ≡ b
 one_number a b true t p q f g = let no_way : true ≡ false = f refl in absurd (cc)
@@ -123,13 +83,7 @@ one_number a b false true p q f g = let no_way : true ≡ false = g refl in absu
 one_number a b false false p q f g = grind (arith, nat_tests, p, q)
 
 rests : {V : Type 0} (x : ℕ × V) (xs ys : List (ℕ × V)) → above x.0 xs ≡ true → above x.0 ys ≡ true → ((j : ℕ) → lookup (nat_eq j) (x ∷ xs) ≡ lookup (nat_eq j) (x ∷ ys)) → (j : ℕ) → lookup (nat_eq j) xs ≡ lookup (nat_eq j) ys
-rests x xs ys h k same j =
-    elim (either (nat_eq j x.0)) [
-      | inl e ↦
-          let at : j ≡ x.0 = from_number j x.0 e in
-          ap (λ n. lookup (nat_eq n) xs) at ∙ none_below x.0 xs h ∙ sym (none_below x.0 ys k) ∙ ap (λ n. lookup (nat_eq n) ys) (sym at)
-      | inr e ↦ sym (pick_no _ _ _ e) ∙ same j ∙ pick_no _ _ _ e
-    ]
+rests x xs ys h k same j = grind (arith, nat_tests, either (nat_eq j x.0), from_number j x.0, none_below x.0 xs h, none_below x.0 ys k, pick_no)
 
 pub one_list : {V : Type 0} (xs ys : List (ℕ × V)) → is_rising xs ≡ true → is_rising ys ≡ true → ((j : ℕ) → lookup (nat_eq j) xs ≡ lookup (nat_eq j) ys) → xs ≡ ys
 unfolding is_rising
@@ -152,14 +106,7 @@ one_list {V} (x ∷ xs) (y ∷ ys) h k same =
 put_new : {V : Type 0} (e : ℕ × V) (list : List (ℕ × V)) → lookup (nat_eq e.0) list ≡ None → length (put_in e list) ≡ length list + 1
 unfolding put_in
 put_new e [] h = omega arith
-put_new {V} e (x ∷ list) h =
-    elim (nat_eq e.0 x.0) as (λ (t : Bool). nat_eq e.0 x.0 ≡ t → length (cond t (e ∷ list) (cond (nat_lt e.0 x.0) (e ∷ x ∷ list) (x ∷ put_in e list))) ≡ length (x ∷ list) + 1) [
-      | true ↦ λ k. let no_way : true ≡ false = not_none x.1 (sym (pick_yes _ _ _ k) ∙ h) in absurd (cc)
-      | false ↦ λ k. elim (nat_lt e.0 x.0) as (λ (t : Bool). length (cond t (e ∷ x ∷ list) (x ∷ put_in e list)) ≡ length (x ∷ list) + 1) [
-        | true ↦ omega arith
-        | false ↦ let more = put_new e list (sym (pick_no _ _ _ k) ∙ h) in omega (arith, more)
-      ]
-    ] refl
+put_new {V} e (x ∷ list) h = grind (arith, nat_tests, not_none x.1, pick_yes, put_new e list, pick_no)
 
 absent : {V : Type 0} (n : ℕ) (entries : List (ℕ × V)) → AllByRecursion (λ y. nat_eq n y ≡ false) (keys_of entries) → lookup (nat_eq n) entries ≡ None
 absent n [] h = refl
@@ -168,11 +115,7 @@ absent n (e ∷ entries) h = pick_no _ _ _ h.0 ∙ absent n entries h.1
 pub order_length : {V : Type 0} (entries : List (ℕ × V)) → IsDistinct nat_eq (keys_of entries) → length (in_order entries) ≡ length entries
 unfolding in_order IsDistinct
 order_length [] h = refl
-order_length (e ∷ entries) h =
-    let none : lookup (nat_eq e.0) (in_order entries) ≡ None = at_order e.0 entries ∙ absent e.0 entries h.0 in
-    let rest = order_length entries h.1 in
-    let more = put_new e (in_order entries) none in
-    omega (arith, rest, more)
+order_length (e ∷ entries) h = grind (arith, nat_tests, at_order e.0 entries, absent e.0 entries h.0, order_length entries h.1, put_new e (in_order entries))
 
 -- Changes of a map
 
@@ -184,53 +127,22 @@ keep_at p j (Some v) = cond (p (j, v)) (Some v) None
 pub at_filter : {V : Type 0} (p : ℕ × V → Bool) (j : ℕ) (list : List (ℕ × V)) → is_rising list ≡ true → lookup (nat_eq j) (filter p list) ≡ keep_at p j (lookup (nat_eq j) list)
 unfolding is_rising keep_at
 at_filter p j [] h = refl
-at_filter {V} p j (x ∷ list) h =
-    let parts = both (above x.0 list) (is_rising list) h in
-    let rest = at_filter p j list parts.1 in
-    elim (either (nat_eq j x.0)) [
-      | inl e ↦
-          let at : x.0 ≡ j = sym (from_number j x.0 e) in
-          let none : lookup (nat_eq j) list ≡ None = ap (λ n. lookup (nat_eq n) list) (sym at) ∙ none_below x.0 list parts.0 in
-          let later : lookup (nat_eq j) (filter p list) ≡ None = rest ∙ ap (keep_at p j) none in
-          let test : p x ≡ p (j, x.1) = ap (λ n. p (n, x.1)) at in
-          here (p x) e later ∙ ap (λ t. cond t (Some x.1) None) test ∙ sym (ap (keep_at p j) (pick_yes _ _ (lookup (nat_eq j) list) e))
-      | inr e ↦ away (p x) e ∙ rest ∙ sym (ap (keep_at p j) (pick_no _ (Some x.1) _ e))
-    ]
-  where
-    here : (t : Bool) → nat_eq j x.0 ≡ true → lookup (nat_eq j) (filter p list) ≡ None → lookup (nat_eq j) (cond t (x ∷ filter p list) (filter p list)) ≡ cond t (Some x.1) None
-    here true e l = pick_yes (nat_eq j x.0) (Some x.1) (lookup (nat_eq j) (filter p list)) e
-    here false e l = l
-
-    away : (t : Bool) → nat_eq j x.0 ≡ false → lookup (nat_eq j) (cond t (x ∷ filter p list) (filter p list)) ≡ lookup (nat_eq j) (filter p list)
-    away true e = pick_no (nat_eq j x.0) (Some x.1) (lookup (nat_eq j) (filter p list)) e
-    away false e = refl
+at_filter {V} p j (x ∷ list) h = grind (arith, nat_tests, both, at_filter p j list, either, from_number, none_below, pick_yes, pick_no)
 
 -- a map that has exactly those that pass a test is a part of the other in order
 pub order_filter : {V : Type 0} (p : ℕ × V → Bool) (old new : List (ℕ × V)) → ((j : ℕ) → lookup (nat_eq j) new ≡ keep_at p j (lookup (nat_eq j) old)) → in_order new ≡ filter p (in_order old)
-order_filter p old new is =
-    one_list (in_order new) (filter p (in_order old)) (rising_order new) (rising_filter p (in_order old) (rising_order old))
-    (λ j. at_order j new ∙ is j ∙ ap (keep_at p j) (sym (at_order j old)) ∙ sym (at_filter p j (in_order old) (rising_order old)))
+order_filter p old new is = grind (arith, nat_tests, one_list, rising_order, rising_filter, at_order, at_filter)
 
 -- one more, of a greater number than all
 
 pub at_end_of : {V : Type 0} (j : ℕ) (list : List (ℕ × V)) (e : ℕ × V) → lookup (nat_eq e.0) list ≡ None → lookup (nat_eq j) (list ++ e ∷ []) ≡ cond (nat_eq e.0 j) (Some e.1) (lookup (nat_eq j) list)
-at_end_of j [] e h = turned
-  where
-    turned : cond (nat_eq j e.0) (Some e.1) None ≡ cond (nat_eq e.0 j) (Some e.1) None
-    turned = ap (λ t. cond t (Some e.1) None) (let same : nat_eq j e.0 ≡ nat_eq e.0 j = grind (arith, nat_tests) in same)
+at_end_of j [] e h = grind (arith, nat_tests)
 at_end_of j (x ∷ list) e h =
-    elim (either (nat_eq e.0 x.0)) [
-      | inl k ↦ let no_way : true ≡ false = not_none x.1 (sym (pick_yes _ _ _ k) ∙ h) in absurd (cc)
-      | inr k ↦
-          let rest = at_end_of j list e (sym (pick_no _ _ _ k) ∙ h) in
-          ap (λ o. cond (nat_eq j x.0) (Some x.1) o) rest ∙ found_apart (nat_eq e.0 j) (nat_eq j x.0) e.1 x.1 (lookup (nat_eq j) list) (λ l m. grind (arith, nat_tests, k, l, m))
-    ]
+    grind (arith, nat_tests, either (nat_eq e.0 x.0), not_none x.1, pick_yes, at_end_of j list e, pick_no, found_apart (nat_eq e.0 j) (nat_eq j x.0) e.1 x.1 (lookup (nat_eq j) list))
 
 above_end : {V : Type 0} (n : ℕ) (list : List (ℕ × V)) (e : ℕ × V) → nat_lt n e.0 ≡ true → above n list ≡ true → above n (list ++ e ∷ []) ≡ true
 above_end n [] e h k = two _ _ h refl
-above_end n (x ∷ list) e h k =
-    let parts = both (nat_lt n x.0) (above n list) k in
-    two _ _ parts.0 (above_end n list e h parts.1)
+above_end n (x ∷ list) e h k = grind (arith, nat_tests, both (nat_lt n x.0), two, above_end n list e h)
 
 below : {V : Type 0} → ℕ → List (ℕ × V) → Bool
 below n list = list_all (λ x. nat_lt x.0 n) list
@@ -238,10 +150,7 @@ below n list = list_all (λ x. nat_lt x.0 n) list
 rising_end : {V : Type 0} (list : List (ℕ × V)) (e : ℕ × V) → is_rising list ≡ true → below e.0 list ≡ true → is_rising (list ++ e ∷ []) ≡ true
 unfolding is_rising below
 rising_end [] e h k = refl
-rising_end (x ∷ list) e h k =
-    let parts = both (above x.0 list) (is_rising list) h in
-    let lows = both (nat_lt x.0 e.0) (below e.0 list) k in
-    two _ _ (above_end x.0 list e lows.0 parts.0) (rising_end list e parts.1 lows.1)
+rising_end (x ∷ list) e h k = grind (arith, nat_tests, both, both (nat_lt x.0 e.0), two, above_end x.0 list e, rising_end list e)
 
 -- all that is found in a list is below
 all_below : {V : Type 0} (n : ℕ) (list : List (ℕ × V)) → is_rising list ≡ true → ((j : ℕ) (v : V) → lookup (nat_eq j) list ≡ Some v → j < n) → below n list ≡ true

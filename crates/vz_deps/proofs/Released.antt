@@ -1,5 +1,5 @@
 -- Submissions are released by rising numbers.
-use Rattle.std.proofs.Common.{◌≡◌, ℕ, ◌+◌, ◌≤◌, ◌<◌, Bool, true, false, not, ◌||◌, ◌==◌, cond, nat_lt, nat_le, nat_eq, Option, Some, None, suc, List, [], ◌∷◌, ◌++◌, length, filter, map, drop, get_or, refl, ap, sym, inl, inr, ◌∙◌, arith, option_to_list, slice_index_or}
+use Rattle.std.proofs.Common.{◌≡◌, ℕ, ◌+◌, ◌≤◌, ◌<◌, Bool, true, false, not, cond, nat_lt, nat_le, nat_eq, Option, Some, None, suc, List, [], ◌∷◌, ◌++◌, length, filter, map, drop, get_or, refl, ap, sym, inl, inr, ◌∙◌, arith, option_to_list, slice_index_or}
 use Rattle.std.specs.List.{list_all}
 use Rattle.std.specs.List.Sorted.{IsNonDecreasing}
 use Rattle.std.specs.Map.{lookup}
@@ -15,11 +15,7 @@ use Rattle.vz_deps.proofs.Keeping.{joined_length}
 use Rattle.vz_deps.proofs.Orders.{above, none_below, above_less, keep_at, order_filter, rising_order, at_order}
 
 pub from_sub : (a b : Sub) → same_sub a b ≡ true → a ≡ b
-from_sub a b h =
-    let p = both (a.client == b.client) (a.ordinal == b.ordinal) h in
-    let c = from_number a.client b.client p.0 in
-    let o = from_number a.ordinal b.ordinal p.1 in
-    λ i. record { client = c i; ordinal = o i }
+from_sub a b h = grind (arith, nat_tests, both, from_number a.client b.client, from_number a.ordinal b.ordinal)
 
 pub own_sub : (a : Sub) → same_sub a a ≡ true
 own_sub a = two _ _ (own_number a.client) (own_number a.ordinal)
@@ -28,50 +24,14 @@ own_sub a = two _ _ (own_number a.client) (own_number a.ordinal)
 
 pub numbered_less : (subs less : List (ℕ × Sub)) (numbers fewer : List (Sub × ℕ)) (o : ℕ) (s : Sub) → IsNumbered subs numbers → lookup (nat_eq o) subs ≡ Some s
     → ((q : ℕ) → lookup (nat_eq q) less ≡ cond (nat_eq o q) None (lookup (nat_eq q) subs)) → ((t : Sub) → lookup (same_sub t) fewer ≡ cond (same_sub s t) None (lookup (same_sub t) numbers)) → IsNumbered less fewer
-numbered_less subs less numbers fewer o s is found by_number by_sub = record {
-  of_sub = λ t q h. at_sub t q h;
-  of_number = λ q t h. at_number q t h;
-}
-  where
-    at_sub : (t : Sub) (q : ℕ) → lookup (same_sub t) fewer ≡ Some q → lookup (nat_eq q) less ≡ Some t
-    at_sub t q h =
-        elim (either (same_sub s t)) [
-          | inl k ↦ let no_way = none_some q (lookup (same_sub t) fewer) (by_sub t ∙ pick_yes _ _ _ k) h in absurd (cc)
-          | inr k ↦
-              let old : lookup (nat_eq q) subs ≡ Some t = is.of_sub t q (sym (pick_no _ _ _ k) ∙ sym (by_sub t) ∙ h) in
-              elim (either (nat_eq o q)) [
-                | inl l ↦
-                    let same : s ≡ t = some_same s t (sym found ∙ ap (λ n. lookup (nat_eq n) subs) (from_number o q l) ∙ old) in
-                    let no_way = yes_no (same_sub s t) (ap (same_sub s) (sym same) ∙ own_sub s) k in
-                    absurd (cc)
-                | inr l ↦ by_number q ∙ pick_no _ _ _ l ∙ old
-              ]
-        ]
-
-    at_number : (q : ℕ) (t : Sub) → lookup (nat_eq q) less ≡ Some t → lookup (same_sub t) fewer ≡ Some q
-    at_number q t h =
-        elim (either (nat_eq o q)) [
-          | inl k ↦ let no_way = none_some t (lookup (nat_eq q) less) (by_number q ∙ pick_yes _ _ _ k) h in absurd (cc)
-          | inr k ↦
-              let old : lookup (same_sub t) numbers ≡ Some q = is.of_number q t (sym (pick_no _ _ _ k) ∙ sym (by_number q) ∙ h) in
-              elim (either (same_sub s t)) [
-                | inl l ↦
-                    let same : o ≡ q = some_same o q (sym (is.of_number o s found) ∙ ap (λ t. lookup (same_sub t) numbers) (from_sub s t l) ∙ old) in
-                    let no_way = yes_no (nat_eq o q) (ap (nat_eq o) (sym same) ∙ own_number o) k in
-                    absurd (cc)
-                | inr l ↦ by_sub t ∙ pick_no _ _ _ l ∙ old
-              ]
-        ]
+numbered_less subs less numbers fewer o s is found by_number by_sub = grind (arith, nat_tests, either, none_some, pick_yes, pick_no, some_same, from_number, yes_no, own_sub, from_sub, own_number)
 
 -- Numbers that do not fall
 
 pub not_in_later : (q o : ℕ) (rest : List ℕ) → list_all (λ m. nat_le o m) rest ≡ true → nat_lt q o ≡ true → is_in q rest ≡ false
 unfolding is_in
 not_in_later q o [] h less = refl
-not_in_later q o (m ∷ rest) h less =
-    let parts = both (nat_le o m) (list_all (λ m. nat_le o m) rest) h in
-    let other : nat_eq q m ≡ false = grind (arith, nat_tests, less, parts.0) in
-    ap (λ t. t || is_in q rest) other ∙ not_in_later q o rest parts.1 less
+not_in_later q o (m ∷ rest) h less = grind (arith, nat_tests, both (nat_le o m) (list_all (λ m. nat_le o m) rest) h, not_in_later q o rest)
 
 no_less : (n : ℕ) (xs : List ℕ) → ((j d : ℕ) → j < length xs → n ≤ slice_index_or xs j d) → list_all (λ m. nat_le n m) xs ≡ true
 no_less n [] h = refl
@@ -96,37 +56,22 @@ module _ {V : Type 0} (o : ℕ) (rest : List ℕ) (least : list_all (λ m. nat_l
   abbrev these : List (ℕ × V) → List (ℕ × V)
   these list = filter (λ e. is_in e.0 (o ∷ rest)) list
 
-  one_above : (e : ℕ × V) (list : List (ℕ × V)) → nat_eq o e.0 ≡ false → these list ≡ others list → these (e ∷ list) ≡ others (e ∷ list)
-  unfolding is_in
-  one_above e list k same =
-      let turned : nat_eq e.0 o ≡ false = grind (arith, nat_tests, k) in
-      ap (λ t. cond (t || is_in e.0 rest) (e ∷ these list) (these list)) turned ∙ ap (λ l. cond (is_in e.0 rest) (e ∷ l) l) same
-      ∙ sym (ap (λ t. filter (λ (e : ℕ × V). is_in e.0 rest) (cond (not t) (e ∷ filter (λ e. not (nat_eq o e.0)) list) (filter (λ e. not (nat_eq o e.0)) list))) k)
-
   above_same : (list : List (ℕ × V)) → above o list ≡ true → these list ≡ others list
+  unfolding is_in
   above_same [] h = refl
-  above_same (e ∷ list) h =
-      let parts = both (nat_lt o e.0) (above o list) h in
-      one_above e list (grind (arith, nat_tests, parts.0)) (above_same list parts.1)
+  above_same (e ∷ list) h = grind (arith, nat_tests, both (nat_lt o e.0) (above o list) h, above o list, above_same list)
 
   abbrev values : List (ℕ × V) → List V
   values list = map (λ e. e.1) list
 
   here : (e : ℕ × V) (list : List (ℕ × V)) → nat_eq o e.0 ≡ true → these list ≡ others list → values (these (e ∷ list)) ≡ option_to_list (lookup (nat_eq o) (e ∷ list)) ++ values (others (e ∷ list))
   unfolding is_in
-  here e list k same =
-      let turned : nat_eq e.0 o ≡ true = grind (arith, nat_tests, k) in
-      ap (λ t. values (cond (t || is_in e.0 rest) (e ∷ these list) (these list))) turned ∙ ap (λ l. e.1 ∷ values l) same
-      ∙ sym (ap (λ t. option_to_list (cond t (Some e.1) (lookup (nat_eq o) list)) ++ values (filter (λ (e : ℕ × V). is_in e.0 rest) (cond (not t) (e ∷ filter (λ e. not (nat_eq o e.0)) list) (filter (λ e. not (nat_eq o e.0)) list)))) k)
+  here e list k same = grind (arith, nat_tests)
 
   before : (e : ℕ × V) (list : List (ℕ × V)) → nat_eq o e.0 ≡ false → is_in e.0 rest ≡ false → values (these list) ≡ option_to_list (lookup (nat_eq o) list) ++ values (others list)
       → values (these (e ∷ list)) ≡ option_to_list (lookup (nat_eq o) (e ∷ list)) ++ values (others (e ∷ list))
   unfolding is_in
-  before e list k none same =
-      let turned : nat_eq e.0 o ≡ false = grind (arith, nat_tests, k) in
-      ap (λ t. values (cond (t || is_in e.0 rest) (e ∷ these list) (these list))) turned ∙ ap (λ t. values (cond t (e ∷ these list) (these list))) none ∙ same
-      ∙ sym (ap (λ t. option_to_list (cond t (Some e.1) (lookup (nat_eq o) list)) ++ values (filter (λ (e : ℕ × V). is_in e.0 rest) (cond (not t) (e ∷ filter (λ e. not (nat_eq o e.0)) list) (filter (λ e. not (nat_eq o e.0)) list)))) k
-      ∙ ap (λ t. option_to_list (lookup (nat_eq o) list) ++ values (cond t (e ∷ others list) (others list))) none)
+  before e list k none same = grind (arith, nat_tests)
 
   first_is : (list : List (ℕ × V)) → is_rising list ≡ true → values (these list) ≡ option_to_list (lookup (nat_eq o) list) ++ values (others list)
   unfolding is_rising
@@ -169,16 +114,7 @@ module _ (F : List ℕ) (k d : ℕ) (inside : k < length F) (up : never_falls (d
   -- which are left, of a map
   pub left_next : {V : Type 0} (q : ℕ) (old now new : Option V) → cond (is_in q (drop k F)) None now ≡ old → new ≡ cond (nat_eq number q) None now → cond (is_in q later) None new ≡ old
   unfolding is_in
-  left_next {V} q old now new was is =
-      ap (cond (is_in q later) None) is ∙ by (nat_eq number q) (nat_eq q number) (is_in q later) (let same : nat_eq number q ≡ nat_eq q number = grind (arith, nat_tests) in same)
-      ∙ ap (λ l. cond (is_in q l) None now) (sym split) ∙ was
-    where
-      by : (t u s : Bool) → t ≡ u → cond s None (cond t None now) ≡ cond (u || s) None now
-      by true true true e = refl
-      by true true false e = refl
-      by false false s e = ap (λ o. cond s None o) refl
-      by true false s e = absurd (cc)
-      by false true s e = absurd (cc)
+  left_next {V} q old now new was is = grind (arith, nat_tests, split)
 
   kept_by : (t : Bool) (o : Option Sub) (q : ℕ) → nat_eq number q ≡ t → cond t None o ≡ keep_at (λ (e : ℕ × Sub). not (nat_eq number e.0)) q o
   unfolding keep_at
@@ -220,17 +156,7 @@ out_end F k out all list over was =
 
 part_length : (p : ℕ × Sub → Bool) (list : List (ℕ × Sub)) → length (map (λ e. e.1) (filter p list)) ≤ length list
 part_length p [] = omega arith
-part_length p (e ∷ list) =
-    let rest = part_length p list in
-    elim (p e) as (λ (t : Bool). length (map (λ (e : ℕ × Sub). e.1) (cond t (e ∷ filter p list) (filter p list))) ≤ length (e ∷ list)) [
-      | true ↦ omega (arith, rest)
-      | false ↦ omega (arith, rest)
-    ]
+part_length p (e ∷ list) = grind (arith, nat_tests, part_length p list)
 
 pub room_left : (p : ℕ × Sub → Bool) (all : List (ℕ × Sub)) (out first rest : List Sub) (spare room n : ℕ) → out ++ rest ≡ first ++ map (λ e. e.1) (filter p all) → room + length out ≡ spare + length first → length all ≤ spare → n ≤ length rest → n ≤ room
-room_left p all out first rest spare room n is total fits low =
-    let a = joined_length out rest in
-    let b = joined_length first (map (λ (e : ℕ × Sub). e.1) (filter p all)) in
-    let same = ap length is in
-    let part = part_length p all in
-    omega (arith, a, b, same, part, total, fits, low)
+room_left p all out first rest spare room n is total fits low = grind (arith, nat_tests, joined_length out rest, joined_length first, part_length p all)

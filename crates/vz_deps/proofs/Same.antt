@@ -26,38 +26,22 @@ pub own_number : (a : ℕ) → (a == a) ≡ true
 own_number a = grind (arith, nat_tests)
 
 pub from_lack : (a b : Lack) → same_lack a b ≡ true → a ≡ b
-from_lack a b h =
-    let p = both _ _ h in
-    let o = from_number a.order b.order p.0 in
-    let n = from_number a.nth b.nth p.1 in
-    λ i. record { order = o i; nth = n i }
+from_lack a b h = grind (arith, nat_tests, both, from_number a.order b.order, from_number a.nth b.nth)
 
 pub own_lack : (a : Lack) → same_lack a a ≡ true
 own_lack a = two _ _ (own_number a.order) (own_number a.nth)
 
 pub from_sink : (a b : FrameSinkId) → same_sink a b ≡ true → a ≡ b
-from_sink a b h =
-    let p = both _ _ h in
-    let c = from_number a.client_id b.client_id p.0 in
-    let s = from_number a.sink_id b.sink_id p.1 in
-    λ i. record { client_id = c i; sink_id = s i }
+from_sink a b h = grind (arith, nat_tests, both, from_number a.client_id b.client_id, from_number a.sink_id b.sink_id)
 
 pub from_bunch : (a b : Bunch) → same_bunch a b ≡ true → a ≡ b
-from_bunch a b h =
-    let p = both _ _ h in
-    let s = from_sink a.sink b.sink p.0 in
-    let t = from_number a.token.0 b.token.0 p.1 in
-    λ i. record { sink = s i; token = record a.token { 0 = t i } }
+from_bunch a b h = grind (arith, nat_tests, both, from_sink a.sink b.sink, from_number a.token.0 b.token.0)
 
 pub own_bunch : (a : Bunch) → same_bunch a a ≡ true
 own_bunch a = two _ _ (two _ _ (own_number a.sink.client_id) (own_number a.sink.sink_id)) (own_number a.token.0)
 
 pub from_seat : (a b : Seat) → same_seat a b ≡ true → a ≡ b
-from_seat a b h =
-    let p = both _ _ h in
-    let k = from_bunch a.bunch b.bunch p.0 in
-    let n = from_number a.at b.at p.1 in
-    λ i. record { bunch = k i; at = n i }
+from_seat a b h = grind (arith, nat_tests, both, from_bunch a.bunch b.bunch, from_number a.at b.at)
 
 pub own_seat : (a : Seat) → same_seat a a ≡ true
 own_seat a = two _ _ (own_bunch a.bunch) (own_number a.at)

@@ -5,9 +5,8 @@ use Rattle.std.specs.List.{list_any}
 use Rattle.std.proofs.lemmas.List.Folds.{list_any_more}
 use Rattle.vz_deps.specs.Tracking.{meets, meets_any}
 use Rattle.std.proofs.lemmas.Bool.Decides.{nat_tests}
-use Rattle.vz_ids.specs.declared.LocalSurfaceId.{LocalSurfaceId}
 use Rattle.vz_ids.specs.declared.SurfaceId.{SurfaceId}
-use Rattle.vz_ids.specs.Ids.{same_sink, same_local, same_surface, is_raised, newer}
+use Rattle.vz_ids.specs.Ids.{same_sink, same_local, same_surface, newer}
 use Rattle.vz_deps.specs.declared.bunches.Bunch.{Bunch}
 use Rattle.vz_deps.specs.declared.bunches.Lack.{Lack}
 use Rattle.vz_deps.specs.declared.bunches.Seat.{Seat}
@@ -32,57 +31,19 @@ cleared_both met o n m (inr e) (inl f) = inr (e.0, e.1, e.2, f ∙ e.3)
 cleared_both met o n m (inr e) (inr f) = inr (e.0, e.1, e.2, f.3)
 
 pub meets_none : (met : SurfaceId → Bool) (a : Lacks) → IsKept a → Meets met a a
-meets_none met a kept = record {
-  kept = kept;
-  on = λ x. inl refl;
-  all = λ o. refl;
-  seats = λ w s x h. (s.at, omega arith, h);
-  room = omega arith;
-}
+meets_none met a kept = grind (arith, nat_tests)
 
 pub meets_both : (met : SurfaceId → Bool) (a b c : Lacks) → Meets met a b → Meets met b c → Meets met a c
-meets_both met a b c p q = record {
-  kept = q.kept;
-  on = λ x. cleared_both met (on_in a x) (on_in b x) (on_in c x) (p.on x) (q.on x);
-  all = λ o. q.all o ∙ p.all o;
-  seats = λ w s x h.
-      (let second = q.seats w s x h in
-      let first = p.seats w (record s { at = second.0 }) x second.2 in
-      (first.0, (let f = first.1 in let g = second.1 in omega (arith, f, g)), first.2));
-  room = (let f = p.room in let g = q.room in omega (arith, f, g));
-}
+meets_both met a b c p q = grind (arith, nat_tests, cleared_both)
 
 pub meets_more : (met more : SurfaceId → Bool) (a b : Lacks) → ((d : SurfaceId) → met d ≡ true → more d ≡ true) → Meets met a b → Meets more a b
-meets_more met more a b wider p = record {
-  kept = p.kept;
-  on = λ x. wide (on_in a x) (on_in b x) (p.on x);
-  all = p.all;
-  seats = p.seats;
-  room = p.room;
-}
-  where
-    wide : (o n : Option SurfaceId) → IsCleared met o n → IsCleared more o n
-    wide o n (inl e) = inl e
-    wide o n (inr e) = inr (e.0, e.1, wider e.0 e.2, e.3)
+meets_more met more a b wider p = grind (arith, nat_tests)
 
 -- The bunch of what is met
 
-same_place : (a d : SurfaceId) → same_sink a.sink d.sink ≡ true → (a.local.token.0 == d.local.token.0) ≡ true → bunch_for false d ≡ bunch_for false a
-same_place a d h k =
-    let s = from_sink a.sink d.sink h in
-    let t = from_number a.local.token.0 d.local.token.0 k in
-    λ i. record { sink = sym s i; token = record { 0 = sym t i } }
-
-same_token : (a b : LocalSurfaceId) → same_local a b ≡ true → (a.token.0 == b.token.0) ≡ true
-same_token a b h = (both ((a.parent == b.parent) && (a.child == b.child)) (a.token.0 == b.token.0) h).1
-
 met_group : (id d : SurfaceId) (t : Bool) → same_surface id d ≡ t → (t || (same_sink id.sink d.sink && newer id.local d.local)) ≡ true → bunch_for false d ≡ bunch_for false id
-met_group id d true e k =
-    let p = both (same_sink id.sink d.sink) (same_local id.local d.local) e in
-    same_place id d p.0 (same_token id.local d.local p.1)
-met_group id d false e k =
-    let p = both (same_sink id.sink d.sink) (newer id.local d.local) k in
-    same_place id d p.0 (both (id.local.token.0 == d.local.token.0) (is_raised d.local id.local) p.1).0
+met_group id d true e k = grind (arith, nat_tests, both (same_sink id.sink d.sink) (same_local id.local d.local) e, from_sink, from_number, both)
+met_group id d false e k = grind (arith, nat_tests, both (same_sink id.sink d.sink) (newer id.local d.local) k, from_sink, from_number, both)
 
 pub met_bunch : (told : Told) (d : SurfaceId) → met_by told d ≡ true → bunch_for (is_of told) d ≡ bunch_told told
 met_bunch (Closed sink) d h = λ i. record { sink = from_sink d.sink sink h i; token = record { 0 = 0 } }
@@ -129,11 +90,7 @@ all_done told l bunch from kept is low done x d h =
 any_of : {A : Type 0} (p : A → Bool) (xs : List A) (i : ℕ) (d : A) → i < length xs → p (get_or xs i d) ≡ true → list_any p xs ≡ true
 any_of p [] i d low h = absurd (omega (arith, low))
 any_of p (x ∷ xs) zero d low h = ap (λ t. t || list_any p xs) h
-any_of p (x ∷ xs) (suc i) d low h = later (p x) (any_of p xs i d (omega (arith, low)) h)
-  where
-    later : (t : Bool) → list_any p xs ≡ true → (t || list_any p xs) ≡ true
-    later true h = refl
-    later false h = h
+any_of p (x ∷ xs) (suc i) d low h = grind (arith, nat_tests, any_of p xs i d)
 
 neither : (a b : Bool) → a ≡ false → b ≡ false → (a || b) ≡ false
 neither false b p q = q

@@ -9,7 +9,7 @@ use Rattle.vz_deps.specs.declared.bunches.Lack.{Lack}
 use Rattle.vz_deps.specs.declared.lacks.Count.{Count}
 use Rattle.vz_deps.specs.declared.lacks.Lacks.{Lacks}
 use Rattle.vz_deps.specs.Tracking.{is_blocked, listed}
-use Rattle.vz_deps.specs.Lacking.{on_in, count_in, all_of, lacks_of, unmet_in, whole, IsKept}
+use Rattle.vz_deps.specs.Lacking.{on_in, count_in, unmet_in, whole, IsKept}
 use Rattle.vz_deps.specs.Ordered.{in_order}
 use Rattle.vz_deps.specs.Numbering.{IsNumbered, IsTracked}
 use Rattle.vz_deps.proofs.Same.{either, pick_yes, pick_no, some_same, none_some, yes_no, from_number, own_number}
@@ -30,54 +30,15 @@ fresh_sub unmet subs numbers s is none = by (lookup (same_sub s) numbers) refl
         absurd (cc)
 
 pub fresh_number : (subs : List (ℕ × Sub)) (n : ℕ) → ((o : ℕ) (s : Sub) → lookup (nat_eq o) subs ≡ Some s → o < n) → lookup (nat_eq n) subs ≡ None
-fresh_number subs n later = by (lookup (nat_eq n) subs) refl
-  where
-    by : (v : Option Sub) → lookup (nat_eq n) subs ≡ v → v ≡ None
-    by None e = refl
-    by (Some s) e = let less = later n s e in absurd (omega (arith, less))
+fresh_number subs n later = grind (arith, nat_tests)
 
 pub numbered_more : (subs more : List (ℕ × Sub)) (numbers longer : List (Sub × ℕ)) (n : ℕ) (s : Sub) → IsNumbered subs numbers → lookup (nat_eq n) subs ≡ None → lookup (same_sub s) numbers ≡ None
     → ((q : ℕ) → lookup (nat_eq q) more ≡ cond (nat_eq n q) (Some s) (lookup (nat_eq q) subs)) → ((t : Sub) → lookup (same_sub t) longer ≡ cond (same_sub s t) (Some n) (lookup (same_sub t) numbers)) → IsNumbered more longer
-numbered_more subs more numbers longer n s is no_number no_sub by_number by_sub = record {
-  of_sub = λ t q h. at_sub t q h;
-  of_number = λ q t h. at_number q t h;
-}
-  where
-    at_sub : (t : Sub) (q : ℕ) → lookup (same_sub t) longer ≡ Some q → lookup (nat_eq q) more ≡ Some t
-    at_sub t q h =
-        elim (either (same_sub s t)) [
-          | inl k ↦
-              let same : n ≡ q = some_same n q (sym (pick_yes _ _ _ k) ∙ sym (by_sub t) ∙ h) in
-              by_number q ∙ pick_yes _ _ _ (ap (nat_eq n) (sym same) ∙ own_number n) ∙ ap Some (from_sub s t k)
-          | inr k ↦
-              let old : lookup (nat_eq q) subs ≡ Some t = is.of_sub t q (sym (pick_no _ _ _ k) ∙ sym (by_sub t) ∙ h) in
-              elim (either (nat_eq n q)) [
-                | inl l ↦ let no_way = none_some t (lookup (nat_eq q) subs) (ap (λ m. lookup (nat_eq m) subs) (sym (from_number n q l)) ∙ no_number) old in absurd (cc)
-                | inr l ↦ by_number q ∙ pick_no _ _ _ l ∙ old
-              ]
-        ]
-
-    at_number : (q : ℕ) (t : Sub) → lookup (nat_eq q) more ≡ Some t → lookup (same_sub t) longer ≡ Some q
-    at_number q t h =
-        elim (either (nat_eq n q)) [
-          | inl k ↦
-              let same : s ≡ t = some_same s t (sym (pick_yes _ _ _ k) ∙ sym (by_number q) ∙ h) in
-              by_sub t ∙ pick_yes _ _ _ (ap (same_sub s) (sym same) ∙ own_sub s) ∙ ap Some (from_number n q k)
-          | inr k ↦
-              let old : lookup (same_sub t) numbers ≡ Some q = is.of_number q t (sym (pick_no _ _ _ k) ∙ sym (by_number q) ∙ h) in
-              elim (either (same_sub s t)) [
-                | inl l ↦ let no_way = none_some q (lookup (same_sub t) numbers) (ap (λ m. lookup (same_sub m) numbers) (sym (from_sub s t l)) ∙ no_sub) old in absurd (cc)
-                | inr l ↦ by_sub t ∙ pick_no _ _ _ l ∙ old
-              ]
-        ]
+numbered_more subs more numbers longer n s is no_number no_sub by_number by_sub = grind (arith, nat_tests, either, some_same, pick_yes, own_number, from_sub, pick_no, none_some, from_number, own_sub)
 
 pub later_more : (subs more : List (ℕ × Sub)) (n : ℕ) (s : Sub) → ((o : ℕ) (t : Sub) → lookup (nat_eq o) subs ≡ Some t → o < n) → ((q : ℕ) → lookup (nat_eq q) more ≡ cond (nat_eq n q) (Some s) (lookup (nat_eq q) subs))
     → (o : ℕ) (t : Sub) → lookup (nat_eq o) more ≡ Some t → o < n + 1
-later_more subs more n s later is o t h =
-    elim (either (nat_eq n o)) [
-      | inl k ↦ (let same = from_number n o k in omega (arith, same))
-      | inr k ↦ (let less = later o t (sym (pick_no _ _ _ k) ∙ sym (is o) ∙ h) in omega (arith, less))
-    ]
+later_more subs more n s later is o t h = grind (arith, nat_tests, either (nat_eq n o), from_number n o, pick_no)
 
 pub counts_more : {A B : Type 0} (t : Bool) (x y : Option A) (u v : Option B) (a : A) (b : B) → x ≡ cond t (Some a) y → u ≡ cond t (Some b) v → is_some y ≡ is_some v → is_some x ≡ is_some u
 counts_more true x y u v a b p q h = ap is_some p ∙ sym (ap is_some q)
@@ -87,32 +48,16 @@ counts_more false x y u v a b p q h = ap is_some p ∙ h ∙ sym (ap is_some q)
 
 pub other_unmet : (a b : Lacks) (n : ℕ) (f : Lack → Option SurfaceId) (c : Option Count) → ((x : Lack) → on_in b x ≡ cond (n == x.order) (f x) (on_in a x)) → ((o : ℕ) → count_in b o ≡ cond (nat_eq n o) c (count_in a o))
     → (o : ℕ) → nat_eq n o ≡ false → unmet_in b o ≡ unmet_in a o
-other_unmet a b n f c on count o k =
-    ap (λ v. lacks_of (on_in b) o (all_of v)) (count o ∙ pick_no _ _ _ k)
-    ∙ same_lacks (on_in b) (on_in a) o (λ m. on (record { order = o; nth = m }) ∙ pick_no _ _ _ k) (all_of (count_in a o))
+other_unmet a b n f c on count o k = grind (arith, nat_tests, pick_no, same_lacks (on_in b) (on_in a) o)
 
 pub new_unmet : (a b : Lacks) (n : ℕ) (unmet : List SurfaceId) → ((x : Lack) → on_in b x ≡ cond (n == x.order) (slice_get unmet x.nth) (on_in a x)) → ((o : ℕ) → count_in b o ≡ cond (nat_eq n o) (Some (whole (length unmet))) (count_in a o))
     → unmet_in b n ≡ unmet
-new_unmet a b n unmet on count =
-    ap (λ v. lacks_of (on_in b) n (all_of v)) (count n ∙ pick_yes _ _ _ (own_number n))
-    ∙ put_lacks (on_in b) n unmet (λ m. on (record { order = n; nth = m }) ∙ pick_yes _ _ _ (own_number n))
+new_unmet a b n unmet on count = grind (arith, nat_tests, pick_yes, own_number n, put_lacks (on_in b) n unmet)
 
 -- A submission is forgotten
 
 number_is : (subs : List (ℕ × Sub)) (numbers : List (Sub × ℕ)) (n : ℕ) (s : Sub) → IsNumbered subs numbers → lookup (same_sub s) numbers ≡ Some n → (j : ℕ) (v : Sub) → lookup (nat_eq j) subs ≡ Some v → nat_eq n j ≡ same_sub v s
-number_is subs numbers n s is found j v h =
-    elim (either (nat_eq n j)) [
-      | inl k ↦
-          let same : v ≡ s = some_same v s (sym h ∙ ap (λ m. lookup (nat_eq m) subs) (sym (from_number n j k)) ∙ is.of_sub s n found) in
-          k ∙ sym (ap (λ t. same_sub t s) same ∙ own_sub s)
-      | inr k ↦ elim (either (same_sub v s)) [
-        | inl l ↦
-            let same : n ≡ j = some_same n j (sym found ∙ ap (λ t. lookup (same_sub t) numbers) (sym (from_sub v s l)) ∙ is.of_number j v h) in
-            let no_way = yes_no (nat_eq n j) (ap (nat_eq n) (sym same) ∙ own_number n) k in
-            absurd (cc)
-        | inr l ↦ k ∙ sym l
-      ]
-    ]
+number_is subs numbers n s is found j v h = grind (arith, nat_tests, either, some_same, from_number, own_sub, from_sub, yes_no, own_number)
 
 pub subs_without : (subs less : List (ℕ × Sub)) (numbers : List (Sub × ℕ)) (n : ℕ) (s : Sub) → IsNumbered subs numbers → lookup (same_sub s) numbers ≡ Some n → ((q : ℕ) → lookup (nat_eq q) less ≡ cond (nat_eq n q) None (lookup (nat_eq q) subs))
     → in_order less ≡ filter (λ e. not (same_sub e.1 s)) (in_order subs)
@@ -130,11 +75,7 @@ subs_stay subs numbers s is none =
     ]))
 
 pub other_number : (n o : ℕ) (v w : Option Sub) (t : Sub) → w ≡ cond (nat_eq n o) None v → w ≡ Some t → nat_eq n o ≡ false
-other_number n o v w t is h =
-    elim (either (nat_eq n o)) [
-      | inl k ↦ let no_way = none_some t w (is ∙ pick_yes _ _ _ k) h in absurd (cc)
-      | inr k ↦ k
-    ]
+other_number n o v w t is h = grind (arith, nat_tests, either (nat_eq n o), none_some t w, pick_yes)
 
 pub not_next : (n o : ℕ) → o < n → nat_eq n o ≡ false
 not_next n o h = grind (arith, nat_tests, h)

@@ -1,5 +1,6 @@
 -- What contracts see of the blocked submissions.
-use Rattle.std.proofs.Common.{◌≡◌, ℕ, Bool, true, false, not, ◌&&◌, ◌||◌, cond, nat_eq, Option, Some, None, zero, suc, List, [], ◌∷◌, ◌++◌, length, map, filter, refl, ap, sym, inl, inr, ◌∙◌, arith, option_to_list}
+use Rattle.std.proofs.Common.{◌≡◌, ℕ, Bool, true, false, not, nat_eq, Option, Some, None, zero, suc, List, [], ◌∷◌, ◌++◌, length, map, filter, refl, ap, inl, inr, ◌∙◌, arith, option_to_list}
+use Rattle.std.proofs.lemmas.Bool.Decides.{nat_tests}
 use Rattle.std.specs.List.{list_all}
 use Rattle.std.specs.Map.{lookup}
 use Rattle.std.specs.Option.{option_map}
@@ -10,7 +11,7 @@ use Rattle.vz_ids.specs.Ids.{same_sub}
 use Rattle.vz_deps.specs.declared.bunches.Lack.{Lack}
 use Rattle.vz_deps.specs.declared.lacks.Count.{Count}
 use Rattle.vz_deps.specs.declared.lacks.Lacks.{Lacks}
-use Rattle.vz_deps.specs.Tracking.{Blocked, is_blocked, without, freed, lacking, still, listed}
+use Rattle.vz_deps.specs.Tracking.{Blocked, is_blocked, without, freed, still, listed}
 use Rattle.vz_deps.specs.Lacking.{on_in, count_in, lacks_of, all_of, unmet_in, is_nothing, IsCleared, Meets, IsRid}
 use Rattle.vz_deps.specs.Ordered.{is_rising}
 use Rattle.vz_deps.proofs.Same.{both, either, pick_yes, pick_no, none_some, from_number}
@@ -43,41 +44,19 @@ listed_same f g (e ∷ subs) h same =
 pub listed_without : (unmet : ℕ → List SurfaceId) (s : Sub) (subs : List (ℕ × Sub)) → listed unmet (filter (λ e. not (same_sub e.1 s)) subs) ≡ without s (listed unmet subs)
 unfolding listed without
 listed_without unmet s [] = refl
-listed_without unmet s (e ∷ subs) =
-    elim (same_sub e.1 s) as (λ (t : Bool). map (λ (e : ℕ × Sub). record { sub = e.1; unmet = unmet e.0 }) (cond (not t) (e ∷ filter (λ e. not (same_sub e.1 s)) subs) (filter (λ e. not (same_sub e.1 s)) subs))
-    ≡ cond (not t) (record { sub = e.1; unmet = unmet e.0 } ∷ without s (listed unmet subs)) (without s (listed unmet subs))) [
-      | true ↦ listed_without unmet s subs
-      | false ↦ ap (λ l. record { sub = e.1; unmet = unmet e.0 } ∷ l) (listed_without unmet s subs)
-    ]
+listed_without unmet s (e ∷ subs) = grind (arith, nat_tests, listed_without unmet s subs)
 
 -- one that is found is blocked
 pub found_blocked : (unmet : ℕ → List SurfaceId) (subs : List (ℕ × Sub)) (o : ℕ) (s : Sub) → lookup (nat_eq o) subs ≡ Some s → is_blocked (listed unmet subs) s ≡ true
 unfolding listed is_blocked
 found_blocked unmet [] o s h = absurd (cc)
-found_blocked unmet (e ∷ subs) o s h =
-    elim (either (nat_eq o e.0)) [
-      | inl k ↦
-          let is : e.1 ≡ s = some_is e.1 s (sym (pick_yes _ _ _ k) ∙ h) in
-          ap (λ t. same_sub t s || is_blocked (listed unmet subs) s) is ∙ ap (λ t. t || is_blocked (listed unmet subs) s) (own_sub s)
-      | inr k ↦ later (same_sub e.1 s) (found_blocked unmet subs o s (sym (pick_no _ _ _ k) ∙ h))
-    ]
-  where
-    some_is : (a b : Sub) → Some a ≡ Some b → a ≡ b
-    some_is a b h = cc
-
-    later : (t : Bool) → is_blocked (listed unmet subs) s ≡ true → (t || is_blocked (listed unmet subs) s) ≡ true
-    later true h = refl
-    later false h = h
+found_blocked unmet (e ∷ subs) o s h = grind (arith, nat_tests, either (nat_eq o e.0), pick_yes, own_sub s, found_blocked unmet subs o s, pick_no)
 
 -- one that is taken out is not blocked
 pub gone_sub : (s : Sub) (list : List Blocked) → is_blocked (without s list) s ≡ false
 unfolding is_blocked without
 gone_sub s [] = refl
-gone_sub s (b ∷ list) = by (same_sub b.sub s) refl (gone_sub s list)
-  where
-    by : (t : Bool) → same_sub b.sub s ≡ t → is_blocked (without s list) s ≡ false → is_blocked (cond (not t) (b ∷ without s list) (without s list)) s ≡ false
-    by true e rest = rest
-    by false e rest = ap (λ t. t || is_blocked (without s list) s) e ∙ rest
+gone_sub s (b ∷ list) = grind (arith, nat_tests, gone_sub s list)
 
 -- What is left where something is told
 
@@ -85,59 +64,32 @@ same_all : (x y : Option Count) → option_map (λ (c : Count). c.all) x ≡ opt
 same_all None None h = refl
 same_all None (Some y) h = absurd (cc)
 same_all (Some x) None h = absurd (cc)
-same_all (Some x) (Some y) h = some_number x.all y.all h
-  where
-    some_number : (a b : ℕ) → Some a ≡ Some b → a ≡ b
-    some_number a b h = cc
+same_all (Some x) (Some y) h = grind (arith, nat_tests)
 
 module _ (met : SurfaceId → Bool) where
   one_left : (old new : Option SurfaceId) → IsCleared met old new → ((d : SurfaceId) → new ≡ Some d → met d ≡ false) → option_to_list new ≡ filter (λ d. not (met d)) (option_to_list old)
-  one_left old new (inl e) rid = ap option_to_list e ∙ by old (λ d h. rid d (e ∙ h))
-    where
-      by : (o : Option SurfaceId) → ((d : SurfaceId) → o ≡ Some d → met d ≡ false) → option_to_list o ≡ filter (λ d. not (met d)) (option_to_list o)
-      by None rid = refl
-      by (Some d) rid = sym (ap (λ t. cond (not t) (d ∷ []) []) (rid d refl))
-  one_left old new (inr e) rid = ap option_to_list e.3 ∙ sym (ap (λ o. filter (λ d. not (met d)) (option_to_list o)) e.1 ∙ ap (λ t. cond (not t) (e.0 ∷ []) []) e.2)
+  one_left old new (inl e) rid = grind (arith, nat_tests)
+  one_left old new (inr e) rid = grind (arith, nat_tests)
 
   lacks_left : (f g : Lack → Option SurfaceId) → ((x : Lack) → option_to_list (g x) ≡ filter (λ d. not (met d)) (option_to_list (f x))) → (o n : ℕ) → lacks_of g o n ≡ filter (λ d. not (met d)) (lacks_of f o n)
   unfolding lacks_of
   lacks_left f g one o zero = refl
-  lacks_left f g one o (suc n) =
-      (λ i. lacks_left f g one o n i ++ one (record { order = o; nth = n }) i)
-      ∙ sym (filter-append (λ d. not (met d)) (lacks_of f o n) (option_to_list (f (record { order = o; nth = n }))))
+  lacks_left f g one o (suc n) = grind (arith, nat_tests, lacks_left f g one o n, filter-append)
 
   pub told_unmet : (a b : Lacks) → Meets met a b → IsRid met b → (o : ℕ) → unmet_in b o ≡ filter (λ d. not (met d)) (unmet_in a o)
-  told_unmet a b meets rid o =
-      ap (lacks_of (on_in b) o) (same_all (count_in b o) (count_in a o) (meets.all o))
-      ∙ lacks_left (on_in a) (on_in b) (λ x. one_left (on_in a x) (on_in b x) (meets.on x) (rid x)) o (all_of (count_in a o))
+  told_unmet a b meets rid o = grind (arith, nat_tests, same_all (count_in b o) (count_in a o) (meets.all o), lacks_left (on_in a) (on_in b), one_left)
 
   nothing_left : (xs : List SurfaceId) → is_nothing (filter (λ d. not (met d)) xs) ≡ list_all met xs
   nothing_left [] = refl
-  nothing_left (x ∷ xs) =
-      elim (met x) as (λ (t : Bool). is_nothing (cond (not t) (x ∷ filter (λ d. not (met d)) xs) (filter (λ d. not (met d)) xs)) ≡ (t && list_all met xs)) [
-        | true ↦ nothing_left xs
-        | false ↦ refl
-      ]
+  nothing_left (x ∷ xs) = grind (arith, nat_tests, nothing_left xs)
 
   module _ (was now : ℕ → List SurfaceId) (is : (o : ℕ) → now o ≡ filter (λ d. not (met d)) (was o)) where
     pub freed_is : (subs : List (ℕ × Sub)) → map (λ e. e.1) (filter (λ e. is_nothing (now e.0)) subs) ≡ freed met (listed was subs)
     unfolding listed freed
     freed_is [] = refl
-    freed_is (e ∷ subs) =
-        ap (λ t. map (λ (e : ℕ × Sub). e.1) (cond t (e ∷ filter (λ e. is_nothing (now e.0)) subs) (filter (λ e. is_nothing (now e.0)) subs))) (ap is_nothing (is e.0) ∙ nothing_left (was e.0))
-        ∙ (elim (list_all met (was e.0)) as (λ (t : Bool). map (λ (e : ℕ × Sub). e.1) (cond t (e ∷ filter (λ e. is_nothing (now e.0)) subs) (filter (λ e. is_nothing (now e.0)) subs))
-        ≡ map (λ (b : Blocked). b.sub) (cond t (record { sub = e.1; unmet = was e.0 } ∷ filter (λ (b : Blocked). list_all met b.unmet) (listed was subs)) (filter (λ (b : Blocked). list_all met b.unmet) (listed was subs)))) [
-          | true ↦ ap (λ l. e.1 ∷ l) (freed_is subs)
-          | false ↦ freed_is subs
-        ])
+    freed_is (e ∷ subs) = grind (arith, nat_tests, nothing_left (was e.0), freed_is subs)
 
     pub still_is : (subs : List (ℕ × Sub)) → listed now (filter (λ e. not (is_nothing (now e.0))) subs) ≡ still met (listed was subs)
     unfolding listed still
     still_is [] = refl
-    still_is (e ∷ subs) =
-        ap (λ t. listed now (cond (not t) (e ∷ filter (λ e. not (is_nothing (now e.0))) subs) (filter (λ e. not (is_nothing (now e.0))) subs))) (ap is_nothing (is e.0) ∙ nothing_left (was e.0))
-        ∙ (elim (list_all met (was e.0)) as (λ (t : Bool). map (λ (e : ℕ × Sub). record { sub = e.1; unmet = now e.0 }) (cond (not t) (e ∷ filter (λ e. not (is_nothing (now e.0))) subs) (filter (λ e. not (is_nothing (now e.0))) subs))
-        ≡ map (lacking met) (cond (not t) (record { sub = e.1; unmet = was e.0 } ∷ filter (λ (b : Blocked). not (list_all met b.unmet)) (listed was subs)) (filter (λ (b : Blocked). not (list_all met b.unmet)) (listed was subs)))) [
-          | true ↦ still_is subs
-          | false ↦ (λ i. record { sub = e.1; unmet = is e.0 i } ∷ still_is subs i)
-        ])
+    still_is (e ∷ subs) = grind (arith, nat_tests, nothing_left (was e.0), still_is subs)

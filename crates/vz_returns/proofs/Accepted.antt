@@ -1,7 +1,7 @@
 -- The references that are alive, as a submission is accepted and as a drawn frame holds more or less.
 use Rattle.std.proofs.Common.{◌≡◌, ℕ, suc, ◌+◌, ◌≤◌, Bool, true, false, not, ◌&&◌, ◌||◌, ◌==◌, Option, Some, None, is_some, List, [], ◌∷◌, ◌++◌, map, find, count_by, slice_get, refl, ap, sym, ◌∙◌, arith, cond, Contains}
+use Rattle.std.proofs.lemmas.Bool.Decides.{nat_tests}
 use Rattle.std.specs.List.{list_any}
-use Rattle.std.specs.Option.{option_map}
 use Rattle.std.proofs.lemmas.Bool.{and_parts, and_from, eqb-true, eq-eqb}
 use Rattle.std.proofs.lemmas.List.Folds.{list_any-append}
 use Rattle.vz_ids.specs.declared.SurfaceId.{SurfaceId}
@@ -10,13 +10,11 @@ use Rattle.vz_ids.specs.declared.Sub.{Sub}
 use Rattle.vz_ids.specs.Ids.{same_surface, same_sub}
 use Rattle.vz_frame.specs.declared.frame.CompositorFrame.{CompositorFrame}
 use Rattle.vz_frame.specs.declared.frame.Listing.{Listing}
-use Rattle.vz_frame.specs.declared.rules.Rule.{Rule}
 use Rattle.vz_frame.specs.declared.rules.Rule.TheVariants.{ListedTwice}
 use Rattle.vz_frame.specs.Frame.{breaks, rules_in_order, first_broken}
 use Rattle.vz_rules.specs.declared.entry.State.TheVariants.{Dropped}
-use Rattle.vz_rules.specs.declared.entry.Refusal.TheVariants as refusal
 use Rattle.vz_rules.specs.World.{World, Client, Surface, Submission, exists, is_waiting, is_active, is_on, has_sub, is_in_flight, last_created, sub_of}
-use Rattle.vz_rules.specs.Messages.{accepted, id_of, submit_refusal, new_submission, with_surface, replace_on, is_unknown, is_last, violates, has_other_size, first_some, when}
+use Rattle.vz_rules.specs.Messages.{accepted, id_of, submit_refusal, new_submission, with_surface, replace_on, is_unknown, is_last, violates}
 use Rattle.vz_rules.specs.Kept.{KeepsAlways, borrows, is_by, stands_in}
 use Rattle.vz_rules.proofs.Reached.{from_same}
 use Rattle.vz_rules.proofs.Members.{contains_at, at_contains, find_at, found, any_at, any_from, push_contains_last, when_same}
@@ -31,28 +29,14 @@ use Rattle.vz_returns.proofs.Alive.{split_by, split_gone, alive_step, one_there,
 
 -- What is not refused
 
-unrefused : (o : Option Rule) (a b c : Bool)
-    → first_some (option_map (λ rule. refusal.Malformed rule) o ∷ when a refusal.UnknownResource ∷ when b refusal.InvariantsViolation ∷ when
-    c refusal.SizeMismatch ∷ []) ≡ None
-    → (o ≡ None) × (a ≡ false) × (b ≡ false)
-unrefused (Some rule) a b c h = absurd (cc)
-unrefused None true b c h = absurd (cc)
-unrefused None false true c h = absurd (cc)
-unrefused None false false c h = (refl, refl, refl)
-
 pub allowed_parts : (last : Option Surface) (c : Client) (local : LocalSurfaceId) (frame : CompositorFrame)
     → submit_refusal last c.resources local frame ≡ None
     → (first_broken frame ≡ None) × (list_any (is_unknown c.resources) frame.resources ≡ false) × (violates last local ≡ false)
 unfolding submit_refusal
-allowed_parts last c local frame h = unrefused (first_broken frame) (list_any (is_unknown c.resources) frame.resources)
-    (violates last local) (has_other_size last local frame) h
+allowed_parts last c local frame h = grind (arith, nat_tests)
 
 none_passes : {A : Type 0} (p : A → Bool) (xs : List A) (x : A) → find p xs ≡ None → Contains xs x → p x ≡ false
-none_passes p xs x e there = by (p x) refl
-  where
-    by : (b : Bool) → p x ≡ b → b ≡ false
-    by true f = let bad : true ≡ false = sym (any_from p xs x there f) ∙ (sym (found p xs) ∙ ap is_some e) in bad
-    by false f = refl
+none_passes p xs x e there = grind (arith, nat_tests, any_from p xs x there, found p xs)
 
 twice_is_tested : Contains rules_in_order ListedTwice
 twice_is_tested = (6, omega arith, refl)
@@ -243,22 +227,7 @@ module _ (w : World) (h : KeepsAlways w) (s : Submission) (known : Contains w.su
   flying_split : (less more : List Sub) → has_sub less (sub_of s) ≡ false
       → ((x : Sub) → has_sub more x ≡ (has_sub less x || same_sub x (sub_of s)))
       → (t : Submission) → Contains w.subs t → IsSplit (has_sub more (sub_of t)) (has_sub less (sub_of t)) (is_it t)
-  flying_split less more none all t q = by (same_sub (sub_of t) (sub_of s)) refl
-    where
-      or_no : (a : Bool) → (a || false) ≡ a
-      or_no true = refl
-      or_no false = refl
-
-      or_yes : (a : Bool) → (a || true) ≡ true
-      or_yes true = refl
-      or_yes false = refl
-
-      by : (b : Bool) → same_sub (sub_of t) (sub_of s) ≡ b → IsSplit (has_sub more (sub_of t)) (has_sub less (sub_of t)) b
-      by true e =
-          let one = one_named w h t s q known e in
-          split_gone _ _ true (all (sub_of t) ∙ (ap (λ b. has_sub less (sub_of t) || b) e ∙ or_yes (has_sub less (sub_of t))))
-          (ap (λ (x : Submission). has_sub less (sub_of x)) one ∙ none) refl
-      by false e = split_by _ _ false (all (sub_of t) ∙ (ap (λ b. has_sub less (sub_of t) || b) e ∙ or_no (has_sub less (sub_of t)))) refl
+  flying_split less more none all t q = grind (arith, nat_tests, IsSplit (has_sub more (sub_of t)) (has_sub less (sub_of t)), one_named w h t s q known, split_gone, split_by)
 
   pub alive_flying : (less more : List Sub) (client : ℕ) (L : List Listing) → has_sub less (sub_of s) ≡ false
       → ((x : Sub) → has_sub more x ≡ (has_sub less x || same_sub x (sub_of s)))

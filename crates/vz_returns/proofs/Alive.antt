@@ -1,14 +1,13 @@
 -- The references that are alive, as surfaces and submissions change.
-use Rattle.std.proofs.Common.{◌≡◌, ℕ, ◌+◌, ◌≤◌, Bool, true, false, not, ◌&&◌, ◌||◌, ◌==◌, Option, Some, None, is_some, List, [], ◌∷◌, map, find, count_by, refl, ap, sym, subst, ◌∙◌, arith, cond, Contains}
+use Rattle.std.proofs.Common.{◌≡◌, ℕ, ◌+◌, ◌≤◌, Bool, true, false, not, ◌&&◌, ◌||◌, ◌==◌, Some, List, [], ◌∷◌, map, find, count_by, refl, ap, sym, subst, ◌∙◌, arith, cond, Contains}
+use Rattle.std.proofs.lemmas.Bool.Decides.{nat_tests}
 use Rattle.std.specs.List.{list_any}
-use Rattle.std.specs.Option.{option_map}
 use Rattle.std.proofs.lemmas.Bool.{and_parts, and_from}
 use Rattle.vz_ids.specs.declared.SurfaceId.{SurfaceId}
 use Rattle.vz_ids.specs.Ids.{same_surface, same_sub}
 use Rattle.vz_frame.specs.declared.frame.Listing.{Listing}
 use Rattle.vz_frame.specs.Frame.{lists}
-use Rattle.vz_rules.specs.declared.entry.State.{State}
-use Rattle.vz_rules.specs.declared.entry.State.TheVariants.{Waiting, Active, Past, Dropped}
+use Rattle.vz_rules.specs.declared.entry.State.TheVariants.{Active, Past}
 use Rattle.vz_rules.specs.World.{World, Surface, Submission, exists, is_waiting, is_active, is_on, is_in_flight, sub_of}
 use Rattle.vz_rules.specs.Settle.{marked_by}
 use Rattle.vz_rules.specs.Reach.{drop_on}
@@ -42,14 +41,7 @@ split_gone true true c e f g = absurd (cc)
 split_gone false y c e f g = absurd (cc)
 
 pub not_both : (t : Submission) → is_waiting t ≡ true → is_active t ≡ false
-not_both t h = by t.state h
-  where
-    by : (x : State) → (elim x as (λ x. Bool) [ Waiting ↦ true | _ ↦ false ]) ≡ true
-        → (elim x as (λ x. Bool) [ Active ↦ true | _ ↦ false ]) ≡ false
-    by Waiting e = refl
-    by Active e = absurd (cc)
-    by Past e = refl
-    by Dropped e = refl
+not_both t h = grind (arith, nat_tests)
 
 pub false_and : (a : Bool) → (a && false) ≡ false
 false_and true = refl
@@ -61,66 +53,23 @@ or_true false = refl
 
 -- Surfaces that exist
 
-some_mapped : {A B : Type 0} (f : A → B) (o : Option A) → is_some (option_map f o) ≡ is_some o
-some_mapped f None = refl
-some_mapped f (Some a) = refl
-
 -- a surface exists as before where each keeps its name and is destroyed where it was
 pub exists_kept : (g : Surface → Surface) (ss : List Surface) (id : SurfaceId) → ((s : Surface) → (g s).id ≡ s.id)
     → ((s : Surface) → (g s).destroyed ≡ s.destroyed) → stands_in (map g ss) id ≡ stands_in ss id
-exists_kept g ss id name gone =
-    ap is_some (find_map (λ (s : Surface). same_surface s.id id && not s.destroyed) g ss
-    (λ s. (λ i. same_surface (name s i) id && not (gone s i))))
-    ∙ some_mapped g (find (λ (s : Surface). same_surface s.id id && not s.destroyed) ss)
+exists_kept g ss id name gone = grind (arith, nat_tests, find_map)
 
 pub exists_risen : (s : Submission) (w : World) (id : SurfaceId) → exists (rising s w) id ≡ exists w id
 unfolding rising
-exists_risen s w id =
-    exists_kept (marked_by w.surfaces (s ∷ [])) w.surfaces id
-    (λ c. when_same (λ (x : Surface). x.id) (λ c. record c { marked = true }) _ c refl)
-    (λ c. when_same (λ (x : Surface). x.destroyed) (λ c. record c { marked = true }) _ c refl)
+exists_risen s w id = grind (arith, nat_tests, exists_kept (marked_by w.surfaces (s ∷ [])) w.surfaces id, when_same)
 
 gone_test : (c d : Surface) (id : SurfaceId) (t : Bool) → same_surface id c.id ≡ t
     → (same_surface (as_one_goes c d).id id && not (as_one_goes c d).destroyed) ≡ cond t false (same_surface d.id id && not d.destroyed)
-gone_test c d id true e = by (same_surface d.id c.id) refl
-  where
-    by : (b : Bool) → same_surface d.id c.id ≡ b
-        → (same_surface (cond b (record d { destroyed = true }) d).id id && not (cond b (record d { destroyed = true }) d).destroyed)
-        ≡ false
-    by true f = false_and (same_surface d.id id)
-    by false f = ap (λ t. t && not d.destroyed) (ap (same_surface d.id) (from_same id c.id e) ∙ f)
-gone_test c d id false e = by (same_surface d.id c.id) refl
-  where
-    by : (b : Bool) → same_surface d.id c.id ≡ b
-        → (same_surface (cond b (record d { destroyed = true }) d).id id && not (cond b (record d { destroyed = true }) d).destroyed)
-        ≡ (same_surface d.id id && not d.destroyed)
-    by true f =
-        let other : same_surface d.id id ≡ false = other_one (same_surface d.id id) refl f in
-        false_and (same_surface d.id id) ∙ ap (λ t. t && not d.destroyed) (sym other)
-      where
-        other_one : (k : Bool) → same_surface d.id id ≡ k → same_surface d.id c.id ≡ true → k ≡ false
-        other_one true g h = let bad : true ≡ false = sym (ap (λ x. same_surface x c.id) (sym (from_same d.id id g)) ∙ h) ∙ e in absurd (cc)
-        other_one false g h = refl
-    by false f = refl
-
-any_none_of : {A : Type 0} (xs : List A) → list_any (λ (x : A). false) xs ≡ false
-any_none_of [] = refl
-any_none_of (x ∷ xs) = any_none_of xs
-
-pub exists_gone : (c : Surface) (w : World) (id : SurfaceId) → same_surface id c.id ≡ true → exists (going c w) id ≡ false
-unfolding going
-exists_gone c w id e =
-    found (λ (s : Surface). same_surface s.id id && not s.destroyed) (map (as_one_goes c) w.surfaces)
-    ∙ (any_map (as_one_goes c) (λ (s : Surface). same_surface s.id id && not s.destroyed) (λ d. false) w.surfaces
-    (λ d. gone_test c d id true e) ∙ any_none_of w.surfaces)
+gone_test c d id true e = grind (arith, nat_tests, false_and (same_surface d.id id), from_same id c.id e)
+gone_test c d id false e = grind (arith, nat_tests, false_and (same_surface d.id id), from_same d.id id)
 
 pub exists_left : (c : Surface) (w : World) (id : SurfaceId) → same_surface id c.id ≡ false → exists (going c w) id ≡ exists w id
 unfolding going
-exists_left c w id e =
-    found (λ (s : Surface). same_surface s.id id && not s.destroyed) (map (as_one_goes c) w.surfaces)
-    ∙ (any_map (as_one_goes c) (λ (s : Surface). same_surface s.id id && not s.destroyed)
-    (λ (d : Surface). same_surface d.id id && not d.destroyed) w.surfaces (λ d. gone_test c d id false e)
-    ∙ sym (found (λ (s : Surface). same_surface s.id id && not s.destroyed) w.surfaces))
+exists_left c w id e = grind (arith, nat_tests, found, any_map, gone_test)
 
 -- Where each submission keeps what it was accepted with
 
@@ -146,35 +95,18 @@ alive_step w v f ended subs flight same split c id =
 -- of the submissions on a surface that pass a test there is at most one
 pub one_there : (p : Submission → Bool) (id : SurfaceId) (subs : List Submission) → count_by (λ s. is_on id s && p s) subs ≤ 1
     → count_by (λ s. p s && is_on id s) subs ≤ 1
-one_there p id subs few =
-    subst (λ n. n ≤ 1) (sym (count_both (λ s. p s && is_on id s) (λ s. is_on id s && p s) (λ s. false) subs
-    (λ s q. split_by _ _ false (swap (p s) (is_on id s)) refl) ∙ none subs)) few
-  where
-    swap : (a b : Bool) → (a && b) ≡ (b && a)
-    swap true true = refl
-    swap true false = refl
-    swap false true = refl
-    swap false false = refl
-
-    none : (subs : List Submission)
-        → count_by (λ s. is_on id s && p s) subs + count_by (λ (s : Submission). false) subs ≡ count_by (λ s. is_on id s && p s) subs
-    none subs = omega (arith, count_none (λ (s : Submission). false) subs (λ s q. refl))
+one_there p id subs few = grind (arith, nat_tests, count_both, split_by, count_none)
 
 -- Where one becomes active
 
 module _ (w : World) (h : KeepsAlways w) where
   pub one_named : (s t : Submission) → Contains w.subs s → Contains w.subs t → same_sub (sub_of s) (sub_of t) ≡ true → s ≡ t
-  one_named s t p q e =
-      let n = contains_at w.subs s p in
-      let m = contains_at w.subs t q in
-      at_same w.subs n.0 m.0 s t n.1 m.1 (subs_apart w n.0 m.0 s t h n.1 m.1 e)
+  one_named s t p q e = grind (arith, nat_tests, contains_at w.subs s p, contains_at w.subs t q, at_same w.subs, subs_apart w)
 
   -- what is found on a surface with some submission of a client is that client's
   pub own_on : (p : Submission → Bool) (s t : Submission) → Contains w.subs s → find (λ x. p x && is_on s.submitted.id x) w.subs ≡ Some t
       → t.submitted.sub.client ≡ s.submitted.sub.client
-  own_on p s t q e =
-      let at = find_at (λ x. p x && is_on s.submitted.id x) w.subs t e in
-      one_submitter w h t s at.0 q (and_parts (p t) (is_on s.submitted.id t) at.1).1
+  own_on p s t q e = grind (arith, nat_tests, find_at, one_submitter, and_parts)
 
   -- and on a surface that a client created
   pub own_of : (p : Submission → Bool) (d : Surface) (t : Submission) → Contains w.surfaces d
@@ -187,13 +119,7 @@ module _ (w : World) (h : KeepsAlways w) where
 
   module _ (s : Submission) (known : Contains w.subs s) (waits : is_waiting s ≡ true) where
     risen_frame : (t : Submission) → (as_one_rises s t).submitted ≡ t.submitted
-    risen_frame t = by (same_sub (sub_of t) (sub_of s)) (is_active t && is_on s.submitted.id t)
-      where
-        by : (a b : Bool) → (cond a (record t { state = Active; was_active = true }) (cond b (record t { state = Past }) t)).submitted
-            ≡ t.submitted
-        by true b = refl
-        by false true = refl
-        by false false = refl
+    risen_frame t = grind (arith, nat_tests)
 
     risen_split : (t : Submission) → Contains w.subs t
         → IsSplit (holds_there w t) (holds_there (rising s w) (as_one_rises s t)) (is_active t && is_on s.submitted.id t)
@@ -236,8 +162,7 @@ module _ (w : World) (h : KeepsAlways w) where
 
   module _ (d : Surface) (known : Contains w.surfaces d) where
     left_frame : (t : Submission) → (drop_on (d ∷ []) t).submitted ≡ t.submitted
-    left_frame t = when_same (λ (x : Submission). x.submitted) (λ x. record x { state = Dropped })
-        ((is_waiting t || is_active t) && list_any (λ c. is_on c.id t) (d ∷ [])) t refl
+    left_frame t = grind (arith, nat_tests, when_same)
 
     -- it waits or is active there
     gone_there : Submission → Bool
@@ -246,50 +171,11 @@ module _ (w : World) (h : KeepsAlways w) where
     gone_split : (t : Submission) → Contains w.subs t
         → IsSplit (holds_there w t) (holds_there (going d w) (drop_on (d ∷ []) t)) (gone_there t)
     unfolding gone_there
-    gone_split t q = subst (λ i. IsSplit (holds_there w t)
-        ((is_waiting (drop_on (d ∷ []) t) || is_active (drop_on (d ∷ []) t)) && exists (going d w) i) (gone_there t))
-        (sym (ap (λ x. x.id) (left_frame t)))
-        (by (is_waiting t || is_active t) (is_on d.id t) refl refl)
-      where
-        on_one : (a b on : Bool) → on ≡ true → ((a && on) || (b && on)) ≡ (a || b)
-        on_one true b true e = refl
-        on_one false true true e = refl
-        on_one false false true e = refl
-        on_one a b false e = absurd (cc)
-
-        on_none : (a b on : Bool) → on ≡ false → ((a && on) || (b && on)) ≡ false
-        on_none a b true e = absurd (cc)
-        on_none true true false e = refl
-        on_none true false false e = refl
-        on_none false true false e = refl
-        on_none false false false e = refl
-
-        by : (o on : Bool) → (is_waiting t || is_active t) ≡ o → is_on d.id t ≡ on
-            → IsSplit ((is_waiting t || is_active t) && exists w t.submitted.id)
-            ((is_waiting (cond (o && (on || false)) (record t { state = Dropped }) t)
-            || is_active (cond (o && (on || false)) (record t { state = Dropped }) t)) && exists (going d w) t.submitted.id)
-            ((is_waiting t && is_on d.id t) || (is_active t && is_on d.id t))
-        by true true e f = split_gone _ _ _ (and_from _ _ e (h.states.stand t q e)) refl
-            (on_one (is_waiting t) (is_active t) (is_on d.id t) f ∙ e)
-        by true false e f = split_by _ _ _ (ap (λ b. (is_waiting t || is_active t) && b) (sym (exists_left d w t.submitted.id f)))
-            (on_none (is_waiting t) (is_active t) (is_on d.id t) f)
-        by false true e f =
-            split_by _ _ _ (ap (λ o. o && exists w t.submitted.id) e ∙ sym (ap (λ o. o && exists (going d w) t.submitted.id) e))
-            (on_one (is_waiting t) (is_active t) (is_on d.id t) f ∙ e)
-        by false false e f = split_by _ _ _ (ap (λ b. (is_waiting t || is_active t) && b) (sym (exists_left d w t.submitted.id f)))
-            (on_none (is_waiting t) (is_active t) (is_on d.id t) f)
+    gone_split t q = grind (arith, nat_tests, IsSplit (holds_there w t), left_frame t, IsSplit, split_gone, and_from, split_by, exists_left d w t.submitted.id)
 
     either_one : (t : Submission) → IsSplit (gone_there t) (is_waiting t && is_on d.id t) (is_active t && is_on d.id t)
     unfolding gone_there
-    either_one t = by (is_waiting t) (is_active t) (is_on d.id t) (not_both t)
-      where
-        by : (a b on : Bool) → (a ≡ true → b ≡ false) → IsSplit ((a && on) || (b && on)) (a && on) (b && on)
-        by true true on none = let bad : true ≡ false = none refl in absurd (cc)
-        by true false true none = refl
-        by true false false none = refl
-        by false true true none = refl
-        by false true false none = refl
-        by false false on none = refl
+    either_one t = grind (arith, nat_tests, not_both t, IsSplit)
 
     pub alive_gone : (client : ℕ) (L M : List Listing) → d.client ≡ client → L ≡ waiting_listings w d.id → M ≡ active_listings w d.id
         → lists_twice L ≡ false → lists_twice M ≡ false

@@ -64,23 +64,7 @@ last_of_all : (a t : ℕ) → 0 < a → 1 + t ≤ a → (a == 1) ≡ true → (n
 last_of_all a t h k e = grind (arith, nat_tests, h, k, e)
 
 one_of_more : (a t : ℕ) → 0 < a → 1 + t ≤ a → (a == 1) ≡ false → (nat_lt 0 t && (a - 1 == t)) ≡ (nat_lt 0 (1 + t) && (a == 1 + t))
-one_of_more a t h k e = by (a == 1 + t) refl
-  where
-    by : (b : Bool) → (a == 1 + t) ≡ b → (nat_lt 0 t && (a - 1 == t)) ≡ (nat_lt 0 (1 + t) && (a == 1 + t))
-    by true f =
-        let left : nat_lt 0 t ≡ true = grind (arith, nat_tests, h, e, f) in
-        let same : (a - 1 == t) ≡ true = grind (arith, nat_tests, h, f) in
-        let right : nat_lt 0 (1 + t) ≡ true = grind (arith, nat_tests) in
-        two_true (nat_lt 0 t) (a - 1 == t) left same ∙ sym (two_true (nat_lt 0 (1 + t)) (a == 1 + t) right f)
-    by false f =
-        let other : (a - 1 == t) ≡ false = grind (arith, nat_tests, h, f) in
-        by_false (nat_lt 0 t) (a - 1 == t) (nat_lt 0 (1 + t)) (a == 1 + t) other f
-      where
-        by_false : (p q r s : Bool) → q ≡ false → s ≡ false → (p && q) ≡ (r && s)
-        by_false true q true s g h = g ∙ sym h
-        by_false true q false s g h = g
-        by_false false q true s g h = sym h
-        by_false false q false s g h = refl
+one_of_more a t h k e = grind (arith, nat_tests, two_true (nat_lt 0 t), two_true)
 
 back_of : (j : ℕ) (ids : List ℕ) (h : Holding) (a t : ℕ) → alive_of j h.counted ≡ a → times j ids ≡ t → all_back j ids h ≡ (nat_lt 0 t && (a == t))
 back_of j ids h a t e f = λ i. nat_lt 0 (f i) && (e i == f i)
@@ -170,27 +154,14 @@ found_back j (id ∷ ids) h s =
 no_lower : ℕ → List Returned → Bool
 no_lower n rs = list_all (λ x. nat_le n x.id) (map as_counted rs)
 
-lower_first : (n : ℕ) (t : Bool) (r : Returned) (rs : List Returned) → nat_le n r.id ≡ true → no_lower n rs ≡ true → no_lower n (option_to_list (cond t (Some r) None) ++ rs) ≡ true
-unfolding no_lower
-lower_first n true r rs h k = two_true _ _ h k
-lower_first n false r rs h k = k
-
 none_lower : (n : ℕ) (ids : List ℕ) (h : Holding) → list_all (nat_le n) ids ≡ true → no_lower n (returns_in ids h) ≡ true
 unfolding no_lower
 none_lower n [] h a = refl
-none_lower n (id ∷ ids) h a =
-    let parts = both (nat_le n id) (list_all (nat_le n) ids) a in
-    lower_first n (is_last id h) _ (returns_in ids (released id h)) parts.0 (none_lower n ids (released id h) parts.1)
+none_lower n (id ∷ ids) h a = grind (arith, nat_tests, both (nat_le n id) (list_all (nat_le n) ids) a, two_true, none_lower n ids (released id h))
 
 above_all : (n : ℕ) (list : List Counted) → list_all (λ x. nat_le n x.id) list ≡ true → counted_at n list ≡ None → list_all (λ x. nat_lt n x.id) list ≡ true
 above_all n [] h k = refl
-above_all n (x ∷ list) h k =
-    let parts = both (nat_le n x.id) (list_all (λ x. nat_le n x.id) list) h in
-    by (x.id == n) refl k parts.0 (above_all n list parts.1)
-  where
-    by : (t : Bool) → (x.id == n) ≡ t → cond t (Some x) (counted_at n list) ≡ None → nat_le n x.id ≡ true → (counted_at n list ≡ None → list_all (λ x. nat_lt n x.id) list ≡ true) → list_all (λ x. nat_lt n x.id) (x ∷ list) ≡ true
-    by true e k l rest = absurd (cc)
-    by false e k l rest = two_true _ _ (grind (arith, nat_tests, e, l)) (rest k)
+above_all n (x ∷ list) h k = grind (arith, nat_tests, both (nat_le n x.id) (list_all (λ x. nat_le n x.id) list) h, above_all n list, two_true)
 
 pub rising_back : (ids : List ℕ) (h : Holding) → Suffice ids h → is_sorted ids ≡ true → is_rising (map as_counted (returns_in ids h)) ≡ true
 unfolding is_sorted is_rising no_lower

@@ -86,13 +86,7 @@ module _ (items : List Lent) (client : ℕ) (known : IsLender client items) (o d
 
   -- a submission of a drawn frame is done
   first_more : (s : Sub) (others : List Sub) (x : Sub) → has_sub (s ∷ others) x ≡ (has_sub others x || same_sub x s)
-  first_more s others x = swap (same_sub x s) (has_sub others x)
-    where
-      swap : (a b : Bool) → (a || b) ≡ (b || a)
-      swap true true = refl
-      swap true false = refl
-      swap false true = refl
-      swap false false = refl
+  first_more s others x = grind (arith, nat_tests)
 
   pub done_enough : (w : World) (s : Submission) (others : List Sub) (L : List Listing) → IsDone w s others client L items
       → Suffice (o.released ++ ids_of L) o.holding
@@ -115,11 +109,7 @@ module _ (items : List Lent) (client : ℕ) (known : IsLender client items) (o d
 
   -- a submission is in a drawn frame
   last_more : (drawn : List Sub) (s x : Sub) → has_sub (drawn ++ s ∷ []) x ≡ (has_sub drawn x || same_sub x s)
-  last_more drawn s x = list_any-append (same_sub x) drawn (s ∷ []) ∙ ap (λ b. has_sub drawn x || b) (or_no (same_sub x s))
-    where
-      or_no : (a : Bool) → (a || false) ≡ a
-      or_no true = refl
-      or_no false = refl
+  last_more drawn s x = grind (arith, nat_tests, list_any-append (same_sub x) drawn (s ∷ []))
 
   -- the client of this number, and what stands for it
   its_client : (v : World) → AreLent v items → (c : Client) × (slice_get v.clients (client - 1) ≡ Some c)
@@ -233,33 +223,7 @@ module _ (items : List Lent) (client : ℕ) (known : IsLender client items) (o d
         → AreCounts w z l.holding l.released
         → AreCounts (accepted w c local frame).world d l.holding l.released
     unfolding submitted
-    other_counts n z d l e at after counts =
-        let number = x.always.clients.numbered n z at in
-        let other : (z.number == c.number)
-        ≡ false = away z.number c.number n (client - 1) number (x.number ∙ client_is client items known) e in
-        let mine : (client == z.number) ≡ false = turned z.number c.number client (x.number) other in
-        let same : z ≡ d = sym (ap (λ (t : Bool). cond t (took (submitting w frame z)) z) other) ∙ after in
-        subst (λ y. AreCounts (accepted w c local frame).world y l.holding l.released) same (record {
-          client = counts.client;
-          rising = counts.rising;
-          some = counts.some;
-          received = counts.received;
-          alive = λ id. omega (
-            arith,
-            counts.alive id,
-            alive_after z.number id,
-            share_of_other client L z.number id mine,
-            share_of_other
-                client M z.number id mine,
-          );
-          queue = counts.queue;
-        })
-      where
-        away : (a b n k : ℕ) → a ≡ n + 1 → b ≡ k + 1 → (n == k) ≡ false → (a == b) ≡ false
-        away a b n k p q r = grind (arith, nat_tests, p, q, r)
-
-        turned : (a b q : ℕ) → b ≡ q → (a == b) ≡ false → (q == a) ≡ false
-        turned a b q p r = grind (arith, nat_tests, p, r)
+    other_counts n z d l e at after counts = grind (arith, nat_tests, client_is, alive_after, share_of_other)
 
     pub accepted_lent : (new : Lent) → new.holding ≡ lent_all (ids_of L) o.holding → new.released ≡ o.released ++ ids_of M
         → AreLent (accepted w c local frame).world (set items (client - 1) new)

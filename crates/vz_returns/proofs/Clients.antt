@@ -1,5 +1,6 @@
 -- Clients and their resources, as references are lent and queues are handed over.
 use Rattle.std.proofs.Common.{◌≡◌, ℕ, ◌+◌, ◌-◌, ◌≤◌, Bool, true, false, ◌&&◌, ◌==◌, Option, Some, None, is_some, List, [], map, count_by, refl, ap, sym, subst, ◌∙◌, arith, cond, Contains}
+use Rattle.std.proofs.lemmas.Bool.Decides.{nat_tests}
 use Rattle.std.specs.List.{list_any}
 use Rattle.std.specs.Option.{option_map}
 use Rattle.std.proofs.lemmas.Bool.{and_parts, eqb-true}
@@ -61,11 +62,7 @@ out_lent L rs id less known once =
 
 -- a queue that is handed over leaves what is out
 pub out_reclaimed : (rs : List Resource) (id : ℕ) → out_in (map (λ (s : Resource). record s { reclaimed = s.queued }) rs) id ≡ out_in rs id
-out_reclaimed rs id = out_mapped (λ s. record s { reclaimed = s.queued }) rs id (λ s. refl) ∙ (by (resource_in id rs) ∙ sym (out_is rs id))
-  where
-    by : (o : Option Resource) → out_of_one (option_map {T = Resource} (λ s. record s { reclaimed = s.queued }) o) ≡ out_of_one o
-    by None = refl
-    by (Some s) = refl
+out_reclaimed rs id = grind (arith, nat_tests, out_mapped, out_is rs id)
 
 -- a client whose submission is accepted
 pub record Submits (L : List Listing) (c d : Client) : Type 0 where
@@ -74,32 +71,15 @@ pub record Submits (L : List Listing) (c d : Client) : Type 0 where
   pub resources : d.resources ≡ map (lend L) c.resources
 
 pub submits : (w : World) (frame : CompositorFrame) (c : Client) → Submits frame.resources c (took (submitting w frame c))
-submits w frame c = by (frame.metadata.ack == w.tick)
-  where
-    by : (t : Bool) → Submits frame.resources c
-        (took (cond t (record (record c { resources = map (lend frame.resources) c.resources }) { answered = w.tick })
-        (record c { resources = map (lend frame.resources) c.resources })))
-    by true = record { number = refl; queue = refl; resources = refl }
-    by false = record { number = refl; queue = refl; resources = refl }
+submits w frame c = grind (arith, nat_tests)
 
 -- Numbers
-
-both_first : (a b : Bool) → (a && b) ≡ true → a ≡ true
-both_first a b h = (and_parts a b h).0
 
 -- of a resource no more are alive than two for each submission of its client
 pub alive_few : (w : World) (flight : Option (List Sub)) (c id : ℕ)
     → alive_in (record w { in_flight = flight }) c id ≤ count_by (is_by c) w.subs + count_by (is_by c) w.subs
 unfolding alive_in
-alive_few w flight c id =
-    let v : World = record w { in_flight = flight } in
-    omega (
-      arith,
-      count_weaker (λ s. borrows c id s && holds_there v s) (is_by c) w.subs
-          (λ s q e. both_first _ _ (both_first (borrows c id s) (holds_there v s) e)),
-      count_weaker (λ s. borrows c id s && holds_in_flight v s) (is_by c) w.subs
-          (λ s q e. both_first _ _ (both_first (borrows c id s) (holds_in_flight v s) e)),
-    )
+alive_few w flight c id = grind (arith, nat_tests, count_weaker, and_parts)
 
 out_few : (p : Plan) (w : World) → IsPlan p → KeepsAlways w → KeepsPlan p w → (c : Client) → Contains w.clients c → (id : ℕ)
     → out_in c.resources id ≤ 4096

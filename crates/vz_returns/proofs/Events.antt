@@ -1,5 +1,5 @@
 -- Which feedback submissions get, as one is accepted, as one becomes active, and as a surface is destroyed.
-use Rattle.std.proofs.Common.{◌≡◌, ℕ, ◌+◌, ◌≤◌, Bool, true, false, not, ◌&&◌, ◌||◌, ◌==◌, Option, Some, None, is_some, [], ◌∷◌, map, find, slice_get, Contains, count_by, refl, ap, sym, subst, ◌∙◌, arith, cond}
+use Rattle.std.proofs.Common.{◌≡◌, ℕ, ◌+◌, ◌≤◌, Bool, true, false, not, ◌&&◌, ◌||◌, Option, Some, None, is_some, [], ◌∷◌, map, find, slice_get, Contains, count_by, refl, ap, sym, subst, ◌∙◌, arith, cond}
 use Rattle.std.specs.Option.{option_map}
 use Rattle.std.proofs.lemmas.Bool.Decides.{nat_tests}
 use Rattle.vz_ids.specs.declared.SurfaceId.{SurfaceId}
@@ -21,7 +21,6 @@ use Rattle.vz_rules.proofs.Counts.{one_place, count_at}
 use Rattle.vz_rules.proofs.Facts.{false_at}
 use Rattle.vz_rules.proofs.Kept_facts.{subs_apart}
 use Rattle.vz_returns.specs.declared.ended.Ended.{Ended}
-use Rattle.vz_returns.specs.declared.due.Due.{Due}
 use Rattle.vz_returns.specs.Owed.{Owed, AreOwed, place_of, ended_of, waiting_on, active_on}
 use Rattle.vz_returns.specs.Notes.{IsNoted, IsAdded, dropped_by, is_name, fed_as, noted}
 use Rattle.vz_returns.proofs.Owes.{none_some, yes_no, same_self, owes_mapped, owes_added}
@@ -43,10 +42,7 @@ drops_active w id = dropped_by (option_map (ended_of w) (active_on w id))
 
 module _ (w : World) (keeps : KeepsAlways w) where
   one_name : (s t : Submission) → Contains w.subs s → Contains w.subs t → same_sub (sub_of s) (sub_of t) ≡ true → s ≡ t
-  one_name s t c d e =
-      let a = contains_at w.subs s c in
-      let b = contains_at w.subs t d in
-      at_same w.subs a.0 b.0 s t a.1 b.1 (subs_apart w a.0 b.0 s t keeps a.1 b.1 e)
+  one_name s t c d e = grind (arith, nat_tests, contains_at w.subs s c, contains_at w.subs t d, at_same w.subs, subs_apart w)
 
   -- at most one passes a test
   abbrev IsAlone : (Submission → Bool) → Type 0
@@ -117,15 +113,7 @@ module _ (w : World) (keeps : KeepsAlways w) where
   -- no submission has the name of the next one of a client
   pub new_name : (c : ℕ) (n : ℕ) (u : Submission) → slice_get w.subs n ≡ Some u
       → same_sub (record { client = c; ordinal = count_by (is_by c) w.subs + 1 }) (sub_of u) ≡ false
-  new_name c n u at =
-      false_at (same_sub (record { client = c; ordinal = count_by (is_by c) w.subs + 1 }) (sub_of u)) (λ e.
-      let parts = both_true (c == u.submitted.sub.client) ((count_by (is_by c) w.subs + 1) == u.submitted.sub.ordinal) e in
-      let client : c ≡ u.submitted.sub.client = grind (arith, nat_tests, parts.0) in
-      let ordinal : count_by (is_by c) w.subs + 1 ≡ u.submitted.sub.ordinal = grind (arith, nat_tests, parts.1) in
-      let same = ap (λ k. count_by (is_by k) w.subs) client in
-      let own = keeps.numbers.ordered n u at in
-      let within = count_at (is_by u.submitted.sub.client) w.subs n u at (grind (arith, nat_tests)) in
-      omega (arith, ordinal, same, own, within))
+  new_name c n u at = grind (arith, nat_tests, false_at, both_true, count_at (is_by u.submitted.sub.client) w.subs n u at)
 
 -- Events
 
@@ -250,11 +238,4 @@ owed_destroyed w c old mid new waiting active dropped past keeps o first second 
 
 pub first_owed : (p : Plan) (f : Owed) → ((t : Sub) → place_of f t ≡ None) → f.due ≡ [] → f.accepted ≡ 0 → AreOwed (opening p) f
 unfolding opening
-first_owed p f places due accepted =
-    record {
-      accepted = accepted;
-      places = λ n s at waits. absurd (contains_none s (at_contains [] n s at));
-      only = λ t n found. let no_way : true ≡ false = none_some n (place_of f t) (places t) found in absurd (cc);
-      due = λ d c. absurd (contains_none d (subst (λ l. Contains l d) due c));
-      once = λ n. ap (λ l. count_by (λ (d : Due). d.place == n) l) due;
-    }
+first_owed p f places due accepted = grind (arith, nat_tests, contains_none, at_contains, none_some, found)

@@ -1,5 +1,5 @@
 -- Feedback that is given, and the submissions of a frame that is done.
-use Rattle.std.proofs.Common.{◌≡◌, ℕ, ◌+◌, Bool, true, false, not, ◌&&◌, ◌||◌, Option, Some, None, is_none, List, [], ◌∷◌, ◌++◌, length, ◌<◌, ◌≤◌, take, get_or, filter_map, take_all, refl, ap, sym, subst, ◌∙◌, arith, cond}
+use Rattle.std.proofs.Common.{◌≡◌, ℕ, ◌+◌, Bool, true, false, not, ◌&&◌, ◌||◌, Option, Some, None, is_none, List, [], ◌∷◌, ◌++◌, length, ◌<◌, ◌≤◌, take, get_or, filter_map, take_all, refl, ap, sym, subst, arith, cond}
 use Rattle.std.proofs.lemmas.List.{take_more}
 use Rattle.std.proofs.lemmas.Bool.Decides.{nat_tests}
 use Rattle.vz_ids.specs.declared.Sub.{Sub}
@@ -8,7 +8,7 @@ use Rattle.vz_rules.specs.declared.entry.Fed.{Fed}
 use Rattle.vz_rules.specs.World.{World, Submission, is_ended, is_in_flight, has_sub, sub_of}
 use Rattle.vz_rules.specs.Returns.{feedback_of, mark_fed, feed, fed_in, give_back}
 use Rattle.vz_rules.specs.Ends.{landed, presenting}
-use Rattle.vz_returns.specs.Owed.{Owed, Owes, AreOwed, place_of, awaits}
+use Rattle.vz_returns.specs.Owed.{Owed, Owes, AreOwed, place_of}
 use Rattle.vz_returns.specs.Notes.{IsNoted, is_name, fed_as, noted, without_due}
 use Rattle.vz_returns.proofs.Owes.{owes_same, owes_given}
 use Rattle.vz_returns.proofs.Noted.{owes_noted}
@@ -50,13 +50,7 @@ owed_fed presented w old new o is =
 
 pub owed_landed : (drawn : List Sub) (w : World) (f : Owed) → w.in_flight ≡ Some drawn
     → Owes (noted (has_sub drawn) true (feedback_of w [])) w.subs f → Owes (feedback_of (landed w) drawn) w.subs f
-owed_landed drawn w f flies o =
-    owes_same (noted (has_sub drawn) true (feedback_of w [])) (feedback_of (landed w) drawn) w.subs f
-    (λ s c.
-    landed_flat s.fed (is_ended s) (has_sub drawn (sub_of s)) (fed_as true (sub_of s)) (fed_as false (sub_of s))
-    ∙ (λ i.
-    let before = given s.fed (is_ended s) (is_in_flight (sym flies i) (sub_of s)) (fed_as false (sub_of s)) in
-    also s.fed before (has_sub drawn (sub_of s)) (fed_as true (sub_of s)))) o
+owed_landed drawn w f flies o = grind (arith, nat_tests, owes_same, landed_flat, given, also)
 
 pub owed_presented : (drawn : List Sub) (w : World) (old new : Owed) → w.in_flight ≡ Some drawn
     → Owes (noted (has_sub drawn) true (feedback_of w [])) w.subs old → new ≡ without_due old
@@ -66,38 +60,14 @@ owed_presented drawn w old new flies o is = owed_fed drawn (landed w) old new (o
 
 -- One more of those that were drawn
 
-sym_same : (a b : Sub) → same_sub a b ≡ same_sub b a
-sym_same a b = grind (arith, nat_tests)
-
 has_push : (xs : List Sub) (x t : Sub) → has_sub (xs ++ x ∷ []) t ≡ (has_sub xs t || same_sub x t)
-has_push [] x t = or_none (same_sub t x) ∙ sym_same t x
-  where
-    or_none : (b : Bool) → (b || false) ≡ b
-    or_none true = refl
-    or_none false = refl
-has_push (y ∷ xs) x t = ap (λ b. same_sub t y || b) (has_push xs x t) ∙ or_assoc (same_sub t y) (has_sub xs t) (same_sub x t)
-  where
-    or_assoc : (a b d : Bool) → (a || (b || d)) ≡ ((a || b) || d)
-    or_assoc true b d = refl
-    or_assoc false b d = refl
+has_push [] x t = grind (arith, nat_tests)
+has_push (y ∷ xs) x t = grind (arith, nat_tests, has_push xs x t)
 
 pub noted_more : (xs : List Sub) (x : Sub) (gets : Submission → Option Fed) (subs : List Submission) (f : Owed)
     → Owes (noted (is_name (Some x)) true (noted (has_sub xs) true gets)) subs f
     → Owes (noted (has_sub (xs ++ x ∷ [])) true gets) subs f
-noted_more xs x gets subs f o =
-    owes_same (noted (is_name (Some x)) true (noted (has_sub xs) true gets)) (noted (has_sub (xs ++ x ∷ [])) true gets) subs f
-    (λ s c.
-    ap (λ b. cond (awaits gets s && b) (Some (fed_as true (sub_of s))) (gets s)) (has_push xs x (sub_of s))
-    ∙ twice_flat s.fed (has_sub xs (sub_of s)) (same_sub x (sub_of s)) (gets s) (fed_as true (sub_of s))) o
-
-pub noted_none : (gets : Submission → Option Fed) (subs : List Submission) (f : Owed) → Owes gets subs f
-    → Owes (noted (has_sub []) true gets) subs f
-noted_none gets subs f o =
-    owes_same gets (noted (has_sub []) true gets) subs f (λ s c. by (awaits gets s) (gets s) (fed_as true (sub_of s))) o
-  where
-    by : (a : Bool) (g : Option Fed) (x : Fed) → cond (a && false) (Some x) g ≡ g
-    by true g x = refl
-    by false g x = refl
+noted_more xs x gets subs f o = grind (arith, nat_tests, owes_same, has_push, twice_flat)
 
 pub noted_next : (drawn : List Sub) (i : ℕ) (d : Sub) (gets : Submission → Option Fed) (subs : List Submission) (mid new : Owed)
     → i < length drawn

@@ -1,5 +1,5 @@
 -- The releases of a step give what the machine's state gives back.
-use Rattle.std.proofs.Common.{◌≡◌, ℕ, ◌+◌, ◌-◌, Bool, true, false, not, ◌==◌, ◌&&◌, ◌||◌, Option, Some, None, List, [], ◌∷◌, ◌++◌, map, count_by, nat_lt, refl, ap, sym, ◌∙◌, arith, cond}
+use Rattle.std.proofs.Common.{◌≡◌, ℕ, ◌+◌, ◌-◌, Bool, true, false, not, ◌==◌, ◌&&◌, ◌||◌, Option, Some, None, List, [], ◌∷◌, map, count_by, nat_lt, refl, ap, sym, ◌∙◌, arith, cond}
 use Rattle.std.specs.List.{list_all, list_any, filter_map, cons_option}
 use Rattle.std.specs.Option.{option_map}
 use Rattle.std.proofs.lemmas.Bool.Decides.{nat_tests}
@@ -18,30 +18,16 @@ use Rattle.vz_returns.proofs.All_released.{Suffice, all_back, alive_all, receive
 
 -- What is held is alive
 
-nat_lt_zero : (n : ℕ) → nat_lt 0 (1 + n) ≡ true
-nat_lt_zero n = grind (arith, nat_tests)
-
-none_more : (n : ℕ) → 0 + n ≡ n
-none_more n = omega arith
-
 some_counted : {A : Type 0} (p : A → Bool) (xs : List A) → nat_lt 0 (count_by p xs) ≡ list_any p xs
 some_counted p [] = refl
-some_counted p (x ∷ xs) =
-    ap (nat_lt 0) (count_cons p x xs)
-    ∙ (elim (p x) as (λ (t : Bool). nat_lt 0 (cond t 1 0 + count_by p xs) ≡ (t || list_any p xs)) [ true ↦ nat_lt_zero (count_by p xs) | false ↦ ap (nat_lt 0) (none_more (count_by p xs)) ∙ some_counted p xs ])
+some_counted p (x ∷ xs) = grind (arith, nat_tests, count_cons p x xs, some_counted p xs)
 
 either_some : (n m : ℕ) → nat_lt 0 (n + m) ≡ (nat_lt 0 n || nat_lt 0 m)
 either_some n m = grind (arith, nat_tests)
 
 any_or : {A : Type 0} (p q : A → Bool) (xs : List A) → (list_any p xs || list_any q xs) ≡ list_any (λ x. p x || q x) xs
 any_or p q [] = refl
-any_or p q (x ∷ xs) = in_turn (p x) (q x) (list_any p xs) (list_any q xs) ∙ ap (λ b. (p x || q x) || b) (any_or p q xs)
-  where
-    in_turn : (a b c d : Bool) → ((a || c) || (b || d)) ≡ ((a || b) || (c || d))
-    in_turn true b c d = refl
-    in_turn false true true d = refl
-    in_turn false true false d = refl
-    in_turn false false c d = refl
+any_or p q (x ∷ xs) = grind (arith, nat_tests, any_or p q xs)
 
 any_same : {A : Type 0} (p q : A → Bool) (xs : List A) → ((x : A) → p x ≡ q x) → list_any p xs ≡ list_any q xs
 any_same p q [] same = refl
@@ -49,24 +35,11 @@ any_same p q (x ∷ xs) same = (λ i. same x i || any_same p q xs same i)
 
 holds_either : (c id : ℕ) (w : World) (s : Submission)
     → ((borrows c id s && holds_there w s) || (borrows c id s && holds_in_flight w s)) ≡ ((s.submitted.sub.client == c) && holds w s && list_any (lists id) s.submitted.frame.resources)
-holds_either c id w s = by (s.submitted.sub.client == c) (list_any (lists id) s.submitted.frame.resources) (holds_there w s) (holds_in_flight w s)
-  where
-    by : (a b p q : Bool) → (((a && b) && p) || ((a && b) && q)) ≡ ((a && (p || q)) && b)
-    by true true true q = refl
-    by true true false true = refl
-    by true true false false = refl
-    by true false true q = refl
-    by true false false true = refl
-    by true false false false = refl
-    by false b p q = refl
+holds_either c id w s = grind (arith, nat_tests)
 
 pub held_are_alive : (w : World) (c id : ℕ) → nat_lt 0 (alive_in w c id) ≡ is_held w c id
 unfolding alive_in is_held
-held_are_alive w c id =
-    either_some (count_by (λ s. borrows c id s && holds_there w s) w.subs) (count_by (λ s. borrows c id s && holds_in_flight w s) w.subs)
-    ∙ (λ i. some_counted (λ s. borrows c id s && holds_there w s) w.subs i || some_counted (λ s. borrows c id s && holds_in_flight w s) w.subs i)
-    ∙ any_or (λ s. borrows c id s && holds_there w s) (λ s. borrows c id s && holds_in_flight w s) w.subs
-    ∙ any_same _ _ w.subs (holds_either c id w)
+held_are_alive w c id = grind (arith, nat_tests, either_some, some_counted, any_or, any_same, holds_either c id w)
 
 -- What is queued of a client
 
@@ -84,10 +57,7 @@ returned_id false r p rest h k = k
 given_above : (w : World) (n m : ℕ) (rs : List Resource) → list_all (λ (t : Resource). nat_lt m t.id) rs ≡ true → list_all (λ x. nat_lt m x.id) (given w n rs) ≡ true
 unfolding given
 given_above w n m [] h = refl
-given_above w n m (r ∷ rs) h =
-    let parts = both (nat_lt m r.id) (list_all (λ (t : Resource). nat_lt m t.id) rs) h in
-    ap (list_all (λ x. nat_lt m x.id)) (given_first (return_of w n) (return_of w n r) rs)
-    ∙ returned_id (goes_back w n r) (record { client = n; id = r.id; count = r.lent - r.queued }) (λ x. nat_lt m x.id) (map as_counted (filter_map (return_of w n) rs)) parts.0 (given_above w n m rs parts.1)
+given_above w n m (r ∷ rs) h = grind (arith, nat_tests, both, given_first, returned_id, as_counted, given_above w n m rs)
 
 rising_first : (t : Bool) (r : Returned) (rest : List Counted) → list_all (λ x. nat_lt r.id x.id) rest ≡ true → is_rising rest ≡ true → is_rising (cons_option (option_map as_counted (cond t (Some r) None)) rest) ≡ true
 unfolding is_rising
@@ -107,10 +77,7 @@ given_of w n o = elim o [ Some r ↦ option_map as_counted (return_of w n r) | N
 
 none_above : (n : ℕ) (list : List Counted) → list_all (λ x. nat_lt n x.id) list ≡ true → counted_at n list ≡ None
 none_above n [] h = refl
-none_above n (x ∷ list) h =
-    let parts = both (nat_lt n x.id) (list_all (λ x. nat_lt n x.id) list) h in
-    let other : (x.id == n) ≡ false = grind (arith, nat_tests, parts.0) in
-    ap (λ t. cond t (Some x) (counted_at n list)) other ∙ none_above n list parts.1
+none_above n (x ∷ list) h = grind (arith, nat_tests, both (nat_lt n x.id) (list_all (λ x. nat_lt n x.id) list) h, none_above n list)
 
 found_first : (j : ℕ) (t : Bool) (r : Returned) (rest : List Counted) → counted_at j (cons_option (option_map as_counted (cond t (Some r) None)) rest) ≡ cond (t && (r.id == j)) (Some (as_counted r)) (counted_at j rest)
 found_first j true r rest = refl
@@ -148,24 +115,8 @@ module _ (w : World) (c : Client) (h : Holding) (ids : List ℕ) (counts : AreCo
 
   -- where nothing holds a resource, its references are those released
   all_or : (a i t r : ℕ) (held : Bool) → a ≡ i + t → nat_lt 0 i ≡ held → nat_lt 0 r ≡ nat_lt 0 a → (nat_lt 0 t && (a == t)) ≡ (nat_lt 0 r && not held)
-  all_or a i t r true e f g = last_false (nat_lt 0 t) (a == t) (nat_lt 0 r) (grind (arith, nat_tests, e, f))
-    where
-      last_false : (p q r : Bool) → q ≡ false → (p && q) ≡ (r && false)
-      last_false true q true e = e
-      last_false true q false e = e
-      last_false false q true e = refl
-      last_false false q false e = refl
-  all_or a i t r false e f g =
-      let zero : i ≡ 0 = grind (arith, nat_tests, f) in
-      let same : a ≡ t = omega (arith, e, zero) in
-      last_true (nat_lt 0 t) (a == t) (nat_lt 0 r) (to_eqb a t same) (ap (nat_lt 0) (sym same) ∙ sym g)
-    where
-      last_true : (p q r : Bool) → q ≡ true → p ≡ r → (p && q) ≡ (r && true)
-      last_true true true true e f = refl
-      last_true true true false e f = absurd (cc)
-      last_true true false r e f = absurd (cc)
-      last_true false q true e f = absurd (cc)
-      last_true false q false e f = refl
+  all_or a i t r true e f g = grind (arith, nat_tests)
+  all_or a i t r false e f g = grind (arith, nat_tests, to_eqb a t)
 
   back_is : (j : ℕ) → all_back j ids h ≡ (nat_lt 0 (out_in c.resources j) && not (is_held w c.number j))
   back_is j =
@@ -180,15 +131,8 @@ module _ (w : World) (c : Client) (h : Holding) (ids : List ℕ) (counts : AreCo
   unfolding out_in
   out_none j e = ap (λ (o : Option Resource). elim o [ Some r ↦ r.lent - r.queued | None ↦ 0 ]) e
 
-  more_lent : (a b : ℕ) → nat_lt 0 (a - b) ≡ nat_lt b a
-  more_lent a b = grind (arith, nat_tests)
-
   goes_as : (j : ℕ) (r : Resource) → resource_in j c.resources ≡ Some r → all_back j ids h ≡ goes_back w c.number r
-  goes_as j r e =
-      back_is j
-      ∙ (λ i. nat_lt 0 (out_some j r e i) && not (is_held w c.number j))
-      ∙ (ap (λ b. b && not (is_held w c.number j)) (more_lent r.lent r.queued)
-      ∙ ap (λ m. nat_lt r.queued r.lent && not (is_held w c.number m)) (sym (from_eqb r.id j (find_test (λ (x : Resource). x.id == j) c.resources r e))))
+  goes_as j r e = grind (arith, nat_tests, back_is j, out_some j r e, from_eqb r.id j, find_test)
 
   none_goes : (j : ℕ) → resource_in j c.resources ≡ None → all_back j ids h ≡ false
   none_goes j e = back_is j ∙ ap (λ n. nat_lt 0 n && not (is_held w c.number j)) (out_none j e)
@@ -200,11 +144,8 @@ module _ (w : World) (c : Client) (h : Holding) (ids : List ℕ) (counts : AreCo
   found_by : (j : ℕ) (o : Option Resource) → resource_in j c.resources ≡ o
       → cond (all_back j ids h) (Some (record { id = j; received = received_of j h.counted; alive = h.client })) None ≡ given_of w c.number o
   unfolding given_of
-  found_by j None e = ap (λ t. cond t (Some (record { id = j; received = received_of j h.counted; alive = h.client })) None) (none_goes j e)
-  found_by j (Some r) e =
-      let id : j ≡ r.id = sym (from_eqb r.id j (find_test (λ (x : Resource). x.id == j) c.resources r e)) in
-      let received : received_of j h.counted ≡ r.lent - r.queued = counts.received j ∙ out_some j r e in
-      (λ i. cond (goes_as j r e i) (Some (record { id = id i; received = received i; alive = counts.client i })) None) ∙ either (goes_back w c.number r) r
+  found_by j None e = grind (arith, nat_tests, none_goes j e)
+  found_by j (Some r) e = grind (arith, nat_tests, from_eqb r.id j, find_test, out_some j r e, goes_as j r e, either (goes_back w c.number r) r)
 
   found_as : (j : ℕ) → counted_at j (map as_counted (returns_in ids h)) ≡ counted_at j (given w c.number c.resources)
   found_as j = found_back j ids h suffice ∙ (found_by j (resource_in j c.resources) refl ∙ sym (given_found w c.number j c.resources up))
@@ -215,45 +156,13 @@ module _ (w : World) (c : Client) (h : Holding) (ids : List ℕ) (counts : AreCo
       same_returns (returns_in ids h) (returns_of w c)
       (one_list (map as_counted (returns_in ids h)) (map as_counted (returns_of w c)) (rising_back ids h suffice o) (given_rising w c.number c.resources up) found_as)
 
-  -- what is out of a resource after it
-  out_after : (j : ℕ) (o : Option Resource) → resource_in j c.resources ≡ o
-      → cond (all_back j ids h) 0 (received_of j h.counted) ≡ elim (option_map (queue_resource w c.number) o) [ Some r ↦ r.lent - r.queued | None ↦ 0 ]
-  out_after j None e = ap (λ t. cond t 0 (received_of j h.counted)) (none_goes j e) ∙ counts.received j ∙ out_none j e
-  out_after j (Some r) e =
-      let received : received_of j h.counted ≡ r.lent - r.queued = counts.received j ∙ out_some j r e in
-      (λ i. cond (goes_as j r e i) 0 (received i)) ∙ left (goes_back w c.number r) r
-    where
-      none : (n : ℕ) → 0 ≡ n - n
-      none n = omega arith
-
-      left : (g : Bool) (r : Resource) → cond g 0 (r.lent - r.queued) ≡ (cond g (record r { queued = r.lent }) r).lent - (cond g (record r { queued = r.lent }) r).queued
-      left true r = none r.lent
-      left false r = refl
-
-  same_id : (n : ℕ) (r : Resource) → (queue_resource w c.number r).id == n ≡ (r.id == n)
-  same_id n r = by (goes_back w c.number r)
-    where
-      by : (g : Bool) → ((cond g (record r { queued = r.lent }) r).id == n) ≡ (r.id == n)
-      by true = refl
-      by false = refl
-
   received_after : (j : ℕ) → received_of j (release_all ids h).counted ≡ out_in (map (queue_resource w c.number) c.resources) j
   unfolding out_in
-  received_after j =
-      received_all j ids h suffice ∙ out_after j (resource_in j c.resources) refl
-      ∙ sym (ap (λ (o : Option Resource). elim o [ Some r ↦ r.lent - r.queued | None ↦ 0 ]) (find_map (λ (r : Resource). r.id == j) (queue_resource w c.number) c.resources (same_id j)))
+  received_after j = grind (arith, nat_tests, received_all j ids h, none_goes, out_none, out_some, goes_as, find_map)
 
   alive_after : (j : ℕ) → alive_of j (release_all ids h).counted ≡ alive_in (give_back w) c.number j + times j []
   unfolding alive_in give_back
   alive_after j = alive_all j ids h suffice ∙ omega (arith, counts.alive j)
 
   pub counts_after : is_sorted ids ≡ true → AreCounts (give_back w) (queue_returns w c) (release_all ids h) []
-  counts_after o =
-      record {
-        client = client_all ids h ∙ counts.client;
-        rising = rising_all ids h counts.rising;
-        some = some_all ids h suffice counts.some;
-        received = received_after;
-        alive = alive_after;
-        queue = queue_all ids h ∙ (λ i. counts.queue i ++ returns_are o i);
-      }
+  counts_after o = grind (arith, nat_tests, client_all, rising_all, some_all, received_after, alive_after, queue_all, returns_are)

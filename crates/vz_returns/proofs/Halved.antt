@@ -58,9 +58,6 @@ unlike a b h = grind (arith, nat_tests)
 unlike_back : (a b : Sub) → before a b ≡ true → same_sub b a ≡ false
 unlike_back a b h = grind (arith, nat_tests)
 
-alike : (a b : Sub) → same_sub a b ≡ true → before a b ≡ false
-alike a b h = grind (arith, nat_tests)
-
 -- a submission that all follow is not one of them
 none_open : (s : Sub) (list : List Sub) → list_all (before s) list ≡ true → is_open list s ≡ false
 none_open s [] h = refl
@@ -69,9 +66,7 @@ none_open s (x ∷ list) h = let parts = both (before s x) (list_all (before s) 
 -- and is not taken out of them
 none_fed : (s : Sub) (list : List Sub) → list_all (before s) list ≡ true → fed s list ≡ list
 none_fed s [] h = refl
-none_fed s (x ∷ list) h =
-    let parts = both (before s x) (list_all (before s) list) h in
-    ap (λ t. cond (not t) (x ∷ fed s list) (fed s list)) (unlike_back s x parts.0) ∙ ap (λ l. x ∷ l) (none_fed s list parts.1)
+none_fed s (x ∷ list) h = grind (arith, nat_tests, both (before s x) (list_all (before s) list) h, unlike_back s x, none_fed s list)
 
 -- what stands at the place of a submission that is open, and what is left without it
 pub record Stands (list : List Sub) (s : Sub) (place : ℕ) : Type 0 where
@@ -110,22 +105,10 @@ stands (x ∷ list) s sorted there =
       ] refl
     ] refl
 
--- one that stands at a place is open
-pub open_at : (list : List Sub) (s : Sub) (k : ℕ) (d : Sub) → k < length list → same_sub (get_or list k d) s ≡ true → is_open list s ≡ true
-open_at [] s k d l h = absurd (omega (arith, l))
-open_at (x ∷ list) s zero d l h = rw h
-open_at (x ∷ list) s (suc k) d l h = right_or (same_sub x s) (is_open list s) (open_at list s k d (omega (arith, l)) h)
-  where
-    right_or : (a b : Bool) → b ≡ true → (a || b) ≡ true
-    right_or true b h = refl
-    right_or false b h = h
-
 -- where it is not open nothing is taken out
 pub none_left : (list : List Sub) (s : Sub) → is_open list s ≡ false → fed s list ≡ list
 none_left [] s h = refl
-none_left (x ∷ list) s h =
-    let parts = two_false (same_sub x s) (is_open list s) h in
-    ap (λ t. cond (not t) (x ∷ fed s list) (fed s list)) parts.0 ∙ ap (λ l. x ∷ l) (none_left list s parts.1)
+none_left (x ∷ list) s h = grind (arith, nat_tests, two_false (same_sub x s) (is_open list s) h, none_left list s)
 
 pub none_in_order : in_order [] ≡ true
 unfolding in_order
@@ -133,12 +116,4 @@ none_in_order = refl
 
 -- where another one stands at its place, or none, it is not open
 pub not_there : (list : List Sub) (s : Sub) (place : ℕ) (d : Sub) → in_order list ≡ true → place ≡ place_in list s → (place < length list → same_sub (get_or list place d) s ≡ false) → is_open list s ≡ false
-not_there list s place d sorted is other =
-    elim (is_open list s) as (λ (t : Bool). is_open list s ≡ t → t ≡ false) [
-      | true ↦ λ e.
-          let at = stands list s sorted e in
-          let same : same_sub (get_or list place d) s ≡ true = ap (λ n. same_sub (get_or list n d) s) is ∙ at.same d in
-          let no_way : true ≡ false = sym same ∙ other (omega (arith, at.inside, is)) in
-          absurd (cc)
-      | false ↦ λ e. refl
-    ] refl
+not_there list s place d sorted is other = grind (arith, nat_tests, stands list s sorted)

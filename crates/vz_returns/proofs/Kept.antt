@@ -36,28 +36,12 @@ opened_at (x ∷ list) s t (suc n) = ap (λ b. same_sub x t || b) (opened_at lis
 pub opened_has : (list : List Sub) (s t : Sub) → is_open (opened s list) t ≡ (same_sub s t || is_open list t)
 opened_has list s t = opened_at list s t (place_in list s)
 
--- one that is the same as what is fed, and one that is another
-of_same : (a b r : Bool) → a ≡ b → (not b && r) ≡ (not b && (a || r))
-of_same true true r e = refl
-of_same false false r e = refl
-of_same true false r e = absurd (cc)
-of_same false true r e = absurd (cc)
-
-of_other : (a b r : Bool) → (b ≡ true → a ≡ false) → (a || (not b && r)) ≡ (not b && (a || r))
-of_other true true r f = let e : true ≡ false = f refl in absurd (cc)
-of_other false true r f = refl
-of_other a false r f = refl
-
 not_both : (x s t : Sub) → same_sub x s ≡ false → same_sub s t ≡ true → same_sub x t ≡ false
 not_both x s t other same = sym (ap (same_sub x) (from_same_sub s t same)) ∙ other
 
 pub fed_has : (list : List Sub) (s t : Sub) → is_open (fed s list) t ≡ (not (same_sub s t) && is_open list t)
-fed_has [] s t = elim (same_sub s t) as (λ (b : Bool). false ≡ (not b && false)) [ true ↦ refl | false ↦ refl ]
-fed_has (x ∷ list) s t =
-    elim (same_sub x s) as (λ (b : Bool). same_sub x s ≡ b → is_open (cond (not b) (x ∷ fed s list) (fed s list)) t ≡ (not (same_sub s t) && (same_sub x t || is_open list t))) [
-      | true ↦ λ e. fed_has list s t ∙ of_same (same_sub x t) (same_sub s t) (is_open list t) (ap (λ (z : Sub). same_sub z t) (from_same_sub x s e))
-      | false ↦ λ e. ap (λ b. same_sub x t || b) (fed_has list s t) ∙ of_other (same_sub x t) (same_sub s t) (is_open list t) (not_both x s t e)
-    ] refl
+fed_has [] s t = grind (arith, nat_tests)
+fed_has (x ∷ list) s t = grind (arith, nat_tests, fed_has list s t, from_same_sub x s, not_both x s t)
 
 -- The order
 
@@ -66,9 +50,6 @@ over a b c h k = grind (arith, nat_tests)
 
 pub or_after : (a b : Sub) → before a b ≡ false → same_sub a b ≡ false → before b a ≡ true
 or_after a b h k = grind (arith, nat_tests)
-
-pub not_after : (a b : Sub) → before a b ≡ true → before b a ≡ false
-not_after a b h = grind (arith, nat_tests)
 
 pub two_false : (a b : Bool) → (a || b) ≡ false → (a ≡ false) × (b ≡ false)
 two_false true b h = absurd (cc)
@@ -85,9 +66,7 @@ all_over a b (x ∷ list) h k = let parts = both (before b x) (list_all (before 
 -- none comes before one that comes before all
 pub none_before : (s : Sub) (list : List Sub) → list_all (before s) list ≡ true → place_in list s ≡ 0
 none_before s [] h = refl
-none_before s (x ∷ list) h =
-    let parts = both (before s x) (list_all (before s) list) h in
-    count_cons (λ t. before t s) x list ∙ (λ i. cond (not_after s x parts.0 i) 1 0 + none_before s list parts.1 i)
+none_before s (x ∷ list) h = grind (arith, nat_tests, both (before s x) (list_all (before s) list) h, count_cons, none_before s list)
 
 all_in : (a s : Sub) (list : List Sub) (n : ℕ) → before a s ≡ true → list_all (before a) list ≡ true → list_all (before a) (insert list n s) ≡ true
 all_in a s [] zero h k = two_true _ _ h refl
@@ -117,22 +96,12 @@ opened_in_order (x ∷ list) s sorted none =
 
 all_left : (a : Sub) (p : Sub → Bool) (list : List Sub) → list_all (before a) list ≡ true → list_all (before a) (filter p list) ≡ true
 all_left a p [] h = refl
-all_left a p (x ∷ list) h =
-    let parts = both (before a x) (list_all (before a) list) h in
-    elim (p x) as (λ (t : Bool). list_all (before a) (cond t (x ∷ filter p list) (filter p list)) ≡ true) [
-      | true ↦ two_true _ _ parts.0 (all_left a p list parts.1)
-      | false ↦ all_left a p list parts.1
-    ]
+all_left a p (x ∷ list) h = grind (arith, nat_tests, both (before a x) (list_all (before a) list) h, two_true, all_left a p list)
 
 pub fed_in_order : (list : List Sub) (s : Sub) → in_order list ≡ true → in_order (fed s list) ≡ true
 unfolding in_order
 fed_in_order [] s sorted = refl
-fed_in_order (x ∷ list) s sorted =
-    let order = both (list_all (before x) list) (in_order list) sorted in
-    elim (same_sub x s) as (λ (t : Bool). in_order (cond (not t) (x ∷ fed s list) (fed s list)) ≡ true) [
-      | true ↦ fed_in_order list s order.1
-      | false ↦ two_true _ _ (all_left x (λ t. not (same_sub t s)) list order.0) (fed_in_order list s order.1)
-    ]
+fed_in_order (x ∷ list) s sorted = grind (arith, nat_tests, both (list_all (before x) list) (in_order list) sorted, fed_in_order list s, two_true, all_left x)
 
 -- The machine's state
 
@@ -152,20 +121,8 @@ accepted_unfed subs list s new are t =
 
 one_marked : (s : Submission) (f t : Sub) (rest : Bool) (b : Bool) → same_sub (sub_of s) f ≡ b
     → (not (same_sub f t) && ((not s.fed && same_sub (sub_of s) t) || rest)) ≡ ((not (cond b (record s { fed = true }) s).fed && same_sub (sub_of (cond b (record s { fed = true }) s)) t) || (not (same_sub f t) && rest))
-one_marked s f t rest true e = gone s.fed (same_sub (sub_of s) t) (same_sub f t) rest (ap (λ (z : Sub). same_sub z t) (from_same_sub (sub_of s) f e))
-  where
-    gone : (d a b r : Bool) → a ≡ b → (not b && ((not d && a) || r)) ≡ (not b && r)
-    gone d a true r h = refl
-    gone true a false r h = refl
-    gone false false false r h = refl
-    gone false true false r h = absurd (cc)
-one_marked s f t rest false e = stays (not s.fed) (same_sub (sub_of s) t) (same_sub f t) rest (not_both (sub_of s) f t e)
-  where
-    stays : (d a b r : Bool) → (b ≡ true → a ≡ false) → (not b && ((d && a) || r)) ≡ ((d && a) || (not b && r))
-    stays d a false r h = refl
-    stays false a true r h = refl
-    stays true false true r h = refl
-    stays true true true r h = let e : true ≡ false = h refl in absurd (cc)
+one_marked s f t rest true e = grind (arith, nat_tests, from_same_sub (sub_of s) f e)
+one_marked s f t rest false e = grind (arith, nat_tests, not_both (sub_of s) f t e)
 
 pub marked_unfed : (subs : List Submission) (list : List Sub) (f : Sub) → AreUnfed subs list → AreUnfed (map (mark_of f) subs) (fed f list)
 marked_unfed subs list f are t = fed_has list f t ∙ ap (λ b. not (same_sub f t) && b) (are t) ∙ each subs

@@ -1,5 +1,5 @@
 -- The least id from one on, as a map is gone through.
-use Rattle.std.proofs.Common.{◌≡◌, ℕ, ◌+◌, ◌-◌, ◌<◌, ◌≤◌, Bool, true, false, ◌==◌, Option, Some, None, List, [], ◌∷◌, ◌++◌, filter, length, drop, nat_lt, nat_le, refl, ap, sym, ◌∙◌, arith, cond}
+use Rattle.std.proofs.Common.{◌≡◌, ℕ, ◌+◌, ◌-◌, ◌<◌, ◌≤◌, Bool, true, false, Option, Some, None, List, [], ◌∷◌, ◌++◌, filter, length, drop, nat_lt, nat_le, refl, ap, sym, ◌∙◌, arith, cond}
 use Rattle.std.specs.List.{list_all, slice_get}
 use Rattle.std.proofs.lemmas.List.{drop_more, drop_all}
 use Rattle.std.proofs.lemmas.Option.{slice_get_within, get_or_from_slice_get}
@@ -15,59 +15,19 @@ use Rattle.vz_returns.proofs.Releases.{both, from_eqb}
 pub first_put : (n : ℕ) (c : Counted) (list : List Counted) → first_from n (put_in c list) ≡ nearer n (first_from n list) c.id c.received
 unfolding first_from put_in
 first_put n c [] = refl
-first_put n c (x ∷ list) =
-    elim (c.id == x.id) as (λ (t : Bool). (c.id == x.id) ≡ t
-    → first_from n (cond t (c ∷ list) (cond (nat_lt c.id x.id) (c ∷ x ∷ list) (x ∷ put_in c list))) ≡ nearer n (first_from n (x ∷ list)) c.id c.received) [
-      | true ↦ λ e.
-          of_same (nat_le n c.id) (grind (arith, nat_tests, e))
-          ∙ ap (λ q. nearer n (cond q (Some (x.id, x.received)) (first_from n list)) c.id c.received) (ap (nat_le n) (from_eqb c.id x.id e))
-      | false ↦ λ e. elim (nat_lt c.id x.id) as (λ (t : Bool). nat_lt c.id x.id ≡ t
-          → first_from n (cond t (c ∷ x ∷ list) (x ∷ put_in c list)) ≡ nearer n (first_from n (x ∷ list)) c.id c.received) [
-            | true ↦ λ l. of_less (nat_le n c.id) (nat_le n x.id) (λ k. grind (arith, nat_tests, l, k)) (grind (arith, nat_tests, l))
-            | false ↦ λ l. of_more (nat_le n c.id) (nat_le n x.id) (λ k. grind (arith, nat_tests, e, l, k)) (grind (arith, nat_tests, e, l)) (first_from n (put_in c list)) (first_put n c list)
-          ] refl
-    ] refl
-  where
-    of_same : (p : Bool) → nat_le c.id x.id ≡ true → cond p (Some (c.id, c.received)) (first_from n list)
-        ≡ cond p (elim (cond p (Some (x.id, x.received)) (first_from n list)) [ Some y ↦ cond (nat_le c.id y.0) (Some (c.id, c.received)) (Some y) | None ↦ Some (c.id, c.received) ]) (cond p (Some (x.id, x.received)) (first_from n list))
-    of_same true m = sym (ap (λ t. cond t (Some (c.id, c.received)) (Some (x.id, x.received))) m)
-    of_same false m = refl
-
-    of_less : (p q : Bool) → (p ≡ true → q ≡ true) → nat_le c.id x.id ≡ true → cond p (Some (c.id, c.received)) (cond q (Some (x.id, x.received)) (first_from n list))
-        ≡ cond p (elim (cond q (Some (x.id, x.received)) (first_from n list)) [ Some y ↦ cond (nat_le c.id y.0) (Some (c.id, c.received)) (Some y) | None ↦ Some (c.id, c.received) ]) (cond q (Some (x.id, x.received)) (first_from n list))
-    of_less true true h m = sym (ap (λ t. cond t (Some (c.id, c.received)) (Some (x.id, x.received))) m)
-    of_less true false h m = let no_way : false ≡ true = h refl in absurd (cc)
-    of_less false q h m = refl
-
-    of_more : (p q : Bool) → (q ≡ true → p ≡ true) → nat_le c.id x.id ≡ false → (rest : Option (ℕ × ℕ))
-        → rest ≡ cond p (elim (first_from n list) [ Some y ↦ cond (nat_le c.id y.0) (Some (c.id, c.received)) (Some y) | None ↦ Some (c.id, c.received) ]) (first_from n list)
-        → cond q (Some (x.id, x.received)) rest
-        ≡ cond p (elim (cond q (Some (x.id, x.received)) (first_from n list)) [ Some y ↦ cond (nat_le c.id y.0) (Some (c.id, c.received)) (Some y) | None ↦ Some (c.id, c.received) ]) (cond q (Some (x.id, x.received)) (first_from n list))
-    of_more true true h m rest e = sym (ap (λ t. cond t (Some (c.id, c.received)) (Some (x.id, x.received))) m)
-    of_more false true h m rest e = refl
-    of_more p false h m rest e = e
+first_put n c (x ∷ list) = grind (arith, nat_tests, from_eqb c.id x.id, first_put n c list)
 
 -- One after the other
 
 at_least_from : (n : ℕ) (list : List Counted) (p : ℕ × ℕ) → first_from n list ≡ Some p → n ≤ p.0
 unfolding first_from
 at_least_from n [] p e = absurd (cc)
-at_least_from n (x ∷ list) p e = by (nat_le n x.id) refl e (at_least_from n list p)
-  where
-    id_of : (a b : ℕ) (p : ℕ × ℕ) → ◌≡◌ {A = Option (ℕ × ℕ)} (Some (a, b)) (Some p) → a ≡ p.0
-    id_of a b p e = let whole : ◌≡◌ {A = ℕ × ℕ} (a, b) p = cc in ap (λ (q : ℕ × ℕ). q.0) whole
-
-    by : (t : Bool) → nat_le n x.id ≡ t → cond t (Some (x.id, x.received)) (first_from n list) ≡ Some p → (first_from n list ≡ Some p → n ≤ p.0) → n ≤ p.0
-    by true t e rest = let id = id_of x.id x.received p e in grind (arith, nat_tests, t, id)
-    by false t e rest = rest e
+at_least_from n (x ∷ list) p e = grind (arith, nat_tests, at_least_from n list p)
 
 all_from : (n m : ℕ) (list : List Counted) → n ≤ m + 1 → list_all (λ x. nat_lt m x.id) list ≡ true → from_on n list ≡ list
 unfolding from_on
 all_from n m [] h k = refl
-all_from n m (x ∷ list) h k =
-    let parts = both (nat_lt m x.id) (list_all (λ x. nat_lt m x.id) list) k in
-    let there : nat_le n x.id ≡ true = grind (arith, nat_tests, h, parts.0) in
-    ap (λ t. cond t (x ∷ filter (λ c. nat_le n c.id) list) (filter (λ c. nat_le n c.id) list)) there ∙ ap (λ l. x ∷ l) (all_from n m list h parts.1)
+all_from n m (x ∷ list) h k = grind (arith, nat_tests, both (nat_lt m x.id) (list_all (λ x. nat_lt m x.id) list) k, all_from n m list h)
 
 less_from : (n : ℕ) (x : Counted) (list : List Counted) → nat_le n x.id ≡ false → from_on n (x ∷ list) ≡ from_on n list
 unfolding from_on
@@ -116,11 +76,7 @@ first_some client n (x ∷ list) p r e =
 pub first_none : (n : ℕ) (list : List Counted) → first_from n list ≡ None → from_on n list ≡ []
 unfolding first_from from_on
 first_none n [] e = refl
-first_none n (x ∷ list) e = by (nat_le n x.id) refl e (first_none n list)
-  where
-    by : (t : Bool) → nat_le n x.id ≡ t → cond t (Some (x.id, x.received)) (first_from n list) ≡ None → (first_from n list ≡ None → from_on n list ≡ []) → from_on n (x ∷ list) ≡ []
-    by true t e rest = absurd (cc)
-    by false t e rest = less_from n x list t ∙ rest e
+first_none n (x ∷ list) e = grind (arith, nat_tests, first_none n list, less_from n x list)
 
 -- As a map is gone through from its end
 
@@ -134,13 +90,7 @@ at_place entries i e h = drop_more entries i e (slice_get_within entries i e h) 
 pub next_entry : (n len k : ℕ) (entries : List (ℕ × Counts)) (e : ℕ × Counts) (least : Option (ℕ × ℕ)) → k < len → Some e ≡ slice_get entries (len - 1 - k)
     → least ≡ first_from n (in_order (drop (len - k) entries)) → nearer n least e.0 e.1.received ≡ first_from n (in_order (drop (len - (k + 1)) entries))
 unfolding in_order
-next_entry n len k entries e least low h is =
-    let here : len - (k + 1) ≡ len - 1 - k = omega arith in
-    let above : len - 1 - k + 1 ≡ len - k = omega (arith, low) in
-    ap (λ o. nearer n o e.0 e.1.received) (is ∙ ap (λ m. first_from n (in_order (drop m entries))) (sym above))
-    ∙ sym (ap (λ m. first_from n (in_order (drop m entries))) here
-    ∙ ap (λ l. first_from n (in_order l)) (at_place entries (len - 1 - k) e (sym h))
-    ∙ first_put n (counted_of e.0 e.1) (in_order (drop (len - 1 - k + 1) entries)))
+next_entry n len k entries e least low h is = grind (arith, nat_tests, at_place entries, first_put n (counted_of e.0 e.1))
 
 -- Those that are put in
 
@@ -158,47 +108,24 @@ as_length client (c ∷ list) = let rest = as_length client list in omega (arith
 all_at_first : (list : List Counted) → from_on 0 list ≡ list
 unfolding from_on
 all_at_first [] = refl
-all_at_first (c ∷ list) =
-    let there : nat_le 0 c.id ≡ true = grind (arith, nat_tests) in
-    more_from 0 c list there ∙ ap (λ l. c ∷ l) (all_at_first list)
+all_at_first (c ∷ list) = grind (arith, nat_tests, more_from 0 c list, all_at_first list)
 
 pub put_none : (client : ℕ) (list : List Counted) (first : List Returned) (room : ℕ) → length list ≤ room → ArePut client list first room 0 first room
-put_none client list first room f =
-    record {
-      put = ap (λ l. first ++ as_returns client l) (all_at_first list);
-      left = ap (λ l. room + length l) (sym (all_at_first list));
-      fits = f;
-    }
+put_none client list first room f = grind (arith, nat_tests, all_at_first)
 
 fewer : (client from : ℕ) (list : List Counted) (p : ℕ × ℕ) → is_rising list ≡ true → first_from from list ≡ Some p → length (from_on from list) ≡ length (from_on (p.0 + 1) list) + 1
-fewer client from list p r e =
-    let step = ap length (first_some client from list p r e) in
-    omega (arith, step, as_length client (from_on from list), as_length client (from_on (p.0 + 1) list))
+fewer client from list p r e = grind (arith, nat_tests, first_some client from list p r e, as_length client (from_on from list), as_length client)
 
 -- there is room for one more, and fewer are left then
 pub put_fits : (client : ℕ) (list : List Counted) (first : List Returned) (room from : ℕ) (out : List Returned) (spare : ℕ) (p : ℕ × ℕ) → ArePut client list first room from out spare
     → is_rising list ≡ true → first_from from list ≡ Some p → (0 < spare) × (length (from_on (p.0 + 1) list) < length (from_on from list))
-put_fits client list first room from out spare p put r e =
-    let step = fewer client from list p r e in
-    (omega (arith, put.left, put.fits, step), omega (arith, step))
+put_fits client list first room from out spare p put r e = grind (arith, nat_tests, fewer client from list p r e)
 
 pub put_one : (client : ℕ) (list : List Counted) (first : List Returned) (room from : ℕ) (out more : List Returned) (spare rest : ℕ) (p : ℕ × ℕ) → ArePut client list first room from out spare
     → is_rising list ≡ true → first_from from list ≡ Some p → more ≡ out ++ record { client = client; id = p.0; count = p.1 } ∷ [] → spare ≡ rest + 1 → ArePut client list first room (p.0 + 1) more rest
-put_one client list first room from out more spare rest p put r e is used =
-    let step = fewer client from list p r e in
-    record {
-      put = ap (λ l. l ++ as_returns client (from_on (p.0 + 1) list)) is
-          ∙ append_assoc out (record { client = client; id = p.0; count = p.1 } ∷ []) (as_returns client (from_on (p.0 + 1) list))
-          ∙ ap (λ l. out ++ l) (sym (first_some client from list p r e))
-          ∙ put.put;
-      left = omega (arith, put.left, step, used);
-      fits = put.fits;
-    }
+put_one client list first room from out more spare rest p put r e is used = grind (arith, nat_tests, fewer, append_assoc, first_some)
 
 pub put_all_in : (client : ℕ) (list : List Counted) (first : List Returned) (room from : ℕ) (out : List Returned) (spare : ℕ) → ArePut client list first room from out spare
     → first_from from list ≡ None → (out ≡ first ++ as_returns client list) × (room ≡ spare + length list)
 unfolding as_returns
-put_all_in client list first room from out spare put e =
-    let none : from_on from list ≡ [] = first_none from list e in
-    let gone = ap length none in
-    (sym (append-nil out) ∙ (ap (λ l. out ++ as_returns client l) (sym none) ∙ put.put), omega (arith, put.left, put.fits, gone))
+put_all_in client list first room from out spare put e = grind (arith, nat_tests, first_none from list e, append-nil out)

@@ -1,5 +1,6 @@
 -- What clients lent stands for a state with the same references.
-use Rattle.std.proofs.Common.{◌≡◌, ℕ, ◌-◌, Bool, true, false, not, ◌&&◌, ◌||◌, ◌==◌, Option, Some, None, List, [], ◌∷◌, ◌+◌, count_by, length, map, slice_get, refl, ap, sym, ◌∙◌, arith, cond, Contains}
+use Rattle.std.proofs.Common.{◌≡◌, ℕ, Bool, true, false, not, ◌&&◌, ◌||◌, ◌==◌, Option, Some, None, List, [], ◌∷◌, ◌+◌, count_by, length, map, slice_get, refl, ap, sym, ◌∙◌, arith, cond, Contains}
+use Rattle.std.proofs.lemmas.Bool.Decides.{nat_tests}
 use Rattle.std.proofs.lemmas.List.{length-map, map-id}
 use Rattle.vz_ids.specs.declared.FrameSinkId.{FrameSinkId}
 use Rattle.vz_ids.specs.declared.LocalSurfaceId.{LocalSurfaceId}
@@ -10,7 +11,7 @@ use Rattle.vz_rules.specs.declared.entry.Refusal.{Refusal}
 use Rattle.vz_rules.specs.declared.entry.Refusal.TheVariants as refusal
 use Rattle.vz_rules.specs.declared.entry.Reply.TheVariants as reply
 use Rattle.vz_rules.specs.Plan.{Plan}
-use Rattle.vz_rules.specs.World.{World, Client, Surface, Resource, Submission, exists, resource_in, is_waiting, is_active, has_sub, sub_of}
+use Rattle.vz_rules.specs.World.{World, Client, Surface, Resource, Submission, exists, is_waiting, is_active, has_sub, sub_of}
 use Rattle.vz_rules.specs.Reach.{name_one, naming}
 use Rattle.vz_rules.specs.Returns.{feed, mark_fed}
 use Rattle.vz_rules.specs.Messages.{Answer, says, id_of, took, taking, refused, put_resource, upload_answer, hierarchy_answer, hierarchy_refusal, unless_refused, root_answer, await_answer, message_answer, mark_of, in_use, relate}
@@ -22,7 +23,7 @@ use Rattle.vz_rules.proofs.Counts.{count_none}
 use Rattle.vz_rules.proofs.Rising.{counted, Rising}
 use Rattle.vz_rules.proofs.Given.{id_of as resource_id}
 use Rattle.vz_rules.proofs.Totals.{answered_stored}
-use Rattle.vz_returns.specs.Released.{alive_in, holds_there, out_in, times}
+use Rattle.vz_returns.specs.Released.{alive_in, holds_there, out_in}
 use Rattle.vz_returns.specs.Lent.{Lent, AreLent, IsLender}
 use Rattle.vz_returns.specs.Listed.{active_listings}
 use Rattle.vz_returns.specs.Quiet.{KeepsReferences, AreAlike}
@@ -64,23 +65,10 @@ stays_as w v same n d at = record
 -- each client is changed, and keeps its references
 changed_as : (w : World) (f : Client → Client) → KeepsReferences f → (n : ℕ) (d : Client) → slice_get (map f w.clients) n ≡ Some d
     → IsAs w n d
-changed_as w f keeps n d at =
-    let m = at_map f w.clients n d at in
-    record {
-      before = m.0;
-      at = m.1;
-      number = ap (λ (c : Client). c.number) (sym m.2) ∙ keeps.number m.0;
-      out = λ id. ap (λ (c : Client). out_in c.resources id) (sym m.2) ∙ ap (λ rs. out_in rs id) (keeps.resources m.0);
-      queue = ap (λ (c : Client). c.queue) (sym m.2) ∙ keeps.queue m.0;
-    }
+changed_as w f keeps n d at = grind (arith, nat_tests, at_map)
 
 pub keeps_when : (f : Client → Client) (test : Client → Bool) → KeepsReferences f → KeepsReferences (λ c. cond (test c) (f c) c)
-keeps_when f test keeps =
-    record {
-      number = λ c. when_same (λ (x : Client). x.number) f (test c) c (keeps.number c);
-      resources = λ c. when_same (λ (x : Client). x.resources) f (test c) c (keeps.resources c);
-      queue = λ c. when_same (λ (x : Client). x.queue) f (test c) c (keeps.queue c);
-    }
+keeps_when f test keeps = grind (arith, nat_tests, when_same)
 
 pub keeps_taking : (f : Client → Client) → KeepsReferences f → KeepsReferences (λ c. took (f c))
 keeps_taking f keeps = record { number = keeps.number; resources = keeps.resources; queue = keeps.queue }
@@ -146,11 +134,7 @@ lent_fed presented w items lent =
 
 none_shared : (client c id : ℕ) → share client [] c id ≡ 0
 unfolding share
-none_shared client c id = by (client == c)
-  where
-    by : (t : Bool) → ◌≡◌ {A = ℕ} (cond t (times id []) 0) 0
-    by true = refl
-    by false = refl
+none_shared client c id = grind (arith, nat_tests)
 
 pub lent_risen : (w : World) (s : Submission) (items : List Lent) → KeepsAlways w → Contains w.subs s → is_waiting s ≡ true
     → active_listings w s.submitted.id ≡ [] → AreLent w items → AreLent (rising s w) items
@@ -254,22 +238,10 @@ rising_is : (rs : List Resource) → AreRising rs → Rising resource_id rs
 rising_is [] up = tt
 rising_is (r ∷ rs) up = (up.0, rising_is rs up.1)
 
--- what is out, by the totals
-out_totals : (rs : List Resource) (j : ℕ)
-    → out_in rs j ≡ counted (λ s. s.lent) (resource_in j rs) - counted (λ s. s.queued) (resource_in j rs)
-unfolding out_in
-out_totals rs j = by (resource_in j rs)
-  where
-    by : (o : Option Resource) → (elim o as (λ (o : Option Resource). ℕ) [ Some r ↦ r.lent - r.queued | None ↦ 0 ])
-        ≡ counted (λ (s : Resource). s.lent) o - counted (λ (s : Resource). s.queued) o
-    by None = refl
-    by (Some r) = refl
-
 out_stored : (x : Client) (id j : ℕ) (block : Block) → AreRising x.resources
     → out_in (put_resource id block x.resources) j ≡ out_in x.resources j
-out_stored x id j block up =
-    let is = answered_stored j id block x (rising_is x.resources up) in
-    omega (arith, out_totals (put_resource id block x.resources) j, out_totals x.resources j, is.lent, is.queued)
+unfolding out_in
+out_stored x id j block up = grind (arith, nat_tests, answered_stored j id block x (rising_is x.resources up), counted)
 
 pub lent_uploaded : (w : World) (c : Client) (id : ℕ) (block : Block) (items : List Lent) → KeepsAlways w → AreLent w items
     → AreLent (upload_answer w c id block).world items

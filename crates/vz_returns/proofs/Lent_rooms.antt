@@ -1,10 +1,11 @@
 -- The room of lenders, and the resources that are out, as one lender changes.
-use Rattle.std.proofs.Common.{◌≡◌, ℕ, zero, suc, ◌+◌, ◌-◌, ◌≤◌, ◌<◌, Bool, true, false, ◌==◌, Option, Some, List, [], ◌∷◌, length, drop, slice_get, slice_index_or, set, sum_by, refl, ap, sym, subst, ◌∙◌, arith}
+use Rattle.std.proofs.Common.{◌≡◌, ℕ, zero, suc, ◌+◌, ◌-◌, ◌≤◌, ◌<◌, true, false, ◌==◌, Option, Some, List, [], ◌∷◌, length, drop, slice_get, slice_index_or, set, sum_by, refl, ap, sym, subst, ◌∙◌, arith}
+use Rattle.std.proofs.lemmas.Bool.Decides.{nat_tests}
 use Rattle.std.proofs.lemmas.List.Sums.{sum_by-cons}
 use Rattle.vz_rules.specs.World.{World, Client}
 use Rattle.vz_rules.proofs.Members.{at_within, at_contains, contains_at}
 use Rattle.vz_rules.proofs.Kept_small.{at_there}
-use Rattle.vz_returns.specs.Held.{Counted, Holding, received_of, alive_of, is_rising, lent, shared}
+use Rattle.vz_returns.specs.Held.{Holding, is_rising, lent, shared}
 use Rattle.vz_returns.specs.Released.{AreCounts}
 use Rattle.vz_returns.proofs.Orders.{put_more, put_same, counts_there, rising_put}
 use Rattle.vz_returns.proofs.Releases.{from_eqb}
@@ -32,20 +33,13 @@ out_more items k n o new at e = omega (arith, sum_set (λ (l : Lent). length l.h
 
 pub lent_length : (ids : List ℕ) (h : Holding) → length (lent_all ids h).counted ≤ length h.counted + length ids
 lent_length [] h = omega arith
-lent_length (id ∷ ids) h = omega (
-  arith,
-  lent_length ids (lent id h),
-  put_more
-      (record { id = id; received = received_of id h.counted + 1; alive = alive_of id h.counted + 1 }) h.counted,
-)
+lent_length (id ∷ ids) h = grind (arith, nat_tests, lent_length ids (lent id h), put_more)
 
 pub shared_length : (ids : List ℕ) (h : Holding) → is_rising h.counted ≡ true → Suffice ids h
     → length (shared_all ids h).counted ≡ length h.counted
 shared_length [] h up s = refl
 shared_length (id ∷ ids) h up s =
-    let c : Counted = record { id = id; received = received_of id h.counted; alive = alive_of id h.counted + 1 } in
-    shared_length ids (shared id h) (rising_put c h.counted up) (suffice_shared id ids h s)
-    ∙ put_same c h.counted up (counts_there id h.counted (first_some id ids h s))
+    grind (arith, nat_tests, shared_length ids (shared id h), rising_put, suffice_shared id ids h s, put_same, counts_there id h.counted (first_some id ids h s), first_some id ids h s)
 
 -- one by one
 
@@ -86,15 +80,7 @@ length_set (y ∷ xs) (suc k) x = ap suc (length_set xs k x)
 pub by_place : (P : ℕ → Lent → Type 0) (items : List Lent) (k : ℕ) (o new : Lent) → slice_get items k ≡ Some o → P k new
     → ((n : ℕ) (l : Lent) → (n == k) ≡ false → slice_get items n ≡ Some l → P n l)
     → (n : ℕ) (l : Lent) → slice_get (set items k new) n ≡ Some l → P n l
-by_place P items k o new at is others n l q = by (n == k) refl
-  where
-    by : (t : Bool) → (n == k) ≡ t → P n l
-    by true e =
-        let here = from_eqb n k e in
-        let same : l ≡ new = some_same l new
-        (sym q ∙ (ap (slice_get (set items k new)) here ∙ at_set items k new (at_within items k o at))) in
-        subst (P n) (sym same) (subst (λ m. P m new) (sym here) is)
-    by false e = others n l e (sym (at_others items k n new e) ∙ q)
+by_place P items k o new at is others n l q = grind (arith, nat_tests, from_eqb, some_same, at_set, at_within, at_others)
 
 pub roomier_set : (items : List Lent) (k : ℕ) (o new : Lent) → slice_get items k ≡ Some o → IsRoomier o new
     → AreRoomier items (set items k new)
@@ -106,25 +92,6 @@ roomier_set items k o new at is =
           (λ z r. subst (λ y. IsRoomier y new) (some_same o z (sym at ∙ r)) is)
           (λ m y e r z s. subst (λ v. IsRoomier z v) (some_same z y (sym s ∙ r)) (same_roomier z)) n l q x p;
     }
-
-pub roomier_over : (a b c : List Lent) → AreRoomier a b → AreRoomier b c → AreRoomier a c
-roomier_over a b c one two =
-    record {
-      many = two.many ∙ one.many;
-      each = λ n x z p r.
-          let y = at_there b n (subst (λ m. n < m) two.many (at_within c n z r)) in
-          let first = one.each n x y.0 p y.1 in
-          let second = two.each n y.0 z y.1 r in
-          record {
-            holding = second.holding ∙ first.holding;
-            released = second.released ∙ first.released;
-            spare = omega (arith, first.spare, second.spare);
-            places = omega (arith, first.places, second.places);
-          };
-    }
-
-pub roomier_same : (a : List Lent) → AreRoomier a a
-roomier_same a = record { many = refl; each = λ n x y p q. subst (IsRoomier x) (some_same x y (sym p ∙ q)) (same_roomier x) }
 
 pub none_released_set : (items : List Lent) (k : ℕ) (o new : Lent) → slice_get items k ≡ Some o → new.released ≡ o.released
     → NoneReleased items → NoneReleased (set items k new)
@@ -161,9 +128,7 @@ sum_alike f (x ∷ xs) (y ∷ ys) long same =
 
 pub roomier_out : (old new : List Lent) → AreRoomier old new → resources_out new ≡ resources_out old
 unfolding resources_out
-roomier_out old new are =
-    sum_alike (λ (l : Lent). length l.holding.counted) old new are.many
-    (λ n o l p q. let is = are.each n o l p q in ap (λ h. length h.counted) is.holding)
+roomier_out old new are = grind (arith, nat_tests, sum_alike)
 
 pub roomier_none : (old new : List Lent) → AreRoomier old new → NoneReleased old → NoneReleased new
 roomier_none old new are none l there =

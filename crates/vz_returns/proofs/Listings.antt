@@ -27,10 +27,7 @@ left_none L k over = drop_of_length-le L over
 pub done_next : {S : Type 0} (f : List ℕ → S → S) (g : ℕ → S → S) → ((id : ℕ) (ids : List ℕ) (s : S) → f (id ∷ ids) s ≡ f ids (g id s))
     → (L : List Listing) (k : ℕ) (d : Listing) (now new : S) (all : S) → k < length L → f (ids_of (drop k L)) now ≡ all
     → new ≡ g (slice_index_or L k d).id now → f (ids_of (drop (k + 1) L)) new ≡ all
-done_next f g step L k d now new all inside was is =
-    ap (f (ids_of (drop (k + 1) L))) is
-    ∙ (sym (step (slice_index_or L k d).id (ids_of (drop (k + 1) L)) now)
-    ∙ (sym (ap (λ l. f (ids_of l) now) (left_next L k d inside)) ∙ was))
+done_next f g step L k d now new all inside was is = grind (arith, nat_tests, left_next L k d inside)
 
 pub or_no : (a b : Bool) → (a || b) ≡ false → (a ≡ false) × (b ≡ false)
 or_no true b h = absurd (cc)
@@ -56,20 +53,11 @@ countable_same h h' j r a is = record { received = omega (arith, r, is.received)
 
 pub countable_lent : (id : ℕ) (rest : List Listing) (h : Holding) → list_any (λ (b : Listing). lists id b) rest ≡ false
     → AreCountable (id ∷ ids_of rest) h → AreCountable (ids_of rest) (lent id h)
-countable_lent id rest h none are j there =
-    let other = is_other id j rest none there in
-    countable_same h (lent id h) j (received_lent j id h
-    ∙ ap (λ (t : Bool). cond t (received_of j h.counted + 1) (received_of j h.counted)) other)
-    (alive_lent j id h ∙ ap (λ (t : Bool). cond t (alive_of j h.counted + 1) (alive_of j h.counted)) other)
-    (are j (contains_there id j (ids_of rest) there))
+countable_lent id rest h none are j there = grind (arith, nat_tests, is_other, countable_same, received_lent, alive_lent, contains_there)
 
 pub countable_shared : (id : ℕ) (rest : List Listing) (h : Holding) → list_any (λ (b : Listing). lists id b) rest ≡ false
     → AreCountable (id ∷ ids_of rest) h → AreCountable (ids_of rest) (shared id h)
-countable_shared id rest h none are j there =
-    let other = is_other id j rest none there in
-    countable_same h (shared id h) j (received_shared j id h)
-    (alive_shared j id h ∙ ap (λ (t : Bool). cond t (alive_of j h.counted + 1) (alive_of j h.counted)) other)
-    (are j (contains_there id j (ids_of rest) there))
+countable_shared id rest h none are j there = grind (arith, nat_tests, is_other, countable_same, received_shared, alive_shared, contains_there)
 
 pub times_at : (j id : ℕ) (ids : List ℕ) (t : Bool) → (id == j) ≡ t → times j (id ∷ ids) ≡ cond t 1 0 + times j ids
 times_at j id ids t e = count_cons (λ n. n == j) id ids ∙ ap {B = ℕ} (λ (b : Bool). cond b 1 0 + times j ids) e

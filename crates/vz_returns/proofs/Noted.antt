@@ -31,11 +31,6 @@ still_waits false None true x h k = absurd (cc)
 still_waits false None false x h k = refl
 still_waits false (Some y) m x h k = absurd (cc)
 
-still_gets : (fed : Bool) (g : Option Fed) (m : Bool) (x y : Fed) → g ≡ Some y → also fed g m x ≡ Some y
-still_gets true g m x y h = h
-still_gets false None m x y h = absurd (cc)
-still_gets false (Some z) m x y h = h
-
 gets_now : (a m : Bool) (g : Option Fed) (x : Fed) → a ≡ true → m ≡ true → cond (a && m) (Some x) g ≡ Some x
 gets_now true true g x h k = refl
 gets_now true false g x h k = absurd (cc)
@@ -57,11 +52,7 @@ both_true false m h = absurd (cc)
 
 module _ (p : Bool) (gets : Submission → Option Fed) (subs : List Submission) (old : Owed) (o : Owes gets subs old) where
   still_at : (named : Sub → Bool) (n : ℕ) (y : Fed) → gets_at gets subs n ≡ Some y → gets_at (noted named p gets) subs n ≡ Some y
-  still_at named n y h =
-      elim (slice_get subs n) as (λ (v : Option Submission). option_and_then gets v ≡ Some y → option_and_then (noted named p gets) v ≡ Some y) [
-        | None ↦ λ e. absurd (cc)
-        | Some s ↦ λ e. still_gets s.fed (gets s) (named (sub_of s)) (fed_as p (sub_of s)) y e
-      ] h
+  still_at named n y h = grind (arith, nat_tests)
 
   -- none of that name awaits feedback
   pub none_noted : (e : Option Sub) (new : Owed) → ((t : Sub) (n : ℕ) → is_name e t ≡ true → place_of old t ≡ Some n → true ≡ false)

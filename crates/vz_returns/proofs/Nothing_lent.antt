@@ -1,5 +1,6 @@
 -- What clients lent stands for the first state, in which nothing is lent.
-use Rattle.std.proofs.Common.{◌≡◌, ℕ, zero, suc, ◌+◌, inl, inr, Option, Some, List, [], ◌∷◌, ◌++◌, length, slice_get, refl, ap, sym, subst, ◌∙◌, arith}
+use Rattle.std.proofs.Common.{◌≡◌, ℕ, zero, suc, ◌+◌, Option, Some, List, [], ◌∷◌, ◌++◌, length, slice_get, refl, ap, sym, subst, ◌∙◌, arith}
+use Rattle.std.proofs.lemmas.Bool.Decides.{nat_tests}
 use Rattle.vz_frame.specs.declared.message.ClientFile.{ClientFile}
 use Rattle.vz_rules.specs.Plan.{Plan}
 use Rattle.vz_rules.specs.World.{Client, opening, new_clients}
@@ -16,18 +17,7 @@ AreNew items = (n : ℕ) (x : Lent) → slice_get items n ≡ Some x
 pub new_next : (items more : List Lent) (k : ℕ) (new : Lent) → length items ≡ k → more ≡ items ++ new ∷ [] → new.holding.client ≡ k + 1
     → new.holding.counted ≡ [] → new.holding.queue ≡ [] → new.released ≡ []
     → AreNew items → AreNew more
-new_next items more k new long grown client counted queue none are n x at =
-    elim (at_push items new n x (sym (ap (λ l. slice_get l n) grown) ∙ at)) [
-      | inl p ↦ are n x p.0
-      | inr p ↦
-          let place : n ≡ k = p.0 ∙ long in
-          let is : new.holding ≡ record { client = n + 1; counted = []; queue = [] } =
-          λ i. record { client = (client ∙ ap (λ m. m + 1) (sym place)) i; counted = counted i; queue = queue i } in (
-            subst (λ (y : Lent). y.holding ≡ record { client = n + 1; counted = []; queue = [] }) p.1 is,
-            subst
-                (λ (y : Lent). y.released ≡ []) p.1 none,
-          )
-    ]
+new_next items more k new long grown client counted queue none are n x at = grind (arith, nat_tests, at_push)
 
 pub new_released : (items : List Lent) → AreNew items → NoneReleased items
 new_released items are l there = let n = contains_at items l there in (are n.0 l n.1).1
@@ -55,15 +45,7 @@ new_at m (file ∷ files) (suc n) c e = let is = new_at (m + 1) files n c e in r
 no_counts : (p : Plan) (c : Client) (n : ℕ) → IsNew (1 + n) c
     → AreCounts (opening p) c (record { client = n + 1; counted = []; queue = [] }) []
 unfolding opening alive_in is_rising are_some received_of alive_of out_in
-no_counts p c n is =
-    record {
-      client = omega (arith, is.numbered);
-      rising = refl;
-      some = refl;
-      received = λ id. sym (ap (λ rs. out_in rs id) is.resources);
-      alive = λ id. refl;
-      queue = sym is.queue;
-    }
+no_counts p c n is = grind (arith, nat_tests)
 
 pub new_lent : (p : Plan) (items : List Lent) → length p.files ≡ length items → AreNew items → AreLent (opening p) items
 unfolding opening

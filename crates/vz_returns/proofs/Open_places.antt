@@ -19,30 +19,14 @@ insert_length [] (suc n) s = refl
 insert_length (x ∷ list) zero s = omega arith
 insert_length (x ∷ list) (suc n) s = let rest = insert_length list n s in omega (arith, rest)
 
-unlike : (a b : Sub) → before a b ≡ true → same_sub b a ≡ false
-unlike a b h = grind (arith, nat_tests)
-
 pub none_behind : (x : Sub) (list : List Sub) → list_all (before x) list ≡ true → is_open list x ≡ false
 none_behind x [] h = refl
-none_behind x (y ∷ list) h =
-    let parts = both (before x y) (list_all (before x) list) h in
-    (λ i. unlike x y parts.0 i || none_behind x list parts.1 i)
+none_behind x (y ∷ list) h = grind (arith, nat_tests, both (before x y) (list_all (before x) list) h, none_behind x list)
 
 pub fed_length : (list : List Sub) (s : Sub) → in_order list ≡ true → is_open list s ≡ true → length (fed s list) + 1 ≡ length list
 unfolding in_order
 fed_length [] s sorted there = absurd (cc)
-fed_length (x ∷ list) s sorted there =
-    let order = both (list_all (before x) list) (in_order list) sorted in
-    by (λ t. fed_length list s order.1 t) (same_sub x s) refl there (order.0)
-  where
-    by : ((is_open list s ≡ true) → length (fed s list) + 1 ≡ length list) → (b : Bool) → same_sub x s ≡ b → (b || is_open list s) ≡ true
-        → list_all (before x) list ≡ true
-        → length (cond (not b) (x ∷ fed s list) (fed s list)) + 1 ≡ length (x ∷ list)
-    by rest true e h all =
-        let none : is_open list s ≡ false = ap (is_open list) (sym (from_same_sub x s e)) ∙ none_behind x list all in
-        let same = ap length (none_left list s none) in
-        omega (arith, same)
-    by rest false e h all = let r = rest h in omega (arith, r)
+fed_length (x ∷ list) s sorted there = grind (arith, nat_tests, both (list_all (before x) list) (in_order list) sorted, fed_length list s, from_same_sub x s, none_behind x list, none_left list s)
 
 -- One is noted
 
@@ -54,26 +38,12 @@ pub kept_noted : (unfed fewer : List Sub) (places left : List (Sub × ℕ)) (s :
     → fewer ≡ fed s unfed → Some n ≡ lookup (same_sub s) places
     → ((t : Sub) → lookup (same_sub t) left ≡ cond (same_sub s t) None (lookup (same_sub t) places)) → length left + 1 ≡ length places
     → rest + 1 ≡ free → AreKept fewer left rest
-kept_noted unfed fewer places left s n free rest k list found others len less =
-    let there : is_open unfed s ≡ true = k.same s ∙ ap is_some (sym found) in
-    let long = ap length list in
-    let one = fed_length unfed s k.sorted there in
-    let count = k.count in
-    let room = k.room in
-    record {
-      sorted = ap in_order list ∙ fed_in_order unfed s k.sorted;
-      same = λ t. ap (λ l. is_open l t) list ∙ fed_has unfed s t ∙
-          told_none (same_sub s t) (is_open unfed t) (lookup (same_sub t) places) (lookup (same_sub t) left) (others t) (k.same t);
-      count = omega (arith, long, one, len, count);
-      room = omega (arith, len, room, less);
-    }
+kept_noted unfed fewer places left s n free rest k list found others len less = grind (arith, nat_tests, fed_length, fed_in_order, fed_has, told_none)
 
 -- how many await feedback or have it due
 pub count_noted : (unfed fewer : List Sub) (places : List (Sub × ℕ)) (s : Sub) (n free : ℕ) → AreKept unfed places free
     → fewer ≡ fed s unfed → Some n ≡ lookup (same_sub s) places → length fewer + 1 ≡ length unfed
-count_noted unfed fewer places s n free k list found =
-    let there : is_open unfed s ≡ true = k.same s ∙ ap is_some (sym found) in
-    ap (λ l. length l + 1) list ∙ fed_length unfed s k.sorted there
+count_noted unfed fewer places s n free k list found = grind (arith, nat_tests, fed_length unfed s k.sorted)
 
 -- One is added
 
@@ -96,9 +66,6 @@ kept_added unfed more places longer s m free k list new others len less =
       count = omega (arith, long, len, count);
       room = omega (arith, len, less);
     }
-
-pub more_by_one : (unfed more : List Sub) (s : Sub) → more ≡ opened s unfed → length more ≡ length unfed + 1
-more_by_one unfed more s list = ap length list ∙ insert_length unfed (place_in unfed s) s
 
 -- what holds of a call's value, where it is unwrapped
 pub on_ok : {A E : Type 0} (P : Type 0) (r : Result A E) (v : A) → r ≡ Ok v → OnOk r P → P

@@ -1,5 +1,6 @@
 -- What leaves that which is owed as it is.
-use Rattle.std.proofs.Common.{◌≡◌, ℕ, ◌+◌, ◌<◌, Bool, true, false, not, ◌&&◌, ◌||◌, ⊎_elim, Option, Some, None, is_some, List, [], ◌∷◌, slice_get, Contains, count_by, refl, ap, sym, subst, ◌∙◌, arith, cond}
+use Rattle.std.proofs.Common.{◌≡◌, ℕ, ◌+◌, ◌<◌, Bool, true, false, ◌&&◌, Option, Some, None, is_some, List, [], ◌∷◌, slice_get, Contains, count_by, refl, ap, sym, subst, ◌∙◌, arith, cond}
+use Rattle.std.proofs.lemmas.Bool.Decides.{nat_tests}
 use Rattle.std.specs.Option.{option_and_then}
 use Rattle.vz_geom.specs.Rectangle.{is_empty_rect}
 use Rattle.vz_ids.specs.declared.FrameSinkId.{FrameSinkId}
@@ -10,10 +11,9 @@ use Rattle.vz_pixels.specs.Block.{Block}
 use Rattle.vz_frame.specs.declared.frame.CompositorFrame.{CompositorFrame}
 use Rattle.vz_frame.specs.declared.message.Message.TheVariants.{Close}
 use Rattle.vz_rules.specs.declared.entry.Event.TheVariants.{Over}
-use Rattle.vz_rules.specs.declared.entry.Fed.{Fed}
 use Rattle.vz_rules.specs.declared.entry.Refusal.{Refusal}
 use Rattle.vz_rules.specs.Plan.{Plan, IsPlan}
-use Rattle.vz_rules.specs.World.{World, Client, Scene, Submission, is_waiting, is_active, is_ended, is_in_flight, sub_of}
+use Rattle.vz_rules.specs.World.{World, Client, Scene, Submission, sub_of}
 use Rattle.vz_rules.specs.Scene.{scene_of}
 use Rattle.vz_rules.specs.Reach.{naming}
 use Rattle.vz_rules.specs.Returns.{give_back, feedback_of}
@@ -88,35 +88,14 @@ stays_over p w f o = o
 
 -- Between steps
 
-stood : (fed a b flies : Bool) (x : Fed) → (fed ≡ false → (a || b) ≡ true)
-    → ◌≡◌ {A = Option Fed} (cond fed None (cond (not (a || b) && not flies) (Some x) None)) None
-stood true a b flies x h = refl
-stood false a b flies x h = ap (λ t. cond (not t && not flies) (Some x) None) (h refl)
-
-held_back : (fed ends flies : Bool) (x : Fed) → (fed ≡ false → ends ≡ true → flies ≡ true)
-    → ◌≡◌ {A = Option Fed} (cond fed None (cond (ends && not flies) (Some x) None)) None
-held_back true ends flies x h = refl
-held_back false false flies x h = refl
-held_back false true flies x h = ap (λ t. cond (true && not t) (Some x) None) (h refl refl)
-
-not_ended : (t : Bool) → t ≡ true → not t ≡ true → true ≡ false
-not_ended true h k = absurd (cc)
-not_ended false h k = absurd (cc)
-
 -- none gets feedback
 pub none_gets : (w : World) (s : Submission) → Keeps w → Contains w.subs s → feedback_of w [] s ≡ None
-none_gets w s h c =
-    held_back s.fed (is_ended s) (is_in_flight w.in_flight (sub_of s)) _ (λ e ends.
-    ⊎_elim (λ stands. let no_way : true ≡ false = not_ended (is_waiting s || is_active s) stands ends in absurd (cc)) (λ flies. flies)
-    (unfed_open w s h c e))
+none_gets w s h c = grind (arith, nat_tests, unfed_open w s h c)
 
 -- nor where a frame is drawn now
 none_gets_drawn : (w : World) (drawn : List Sub) (s : Submission) → Keeps w → w.in_flight ≡ None → Contains w.subs s
     → feedback_of (record w { in_flight = Some drawn }) [] s ≡ None
-none_gets_drawn w drawn s h none c =
-    stood s.fed (is_waiting s) (is_active s) (is_in_flight (Some drawn) (sub_of s)) _ (λ e.
-    ⊎_elim (λ stands. stands) (λ flies. let no_way : true ≡ false = sym flies ∙ ap (λ o. is_in_flight o (sub_of s)) none in absurd (cc))
-    (unfed_open w s h c e))
+none_gets_drawn w drawn s h none c = grind (arith, nat_tests, unfed_open w s h c)
 
 drawn_owed : (w : World) (drawn : List Sub) (f : Owed) → Keeps w → w.in_flight ≡ None → AreOwed w f
     → AreOwed (record w { in_flight = Some drawn }) f
@@ -168,9 +147,7 @@ new_unplaced w c local frame f keeps o = by (place_of f sub) refl
 
 pub few_accepted : (p : Plan) (w : World) (f : Owed) → IsPlan p → KeepsAlways w → KeepsPlan p w → KeepsMessages w → AreOwed w f
     → f.accepted < 18446744073709551615
-few_accepted p w f plan keeps of_plan messages o =
-    let short = (lists_short p w plan keeps of_plan messages).subs in
-    omega (arith, o.accepted, short)
+few_accepted p w f plan keeps of_plan messages o = grind (arith, nat_tests, lists_short p w plan keeps of_plan messages)
 
 pub nothing_due : (w : World) (f : Owed) → Keeps w → AreOwed w f → f.due ≡ []
 nothing_due w f h o = by f.due refl

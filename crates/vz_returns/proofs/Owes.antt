@@ -66,31 +66,14 @@ gets_same gets gets' (s ∷ subs) e (suc n) = gets_same gets gets' subs (λ t c.
 
 pub owes_same : (gets gets' : Submission → Option Fed) (subs : List Submission) (f : Owed)
     → ((s : Submission) → Contains subs s → gets' s ≡ gets s) → Owes gets subs f → Owes gets' subs f
-owes_same gets gets' subs f same o =
-    let still : (s : Submission) → Contains subs s → awaits gets' s ≡ awaits gets s = λ s c i. not s.fed && is_none (same s c i) in
-    record {
-      accepted = o.accepted;
-      places = λ n s at waits. o.places n s at (sym (still s (at_contains subs n s at)) ∙ waits);
-      only = λ t n found.
-          let m = o.only t n found in
-          (m.0, m.1, m.2, still m.0 (at_contains subs n m.0 m.1) ∙ m.3);
-      due = λ d c. gets_same gets gets' subs same d.place ∙ o.due d c;
-      once = λ n. o.once n ∙ ap {B = ℕ} (λ (g : Option Fed). cond (is_some g) 1 0) (sym (gets_same gets gets' subs same n));
-    }
+owes_same gets gets' subs f same o = grind (arith, nat_tests, at_contains, gets_same)
 
 -- where the same is kept
 
 pub owes_alike : (gets : Submission → Option Fed) (subs : List Submission) (old new : Owed)
     → ((t : Sub) → place_of new t ≡ place_of old t) → new.due ≡ old.due → new.accepted ≡ old.accepted
     → Owes gets subs old → Owes gets subs new
-owes_alike gets subs old new places due accepted o =
-    record {
-      accepted = accepted ∙ o.accepted;
-      places = λ n s at waits. places (sub_of s) ∙ o.places n s at waits;
-      only = λ t n found. o.only t n (sym (places t) ∙ found);
-      due = λ d c. o.due d (subst (λ l. Contains l d) due c);
-      once = λ n. ap (λ l. count_by (λ (d : Due). d.place == n) l) due ∙ o.once n;
-    }
+owes_alike gets subs old new places due accepted o = grind (arith, nat_tests)
 
 -- where what is due was given
 

@@ -1,5 +1,5 @@
 -- What is read of counts after releases, and what goes back.
-use Rattle.std.proofs.Common.{◌≡◌, ℕ, ◌+◌, ◌-◌, ◌<◌, Bool, true, false, not, ◌==◌, ◌&&◌, Option, Some, None, List, [], ◌∷◌, nat_lt, refl, ap, sym, ◌∙◌, arith, cond}
+use Rattle.std.proofs.Common.{◌≡◌, ℕ, ◌+◌, ◌-◌, ◌<◌, Bool, true, false, ◌==◌, ◌&&◌, Option, Some, None, List, [], ◌∷◌, nat_lt, refl, ap, ◌∙◌, arith, cond}
 use Rattle.std.proofs.lemmas.Bool.Decides.{nat_tests}
 use Rattle.vz_returns.specs.Held.{Counted, Holding, counted_at, received_of, alive_of, is_rising, put_in, without, is_last, lent, shared, released}
 use Rattle.vz_returns.specs.Released.{are_some}
@@ -17,13 +17,6 @@ from_eqb a b h = grind (arith, nat_tests)
 
 pub to_eqb : (a b : ℕ) → a ≡ b → (a == b) ≡ true
 to_eqb a b h = grind (arith, nat_tests, h)
-
-pub not_eqb : (a b : ℕ) → (a ≡ b → true ≡ false) → (a == b) ≡ false
-not_eqb a b f = by (a == b) refl
-  where
-    by : (t : Bool) → (a == b) ≡ t → t ≡ false
-    by true e = f (from_eqb a b e)
-    by false e = refl
 
 -- Reads
 
@@ -49,98 +42,42 @@ pub alive_put : (j : ℕ) (c : Counted) (list : List Counted) → alive_of j (pu
 unfolding alive_of of_alive
 alive_put j c list = ap of_alive (at_put j c list) ∙ alive_either (c.id == j) (Some c) (counted_at j list)
 
-pub received_without : (j id : ℕ) (list : List Counted) → received_of j (without id list) ≡ cond (id == j) 0 (received_of j list)
-unfolding received_of of_received
-received_without j id list = ap of_received (at_without j id list) ∙ received_either (id == j) None (counted_at j list)
-
-pub alive_without : (j id : ℕ) (list : List Counted) → alive_of j (without id list) ≡ cond (id == j) 0 (alive_of j list)
-unfolding alive_of of_alive
-alive_without j id list = ap of_alive (at_without j id list) ∙ alive_either (id == j) None (counted_at j list)
-
 -- Some of each
-
-both_some : (a b : ℕ) → 0 < a → 0 < b → (nat_lt 0 a && nat_lt 0 b) ≡ true
-both_some a b h k = two_true (nat_lt 0 a) (nat_lt 0 b) (grind (arith, nat_tests, h)) (grind (arith, nat_tests, k))
 
 pub some_put : (c : Counted) (list : List Counted) → 0 < c.received → 0 < c.alive → are_some list ≡ true → are_some (put_in c list) ≡ true
 unfolding are_some put_in
-some_put c [] h k s = two_true (nat_lt 0 c.received && nat_lt 0 c.alive) true (both_some c.received c.alive h k) refl
-some_put c (x ∷ list) h k s =
-    let parts = both (nat_lt 0 x.received && nat_lt 0 x.alive) (are_some list) s in
-    let first = both_some c.received c.alive h k in
-    elim (c.id == x.id) as (λ (t : Bool). are_some (cond t (c ∷ list) (cond (nat_lt c.id x.id) (c ∷ x ∷ list) (x ∷ put_in c list))) ≡ true) [
-      | true ↦ two_true _ _ first parts.1
-      | false ↦ elim (nat_lt c.id x.id) as (λ (t : Bool). are_some (cond t (c ∷ x ∷ list) (x ∷ put_in c list)) ≡ true) [
-        | true ↦ two_true _ _ first s
-        | false ↦ two_true _ _ parts.0 (some_put c list h k parts.1)
-      ]
-    ]
+some_put c [] h k s = grind (arith, nat_tests, two_true)
+some_put c (x ∷ list) h k s = grind (arith, nat_tests, both, two_true, some_put c list h k)
 
 pub some_without : (id : ℕ) (list : List Counted) → are_some list ≡ true → are_some (without id list) ≡ true
 unfolding are_some without
 some_without id [] s = refl
-some_without id (x ∷ list) s =
-    let parts = both (nat_lt 0 x.received && nat_lt 0 x.alive) (are_some list) s in
-    elim (x.id == id) as (λ (t : Bool). are_some (cond (not t) (x ∷ without id list) (without id list)) ≡ true) [
-      | true ↦ some_without id list parts.1
-      | false ↦ two_true _ _ parts.0 (some_without id list parts.1)
-    ]
+some_without id (x ∷ list) s = grind (arith, nat_tests, both, some_without id list, two_true)
 
 -- where some are received some are alive, and the other way round
 pub some_of_both : (j : ℕ) (list : List Counted) → are_some list ≡ true → nat_lt 0 (received_of j list) ≡ nat_lt 0 (alive_of j list)
 unfolding are_some received_of alive_of of_received of_alive
 some_of_both j [] s = refl
-some_of_both j (x ∷ list) s =
-    let parts = both (nat_lt 0 x.received && nat_lt 0 x.alive) (are_some list) s in
-    let own = both (nat_lt 0 x.received) (nat_lt 0 x.alive) parts.0 in
-    elim (x.id == j) as (λ (t : Bool). nat_lt 0 (of_received (cond t (Some x) (counted_at j list))) ≡ nat_lt 0 (of_alive (cond t (Some x) (counted_at j list)))) [
-      | true ↦ own.0 ∙ sym own.1
-      | false ↦ some_of_both j list parts.1
-    ]
+some_of_both j (x ∷ list) s = grind (arith, nat_tests, both, both (nat_lt 0 x.received) (nat_lt 0 x.alive), some_of_both j list)
 
 -- One release
 
 at_own : {A : Type 0} (f : ℕ → A) (x : A) (id j : ℕ) → cond (id == j) (f id) x ≡ cond (id == j) (f j) x
-at_own f x id j = by (id == j) refl
-  where
-    by : (t : Bool) → (id == j) ≡ t → cond t (f id) x ≡ cond t (f j) x
-    by true e = ap f (from_eqb id j e)
-    by false e = refl
+at_own f x id j = grind (arith, nat_tests, from_eqb id j)
 
 pub alive_released : (j id : ℕ) (h : Holding) → alive_of j (released id h).counted ≡ cond (id == j) (alive_of j h.counted - 1) (alive_of j h.counted)
-alive_released j id h =
-    elim (is_last id h) as (λ (t : Bool). is_last id h ≡ t
-    → alive_of j (cond t (without id h.counted) (put_in (record { id = id; received = received_of id h.counted; alive = alive_of id h.counted - 1 }) h.counted)) ≡ cond (id == j) (alive_of j h.counted - 1) (alive_of j h.counted)) [
-      | true ↦ λ e. alive_without j id h.counted ∙ (let none : 0 ≡ alive_of id h.counted - 1 = omega (arith, from_eqb (alive_of id h.counted) 1 e) in ap (λ n. cond (id == j) n (alive_of j h.counted)) none) ∙ at_own (λ n. alive_of n h.counted - 1) (alive_of j h.counted) id j
-      | false ↦ λ e. alive_put j _ h.counted ∙ at_own (λ n. alive_of n h.counted - 1) (alive_of j h.counted) id j
-    ] refl
-
-both_either : (a b : Bool) (x : ℕ) → cond a (cond b 0 x) x ≡ cond (a && b) 0 x
-both_either true b x = refl
-both_either false b x = refl
+unfolding alive_of of_alive
+alive_released j id h = grind (arith, nat_tests, at_without, alive_either, from_eqb (alive_of id h.counted) 1, at_own, alive_put j)
 
 pub received_released : (j id : ℕ) (h : Holding) → received_of j (released id h).counted ≡ cond (id == j) (cond (is_last j h) 0 (received_of j h.counted)) (received_of j h.counted)
-received_released j id h =
-    elim (is_last id h) as (λ (t : Bool). is_last id h ≡ t
-    → received_of j (cond t (without id h.counted) (put_in (record { id = id; received = received_of id h.counted; alive = alive_of id h.counted - 1 }) h.counted)) ≡ cond (id == j) (cond (is_last j h) 0 (received_of j h.counted)) (received_of j h.counted)) [
-      | true ↦ λ e. received_without j id h.counted ∙ ap (λ t. cond (id == j) (cond t 0 (received_of id h.counted)) (received_of j h.counted)) (sym e) ∙ at_own (λ n. cond (is_last n h) 0 (received_of n h.counted)) (received_of j h.counted) id j
-      | false ↦ λ e. received_put j _ h.counted ∙ ap (λ t. cond (id == j) (cond t 0 (received_of id h.counted)) (received_of j h.counted)) (sym e) ∙ at_own (λ n. cond (is_last n h) 0 (received_of n h.counted)) (received_of j h.counted) id j
-    ] refl
+unfolding received_of of_received
+received_released j id h = grind (arith, nat_tests, at_without, received_either, at_own, received_put j)
 
 pub rising_released : (id : ℕ) (h : Holding) → is_rising h.counted ≡ true → is_rising (released id h).counted ≡ true
-rising_released id h r =
-    elim (is_last id h) as (λ (t : Bool). is_rising (cond t (without id h.counted) (put_in (record { id = id; received = received_of id h.counted; alive = alive_of id h.counted - 1 }) h.counted)) ≡ true) [
-      | true ↦ rising_without id h.counted r
-      | false ↦ rising_put _ h.counted r
-    ]
+rising_released id h r = grind (arith, nat_tests, rising_without id h.counted r, rising_put)
 
 pub some_released : (id : ℕ) (h : Holding) → 0 < alive_of id h.counted → are_some h.counted ≡ true → are_some (released id h).counted ≡ true
-some_released id h k s =
-    let received : nat_lt 0 (received_of id h.counted) ≡ true = some_of_both id h.counted s ∙ grind (arith, nat_tests, k) in
-    elim (is_last id h) as (λ (t : Bool). is_last id h ≡ t → are_some (cond t (without id h.counted) (put_in (record { id = id; received = received_of id h.counted; alive = alive_of id h.counted - 1 }) h.counted)) ≡ true) [
-      | true ↦ λ e. some_without id h.counted s
-      | false ↦ λ e. some_put _ h.counted (grind (arith, nat_tests, received)) (grind (arith, nat_tests, k, e)) s
-    ] refl
+some_released id h k s = grind (arith, nat_tests, some_of_both id h.counted s, some_without id h.counted s, some_put)
 
 -- One lent, and one held
 
@@ -164,6 +101,4 @@ pub alive_shared : (j id : ℕ) (h : Holding) → alive_of j (shared id h).count
 alive_shared j id h = alive_put j _ h.counted ∙ at_own (λ n. alive_of n h.counted + 1) (alive_of j h.counted) id j
 
 pub some_shared : (id : ℕ) (h : Holding) → 0 < alive_of id h.counted → are_some h.counted ≡ true → are_some (shared id h).counted ≡ true
-some_shared id h k s =
-    let received : nat_lt 0 (received_of id h.counted) ≡ true = some_of_both id h.counted s ∙ grind (arith, nat_tests, k) in
-    some_put _ h.counted (grind (arith, nat_tests, received)) (omega arith) s
+some_shared id h k s = grind (arith, nat_tests, some_of_both id h.counted s, some_put)

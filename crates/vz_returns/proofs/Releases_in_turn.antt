@@ -1,5 +1,5 @@
 -- References that are released one after the other, and the room of what goes back.
-use Rattle.std.proofs.Common.{◌≡◌, ℕ, suc, ◌+◌, ◌-◌, ◌<◌, ◌≤◌, Bool, true, false, ◌==◌, Option, Some, None, List, [], ◌∷◌, ◌++◌, length, drop, slice_index_or, option_to_list, nat_le, refl, ap, sym, subst, ◌∙◌, arith, cond}
+use Rattle.std.proofs.Common.{◌≡◌, ℕ, suc, ◌+◌, ◌<◌, ◌≤◌, true, ◌==◌, Some, None, List, [], ◌∷◌, ◌++◌, length, drop, slice_index_or, option_to_list, nat_le, refl, ap, sym, subst, ◌∙◌, arith, cond}
 use Rattle.std.specs.List.{list_all}
 use Rattle.std.specs.List.Sorted.{IsPermutation, IsNonDecreasing}
 use Rattle.std.proofs.Common.{append-nil}
@@ -10,7 +10,7 @@ use Rattle.vz_rules.specs.World.{World, Client}
 use Rattle.vz_rules.specs.Returns.{returns_of, queue_returns, give_back}
 use Rattle.vz_rules.specs.Kept.{AreRising}
 use Rattle.vz_rules.specs.declared.entry.Returned.{Returned}
-use Rattle.vz_returns.specs.Held.{Holding, alive_of, received_of, is_rising, is_last, return_at, released, without, put_in}
+use Rattle.vz_returns.specs.Held.{Holding, alive_of, is_rising, return_at, released}
 use Rattle.vz_returns.specs.Released.{AreCounts, alive_in, is_sorted, times, release_all, returns_in}
 use Rattle.vz_returns.proofs.Orders.{without_length, put_same, counts_there}
 use Rattle.vz_returns.proofs.Releases.{two_true, rising_released}
@@ -22,56 +22,26 @@ use Rattle.vz_returns.proofs.Listings.{left_next, first_some}
 
 pub fewer_left : (id : ℕ) (h : Holding) (r : Returned) → return_at id h ≡ Some r → is_rising h.counted ≡ true → 0 < alive_of id h.counted
     → length (released id h).counted + 1 ≡ length h.counted
-fewer_left id h r e up some = by (is_last id h) e
-  where
-    by : (t : Bool) → cond t (Some (record { client = h.client; id = id; count = received_of id h.counted })) None ≡ Some r
-        → length (cond t (without id h.counted)
-        (put_in (record { id = id; received = received_of id h.counted; alive = alive_of id h.counted - 1 }) h.counted)) + 1
-        ≡ length h.counted
-    by true e = without_length id h.counted up (counts_there id h.counted some)
-    by false e = absurd (cc)
+fewer_left id h r e up some = grind (arith, nat_tests, without_length id h.counted up (counts_there id h.counted some), counts_there id h.counted some)
 
 pub all_left : (id : ℕ) (h : Holding) → return_at id h ≡ None → is_rising h.counted ≡ true → 0 < alive_of id h.counted
     → length (released id h).counted ≡ length h.counted
-all_left id h e up some = by (is_last id h) e
-  where
-    by : (t : Bool) → ◌≡◌ {A = Option Returned}
-        (cond t (Some (record { client = h.client; id = id; count = received_of id h.counted })) None) None
-        → length (cond t (without id h.counted)
-        (put_in (record { id = id; received = received_of id h.counted; alive = alive_of id h.counted - 1 }) h.counted))
-        ≡ length h.counted
-    by true e = absurd (cc)
-    by false e = put_same (record { id = id; received = received_of id h.counted; alive = alive_of id h.counted - 1 }) h.counted up
-        (counts_there id h.counted some)
+all_left id h e up some = grind (arith, nat_tests, put_same, counts_there id h.counted some)
 
 pub none_less : (id : ℕ) (h : Holding) → is_rising h.counted ≡ true → 0 < alive_of id h.counted
     → length (released id h).counted ≤ length h.counted
-none_less id h up some = by (return_at id h) refl
-  where
-    by : (o : Option Returned) → return_at id h ≡ o → length (released id h).counted ≤ length h.counted
-    by None e = omega (arith, all_left id h e up some)
-    by (Some r) e = omega (arith, fewer_left id h r e up some)
+none_less id h up some = grind (arith, nat_tests, all_left id h, fewer_left id h)
 
 -- One after the other
 
 pub released_next : (ids : List ℕ) (k d : ℕ) (now new all : Holding) → k < length ids → release_all (drop k ids) now ≡ all
     → new ≡ released (slice_index_or ids k d) now → release_all (drop (k + 1) ids) new ≡ all
-released_next ids k d now new all inside was is = ap (release_all (drop (k + 1) ids)) is
-    ∙ (sym (ap (λ l. release_all l now) (left_next ids k d inside)) ∙ was)
+released_next ids k d now new all inside was is = grind (arith, nat_tests, left_next ids k d inside)
 
 pub out_next : (ids : List ℕ) (k d : ℕ) (now new : Holding) (out more all : List Returned) → k < length ids
     → out ++ returns_in (drop k ids) now ≡ all → new ≡ released (slice_index_or ids k d) now
     → more ≡ out ++ option_to_list (return_at (slice_index_or ids k d) now) → more ++ returns_in (drop (k + 1) ids) new ≡ all
-out_next ids k d now new out more all inside was is grown =
-    (λ i. grown i ++ returns_in (drop (k + 1) ids) (is i))
-    ∙ (append_assoc out (option_to_list (return_at (slice_index_or ids k d) now))
-    (returns_in (drop (k + 1) ids) (released (slice_index_or ids k d) now))
-    ∙ (sym (ap (λ l. out ++ returns_in l now) (left_next ids k d inside)) ∙ was))
-
-pub first_of_left : (ids : List ℕ) (k d : ℕ) (h : Holding) → k < length ids → Suffice (drop k ids) h
-    → 0 < alive_of (slice_index_or ids k d) h.counted
-first_of_left ids k d h inside s = first_some (slice_index_or ids k d) (drop (k + 1) ids) h
-    (subst (λ l. Suffice l h) (left_next ids k d inside) s)
+out_next ids k d now new out more all inside was is grown = grind (arith, nat_tests, append_assoc out (option_to_list (return_at (slice_index_or ids k d) now)), left_next ids k d inside)
 
 pub rest_of_left : (ids : List ℕ) (k d : ℕ) (h new : Holding) → k < length ids → Suffice (drop k ids) h
     → new ≡ released (slice_index_or ids k d) h → Suffice (drop (k + 1) ids) new
@@ -125,11 +95,7 @@ pub given_in_order : (w : World) (c : Client) (h : Holding) (xs ys : List ℕ) �
     → IsPermutation xs ys → is_sorted ys ≡ true
     → (out new : List Returned) (after : Holding) → new ≡ out ++ returns_in ys h → after ≡ release_all ys h
     → (new ≡ out ++ returns_of w c) × AreCounts (give_back w) (queue_returns w c) after []
-given_in_order w c h xs ys up are moved order out new after grown is =
-    let sorted = sorted_counts w c h xs ys moved are in (
-      grown ∙ ap (λ l. out ++ l) (returns_are w c h ys sorted up order),
-      subst (λ x. AreCounts (give_back w) (queue_returns w c) x []) (sym is) (counts_after w c h ys sorted up order),
-    )
+given_in_order w c h xs ys up are moved order out new after grown is = grind (arith, nat_tests, sorted_counts w c h xs ys moved are, returns_are w c h ys, counts_after w c h ys)
 
 -- where nothing was released, nothing goes back
 pub none_given : (w : World) (c : Client) (h : Holding) → AreRising c.resources → AreCounts w c h [] → (out : List Returned)

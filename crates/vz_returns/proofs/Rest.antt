@@ -34,9 +34,7 @@ all_marked n m (c ∷ list) = ap (λ t. nat_lt m c.id && t) (all_marked n m list
 rising_marked : (n : ℕ) (list : List Counted) → is_rising list ≡ true → is_rising (map (mark n) list) ≡ true
 unfolding is_rising mark
 rising_marked n [] up = refl
-rising_marked n (c ∷ list) up =
-    let parts = both (list_all (λ x. nat_lt c.id x.id) list) (is_rising list) up in
-    two_true _ _ (all_marked n c.id list ∙ parts.0) (rising_marked n list parts.1)
+rising_marked n (c ∷ list) up = grind (arith, nat_tests, both, two_true, all_marked n c.id list, rising_marked n list)
 
 found_marked : (n j : ℕ) (list : List Counted) → counted_at j (map (mark n) list) ≡ option_map (mark n) (counted_at j list)
 unfolding mark
@@ -46,14 +44,9 @@ found_marked n j list = find_map (λ (c : Counted). c.id == j) (mark n) list (λ
 abbrev none_held : World → World
 none_held w = record w { subs = [] }
 
-and_true : (b : Bool) → (b && true) ≡ b
-and_true true = refl
-and_true false = refl
-
 returns_all : (w : World) (n : ℕ) (r : Resource) → return_of (none_held w) n r ≡ held_resource n r
 unfolding is_held
-returns_all w n r = ap (λ (t : Bool). cond t (Some (record { client = n; id = r.id; count = r.lent - r.queued })) None)
-    (and_true (nat_lt r.queued r.lent))
+returns_all w n r = grind (arith, nat_tests)
 
 received_is : (j : ℕ) (list : List Counted) (o : Option Counted) → counted_at j list ≡ o
     → received_of j list ≡ elim o [ Some c ↦ c.received | None ↦ 0 ]

@@ -41,9 +41,6 @@ flat_next : {A B : Type 0} (f : A → List B) (xs : List A) (k : ℕ) (x : A) �
     → flat_map f (take (k + 1) xs) ≡ flat_map f (take k xs) ++ f x
 flat_next f xs k x e = ap (λ n. flat_map f (take n xs)) (sym (one_more k)) ∙ flat_after f xs k x e
 
-pub given_first : (w : World) (now : List Lent) (start : List Returned) → GivenTo w 0 now start start
-given_first w now start = record { done = λ n c l low. absurd (omega (arith, low)); grown = sym (append-nil start) }
-
 -- the one at this place, before it is given back to
 pub item_there : (now : List Lent) (k : ℕ) (d : Lent) → k < length now → slice_get now k ≡ Some (get_or now k d)
 item_there now k d inside = slice_get-get_or now k d inside
@@ -120,10 +117,7 @@ out_behind now k new = ap resources_out (drop_set now k new)
 -- the place of a client among the clients is that of its number
 pub client_place : (w : World) (c : Client) (client : ℕ) → KeepsAlways w → Contains w.clients c → c.number ≡ client
     → slice_get w.clients (client - 1) ≡ Some c
-client_place w c client always there number =
-    let n = contains_at w.clients c there in
-    let place : client - 1 ≡ n.0 = omega (arith, always.clients.numbered n.0 c n.1, number) in
-    ap (slice_get w.clients) place ∙ n.1
+client_place w c client always there number = grind (arith, nat_tests, contains_at w.clients c there)
 
 module _ (items : List Lent) (client : ℕ) (known : IsLender client items) (o d : Lent) (is : o ≡ get_or items (client - 1) d) (w : World)
     (c : Client) (always : KeepsAlways w) (there : Contains w.clients c)

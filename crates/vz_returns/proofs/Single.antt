@@ -1,5 +1,6 @@
 -- The feedback of one submission, by whether it has some, ended and is in flight.
-use Rattle.std.proofs.Common.{◌≡◌, Bool, true, false, not, ◌&&◌, ◌||◌, Option, Some, None, is_none, [], refl, ap, sym, ◌∙◌, cond}
+use Rattle.std.proofs.Common.{arith, ◌≡◌, Bool, true, false, not, ◌&&◌, ◌||◌, Option, Some, None, is_none, [], refl, ap, sym, ◌∙◌, cond}
+use Rattle.std.proofs.lemmas.Bool.Decides.{nat_tests}
 use Rattle.std.proofs.lemmas.Bool.{and_right}
 use Rattle.vz_rules.specs.declared.entry.Fed.{Fed}
 use Rattle.vz_rules.specs.declared.entry.State.{State}
@@ -39,12 +40,7 @@ ended_flat false true false true m x h e = ap (λ b. cond b (Some x) None) (sym 
 pub ends_one : (w : World) (u : Submission) (state : State) (t m : Bool) → is_ended (record u { state = state }) ≡ true
     → (t ≡ true → (is_waiting u || is_active u) ≡ true) → m ≡ (t && not (is_in_flight w.in_flight (sub_of u)))
     → feedback_of w [] (cond t (record u { state = state }) u) ≡ also u.fed (feedback_of w [] u) m (fed_as false (sub_of u))
-ends_one w u state t m ends stands e =
-    let flies = is_in_flight w.in_flight (sub_of u) in
-    let x = fed_as false (sub_of u) in
-    at_cond (feedback_of w []) t (record u { state = state }) u
-    ∙ ap (λ b. cond t (given u.fed b flies x) (feedback_of w [] u)) ends
-    ∙ ended_flat u.fed (is_waiting u || is_active u) flies t m x stands e
+ends_one w u state t m ends stands e = grind (arith, nat_tests, at_cond (feedback_of w []) t, ended_flat u.fed (is_waiting u || is_active u))
 
 -- One that waits and becomes active
 
@@ -60,29 +56,7 @@ none_also fed m g x e f = cond_same fed None ∙ sym (not_also fed g m x f ∙ e
 pub ended_twice : (fed wa ac on flies m n : Bool) (x : Fed) → m ≡ ((wa && on) && not flies) → n ≡ ((ac && on) && not flies)
     → cond ((wa || ac) && (on || false)) (given fed true flies x) (given fed (not (wa || ac)) flies x)
     ≡ also fed (also fed (given fed (not (wa || ac)) flies x) m x) n x
-ended_twice fed wa ac on flies m n x e f =
-    all fed wa ac on flies ∙ (λ i. also fed (also fed (given fed (not (wa || ac)) flies x) (sym e i) x) (sym f i) x)
-  where
-    all : (fed wa ac on flies : Bool)
-        → cond ((wa || ac) && (on || false)) (given fed true flies x) (given fed (not (wa || ac)) flies x)
-        ≡ also fed (also fed (given fed (not (wa || ac)) flies x) ((wa && on) && not flies) x) ((ac && on) && not flies) x
-    all true wa ac on flies = cond_same ((wa || ac) && (on || false)) None
-    all false true true true true = refl
-    all false true true true false = refl
-    all false true true false true = refl
-    all false true true false false = refl
-    all false true false true true = refl
-    all false true false true false = refl
-    all false true false false true = refl
-    all false true false false false = refl
-    all false false true true true = refl
-    all false false true true false = refl
-    all false false true false true = refl
-    all false false true false false = refl
-    all false false false true true = refl
-    all false false false true false = refl
-    all false false false false true = refl
-    all false false false false false = refl
+ended_twice fed wa ac on flies m n x e f = grind (arith, nat_tests, cond_same)
 
 -- One that is in flight, as the drawn frame is done
 

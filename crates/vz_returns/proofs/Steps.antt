@@ -31,10 +31,7 @@ at_others [] k n x e = refl
 at_others (y ∷ xs) zero zero x e = absurd (cc)
 at_others (y ∷ xs) zero (suc n) x e = refl
 at_others (y ∷ xs) (suc k) zero x e = refl
-at_others (y ∷ xs) (suc k) (suc n) x e = at_others xs k n x (less e)
-  where
-    less : (suc n == suc k) ≡ false → (n == k) ≡ false
-    less e = grind (arith, nat_tests, e)
+at_others (y ∷ xs) (suc k) (suc n) x e = grind (arith, nat_tests, at_others xs k n x)
 
 some_same : {A : Type 0} (x y : A) → ◌≡◌ {A = Option A} (Some x) (Some y) → x ≡ y
 some_same x y e = cc
@@ -149,46 +146,12 @@ frees_enough w v items client k o ids amount number own kept moved are lent id =
 
 pub alive_lent_all : (j : ℕ) (ids : List ℕ) (h : Holding) → alive_of j (lent_all ids h).counted ≡ alive_of j h.counted + times j ids
 alive_lent_all j [] h = omega arith
-alive_lent_all j (id ∷ ids) h = by (id == j) refl (alive_lent_all j ids (lent id h))
-  where
-    by : (t : Bool) → (id == j) ≡ t → alive_of j (lent_all ids (lent id h)).counted ≡ alive_of j (lent id h).counted + times j ids
-        → alive_of j (lent_all ids (lent id h)).counted ≡ alive_of j h.counted + times j (id ∷ ids)
-    by true e rest = omega (
-      arith,
-      rest,
-      times_at j id ids true e,
-      alive_lent j id h
-          ∙ ap (λ (t : Bool). cond t (alive_of j h.counted + 1) (alive_of j h.counted)) e,
-    )
-    by false e rest = omega (
-      arith,
-      rest,
-      times_at j id ids false e,
-      alive_lent j id h
-          ∙ ap (λ (t : Bool). cond t (alive_of j h.counted + 1) (alive_of j h.counted)) e,
-    )
+alive_lent_all j (id ∷ ids) h = grind (arith, nat_tests, alive_lent_all j ids (lent id h), times_at j id ids true, alive_lent j id h, times_at j id ids false)
 
 pub received_lent_all : (j : ℕ) (ids : List ℕ) (h : Holding)
     → received_of j (lent_all ids h).counted ≡ received_of j h.counted + times j ids
 received_lent_all j [] h = omega arith
-received_lent_all j (id ∷ ids) h = by (id == j) refl (received_lent_all j ids (lent id h))
-  where
-    by : (t : Bool) → (id == j) ≡ t → received_of j (lent_all ids (lent id h)).counted ≡ received_of j (lent id h).counted + times j ids
-        → received_of j (lent_all ids (lent id h)).counted ≡ received_of j h.counted + times j (id ∷ ids)
-    by true e rest = omega (
-      arith,
-      rest,
-      times_at j id ids true e,
-      received_lent j id h
-          ∙ ap (λ (t : Bool). cond t (received_of j h.counted + 1) (received_of j h.counted)) e,
-    )
-    by false e rest = omega (
-      arith,
-      rest,
-      times_at j id ids false e,
-      received_lent j id h
-          ∙ ap (λ (t : Bool). cond t (received_of j h.counted + 1) (received_of j h.counted)) e,
-    )
+received_lent_all j (id ∷ ids) h = grind (arith, nat_tests, received_lent_all j ids (lent id h), times_at j id ids true, received_lent j id h, times_at j id ids false)
 
 -- what stays of a client's counts
 pub record Stays (h g : Holding) : Type 0 where
@@ -198,15 +161,8 @@ pub record Stays (h g : Holding) : Type 0 where
   pub some : are_some h.counted ≡ true → are_some g.counted ≡ true
 
 pub lent_stays : (ids : List ℕ) (h : Holding) → Stays h (lent_all ids h)
-lent_stays [] h = record { client = refl; queue = refl; rising = λ e. e; some = λ e. e }
-lent_stays (id ∷ ids) h =
-    let rest = lent_stays ids (lent id h) in
-    record {
-      client = rest.client;
-      queue = rest.queue;
-      rising = λ e. rest.rising (rising_put _ h.counted e);
-      some = λ e. rest.some (some_lent id h e);
-    }
+lent_stays [] h = grind (arith, nat_tests)
+lent_stays (id ∷ ids) h = grind (arith, nat_tests, lent_stays ids (lent id h), rising_put, some_lent)
 
 pub shared_stays : (ids : List ℕ) (h : Holding) → Suffice ids h → Stays h (shared_all ids h)
 shared_stays [] h s = record { client = refl; queue = refl; rising = λ e. e; some = λ e. e }
@@ -225,24 +181,7 @@ received_shared_all j (id ∷ ids) h = received_shared_all j ids (shared id h) �
 
 pub alive_shared_all : (j : ℕ) (ids : List ℕ) (h : Holding) → alive_of j (shared_all ids h).counted ≡ alive_of j h.counted + times j ids
 alive_shared_all j [] h = omega arith
-alive_shared_all j (id ∷ ids) h = by (id == j) refl (alive_shared_all j ids (shared id h))
-  where
-    by : (t : Bool) → (id == j) ≡ t → alive_of j (shared_all ids (shared id h)).counted ≡ alive_of j (shared id h).counted + times j ids
-        → alive_of j (shared_all ids (shared id h)).counted ≡ alive_of j h.counted + times j (id ∷ ids)
-    by true e rest = omega (
-      arith,
-      rest,
-      times_at j id ids true e,
-      alive_shared j id h
-          ∙ ap (λ (t : Bool). cond t (alive_of j h.counted + 1) (alive_of j h.counted)) e,
-    )
-    by false e rest = omega (
-      arith,
-      rest,
-      times_at j id ids false e,
-      alive_shared j id h
-          ∙ ap (λ (t : Bool). cond t (alive_of j h.counted + 1) (alive_of j h.counted)) e,
-    )
+alive_shared_all j (id ∷ ids) h = grind (arith, nat_tests, alive_shared_all j ids (shared id h), times_at j id ids true, alive_shared j id h, times_at j id ids false)
 
 -- more are alive, and these are held once more
 pub holds_more : (w v : World) (items : List Lent) (client k : ℕ) (o new : Lent) (ids : List ℕ) (amount : ℕ → ℕ → ℕ) → client ≡ k + 1

@@ -1,5 +1,6 @@
 -- How many pass a test, where some of them pass no longer.
-use Rattle.std.proofs.Common.{◌≡◌, ℕ, ◌+◌, ◌≤◌, Bool, true, false, ◌&&◌, ◌||◌, ◌==◌, Option, Some, None, List, [], ◌∷◌, map, find, count_by, refl, ap, sym, subst, ◌∙◌, arith, cond, Contains}
+use Rattle.std.proofs.Common.{◌≡◌, ℕ, ◌+◌, ◌≤◌, Bool, true, false, ◌&&◌, ◌==◌, Option, Some, None, List, [], ◌∷◌, map, find, count_by, refl, ap, subst, arith, cond, Contains}
+use Rattle.std.proofs.lemmas.Bool.Decides.{nat_tests}
 use Rattle.std.specs.List.{list_any}
 use Rattle.vz_frame.specs.declared.frame.Listing.{Listing}
 use Rattle.vz_frame.specs.Frame.{lists}
@@ -111,23 +112,7 @@ one_found b t (x ∷ xs) o few e = by (t x) refl e (λ q. one_found b t xs o (om
 -- a resource that is listed is listed once
 pub listed_once : (id : ℕ) (L : List Listing) → lists_twice L ≡ false → ◌≡◌ {A = ℕ} (cond (list_any (lists id) L) 1 0) (times id (ids_of L))
 listed_once id [] once = refl
-listed_once id (l ∷ L) once =
-    let parts = or_no (list_any (λ (b : Listing). lists l.id b) L) (lists_twice L) once in
-    by (l.id == id) refl parts.0 (listed_once id L parts.1)
-  where
-    by : (t : Bool) → (l.id == id) ≡ t → list_any (λ (b : Listing). lists l.id b) L ≡ false
-        → ◌≡◌ {A = ℕ} (cond (list_any (lists id) L) 1 0) (times id (ids_of L))
-        → ◌≡◌ {A = ℕ} (cond ((l.id == id) || list_any (lists id) L) 1 0) (times id (l.id ∷ ids_of L))
-    by true e none rest =
-        let later : list_any (lists id) L ≡ false = sym (ap (λ n. list_any (lists n) L) (from_eqb l.id id e)) ∙ none in
-        let zero : ◌≡◌ {A = ℕ} (cond (list_any (lists id) L) 1 0) 0 = ap {B = ℕ} (λ (r : Bool). cond r 1 0) later in
-        let here : ◌≡◌ {A = ℕ} (cond ((l.id == id) || list_any (lists id) L) 1 0) 1 = ap {B = ℕ}
-        (λ (r : Bool). cond (r || list_any (lists id) L) 1 0) e in
-        omega (arith, here, times_at id l.id (ids_of L) true e, rest, zero)
-    by false e none rest =
-        let there : ◌≡◌ {A = ℕ} (cond ((l.id == id) || list_any (lists id) L) 1 0) (cond (list_any (lists id) L) 1 0) = ap {B = ℕ}
-        (λ (r : Bool). cond (r || list_any (lists id) L) 1 0) e in
-        omega (arith, there, times_at id l.id (ids_of L) false e, rest)
+listed_once id (l ∷ L) once = grind (arith, nat_tests, or_no, listed_once id L, from_eqb l.id id, times_at id l.id (ids_of L) true, times_at id l.id (ids_of L) false)
 
 -- the references of a client's resource that a client's submission with these listings holds
 unfoldable pub share : ℕ → List Listing → ℕ → ℕ → ℕ
@@ -137,25 +122,14 @@ pub one_shares : (client : ℕ) (L : List Listing) (c id : ℕ) (s : Submission)
     → L ≡ s.submitted.frame.resources → lists_twice L ≡ false
     → ◌≡◌ {A = ℕ} (cond (borrows c id s) 1 0) (share client L c id)
 unfolding share
-one_shares client L c id s own listed once =
-    ap {B = ℕ} (λ n. cond ((n == c) && list_any (lists id) s.submitted.frame.resources) 1 0) own
-    ∙ (ap {B = ℕ} (λ l. cond ((client == c) && list_any (lists id) l) 1 0) (sym listed) ∙ by (client == c))
-  where
-    by : (t : Bool) → ◌≡◌ {A = ℕ} (cond (t && list_any (lists id) L) 1 0) (cond t (times id (ids_of L)) 0)
-    by true = listed_once id L once
-    by false = refl
-
-none_shares : (t : Bool) (id : ℕ) → ◌≡◌ {A = ℕ} 0 (cond t (times id []) 0)
-none_shares true id = refl
-none_shares false id = refl
+one_shares client L c id s own listed once = grind (arith, nat_tests, listed_once id L once)
 
 pub found_shares : (client : ℕ) (L : List Listing) (c id : ℕ) (o : Option Submission)
     → ((s : Submission) → o ≡ Some s → s.submitted.sub.client ≡ client) → L ≡ listed_by o → lists_twice L ≡ false
     → ◌≡◌ {A = ℕ} (elim o [ Some s ↦ cond (borrows c id s) 1 0 | None ↦ 0 ]) (share client L c id)
 unfolding share
 found_shares client L c id (Some s) own listed once = one_shares client L c id s (own s refl) listed once
-found_shares client L c id None own listed once = none_shares (client == c) id
-    ∙ ap {B = ℕ} (λ l. cond (client == c) (times id (ids_of l)) 0) (sym listed)
+found_shares client L c id None own listed once = grind (arith, nat_tests)
 
 pub share_of_own : (client : ℕ) (L : List Listing) (c id : ℕ) → (client == c) ≡ true → share client L c id ≡ times id (ids_of L)
 unfolding share

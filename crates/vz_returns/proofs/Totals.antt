@@ -1,10 +1,10 @@
 -- All references that are alive: how their number changes, and that no more are released.
-use Rattle.std.proofs.Common.{◌≡◌, ℕ, suc, ◌+◌, ◌-◌, ◌<◌, ◌≤◌, Bool, true, false, not, ◌==◌, ◌&&◌, Some, None, List, [], ◌∷◌, length, filter, nat_lt, refl, ap, sym, ◌∙◌, arith, cond}
+use Rattle.std.proofs.Common.{◌≡◌, ℕ, ◌+◌, ◌<◌, ◌≤◌, Bool, true, false, not, ◌==◌, List, [], ◌∷◌, length, filter, nat_lt, refl, ap, sym, ◌∙◌, arith, cond}
 use Rattle.std.specs.List.{list_all}
 use Rattle.std.proofs.lemmas.Bool.Decides.{nat_tests}
 use Rattle.std.proofs.lemmas.List.Sums.{sum_by-cons}
 use Rattle.vz_rules.proofs.Counts.{count_cons}
-use Rattle.vz_returns.specs.Held.{Counted, Holding, counted_at, received_of, alive_of, is_rising, put_in, without, is_last, lent, shared, released}
+use Rattle.vz_returns.specs.Held.{Counted, Holding, alive_of, is_rising, put_in, without, lent, shared, released}
 use Rattle.vz_returns.specs.Released.{times}
 use Rattle.vz_returns.proofs.Releases.{both, from_eqb, to_eqb}
 use Rattle.vz_returns.specs.Lent.{all_alive}
@@ -15,12 +15,7 @@ all_cons x list = sum_by-cons (λ (c : Counted). c.alive) x list
 
 pub alive_cons : (id : ℕ) (x : Counted) (list : List Counted) → alive_of id (x ∷ list) ≡ cond (x.id == id) x.alive (alive_of id list)
 unfolding alive_of
-alive_cons id x list = by (x.id == id)
-  where
-    by : (t : Bool) → (elim (cond t (Some x) (counted_at id list)) [ Some c ↦ c.alive | None ↦ 0 ])
-        ≡ cond t x.alive (elim (counted_at id list) [ Some c ↦ c.alive | None ↦ 0 ])
-    by true = refl
-    by false = refl
+alive_cons id x list = grind (arith, nat_tests)
 
 alive_at : (id : ℕ) (x : Counted) (list : List Counted) (t : Bool) → (x.id == id) ≡ t
     → alive_of id (x ∷ list) ≡ cond t x.alive (alive_of id list)
@@ -32,18 +27,12 @@ alive_none n = refl
 
 none_above : (n : ℕ) (list : List Counted) → list_all (λ x. nat_lt n x.id) list ≡ true → alive_of n list ≡ 0
 none_above n [] h = alive_none n
-none_above n (x ∷ list) h =
-    let parts = both (nat_lt n x.id) (list_all (λ x. nat_lt n x.id) list) h in
-    let other : (x.id == n) ≡ false = grind (arith, nat_tests, parts.0) in
-    alive_at n x list false other ∙ none_above n list parts.1
+none_above n (x ∷ list) h = grind (arith, nat_tests, both (nat_lt n x.id) (list_all (λ x. nat_lt n x.id) list) h, alive_at n x list false, none_above n list)
 
 above_less : (n m : ℕ) (list : List Counted) → nat_lt n m ≡ true → list_all (λ x. nat_lt m x.id) list ≡ true
     → list_all (λ x. nat_lt n x.id) list ≡ true
 above_less n m [] l h = refl
-above_less n m (x ∷ list) l h =
-    let parts = both (nat_lt m x.id) (list_all (λ x. nat_lt m x.id) list) h in
-    let first : nat_lt n x.id ≡ true = grind (arith, nat_tests, l, parts.0) in
-    ap (λ t. t && list_all (λ x. nat_lt n x.id) list) first ∙ above_less n m list l parts.1
+above_less n m (x ∷ list) l h = grind (arith, nat_tests, both (nat_lt m x.id) (list_all (λ x. nat_lt m x.id) list) h, above_less n m list l)
 
 other_way : (a b : ℕ) (t : Bool) → (a == b) ≡ t → (b == a) ≡ t
 other_way a b true e = to_eqb b a (sym (from_eqb a b e))
@@ -77,55 +66,23 @@ all_put c (x ∷ list) up = by (c.id == x.id) (nat_lt c.id x.id) refl refl (λ r
 without_none : (id : ℕ) (list : List Counted) → list_all (λ x. nat_lt id x.id) list ≡ true → without id list ≡ list
 unfolding without
 without_none id [] h = refl
-without_none id (x ∷ list) h =
-    let parts = both (nat_lt id x.id) (list_all (λ x. nat_lt id x.id) list) h in
-    let other : (x.id == id) ≡ false = grind (arith, nat_tests, parts.0) in
-    ap (λ t. cond (not t) (x ∷ without id list) (without id list)) other ∙ ap (λ l. x ∷ l) (without_none id list parts.1)
+without_none id (x ∷ list) h = grind (arith, nat_tests, both (nat_lt id x.id) (list_all (λ x. nat_lt id x.id) list) h, without_none id list)
 
 pub all_without : (id : ℕ) (list : List Counted) → is_rising list ≡ true → all_alive (without id list) + alive_of id list ≡ all_alive list
 unfolding without is_rising
 all_without id [] up = omega (arith, alive_none id)
-all_without id (x ∷ list) up = by (x.id == id) refl (λ rest. all_without id list rest)
-  where
-    parts : (list_all (λ y. nat_lt x.id y.id) list ≡ true) × (is_rising list ≡ true)
-    parts = both (list_all (λ y. nat_lt x.id y.id) list) (is_rising list) up
-
-    by : (t : Bool) → (x.id == id) ≡ t → (is_rising list ≡ true → all_alive (without id list) + alive_of id list ≡ all_alive list)
-        → all_alive (cond (not t) (x ∷ without id list) (without id list)) + alive_of id (x ∷ list) ≡ all_alive (x ∷ list)
-    by true e r =
-        let gone = ap all_alive (ap (λ n. without n list) (sym (from_eqb x.id id e)) ∙ without_none x.id list parts.0) in
-        omega (arith, gone, alive_at id x list true e, all_cons x list)
-    by false e r = omega (arith, all_cons x (without id list), all_cons x list, alive_at id x list false e, r parts.1)
+all_without id (x ∷ list) up =
+    grind (arith, nat_tests, all_without id list, both, from_eqb x.id id, without_none x.id list, alive_at id x list true, all_cons x list, all_cons x (without id list), alive_at id x list false)
 
 pub all_lent : (id : ℕ) (h : Holding) → is_rising h.counted ≡ true → all_alive (lent id h).counted ≡ all_alive h.counted + 1
-all_lent id h up = omega (
-  arith,
-  all_put (record { id = id; received = received_of id h.counted + 1; alive = alive_of id h.counted + 1 })
-      h.counted up,
-)
+all_lent id h up = grind (arith, nat_tests, all_put)
 
 pub all_shared : (id : ℕ) (h : Holding) → is_rising h.counted ≡ true → all_alive (shared id h).counted ≡ all_alive h.counted + 1
-all_shared id h up = omega (
-  arith,
-  all_put (record { id = id; received = received_of id h.counted; alive = alive_of id h.counted + 1 })
-      h.counted up,
-)
+all_shared id h up = grind (arith, nat_tests, all_put)
 
 pub all_released : (id : ℕ) (h : Holding) → is_rising h.counted ≡ true → 0 < alive_of id h.counted
     → all_alive (released id h).counted + 1 ≡ all_alive h.counted
-all_released id h up some = by (is_last id h) refl
-  where
-    by : (t : Bool) → is_last id h ≡ t
-        → all_alive (cond t (without id h.counted)
-        (put_in (record { id = id; received = received_of id h.counted; alive = alive_of id h.counted - 1 }) h.counted)) + 1
-        ≡ all_alive h.counted
-    by true e = omega (arith, all_without id h.counted up, from_eqb (alive_of id h.counted) 1 e)
-    by false e = omega (
-      arith,
-      some,
-      all_put (record { id = id; received = received_of id h.counted; alive = alive_of id h.counted - 1 })
-          h.counted up,
-    )
+all_released id h up some = grind (arith, nat_tests, all_without id h.counted up, from_eqb (alive_of id h.counted) 1, all_put)
 
 -- No more are released than are alive
 
@@ -139,12 +96,7 @@ times_at j id ids t e = count_cons (λ n. n == j) id ids ∙ ap {B = ℕ} (λ (b
 split_length : (id : ℕ) (ids : List ℕ) → length ids ≡ times id ids + length (others id ids)
 unfolding others
 split_length id [] = refl
-split_length id (n ∷ ids) = by (n == id) refl (split_length id ids)
-  where
-    by : (t : Bool) → (n == id) ≡ t → length ids ≡ times id ids + length (others id ids)
-        → suc (length ids) ≡ times id (n ∷ ids) + length (cond (not t) (n ∷ others id ids) (others id ids))
-    by true e r = omega (arith, times_at id n ids true e, r)
-    by false e r = omega (arith, times_at id n ids false e, r)
+split_length id (n ∷ ids) = grind (arith, nat_tests, split_length id ids, times_at id n ids true, times_at id n ids false)
 
 times_others : (id j : ℕ) (ids : List ℕ) (t : Bool) → (id == j) ≡ t → times j (others id ids) ≡ cond t 0 (times j ids)
 unfolding others

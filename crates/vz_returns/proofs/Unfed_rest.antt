@@ -1,5 +1,5 @@
 -- The submissions that await feedback between steps, by client and ordinal, are the rest of the state.
-use Rattle.std.proofs.Common.{◌≡◌, ℕ, suc, ◌<◌, inl, inr, Bool, true, false, not, ◌&&◌, ◌||◌, ◌==◌, Option, Some, None, is_some, is_none, List, [], ◌∷◌, ◌++◌, take, map, filter, flat_map, slice_get, Contains, count_by, refl, ap, sym, ◌∙◌, arith, cond}
+use Rattle.std.proofs.Common.{◌≡◌, ℕ, suc, ◌<◌, Bool, true, false, not, ◌&&◌, ◌||◌, ◌==◌, Option, Some, None, is_some, is_none, List, [], ◌∷◌, ◌++◌, take, map, filter, flat_map, slice_get, Contains, count_by, refl, ap, sym, ◌∙◌, arith, cond}
 use Rattle.std.specs.List.{list_any, list_all}
 use Rattle.std.proofs.lemmas.Bool.Decides.{nat_tests}
 use Rattle.std.proofs.lemmas.List.Folds.{list_any-append, list_all-append}
@@ -28,25 +28,11 @@ open_here x xs = ap (λ t. t || is_open xs x) (same_self x)
 
 first_same : (x y : Sub) (xs ys : List Sub) → list_all (before x) xs ≡ true → list_all (before y) ys ≡ true
     → ((t : Sub) → is_open (x ∷ xs) t ≡ is_open (y ∷ ys) t) → x ≡ y
-first_same x y xs ys h k same = by (before x y) (before y x) refl refl
-  where
-    by : (a b : Bool) → before x y ≡ a → before y x ≡ b → x ≡ y
-    by true b e f = let no_way = yes_no (is_open (y ∷ ys) x) (sym (same x) ∙ open_here x xs) (not_open x y ys k e) in absurd (cc)
-    by false true e f = let no_way = yes_no (is_open (x ∷ xs) y) (same y ∙ open_here y ys) (not_open y x xs h f) in absurd (cc)
-    by false false e f = elim (either (same_sub x y)) [
-      | inl s ↦ from_same_sub x y s
-      | inr d ↦ let no_way = yes_no (before y x) (or_after x y e d) f in absurd (cc)
-    ]
+first_same x y xs ys h k same = grind (arith, nat_tests, yes_no, open_here, not_open, either, from_same_sub, or_after)
 
 rest_same : (x : Sub) (xs ys : List Sub) → list_all (before x) xs ≡ true → list_all (before x) ys ≡ true
     → ((t : Sub) → is_open (x ∷ xs) t ≡ is_open (x ∷ ys) t) → (t : Sub) → is_open xs t ≡ is_open ys t
-rest_same x xs ys h k same t = by (same_sub x t) refl (same t)
-  where
-    by : (b : Bool) → same_sub x t ≡ b → (b || is_open xs t) ≡ (b || is_open ys t) → is_open xs t ≡ is_open ys t
-    by true e f =
-        let at = from_same_sub x t e in
-        ap (is_open xs) (sym at) ∙ none_behind x xs h ∙ sym (none_behind x ys k) ∙ ap (is_open ys) at
-    by false e f = f
+rest_same x xs ys h k same t = grind (arith, nat_tests, from_same_sub x t, none_behind x xs h, none_behind x ys k)
 
 one_list : (xs ys : List Sub) → in_order xs ≡ true → in_order ys ≡ true → ((t : Sub) → is_open xs t ≡ is_open ys t) → xs ≡ ys
 unfolding in_order
@@ -54,12 +40,7 @@ one_list [] [] h k same = refl
 one_list [] (y ∷ ys) h k same = let no_way = yes_no (is_open (y ∷ ys) y) (open_here y ys) (sym (same y)) in absurd (cc)
 one_list (x ∷ xs) [] h k same = let no_way = yes_no (is_open (x ∷ xs) x) (open_here x xs) (same x) in absurd (cc)
 one_list (x ∷ xs) (y ∷ ys) h k same =
-    let p = both (list_all (before x) xs) (in_order xs) h in
-    let q = both (list_all (before y) ys) (in_order ys) k in
-    let first = first_same x y xs ys p.0 q.0 same in
-    let all = ap (λ z. list_all (before z) ys) first ∙ q.0 in
-    let rest = one_list xs ys p.1 q.1 (rest_same x xs ys p.0 all (λ t. same t ∙ ap (λ z. is_open (z ∷ ys) t) (sym first))) in
-    λ i. first i ∷ rest i
+    grind (arith, nat_tests, both (list_all (before x) xs) (in_order xs) h, both (list_all (before y) ys) (in_order ys) k, first_same x y xs ys, one_list xs ys, rest_same x xs ys)
 
 -- Those of the state, by client and ordinal
 
@@ -153,11 +134,7 @@ any_flat h p (x ∷ xs) = list_any-append p (h x) (flat_map h xs) ∙ ap (λ b. 
 
 any_filter : (q p : Submission → Bool) (xs : List Submission) → list_any p (filter q xs) ≡ list_any (λ x. q x && p x) xs
 any_filter q p [] = refl
-any_filter q p (x ∷ xs) =
-    elim (q x) as (λ (b : Bool). list_any p (cond b (x ∷ filter q xs) (filter q xs)) ≡ ((b && p x) || list_any (λ x. q x && p x) xs)) [
-      | true ↦ ap (λ b. p x || b) (any_filter q p xs)
-      | false ↦ any_filter q p xs
-    ]
+any_filter q p (x ∷ xs) = grind (arith, nat_tests, any_filter q p xs)
 
 has_listed : (subs : List Submission) (c : Client) (t : Sub)
     → is_open (listed subs c) t ≡ list_any (λ s. unfed_by c.number s && same_sub (sub_of s) t) subs
@@ -212,10 +189,7 @@ has_place w f t h o =
         any_from (is_unfed t) w.subs m.0 (at_contains w.subs n m.0 m.1) (two_true _ _ p.0 (ap (λ x. same_sub x t) m.2 ∙ same_self t))
 
 by_number : (w : World) → KeepsAlways w → AreNumbered w.clients
-by_number w keeps n m c d at there l =
-    let a = keeps.clients.numbered n c at in
-    let b = keeps.clients.numbered m d there in
-    omega (arith, a, b, l)
+by_number w keeps n m c d at there l = grind (arith, nat_tests)
 
 pub rest_is : (w : World) (f : Owed) (list : List Sub) → Keeps w → AreOwed w f → in_order list ≡ true
     → ((t : Sub) → is_open list t ≡ is_some (place_of f t)) → list ≡ (rest_in w).unfed

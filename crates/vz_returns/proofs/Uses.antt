@@ -46,10 +46,7 @@ module _ (holding : Submission → Bool) (subs : List Submission) (w : World) (c
   one_each r there = let kept = shelf.returns r there in kept.some
 
   counted : (id : ℕ) → in_use id h ≡ (nat_lt 0 (out_in c.resources id) || nat_lt 0 (sum_by (count_of id) c.queue))
-  counted id =
-      ap (λ b. b || list_any (λ r. r.id == id) h.queue) (sym (some_of_both id h.counted counts.some) ∙ ap (nat_lt 0) (counts.received id))
-      ∙ (ap (λ q. nat_lt 0 (out_in c.resources id) || list_any (λ r. r.id == id) q) counts.queue
-      ∙ ap (λ b. nat_lt 0 (out_in c.resources id) || b) (queued_some id c.queue one_each))
+  counted id = grind (arith, nat_tests, some_of_both id h.counted counts.some, queued_some id c.queue one_each, one_each)
 
   unknown : (id : ℕ) → resource_in id c.resources ≡ None → (r : Returned) → Contains c.queue r → (r.id == id) ≡ false
   unknown id none r there = by (r.id == id) refl

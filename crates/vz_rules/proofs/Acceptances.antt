@@ -1,5 +1,5 @@
 -- The submissions of a world are those that the accepting entries took from the files, in order.
-use Rattle.std.proofs.Common.{◌≡◌, ℕ, zero, suc, ◌+◌, Bool, true, false, ◌&&◌, ◌⊎◌, inl, inr, Some, List, [], ◌∷◌, ◌++◌, map, length, refl, ap, sym, ◌∙◌, subst, cond, arith, slice_get, count_by, append_assoc, length-append}
+use Rattle.std.proofs.Common.{◌≡◌, ℕ, ◌+◌, Bool, false, ◌&&◌, ◌⊎◌, inl, inr, Some, List, [], ◌∷◌, ◌++◌, map, length, refl, ap, sym, ◌∙◌, subst, cond, arith, slice_get, count_by, append_assoc, length-append}
 use Rattle.std.proofs.lemmas.List.Sums.{sum_by_push}
 use Rattle.vz_ids.specs.declared.LocalSurfaceId.{LocalSurfaceId}
 use Rattle.vz_frame.specs.declared.frame.CompositorFrame.{CompositorFrame}
@@ -9,17 +9,17 @@ use Rattle.vz_rules.specs.declared.entry.Event.{Event}
 use Rattle.vz_rules.specs.declared.entry.Event.TheVariants as event
 use Rattle.vz_rules.specs.declared.entry.Entry.{Entry}
 use Rattle.vz_rules.specs.declared.entry.Reply.TheVariants as reply
-use Rattle.vz_rules.specs.declared.entry.State.TheVariants.{Dropped}
 use Rattle.vz_rules.specs.World.{World, Client, FrameData, Submission, client_at, next_message, is_waiting, is_on, opening}
 use Rattle.vz_rules.specs.Messages.{Answer, id_of, new_submission, replace_on, accepted, client_answer}
 use Rattle.vz_rules.specs.Step.{answer_to, begin_answer, outcome_of, presented_by, step_in, entry_in, world, Legal}
 use Rattle.vz_rules.specs.Whole.{mine}
 use Rattle.vz_rules.specs.Accounts.{of_client, takes, taken_in, message_at, accepts, IsAcceptance}
-use Rattle.vz_rules.proofs.Facts.{length_map, map_at}
+use Rattle.vz_rules.proofs.Facts.{length_map, map_at, same_when}
 use Rattle.vz_rules.proofs.Prefixes.{Steps, along}
 use Rattle.vz_rules.proofs.Follow_ups.{frames_of, frames_kept, outcome_frames}
 use Rattle.vz_rules.proofs.Taken.{steps_taken, none_taken}
-use Rattle.vz_rules.proofs.Cases.{is_acceptance, DisplayCases, client_cases, answer_cases}
+use Rattle.vz_rules.proofs.Cases.{is_acceptance, DisplayCases, answer_cases, few_cases}
+use Rattle.vz_rules.proofs.Members.{at_push}
 
 -- One answer
 
@@ -46,10 +46,6 @@ frames_push : (xs : List Submission) (s : Submission) → frames_of (xs ++ s ∷
 frames_push [] s = refl
 frames_push (x ∷ xs) s = ap (λ l. x.submitted ∷ l) (frames_push xs s)
 
-dropped_frame : (t : Bool) (s : Submission) → (cond t (record s { state = Dropped }) s).submitted ≡ s.submitted
-dropped_frame true s = refl
-dropped_frame false s = refl
-
 accepted_one : (p : Plan) (w : World) (n : ℕ) (c : Client) (local : LocalSurfaceId) (frame : CompositorFrame) → client_at w n ≡ Some c → c.number ≡ n → next_message p c ≡ Some (Submit local frame)
     → Accepts p w (event.Client n) (accepted w c local frame)
 unfolding accepted new_submission
@@ -63,25 +59,17 @@ accepted_one p w n c local frame e number next =
       client_is = refl;
       next = next;
       active = frames_push (map replace w.subs) (new_submission w c local frame)
-          ∙ ap (λ l. l ++ (new_submission w c local frame).submitted ∷ []) (frames_kept replace w.subs (λ s. dropped_frame (is_waiting s && is_on (id_of c local) s) s));
+          ∙ ap (λ l. l ++ (new_submission w c local frame).submitted ∷ []) (frames_kept replace w.subs (λ s. same_when (λ (x : Submission). x.submitted) (is_waiting s && is_on (id_of c local) s) _ s refl));
       reply = refl;
     }
 
 client_either : (p : Plan) (w : World) (n : ℕ) → Either p w (event.Client n) (client_answer p w n)
 client_either p w n =
     let none : (a : Answer) → frames_of a.world.subs ≡ frames_of w.subs → is_acceptance a.reply ≡ false → Either p w (event.Client n) a = λ a same no. inl (record { active = same; reply = no }) in
-    client_cases p w n (Either p w (event.Client n)) (none _ refl refl) (λ c e number. record {
-      turned = λ m r timely at. none _ refl refl;
-      not_yet = λ at. none _ refl refl;
-      stored = λ id block free at. none _ refl refl;
-      submitted = λ local frame good at. inr (accepted_one p w n c local frame e number at);
-      noted = λ m at. none _ refl refl;
-      reclaimed = λ at. none _ refl refl;
-      rooted = λ local root at. none _ refl refl;
-      joined = λ parent child good at. none _ refl refl;
-      began = λ m d at. none _ refl refl;
-      over = λ at. none _ refl refl;
-      left = λ at. none _ refl refl;
+    few_cases p w n (Either p w (event.Client n)) (record {
+      others = λ r a b clients root relations. none _ refl b;
+      submitted = λ c e number local frame good at. inr (accepted_one p w n c local frame e number at);
+      left = λ c clients. none _ refl refl;
     })
 
 display_either : (p : Plan) (w : World) → DisplayCases p w (Either p w)
@@ -116,12 +104,6 @@ longer p h e n i a =
       in_file = a.in_file;
       reply = a.reply;
     }
-
-at_push : {A : Type 0} (xs : List A) (y : A) (n : ℕ) (x : A) → slice_get (xs ++ y ∷ []) n ≡ Some x → (slice_get xs n ≡ Some x) ⊎ ((n ≡ length xs) × (y ≡ x))
-at_push [] y zero x h = inr (refl, cc)
-at_push [] y (suc n) x h = absurd (cc)
-at_push (z ∷ xs) y zero x h = inl h
-at_push (z ∷ xs) y (suc n) x h = elim (at_push xs y n x h) [ inl k ↦ inl k | inr k ↦ inr (omega (arith, k.0), k.1) ]
 
 accepts_more : (h : List Entry) (e : Entry) → count_by accepts (h ++ e ∷ []) ≡ count_by accepts h + cond (is_acceptance e.reply) 1 0
 accepts_more h e = sum_by_push (λ x. cond (accepts x) 1 0) h e
@@ -174,7 +156,7 @@ module _ (p : Plan) (w : World) (h : List Entry) (e : Entry) (i : Kept p w h) (i
         taken = taken;
         count = ap length same ∙ (length-append (frames_of w.subs) (a.new ∷ []) ∙ omega (arith, i.count, accepts_more h e, one));
         each = λ n j at. elim (at_push (frames_of w.subs) a.new n j (ap (λ l. slice_get l n) (sym same) ∙ at)) [
-          | inl k ↦ longer p h e n j (i.each n j k)
+          | inl k ↦ longer p h e n j (i.each n j k.0)
           | inr k ↦ subst (λ x. IsAcceptance p (h ++ e ∷ []) n x) k.1 (subst (λ m. IsAcceptance p (h ++ e ∷ []) m a.new) (sym k.0) (new_here a))
         ];
       }

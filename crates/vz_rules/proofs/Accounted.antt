@@ -1,16 +1,14 @@
 -- The accounts of references, after each legal history.
-use Rattle.std.proofs.Common.{◌≡◌, ℕ, ◌+◌, ◌-◌, ◌≤◌, Bool, true, false, not, ◌&&◌, ◌==◌, Option, Some, None, List, [], ◌∷◌, ◌++◌, map, filter, refl, ap, sym, ◌∙◌, subst, cond, arith, find, sum_by, count_by}
+use Rattle.std.proofs.Common.{◌≡◌, ℕ, ◌+◌, ◌-◌, ◌≤◌, Bool, true, false, not, ◌&&◌, ◌==◌, Option, Some, None, List, [], ◌∷◌, ◌++◌, map, filter, refl, ap, sym, ◌∙◌, subst, cond, arith, find, sum_by, count_by, map-id}
 use Rattle.std.specs.Prelude.{nat_lt}
-use Rattle.std.specs.Option.{option_map}
 use Rattle.std.specs.List.{list_any, flat_map}
 use Rattle.std.proofs.lemmas.Bool.{eqb-true, eq-eqb, ltb-false}
 use Rattle.std.proofs.lemmas.List.Sums.{sum_by_push, sum_by-append, sum_by-cons}
 use Rattle.std.proofs.lemmas.List.Elements.{filter-append}
 use Rattle.vz_ids.specs.declared.LocalSurfaceId.{LocalSurfaceId}
 use Rattle.vz_frame.specs.declared.frame.CompositorFrame.{CompositorFrame}
-use Rattle.vz_frame.specs.declared.rules.Rule.{Rule}
 use Rattle.vz_frame.specs.declared.message.ClientFile.{ClientFile}
-use Rattle.vz_frame.specs.Frame.{first_broken, lists}
+use Rattle.vz_frame.specs.Frame.{lists}
 use Rattle.vz_rules.specs.Plan.{Plan}
 use Rattle.vz_rules.specs.declared.entry.Event.{Event}
 use Rattle.vz_rules.specs.declared.entry.Event.TheVariants as event
@@ -19,26 +17,25 @@ use Rattle.vz_rules.specs.declared.entry.Reply.TheVariants as reply
 use Rattle.vz_rules.specs.declared.entry.Refusal.TheVariants as refusal
 use Rattle.vz_rules.specs.declared.entry.Returned.{Returned}
 use Rattle.vz_rules.specs.declared.entry.Entry.{Entry}
-use Rattle.vz_rules.specs.declared.entry.State.TheVariants.{Dropped}
 use Rattle.vz_rules.specs.World.{World, Client, Resource, FrameData, Submission, is_waiting, is_on, client_at, resource_in, last_created, opening, new_client, new_clients}
 use Rattle.vz_rules.specs.Settle.{settle}
 use Rattle.vz_rules.specs.Reach.{collect}
 use Rattle.vz_rules.specs.Returns.{goes_back, queue_returns, returns_of, returned_in}
-use Rattle.vz_rules.specs.Messages.{Answer, says, took, taking, first_some, when, is_unknown, violates, has_other_size, id_of as surface_of, submit_refusal, new_submission, replace_on, lend, answer_tick, submitting, accepted, client_answer, reclaim}
+use Rattle.vz_rules.specs.Messages.{Answer, says, took, taking, id_of as surface_of, submit_refusal, new_submission, replace_on, lend, answer_tick, submitting, accepted, client_answer, reclaim}
 use Rattle.vz_rules.specs.Step.{answer_to, begin_answer, deliver, next_tick, is_attached, outcome_of, presented_by, step_in, entry_in, world, NamesClient, Legal}
 use Rattle.vz_rules.specs.Whole.{is_of, mine}
 use Rattle.vz_rules.specs.Log.{rest_in, rest_of}
 use Rattle.vz_rules.specs.Accounts.{share_of, returned_over, handed_by, handed_over, of_client, total_of, AreAccounts}
 use Rattle.vz_rules.specs.Kept.{count_of, borrows}
-use Rattle.vz_rules.proofs.Facts.{and_counted, flip}
+use Rattle.vz_rules.proofs.Facts.{and_counted, flip, same_when, plus_none}
 use Rattle.vz_rules.proofs.Rising.{find_map, mapped_some, counted, Rising}
 use Rattle.vz_rules.proofs.Given.{number_of, id_of, size_of, given_of, amount_in, share_is}
 use Rattle.vz_rules.proofs.Totals.{IsAnswered, IsGivenBack, in_queue_of, unchanged, storing, answered_stored, answered_lent, known_listed, answered_reclaimed, given_back}
 use Rattle.vz_rules.proofs.Prefixes.{Steps, along}
 use Rattle.vz_rules.proofs.Follow_ups.{collected_clients, outcome_clients, frames_kept, outcome_frames, count_kept}
 use Rattle.vz_rules.proofs.Lent.{borrowed_are_lent}
-use Rattle.vz_rules.proofs.Numbered.{answer_numbers, HasNumbers, steps_numbers, numbers_rise, client_there, rising_keys, changed_number}
-use Rattle.vz_rules.proofs.Cases.{is_event_of, DisplayCases, client_cases, answer_cases, number_at}
+use Rattle.vz_rules.proofs.Numbered.{answer_numbers, HasNumbers, steps_numbers, numbers_rise, client_there, rising_keys}
+use Rattle.vz_rules.proofs.Cases.{is_event_of, DisplayCases, client_cases, answer_cases, number_at, not_refused}
 
 -- One answer
 
@@ -107,7 +104,7 @@ takes_on : (w : World) (n : ℕ) (z : Client) (f : Client → Client) (a : Answe
     → ((id : ℕ) → Rising id_of z.resources → IsAnswered id z (took (f z)) (new id) (handed_by a.reply)) → AllGoOn w (event.Client n) a
 takes_on w n z f a new e number same clients subs own c id y up found =
     let g : Client → Client = λ x. cond (x.number == z.number) (took (f x)) x in
-    let at = ap (λ cs. find (λ x. x.number == c) cs) clients ∙ find_map (λ (x : Client). x.number == c) g w.clients (λ x. ap (λ k. k == c) (changed_number f (x.number == z.number) x (same x))) in
+    let at = ap (λ cs. find (λ x. x.number == c) cs) clients ∙ find_map (λ (x : Client). x.number == c) g w.clients (λ x. ap (λ k. k == c) (same_when number_of (x.number == z.number) _ x (same x))) in
     let m = mapped_some g (client_at w c) y (sym at ∙ found) in
     record {
       before = m.0;
@@ -121,35 +118,11 @@ plus_either : (n : ℕ) (t : Bool) → n ≡ n + cond t 0 0
 plus_either n true = omega arith
 plus_either n false = omega arith
 
-map_same : {A : Type 0} (xs : List A) → xs ≡ map (λ x. x) xs
-map_same [] = refl
-map_same (x ∷ xs) = ap (λ l. x ∷ l) (map_same xs)
-
-none_either : (t : Bool) → ◌≡◌ {A = List Returned} (cond t [] []) []
-none_either true = refl
-none_either false = refl
-
 -- an answer that leaves the world
 world_stays : (w : World) (e : Event) (r : Reply) → ((c : ℕ) → handed_to c e (says r w) ≡ []) → AllGoOn w e (says r w)
-world_stays w e r none = stays_on w e (says r w) (λ x. x) (map_same w.clients) (λ x. record { number = refl; resources = refl; queue = refl }) refl none
+world_stays w e r none = stays_on w e (says r w) (λ x. x) (sym (map-id w.clients)) (λ x. record { number = refl; resources = refl; queue = refl }) refl none
 
 -- A submission
-
-unrefused : (o : Option Rule) (a b c : Bool)
-    → first_some (option_map (λ rule. refusal.Malformed rule) o ∷ when a refusal.UnknownResource ∷ when b refusal.InvariantsViolation ∷ when c refusal.SizeMismatch ∷ []) ≡ None → a ≡ false
-unrefused (Some rule) a b c h = absurd (cc)
-unrefused None true b c h = absurd (cc)
-unrefused None false b c h = refl
-
-listed_known : (w : World) (z : Client) (local : LocalSurfaceId) (frame : CompositorFrame) → submit_refusal (last_created w z.number) z.resources local frame ≡ None
-    → list_any (is_unknown z.resources) frame.resources ≡ false
-unfolding submit_refusal
-listed_known w z local frame h =
-    unrefused (first_broken frame) (list_any (is_unknown z.resources) frame.resources) (violates (last_created w z.number) local) (has_other_size (last_created w z.number) local frame) h
-
-replaced_frame : (t : Bool) (s : Submission) → (cond t (record s { state = Dropped }) s).submitted ≡ s.submitted
-replaced_frame true s = refl
-replaced_frame false s = refl
 
 accepted_subs : (w : World) (n : ℕ) (z : Client) (local : LocalSurfaceId) (frame : CompositorFrame) → z.number ≡ n → (c id : ℕ)
     → count_by (borrows c id) (accepted w z local frame).world.subs ≡ count_by (borrows c id) w.subs + cond (n == c) (cond (list_any (lists id) frame.resources) 1 0) 0
@@ -158,7 +131,7 @@ accepted_subs w n z local frame number c id =
     let replaced = map (replace_on (surface_of z local)) w.subs in
     sum_by_push (λ s. cond (borrows c id s) 1 0) replaced (new_submission w z local frame)
     ∙ (ap (λ k. k + cond ((z.number == c) && list_any (lists id) frame.resources) 1 0)
-    (count_kept (takes_up c id) replaced w.subs (frames_kept (replace_on (surface_of z local)) w.subs (λ s. replaced_frame (is_waiting s && is_on (surface_of z local) s) s)))
+    (count_kept (takes_up c id) replaced w.subs (frames_kept (replace_on (surface_of z local)) w.subs (λ s. same_when (λ (x : Submission). x.submitted) (is_waiting s && is_on (surface_of z local) s) _ s refl)))
     ∙ (ap (λ k. count_by (borrows c id) w.subs + k) (and_counted (z.number == c) (list_any (lists id) frame.resources))
     ∙ ap (λ k. count_by (borrows c id) w.subs + cond (k == c) (cond (list_any (lists id) frame.resources) 1 0) 0) number))
 
@@ -174,13 +147,13 @@ submitted_goes w n z local frame e number good =
     let stock : (x : Client) → KeepsStock (lent x) (submitting w frame x) = λ x. tick_stock (frame.metadata.ack == w.tick) w.tick (lent x) in
     takes_on w n z (submitting w frame) (accepted w z local frame) (λ id. cond (list_any (lists id) frame.resources) 1 0) e number
     (λ x. (stock x).number) refl (accepted_subs w n z local frame number) (λ id up.
-    answered_lent id frame.resources z (took (submitting w frame z)) (stock z).resources (stock z).queue up (known_listed id z.resources frame.resources (listed_known w z local frame good)))
+    answered_lent id frame.resources z (took (submitting w frame z)) (stock z).resources (stock z).queue up (known_listed id z.resources frame.resources (not_refused (last_created w z.number) z.resources local frame good).1))
 
 -- The answers to a client
 
 client_goes : (p : Plan) (w : World) (n : ℕ) → AllGoOn w (event.Client n) (client_answer p w n)
 client_goes p w n =
-    client_cases p w n (AllGoOn w (event.Client n)) (world_stays w (event.Client n) (reply.Refused refusal.NoMessage) (λ c. none_either (n == c))) (λ z e number.
+    client_cases p w n (AllGoOn w (event.Client n)) (world_stays w (event.Client n) (reply.Refused refusal.NoMessage) (λ c. same_when (λ (l : List Returned). l) (n == c) [] [] refl)) (λ z e number.
     let same : (c id : ℕ) → count_by (borrows c id) w.subs ≡ count_by (borrows c id) w.subs + cond (n == c) 0 0 = λ c id. plus_either (count_by (borrows c id) w.subs) (n == c) in
     let keeps : (f : Client → Client) (a : Answer) → ((x : Client) → KeepsStock x (f x)) → a.world.clients ≡ (taking f z w).clients → a.world.subs ≡ w.subs → handed_by a.reply ≡ [] → AllGoOn w (event.Client n) a
     = λ f a stock clients subs none. takes_on w n z f a (λ id. 0) e number (λ x. (stock x).number) clients (λ c id. ap (count_by (borrows c id)) subs ∙ same c id)
@@ -188,7 +161,7 @@ client_goes p w n =
     let plain : (x : Client) → KeepsStock x x = λ x. record { number = refl; resources = refl; queue = refl } in
     record {
       turned = λ m r timely at. keeps (λ x. x) _ plain refl refl refl;
-      not_yet = λ at. world_stays w (event.Client n) (reply.Refused refusal.NotYet) (λ c. none_either (n == c));
+      not_yet = λ at. world_stays w (event.Client n) (reply.Refused refusal.NotYet) (λ c. same_when (λ (l : List Returned). l) (n == c) [] [] refl);
       stored = λ id block free at. takes_on w n z (storing id block) _ (λ k. 0) e number (λ x. refl) refl same (λ k up. answered_stored k id block z up);
       submitted = λ local frame good at. submitted_goes w n z local frame e number good;
       noted = λ m at. keeps (answer_tick w.tick m) _ (λ x. tick_stock (m == w.tick) w.tick x) refl refl refl;
@@ -211,9 +184,9 @@ display_goes p w =
     let plain : (x : Client) → KeepsStock x x = λ x. record { number = refl; resources = refl; queue = refl } in
     record {
       begins = stays_on w event.Begin (begin_answer p w) (deliver p w tick) refl (λ x. delivered_stock (is_attached p w x && not x.closed) tick x) refl (λ c. refl);
-      draws = λ r quiet last in_flight. stays_on w event.Draw (says r (record w { last = last; in_flight = in_flight })) (λ x. x) (map_same w.clients) plain refl (λ c. refl);
-      dones = λ r quiet in_flight. stays_on w event.Done (says r (record w { in_flight = in_flight })) (λ x. x) (map_same w.clients) plain refl (λ c. refl);
-      overs = stays_on w event.Over (says reply.Ended (record w { over = true })) (λ x. x) (map_same w.clients) plain refl (λ c. refl);
+      draws = λ r quiet last in_flight. stays_on w event.Draw (says r (record w { last = last; in_flight = in_flight })) (λ x. x) (sym (map-id w.clients)) plain refl (λ c. refl);
+      dones = λ r quiet in_flight. stays_on w event.Done (says r (record w { in_flight = in_flight })) (λ x. x) (sym (map-id w.clients)) plain refl (λ c. refl);
+      overs = stays_on w event.Over (says reply.Ended (record w { over = true })) (λ x. x) (sym (map-id w.clients)) plain refl (λ c. refl);
     }
 
 -- each answer goes on so for each client
@@ -241,10 +214,7 @@ unfolding returned_over
 returned_more h e c id = sum_by_push (λ x. sum_by (share_of c id) x.effects.returned) h e
 
 one_handed : (e : Entry) (id : ℕ) (t : Bool) → sum_by (λ x. sum_by (count_of id) (handed_by x.reply)) (cond t (e ∷ []) []) ≡ sum_by (count_of id) (cond t (handed_by e.reply) [])
-one_handed e id true = sum_by-cons (λ x. sum_by (count_of id) (handed_by x.reply)) e [] ∙ plus_none (sum_by (count_of id) (handed_by e.reply))
-  where
-    plus_none : (n : ℕ) → n + 0 ≡ n
-    plus_none n = omega arith
+one_handed e id true = sum_by-cons (λ x. sum_by (count_of id) (handed_by x.reply)) e [] ∙ sym (plus_none (sum_by (count_of id) (handed_by e.reply)))
 one_handed e id false = refl
 
 handed_more : (h : List Entry) (e : Entry) (c id : ℕ) → handed_over (h ++ e ∷ []) c id ≡ handed_over h c id + sum_by (count_of id) (cond (is_of c e) (handed_by e.reply) [])

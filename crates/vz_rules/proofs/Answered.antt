@@ -2,7 +2,7 @@
 use Rattle.std.proofs.Common.{◌≡◌, ℕ, zero, suc, ◌+◌, ◌<◌, ◌≤◌, Bool, true, false, not, ◌&&◌, ◌||◌, ◌==◌, ◌⊎◌, ◌↔◌, inl, inr, Option, Some, None, List, [], ◌∷◌, ◌++◌, map, length, refl, ap, sym, ◌∙◌, subst, cond, arith, find, append_assoc}
 use Rattle.std.specs.Option.{option_map, option_and_then}
 use Rattle.std.specs.List.{list_any}
-use Rattle.std.proofs.lemmas.Bool.{and_parts, eqb-true, eq-eqb}
+use Rattle.std.proofs.lemmas.Bool.{and_parts, eqb-true, eq-eqb, or_cases, and_right, or_left, or_right}
 use Rattle.std.proofs.lemmas.List.Folds.{list_any-append}
 use Rattle.vz_ids.specs.declared.Sub.{Sub}
 use Rattle.vz_frame.specs.declared.message.ClientFile.{ClientFile}
@@ -24,13 +24,14 @@ use Rattle.vz_rules.specs.Messages.{Answer, says, took, taking, answer_tick, sub
 use Rattle.vz_rules.specs.Step.{answer_to, begin_answer, deliver, is_attached, next_tick, outcome_of, presented_by, step_in, entry_in, world, NamesClient, Legal}
 use Rattle.vz_rules.specs.Whole.{mine}
 use Rattle.vz_rules.specs.Accounts.{of_client, takes, taken_in, message_at, answered_in, ticks_to, carries, AnswersTick}
-use Rattle.vz_rules.proofs.Facts.{flip}
+use Rattle.vz_rules.proofs.Facts.{flip, same_when, or_false}
 use Rattle.vz_rules.proofs.Rising.{find_map}
 use Rattle.vz_rules.proofs.Prefixes.{along}
 use Rattle.vz_rules.proofs.Follow_ups.{outcome_clients}
-use Rattle.vz_rules.proofs.Numbered.{changed_number, HasNumbers, steps_numbers, client_there}
+use Rattle.vz_rules.proofs.Numbered.{HasNumbers, steps_numbers, client_there, rest_same}
 use Rattle.vz_rules.proofs.Taken.{steps_taken, none_taken, event_is, not_none}
-use Rattle.vz_rules.proofs.Cases.{is_event_of, DisplayCases, client_cases, answer_cases, number_at}
+use Rattle.vz_rules.proofs.Cases.{is_event_of, DisplayCases, client_cases, answer_cases, number_at, few_cases}
+use Rattle.vz_rules.proofs.Given.{number_of}
 
 -- Ticks
 
@@ -44,19 +45,7 @@ TicksTo w e a = a.world.tick ≡ tick_after e w.tick
 client_tick : (p : Plan) (w : World) (n : ℕ) → TicksTo w (event.Client n) (client_answer p w n)
 unfolding accepted
 client_tick p w n =
-    client_cases p w n (TicksTo w (event.Client n)) refl (λ c e number. record {
-      turned = λ m r timely at. refl;
-      not_yet = λ at. refl;
-      stored = λ id block free at. refl;
-      submitted = λ local frame good at. refl;
-      noted = λ m at. refl;
-      reclaimed = λ at. refl;
-      rooted = λ local root at. refl;
-      joined = λ parent child good at. refl;
-      began = λ m d at. refl;
-      over = λ at. refl;
-      left = λ at. refl;
-    })
+    few_cases p w n (TicksTo w (event.Client n)) (record { others = λ r a b clients root relations. refl; submitted = λ c e number local frame good at. refl; left = λ c clients. refl })
 
 display_tick : (p : Plan) (w : World) → DisplayCases p w (TicksTo w)
 unfolding begin_answer
@@ -81,9 +70,7 @@ next_more tick = elim (tick == 4294967231) as (λ (t : Bool). tick ≤ cond t ti
 tick_more : (e : Event) (tick : ℕ) → tick ≤ tick_after e tick
 tick_more (event.Client n) tick = omega arith
 tick_more event.Begin tick = next_more tick
-tick_more event.Draw tick = omega arith
-tick_more event.Done tick = omega arith
-tick_more event.Over tick = omega arith
+tick_more _ tick = omega arith
 
 -- What a client answered
 
@@ -104,26 +91,16 @@ Answers p w c e a = answered_in a.world c ≡ cond (is_hit p w c e a.reply) w.ti
 
 refused_misses : (n : ℕ) (m : Message) (r : Refusal) → carries n m (reply.Refused r) ≡ false
 refused_misses n (Upload id block) r = refl
-refused_misses n (Submit local frame) r = refl
-refused_misses n (DidNotProduce m) r = refl
-refused_misses n Reclaim r = refl
-refused_misses n (SetRoot local) r = refl
-refused_misses n (Hierarchy parent child) r = refl
-refused_misses n Await r = refl
-refused_misses n Close r = refl
+refused_misses n _ r = refl
 
 refusal_misses : (n : ℕ) (o : Option Message) (r : Refusal) → hits n o (reply.Refused r) ≡ false
 refusal_misses n None r = refl
 refusal_misses n (Some m) r = refused_misses n m r
 
-and_no : (a b : Bool) → b ≡ false → (a && b) ≡ false
-and_no true b e = e
-and_no false b e = refl
-
 -- a refusal leaves what was answered
 misses : (p : Plan) (w : World) (c : ℕ) (e : Event) (r : Refusal) → Answers p w c e (says (reply.Refused r) w)
 misses p w c e r =
-    ap (λ t. cond t w.tick (answered_in w c)) (sym (and_no (is_event_of c e) (hits w.tick (next_of p w c) (reply.Refused r)) (refusal_misses w.tick (next_of p w c) r)))
+    ap (λ t. cond t w.tick (answered_in w c)) (sym (and_right (is_event_of c e) (hits w.tick (next_of p w c) (reply.Refused r)) (refusal_misses w.tick (next_of p w c) r)))
 
 taker_answers : (f : Client → Client) (t b : Bool) (tick : ℕ) (x : Client) → (f x).answered ≡ cond b tick x.answered → (cond t (took (f x)) x).answered ≡ cond (t && b) tick x.answered
 taker_answers f true b tick x e = e
@@ -144,7 +121,7 @@ answers_of w n c x f b number ans (Some y) e none =
 taking_answers : (w : World) (n c : ℕ) (x : Client) (f : Client → Client) (b : Bool) → client_at w n ≡ Some x → x.number ≡ n → ((y : Client) → (f y).number ≡ y.number)
     → ((y : Client) → (f y).answered ≡ cond b w.tick y.answered) → answered_in (taking f x w) c ≡ cond ((n == c) && b) w.tick (answered_in w c)
 taking_answers w n c x f b e number same ans =
-    ap (of_client (λ y. y.answered)) (find_map (λ (y : Client). y.number == c) (λ y. cond (y.number == x.number) (took (f y)) y) w.clients (λ y. ap (λ k. k == c) (changed_number f (y.number == x.number) y (same y))))
+    ap (of_client (λ y. y.answered)) (find_map (λ (y : Client). y.number == c) (λ y. cond (y.number == x.number) (took (f y)) y) w.clients (λ y. ap (λ k. k == c) (same_when number_of (y.number == x.number) _ y (same y))))
     ∙ answers_of w n c x f b number ans (client_at w c) refl (not_none w n c x e)
 
 hit_same : (p : Plan) (w : World) (n c : ℕ) (x : Client) (m : Message) (r : Reply) → client_at w n ≡ Some x → next_message p x ≡ Some m → (t : Bool) → (n == c) ≡ t
@@ -194,16 +171,12 @@ answered_map f cs c same =
     by None = refl
     by (Some x) = (same x).1
 
-delivers : (t : Bool) (tick : ℕ) (x : Client) → ((cond t (record x { delivered = Some tick }) x).number ≡ x.number) × ((cond t (record x { delivered = Some tick }) x).answered ≡ x.answered)
-delivers true tick x = (refl, refl)
-delivers false tick x = (refl, refl)
-
 display_answers : (p : Plan) (w : World) (c : ℕ) → DisplayCases p w (Answers p w c)
 unfolding begin_answer
 display_answers p w c =
     let tick = next_tick w.tick in
     record {
-      begins = answered_map (deliver p w tick) w.clients c (λ x. delivers (is_attached p w x && not x.closed) tick x);
+      begins = answered_map (deliver p w tick) w.clients c (λ x. (same_when (λ (y : Client). y.number) (is_attached p w x && not x.closed) _ x refl, same_when (λ (y : Client). y.answered) (is_attached p w x && not x.closed) _ x refl));
       draws = λ r quiet last in_flight. refl;
       dones = λ r quiet in_flight. refl;
       overs = refl;
@@ -222,14 +195,11 @@ step_answers p w c e =
 -- the list ends with e: x is that one, or stands before it
 unsnoc : {A : Type 0} (g before behind : List A) (e x : A) → g ++ e ∷ [] ≡ before ++ x ∷ behind → ((before ≡ g) × (x ≡ e)) ⊎ ((rest : List A) × (g ≡ before ++ x ∷ rest))
 unsnoc [] [] behind e x h = inl (refl, cc)
-unsnoc [] (b ∷ bs) behind e x h = absurd (no_append bs x behind (tail_same e b [] (bs ++ x ∷ behind) h))
+unsnoc [] (b ∷ bs) behind e x h = absurd (no_append bs x behind (rest_same e b [] (bs ++ x ∷ behind) h))
   where
     no_append : {B : Type 0} (ys : List B) (y : B) (zs : List B) → [] ≡ ys ++ y ∷ zs → ⊥
     no_append [] y zs k = absurd (cc)
     no_append (z ∷ ys) y zs k = absurd (cc)
-
-    tail_same : {B : Type 0} (y z : B) (ys zs : List B) → y ∷ ys ≡ z ∷ zs → ys ≡ zs
-    tail_same y z ys zs k = cc
 unsnoc (y ∷ ys) [] behind e x h = let same : y ≡ x = cc in inr (ys, ap (λ z. z ∷ ys) same)
 unsnoc (y ∷ ys) (b ∷ bs) behind e x h =
     let head : y ≡ b = cc in
@@ -241,14 +211,6 @@ unsnoc (y ∷ ys) (b ∷ bs) behind e x h =
 
 any_front : {A : Type 0} (t : A → Bool) (xs ys : List A) → list_any t xs ≡ true → list_any t (xs ++ ys) ≡ true
 any_front t xs ys h = list_any-append t xs ys ∙ ap (λ b. b || list_any t ys) h
-
-or_either : (a b : Bool) → (a || b) ≡ true → (a ≡ true) ⊎ (b ≡ true)
-or_either true b h = inl refl
-or_either false b h = inr h
-
-or_none : (b : Bool) → (b || false) ≡ true → b ≡ true
-or_none true h = refl
-or_none false h = h
 
 abbrev begins : Event → Bool
 begins e = elim e [ event.Begin ↦ true | _ ↦ false ]
@@ -280,12 +242,7 @@ some_next p None m h = absurd (cc)
 some_next p (Some x) m h = (x, refl, h)
 
 any_last : {A : Type 0} (t : A → Bool) (xs : List A) (x : A) → t x ≡ true → list_any t (xs ++ x ∷ []) ≡ true
-any_last t [] x h = ap (λ b. b || false) h
-any_last t (y ∷ xs) x h = ap (λ b. t y || b) (any_last t xs x h) ∙ or_true (t y)
-  where
-    or_true : (a : Bool) → (a || true) ≡ true
-    or_true true = refl
-    or_true false = refl
+any_last t xs x h = list_any-append t xs (x ∷ []) ∙ or_right (list_any t xs) (list_any t (x ∷ [])) (or_left (t x) false h)
 
 longer_answers : (p : Plan) (h : List Entry) (e : Entry) (c n : ℕ) → AnswersTick p h c n → AnswersTick p (h ++ e ∷ []) c n
 longer_answers p h e c n a =
@@ -354,9 +311,9 @@ module _ (p : Plan) (c : ℕ) (w : World) (h : List Entry) (e : Entry) (i : Kept
 
   none_later : (n : ℕ) → list_any (ticks_to n) longer ≡ true → n ≤ later.tick
   none_later n t =
-      elim (or_either (list_any (ticks_to n) h) (ticks_to n e || false) (sym (list_any-append (ticks_to n) h (e ∷ [])) ∙ t)) [
+      elim (or_cases (list_any (ticks_to n) h) (ticks_to n e || false) (sym (list_any-append (ticks_to n) h (e ∷ [])) ∙ t)) [
         | inl a ↦ omega (arith, i.no_later n a, tick_rises)
-        | inr a ↦ omega (arith, ticks.one n (or_none (ticks_to n e) a), tick_is)
+        | inr a ↦ omega (arith, ticks.one n (sym (or_false (ticks_to n e)) ∙ a), tick_is)
       ]
 
   -- the message that the client would take is that of its place

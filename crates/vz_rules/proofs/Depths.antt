@@ -2,8 +2,6 @@
 use Rattle.std.proofs.Common.{◌≡◌, ℕ, zero, suc, ◌+◌, ◌≤◌, Bool, true, false, ◌||◌, Option, Some, None, List, [], ◌∷◌, ◌++◌, length, refl, ap, sym, ◌∙◌, arith}
 use Rattle.std.specs.Prelude.{nat_lt}
 use Rattle.std.specs.List.{list_any, flat_map}
-use Rattle.std.proofs.lemmas.List.Folds.{list_any-append}
-use Rattle.std.proofs.lemmas.Bool.Decides.{nat_tests}
 use Rattle.vz_geom.specs.declared.Size.{Size}
 use Rattle.vz_geom.specs.Rectangle.{minus, corner}
 use Rattle.vz_ids.specs.declared.SurfaceId.{SurfaceId}
@@ -18,32 +16,14 @@ use Rattle.vz_rules.specs.Scene.{shown_frame}
 use Rattle.vz_rules.specs.Paint.{on_path, levels}
 use Rattle.vz_rules.specs.Walk.{Placement, Visit, Shows, Enters, WalkNamed, WalkRange, is_deep, place_in, quad_walked, pass_walked, groups_walked, root_walked, range_walked, walk, walk_of, whole, weight, too_much}
 use Rattle.vz_rules.specs.Depth.{walk_over}
-
--- none of these goes too deep
-abbrev Shallow : List Visit → Type 0
-Shallow ms = list_any is_deep ms ≡ false
-
-or_first : (a b : Bool) → (a || b) ≡ false → a ≡ false
-or_first true b h = h
-or_first false b h = refl
-
-or_second : (a b : Bool) → (a || b) ≡ false → b ≡ false
-or_second true b h = absurd (cc)
-or_second false b h = h
-
-not_deep : (n : ℕ) → nat_lt 64 n ≡ false → n ≤ 64
-not_deep n h = grind (arith, nat_tests)
-
-front : (ms ns : List Visit) → Shallow (ms ++ ns) → Shallow ms
-front ms ns h = or_first (list_any is_deep ms) (list_any is_deep ns) (sym (list_any-append is_deep ms ns) ∙ h)
-
-back : (ms ns : List Visit) → Shallow (ms ++ ns) → Shallow ns
-back ms ns h = or_second (list_any is_deep ms) (list_any is_deep ns) (sym (list_any-append is_deep ms ns) ∙ h)
+use Rattle.vz_rules.proofs.Facts.{or_true}
+use Rattle.std.proofs.lemmas.Bool.{or_parts}
+use Rattle.vz_rules.proofs.Levels.{Shallow, shallow_parts, not_deep}
 
 flat_same : {A : Type 0} (f g : A → List Visit) (xs : List A) → ((x : A) → Shallow (f x) → f x ≡ g x) → Shallow (flat_map f xs) → flat_map f xs ≡ flat_map g xs
 flat_same f g [] same h = refl
 flat_same f g (x ∷ xs) same h =
-    ap (λ ms. ms ++ flat_map f xs) (same x (front (f x) (flat_map f xs) h)) ∙ ap (λ ms. g x ++ ms) (flat_same f g xs same (back (f x) (flat_map f xs) h))
+    ap (λ ms. ms ++ flat_map f xs) (same x (shallow_parts.front (f x) (flat_map f xs) h)) ∙ ap (λ ms. g x ++ ms) (flat_same f g xs same (shallow_parts.back (f x) (flat_map f xs) h))
 
 -- two walks that meet the same where the first does not go too deep
 abbrev SameRange : WalkRange → WalkRange → Type 0
@@ -97,8 +77,8 @@ module _ (active : List FrameData) where
   entered n m same path i place en em true h = refl
   entered n m same path i place en em false h =
       ap (λ ms. Enters (length path + 1) i place ∷ ms)
-      (same path i place (not_deep (length path + 1) (or_first (nat_lt 64 (length path + 1)) (list_any is_deep (walk n active path i place)) h)) en em
-      (or_second (nat_lt 64 (length path + 1)) (list_any is_deep (walk n active path i place)) h))
+      (same path i place (not_deep (length path + 1) ((or_parts (nat_lt 64 (length path + 1)) (list_any is_deep (walk n active path i place)) h).0)) en em
+      ((or_parts (nat_lt 64 (length path + 1)) (list_any is_deep (walk n active path i place)) h).1))
 
   shown : (n m : ℕ) → SameLevels n m → (path : List SurfaceId) (place : Placement) → 65 ≤ n + length path → 65 ≤ m + length path → (s : Option FrameData)
       → Shallow (elim s [ None ↦ [] | Some i ↦ elim (on_path path i) [ true ↦ [] | false ↦ Enters (length path + 1) i place ∷ walk n active path i place ] ])
@@ -141,12 +121,8 @@ of_over size scene = refl
 pub walks_same : (size : Size) (scene : Scene) (n : ℕ) → 65 ≤ n → too_much (walk_of size scene) ≡ false → walk_over n size scene ≡ walk_of size scene
 unfolding too_much
 walks_same size scene n many h =
-    let shallow : Shallow (walk_over 65 size scene) = ap (list_any is_deep) (sym (of_over size scene)) ∙ or_second (nat_lt 65536 (weight (walk_of size scene))) _ h in
+    let shallow : Shallow (walk_over 65 size scene) = ap (list_any is_deep) (sym (of_over size scene)) ∙ (or_parts (nat_lt 65536 (weight (walk_of size scene))) _ h).1 in
     sym (over_same 65 n (omega arith) many size scene shallow) ∙ sym (of_over size scene)
-
-or_true : (a : Bool) → (a || true) ≡ true
-or_true true = refl
-or_true false = refl
 
 limit_by : (ms ns : List Visit) → (Shallow ms → ms ≡ ns) → (Shallow ns → ns ≡ ms) → (a b : Bool) → list_any is_deep ms ≡ a → list_any is_deep ns ≡ b → too_much ms ≡ too_much ns
 unfolding too_much

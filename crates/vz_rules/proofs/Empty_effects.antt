@@ -1,15 +1,12 @@
 -- Effects of which each list is empty.
-use Rattle.std.proofs.Common.{◌≡◌, ◌==◌, ◌&&◌, Bool, true, false, List, [], ◌∷◌, length, refl, sym, ◌∙◌, eqb-true, arith}
+use Rattle.std.proofs.Common.{◌≡◌, ◌==◌, ◌&&◌, Bool, true, List, [], ◌∷◌, length, refl, sym, ◌∙◌, eqb-true, arith}
 use Rattle.vz_rules.specs.declared.entry.Effects.{Effects}
 use Rattle.vz_rules.specs.Kept.{no_effects}
 
 -- four tests that all hold
 all_four : (a b c d : Bool) → ((a && b) && c) && d ≡ true → (a ≡ true) × (b ≡ true) × (c ≡ true) × (d ≡ true)
 all_four true true true true e = (refl, refl, refl, refl)
-all_four true true true false e = absurd (cc)
-all_four true true false d e = absurd (cc)
-all_four true false c d e = absurd (cc)
-all_four false b c d e = absurd (cc)
+all_four _ _ _ _ e = absurd (cc)
 
 -- a list without a value
 empty : {A : Type 0} (xs : List A) → (length xs == 0) ≡ true → xs ≡ []

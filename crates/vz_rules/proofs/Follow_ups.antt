@@ -1,15 +1,15 @@
 -- What follows an answer leaves the clients but for what is given back, and leaves what submissions were accepted with.
-use Rattle.std.proofs.Common.{◌≡◌, ℕ, zero, suc, ◌+◌, Bool, true, false, ◌&&◌, ◌||◌, List, [], ◌∷◌, map, refl, ap, sym, ◌∙◌, cond, count_by}
+use Rattle.std.proofs.Common.{◌≡◌, ℕ, zero, suc, ◌+◌, Bool, ◌&&◌, ◌||◌, List, [], ◌∷◌, map, refl, ap, sym, ◌∙◌, cond, count_by}
 use Rattle.std.specs.List.{list_any}
 use Rattle.std.proofs.lemmas.List.Sums.{sum_by-cons}
 use Rattle.vz_ids.specs.declared.Sub.{Sub}
-use Rattle.vz_rules.specs.declared.entry.State.TheVariants.{Active, Past, Dropped}
 use Rattle.vz_rules.specs.World.{World, Surface, FrameData, Submission, is_waiting, is_active, is_on}
 use Rattle.vz_rules.specs.Settle.{is_ready, ready, after_round, round, rounds, settle}
 use Rattle.vz_rules.specs.Reach.{drop_on, lost_in, naming, clearing, collect}
 use Rattle.vz_rules.specs.Returns.{give_back, feed, queue_returns, mark_fed}
 use Rattle.vz_rules.specs.Messages.{Answer}
 use Rattle.vz_rules.specs.Step.{outcome_of}
+use Rattle.vz_rules.proofs.Facts.{same_when, same_either}
 
 -- Clients
 
@@ -38,29 +38,20 @@ pub frames_kept : (f : Submission → Submission) (subs : List Submission) → (
 frames_kept f [] same = refl
 frames_kept f (s ∷ ss) same = ap (λ i. i ∷ frames_of (map f ss)) (same s) ∙ ap (λ l. s.submitted ∷ l) (frames_kept f ss same)
 
-after_frame : (becomes past : Bool) (s : Submission) → (cond becomes (record s { state = Active; was_active = true }) (cond past (record s { state = Past }) s)).submitted ≡ s.submitted
-after_frame true past s = refl
-after_frame false true s = refl
-after_frame false false s = refl
-
 round_frames : (w : World) → frames_of (round w).subs ≡ frames_of w.subs
 unfolding round
-round_frames w = frames_kept (after_round (is_ready w) (ready w)) w.subs (λ s. after_frame (is_ready w s) (is_active s && list_any (is_on s.submitted.id) (ready w)) s)
+round_frames w = frames_kept (after_round (is_ready w) (ready w)) w.subs (λ s. same_either (λ (x : Submission). x.submitted) (is_ready w s) (is_active s && list_any (is_on s.submitted.id) (ready w)) _ _ s refl refl)
 
 rounds_frames : (n : ℕ) (w : World) → frames_of (rounds n w).subs ≡ frames_of w.subs
 unfolding rounds
 rounds_frames zero w = refl
 rounds_frames (suc n) w = rounds_frames n (round w) ∙ round_frames w
 
-drop_frame : (t : Bool) (s : Submission) → (cond t (record s { state = Dropped }) s).submitted ≡ s.submitted
-drop_frame true s = refl
-drop_frame false s = refl
-
 collect_frames : (w : World) → frames_of (collect w).subs ≡ frames_of w.subs
 unfolding collect clearing naming
 collect_frames w =
     let lost : List Surface = lost_in (naming w) in
-    frames_kept (drop_on lost) w.subs (λ s. drop_frame ((is_waiting s || is_active s) && list_any (λ c. is_on c.id s) lost) s)
+    frames_kept (drop_on lost) w.subs (λ s. same_when (λ (x : Submission). x.submitted) ((is_waiting s || is_active s) && list_any (λ c. is_on c.id s) lost) _ s refl)
 
 -- activation and collection leave what submissions were accepted with
 pub collected_frames : (w : World) → frames_of (collect (settle w)).subs ≡ frames_of w.subs

@@ -5,6 +5,8 @@ use Rattle.vz_rules.specs.declared.entry.Returned.{Returned}
 use Rattle.vz_rules.specs.World.{Client, Resource, resource_in}
 use Rattle.vz_rules.specs.Accounts.{of_client}
 use Rattle.vz_rules.proofs.Rising.{find_test, sum_same, sum_flat, sum_filtered, counted, Rising, sum_one}
+use Rattle.vz_rules.proofs.Facts.{same_when}
+use Rattle.std.proofs.lemmas.Bool.{cond-false}
 
 -- the number of a client, and the id of a resource
 abbrev pub number_of : Client → ℕ
@@ -37,32 +39,25 @@ module _ (amount : Returned → ℕ) (goes : ℕ → Resource → Bool) where
   abbrev pub given_of : ℕ → Resource → ℕ
   given_of n s = cond (goes n s) (amount (all_of n s)) 0
 
-  zero_either : (t : Bool) (n : ℕ) → n ≡ 0 → cond t n 0 ≡ 0
-  zero_either true n h = h
-  zero_either false n h = refl
-
   one_given : (t : Bool) (n id : ℕ) (s : Resource) → counted (amount_of amount id) (cond t (Some (all_of n s)) None) ≡ cond (s.id == id) (cond t (amount (all_of n s)) 0) 0
   one_given true n id s = refl
-  one_given false n id s = sym (zero_either (s.id == id) 0 refl)
+  one_given false n id s = sym (same_when (λ (k : ℕ). k) (s.id == id) 0 0 refl)
 
   one_id : (id : ℕ) (f : Resource → ℕ) (rs : List Resource) (o : Option Resource) → find (λ s. s.id == id) rs ≡ o → counted (λ (s : Resource). cond (s.id == id) (f s) 0) o ≡ counted f o
   one_id id f rs None e = refl
   one_id id f rs (Some s) e = ap (λ (t : Bool). cond t (f s) 0) (find_test (λ (x : Resource). x.id == id) rs s e)
-
-  zero_off : (t : Bool) (n : ℕ) → t ≡ false → cond t n 0 ≡ 0
-  zero_off t n e = ap (λ (b : Bool). cond b n 0) e
 
   -- what is given of one resource, among those of its client
   pub resource_given : (n id : ℕ) (rs : List Resource) → Rising id_of rs → sum_by (amount_of amount id) (filter_map (gives goes n) rs) ≡ counted (given_of n) (resource_in id rs)
   resource_given n id rs up =
       sum_filtered (amount_of amount id) (gives goes n) rs
       ∙ (sum_same (λ s. counted (amount_of amount id) (gives goes n s)) (λ s. cond (s.id == id) (given_of n s) 0) rs (λ s. one_given (goes n s) n id s)
-      ∙ (sum_one id_of id (λ s. cond (s.id == id) (given_of n s) 0) rs (λ s e. zero_off (s.id == id) (given_of n s) e) up
+      ∙ (sum_one id_of id (λ s. cond (s.id == id) (given_of n s) 0) rs (λ s e. cond-false (s.id == id) (given_of n s) 0 e) up
       ∙ one_id id (given_of n) rs (resource_in id rs) refl))
 
   share_given : (t : Bool) (n c id : ℕ) (s : Resource) → counted (amount_in amount c id) (cond t (Some (all_of n s)) None) ≡ cond (n == c) (counted (amount_of amount id) (cond t (Some (all_of n s)) None)) 0
   share_given true n c id s = refl
-  share_given false n c id s = sym (zero_either (n == c) 0 refl)
+  share_given false n c id s = sym (same_when (λ (k : ℕ). k) (n == c) 0 0 refl)
 
   sum_either : (t : Bool) (f : Resource → ℕ) (rs : List Resource) → sum_by (λ s. cond t (f s) 0) rs ≡ cond t (sum_by f rs) 0
   sum_either true f rs = refl
@@ -91,7 +86,7 @@ module _ (amount : Returned → ℕ) (goes : ℕ → Resource → Bool) where
       ∙ (sum_same (λ x. sum_by (amount_in amount c id) (filter_map (gives goes x.number) x.resources)) (λ x. cond (x.number == c) (sum_by (amount_of amount id) (filter_map (gives goes x.number) x.resources)) 0) xs
       (λ x. client_share c id x.number x.resources)
       ∙ (sum_one number_of c (λ x. cond (x.number == c) (sum_by (amount_of amount id) (filter_map (gives goes x.number) x.resources)) 0) xs
-      (λ x e. zero_off (x.number == c) (sum_by (amount_of amount id) (filter_map (gives goes x.number) x.resources)) e) up
+      (λ x e. cond-false (x.number == c) (sum_by (amount_of amount id) (filter_map (gives goes x.number) x.resources)) 0 e) up
       ∙ one_client c (λ x. sum_by (amount_of amount id) (filter_map (gives goes x.number) x.resources)) xs (find (λ x. x.number == c) xs) refl))
 
   -- what is given of one resource, among those of all clients

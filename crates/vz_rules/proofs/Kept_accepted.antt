@@ -1,6 +1,6 @@
 -- What is kept of submissions where one is accepted, and of what is in flight and of time.
 use Rattle.std.proofs.Common.{◌≡◌, ℕ, ◌+◌, ◌≤◌, Bool, true, false, ◌&&◌, ◌==◌, inl, inr, Option, Some, None, List, [], ◌∷◌, ◌++◌, map, take, refl, ap, sym, ◌∙◌, arith, cond, subst, slice_get, Contains, count_by}
-use Rattle.std.proofs.lemmas.Bool.{and_parts, both_ways, eq-eqb, eqb-true, cases_order}
+use Rattle.std.proofs.lemmas.Bool.{and_parts, both_ways, eq-eqb, eqb-true, cases_order, and_right}
 use Rattle.vz_ids.specs.declared.SurfaceId.{SurfaceId}
 use Rattle.vz_ids.specs.declared.Sub.{Sub}
 use Rattle.vz_ids.specs.Ids.{same_surface, same_sub}
@@ -13,6 +13,7 @@ use Rattle.vz_rules.proofs.Members.{contains_map, map_contains, contains_at, at_
 use Rattle.vz_rules.proofs.Counts.{count_none, count_push, count_at, count_before}
 use Rattle.vz_rules.proofs.Kept_names.{KeepsSurface}
 use Rattle.vz_rules.proofs.Kept_states.{OpensNone, drops_when, on_and, Stands}
+use Rattle.vz_rules.proofs.Facts.{and_false}
 
 -- Numbers
 
@@ -60,10 +61,6 @@ subs_differ ss subs h n m s t p q e =
 pub replaces : (id : SurfaceId) → OpensNone (replace_on id)
 replaces id = drops_when (λ s. is_waiting s && is_on id s)
 
-and_no : (a : Bool) → (a && false) ≡ false
-and_no true = refl
-and_no false = refl
-
 -- where the waiting one is replaced none waits on the surface
 pub none_waits : (id : SurfaceId) (subs : List Submission) (s : Submission) → Contains (map (replace_on id) subs) s → (is_on id s && is_waiting s) ≡ false
 none_waits id subs s c =
@@ -74,7 +71,7 @@ none_waits id subs s c =
         → (is_on id (cond (w && o) (record x { state = Dropped }) x) && is_waiting (cond (w && o) (record x { state = Dropped }) x)) ≡ false
     gone true true x e f = ap (λ t. t && false) f
     gone true false x e f = ap (λ t. t && is_waiting x) f
-    gone false o x e f = ap (λ t. t && is_waiting x) f ∙ (ap (λ t. o && t) e ∙ and_no o)
+    gone false o x e f = ap (λ t. t && is_waiting x) f ∙ (ap (λ t. o && t) e ∙ and_false o)
 
 waits_once : (n : ℕ) (t : Bool) → n ≤ 1 → (t ≡ true → n ≡ 0) → n + cond t 1 0 ≤ 1
 waits_once n true l h = omega (arith, h refl)
@@ -93,10 +90,6 @@ pub record IsNew (ss : List Surface) (subs : List Submission) (new : Submission)
   pub alone : (s : Submission) → Contains subs s → (is_on new.submitted.id s && is_waiting s) ≡ false
   pub stands : Stands ss new.submitted.id
 
-no_and : (a b : Bool) → b ≡ false → (a && b) ≡ false
-no_and true b h = h
-no_and false b h = refl
-
 pub states_more : (ss : List Surface) (subs : List Submission) (new : Submission) → KeepsNumbers ss subs → IsNew ss subs new → KeepsStates ss subs
     → KeepsStates ss (subs ++ new ∷ [])
 states_more ss subs new numbers is h =
@@ -106,7 +99,7 @@ states_more ss subs new numbers is h =
           let same : new.submitted.id ≡ id = from_same new.submitted.id id (and_parts (is_on id new) (is_waiting new) e).0 in
           count_none (on_and is_waiting id) subs (λ s c. subst (λ i. (is_on i s && is_waiting s) ≡ false) same (is.alone s c))));
       one_is_active = λ id. subst (λ n. n ≤ 1) (sym (count_push (on_and is_active id) subs new))
-          (stays_once (count_by (on_and is_active id) subs) (on_and is_active id new) (h.one_is_active id) (no_and (is_on id new) (is_active new) is.acts));
+          (stays_once (count_by (on_and is_active id) subs) (on_and is_active id new) (h.one_is_active id) (and_right (is_on id new) (is_active new) is.acts));
       waits_later = λ s t p q waits acts same. elim (contains_push subs new t q) [
         | inr e ↦ absurd (both_ways (is_active new) is.acts (ap is_active e ∙ acts))
         | inl b ↦ elim (contains_push subs new s p) [

@@ -1,7 +1,7 @@
 -- What a world keeps all the time, where surfaces are destroyed, references are given back and feedback is given.
 use Rattle.std.proofs.Common.{◌≡◌, Bool, true, false, not, ◌&&◌, ◌||◌, inr, List, map, map-id, refl, ap, sym, ◌∙◌, cond, subst, le_refl}
 use Rattle.std.specs.List.{list_any}
-use Rattle.std.proofs.lemmas.Bool.{and_parts, both_ways, false_from_ne_true}
+use Rattle.std.proofs.lemmas.Bool.{and_parts, both_ways, false_from_ne_true, cond-false}
 use Rattle.vz_ids.specs.declared.SurfaceId.{SurfaceId}
 use Rattle.vz_ids.specs.declared.Sub.{Sub}
 use Rattle.vz_ids.specs.Ids.{same_surface}
@@ -25,7 +25,7 @@ use Rattle.vz_rules.proofs.Kept_follows.{always_naming}
 destroyed_names : (kept : List SurfaceId) → KeepsSurface (destroy kept)
 destroyed_names kept = surface_when (λ s. record s { destroyed = true }) (is_lost kept) (record { client = λ s. refl; number = λ s. refl; id = λ s. refl; born = λ s. refl })
 
-destroyed_marks : (t : Bool) (s : Surface) → (t ≡ true → s.marked ≡ true) → (s.destroyed ≡ true → s.marked ≡ true)
+pub destroyed_marks : (t : Bool) (s : Surface) → (t ≡ true → s.marked ≡ true) → (s.destroyed ≡ true → s.marked ≡ true)
     → (cond t (record s { destroyed = true }) s).destroyed ≡ true
     → (cond t (record s { destroyed = true }) s).marked ≡ true
 destroyed_marks true s lost h e = lost refl
@@ -33,10 +33,6 @@ destroyed_marks false s lost h e = h e
 
 lost_marked : (kept : List SurfaceId) (s : Surface) → is_lost kept s ≡ true → s.marked ≡ true
 lost_marked kept s h = (and_parts s.marked (not s.destroyed) (and_parts (s.marked && not s.destroyed) (not (has_id kept s.id)) h).0).0
-
-stays_by : (t : Bool) (s : Surface) → t ≡ false → s.destroyed ≡ false → (cond t (record s { destroyed = true }) s).destroyed ≡ false
-stays_by true s h e = absurd (cc)
-stays_by false s h e = e
 
 pub drops : (lost : List Surface) → OpensNone (drop_on lost)
 drops lost = drops_when (λ s. (is_waiting s || is_active s) && list_any (λ c. is_on c.id s) lost)
@@ -61,7 +57,7 @@ stands_on w s o h =
     (any_from (λ c. is_on c.id s) (lost_in w) m.0 (filter_has (is_lost (reach w)) w.surfaces m.0 m.1 e)
     (ap (λ i. same_surface i m.0.id) (sym (from_same m.0.id s.submitted.id m.2)) ∙ self_same m.0.id))) in
     stands_from (map (destroy (reach w)) w.surfaces) s.submitted.id (destroy (reach w) m.0) (map_contains (destroy (reach w)) w.surfaces m.0 m.1)
-    (ap (λ i. same_surface i s.submitted.id) ((destroyed_names (reach w)).id m.0) ∙ m.2) (stays_by (is_lost (reach w) m.0) m.0 stays m.3)
+    (ap (λ i. same_surface i s.submitted.id) ((destroyed_names (reach w)).id m.0) ∙ m.2) (ap (λ (x : Surface). x.destroyed) (cond-false (is_lost (reach w) m.0) _ m.0 stays) ∙ m.3)
 
 pub always_clearing : (w : World) → KeepsAlways w → KeepsAlways (clearing w)
 unfolding clearing

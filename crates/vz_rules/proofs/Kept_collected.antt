@@ -1,5 +1,5 @@
 -- One collection is enough: what is reached stays reached and shows what it showed, and a second one changes nothing.
-use Rattle.std.proofs.Common.{◌≡◌, ◌+◌, Bool, true, false, not, ◌&&◌, ◌||◌, inl, inr, Option, Some, None, List, [], ◌∷◌, map, filter, filter_map, refl, ap, sym, ◌∙◌, cond, subst, Contains}
+use Rattle.std.proofs.Common.{◌≡◌, ◌+◌, Bool, true, false, not, ◌&&◌, ◌||◌, inl, inr, Option, Some, None, List, [], ◌∷◌, map, filter, refl, ap, sym, ◌∙◌, cond, subst, Contains}
 use Rattle.std.specs.Prelude.{nat_lt}
 use Rattle.std.proofs.lemmas.Bool.{and_parts, or_cases, or_left, or_right, not-true}
 use Rattle.vz_ids.specs.declared.SurfaceId.{SurfaceId}
@@ -8,14 +8,15 @@ use Rattle.vz_ids.specs.Ids.{same_surface}
 use Rattle.vz_rules.specs.declared.entry.State.TheVariants.{Dropped}
 use Rattle.vz_rules.specs.World.{World, Surface, FrameData, Submission, active_frames, frame_on, is_waiting, is_active}
 use Rattle.vz_rules.specs.Scene.{shown}
-use Rattle.vz_rules.specs.Reach.{has_id, referenced, naming, has_closed, is_temporary, root_list, roots, reach, is_lost, destroy, drop_on, lost_in, clearing, collect}
+use Rattle.vz_rules.specs.Reach.{has_id, naming, has_closed, is_temporary, root_list, roots, reach, is_lost, destroy, drop_on, lost_in, clearing, collect}
 use Rattle.vz_rules.specs.Kept.{KeepsAlways, stands_in}
-use Rattle.vz_rules.proofs.Reached.{from_same, self_same, reach_is_least}
-use Rattle.vz_rules.proofs.Members.{same_tests, contains_map, map_contains, any_at, any_from, filter_at, filter_has, none_filtered, filter_map_at, filter_map_has, map_fixed}
+use Rattle.vz_rules.proofs.Reached.{from_same, reach_is_least}
+use Rattle.vz_rules.proofs.Members.{same_tests, contains_map, map_contains, any_at, any_from, filter_at, filter_has, none_filtered, map_fixed}
 use Rattle.vz_rules.proofs.Kept_follows.{always_naming}
-use Rattle.vz_rules.proofs.Kept_once.{Cleared, unlost, reached_unlost, destroys_not, found_kept, shown_stays}
-use Rattle.vz_rules.proofs.Kept_reach.{refers, with_added, stands_back, lost_by, reach_stays, none_lost_after, named_after, all_named_after, naming_stays}
+use Rattle.vz_rules.proofs.Kept_once.{Cleared, unlost, reached_unlost, destroys_not, found_kept}
+use Rattle.vz_rules.proofs.Kept_reach.{refers, with_added, stands_back, lost_by, reach_stays, none_lost_after, named_after, all_named_after, naming_stays, refers_alike, ranges_stay}
 use Rattle.vz_rules.proofs.Kept_between.{dropped_frames}
+use Rattle.vz_rules.proofs.Facts.{same_when}
 
 pub cleared_by : (w : World) → Cleared w (clearing w)
 unfolding clearing
@@ -23,19 +24,11 @@ cleared_by w = record { active = dropped_frames w w.subs; surfaces = refl; root 
 
 -- What is shown
 
-refers_to : (w : World) (y z : SurfaceId) (i : FrameData) (range : SurfaceRange) → frame_on y (active_frames w.subs) ≡ Some i
-    → Contains i.frame.metadata.references range → shown w range ≡ Some z
-    → has_id (referenced w y) z ≡ true
-refers_to w y z i range on c e =
-    ap (λ o. has_id (refers w o) z) on
-    ∙ any_from (same_surface z) (filter_map (shown w) i.frame.metadata.references) z (filter_map_has (shown w) i.frame.metadata.references range z c e) (self_same z)
-
 -- a range that a reached surface references shows what it showed
 pub shown_once : (w : World) (id : SurfaceId) (i : FrameData) (range : SurfaceRange) → KeepsAlways w → has_id (reach w) id ≡ true
     → frame_on id (active_frames w.subs) ≡ Some i
     → Contains i.frame.metadata.references range → shown (clearing w) range ≡ shown w range
-shown_once w id i range h k on c =
-    shown_stays w (clearing w) range h (cleared_by w) (λ z e. (reach_is_least w).closed id z k (refers_to w id z i range on c e))
+shown_once w id i range h k on c = ranges_stay w (clearing w) (frame_on id (active_frames w.subs)) h (cleared_by w) (λ z e. (reach_is_least w).closed id z k e) i on range c
 
 -- and the reached surface has the frame that it had
 pub frame_once : (w : World) (id : SurfaceId) → has_id (reach w) id ≡ true → frame_on id (active_frames (clearing w).subs) ≡ frame_on id (active_frames w.subs)
@@ -44,24 +37,10 @@ frame_once w id k =
 
 -- What is reached
 
-refers_back : (w v : World) (o : Option FrameData) (x : SurfaceId) → KeepsAlways w → Cleared w v
-    → ((z : SurfaceId) → has_id (refers w o) z ≡ true → has_id (reach w) z ≡ true)
-    → has_id (refers v o) x ≡ true → has_id (refers w o) x ≡ true
-refers_back w v None x h cleared reached e = e
-refers_back w v (Some i) x h cleared reached e =
-    let refs = i.frame.metadata.references in
-    let m = any_at (same_surface x) (filter_map (shown v) refs) e in
-    let r = filter_map_at (shown v) refs m.0 m.1 in
-    let stays = shown_stays w v r.0 h cleared (λ z k. reached z (any_from (same_surface z) (filter_map (shown w) refs) z (filter_map_has (shown w) refs r.0 z r.1 k) (self_same z))) in
-    any_from (same_surface x) (filter_map (shown w) refs) m.0 (filter_map_has (shown w) refs r.0 m.0 r.1 (sym stays ∙ r.2)) m.2
-
-gone_id : (t : Bool) (c : Surface) → (cond t (record c { destroyed = true }) c).id ≡ c.id
-gone_id true c = refl
-gone_id false c = refl
-
 stands_before : (w v : World) (id : SurfaceId) → Cleared w v → stands_in v.surfaces id ≡ true → stands_in w.surfaces id ≡ true
 stands_before w v id cleared e =
-    stands_back (destroy (reach w)) w.surfaces id (λ c. gone_id (is_lost (reach w) c) c) (λ c k. (lost_by (reach w) c (is_lost (reach w) c) refl k).1) (ap (λ l. stands_in l id) (sym cleared.surfaces) ∙ e)
+    stands_back (destroy (reach w)) w.surfaces id (λ c. same_when (λ (x : Surface). x.id) (is_lost (reach w) c) _ c refl)
+    (λ c k. (lost_by (reach w) c (is_lost (reach w) c) refl k).1) (ap (λ l. stands_in l id) (sym cleared.surfaces) ∙ e)
 
 root_by : (t u : Bool) (id x : SurfaceId) → (t ≡ true → u ≡ true) → has_id (cond t (id ∷ []) []) x ≡ true → has_id (cond u (id ∷ []) []) x ≡ true
 root_by true true id x h e = e
@@ -111,7 +90,8 @@ reach_before w v h cleared x e =
     (λ y z p q.
     let same : frame_on y (active_frames v.subs) ≡ frame_on y (active_frames w.subs) =
     ap (frame_on y) cleared.active ∙ found_kept (unlost w) y (active_frames w.subs) (λ i on. reached_unlost w i (ap (has_id (reach w)) (from_same i.id y on) ∙ p)) in
-    old.closed y z p (refers_back w v (frame_on y (active_frames w.subs)) z h cleared (λ u f. old.closed y u p f) (ap (λ o. has_id (refers v o) z) (sym same) ∙ q)))
+    old.closed y z p (refers_alike v w (frame_on y (active_frames w.subs)) z (λ i is r c. sym (ranges_stay w v (frame_on y (active_frames w.subs)) h cleared (λ u f. old.closed y u p f) i is r c))
+    (ap (λ o. has_id (refers v o) z) (sym same) ∙ q)))
     x e
 
 -- exactly what was reached is reached after the others were destroyed

@@ -1,5 +1,5 @@
 -- What a step establishes at its end: nothing is ready, what is not held is given back, and what is not open had feedback.
-use Rattle.std.proofs.Common.{◌≡◌, ℕ, Bool, true, false, not, ◌&&◌, ◌||◌, Some, None, List, [], ◌∷◌, map, map-id, refl, ap, sym, ◌∙◌, cond, subst, Contains, is_none}
+use Rattle.std.proofs.Common.{◌≡◌, ℕ, Bool, true, false, not, ◌&&◌, ◌||◌, Some, None, List, [], map, map-id, refl, ap, sym, ◌∙◌, cond, subst, Contains, is_none}
 use Rattle.std.specs.Prelude.{nat_le}
 use Rattle.std.specs.List.{list_any, list_all}
 use Rattle.std.proofs.lemmas.Bool.{and_parts, and_from, both_ways, false_from_ne_true}
@@ -7,7 +7,6 @@ use Rattle.vz_ids.specs.declared.SurfaceId.{SurfaceId}
 use Rattle.vz_ids.specs.declared.Sub.{Sub}
 use Rattle.vz_ids.specs.Ids.{same_sink, at_least}
 use Rattle.vz_rules.specs.declared.entry.Fed.{Fed}
-use Rattle.vz_rules.specs.declared.entry.State.TheVariants.{Dropped}
 use Rattle.vz_rules.specs.World.{World, Client, Resource, Submission, is_waiting, is_active, is_on, is_in_flight, has_sub, sub_of}
 use Rattle.vz_rules.specs.Settle.{is_met, has_come, is_ready, ready}
 use Rattle.vz_rules.specs.Reach.{naming, lost_in, clearing, collect, drop_on}
@@ -17,10 +16,7 @@ use Rattle.vz_rules.proofs.Members.{any_map, contains_map, filter_none, none_fil
 use Rattle.vz_rules.proofs.Kept_states.{OpensNone}
 use Rattle.vz_rules.proofs.Kept_given.{none_out_given}
 use Rattle.vz_rules.proofs.Kept_clears.{drops}
-
-all_same : {A : Type 0} (p q : A → Bool) (xs : List A) → ((x : A) → p x ≡ q x) → list_all p xs ≡ list_all q xs
-all_same p q [] h = refl
-all_same p q (x ∷ xs) h = ap (λ t. t && list_all p xs) (h x) ∙ ap (λ t. q x && t) (all_same p q xs h)
+use Rattle.vz_rules.proofs.Facts.{same_when, all_same}
 
 -- Nothing is ready
 
@@ -66,10 +62,6 @@ ready_wanes w v f k h none =
     both_ways (is_ready w m.0) (none_filtered (is_ready w) w.subs m.0 none m.1)
     (and_from (is_waiting m.0) (has_come w m.0) (h.ends.waits m.0 both.0) (sym (come_wanes w v f k h m.0) ∙ both.1))))
 
-drop_due : (t : Bool) (s : Submission) → (cond t (record s { state = Dropped }) s).due ≡ s.due
-drop_due true s = refl
-drop_due false s = refl
-
 ready_collected : (w : World) → ready w ≡ [] → ready (collect w) ≡ []
 unfolding collect clearing naming
 ready_collected w none =
@@ -79,30 +71,17 @@ ready_collected w none =
       clients = map-id w.clients;
       tick = refl;
       ends = drops lost;
-      due = λ s. drop_due ((is_waiting s || is_active s) && list_any (λ c. is_on c.id s) lost) s;
+      due = λ s. same_when (λ (x : Submission). x.due) ((is_waiting s || is_active s) && list_any (λ c. is_on c.id s) lost) _ s refl;
       closed = λ c. refl;
       sink = λ c. refl;
     }) none
 
-ready_given : (w : World) → ready w ≡ [] → ready (give_back w) ≡ []
-unfolding give_back
-ready_given w none =
-    ready_wanes w (give_back w) (λ s. s) (queue_returns w) (record {
-      subs = map-id w.subs;
-      clients = refl;
-      tick = refl;
-      ends = record { submitted = λ s. refl; waits = λ s e. e; acts = λ s e. e; was = λ s. refl };
-      due = λ s. refl;
-      closed = λ c. refl;
-      sink = λ c. refl;
-    }) none
-
-ready_fed : (presented : List Sub) (w : World) → ready w ≡ [] → ready (feed presented w) ≡ []
-unfolding feed
+ready_fed : (presented : List Sub) (w : World) → ready w ≡ [] → ready (feed presented (give_back w)) ≡ []
+unfolding feed give_back
 ready_fed presented w none =
-    ready_wanes w (feed presented w) (mark_fed w presented) (λ c. c) (record {
+    ready_wanes w (feed presented (give_back w)) (mark_fed (give_back w) presented) (queue_returns w) (record {
       subs = refl;
-      clients = map-id w.clients;
+      clients = refl;
       tick = refl;
       ends = record { submitted = λ s. refl; waits = λ s e. e; acts = λ s e. e; was = λ s. refl };
       due = λ s. refl;
@@ -112,7 +91,7 @@ ready_fed presented w none =
 
 -- where nothing was ready nothing gets ready
 pub ready_end : (presented : List Sub) (w : World) → ready w ≡ [] → ready (feed presented (give_back (collect w))) ≡ []
-ready_end presented w none = ready_fed presented (give_back (collect w)) (ready_given (collect w) (ready_collected w none))
+ready_end presented w none = ready_fed presented (collect w) (ready_collected w none)
 
 -- Nothing is out that is not held
 

@@ -1,8 +1,8 @@
 -- What follows from what is kept, in the words of those who use it.
-use Rattle.std.proofs.Common.{◌≡◌, ℕ, ◌+◌, ◌<◌, ◌≤◌, Bool, true, false, not, ◌&&◌, ◌||◌, ◌==◌, ◌⊎◌, inl, inr, Some, List, [], ◌∷◌, filter, refl, ap, sym, ◌∙◌, arith, cond, slice_get, Contains, count_by, sum_by}
+use Rattle.std.proofs.Common.{◌≡◌, ℕ, ◌+◌, ◌<◌, ◌≤◌, Bool, true, false, ◌||◌, ◌==◌, ◌⊎◌, inl, inr, Some, List, [], ◌∷◌, filter, refl, ap, sym, ◌∙◌, arith, cond, slice_get, Contains, count_by, sum_by}
 use Rattle.std.specs.Prelude.{nat_le}
 use Rattle.std.specs.List.{list_any, list_all}
-use Rattle.std.proofs.lemmas.Bool.{leb-false, and_from, both_ways, eqb-true, eq-eqb, false_from_ne_true}
+use Rattle.std.proofs.lemmas.Bool.{leb-false, and_from, both_ways, eqb-true, eq-eqb, false_from_ne_true, or_parts}
 use Rattle.vz_ids.specs.declared.SurfaceId.{SurfaceId}
 use Rattle.vz_ids.specs.Ids.{same_sink, same_surface, same_sub}
 use Rattle.vz_rules.specs.World.{World, Client, Surface, FrameData, Resource, Submission, active_frames, frame_on, is_waiting, is_active, is_on, is_in_flight, sub_of}
@@ -16,6 +16,7 @@ use Rattle.vz_rules.proofs.Counts.{count_at, one_place}
 use Rattle.vz_rules.proofs.Kept_last.{last_at, one_owner, earlier_is_less, surfaces_differ}
 use Rattle.vz_rules.proofs.Kept_accepted.{subs_differ}
 use Rattle.vz_rules.proofs.Kept_states.{on_and}
+use Rattle.vz_rules.proofs.Kept_reach.{not_lost}
 
 -- Names
 
@@ -112,28 +113,18 @@ unfolding ready is_ready
 waits_uncome w s h c e =
     false_from_ne_true (has_come w s) (λ k. both_ways (is_ready w s) (none_filtered (is_ready w) w.subs s h.none_ready c) (and_from (is_waiting s) (has_come w s) e k))
 
-neither : (a b : Bool) → (a || b) ≡ false → (a ≡ false) × (b ≡ false)
-neither true b h = absurd (cc)
-neither false b h = (refl, h)
-
 -- some dependency of it is not met, and its deadline is to come
 pub waits_on : (w : World) (s : Submission) → Keeps w → Contains w.subs s → is_waiting s ≡ true
     → (list_all (is_met w) s.submitted.frame.metadata.dependencies ≡ false) × (w.tick < s.due)
 unfolding has_come
 waits_on w s h c e =
-    let none = neither (list_all (is_met w) s.submitted.frame.metadata.dependencies) (nat_le s.due w.tick) (waits_uncome w s h c e) in
+    let none = or_parts (list_all (is_met w) s.submitted.frame.metadata.dependencies) (nat_le s.due w.tick) (waits_uncome w s h c e) in
     (none.0, leb-false s.due w.tick none.1)
-
-kept_by : (m d h : Bool) → (m && not d && not h) ≡ false → m ≡ true → d ≡ false → h ≡ true
-kept_by true true h e p q = absurd (cc)
-kept_by true false true e p q = refl
-kept_by true false false e p q = absurd (cc)
-kept_by false d h e p q = absurd (cc)
 
 -- what is marked and exists is reached
 pub marked_reached : (w : World) (s : Surface) → Keeps w → Contains w.surfaces s → s.marked ≡ true → s.destroyed ≡ false → has_id (reach w) s.id ≡ true
 unfolding lost_in
-marked_reached w s h c m d = kept_by s.marked s.destroyed (has_id (reach w) s.id) (none_filtered (is_lost (reach w)) w.surfaces s h.none_lost c) m d
+marked_reached w s h c m d = not_lost s.marked s.destroyed (has_id (reach w) s.id) (none_filtered (is_lost (reach w)) w.surfaces s h.none_lost c) m d
 
 open_by : (fed waits acts flies : Bool) → (fed || waits || acts || flies) ≡ true → fed ≡ false → ((waits || acts) ≡ true) ⊎ (flies ≡ true)
 open_by true waits acts flies e f = absurd (cc)

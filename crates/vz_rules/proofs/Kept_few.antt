@@ -3,7 +3,7 @@ use Rattle.std.proofs.Common.{◌≡◌, ℕ, ◌+◌, ◌*◌, ◌≤◌, Bool,
 use Rattle.std.specs.Prelude.{nat_le}
 use Rattle.std.specs.List.{list_all}
 use Rattle.std.proofs.lemmas.Bool.{and_parts, eqb-true, leb-true, eq-eqb, and_from}
-use Rattle.std.proofs.lemmas.List.Sums.{sum_by-cons}
+use Rattle.std.proofs.lemmas.List.Sums.{sum_by-cons, sum_by-le-sum_by}
 use Rattle.vz_ids.specs.declared.FrameSinkId.{FrameSinkId}
 use Rattle.vz_ids.specs.Ids.{same_sink, same_surface}
 use Rattle.vz_pixels.specs.Block.{Block, IsBlock}
@@ -16,20 +16,16 @@ use Rattle.vz_rules.proofs.Kept_last.{surfaces_differ}
 use Rattle.vz_rules.proofs.Members.{contains_at, at_same, at_within, contains_here, contains_there, contains_cases, contains_none}
 use Rattle.vz_rules.proofs.Counts.{count_cons}
 use Rattle.vz_rules.proofs.Reached.{self_same_sink}
-use Rattle.vz_rules.proofs.Kept_small.{at_there, small_client}
+use Rattle.vz_rules.proofs.Kept_small.{at_there, small_client, few_of}
 
 -- Sums over what something passes with
-
-sum_more : {B : Type 0} (f g : B → ℕ) (ys : List B) → ((y : B) → f y ≤ g y) → sum_by f ys ≤ sum_by g ys
-sum_more f g [] h = omega arith
-sum_more f g (y ∷ ys) h = omega (arith, sum_by-cons f y ys, sum_by-cons g y ys, h y, sum_more f g ys h)
 
 -- one term is greater by one
 sum_one_more : {B : Type 0} (f g : B → ℕ) (ys : List B) (z : B) → ((y : B) → f y ≤ g y) → Contains ys z → f z + 1 ≤ g z → sum_by f ys + 1 ≤ sum_by g ys
 sum_one_more f g [] z h c one = absurd (contains_none z c)
 sum_one_more f g (y ∷ ys) z h c one =
     elim (contains_cases y z ys c) [
-      | inl e ↦ omega (arith, sum_by-cons f y ys, sum_by-cons g y ys, ap f e, ap g e, one, sum_more f g ys h)
+      | inl e ↦ omega (arith, sum_by-cons f y ys, sum_by-cons g y ys, ap f e, ap g e, one, sum_by-le-sum_by f g ys h)
       | inr m ↦ omega (arith, sum_by-cons f y ys, sum_by-cons g y ys, h y, sum_one_more f g ys z h m one)
     ]
 
@@ -49,7 +45,7 @@ counted_by true test x xs ys n some later =
     (one_of (test s.0 x) (count_by (test s.0) (x ∷ xs)) (count_by (test s.0) xs) s.2 (count_cons (test s.0) x xs)) in
     omega (arith, later, more)
 counted_by false test x xs ys n some later =
-    let more = sum_more (λ y. count_by (test y) xs) (λ y. count_by (test y) (x ∷ xs)) ys (λ y. omega (arith, count_cons (test y) x xs)) in
+    let more = sum_by-le-sum_by (λ y. count_by (test y) xs) (λ y. count_by (test y) (x ∷ xs)) ys (λ y. omega (arith, count_cons (test y) x xs)) in
     omega (arith, later, more)
 
 -- each that passes a test passes another with some of a second list
@@ -80,9 +76,6 @@ times_more k m n h l = grind (arith, h, l)
 
 clients_few : (p : Plan) (w : World) → IsPlan p → KeepsPlan p w → length w.clients ≤ 16
 clients_few p w is h = omega (arith, h.files.as_many, is.few_files)
-
-few_of : (p : Plan) (w : World) → IsPlan p → KeepsAlways w → KeepsPlan p w → (c : Client) → Contains w.clients c → count_by (is_by c.number) w.subs ≤ 4096
-few_of p w is a h c q = omega (arith, (a.shelves c q).taken, (small_client p w is a h c q).1)
 
 subs_few : (p : Plan) (w : World) → IsPlan p → KeepsAlways w → KeepsPlan p w → length w.subs ≤ 65536
 subs_few p w is a h =

@@ -1,5 +1,5 @@
 -- What a world keeps of its plan, from the first world on and through each step.
-use Rattle.std.proofs.Common.{◌≡◌, ℕ, ◌+◌, ◌-◌, ◌≤◌, Bool, true, false, not, ◌&&◌, ◌==◌, inl, inr, Option, Some, None, List, map, length, refl, ap, sym, ◌∙◌, arith, cond, subst, slice_get, Contains, unwrap_or, sum_by}
+use Rattle.std.proofs.Common.{◌≡◌, ℕ, ◌+◌, ◌-◌, ◌≤◌, Bool, true, false, not, ◌&&◌, ◌==◌, inl, inr, Option, Some, None, List, map, length, refl, ap, sym, ◌∙◌, arith, cond, slice_get, Contains, unwrap_or, sum_by}
 use Rattle.std.specs.Prelude.{nat_le}
 use Rattle.std.specs.List.{list_any, list_all}
 use Rattle.std.specs.Option.{option_and_then}
@@ -9,20 +9,20 @@ use Rattle.vz_ids.specs.declared.LocalSurfaceId.{LocalSurfaceId}
 use Rattle.vz_frame.specs.declared.frame.CompositorFrame.{CompositorFrame}
 use Rattle.vz_frame.specs.declared.message.ClientFile.{ClientFile}
 use Rattle.vz_frame.specs.declared.message.Message.{Message}
-use Rattle.vz_frame.specs.declared.message.Message.TheVariants.{Upload, Submit, DidNotProduce, Reclaim, SetRoot, Hierarchy, Await, Close}
+use Rattle.vz_frame.specs.declared.message.Message.TheVariants.{Upload, Submit}
 use Rattle.vz_frame.specs.Fits.{within, is_number, fits_surface, fits_range, fits_listing, fits_pass, fits_sink, fits_file, fits_message, fits_frame, fits_block, fits_local, fits_optional}
-use Rattle.vz_rules.specs.declared.entry.State.TheVariants.{Dropped}
-use Rattle.vz_rules.specs.declared.entry.Reply.TheVariants as reply
 use Rattle.vz_rules.specs.declared.entry.Refusal.{Refusal}
 use Rattle.vz_rules.specs.declared.entry.Refusal.TheVariants as refusal
 use Rattle.vz_rules.specs.Plan.{Plan, IsPlan}
 use Rattle.vz_rules.specs.World.{World, Client, Resource, Submission, file_of, next_message, is_waiting, is_on}
-use Rattle.vz_rules.specs.Messages.{Answer, says, took, taking, refused, unless_refused, upload_answer, submit_answer, accepted, submitting, lend, answer_tick, new_submission, id_of, replace_on, reclaim, root_answer, hierarchy_answer, hierarchy_refusal, await_answer, message_answer}
-use Rattle.vz_rules.specs.Kept.{KeepsClients, KeepsAlways, KeepsFiles, KeepsIds, DueSoon, KeepsPlan, AreRising}
-use Rattle.vz_rules.proofs.Members.{at_contains, at_within, all_at}
+use Rattle.vz_rules.specs.Messages.{Answer, took, taking, refused, accepted, submitting, lend, answer_tick, new_submission, id_of, replace_on, reclaim, client_answer}
+use Rattle.vz_rules.specs.Kept.{KeepsClients, KeepsAlways, KeepsFiles, KeepsIds, KeepsPlan, AreRising}
+use Rattle.vz_rules.proofs.Members.{at_contains, at_within, all_at, find_at}
 use Rattle.vz_rules.proofs.Kept_returns.{put_at, storing}
 use Rattle.vz_rules.proofs.Kept_submits.{one_of_number}
 use Rattle.vz_rules.proofs.Kept_plan.{FollowsFile, files_keep, ids_map, due_map, due_push}
+use Rattle.vz_rules.proofs.Facts.{same_when}
+use Rattle.vz_rules.proofs.Cases.{client_cases}
 
 -- A client that takes a message
 
@@ -118,39 +118,22 @@ upload_id format id block h =
 abbrev pub Plans : Plan → Answer → Type 0
 Plans p a = KeepsPlan p a.world
 
-pub plans_by : (p : Plan) (t : Bool) (a b : Answer) → Plans p a → Plans p b → Plans p (cond t a b)
-plans_by p true a b h k = h
-plans_by p false a b h k = k
-
 plans_taking : (p : Plan) (w : World) (c : Client) (f : Client → Client) → HasRoom p w c → ((x : Client) → Contains w.clients x → StaysFile x (f x))
     → KeepsPlan p w → KeepsPlan p (taking f c w)
 plans_taking p w c f room stays h = record { files = files_taking p w c f room stays h.files; due = h.due }
 
-pub plans_refused : (p : Plan) (w : World) (c : Client) (r : Refusal) → HasRoom p w c → KeepsPlan p w → Plans p (refused w c r)
+plans_refused : (p : Plan) (w : World) (c : Client) (r : Refusal) → HasRoom p w c → KeepsPlan p w → Plans p (refused w c r)
 plans_refused p w c r room h = plans_taking p w c (λ x. x) room (λ x q. same_file x) h
-
-plans_unless : (p : Plan) (w : World) (c : Client) (r : Option Refusal) (a : Answer) → HasRoom p w c → KeepsPlan p w → Plans p a
-    → Plans p (unless_refused w c r a)
-plans_unless p w c None a room h k = k
-plans_unless p w c (Some r) a room h k = plans_refused p w c r room h
 
 answered_file : (t : Bool) (now : ℕ) (c d : Client) → StaysFile c d → StaysFile c (cond t (record d { answered = now }) d)
 answered_file true now c d h = record { sink = h.sink; taken = h.taken; ids = h.ids }
 answered_file false now c d h = h
 
-lend_id : (t : Bool) (s : Resource) → (cond t (record s { lent = s.lent + 1 }) s).id ≡ s.id
-lend_id true s = refl
-lend_id false s = refl
-
 submit_file : (w : World) (frame : CompositorFrame) (x : Client) → StaysFile x (submitting w frame x)
 submit_file w frame x =
     let lent = record x { resources = map (lend frame.resources) x.resources } in
     answered_file (frame.metadata.ack == w.tick) w.tick x lent
-    (record { sink = refl; taken = refl; ids = ids_map (lend frame.resources) x lent (λ s. lend_id (list_any (λ l. l.id == s.id) frame.resources) s) refl })
-
-replace_due : (t : Bool) (s : Submission) → (cond t (record s { state = Dropped }) s).due ≡ s.due
-replace_due true s = refl
-replace_due false s = refl
+    (record { sink = refl; taken = refl; ids = ids_map (lend frame.resources) x lent (λ s. same_when (λ (x : Resource). x.id) (list_any (λ l. l.id == s.id) frame.resources) _ s refl) refl })
 
 plans_accepted : (p : Plan) (w : World) (c : Client) (local : LocalSurfaceId) (frame : CompositorFrame) → HasRoom p w c
     → unwrap_or frame.metadata.deadline 4 ≤ 64 → KeepsPlan p w
@@ -160,44 +143,31 @@ plans_accepted p w c local frame room l h =
     record {
       files = files_taking p w c (submitting w frame) room (λ x q. submit_file w frame x) h.files;
       due = due_push (map (replace_on (id_of c local)) w.subs) (new_submission w c local frame) w.tick (omega (arith, l))
-          (due_map (replace_on (id_of c local)) w.subs w.tick (λ s. replace_due (is_waiting s && is_on (id_of c local) s) s) h.due);
+          (due_map (replace_on (id_of c local)) w.subs w.tick (λ s. same_when (λ (x : Submission). x.due) (is_waiting s && is_on (id_of c local) s) _ s refl) h.due);
     }
 
-plans_await : (p : Plan) (w : World) (c : Client) (d : Option ℕ) (over : Bool) → HasRoom p w c → KeepsPlan p w
-    → Plans p (elim d [
-      | Some n ↦ says (reply.Began n) (taking (λ (x : Client). record x { delivered = None }) c w)
-      | None ↦ cond over (says reply.Over (taking (λ x. x) c w)) (says (reply.Refused refusal.NotYet) w)
-    ])
-plans_await p w c None true room h = plans_taking p w c (λ x. x) room (λ x q. same_file x) h
-plans_await p w c None false room h = h
-plans_await p w c (Some n) over room h = plans_taking p w c (λ (x : Client). record x { delivered = None }) room (λ x q. record { sink = refl; taken = refl; ids = λ i. i }) h
-
-same_parts : (p : Plan) (w v : World) → KeepsPlan p w → v.clients ≡ w.clients → v.subs ≡ w.subs → v.tick ≡ w.tick → KeepsPlan p v
-same_parts p w v h e f g =
-    record { files = subst (KeepsFiles p.files) (sym e) h.files; due = subst (λ n. DueSoon v.subs n) (sym g) (subst (λ l. DueSoon l w.tick) (sym f) h.due) }
-
-pub plans_message : (p : Plan) (w : World) (c : Client) (m : Message) → IsPlan p → next_message p c ≡ Some m → HasRoom p w c → KeepsAlways w → KeepsPlan p w
-    → Plans p (message_answer w c m)
-unfolding message_answer upload_answer submit_answer root_answer hierarchy_answer await_answer
-plans_message p w c (Upload id block) is e room a h =
-    let fits = next_fits p c (Upload id block) is e in
-    let bounds = upload_id fits.0.format id block fits.1 in
-    plans_by p _ _ _ (plans_refused p w c refusal.InUse room h)
-    (plans_taking p w c (storing id block) room (λ x q. record { sink = refl; taken = refl; ids = stored_ids id block x bounds.0 bounds.1 (a.shelves x q).rising }) h)
-plans_message p w c (Submit local frame) is e room a h =
-    let fits = next_fits p c (Submit local frame) is e in
-    plans_unless p w c _ _ room h (plans_accepted p w c local frame room (submit_near fits.0.format local frame fits.1) h)
-plans_message p w c (DidNotProduce n) is e room a h = plans_taking p w c (answer_tick w.tick n) room (λ x q. answered_file (n == w.tick) w.tick x x (same_file x)) h
-plans_message p w c Reclaim is e room a h =
-    plans_taking p w c reclaim room (λ x q. record { sink = refl; taken = refl; ids = ids_map (λ s. record s { reclaimed = s.queued }) x (reclaim x) (λ s. refl) refl }) h
-plans_message p w c (SetRoot local) is e room a h =
-    let v = taking (λ x. x) c w in
-    plans_by p _ _ _ (same_parts p v (record v { root = Some (id_of c local) }) (plans_taking p w c (λ x. x) room (λ x q. same_file x) h) refl refl refl) (plans_refused p w c refusal.NotRoot room h)
-plans_message p w c (Hierarchy parent child) is e room a h =
-    let v = taking (λ x. x) c w in
-    let k = plans_taking p w c (λ x. x) room (λ x q. same_file x) h in
-    plans_unless p w c (hierarchy_refusal w c parent child) _ room h (record { files = k.files; due = k.due })
-plans_message p w c Await is e room a h = plans_await p w c c.delivered w.over room h
-plans_message p w c Close is e room a h =
-    let k = plans_taking p w c (λ (x : Client). record x { closed = true }) room (λ x q. record { sink = refl; taken = refl; ids = λ i. i }) h in
-    record { files = k.files; due = k.due }
+pub plans_client : (p : Plan) (w : World) (n : ℕ) → IsPlan p → KeepsAlways w → KeepsPlan p w → Plans p (client_answer p w n)
+plans_client p w n is a h =
+    client_cases p w n (Plans p) h (λ c e number.
+    let room : (m : Message) → next_message p c ≡ Some m → HasRoom p w c = λ m. has_room p w c m a.clients (find_at (λ (x : Client). x.number == n) w.clients c e).0 in
+    record {
+      turned = λ m r timely at. plans_refused p w c r (room m at) h;
+      not_yet = λ at. h;
+      stored = λ id block free at.
+          let fits = next_fits p c (Upload id block) is at in
+          let bounds = upload_id fits.0.format id block fits.1 in
+          plans_taking p w c (storing id block) (room _ at) (λ x q. record { sink = refl; taken = refl; ids = stored_ids id block x bounds.0 bounds.1 (a.shelves x q).rising }) h;
+      submitted = λ local frame good at.
+          let fits = next_fits p c (Submit local frame) is at in
+          plans_accepted p w c local frame (room _ at) (submit_near fits.0.format local frame fits.1) h;
+      noted = λ k at. plans_taking p w c (answer_tick w.tick k) (room _ at) (λ x q. answered_file (k == w.tick) w.tick x x (same_file x)) h;
+      reclaimed = λ at.
+          plans_taking p w c reclaim (room _ at) (λ x q. record { sink = refl; taken = refl; ids = ids_map (λ s. record s { reclaimed = s.queued }) x (reclaim x) (λ s. refl) refl }) h;
+      rooted = λ local root at. let k = plans_refused p w c refusal.NotRoot (room _ at) h in record { files = k.files; due = k.due };
+      joined = λ parent child good at. let k = plans_refused p w c refusal.Loop (room _ at) h in record { files = k.files; due = k.due };
+      began = λ k d at. plans_taking p w c (λ (x : Client). record x { delivered = None }) (room _ at) (λ x q. record { sink = refl; taken = refl; ids = λ i. i }) h;
+      over = λ at. plans_refused p w c refusal.NotRoot (room _ at) h;
+      left = λ at.
+          let k = plans_taking p w c (λ (x : Client). record x { closed = true }) (room _ at) (λ x q. record { sink = refl; taken = refl; ids = λ i. i }) h in
+          record { files = k.files; due = k.due };
+    })

@@ -1,8 +1,7 @@
 -- What a world keeps all the time, through activation, collection, returns and feedback.
 use Rattle.std.proofs.Common.{◌≡◌, ℕ, zero, suc, Bool, true, false, not, ◌&&◌, inr, List, map, map-id, filter, length, refl, cond, subst}
 use Rattle.std.specs.List.{list_any}
-use Rattle.std.proofs.lemmas.Bool.{and_parts}
-use Rattle.vz_rules.specs.World.{World, Surface, Submission, is_waiting}
+use Rattle.vz_rules.specs.World.{World, Surface, Submission}
 use Rattle.vz_rules.specs.Settle.{is_ready, ready, after_round, marked_by, is_before, round, rounds, settle}
 use Rattle.vz_rules.specs.Reach.{name_one, naming, is_named_now}
 use Rattle.vz_rules.specs.Kept.{KeepsAlways}
@@ -12,24 +11,18 @@ use Rattle.vz_rules.proofs.Kept_states.{OpensNone, frame_after, open_after, stat
 use Rattle.vz_rules.proofs.Kept_stays.{last_unmarked, IsSafe}
 use Rattle.vz_rules.proofs.Kept_accepted.{flight_keeps}
 use Rattle.vz_rules.proofs.Kept_worlds.{always_parts, stands_map, holds_from}
+use Rattle.vz_rules.proofs.Facts.{same_when}
+pub use Rattle.vz_rules.proofs.Settled.{ready_waits}
 
 -- A round
 
 marked_names : (ss : List Surface) (activated : List Submission) → KeepsSurface (marked_by ss activated)
 marked_names ss activated = surface_when (λ s. record s { marked = true }) (λ s. list_any (is_before ss s) activated) (record { client = λ s. refl; number = λ s. refl; id = λ s. refl; born = λ s. refl })
 
-marked_stands : (t : Bool) (s : Surface) → (cond t (record s { marked = true }) s).destroyed ≡ s.destroyed
-marked_stands true s = refl
-marked_stands false s = refl
-
-marked_marks : (t : Bool) (s : Surface) → (s.destroyed ≡ true → s.marked ≡ true) → (cond t (record s { marked = true }) s).destroyed ≡ true
+pub marked_marks : (t : Bool) (s : Surface) → (s.destroyed ≡ true → s.marked ≡ true) → (cond t (record s { marked = true }) s).destroyed ≡ true
     → (cond t (record s { marked = true }) s).marked ≡ true
 marked_marks true s h e = refl
 marked_marks false s h e = h e
-
-pub ready_waits : (w : World) (s : Submission) → is_ready w s ≡ true → is_waiting s ≡ true
-unfolding is_ready
-ready_waits w s h = (and_parts (is_waiting s) _ h).0
 
 pub always_round : (w : World) → KeepsAlways w → KeepsAlways (round w)
 unfolding round ready
@@ -45,7 +38,7 @@ always_round w h =
       marks = λ s p. marked_marks (list_any (is_before w.surfaces s) risen) s;
       safe = λ c s p o e. last_unmarked w.clients w.surfaces risen s c.number h.clients h.surfaces (λ a q. h.numbers.created a (filter_at becomes w.subs a q).0) e;
       states = states_of_surfaces w.surfaces (map (marked_by w.surfaces risen) w.surfaces) (map (after_round becomes risen) w.subs)
-          (λ id. stands_map (marked_by w.surfaces risen) w.surfaces id names (λ s. marked_stands (list_any (is_before w.surfaces s) risen) s))
+          (λ id. stands_map (marked_by w.surfaces risen) w.surfaces id names (λ s. same_when (λ (x : Surface). x.destroyed) (list_any (is_before w.surfaces s) risen) _ s refl))
           (states_round becomes w.surfaces w.subs waits h.states);
       flight = flight_keeps (after_round becomes risen) w.in_flight w.subs submitted h.in_flight;
       opens = λ s p. open_after becomes w.surfaces w.subs waits h.states s;
@@ -65,10 +58,6 @@ always_settle w h = always_rounds (length w.subs) w h
 
 named_names : (w : World) → KeepsSurface (name_one w)
 named_names w = surface_when (λ s. record s { named = true }) (λ s. not s.destroyed && is_named_now w s.id) (record { client = λ s. refl; number = λ s. refl; id = λ s. refl; born = λ s. refl })
-
-named_stands : (t : Bool) (s : Surface) → (cond t (record s { named = true }) s).destroyed ≡ s.destroyed
-named_stands true s = refl
-named_stands false s = refl
 
 named_marks : (t : Bool) (s : Surface) → (s.destroyed ≡ true → s.marked ≡ true) → (cond t (record s { named = true }) s).destroyed ≡ true
     → (cond t (record s { named = true }) s).marked ≡ true
@@ -93,7 +82,7 @@ always_naming w h =
       marks = λ s p. named_marks (not s.destroyed && is_named_now w s.id) s;
       safe = λ c s p o e. named_safe (not s.destroyed && is_named_now w s.id) s;
       states = states_keep (λ s. s) w.surfaces (map (name_one w) w.surfaces) w.subs nothing_opens
-          (λ s p o. stands_map (name_one w) w.surfaces s.submitted.id names (λ c. named_stands (not c.destroyed && is_named_now w c.id) c)) h.states;
+          (λ s p o. stands_map (name_one w) w.surfaces s.submitted.id names (λ c. same_when (λ (x : Surface). x.destroyed) (not c.destroyed && is_named_now w c.id) _ c refl)) h.states;
       flight = flight_keeps (λ s. s) w.in_flight w.subs (λ s. refl) h.in_flight;
       opens = λ s p e. e;
       draws = λ s p e. holds_from w s h.states p (inr e);

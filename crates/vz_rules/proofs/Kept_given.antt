@@ -1,7 +1,7 @@
 -- What is kept of resources, where references are given back.
 use Rattle.std.proofs.Common.{◌≡◌, ℕ, ◌+◌, ◌-◌, ◌<◌, ◌≤◌, Bool, true, false, not, ◌&&◌, ◌==◌, inl, inr, Option, Some, None, List, [], ◌∷◌, ◌++◌, map, refl, ap, sym, ◌∙◌, arith, cond, subst, Contains, count_by, sum_by, filter_map}
 use Rattle.std.specs.Prelude.{nat_lt}
-use Rattle.std.proofs.lemmas.Bool.{and_parts, eq-eqb, ne_eqb, ltb-true, ltb-false, not-true}
+use Rattle.std.proofs.lemmas.Bool.{and_parts, eq-eqb, ne_eqb, ltb-true, ltb-false, not-true, cond-true, cond-false}
 use Rattle.std.proofs.lemmas.List.Sums.{sum_by-cons, sum_by-append}
 use Rattle.std.specs.List.{list_all, cons_option}
 use Rattle.vz_rules.specs.declared.entry.Returned.{Returned}
@@ -12,6 +12,8 @@ use Rattle.vz_rules.proofs.Members.{contains_cases, contains_none, contains_map,
 use Rattle.vz_rules.proofs.Counts.{count_none}
 use Rattle.vz_rules.proofs.Kept_shelves.{has_mapped, rising_map, return_mapped}
 use Rattle.vz_rules.proofs.Kept_returns.{sum_none}
+use Rattle.vz_rules.proofs.Facts.{same_when, and_true}
+use Rattle.std.proofs.lemmas.Option.{cond_some}
 
 -- the resources of a client that go back
 module _ (goes : Resource → Bool) (c : ℕ) where
@@ -24,20 +26,6 @@ module _ (goes : Resource → Bool) (c : ℕ) where
   abbrev gives : Resource → Option Returned
   gives r = cond (goes r) (Some (all_of r)) None
 
-  given_by : (t : Bool) (x : Resource) (r : Returned) → ◌≡◌ {A = Option Returned} (cond t (Some (all_of x)) None) (Some r) → (t ≡ true) × (all_of x ≡ r)
-  given_by true x r h = (refl, cc)
-  given_by false x r h = absurd (cc)
-
-  zero_counted : (t : Bool) (n : ℕ) → t ≡ false → cond t n 0 ≡ 0
-  zero_counted t n h = rw h refl
-
-  all_counted : (t : Bool) (n : ℕ) → t ≡ true → cond t n 0 ≡ n
-  all_counted t n h = rw h refl
-
-  zero_either : (t : Bool) (n : ℕ) → n ≡ 0 → cond t n 0 ≡ 0
-  zero_either true n h = h
-  zero_either false n h = refl
-
   same_either : (t : Bool) (n m : ℕ) → n ≡ m → cond t n 0 ≡ cond t m 0
   same_either t n m h = ap (λ k. cond t k 0) h
 
@@ -46,8 +34,8 @@ module _ (goes : Resource → Bool) (c : ℕ) where
   sum_above n rs h =
       sum_none (count_of n) (filter_map gives rs) (λ r p.
       let m = filter_map_at gives rs r p in
-      let e : m.0.id ≡ r.id = ap (λ (x : Returned). x.id) (given_by (goes m.0) m.0 r m.2).1 in
-      zero_counted (r.id == n) r.count (ne_eqb r.id n (λ d. omega (arith, d, e, ltb-true n m.0.id (all_at (λ (t : Resource). nat_lt n t.id) rs m.0 h m.1)))))
+      let e : m.0.id ≡ r.id = ap (λ (x : Returned). x.id) (cond_some (goes m.0) (all_of m.0) r m.2).1 in
+      cond-false (r.id == n) r.count 0 (ne_eqb r.id n (λ d. omega (arith, d, e, ltb-true n m.0.id (all_at (λ (t : Resource). nat_lt n t.id) rs m.0 h m.1)))))
 
   sum_first : (f : Returned → ℕ) (t : Bool) (x : Resource) (ys : List Returned)
       → sum_by f (cons_option (cond t (Some (all_of x)) None) ys) ≡ cond t (f (all_of x)) 0 + sum_by f ys
@@ -62,12 +50,12 @@ module _ (goes : Resource → Bool) (c : ℕ) where
       elim (contains_cases x r rs p) [
         | inl e ↦ subst (λ (y : Resource). sum_by (count_of y.id) (filter_map gives (x ∷ rs)) ≡ cond (goes y) (y.lent - y.queued) 0) e (
             let rest = sum_above x.id rs up.0 in
-            let first = same_either (goes x) (cond (x.id == x.id) (x.lent - x.queued) 0) (x.lent - x.queued) (all_counted (x.id == x.id) (x.lent - x.queued) (eq-eqb x.id x.id refl)) in
+            let first = same_either (goes x) (cond (x.id == x.id) (x.lent - x.queued) 0) (x.lent - x.queued) (cond-true (x.id == x.id) (x.lent - x.queued) 0 (eq-eqb x.id x.id refl)) in
             omega (arith, sum_first (count_of x.id) (goes x) x (filter_map gives rs), rest, first)
             )
         | inr m ↦
             let l = ltb-true x.id r.id (all_at (λ (t : Resource). nat_lt x.id t.id) rs r up.0 m) in
-            let first = zero_either (goes x) (cond (x.id == r.id) (x.lent - x.queued) 0) (zero_counted (x.id == r.id) (x.lent - x.queued) (ne_eqb x.id r.id (λ d. omega (arith, d, l)))) in
+            let first = same_when (λ (k : ℕ). k) (goes x) (cond (x.id == r.id) (x.lent - x.queued) 0) 0 (cond-false (x.id == r.id) (x.lent - x.queued) 0 (ne_eqb x.id r.id (λ d. omega (arith, d, l)))) in
             omega (arith, sum_first (count_of r.id) (goes x) x (filter_map gives rs), first, sum_given rs r up.1 m)
       ]
 
@@ -118,7 +106,7 @@ shelf_given_by goes holding subs c back h =
             | inl q ↦ h.returns r q
             | inr q ↦
                 let m = filter_map_at (gives goes c.number) c.resources r q in
-                let g = given_by goes c.number (goes m.0) m.0 r m.2 in
+                let g = cond_some (goes m.0) (all_of goes c.number m.0) r m.2 in
                 subst (λ x. KeepsReturn c.number c.resources x) g.1 (record { client = refl; some = omega (arith, (back m.0 g.0).0); known = (m.0, m.1, refl) })
           ]);
     }
@@ -137,10 +125,6 @@ back_by w c r h =
 pub shelf_given : (w : World) (c : Client) → KeepsShelf (holds w) w.subs c → KeepsShelf (holds w) w.subs (queue_returns w c)
 shelf_given w c h = shelf_given_by (goes_back w c.number) (holds w) w.subs c (back_by w c.number) h
 
-and_false : (a : Bool) → (a && true) ≡ false → a ≡ false
-and_false true h = absurd (cc)
-and_false false h = refl
-
 within : (a b : ℕ) → nat_lt a b ≡ false → a ≤ b → a ≡ b
 within a b h l = omega (arith, ltb-false a b h)
 
@@ -148,7 +132,7 @@ none_out_by : (t held : Bool) (r : Resource) → (nat_lt r.queued r.lent && not 
     → (cond t (record r { queued = r.lent }) r).queued ≡ (cond t (record r { queued = r.lent }) r).lent
 none_out_by true held r e l h = refl
 none_out_by false true r e l h = absurd (cc)
-none_out_by false false r e l h = within r.queued r.lent (and_false (nat_lt r.queued r.lent) e) l
+none_out_by false false r e l h = within r.queued r.lent (sym (and_true (nat_lt r.queued r.lent)) ∙ e) l
 
 -- nothing is out then of what is not held
 pub none_out_given : (w : World) (c : Client) (s : Resource) → KeepsShelf (holds w) w.subs c → Contains (queue_returns w c).resources s

@@ -1,5 +1,5 @@
 -- A drawing stays on the display: what its walk sees does, and so does its damage.
-use Rattle.std.proofs.Common.{◌≡◌, ℕ, zero, suc, ℤ, pos, ◌+ℤ◌, ◌≤ℤ◌, ◌+◌, Bool, true, false, ◌&&◌, inl, inr, Option, Some, None, List, [], ◌∷◌, ◌++◌, length, get_or, refl, ap, ◌∙◌, arith, cond, subst, Contains, flat_map, is_some}
+use Rattle.std.proofs.Common.{◌≡◌, ℕ, zero, suc, ℤ, pos, ◌+ℤ◌, ◌≤ℤ◌, ◌+◌, Bool, true, false, ◌&&◌, inl, inr, Option, Some, None, List, [], ◌∷◌, ◌++◌, length, get_or, refl, ap, ◌∙◌, arith, subst, Contains, flat_map, is_some}
 use Rattle.std.specs.Prelude.{int_le, int_lt}
 use Rattle.std.proofs.lemmas.List.Elements.{Contains-get_or}
 use Rattle.std.proofs.lemmas.Int.{ints}
@@ -22,6 +22,7 @@ use Rattle.vz_rules.specs.Walk.{Placement, Visit, Quad, Shows, Enters, WalkNamed
 use Rattle.vz_rules.specs.Damage.{is_switched, claims_of, claims, damage_at, drawn_damage}
 use Rattle.vz_rules.specs.Log.{has_text_damage}
 use Rattle.vz_rules.proofs.Members.{contains_here, contains_there, contains_none, contains_cases, append_contains}
+use Rattle.std.proofs.lemmas.Bool.{cond_both}
 
 -- the window of a place is on the display
 abbrev IsOn : Size → Placement → Type 0
@@ -135,17 +136,13 @@ AllCovered size rs = (r : Rectangle) → Contains rs r → Covers (sized size) r
 one_covered : (size : Size) (r : Rectangle) → Covers (sized size) r → AllCovered size (r ∷ [])
 one_covered size r h s c = elim (contains_cases r s [] c) [ inl e ↦ subst (Covers (sized size)) e h | inr k ↦ absurd (contains_none s k) ]
 
-either_covered : (size : Size) (t : Bool) (rs ss : List Rectangle) → AllCovered size rs → AllCovered size ss → AllCovered size (cond t rs ss)
-either_covered size true rs ss h k = h
-either_covered size false rs ss h k = k
-
 none_covered : (size : Size) → AllCovered size []
 none_covered size s c = absurd (contains_none s c)
 
 claim_covered : (size : Size) (a : Aggregation) (accepted : List FrameData) (m : Visit) → IsMetOn size m → AllCovered size (claims_of a accepted m)
 unfolding claims_of
 claim_covered size a accepted Quad h = none_covered size
-claim_covered size a accepted (Shows range shows seen) h = either_covered size (is_switched a range shows) (seen ∷ []) [] (one_covered size seen h) (none_covered size)
+claim_covered size a accepted (Shows range shows seen) h = cond_both (is_switched a range shows) (seen ∷ []) [] (AllCovered size) (λ e. (one_covered size seen h)) (λ e. (none_covered size))
 claim_covered size a accepted (Enters depth i place) h =
     one_covered size (damage_at a accepted i place)
     (covers_more (sized size) place.window _ h (covers_more place.window _ _ (meet_is_covered place.window _).0 (meet_is_covered _ _).0))
@@ -164,7 +161,7 @@ claims_covered : (size : Size) (o : Option Aggregation) (accepted : List FrameDa
 unfolding claims
 claims_covered size None accepted root walked h = one_covered size (sized size) (λ p e. e)
 claims_covered size (Some a) accepted root walked h =
-    either_covered size (same_surface a.root root) (flat_map (claims_of a accepted) walked) (sized size ∷ []) (flat_covered size a accepted walked h) (one_covered size (sized size) (λ p e. e))
+    cond_both (same_surface a.root root) (flat_map (claims_of a accepted) walked) (sized size ∷ []) (AllCovered size) (λ e. (flat_covered size a accepted walked h)) (λ e. (one_covered size (sized size) (λ p e. e)))
 
 -- the damage of a drawing is on the display
 pub damage_covered : (size : Size) (o : Option Aggregation) (accepted : List FrameData) (scene : Scene)

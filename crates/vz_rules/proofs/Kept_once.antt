@@ -63,11 +63,6 @@ on_created w h i c =
 
 -- What is reached stays reached
 
-frame_id : (o : Option FrameData) (i : FrameData) (z : SurfaceId) → o ≡ Some i → ◌≡◌ {A = Option SurfaceId} (elim o [ Some i ↦ Some i.id | None ↦ None ]) (Some z)
-    → i.id ≡ z
-frame_id None i z e h = absurd (cc)
-frame_id (Some j) i z e h = let same : j ≡ i = cc in let id : j.id ≡ z = cc in ap (λ (k : FrameData). k.id) (sym same) ∙ id
-
 pub shows_id : (o : Option FrameData) (i : FrameData) → o ≡ Some i → ◌≡◌ {A = Option SurfaceId} (elim o [ Some i ↦ Some i.id | None ↦ None ]) (Some i.id)
 shows_id o i e = ap (λ (p : Option FrameData). elim p as (λ p. Option SurfaceId) [ Some i ↦ Some i.id | None ↦ None ]) e
 

@@ -1,10 +1,9 @@
 -- What a world keeps of its plan, through each step.
-use Rattle.std.proofs.Common.{◌≡◌, ℕ, zero, suc, ◌+◌, ◌≤◌, Bool, true, false, ◌&&◌, ◌||◌, inl, inr, Some, List, [], ◌∷◌, ◌++◌, map, length, refl, ap, sym, ◌∙◌, arith, cond, subst, slice_get, Contains}
+use Rattle.std.proofs.Common.{◌≡◌, ℕ, zero, suc, ◌+◌, ◌≤◌, ◌&&◌, ◌||◌, inl, inr, Some, List, [], ◌∷◌, ◌++◌, map, length, refl, ap, sym, ◌∙◌, arith, subst, slice_get, Contains}
 use Rattle.std.specs.List.{list_any}
 use Rattle.std.proofs.lemmas.List.{length-map}
 use Rattle.vz_ids.specs.declared.Sub.{Sub}
 use Rattle.vz_frame.specs.declared.message.ClientFile.{ClientFile}
-use Rattle.vz_rules.specs.declared.entry.State.TheVariants.{Active, Past, Dropped}
 use Rattle.vz_rules.specs.Plan.{Plan}
 use Rattle.vz_rules.specs.World.{World, Client, Resource, Submission, is_waiting, is_active, is_on}
 use Rattle.vz_rules.specs.Settle.{is_ready, ready, after_round, round, rounds, settle}
@@ -12,6 +11,7 @@ use Rattle.vz_rules.specs.Reach.{naming, drop_on, lost_in, clearing, collect}
 use Rattle.vz_rules.specs.Returns.{goes_back, queue_resource, queue_returns, give_back, mark_fed, feed}
 use Rattle.vz_rules.specs.Kept.{KeepsFiles, KeepsIds, DueSoon, KeepsPlan}
 use Rattle.vz_rules.proofs.Members.{at_map, at_contains, contains_at, contains_map, contains_push}
+use Rattle.vz_rules.proofs.Facts.{same_when, same_either}
 
 -- The clients and their files
 
@@ -56,17 +56,12 @@ due_push subs new now l h s c = elim (contains_push subs new s c) [ inl m ↦ h 
 
 -- What follows a change
 
-round_due : (b u : Bool) (s : Submission) → (cond b (record s { state = Active; was_active = true }) (cond u (record s { state = Past }) s)).due ≡ s.due
-round_due true u s = refl
-round_due false true s = refl
-round_due false false s = refl
-
 pub plan_round : (p : Plan) (w : World) → KeepsPlan p w → KeepsPlan p (round w)
 unfolding round
 plan_round p w h =
     record {
       files = h.files;
-      due = due_map (after_round (is_ready w) (ready w)) w.subs w.tick (λ s. round_due (is_ready w s) (is_active s && list_any (is_on s.submitted.id) (ready w)) s) h.due;
+      due = due_map (after_round (is_ready w) (ready w)) w.subs w.tick (λ s. same_either (λ (x : Submission). x.due) (is_ready w s) (is_active s && list_any (is_on s.submitted.id) (ready w)) _ _ s refl refl) h.due;
     }
 
 plan_rounds : (p : Plan) (n : ℕ) (w : World) → KeepsPlan p w → KeepsPlan p (rounds n w)
@@ -82,19 +77,11 @@ pub plan_naming : (p : Plan) (w : World) → KeepsPlan p w → KeepsPlan p (nami
 unfolding naming
 plan_naming p w h = record { files = h.files; due = h.due }
 
-drop_due : (t : Bool) (s : Submission) → (cond t (record s { state = Dropped }) s).due ≡ s.due
-drop_due true s = refl
-drop_due false s = refl
-
 pub plan_collect : (p : Plan) (w : World) → KeepsPlan p w → KeepsPlan p (collect w)
 unfolding collect clearing naming
 plan_collect p w h =
     let lost = lost_in (naming w) in
-    record { files = h.files; due = due_map (drop_on lost) w.subs w.tick (λ s. drop_due ((is_waiting s || is_active s) && list_any (λ c. is_on c.id s) lost) s) h.due }
-
-queue_id : (t : Bool) (r : Resource) → (cond t (record r { queued = r.lent }) r).id ≡ r.id
-queue_id true r = refl
-queue_id false r = refl
+    record { files = h.files; due = due_map (drop_on lost) w.subs w.tick (λ s. same_when (λ (x : Submission). x.due) ((is_waiting s || is_active s) && list_any (λ c. is_on c.id s) lost) _ s refl) h.due }
 
 pub plan_given : (p : Plan) (w : World) → KeepsPlan p w → KeepsPlan p (give_back w)
 unfolding give_back
@@ -103,7 +90,7 @@ plan_given p w h =
       files = files_keep p.files w.clients (queue_returns w) (λ n c q. record {
         sink = refl;
         taken = λ f r l. l;
-        ids = ids_map (queue_resource w c.number) c (queue_returns w c) (λ r. queue_id (goes_back w c.number r) r) refl;
+        ids = ids_map (queue_resource w c.number) c (queue_returns w c) (λ r. same_when (λ (x : Resource). x.id) (goes_back w c.number r) _ r refl) refl;
       }) h.files;
       due = h.due;
     }

@@ -1,43 +1,21 @@
 -- What a world keeps of its plan, from the first world on and through each history.
-use Rattle.std.proofs.Common.{◌≡◌, ℕ, ◌+◌, Bool, true, false, not, ◌&&◌, ◌==◌, Option, Some, None, List, [], ◌∷◌, length, refl, ap, sym, ◌∙◌, arith, cond, subst, slice_get, Contains}
-use Rattle.std.specs.Prelude.{is_some}
-use Rattle.vz_geom.specs.Rectangle.{is_empty_rect}
+use Rattle.std.proofs.Common.{◌≡◌, ℕ, ◌+◌, Bool, true, false, not, ◌&&◌, ◌==◌, Option, Some, List, [], ◌∷◌, length, refl, ap, sym, ◌∙◌, arith, cond, subst, slice_get, Contains}
 use Rattle.vz_frame.specs.declared.message.ClientFile.{ClientFile}
-use Rattle.vz_frame.specs.declared.message.Message.{Message}
 use Rattle.vz_rules.specs.declared.entry.Event.{Event}
-use Rattle.vz_rules.specs.declared.entry.Event.TheVariants as event
 use Rattle.vz_rules.specs.declared.entry.Entry.{Entry}
-use Rattle.vz_rules.specs.declared.entry.Reply.TheVariants as reply
-use Rattle.vz_rules.specs.declared.entry.Refusal.TheVariants as refusal
 use Rattle.vz_rules.specs.Plan.{Plan, IsPlan}
-use Rattle.vz_rules.specs.World.{World, Client, Scene, client_at, next_message, new_clients, opening}
-use Rattle.vz_rules.specs.Scene.{scene_of}
-use Rattle.vz_rules.specs.Walk.{walk_of, too_much}
-use Rattle.vz_rules.specs.Damage.{drawn_damage}
-use Rattle.vz_rules.specs.Messages.{says, refused, message_answer, known_client_answer, client_answer}
-use Rattle.vz_rules.specs.Step.{next_tick, is_attached, deliver, begin_answer, scene_answer, draw_answer, done_answer, answer_to, accepted_frames, outcome_of, step_in, presented_by, world_from, world}
+use Rattle.vz_rules.specs.World.{World, Client, new_clients, opening}
+use Rattle.vz_rules.specs.Step.{next_tick, is_attached, deliver, begin_answer, answer_to, outcome_of, step_in, presented_by, world_from, world}
 use Rattle.vz_rules.specs.Kept.{KeepsAlways, Keeps, KeepsPlan}
-use Rattle.vz_rules.proofs.Members.{contains_none, contains_at, find_at}
+use Rattle.vz_rules.proofs.Members.{contains_none, contains_at}
 use Rattle.vz_rules.proofs.Kept_steps.{tick_by}
 use Rattle.vz_rules.proofs.Kept_first.{client_at_first, keeps_first}
 use Rattle.vz_rules.proofs.Kept_between.{keeps_step}
 use Rattle.vz_rules.proofs.Kept_plan.{FollowsFile, files_keep, due_later, plan_end}
-use Rattle.vz_rules.proofs.Kept_files.{Plans, has_room, plans_by, plans_refused, plans_message}
+use Rattle.vz_rules.proofs.Kept_files.{Plans, plans_client}
+use Rattle.vz_rules.proofs.Cases.{answer_cases}
 
 -- The events
-
-known_by : (p : Plan) (w : World) (c : Client) (o : Option Message) → next_message p c ≡ o → IsPlan p → Contains w.clients c → KeepsAlways w → KeepsPlan p w
-    → Plans p (elim o [ None ↦ says (reply.Refused refusal.NoMessage) w | Some m ↦ cond c.closed (refused w c refusal.AlreadyClosed) (message_answer w c m) ])
-known_by p w c None e is q a h = h
-known_by p w c (Some m) e is q a h =
-    let room = has_room p w c m a.clients q e in
-    plans_by p c.closed (refused w c refusal.AlreadyClosed) (message_answer w c m) (plans_refused p w c refusal.AlreadyClosed room h) (plans_message p w c m is e room a h)
-
-client_by : (p : Plan) (w : World) (n : ℕ) (o : Option Client) → client_at w n ≡ o → IsPlan p → KeepsAlways w → KeepsPlan p w
-    → Plans p (elim o [ None ↦ says (reply.Refused refusal.NoMessage) w | Some x ↦ known_client_answer p w x ])
-unfolding known_client_answer
-client_by p w n None e is a h = h
-client_by p w n (Some c) e is a h = known_by p w c (next_message p c) refl is (find_at (λ (x : Client). x.number == n) w.clients c e).0 a h
 
 delivered_file : (t : Bool) (files : List ClientFile) (n now : ℕ) (c : Client) → FollowsFile files n c (cond t (record c { delivered = Some now }) c)
 delivered_file true files n now c = record { sink = refl; taken = λ f r l. l; ids = λ i. i }
@@ -52,24 +30,14 @@ plans_begin p w a h =
       due = due_later w.subs w.tick next (tick_by (w.tick == 4294967231) w.tick refl a.time.tick).0 h.due;
     }
 
-plans_scene : (p : Plan) (w : World) (scene : Scene) → KeepsPlan p w → Plans p (scene_answer p w scene)
-unfolding scene_answer
-plans_scene p w scene h =
-    plans_by p (too_much (walk_of p.size scene)) _ _ h
-    (plans_by p (is_some w.last && is_empty_rect (drawn_damage p.size w.last (accepted_frames w) scene.root (walk_of p.size scene))) _ _
-    (record { files = h.files; due = h.due }) (record { files = h.files; due = h.due }))
-
-seen_by : (p : Plan) (w : World) (o : Option Scene) → KeepsPlan p w → Plans p (elim o [ Some scene ↦ scene_answer p w scene | None ↦ says reply.NoRoot w ])
-seen_by p w None h = h
-seen_by p w (Some scene) h = plans_scene p w scene h
-
 pub plans_answer : (p : Plan) (w : World) (e : Event) → IsPlan p → KeepsAlways w → KeepsPlan p w → KeepsPlan p (answer_to p w e).world
-unfolding answer_to client_answer draw_answer done_answer
-plans_answer p w (event.Client c) is a h = client_by p w c (client_at w c) refl is a h
-plans_answer p w event.Begin is a h = plans_begin p w a h
-plans_answer p w event.Draw is a h = plans_by p (is_some w.in_flight) _ _ h (seen_by p w (scene_of w) h)
-plans_answer p w event.Done is a h = plans_by p (is_some w.in_flight) _ _ (record { files = h.files; due = h.due }) h
-plans_answer p w event.Over is a h = record { files = h.files; due = h.due }
+plans_answer p w e is a h =
+    answer_cases p w (λ d x. Plans p x) (λ n. plans_client p w n is a h) (record {
+      begins = plans_begin p w a h;
+      draws = λ r quiet last in_flight. record { files = h.files; due = h.due };
+      dones = λ r quiet in_flight. record { files = h.files; due = h.due };
+      overs = record { files = h.files; due = h.due };
+    }) e
 
 -- Histories
 

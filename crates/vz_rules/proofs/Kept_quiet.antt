@@ -2,7 +2,7 @@
 use Rattle.std.proofs.Common.{◌≡◌, ℕ, zero, suc, Bool, true, false, not, ◌&&◌, ◌||◌, Option, Some, None, List, [], ◌∷◌, ◌++◌, map, filter_map, flat_map, length, append-nil, is_none, refl, ap, ◌∙◌, arith, cond, Contains}
 use Rattle.std.specs.Prelude.{nat_lt}
 use Rattle.std.specs.List.{cons_option}
-use Rattle.std.proofs.lemmas.Bool.{ltb-true, false_from_ne_true}
+use Rattle.std.proofs.lemmas.Bool.{ltb-true, false_from_ne_true, cond-false}
 use Rattle.vz_ids.specs.declared.Sub.{Sub}
 use Rattle.vz_rules.specs.declared.entry.Reply.{Reply}
 use Rattle.vz_rules.specs.declared.entry.Fed.{Fed}
@@ -18,6 +18,7 @@ use Rattle.vz_rules.specs.Kept.{Keeps, no_effects}
 use Rattle.vz_rules.proofs.Settled.{round_stays, rounds_stay}
 use Rattle.vz_rules.proofs.Members.{contains_here, contains_there, all_at, map_fixed}
 use Rattle.vz_rules.proofs.Kept_collected.{collect_stays}
+use Rattle.vz_rules.proofs.Facts.{or_false}
 
 filter_map_none : {A B : Type 0} (h : A → Option B) (xs : List A) → ((x : A) → Contains xs x → h x ≡ None) → filter_map h xs ≡ []
 filter_map_none h [] e = refl
@@ -62,21 +63,13 @@ nothing_goes w h c s p q =
     goes_by (nat_lt s.queued s.lent) (is_held w c.number s.id) (λ e.
     false_from_ne_true (nat_lt s.queued s.lent) (λ l. omega (arith, ltb-true s.queued s.lent l, h.none_out c s p q e)))
 
-queue_by : (t : Bool) (s : Resource) → t ≡ false → cond t (record s { queued = s.lent }) s ≡ s
-queue_by true s e = absurd (cc)
-queue_by false s e = refl
-
-return_by : (t : Bool) (r : Returned) → t ≡ false → ◌≡◌ {A = Option Returned} (cond t (Some r) None) None
-return_by true r e = absurd (cc)
-return_by false r e = refl
-
 no_returns : (w : World) → Keeps w → (c : Client) → Contains w.clients c → returns_of w c ≡ []
-no_returns w h c p = filter_map_none (return_of w c.number) c.resources (λ s q. return_by (goes_back w c.number s) _ (nothing_goes w h c s p q))
+no_returns w h c p = filter_map_none (return_of w c.number) c.resources (λ s q. cond-false (goes_back w c.number s) (Some _) None (nothing_goes w h c s p q))
 
 client_stays : (w : World) → Keeps w → (c : Client) → Contains w.clients c → queue_returns w c ≡ c
 client_stays w h c p =
     ap (λ l. record c { resources = l; queue = c.queue ++ returns_of w c })
-    (map_fixed (queue_resource w c.number) c.resources (λ s q. queue_by (goes_back w c.number s) s (nothing_goes w h c s p q)))
+    (map_fixed (queue_resource w c.number) c.resources (λ s q. cond-false (goes_back w c.number s) _ s (nothing_goes w h c s p q)))
     ∙ ap (λ l. record c { queue = l }) (ap (λ l. c.queue ++ l) (no_returns w h c p) ∙ append-nil c.queue)
 
 pub give_back_stays : (w : World) → Keeps w → give_back w ≡ w
@@ -103,12 +96,8 @@ no_feedback w h s c =
     (record { sub = sub_of s; presented = true }) (record { sub = sub_of s; presented = false })
     (all_at (λ (x : Submission). x.fed || is_waiting x || is_active x || is_in_flight w.in_flight (sub_of x)) w.subs s h.open_ones c)
 
-or_no : (a : Bool) → (a || false) ≡ a
-or_no true = refl
-or_no false = refl
-
 sub_stays : (w : World) → Keeps w → (s : Submission) → Contains w.subs s → mark_fed w [] s ≡ s
-sub_stays w h s c = ap (λ t. record s { fed = t }) (ap (λ (o : Option Fed). s.fed || not (is_none o)) (no_feedback w h s c) ∙ or_no s.fed)
+sub_stays w h s c = ap (λ t. record s { fed = t }) (ap (λ (o : Option Fed). s.fed || not (is_none o)) (no_feedback w h s c) ∙ or_false s.fed)
 
 pub feed_stays : (w : World) → Keeps w → feed [] w ≡ w
 unfolding feed

@@ -2,8 +2,9 @@
 use Rattle.std.proofs.Common.{◌≡◌, ◌+◌, Bool, true, false, not, ◌&&◌, ◌||◌, inl, inr, Option, Some, None, List, [], ◌∷◌, map, filter, filter_map, refl, ap, sym, ◌∙◌, cond, subst, Contains}
 use Rattle.std.specs.Prelude.{nat_lt}
 use Rattle.std.specs.List.{list_any}
-use Rattle.std.proofs.lemmas.Bool.{and_parts, and_from, or_cases, or_left, or_right, both_ways, not-true, false_from_ne_true}
+use Rattle.std.proofs.lemmas.Bool.{and_parts, and_from, or_cases, or_left, or_right, both_ways, not-true, false_from_ne_true, cond-true}
 use Rattle.vz_ids.specs.declared.SurfaceId.{SurfaceId}
+use Rattle.vz_ids.specs.declared.SurfaceRange.{SurfaceRange}
 use Rattle.vz_ids.specs.Ids.{same_surface}
 use Rattle.vz_rules.specs.World.{World, Surface, FrameData, Submission, active_frames, frame_on, is_active}
 use Rattle.vz_rules.specs.Scene.{shown}
@@ -14,9 +15,7 @@ use Rattle.vz_rules.proofs.Reached.{from_same, self_same, adding_has, reach_is_l
 use Rattle.vz_rules.proofs.Members.{contains_map, map_contains, any_at, any_from, filter_at, filter_has, filter_none, filter_map_at, filter_map_has, map_fixed}
 use Rattle.vz_rules.proofs.Kept_worlds.{stands_at, stands_from}
 use Rattle.vz_rules.proofs.Kept_once.{Cleared, unlost, reached_not_lost, reached_unlost, destroys_not, found_kept, shown_stays}
-
-has_here : (xs : List SurfaceId) (x y : SurfaceId) → Contains xs y → same_surface x y ≡ true → has_id xs x ≡ true
-has_here xs x y c e = any_from (same_surface x) xs y c e
+use Rattle.vz_rules.proofs.Facts.{same_when}
 
 -- What is reached
 
@@ -83,16 +82,22 @@ roots_stay w v x cleared k e =
 abbrev pub refers : World → Option FrameData → List SurfaceId
 refers w o = elim o [ Some i ↦ filter_map (shown w) i.frame.metadata.references | None ↦ [] ]
 
-refers_stay : (w v : World) (o : Option FrameData) (x : SurfaceId) → KeepsAlways w → Cleared w v
-    → ((z : SurfaceId) → has_id (refers w o) z ≡ true → has_id (reach w) z ≡ true)
-    → has_id (refers w o) x ≡ true → has_id (refers v o) x ≡ true
-refers_stay w v None x h cleared reached e = e
-refers_stay w v (Some i) x h cleared reached e =
+-- where a frame's ranges show in one world what they show in the other
+pub refers_alike : (u v : World) (o : Option FrameData) (x : SurfaceId) → ((i : FrameData) → o ≡ Some i → (range : SurfaceRange) → Contains i.frame.metadata.references range → shown v range ≡ shown u range)
+    → has_id (refers u o) x ≡ true → has_id (refers v o) x ≡ true
+refers_alike u v None x same e = e
+refers_alike u v (Some i) x same e =
     let refs = i.frame.metadata.references in
-    let m = any_at (same_surface x) (filter_map (shown w) refs) e in
-    let r = filter_map_at (shown w) refs m.0 m.1 in
-    let stays = shown_stays w v r.0 h cleared (λ z k. reached z (any_from (same_surface z) (filter_map (shown w) refs) z (filter_map_has (shown w) refs r.0 z r.1 k) (self_same z))) in
-    any_from (same_surface x) (filter_map (shown v) refs) m.0 (filter_map_has (shown v) refs r.0 m.0 r.1 (stays ∙ r.2)) m.2
+    let m = any_at (same_surface x) (filter_map (shown u) refs) e in
+    let r = filter_map_at (shown u) refs m.0 m.1 in
+    any_from (same_surface x) (filter_map (shown v) refs) m.0 (filter_map_has (shown v) refs r.0 m.0 r.1 (same i refl r.0 r.1 ∙ r.2)) m.2
+
+-- the ranges of a frame all of whose references are reached show what they showed
+pub ranges_stay : (w v : World) (o : Option FrameData) → KeepsAlways w → Cleared w v → ((z : SurfaceId) → has_id (refers w o) z ≡ true → has_id (reach w) z ≡ true)
+    → (i : FrameData) → o ≡ Some i → (range : SurfaceRange) → Contains i.frame.metadata.references range → shown v range ≡ shown w range
+ranges_stay w v o h cleared reached i is range c =
+    shown_stays w v range h cleared (λ z k. reached z (ap (λ x. has_id (refers w x) z) is
+    ∙ any_from (same_surface z) (filter_map (shown w) i.frame.metadata.references) z (filter_map_has (shown w) i.frame.metadata.references range z c k) (self_same z)))
 
 referenced_stay : (w v : World) (y x : SurfaceId) → KeepsAlways w → Cleared w v → has_id (reach w) y ≡ true → has_id (referenced w y) x ≡ true
     → has_id (referenced v y) x ≡ true
@@ -101,7 +106,7 @@ referenced_stay w v y x h cleared k e =
     ap (frame_on y) cleared.active
     ∙ found_kept (unlost w) y (active_frames w.subs) (λ i on. reached_unlost w i (ap (has_id (reach w)) (from_same i.id y on) ∙ k)) in
     ap (λ o. has_id (refers v o) x) same
-    ∙ refers_stay w v (frame_on y (active_frames w.subs)) x h cleared (λ z f. (reach_is_least w).closed y z k f) e
+    ∙ refers_alike w v (frame_on y (active_frames w.subs)) x (ranges_stay w v (frame_on y (active_frames w.subs)) h cleared (λ z f. (reach_is_least w).closed y z k f)) e
 
 pub reach_stays : (w v : World) → KeepsAlways w → Cleared w v → (x : SurfaceId) → has_id (reach w) x ≡ true → has_id (reach v) x ≡ true
 reach_stays w v h cleared x e =
@@ -127,11 +132,10 @@ pub lost_by : (kept : List SurfaceId) (c : Surface) (t : Bool) → is_lost kept 
 lost_by kept c true e h = absurd (cc)
 lost_by kept c false e h = (refl, h)
 
-not_lost : (m d h : Bool) → (m && not d && not h) ≡ false → m ≡ true → d ≡ false → h ≡ true
+pub not_lost : (m d h : Bool) → (m && not d && not h) ≡ false → m ≡ true → d ≡ false → h ≡ true
 not_lost true true h e p q = absurd (cc)
 not_lost true false true e p q = refl
-not_lost true false false e p q = absurd (cc)
-not_lost false d h e p q = absurd (cc)
+not_lost _ _ _ e p q = absurd (cc)
 
 -- afterwards nothing is lost
 pub none_lost_after : (w v : World) → KeepsAlways w → Cleared w v → lost_in v ≡ []
@@ -192,31 +196,20 @@ stands_back g ss id name stands h =
 abbrev pub AllNamed : World → Type 0
 AllNamed w = (c : Surface) → Contains w.surfaces c → c.destroyed ≡ false → is_named_now w c.id ≡ true → c.named ≡ true
 
-one_id : (t : Bool) (c : Surface) → (cond t (record c { named = true }) c).id ≡ c.id
-one_id true c = refl
-one_id false c = refl
-
-one_stands : (t : Bool) (c : Surface) → (cond t (record c { named = true }) c).destroyed ≡ c.destroyed
-one_stands true c = refl
-one_stands false c = refl
-
-one_named : (t : Bool) (c : Surface) → t ≡ true → (cond t (record c { named = true }) c).named ≡ true
-one_named true c e = refl
-one_named false c e = absurd (cc)
-
 pub named_after : (w : World) → AllNamed (naming w)
 unfolding naming
 named_after w c p d e =
     let m = contains_map (name_one w) w.surfaces c p in
     let t = not m.0.destroyed && is_named_now w m.0.id in
-    let stands : m.0.destroyed ≡ false = sym (one_stands t m.0) ∙ (ap (λ (x : Surface). x.destroyed) m.2 ∙ d) in
-    let id : m.0.id ≡ c.id = sym (one_id t m.0) ∙ ap (λ (x : Surface). x.id) m.2 in
+    let stands : m.0.destroyed ≡ false = sym (same_when (λ (x : Surface). x.destroyed) t _ m.0 refl) ∙ (ap (λ (x : Surface). x.destroyed) m.2 ∙ d) in
+    let id : m.0.id ≡ c.id = sym (same_when (λ (x : Surface). x.id) t _ m.0 refl) ∙ ap (λ (x : Surface). x.id) m.2 in
     let before : is_named_now w m.0.id ≡ true =
     named_is w m.0.id
     ∙ named_less (naming w).surfaces w.surfaces m.0.id (active_frames w.subs) (active_frames w.subs)
-    (λ i. stands_back (name_one w) w.surfaces i (λ x. one_id (not x.destroyed && is_named_now w x.id) x) (λ x k. sym (one_stands (not x.destroyed && is_named_now w x.id) x) ∙ k))
+    (λ i. stands_back (name_one w) w.surfaces i (λ x. same_when (λ (x : Surface). x.id) (not x.destroyed && is_named_now w x.id) _ x refl)
+    (λ x k. sym (same_when (λ (x : Surface). x.destroyed) (not x.destroyed && is_named_now w x.id) _ x refl) ∙ k))
     (λ i c. c) (sym (named_is (naming w) m.0.id) ∙ (ap (is_named_now (naming w)) id ∙ e)) in
-    ap (λ (x : Surface). x.named) (sym m.2) ∙ one_named t m.0 (and_from (not m.0.destroyed) (is_named_now w m.0.id) (ap not stands) before)
+    ap (λ (x : Surface). x.named) (sym m.2) ∙ ap (λ (x : Surface). x.named) (cond-true t (record m.0 { named = true }) m.0 (and_from (not m.0.destroyed) (is_named_now w m.0.id) (ap not stands) before))
 
 -- as it is after a collection
 pub all_named_after : (w v : World) → Cleared w v → AllNamed w → AllNamed v
@@ -227,14 +220,11 @@ all_named_after w v cleared named c p d e =
     let before : is_named_now w m.0.id ≡ true =
     named_is w m.0.id
     ∙ named_less v.surfaces w.surfaces m.0.id (active_frames v.subs) (active_frames w.subs)
-    (λ i k. stands_back (destroy (reach w)) w.surfaces i (λ x. gone_id (is_lost (reach w) x) x) (λ x k. (lost_by (reach w) x (is_lost (reach w) x) refl k).1) (ap (λ l. stands_in l i) (sym cleared.surfaces) ∙ k))
+    (λ i k. stands_back (destroy (reach w)) w.surfaces i (λ x. same_when (λ (x : Surface). x.id) (is_lost (reach w) x) _ x refl)
+    (λ x k. (lost_by (reach w) x (is_lost (reach w) x) refl k).1) (ap (λ l. stands_in l i) (sym cleared.surfaces) ∙ k))
     (λ i k. (filter_at (unlost w) (active_frames w.subs) i (subst (λ l. Contains l i) cleared.active k)).0)
     (sym (named_is v m.0.id) ∙ (ap (λ (x : Surface). is_named_now v x.id) same ∙ e)) in
     ap (λ (x : Surface). x.named) (sym same) ∙ named m.0 m.1 stays.1 before
-  where
-    gone_id : (t : Bool) (x : Surface) → (cond t (record x { destroyed = true }) x).id ≡ x.id
-    gone_id true x = refl
-    gone_id false x = refl
 
 named_stays : (t : Bool) (c : Surface) → (t ≡ true → c.named ≡ true) → cond t (record c { named = true }) c ≡ c
 named_stays true c h = ap (λ n. record c { named = n }) (sym (h refl))

@@ -17,6 +17,7 @@ use Rattle.vz_rules.proofs.Members.{contains_push, map_contains, any_at, none_at
 use Rattle.vz_rules.proofs.Counts.{count_none, count_push}
 use Rattle.vz_rules.proofs.Follow_ups.{outcome_clients}
 use Rattle.vz_rules.proofs.Reached.{from_same_sink}
+use Rattle.vz_rules.proofs.Facts.{same_when}
 
 -- Clients
 
@@ -29,14 +30,10 @@ pub relations_map : (k : Client → Client) (cs : List Client) (rs : List (Frame
 relations_map k cs rs same h =
     record { known = λ r q. let both = h.known r q in (sink_mapped k cs r.0 same both.0, sink_mapped k cs r.1 same both.1); once = h.once }
 
-taking_sink : (t : Bool) (c d : Client) → d.sink ≡ c.sink → (cond t (took d) c).sink ≡ c.sink
-taking_sink true c d e = e
-taking_sink false c d e = refl
-
 pub relations_taking : (w : World) (c : Client) (f : Client → Client) → ((x : Client) → Contains w.clients x → (f x).sink ≡ x.sink) → KeepsRelations w.clients w.relations
     → KeepsRelations (taking f c w).clients w.relations
 relations_taking w c f same h =
-    relations_map (λ x. cond (x.number == c.number) (took (f x)) x) w.clients w.relations (λ x q. taking_sink (x.number == c.number) x (f x) (same x q)) h
+    relations_map (λ x. cond (x.number == c.number) (took (f x)) x) w.clients w.relations (λ x q. same_when (λ (x : Client). x.sink) (x.number == c.number) _ x (same x q)) h
 
 -- One relation more
 

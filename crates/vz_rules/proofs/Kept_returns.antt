@@ -1,7 +1,7 @@
 -- What is kept of resources, where one is stored, where the queue is reclaimed and where references are given back.
 use Rattle.std.proofs.Common.{◌≡◌, ℕ, ◌<◌, ◌≤◌, Bool, true, false, ◌&&◌, ◌==◌, ◌⊎◌, inl, inr, List, [], ◌∷◌, refl, ap, sym, ◌∙◌, arith, cond, subst, Contains, count_by, sum_by}
 use Rattle.std.specs.Prelude.{nat_lt}
-use Rattle.std.proofs.lemmas.Bool.{and_parts, eqb-true, eqb-false, ltb-true, lt-ltb, ltb-false, cases_order, false_from_ne_true}
+use Rattle.std.proofs.lemmas.Bool.{and_parts, eqb-true, eqb-false, ltb-true, lt-ltb, ltb-false, cases_order, false_from_ne_true, cond-false}
 use Rattle.std.proofs.lemmas.List.Sums.{sum_by-cons}
 use Rattle.std.specs.List.{list_any, list_all}
 use Rattle.vz_pixels.specs.Block.{Block}
@@ -87,7 +87,7 @@ put_above n id block ss up l h =
 less : (a b : ℕ) → a ≤ b → (a ≡ b → ⊥) → a < b
 less a b l n = elim (cases_order a b) [ inl e ↦ absurd (n e) | inr r ↦ elim r [ inl k ↦ k | inr k ↦ absurd (omega arith) ] ]
 
-rising_put : (id : ℕ) (block : Block) (ss : List Resource) → AreRising ss → AreRising (put_resource id block ss)
+pub rising_put : (id : ℕ) (block : Block) (ss : List Resource) → AreRising ss → AreRising (put_resource id block ss)
 rising_put id block [] up = (refl, tt)
 rising_put id block (s ∷ ss) up =
     elim (s.id == id) as (λ (t : Bool). (s.id == id) ≡ t
@@ -148,11 +148,7 @@ never_listed holding subs c id h none s p =
 
 not_first : (a b c : Bool) → (a && c) ≡ false → ((a && b) && c) ≡ false
 not_first true true c h = h
-not_first true false c h = refl
-not_first false b c h = refl
-
-not_counted : (t : Bool) (n : ℕ) → t ≡ false → cond t n 0 ≡ 0
-not_counted t n h = rw h refl
+not_first _ _ c h = refl
 
 new_totals : (holding : Submission → Bool) (subs : List Submission) (c : Client) (id : ℕ) (block : Block) → KeepsShelf holding subs c
     → ((r : Resource) → Contains c.resources r → r.id ≡ id → ⊥) → KeepsResource holding subs c.number c.queue (new_resource id block)
@@ -169,7 +165,7 @@ new_totals holding subs c id block h none =
       in_queue = omega (
         arith,
         sum_none (count_of id) c.queue (λ r p.
-            not_counted (r.id == id) r.count (false_from_ne_true (r.id == id) (λ e. let k = (h.returns r p).known in none k.0 k.1 (k.2 ∙ eqb-true r.id id e)))),
+            cond-false (r.id == id) r.count 0 (false_from_ne_true (r.id == id) (λ e. let k = (h.returns r p).known in none k.0 k.1 (k.2 ∙ eqb-true r.id id e)))),
       );
     }
 

@@ -8,8 +8,7 @@ use Rattle.std.proofs.lemmas.List.{map-append}
 use Rattle.vz_ids.specs.declared.SurfaceId.{SurfaceId}
 use Rattle.vz_ids.specs.declared.Sub.{Sub}
 use Rattle.vz_ids.specs.Ids.{same_surface, same_sub}
-use Rattle.vz_rules.specs.declared.entry.State.{State}
-use Rattle.vz_rules.specs.declared.entry.State.TheVariants.{Waiting, Active, Past, Dropped}
+use Rattle.vz_rules.specs.declared.entry.State.TheVariants.{Active, Past}
 use Rattle.vz_rules.specs.World.{World, Surface, Submission, is_waiting, is_active, is_on, has_sub, sub_of}
 use Rattle.vz_rules.specs.Settle.{is_ready, ready, after_round, number_of, is_before, marked_by, round}
 use Rattle.vz_rules.specs.Singly.{as_one_rises, rising, all_rising}
@@ -20,23 +19,20 @@ use Rattle.vz_rules.proofs.Counts.{one_place}
 use Rattle.vz_rules.proofs.Kept_states.{on_and}
 use Rattle.vz_rules.proofs.Kept_accepted.{subs_differ}
 use Rattle.vz_rules.proofs.Kept_follows.{ready_waits}
+use Rattle.vz_rules.proofs.Facts.{same_either, or_false, plus_none, none_plus}
+use Rattle.vz_rules.proofs.Marking.{same_flip}
+use Rattle.vz_rules.proofs.Settled.{acts_not_waits}
+pub use Rattle.vz_rules.proofs.Facts.{and_false}
 
 -- a submission after these became active
 abbrev after_these : List Submission → Submission → Submission
 after_these rs = after_round (λ t. has_sub (map sub_of rs) (sub_of t)) rs
 
-self_sub : (s : Sub) → same_sub s s ≡ true
+pub self_sub : (s : Sub) → same_sub s s ≡ true
 self_sub s = and_from (s.client == s.client) (s.ordinal == s.ordinal) (eq-eqb s.client s.client refl) (eq-eqb s.ordinal s.ordinal refl)
 
 same_surfaces : (a b : SurfaceId) → same_surface a b ≡ same_surface b a
-same_surfaces a b =
-    same_tests (same_surface a b) (same_surface b a)
-    (λ e. ap (λ x. same_surface x a) (sym (from_same a b e)) ∙ self_same a)
-    (λ e. ap (λ x. same_surface x b) (sym (from_same b a e)) ∙ self_same b)
-
-or_false : (a : Bool) → (a || false) ≡ a
-or_false true = refl
-or_false false = refl
+same_surfaces a b = same_flip same_surface from_same self_same a b
 
 -- one submission, as one more becomes active: with in for being among those before, is for being the one, acts for being
 -- active, past for having one of those before on its surface, and on for being on the one's surface
@@ -57,20 +53,8 @@ one_more false false true false true t e f g h = ap (λ (a : Bool). cond (a && t
 one_more false false true false false t e f g h = ap (λ (a : Bool). cond (a && false) (record t { state = Past }) t) e
 one_more false false false past on t e f g h = ap (λ (a : Bool). cond (a && on) (record t { state = Past }) t) e
 
-frame_after : (among past : Bool) (t : Submission)
-    → (cond among (record t { state = Active; was_active = true }) (cond past (record t { state = Past }) t)).submitted ≡ t.submitted
-frame_after true past t = refl
-frame_after false true t = refl
-frame_after false false t = refl
-
 not_both : (t : Submission) → is_waiting t ≡ true → is_active t ≡ false
-not_both t h = by t.state h
-  where
-    by : (x : State) → (elim x as (λ x. Bool) [ Waiting ↦ true | _ ↦ false ]) ≡ true → (elim x as (λ x. Bool) [ Active ↦ true | _ ↦ false ]) ≡ false
-    by Waiting e = refl
-    by Active e = absurd (cc)
-    by Past e = refl
-    by Dropped e = refl
+not_both t h = false_from_ne_true (is_active t) (λ a. both_ways (is_waiting t) (acts_not_waits t.state a) h)
 
 module _ (w : World) (h : KeepsAlways w) where
   -- of one name there is one submission
@@ -107,7 +91,7 @@ module _ (w : World) (h : KeepsAlways w) where
       let past = list_any (is_on t.submitted.id) rs in
       let one = same_sub (sub_of t) (sub_of s) in
       let on = is_on s.submitted.id t in
-      let submitted = frame_after among (is_active t && past) t in
+      let submitted = same_either (λ (x : Submission). x.submitted) among (is_active t && past) _ _ t refl refl in
       ap (λ i. cond (same_sub i.sub (sub_of s)) (record (after_these rs t) { state = Active; was_active = true })
       (cond (is_active (after_these rs t) && same_surface i.id s.submitted.id) (record (after_these rs t) { state = Past }) (after_these rs t))) submitted
       ∙ (one_more among one (is_active t) past on t refl
@@ -143,9 +127,7 @@ number_map g id (c ∷ ss) names numbers =
 mark_more : (b k : Bool) (c : Surface)
     → cond (k || false) (record (cond b (record c { marked = true }) c) { marked = true }) (cond b (record c { marked = true }) c) ≡ cond (b || (k || false)) (record c { marked = true }) c
 mark_more true true c = refl
-mark_more true false c = refl
-mark_more false true c = refl
-mark_more false false c = refl
+mark_more _ _ c = refl
 
 -- one surface, as one more submission becomes active
 marks_one : (ss : List Surface) (rs : List Submission) (s : Submission) (c : Surface)
@@ -174,23 +156,13 @@ pub map_alike : {A : Type 0} (f g : A → A) (xs : List A) → ((x : A) → Cont
 map_alike f g [] h = refl
 map_alike f g (x ∷ xs) h = ap (λ y. y ∷ map f xs) (h x (contains_here x xs)) ∙ ap (λ l. g x ∷ l) (map_alike f g xs (λ y c. h y (contains_there x y xs c)))
 
-add_none : (k : ℕ) → k ≡ k + 0
-add_none k = omega arith
-
 add_more : (k n : ℕ) → k + 1 + n ≡ k + suc n
 add_more k n = omega arith
-
-none_more : (n : ℕ) → 0 + n ≡ n
-none_more n = omega arith
 
 -- each is a new one behind those before it
 abbrev Fresh : List Submission → List Submission → Type 0
 Fresh rs [] = Unit {0}
 Fresh rs (s ∷ ss) = (has_sub (map sub_of rs) (sub_of s) ≡ false) × Fresh (rs ++ s ∷ []) ss
-
-pub and_false : (a : Bool) → (a && false) ≡ false
-and_false true = refl
-and_false false = refl
 
 module _ (w : World) (h : KeepsAlways w) where
   abbrev world_after : List Submission → World
@@ -230,7 +202,7 @@ module _ (w : World) (h : KeepsAlways w) where
       → Fresh rs (filter p xs)
   fresh_from p [] rs k here before = tt
   fresh_from p (x ∷ xs) rs k here before =
-      let at : slice_get w.subs k ≡ Some x = ap (slice_get w.subs) (add_none k) ∙ here 0 x refl in
+      let at : slice_get w.subs k ≡ Some x = ap (slice_get w.subs) (plus_none k) ∙ here 0 x refl in
       let rest : (n : ℕ) (t : Submission) → slice_get xs n ≡ Some t → slice_get w.subs (k + 1 + n) ≡ Some t = λ n t e. ap (slice_get w.subs) (add_more k n) ∙ here (suc n) t e in
       let later : AllBefore rs (k + 1) = λ r c. let m = before r c in (m.0, m.1, omega (arith, m.2)) in
       elim (p x) as (λ (t : Bool). Fresh rs (cond t (x ∷ filter p xs) (filter p xs))) [
@@ -263,5 +235,5 @@ module _ (w : World) (h : KeepsAlways w) where
       ap (λ l. record w { subs = l; surfaces = map (marked_by w.surfaces risen) w.surfaces })
       (map_alike (after_round (is_ready w) risen) (after_these risen) w.subs
       (λ t q. ap (λ (b : Bool). cond b (record t { state = Active; was_active = true }) (cond (is_active t && list_any (is_on t.submitted.id) risen) (record t { state = Past }) t)) (same t q)))
-      ∙ (sym (all_after risen [] (λ r c. absurd (contains_none r c)) wait (fresh_from (is_ready w) w.subs [] 0 (λ n t e. ap (slice_get w.subs) (none_more n) ∙ e) none))
+      ∙ (sym (all_after risen [] (λ r c. absurd (contains_none r c)) wait (fresh_from (is_ready w) w.subs [] 0 (λ n t e. ap (slice_get w.subs) (sym (none_plus n)) ∙ e) none))
       ∙ ap (all_rising risen) none_after)

@@ -1,5 +1,5 @@
 -- What a world keeps of the messages that its clients sent, from the first world on and through each step.
-use Rattle.std.proofs.Common.{◌≡◌, ℕ, ◌+◌, Bool, true, false, ◌&&◌, ◌==◌, inl, inr, Some, None, List, [], ◌∷◌, map, length, refl, ap, sym, ◌∙◌, arith, cond, subst, Contains}
+use Rattle.std.proofs.Common.{◌≡◌, ℕ, Bool, true, false, ◌&&◌, ◌==◌, inl, inr, Some, None, List, [], ◌∷◌, map, length, refl, ap, sym, ◌∙◌, arith, cond, subst, Contains}
 use Rattle.std.specs.Prelude.{not}
 use Rattle.std.specs.List.{list_any}
 use Rattle.std.proofs.lemmas.List.{length-map}
@@ -11,7 +11,6 @@ use Rattle.vz_frame.specs.Frame.{frame_size}
 use Rattle.vz_frame.specs.Fits.{fits_block}
 use Rattle.vz_rules.specs.declared.entry.Event.{Event}
 use Rattle.vz_rules.specs.declared.entry.Entry.{Entry}
-use Rattle.vz_rules.specs.declared.entry.State.TheVariants.{Dropped}
 use Rattle.vz_rules.specs.Plan.{Plan, IsPlan}
 use Rattle.vz_rules.specs.World.{World, Client, FrameData, Resource, Submission, new_clients, opening, is_waiting, is_on}
 use Rattle.vz_rules.specs.Returns.{goes_back, queue_resource, queue_returns}
@@ -30,6 +29,7 @@ use Rattle.vz_rules.proofs.Kept_between.{keeps_step}
 use Rattle.vz_rules.proofs.Kept_files.{next_fits}
 use Rattle.vz_rules.proofs.Kept_related.{relations_map, relations_taking, relations_joined, relations_after}
 use Rattle.vz_rules.proofs.Kept_sent.{Sends, submit_fits, upload_fits, new_whole, sends_same, sends_map, sends_upload, blocks_taking}
+use Rattle.vz_rules.proofs.Facts.{same_when}
 
 -- what is kept but for the sizes of surfaces
 record Sent (w : World) : Type 0 where
@@ -56,19 +56,11 @@ tick_sends : (t : Bool) (now : ℕ) (c d : Client) → Sends c d → Sends c (co
 tick_sends true now c d h = record { sink = h.sink; fit = h.fit; few = h.few }
 tick_sends false now c d h = h
 
-lend_block : (t : Bool) (s : Resource) → (cond t (record s { lent = s.lent + 1 }) s).block ≡ s.block
-lend_block true s = refl
-lend_block false s = refl
-
 submit_sends : (w : World) (frame : CompositorFrame) (x : Client) → KeepsBlocks x → Sends x (submitting w frame x)
 submit_sends w frame x h =
     let lent = record x { resources = map (lend frame.resources) x.resources } in
     tick_sends (frame.metadata.ack == w.tick) w.tick x lent
-    (sends_map (lend frame.resources) x lent (λ s. lend_block (list_any (λ l. l.id == s.id) frame.resources) s) refl refl refl h)
-
-replace_frame : (t : Bool) (s : Submission) → (cond t (record s { state = Dropped }) s).submitted ≡ s.submitted
-replace_frame true s = refl
-replace_frame false s = refl
+    (sends_map (lend frame.resources) x lent (λ s. same_when (λ (x : Resource). x.block) (list_any (λ l. l.id == s.id) frame.resources) _ s refl) refl refl refl h)
 
 whole_map : (f : Submission → Submission) (subs : List Submission) → ((s : Submission) → (f s).submitted ≡ s.submitted) → ((s : Submission) → Contains subs s → IsWhole s.submitted)
     → (s : Submission) → Contains (map f subs) s → IsWhole s.submitted
@@ -83,7 +75,7 @@ sent_accepted w c local frame whole h =
     let f = replace_on (id_of c local) in
     record {
       active = λ s p. elim (contains_push (map f w.subs) (new_submission w c local frame) s p) [
-        | inl m ↦ whole_map f w.subs (λ t. replace_frame (is_waiting t && is_on (id_of c local) t) t) h.active s m
+        | inl m ↦ whole_map f w.subs (λ t. same_when (λ (x : Submission). x.submitted) (is_waiting t && is_on (id_of c local) t) _ t refl) h.active s m
         | inr e ↦ subst (λ (x : Submission). IsWhole x.submitted) e whole
       ];
       blocks = blocks_taking w c (submitting w frame) (λ x q. submit_sends w frame x (h.blocks x q)) h.blocks;
@@ -121,10 +113,6 @@ delivered_blocks : (t : Bool) (now : ℕ) (c : Client) → KeepsBlocks c → Kee
 delivered_blocks true now c h = record { fit = h.fit; few = h.few }
 delivered_blocks false now c h = h
 
-delivered_sink : (t : Bool) (now : ℕ) (c : Client) → (cond t (record c { delivered = Some now }) c).sink ≡ c.sink
-delivered_sink true now c = refl
-delivered_sink false now c = refl
-
 sent_begin : (p : Plan) (w : World) → Sent w → Sent (begin_answer p w).world
 unfolding begin_answer
 sent_begin p w h =
@@ -134,7 +122,7 @@ sent_begin p w h =
       blocks = λ d q.
           let m = contains_map (deliver p w next) w.clients d q in
           subst KeepsBlocks m.2 (delivered_blocks (is_attached p w m.0 && not m.0.closed) next m.0 (h.blocks m.0 m.1));
-      relations = relations_map (deliver p w next) w.clients w.relations (λ c q. delivered_sink (is_attached p w c && not c.closed) next c) h.relations;
+      relations = relations_map (deliver p w next) w.clients w.relations (λ c q. same_when (λ (x : Client). x.sink) (is_attached p w c && not c.closed) _ c refl) h.relations;
     }
 
 sent_answer : (p : Plan) (w : World) (e : Event) → IsPlan p → KeepsAlways w → Sent w → Sent (answer_to p w e).world
@@ -152,17 +140,13 @@ sent_answer p w e is a h =
 frame_before : (before after : List Submission) (s : Submission) → frames_of after ≡ frames_of before → Contains after s → (t : Submission) × Contains before t × (t.submitted ≡ s.submitted)
 frame_before before after s e p = contains_map frame_of before s.submitted (subst (λ (l : List FrameData). Contains l s.submitted) e (map_contains frame_of after s p))
 
-queue_block : (t : Bool) (r : Resource) → (cond t (record r { queued = r.lent }) r).block ≡ r.block
-queue_block true r = refl
-queue_block false r = refl
-
 queued_blocks : (w : World) (c : Client) → KeepsBlocks c → KeepsBlocks (queue_returns w c)
 queued_blocks w c h =
     let g = queue_resource w c.number in
     record {
       fit = λ s p.
           let m = contains_map g c.resources s p in
-          ap (λ (x : Resource). fits_block x.block) (sym m.2) ∙ (ap fits_block (queue_block (goes_back w c.number m.0) m.0) ∙ h.fit m.0 m.1);
+          ap (λ (x : Resource). fits_block x.block) (sym m.2) ∙ (ap fits_block (same_when (λ (x : Resource). x.block) (goes_back w c.number m.0) _ m.0 refl) ∙ h.fit m.0 m.1);
       few = omega (arith, length-map c.resources g, h.few);
     }
 

@@ -2,46 +2,40 @@
 use Rattle.std.proofs.Common.{◌≡◌, ℕ, zero, suc, ◌+◌, ◌≤◌, Bool, true, false, ◌&&◌, ◌==◌, inl, inr, Option, Some, None, List, [], ◌∷◌, map, length, refl, ap, sym, ◌∙◌, arith, cond, subst, slice_get, Contains, option_map, filter_map, find}
 use Rattle.std.specs.Prelude.{nat_lt, is_some}
 use Rattle.std.specs.List.{list_any, list_all, cons_option}
-use Rattle.std.proofs.lemmas.Bool.{and_parts, eqb-true, ltb-true, both_ways, not-false}
+use Rattle.std.proofs.lemmas.Bool.{and_parts, eqb-true, ltb-true, both_ways, not-false, and_from}
 use Rattle.std.proofs.lemmas.List.{length-map}
 use Rattle.vz_pixels.specs.Block.{Block}
 use Rattle.vz_ids.specs.declared.LocalSurfaceId.{LocalSurfaceId}
 use Rattle.vz_frame.specs.declared.blend.Blend.{Blend}
-use Rattle.vz_frame.specs.declared.blend.Blend.TheVariants.{Over, Src, DstIn}
+use Rattle.vz_frame.specs.declared.blend.Blend.TheVariants.{Over}
 use Rattle.vz_frame.specs.declared.frame.CompositorFrame.{CompositorFrame}
 use Rattle.vz_frame.specs.declared.frame.DrawQuad.{DrawQuad}
 use Rattle.vz_frame.specs.declared.frame.Listing.{Listing}
 use Rattle.vz_frame.specs.declared.frame.RenderPass.{RenderPass}
-use Rattle.vz_frame.specs.declared.rules.Rule.{Rule}
 use Rattle.vz_frame.specs.declared.message.Message.TheVariants.{Upload, Submit}
 use Rattle.vz_frame.specs.Fits.{fits_mode, fits_material, fits_quad, fits_pass, fits_frame, fits_local, fits_block, fits_message}
-use Rattle.vz_frame.specs.Frame.{first_broken}
-use Rattle.vz_rules.specs.declared.entry.Refusal.TheVariants as refusal
 use Rattle.vz_rules.specs.World.{World, Client, Resource, resource_in, last_created}
-use Rattle.vz_rules.specs.Messages.{took, taking, first_some, when, is_unknown, violates, has_other_size, submit_refusal, new_resource, put_resource, new_submission}
+use Rattle.vz_rules.specs.Messages.{took, taking, is_unknown, submit_refusal, new_resource, put_resource, new_submission}
 use Rattle.vz_rules.specs.Kept.{AreRising, StandsFor, IsWhole, KeepsBlocks}
 use Rattle.vz_rules.proofs.Members.{contains_here, contains_there, contains_cases, contains_none, contains_map, any_at, any_from, none_at, all_at, all_from, find_at, found}
+use Rattle.vz_rules.proofs.Cases.{not_refused}
 
 -- Formats
 
 -- what fits a format fits format 2
 mode_two : (b : Blend) → fits_mode 2 b ≡ true
 mode_two Over = refl
-mode_two Src = refl
-mode_two DstIn = refl
+mode_two _ = refl
 
 all_two : {A : Type 0} (p q : A → Bool) (xs : List A) → ((x : A) → p x ≡ true → q x ≡ true) → list_all p xs ≡ true → list_all q xs ≡ true
 all_two p q xs h k = all_from q xs (λ x c. h x (all_at p xs x k c))
 
 last_two : (a b c : Bool) → (b ≡ true → c ≡ true) → (a && b) ≡ true → (a && c) ≡ true
-last_two true b c f h = f h
-last_two false b c f h = absurd (cc)
+last_two a b c f h = let both = and_parts a b h in and_from a c both.0 (f both.1)
 
 middle_two : (a b c d : Bool) → c ≡ true → (a && b && d) ≡ true → (a && c && d) ≡ true
 middle_two true true true d e h = h
-middle_two true false true d e h = absurd (cc)
-middle_two true b false d e h = absurd (cc)
-middle_two false b c d e h = absurd (cc)
+middle_two _ _ _ d e h = absurd (cc)
 
 quad_two : (format : ℕ) (q : DrawQuad) → fits_quad format q ≡ true → fits_quad 2 q ≡ true
 unfolding fits_quad
@@ -138,19 +132,12 @@ stand_by f (x ∷ ls) h =
 
 -- A submission
 
-unrefused : (o : Option Rule) (a b c : Bool)
-    → first_some (option_map (λ rule. refusal.Malformed rule) o ∷ when a refusal.UnknownResource ∷ when b refusal.InvariantsViolation ∷ when c refusal.SizeMismatch ∷ []) ≡ None
-    → (o ≡ None) × (a ≡ false)
-unrefused (Some rule) a b c h = absurd (cc)
-unrefused None true b c h = absurd (cc)
-unrefused None false b c h = (refl, refl)
-
 -- what is accepted is whole
 pub new_whole : (w : World) (c : Client) (local : LocalSurfaceId) (frame : CompositorFrame) → AreRising c.resources → KeepsBlocks c → fits_local local ≡ true
     → fits_frame 2 frame ≡ true → submit_refusal (last_created w c.number) c.resources local frame ≡ None → IsWhole (new_submission w c local frame).submitted
 unfolding new_submission submit_refusal
 new_whole w c local frame up stored named fits good =
-    let fine = unrefused (first_broken frame) (list_any (is_unknown c.resources) frame.resources) (violates (last_created w c.number) local) (has_other_size (last_created w c.number) local frame) good in
+    let fine = not_refused (last_created w c.number) c.resources local frame good in
     let blocks = stand_by (λ (l : Listing). option_map (λ (s : Resource). s.block) (resource_in l.id c.resources)) frame.resources
     (λ l q. has_block c.resources l up stored.fit (none_at (is_unknown c.resources) frame.resources l fine.1 q)) in
     record { local = named; frame = fits; breaks_none = fine.0; as_many = blocks.0; blocks = blocks.1 }

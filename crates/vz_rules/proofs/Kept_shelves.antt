@@ -1,5 +1,5 @@
 -- What is kept of resources, where submissions change and where one is accepted.
-use Rattle.std.proofs.Common.{◌≡◌, ℕ, ◌+◌, ◌-◌, ◌≤◌, Bool, true, false, ◌&&◌, ◌==◌, inl, inr, List, [], ◌∷◌, ◌++◌, map, ap, sym, ◌∙◌, arith, cond, subst, Contains, count_by, sum_by}
+use Rattle.std.proofs.Common.{◌≡◌, ℕ, ◌+◌, ◌-◌, ◌≤◌, Bool, true, ◌&&◌, ◌==◌, inl, inr, List, [], ◌∷◌, ◌++◌, map, ap, sym, ◌∙◌, arith, cond, subst, Contains, count_by, sum_by}
 use Rattle.std.specs.Prelude.{nat_lt}
 use Rattle.std.proofs.lemmas.Bool.{and_parts, and_from}
 use Rattle.std.specs.List.{list_any}
@@ -101,10 +101,7 @@ return_mapped g c rs r name h = record { client = h.client; some = h.some; known
 
 one_less : (a b c : Bool) → cond ((a && b) && c) 1 0 ≤ cond (a && c) 1 0
 one_less true true true = omega arith
-one_less true true false = omega arith
-one_less true false true = omega arith
-one_less true false false = omega arith
-one_less false b c = omega arith
+one_less _ _ _ = omega arith
 
 lent_totals : (f : Submission → Submission) (holding more : Submission → Bool) (subs : List Submission) (new : Submission) (c : ℕ) (queue : List Returned) (g : Resource → Resource) (s : Resource)
     → ((x : Submission) → (f x).submitted ≡ x.submitted) → ((x : Submission) → Contains subs x → more (f x) ≡ true → holding x ≡ true) → Lends c new g

@@ -1,12 +1,10 @@
 -- What a world keeps all the time, as one submission becomes active or one surface is destroyed.
-use Rattle.std.proofs.Common.{◌≡◌, Bool, true, false, not, ◌&&◌, ◌||◌, ◌==◌, inl, inr, List, [], ◌∷◌, map, filter, refl, ap, sym, ◌∙◌, cond, subst, Contains}
+use Rattle.std.proofs.Common.{◌≡◌, Bool, true, false, not, ◌&&◌, ◌==◌, inl, inr, List, [], ◌∷◌, map, filter, refl, ap, sym, ◌∙◌, cond, subst, Contains}
 use Rattle.std.specs.List.{list_any}
-use Rattle.std.proofs.lemmas.Bool.{eq-eqb, and_parts, and_from, or_left, both_ways, false_from_ne_true}
+use Rattle.std.proofs.lemmas.Bool.{and_parts, and_from, or_left, both_ways, false_from_ne_true, cond-false}
 use Rattle.vz_ids.specs.declared.SurfaceId.{SurfaceId}
-use Rattle.vz_ids.specs.declared.Sub.{Sub}
 use Rattle.vz_ids.specs.Ids.{same_surface, same_sub}
-use Rattle.vz_rules.specs.declared.entry.State.{State}
-use Rattle.vz_rules.specs.declared.entry.State.TheVariants.{Waiting, Active, Past, Dropped}
+use Rattle.vz_rules.specs.declared.entry.State.TheVariants.{Active, Past}
 use Rattle.vz_rules.specs.World.{World, Surface, Submission, is_waiting, is_active, is_on, sub_of}
 use Rattle.vz_rules.specs.Settle.{after_round, is_before, marked_by}
 use Rattle.vz_rules.specs.Reach.{has_id, reach, is_lost, drop_on, lost_in}
@@ -20,9 +18,13 @@ use Rattle.vz_rules.proofs.Kept_states.{Stands, open_before, states_keep, states
 use Rattle.vz_rules.proofs.Kept_stays.{IsSafe, last_unmarked}
 use Rattle.vz_rules.proofs.Kept_accepted.{flight_keeps}
 use Rattle.vz_rules.proofs.Kept_rounds.{map_alike}
-use Rattle.vz_rules.proofs.Kept_clears.{drops, open_unlost}
+use Rattle.vz_rules.proofs.Kept_clears.{drops, open_unlost, destroyed_marks}
 use Rattle.vz_rules.proofs.Kept_facts.{surfaces_apart, subs_apart}
 use Rattle.vz_rules.proofs.Kept_worlds.{always_parts, stands_at, stands_from, stands_map, holds_from}
+use Rattle.vz_rules.proofs.Facts.{same_when, same_either, or_false}
+use Rattle.vz_rules.proofs.Kept_follows.{marked_marks}
+use Rattle.vz_rules.proofs.Settled.{acts_not_waits}
+pub use Rattle.vz_rules.proofs.Kept_rounds.{self_sub as own_sub}
 
 -- Names and states
 
@@ -36,47 +38,21 @@ apart w h s t c d e =
     let m = contains_at w.subs t d in
     at_same w.subs n.0 m.0 s t n.1 m.1 (subs_apart w n.0 m.0 s t h n.1 m.1 e)
 
-pub own_sub : (s : Sub) → same_sub s s ≡ true
-own_sub s = ap (λ (b : Bool). b && (s.ordinal == s.ordinal)) (eq-eqb s.client s.client refl) ∙ eq-eqb s.ordinal s.ordinal refl
-
 pub active_waits_not : (s : Submission) → is_active s ≡ true → is_waiting s ≡ false
-active_waits_not s e = by_state s.state e
-  where
-    by_state : (x : State) → ◌≡◌ {A = Bool} (elim x [ Active ↦ true | _ ↦ false ]) true → ◌≡◌ {A = Bool} (elim x [ Waiting ↦ true | _ ↦ false ]) false
-    by_state Waiting e = absurd (cc)
-    by_state Active e = refl
-    by_state Past e = refl
-    by_state Dropped e = refl
+active_waits_not s e = acts_not_waits s.state e
 
 -- A surface is destroyed
 
 goes_names : (c : Surface) → KeepsSurface (as_one_goes c)
 goes_names c = surface_when (λ s. record s { destroyed = true }) (λ s. same_surface s.id c.id) (record { client = λ s. refl; number = λ s. refl; id = λ s. refl; born = λ s. refl })
 
-goes_marked : (t : Bool) (s : Surface) → (t ≡ true → s.marked ≡ true) → (s.destroyed ≡ true → s.marked ≡ true) → (cond t (record s { destroyed = true }) s).destroyed ≡ true
-    → (cond t (record s { destroyed = true }) s).marked ≡ true
-goes_marked true s marked h e = marked refl
-goes_marked false s marked h e = h e
-
-goes_safe : (t : Bool) (s : Surface) → t ≡ false → IsSafe s → IsSafe (cond t (record s { destroyed = true }) s)
-goes_safe true s e h = absurd (cc)
-goes_safe false s e h = h
-
-goes_not : (t : Bool) (s : Surface) → t ≡ false → s.destroyed ≡ false → (cond t (record s { destroyed = true }) s).destroyed ≡ false
-goes_not true s e h = absurd (cc)
-goes_not false s e h = h
-
-only : (a : Bool) → (a || false) ≡ false → a ≡ false
-only true e = e
-only false e = refl
-
 -- what is open afterwards is on another surface, which stands on
 stands_on : (c : Surface) (ss : List Surface) (s : Submission) → is_open (drop_on (c ∷ []) s) ≡ true → Stands ss s.submitted.id → Stands (map (as_one_goes c) ss) s.submitted.id
 stands_on c ss s o h =
     let m = stands_at ss s.submitted.id h in
-    let other : same_surface m.0.id c.id ≡ false = ap (λ i. same_surface i c.id) (from_same m.0.id s.submitted.id m.2) ∙ only (is_on c.id s) (open_unlost (c ∷ []) s o) in
+    let other : same_surface m.0.id c.id ≡ false = ap (λ i. same_surface i c.id) (from_same m.0.id s.submitted.id m.2) ∙ sym (or_false (is_on c.id s)) ∙ (open_unlost (c ∷ []) s o) in
     stands_from (map (as_one_goes c) ss) s.submitted.id (as_one_goes c m.0) (map_contains (as_one_goes c) ss m.0 m.1) (ap (λ i. same_surface i s.submitted.id) ((goes_names c).id m.0) ∙ m.2)
-    (goes_not (same_surface m.0.id c.id) m.0 other m.3)
+    (ap (λ (x : Surface). x.destroyed) (cond-false (same_surface m.0.id c.id) _ m.0 other) ∙ m.3)
 
 pub always_going : (w : World) (c : Surface) → KeepsAlways w → IsMarked w c.id → KeepsAlways (going c w)
 unfolding going
@@ -84,10 +60,10 @@ always_going w c h marked =
     always_parts w (drop_on (c ∷ [])) (as_one_goes c) w.in_flight (record {
       submitted = (drops (c ∷ [])).submitted;
       surface = goes_names c;
-      marks = λ s p. goes_marked (same_surface s.id c.id) s (marked s p);
+      marks = λ s p. destroyed_marks (same_surface s.id c.id) s (marked s p);
       safe = λ x s p o e safe.
           let at = last_at (λ (y : Surface). y.client == x.number) w.surfaces s e in
-          goes_safe (same_surface s.id c.id) s (false_from_ne_true (same_surface s.id c.id) (λ t. both_ways s.marked safe.1 (marked s (at_contains w.surfaces at.0 s at.1.0) t))) safe;
+          (subst IsSafe (sym (cond-false (same_surface s.id c.id) _ s (false_from_ne_true (same_surface s.id c.id) (λ t. both_ways s.marked safe.1 (marked s (at_contains w.surfaces at.0 s at.1.0) t))))) safe);
       states = states_keep (drop_on (c ∷ [])) w.surfaces (map (as_one_goes c) w.surfaces) w.subs (drops (c ∷ [])) (λ s p o. stands_on c w.surfaces s o) h.states;
       flight = flight_keeps (drop_on (c ∷ [])) w.in_flight w.subs (drops (c ∷ [])).submitted h.in_flight;
       opens = λ s p. open_before (drop_on (c ∷ [])) (drops (c ∷ [])) s;
@@ -117,19 +93,6 @@ lost_marked w c h l s p e =
 
 marked_names : (ss : List Surface) (s : Submission) → KeepsSurface (marked_by ss (s ∷ []))
 marked_names ss s = surface_when (λ c. record c { marked = true }) (λ c. list_any (is_before ss c) (s ∷ [])) (record { client = λ c. refl; number = λ c. refl; id = λ c. refl; born = λ c. refl })
-
-marked_stands : (t : Bool) (c : Surface) → (cond t (record c { marked = true }) c).destroyed ≡ c.destroyed
-marked_stands true c = refl
-marked_stands false c = refl
-
-marked_marks : (t : Bool) (c : Surface) → (c.destroyed ≡ true → c.marked ≡ true) → (cond t (record c { marked = true }) c).destroyed ≡ true → (cond t (record c { marked = true }) c).marked ≡ true
-marked_marks true c h e = refl
-marked_marks false c h e = h e
-
-rises_frame : (a b : Bool) (t : Submission) → (cond a (record t { state = Active; was_active = true }) (cond b (record t { state = Past }) t)).submitted ≡ t.submitted
-rises_frame true b t = refl
-rises_frame false true t = refl
-rises_frame false false t = refl
 
 rises_open : (a b : Bool) (t : Submission) → (a ≡ true → is_open t ≡ true) → is_open (cond a (record t { state = Active; was_active = true }) (cond b (record t { state = Past }) t)) ≡ true → is_open t ≡ true
 rises_open true b t one h = one refl
@@ -175,7 +138,7 @@ module _ (w : World) (s : Submission) (h : KeepsAlways w) (here : Contains w.sub
       (states_round is_it w.surfaces w.subs (λ t e. (and_parts (is_waiting t) (same_sub (sub_of t) (sub_of s)) e).0) h.states)
 
   submitted : (t : Submission) → (as_one_rises s t).submitted ≡ t.submitted
-  submitted t = rises_frame (same_sub (sub_of t) (sub_of s)) (is_active t && is_on s.submitted.id t) t
+  submitted t = same_either (λ (x : Submission). x.submitted) (same_sub (sub_of t) (sub_of s)) (is_active t && is_on s.submitted.id t) _ _ t refl refl
 
   pub always_rising : KeepsAlways (rising s w)
   unfolding rising
@@ -187,7 +150,7 @@ module _ (w : World) (s : Submission) (h : KeepsAlways w) (here : Contains w.sub
         marks = λ c p. marked_marks (list_any (is_before w.surfaces c) (s ∷ [])) c;
         safe = λ x c p o e. last_unmarked w.clients w.surfaces (s ∷ []) c x.number h.clients h.surfaces (λ a q. elim (contains_cases s a [] q) [ inl m ↦ subst (λ y. IsCreated w.surfaces y) m (h.numbers.created s here) | inr m ↦ absurd (contains_none a m) ]) e;
         states = states_of_surfaces w.surfaces (map (marked_by w.surfaces (s ∷ [])) w.surfaces) (map (as_one_rises s) w.subs)
-            (λ id. stands_map (marked_by w.surfaces (s ∷ [])) w.surfaces id names (λ c. marked_stands (list_any (is_before w.surfaces c) (s ∷ [])) c)) rises_states;
+            (λ id. stands_map (marked_by w.surfaces (s ∷ [])) w.surfaces id names (λ c. same_when (λ (x : Surface). x.destroyed) (list_any (is_before w.surfaces c) (s ∷ [])) _ c refl)) rises_states;
         flight = flight_keeps (as_one_rises s) w.in_flight w.subs submitted h.in_flight;
         opens = λ t p. rises_open (same_sub (sub_of t) (sub_of s)) (is_active t && is_on s.submitted.id t) t
             (λ e. or_left (is_waiting t) (is_active t) (ap is_waiting (it_is t p e) ∙ waits));

@@ -1,6 +1,6 @@
 -- How great numbers get: clients have at most 4,096 messages, and each submission is one.
-use Rattle.std.proofs.Common.{◌≡◌, ℕ, zero, suc, ◌<◌, ◌≤◌, Bool, true, false, ◌==◌, inl, inr, Some, List, [], ◌∷◌, map-id, take, length, refl, ap, sym, ◌∙◌, arith, cond, subst, slice_get, Contains, count_by, sum_by}
-use Rattle.std.proofs.lemmas.Bool.{and_parts, eq-eqb}
+use Rattle.std.proofs.Common.{◌≡◌, ℕ, zero, suc, ◌<◌, ◌≤◌, Bool, true, ◌==◌, inl, inr, Some, List, [], ◌∷◌, map-id, take, length, refl, ap, sym, ◌∙◌, arith, subst, slice_get, Contains, count_by, sum_by, take-append-drop, drop}
+use Rattle.std.proofs.lemmas.Bool.{and_parts, eq-eqb, cond-true}
 use Rattle.std.proofs.lemmas.List.Sums.{sum_by-cons}
 use Rattle.vz_ids.specs.declared.SurfaceId.{SurfaceId}
 use Rattle.vz_ids.specs.Ids.{same_surface}
@@ -10,10 +10,11 @@ use Rattle.vz_rules.specs.Plan.{Plan, IsPlan}
 use Rattle.vz_rules.specs.World.{World, Client, Surface, Resource, Submission, is_on}
 use Rattle.vz_rules.specs.Kept.{KeepsAlways, KeepsPlan, HasSmallClient, IsSmallSubmission, IsSmallSurface, IsSmallResource, IsSmallReturn, is_by, is_surface_of, borrows, count_of}
 use Rattle.vz_rules.proofs.Reached.{from_same}
-use Rattle.vz_rules.proofs.Members.{contains_here, contains_there, contains_cases, contains_none, at_contains, at_within, contains_at, all_at}
+use Rattle.vz_rules.proofs.Members.{contains_cases, contains_none, at_contains, at_within, contains_at, all_at}
 use Rattle.vz_rules.proofs.Counts.{count_at, count_less}
 use Rattle.vz_rules.proofs.Kept_last.{one_owner}
 use Rattle.vz_rules.proofs.Kept_files.{file_parts}
+use Rattle.std.proofs.lemmas.List.Elements.{Contains-append_left}
 
 pub at_there : {A : Type 0} (xs : List A) (n : ℕ) → n < length xs → (x : A) × (slice_get xs n ≡ Some x)
 at_there [] n l = absurd (omega (arith, l))
@@ -24,13 +25,7 @@ pub count_weaker : {A : Type 0} (p q : A → Bool) (xs : List A) → ((x : A) �
 count_weaker p q xs h = subst (λ l. count_by p l ≤ count_by q xs) (map-id xs) (count_less (λ x. x) p q xs h)
 
 take_contains : {A : Type 0} (n : ℕ) (xs : List A) (x : A) → Contains (take n xs) x → Contains xs x
-take_contains zero xs x c = absurd (contains_none x c)
-take_contains (suc n) [] x c = c
-take_contains (suc n) (y ∷ xs) x c =
-    elim (contains_cases y x (take n xs) c) [
-      | inl e ↦ subst (λ z. Contains (y ∷ xs) z) e (contains_here y xs)
-      | inr r ↦ contains_there y x xs (take_contains n xs x r)
-    ]
+take_contains n xs x c = subst (λ l. Contains l x) (take-append-drop n xs) (Contains-append_left (take n xs) (drop n xs) x c)
 
 term_less : {A : Type 0} (f : A → ℕ) (xs : List A) (x : A) → Contains xs x → f x ≤ sum_by f xs
 term_less f [] x c = absurd (contains_none x c)
@@ -54,7 +49,7 @@ small_client p w is a h c q =
     ((omega (arith, number), omega (arith, number, within, h.files.as_many, is.few_files)), omega (arith, taken, few))
 
 -- a client of this number has few submissions
-few_of : (p : Plan) (w : World) → IsPlan p → KeepsAlways w → KeepsPlan p w → (c : Client) → Contains w.clients c → count_by (is_by c.number) w.subs ≤ 4096
+pub few_of : (p : Plan) (w : World) → IsPlan p → KeepsAlways w → KeepsPlan p w → (c : Client) → Contains w.clients c → count_by (is_by c.number) w.subs ≤ 4096
 few_of p w is a h c q = omega (arith, (a.shelves c q).taken, (small_client p w is a h c q).1)
 
 -- Surfaces
@@ -124,13 +119,9 @@ small_return p w is a h c r q m =
     let t = (a.shelves c q).totals s.0 s.1 in
     let small = small_resource p w is a h c s.0 q s.1 in
     let one = term_less (count_of s.0.id) c.queue r m in
-    let counted = counts (r.id == s.0.id) r.count (eq-eqb r.id s.0.id (sym s.2)) in
+    let counted = cond-true (r.id == s.0.id) r.count 0 (eq-eqb r.id s.0.id (sym s.2)) in
     record {
       client = subst HasSmallClient (sym k.client) (small_client p w is a h c q).0;
       id = (omega (arith, small.id.0, s.2), omega (arith, small.id.1, s.2));
       count = (k.some, omega (arith, one, counted, t.in_queue, t.queued, small.lent));
     }
-  where
-    counts : (t : Bool) (n : ℕ) → t ≡ true → cond t n 0 ≡ n
-    counts true n e = refl
-    counts false n e = absurd (cc)

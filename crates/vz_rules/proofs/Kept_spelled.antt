@@ -1,34 +1,26 @@
 -- The replies of a legal history can be spelled, and so the whole of it with its rest.
-use Rattle.std.proofs.Common.{◌≡◌, ℕ, ◌+◌, ◌≤◌, Bool, true, false, ◌&&◌, ◌==◌, Option, Some, None, List, [], ◌∷◌, refl, ap, sym, ◌∙◌, arith, cond, Contains, count_by, is_some}
+use Rattle.std.proofs.Common.{◌≡◌, ℕ, ◌+◌, ◌≤◌, true, ◌&&◌, ◌==◌, List, [], ◌∷◌, refl, ap, sym, ◌∙◌, arith, Contains, count_by, is_some}
 use Rattle.std.specs.Prelude.{nat_lt, nat_le}
 use Rattle.std.specs.List.{list_all}
-use Rattle.std.proofs.lemmas.Bool.{and_from, eqb-true, eq-eqb, le-leb, lt-ltb}
-use Rattle.vz_geom.specs.Rectangle.{is_empty_rect}
+use Rattle.std.proofs.lemmas.Bool.{and_from, eq-eqb, le-leb, lt-ltb, cond_both}
 use Rattle.vz_ids.specs.declared.LocalSurfaceId.{LocalSurfaceId}
 use Rattle.vz_ids.specs.declared.SurfaceId.{SurfaceId}
 use Rattle.vz_frame.specs.declared.frame.CompositorFrame.{CompositorFrame}
-use Rattle.vz_frame.specs.declared.message.Message.{Message}
-use Rattle.vz_frame.specs.declared.message.Message.TheVariants.{Upload, Submit, DidNotProduce, Reclaim, SetRoot, Hierarchy, Await, Close}
+use Rattle.vz_frame.specs.declared.message.Message.TheVariants.{Submit}
 use Rattle.vz_frame.specs.Fits.{fits_file}
 use Rattle.vz_rules.specs.declared.entry.Event.{Event}
 use Rattle.vz_rules.specs.declared.entry.Event.TheVariants as event
 use Rattle.vz_rules.specs.declared.entry.Entry.{Entry}
 use Rattle.vz_rules.specs.declared.entry.Reply.TheVariants as reply
-use Rattle.vz_rules.specs.declared.entry.Refusal.{Refusal}
-use Rattle.vz_rules.specs.declared.entry.Refusal.TheVariants as refusal
 use Rattle.vz_rules.specs.declared.entry.Returned.{Returned}
 use Rattle.vz_rules.specs.Plan.{Plan, IsPlan}
-use Rattle.vz_rules.specs.World.{World, Client, Scene, client_at, next_message, is_on, opening}
-use Rattle.vz_rules.specs.Scene.{scene_of}
-use Rattle.vz_rules.specs.Walk.{walk_of, too_much}
-use Rattle.vz_rules.specs.Damage.{drawn_damage}
-use Rattle.vz_rules.specs.Messages.{Answer, says, taking, refused, unless_refused, in_use, reclaim, relate, upload_answer, submit_answer, submit_refusal, accepted, new_submission, id_of, root_answer, hierarchy_answer, hierarchy_refusal, await_answer, message_answer, known_client_answer, client_answer}
-use Rattle.vz_rules.specs.Step.{next_tick, begin_answer, scene_answer, draw_answer, done_answer, answer_to, accepted_frames, outcome_of, step_in, presented_by, entry_in, world, NamesClient, LegalFrom, Legal}
+use Rattle.vz_rules.specs.World.{World, Client, is_on, opening}
+use Rattle.vz_rules.specs.Messages.{Answer, says, taking, reclaim, accepted, new_submission, id_of, client_answer}
+use Rattle.vz_rules.specs.Step.{next_tick, begin_answer, done_answer, answer_to, accepted_frames, outcome_of, step_in, presented_by, entry_in, world, NamesClient, LegalFrom, Legal}
 use Rattle.vz_rules.specs.Log.{is_log_client, is_count, has_text_return, answers_client, answers, has_text_entry, has_text_effects, rest_of, Spellable}
 use Rattle.vz_rules.specs.Kept.{KeepsAlways, KeepsPlan, Keeps, is_by}
 use Rattle.vz_rules.proofs.Reached.{from_same}
 use Rattle.vz_rules.proofs.Members.{at_contains, at_within, contains_at, find_at, all_at, all_from}
-use Rattle.vz_rules.proofs.Kept_returns.{storing}
 use Rattle.vz_rules.proofs.Kept_last.{one_client}
 use Rattle.vz_rules.proofs.Kept_steps.{tick_by, always_answer}
 use Rattle.vz_rules.proofs.Kept_first.{keeps_first, keeps_world}
@@ -38,23 +30,12 @@ use Rattle.vz_rules.proofs.Kept_planned.{plan_first, plan_step, plan_world, plan
 use Rattle.vz_rules.proofs.Kept_small.{at_there, count_weaker, small_return}
 use Rattle.vz_rules.proofs.Kept_inside.{damage_text}
 use Rattle.vz_rules.proofs.Kept_text.{count_text, return_text, effects_text, rest_text}
+use Rattle.vz_rules.proofs.Cases.{client_cases, drawing_cases}
 
 -- A client's reply
 
 abbrev Replies : ℕ → Answer → Type 0
 Replies n a = answers_client n a.reply ≡ true
-
-replies_by : (n : ℕ) (t : Bool) (a b : Answer) → Replies n a → Replies n b → Replies n (cond t a b)
-replies_by n true a b h k = h
-replies_by n false a b h k = k
-
-replies_refused : (n : ℕ) (w : World) (c : Client) (r : Refusal) → Replies n (refused w c r)
-unfolding answers_client
-replies_refused n w c r = refl
-
-replies_unless : (n : ℕ) (w : World) (c : Client) (r : Option Refusal) (a : Answer) → Replies n a → Replies n (unless_refused w c r a)
-replies_unless n w c None a h = h
-replies_unless n w c (Some r) a h = replies_refused n w c r
 
 -- a client with one more message took few
 few_taken : (p : Plan) (w : World) (c : Client) → IsPlan p → KeepsPlan p w → Contains w.clients c → HasRoom p w c → c.taken + 1 ≤ 4096
@@ -97,80 +78,39 @@ replies_reclaimed p w v n c is a h q same =
     and_from (r.client == n) (has_text_return r) (eq-eqb r.client n (((a.shelves c q).returns r m).client ∙ same))
     (return_text r.client r.id r.count small.client small.id.0 small.id.1 small.count.0 small.count.1))
 
-replies_await : (w : World) (n : ℕ) (c : Client) (d : Option ℕ) (over : Bool) → ((k : ℕ) → d ≡ Some k → k ≤ w.tick) → w.tick ≤ 4294967231
-    → Replies n (elim d [
-      | Some k ↦ says (reply.Began k) (taking (λ (x : Client). record x { delivered = None }) c w)
-      | None ↦ cond over (says reply.Over (taking (λ x. x) c w)) (says (reply.Refused refusal.NotYet) w)
-    ])
+client_replies : (p : Plan) (w : World) (n : ℕ) → IsPlan p → KeepsAlways w → KeepsPlan p w → Replies n (client_answer p w n)
 unfolding answers_client
-replies_await w n c None true l m = refl
-replies_await w n c None false l m = refl
-replies_await w n c (Some k) over l m = le-leb k 4294967295 (omega (arith, l k refl, m))
-
-message_replies : (p : Plan) (w : World) (n : ℕ) (c : Client) (m : Message) → IsPlan p → KeepsAlways w → KeepsPlan p w → Contains w.clients c → c.number ≡ n
-    → HasRoom p w c
-    → Replies n (message_answer w c m)
-unfolding message_answer upload_answer submit_answer root_answer hierarchy_answer await_answer answers_client
-message_replies p w n c (Upload id block) is a h q same room =
-    replies_by n (in_use c.resources id) (refused w c refusal.InUse) (says reply.Stored (taking (storing id block) c w)) refl refl
-message_replies p w n c (Submit local frame) is a h q same room =
-    replies_unless n w c (submit_refusal _ c.resources local frame) (accepted w c local frame) (replies_accepted p w n c local frame is a h q room)
-message_replies p w n c (DidNotProduce k) is a h q same room = refl
-message_replies p w n c Reclaim is a h q same room = replies_reclaimed p w (taking reclaim c w) n c is a h q same
-message_replies p w n c (SetRoot local) is a h q same room =
-    replies_by n (c.number == 1) (says reply.Rooted (record (taking (λ x. x) c w) { root = Some (id_of c local) })) (refused w c refusal.NotRoot) refl refl
-message_replies p w n c (Hierarchy parent child) is a h q same room =
-    replies_unless n w c (hierarchy_refusal w c parent child) (says reply.Joined (record (taking (λ x. x) c w) { relations = relate parent child w.relations })) refl
-message_replies p w n c Await is a h q same room = replies_await w n c c.delivered w.over (λ k e. a.time.delivered c k q e) a.time.tick
-message_replies p w n c Close is a h q same room = refl
-
-known_by : (p : Plan) (w : World) (n : ℕ) (c : Client) (o : Option Message) → next_message p c ≡ o → IsPlan p → KeepsAlways w → KeepsPlan p w
-    → Contains w.clients c → c.number ≡ n
-    → Replies n (elim o [ None ↦ says (reply.Refused refusal.NoMessage) w | Some m ↦ cond c.closed (refused w c refusal.AlreadyClosed) (message_answer w c m) ])
-unfolding answers_client
-known_by p w n c None e is a h q same = refl
-known_by p w n c (Some m) e is a h q same =
-    replies_by n c.closed (refused w c refusal.AlreadyClosed) (message_answer w c m) refl (message_replies p w n c m is a h q same (has_room p w c m a.clients q e))
-
-client_by : (p : Plan) (w : World) (n : ℕ) (o : Option Client) → client_at w n ≡ o → IsPlan p → KeepsAlways w → KeepsPlan p w
-    → Replies n (elim o [ None ↦ says (reply.Refused refusal.NoMessage) w | Some x ↦ known_client_answer p w x ])
-unfolding known_client_answer answers_client
-client_by p w n None e is a h = refl
-client_by p w n (Some c) e is a h =
-    let found = find_at (λ (x : Client). x.number == n) w.clients c e in
-    known_by p w n c (next_message p c) refl is a h found.0 (eqb-true c.number n found.1)
+client_replies p w n is a h =
+    client_cases p w n (Replies n) refl (λ c e number.
+    let q = (find_at (λ (x : Client). x.number == n) w.clients c e).0 in
+    record {
+      turned = λ m r timely at. refl;
+      not_yet = λ at. refl;
+      stored = λ id block free at. refl;
+      submitted = λ local frame good at. replies_accepted p w n c local frame is a h q (has_room p w c (Submit local frame) a.clients q at);
+      noted = λ k at. refl;
+      reclaimed = λ at. replies_reclaimed p w (taking reclaim c w) n c is a h q number;
+      rooted = λ local root at. refl;
+      joined = λ parent child good at. refl;
+      began = λ k d at. le-leb k 4294967295 (omega (arith, a.time.delivered c k q d, a.time.tick));
+      over = λ at. refl;
+      left = λ at. refl;
+    })
 
 -- A reply to an event
 
 abbrev Answers : Event → Answer → Type 0
 Answers e a = answers e a.reply ≡ true
 
-answers_by : (e : Event) (t : Bool) (a b : Answer) → (t ≡ true → Answers e a) → (t ≡ false → Answers e b) → Answers e (cond t a b)
-answers_by e true a b h k = h refl
-answers_by e false a b h k = k refl
-
-scene_answers : (p : Plan) (w : World) (scene : Scene) → IsPlan p → Answers event.Draw (scene_answer p w scene)
-unfolding scene_answer answers
-scene_answers p w scene is =
-    let damage = drawn_damage p.size w.last (accepted_frames w) scene.root (walk_of p.size scene) in
-    answers_by event.Draw (too_much (walk_of p.size scene)) (says reply.TooMuch w) _ (λ e. refl) (λ e.
-    answers_by event.Draw (is_some w.last && is_empty_rect damage) (says reply.Unchanged _) (says (reply.Drawn damage) _) (λ k. refl)
-    (λ k. damage_text p.size w.last (accepted_frames w) scene is.sizes k))
-
-seen_by : (p : Plan) (w : World) (o : Option Scene) → IsPlan p
-    → Answers event.Draw (elim o [ Some scene ↦ scene_answer p w scene | None ↦ says reply.NoRoot w ])
-unfolding answers
-seen_by p w None is = refl
-seen_by p w (Some scene) is = scene_answers p w scene is
-
 event_answers : (p : Plan) (w : World) (e : Event) → IsPlan p → NamesClient p e → KeepsAlways w → KeepsPlan p w → Answers e (answer_to p w e)
-unfolding answer_to client_answer begin_answer draw_answer done_answer answers
+unfolding answer_to begin_answer done_answer answers
 event_answers p w (event.Client c) is names a h =
-    and_from (is_log_client c) _ (and_from (nat_lt 0 c) (nat_le c 16) (lt-ltb 0 c names.0) (le-leb c 16 (omega (arith, names.1, is.few_files)))) (client_by p w c (client_at w c) refl is a h)
+    and_from (is_log_client c) _ (and_from (nat_lt 0 c) (nat_le c 16) (lt-ltb 0 c names.0) (le-leb c 16 (omega (arith, names.1, is.few_files)))) (client_replies p w c is a h)
 event_answers p w event.Begin is names a h =
     le-leb (next_tick w.tick) 4294967295 (omega (arith, (tick_by (w.tick == 4294967231) w.tick refl a.time.tick).1))
-event_answers p w event.Draw is names a h = answers_by event.Draw (is_some w.in_flight) (says reply.Busy w) _ (λ e. refl) (λ e. seen_by p w (scene_of w) is)
-event_answers p w event.Done is names a h = answers_by event.Done (is_some w.in_flight) (says reply.Shown _) (says reply.Nothing w) (λ e. refl) (λ e. refl)
+event_answers p w event.Draw is names a h =
+    drawing_cases p w (Answers event.Draw) refl refl (λ scene idle e. record { much = refl; unchanged = λ some none. refl; drawn = damage_text p.size w.last (accepted_frames w) scene is.sizes })
+event_answers p w event.Done is names a h = cond_both (is_some w.in_flight) _ _ (Answers event.Done) (λ e. refl) (λ e. refl)
 event_answers p w event.Over is names a h = refl
 
 -- Histories

@@ -1,6 +1,6 @@
 -- What is kept of the states of submissions: over changes that open none, over a round, and over one submission more.
 use Rattle.std.proofs.Common.{◌≡◌, ◌<◌, ◌≤◌, Bool, true, false, ◌&&◌, ◌⊎◌, inl, inr, List, map, filter, refl, ap, sym, ◌∙◌, arith, cond, subst, Contains, count_by}
-use Rattle.std.proofs.lemmas.Bool.{and_parts, and_from, or_cases, or_left, or_right, both_ways}
+use Rattle.std.proofs.lemmas.Bool.{and_parts, and_from, or_cases, or_left, or_right, both_ways, cond_both}
 use Rattle.std.specs.List.{list_any}
 use Rattle.vz_ids.specs.declared.SurfaceId.{SurfaceId}
 use Rattle.vz_ids.specs.Ids.{same_surface}
@@ -11,6 +11,7 @@ use Rattle.vz_rules.specs.Kept.{KeepsStates, is_open, stands_in}
 use Rattle.vz_rules.proofs.Reached.{from_same, self_same}
 use Rattle.vz_rules.proofs.Members.{when_same, contains_map, contains_at, at_same, any_from, filter_has}
 use Rattle.vz_rules.proofs.Counts.{count_less, one_place}
+use Rattle.vz_rules.proofs.Facts.{same_either}
 
 -- a submission changes, and is waiting or active only where it was
 pub record OpensNone (f : Submission → Submission) : Type 0 where
@@ -24,18 +25,10 @@ pub drops_when : (test : Submission → Bool) → OpensNone (λ s. cond (test s)
 drops_when test =
     record {
       submitted = λ s. when_same (λ (x : Submission). x.submitted) (λ s. record s { state = Dropped }) (test s) s refl;
-      waits = λ s. waits_not (test s) s;
-      acts = λ s. acts_not (test s) s;
+      waits = λ s. cond_both (test s) _ s (λ x. is_waiting x ≡ true → is_waiting s ≡ true) (λ e h. absurd (cc)) (λ e h. h);
+      acts = λ s. cond_both (test s) _ s (λ x. is_active x ≡ true → is_active s ≡ true) (λ e h. absurd (cc)) (λ e h. h);
       was = λ s. when_same (λ (x : Submission). x.was_active) (λ s. record s { state = Dropped }) (test s) s refl;
     }
-  where
-    waits_not : (t : Bool) (s : Submission) → is_waiting (cond t (record s { state = Dropped }) s) ≡ true → is_waiting s ≡ true
-    waits_not true s h = absurd (cc)
-    waits_not false s h = h
-
-    acts_not : (t : Bool) (s : Submission) → is_active (cond t (record s { state = Dropped }) s) ≡ true → is_active s ≡ true
-    acts_not true s h = absurd (cc)
-    acts_not false s h = h
 
 abbrev pub Stands : List Surface → SurfaceId → Type 0
 Stands ss id = stands_in ss id ≡ true
@@ -91,11 +84,6 @@ states_keep f ss more subs name stands h =
 abbrev after_by : Bool → Bool → Submission → Submission
 after_by becomes past s = cond becomes (record s { state = Active; was_active = true }) (cond past (record s { state = Past }) s)
 
-frame_by : (b u : Bool) (s : Submission) → (after_by b u s).submitted ≡ s.submitted
-frame_by true u s = refl
-frame_by false true s = refl
-frame_by false false s = refl
-
 waits_by : (b u : Bool) (s : Submission) → is_waiting (after_by b u s) ≡ true → (is_waiting s ≡ true) × (b ≡ false)
 waits_by true u s h = absurd (cc)
 waits_by false true s h = absurd (cc)
@@ -134,7 +122,7 @@ module _ (becomes : Submission → Bool) (ss : List Surface) (subs : List Submis
   ends s = is_active s && list_any (is_on s.submitted.id) risen
 
   pub frame_after : (s : Submission) → (after s).submitted ≡ s.submitted
-  frame_after s = frame_by (becomes s) (ends s) s
+  frame_after s = same_either (λ (x : Submission). x.submitted) (becomes s) (ends s) _ _ s refl refl
 
   pub open_after : (s : Submission) → is_open (after s) ≡ true → is_open s ≡ true
   open_after s o =

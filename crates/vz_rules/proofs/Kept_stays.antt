@@ -1,8 +1,8 @@
 -- The last created surface of a client that is not closed stays: over changes, over one surface more, and over a round.
-use Rattle.std.proofs.Common.{◌≡◌, ℕ, ◌≤◌, Bool, true, false, not, ◌&&◌, ◌==◌, Option, Some, None, List, [], ◌∷◌, ◌++◌, map, refl, ap, sym, ◌∙◌, arith, cond, subst, Contains, option_map, find}
+use Rattle.std.proofs.Common.{◌≡◌, ℕ, ◌≤◌, Bool, true, false, not, ◌&&◌, ◌==◌, Option, Some, None, List, [], ◌∷◌, ◌++◌, map, refl, ap, sym, ◌∙◌, arith, subst, Contains, option_map, find}
 use Rattle.std.specs.Prelude.{nat_lt}
 use Rattle.std.specs.List.{list_any}
-use Rattle.std.proofs.lemmas.Bool.{and_parts, eqb-true, eq-eqb, ltb-true, false_from_ne_true}
+use Rattle.std.proofs.lemmas.Bool.{and_parts, eqb-true, eq-eqb, ltb-true, false_from_ne_true, cond-false}
 use Rattle.vz_ids.specs.declared.SurfaceId.{SurfaceId}
 use Rattle.vz_ids.specs.Ids.{same_surface}
 use Rattle.vz_rules.specs.World.{Client, Surface, Submission}
@@ -65,23 +65,15 @@ not_before cs ss a s c hc hs d e =
     let both = and_parts (s.client == a.submitted.sub.client) (nat_lt s.number (number_of ss a)) t in
     omega (arith, ltb-true s.number (number_of ss a) both.1, never_later cs ss a s c (find (λ (x : Surface). same_surface x.id a.submitted.id) ss) hc hs d e (eqb-true s.client a.submitted.sub.client both.0) refl))
 
-marks_by : (t : Bool) (s : Surface) → t ≡ false → IsSafe s → IsSafe (cond t (record s { marked = true }) s)
-marks_by true s e h = absurd (cc)
-marks_by false s e h = h
-
 -- a round does not mark the last surface of a client
 pub last_unmarked : (cs : List Client) (ss : List Surface) (activated : List Submission) (s : Surface) (c : ℕ) → KeepsClients cs → KeepsSurfaces cs ss
     → ((a : Submission) → Contains activated a → IsCreated ss a) → last_in ss c ≡ Some s → IsSafe s → IsSafe (marked_by ss activated s)
 last_unmarked cs ss activated s c hc hs made e safe =
-    marks_by (list_any (is_before ss s) activated) s (any_none (is_before ss s) activated (λ a p. not_before cs ss a s c hc hs (made a p) e)) safe
-
-destroys_by : (t : Bool) (s : Surface) → t ≡ false → IsSafe s → IsSafe (cond t (record s { destroyed = true }) s)
-destroys_by true s e h = absurd (cc)
-destroys_by false s e h = h
+    subst IsSafe (sym (cond-false (list_any (is_before ss s) activated) _ s (any_none (is_before ss s) activated (λ a p. not_before cs ss a s c hc hs (made a p) e)))) safe
 
 -- nothing that is not marked is destroyed
 pub unmarked_stays : (kept : List SurfaceId) (s : Surface) → IsSafe s → IsSafe (destroy kept s)
-unmarked_stays kept s safe = destroys_by (is_lost kept s) s (lost_by s.marked s.destroyed _ safe.1) safe
+unmarked_stays kept s safe = subst IsSafe (sym (cond-false (is_lost kept s) _ s (lost_by s.marked s.destroyed _ safe.1))) safe
   where
     lost_by : (m d h : Bool) → m ≡ false → (m && not d && h) ≡ false
     lost_by true d h e = absurd (cc)

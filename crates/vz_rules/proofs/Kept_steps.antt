@@ -1,33 +1,25 @@
 -- What a world keeps all the time, from the first one on and through each step.
-use Rattle.std.proofs.Common.{◌≡◌, ℕ, ◌+◌, ◌≤◌, Bool, true, false, not, ◌&&◌, ◌==◌, inl, inr, Option, Some, None, List, [], ◌∷◌, map, map-id, filter, refl, ap, sym, ◌∙◌, arith, cond, subst, Contains, le_refl}
+use Rattle.std.proofs.Common.{◌≡◌, ℕ, ◌+◌, ◌≤◌, Bool, true, false, not, ◌&&◌, ◌==◌, inl, inr, Option, Some, None, List, map, map-id, filter, refl, ap, sym, ◌∙◌, arith, cond, subst, Contains, le_refl}
 use Rattle.std.specs.Prelude.{is_some}
 use Rattle.std.specs.List.{list_any}
-use Rattle.std.specs.Option.{option_and_then, option_map}
-use Rattle.std.proofs.lemmas.Bool.{eqb-false, cases_order, or_right}
-use Rattle.vz_geom.specs.Rectangle.{is_empty_rect}
-use Rattle.vz_ids.specs.declared.LocalSurfaceId.{LocalSurfaceId}
+use Rattle.std.specs.Option.{option_and_then}
+use Rattle.std.proofs.lemmas.Bool.{eqb-false, cases_order, or_right, cond_both}
 use Rattle.vz_ids.specs.declared.SurfaceId.{SurfaceId}
 use Rattle.vz_ids.specs.declared.Sub.{Sub}
 use Rattle.vz_ids.specs.Ids.{same_sub}
-use Rattle.vz_frame.specs.declared.frame.CompositorFrame.{CompositorFrame}
-use Rattle.vz_frame.specs.declared.message.Message.{Message}
-use Rattle.vz_frame.specs.declared.message.Message.TheVariants.{Upload, Submit, DidNotProduce, Reclaim, SetRoot, Hierarchy, Await, Close}
-use Rattle.vz_frame.specs.Frame.{first_broken}
 use Rattle.vz_rules.specs.Plan.{Plan}
 use Rattle.vz_rules.specs.declared.entry.Event.{Event}
 use Rattle.vz_rules.specs.declared.entry.Event.TheVariants as event
-use Rattle.vz_rules.specs.declared.entry.Reply.TheVariants as reply
-use Rattle.vz_rules.specs.declared.entry.Refusal.{Refusal}
 use Rattle.vz_rules.specs.declared.entry.Refusal.TheVariants as refusal
-use Rattle.vz_rules.specs.World.{World, Client, Scene, FrameData, Submission, client_at, next_message, active_frames, frame_on, is_active, is_waiting, is_in_flight, has_sub, sub_of, last_created}
+use Rattle.vz_rules.specs.World.{World, Client, Scene, FrameData, Submission, active_frames, frame_on, is_active, is_waiting, is_in_flight, has_sub, sub_of, last_created}
 use Rattle.vz_rules.specs.Scene.{scene_of, scene_at}
 use Rattle.vz_rules.specs.Returns.{holds, give_back}
 use Rattle.vz_rules.specs.Settle.{settle}
 use Rattle.vz_rules.specs.Reach.{collect}
-use Rattle.vz_rules.specs.Walk.{Visit, walk_of, too_much, walked_subs, goes_into}
-use Rattle.vz_rules.specs.Damage.{aggregation_of, drawn_damage}
-use Rattle.vz_rules.specs.Messages.{says, refused, violates, has_other_size, is_unknown, first_some, when, submit_refusal, submit_answer, accepted, message_answer, known_client_answer, client_answer}
-use Rattle.vz_rules.specs.Step.{next_tick, is_attached, deliver, begin_answer, scene_answer, draw_answer, done_answer, answer_to, accepted_frames, outcome_of, step_in, presented_by}
+use Rattle.vz_rules.specs.Walk.{Visit, walk_of, walked_subs, goes_into}
+use Rattle.vz_rules.specs.Damage.{aggregation_of}
+use Rattle.vz_rules.specs.Messages.{client_answer, taking, relate}
+use Rattle.vz_rules.specs.Step.{next_tick, is_attached, deliver, begin_answer, done_answer, answer_to, outcome_of, step_in, presented_by}
 use Rattle.vz_rules.specs.Kept.{KeepsAlways, stands_in}
 use Rattle.vz_rules.proofs.Members.{contains_map, contains_at, at_same, any_at, find_at, filter_at}
 use Rattle.vz_rules.proofs.Kept_shelves.{KeepsStock, shelf_of_client}
@@ -36,56 +28,31 @@ use Rattle.vz_rules.proofs.Kept_accepted.{subs_differ, flight_keeps}
 use Rattle.vz_rules.proofs.Kept_worlds.{always_besides, always_clients, always_parts, StaysClient, holds_from}
 use Rattle.vz_rules.proofs.Kept_follows.{always_settle, nothing_opens}
 use Rattle.vz_rules.proofs.Kept_clears.{always_collect, always_given, always_fed}
-use Rattle.vz_rules.proofs.Kept_messages.{Always, by_test, by_refusal, always_refused, always_upload, always_noted, always_reclaimed, always_root, always_related, always_await, always_closed}
+use Rattle.vz_rules.proofs.Kept_messages.{Always, always_refused, always_noted, always_reclaimed, always_closed, always_stored, always_begun, always_took}
 use Rattle.vz_rules.proofs.Kept_submits.{always_accepted}
+use Rattle.vz_rules.proofs.Cases.{SceneCases, open_cases, drawing_cases, not_refused}
 
 -- A client's message
 
-not_refused : (x y z : Refusal) (o : Option Refusal) (t u v : Bool) → first_some (o ∷ when t x ∷ when u y ∷ when v z ∷ []) ≡ None → (t ≡ false) × (u ≡ false)
-not_refused x y z (Some a) t u v h = absurd (cc)
-not_refused x y z None true u v h = absurd (cc)
-not_refused x y z None false true v h = absurd (cc)
-not_refused x y z None false false v h = (refl, refl)
-
-always_submit : (w : World) (c : Client) (local : LocalSurfaceId) (frame : CompositorFrame) → Contains w.clients c → c.closed ≡ false → KeepsAlways w
-    → Always (submit_answer w c local frame)
-unfolding submit_answer submit_refusal
-always_submit w c local frame p e h =
-    by_refusal w c (submit_refusal (last_created w c.number) c.resources local frame) (accepted w c local frame) h (λ none.
-    let fine = not_refused refusal.UnknownResource refusal.InvariantsViolation refusal.SizeMismatch (option_map (λ rule. refusal.Malformed rule) (first_broken frame))
-    (list_any (is_unknown c.resources) frame.resources) (violates (last_created w c.number) local) (has_other_size (last_created w c.number) local frame) none in
-    always_accepted w c local frame h p e fine.1 fine.0)
-
-always_message : (w : World) (c : Client) (m : Message) → Contains w.clients c → c.closed ≡ false → KeepsAlways w → Always (message_answer w c m)
-unfolding message_answer
-always_message w c (Upload id block) p e h = always_upload w c id block h
-always_message w c (Submit local frame) p e h = always_submit w c local frame p e h
-always_message w c (DidNotProduce n) p e h = always_noted w c n h
-always_message w c Reclaim p e h = always_reclaimed w c h
-always_message w c (SetRoot local) p e h = always_root w c local h
-always_message w c (Hierarchy parent child) p e h = always_related w c parent child h
-always_message w c Await p e h = always_await w c h
-always_message w c Close p e h = always_closed w c h
-
-open_by : (w : World) (c : Client) (m : Message) (t : Bool) → c.closed ≡ t → Contains w.clients c → KeepsAlways w
-    → Always (cond t (refused w c refusal.AlreadyClosed) (message_answer w c m))
-open_by w c m true e p h = always_refused w c refusal.AlreadyClosed h
-open_by w c m false e p h = always_message w c m p e h
-
-known_by : (p : Plan) (w : World) (c : Client) (m : Option Message) → Contains w.clients c → KeepsAlways w
-    → Always (elim m [ None ↦ says (reply.Refused refusal.NoMessage) w | Some x ↦ cond c.closed (refused w c refusal.AlreadyClosed) (message_answer w c x) ])
-known_by p w c None q h = h
-known_by p w c (Some m) q h = open_by w c m c.closed refl q h
-
-client_by : (p : Plan) (w : World) (n : ℕ) (o : Option Client) → client_at w n ≡ o → KeepsAlways w
-    → Always (elim o [ None ↦ says (reply.Refused refusal.NoMessage) w | Some x ↦ known_client_answer p w x ])
-unfolding known_client_answer
-client_by p w n None e h = h
-client_by p w n (Some c) e h = known_by p w c (next_message p c) (find_at (λ (x : Client). x.number == n) w.clients c e).0 h
-
 always_client : (p : Plan) (w : World) (n : ℕ) → KeepsAlways w → Always (client_answer p w n)
-unfolding client_answer
-always_client p w n h = client_by p w n (client_at w n) refl h
+always_client p w n h =
+    open_cases p w n Always h (λ c e number m at. always_refused w c refusal.AlreadyClosed h) (λ c e number stays.
+    let took : World = taking (λ x. x) c w in
+    record {
+      turned = λ m r timely at. always_refused w c r h;
+      not_yet = λ at. h;
+      stored = λ id block free at. always_stored w c id block h;
+      submitted = λ local frame good at.
+          let fine = not_refused (last_created w c.number) c.resources local frame good in
+          always_accepted w c local frame h (find_at (λ (x : Client). x.number == n) w.clients c e).0 stays fine.2 fine.1;
+      noted = λ k at. always_noted w c k h;
+      reclaimed = λ at. always_reclaimed w c h;
+      rooted = λ local root at. always_besides took took.last took.over root took.relations (always_took w c h);
+      joined = λ parent child good at. always_besides took took.last took.over took.root (relate parent child w.relations) (always_took w c h);
+      began = λ k d at. always_begun w c h;
+      over = λ at. always_took w c h;
+      left = λ at. always_closed w c h;
+    })
 
 -- A begin-frame
 
@@ -183,41 +150,25 @@ always_shown w scene visits e h =
     let a = walked_active w scene visits sub e (subst (λ l. Contains l sub) (sym list) c) in (a.0, a.1, a.3))
     (λ s c k. walked_held w scene visits s h e c k) h
 
-pub always_scene : (p : Plan) (w : World) (scene : Scene) → scene_of w ≡ Some scene → KeepsAlways w → Always (scene_answer p w scene)
-unfolding scene_answer
-always_scene p w scene e h =
+pub always_seen : (p : Plan) (w : World) (scene : Scene) → scene_of w ≡ Some scene → KeepsAlways w → SceneCases p w scene Always
+always_seen p w scene e h =
     let walked = walk_of p.size scene in
-    let damage = drawn_damage p.size w.last (accepted_frames w) scene.root walked in
-    let remembered = Some (aggregation_of scene walked) in
     let v : World = record w { in_flight = Some (walked_subs scene walked) } in
-    by_test (too_much walked) (says reply.TooMuch w) _ h
-    (by_test (is_some w.last && is_empty_rect damage) (says reply.Unchanged (record w { last = remembered })) (says (reply.Drawn damage) (record v { last = remembered }))
-    (always_besides w remembered w.over w.root w.relations h) (always_besides v remembered v.over v.root v.relations (always_shown w scene walked e h)))
-
-seen_by : (p : Plan) (w : World) (o : Option Scene) → scene_of w ≡ o → KeepsAlways w
-    → Always (elim o [ Some scene ↦ scene_answer p w scene | None ↦ says reply.NoRoot w ])
-seen_by p w None e h = h
-seen_by p w (Some scene) e h = always_scene p w scene e h
-
-always_draw : (p : Plan) (w : World) → KeepsAlways w → Always (draw_answer p w)
-unfolding draw_answer
-always_draw p w h = by_test (is_some w.in_flight) _ _ h (seen_by p w (scene_of w) refl h)
-
-always_done : (w : World) → KeepsAlways w → Always (done_answer w)
-unfolding done_answer
-always_done w h =
-    by_test (is_some w.in_flight) (says reply.Shown (record w { in_flight = None })) (says reply.Nothing w)
-    (always_drawn w None (λ subs sub e c. absurd (cc)) (λ s c e. absurd (cc)) h) h
+    record {
+      much = h;
+      unchanged = λ some none. always_besides w (Some (aggregation_of scene walked)) w.over w.root w.relations h;
+      drawn = λ full. always_besides v (Some (aggregation_of scene walked)) v.over v.root v.relations (always_shown w scene walked e h);
+    }
 
 -- A step
 
 -- what an event changes by itself
 pub always_answer : (p : Plan) (w : World) (e : Event) → KeepsAlways w → KeepsAlways (answer_to p w e).world
-unfolding answer_to
+unfolding answer_to done_answer
 always_answer p w (event.Client c) h = always_client p w c h
 always_answer p w event.Begin h = always_begin p w h
-always_answer p w event.Draw h = always_draw p w h
-always_answer p w event.Done h = always_done w h
+always_answer p w event.Draw h = drawing_cases p w Always h h (λ scene idle e. always_seen p w scene e h)
+always_answer p w event.Done h = cond_both (is_some w.in_flight) _ _ Always (λ e. always_drawn w None (λ subs sub e c. absurd (cc)) (λ s c e. absurd (cc)) h) (λ e. h)
 always_answer p w event.Over h = always_besides w w.last true w.root w.relations h
 
 -- the worlds within a step: after its own change, after activation, collection and returns, and the one that is left

@@ -32,6 +32,17 @@ one_of_number cs c d h p q e =
 
 -- The surface
 
+-- the last surface of a client, where a submission goes to it
+pub last_is_on : (w : World) (c : Client) (local : LocalSurfaceId) (last : Surface) → KeepsAlways w → Contains w.clients c → last_created w c.number ≡ Some last → is_last (Some last) local ≡ true
+    → Contains w.surfaces last × (last.client ≡ c.number) × (same_surface last.id (id_of c local) ≡ true)
+last_is_on w c local last h p was is =
+    let at = last_at (λ (x : Surface). x.client == c.number) w.surfaces last was in
+    let here = at_contains w.surfaces at.0 last at.1.0 in
+    let client = eqb-true last.client c.number at.1.1 in
+    let owner = h.surfaces.of_clients last here in
+    let sink : last.id.sink ≡ c.sink = sym owner.3 ∙ ap (λ (x : Client). x.sink) (one_of_number w.clients owner.0 c h.clients owner.1 p (owner.2 ∙ client)) in
+    (here, client, and_from (same_sink last.id.sink c.sink) (same_local last.id.local local) (ap (λ x. same_sink x c.sink) sink ∙ self_same_sink c.sink) is)
+
 -- what is kept with the surface of a submission
 record Grows (w : World) (new : Submission) (ss : List Surface) : Type 0 where
   surfaces : KeepsSurfaces w.clients ss
@@ -50,21 +61,15 @@ grows_not : (w : World) (c : Client) (local : LocalSurfaceId) (frame : Composito
 unfolding new_submission
 grows_not w c local frame None h p e was is = absurd (cc)
 grows_not w c local frame (Some last) h p e was is =
-    let at = last_at (λ (x : Surface). x.client == c.number) w.surfaces last was in
-    let here = at_contains w.surfaces at.0 last at.1.0 in
-    let client = eqb-true last.client c.number at.1.1 in
-    let owner = h.surfaces.of_clients last here in
-    let sink : last.id.sink ≡ c.sink = sym owner.3 ∙ ap (λ (x : Client). x.sink) (one_of_number w.clients owner.0 c h.clients owner.1 p (owner.2 ∙ client)) in
-    let same : same_surface last.id (id_of c local) ≡ true =
-    and_from (same_sink last.id.sink c.sink) (same_local last.id.local local) (ap (λ x. same_sink x c.sink) sink ∙ self_same_sink c.sink) is in
+    let on = last_is_on w c local last h p was is in
     record {
       surfaces = h.surfaces;
       last_stays = h.last_stays;
-      created = (last, here, from_same last.id (id_of c local) same, client);
+      created = (last, on.0, from_same last.id (id_of c local) on.2, on.1);
       numbers = h.numbers;
       few_created = λ n. omega arith;
       stand = λ id s. s;
-      stands = stands_from w.surfaces (id_of c local) last here same (h.last_stays c last p e was).0;
+      stands = stands_from w.surfaces (id_of c local) last on.0 on.2 (h.last_stays c last p e was).0;
       time = h.time;
     }
 

@@ -6,8 +6,6 @@ use Rattle.std.proofs.lemmas.Bool.{and_parts, and_from, le-leb, lt-ltb, ltb-true
 use Rattle.vz_ids.specs.declared.Sub.{Sub}
 use Rattle.vz_rules.specs.declared.entry.Event.{Event}
 use Rattle.vz_rules.specs.declared.entry.Fed.{Fed}
-use Rattle.vz_rules.specs.declared.entry.Lost.{Lost}
-use Rattle.vz_rules.specs.declared.entry.Returned.{Returned}
 use Rattle.vz_rules.specs.Plan.{Plan, IsPlan}
 use Rattle.vz_rules.specs.World.{World, Client, Surface, Submission, is_in_flight, is_ended, has_sub, sub_of}
 use Rattle.vz_rules.specs.Settle.{ready, is_ready, round, activated_over, activated_in, settle}
@@ -21,6 +19,7 @@ use Rattle.vz_rules.proofs.Kept_follows.{always_round, always_settle, always_nam
 use Rattle.vz_rules.proofs.Kept_clears.{always_collect, always_given}
 use Rattle.vz_rules.proofs.Kept_plan.{plan_naming, plan_round, plan_settle, plan_collect, plan_given}
 use Rattle.vz_rules.proofs.Kept_small.{small_client, small_surface, small_submission, small_resource}
+use Rattle.std.proofs.lemmas.Option.{cond_some}
 
 -- Numbers
 
@@ -59,11 +58,6 @@ activated_text p (suc n) w is a h =
     ap has_text_sub (sym m.2) ∙ sub_text m.0 (small_submission p w is a h m.0 f.0)))
     (activated_text p n (round w) is (always_round w a) (plan_round p w h))
 
-lost_by : (t : Bool) (c n : ℕ) (l : Lost) → ◌≡◌ {A = Option Lost} (cond t (Some (record { client = c; surface = n })) None) (Some l)
-    → ◌≡◌ {A = Lost} (record { client = c; surface = n }) l
-lost_by true c n l e = cc
-lost_by false c n l e = absurd (cc)
-
 destroyed_text : (p : Plan) (w : World) → IsPlan p → KeepsAlways w → KeepsPlan p w → list_all has_text_lost (destroyed_in w) ≡ true
 unfolding destroyed_in lost_in
 destroyed_text p w is a h =
@@ -74,12 +68,8 @@ destroyed_text p w is a h =
     let m = filter_map_at (λ (s : Surface). cond (s.client == x.0.number) (Some (record { client = s.client; surface = s.number })) None) lost l x.2 in
     let f = filter_at (is_lost (reach v)) v.surfaces m.0 m.1 in
     let small = small_surface p v is (always_naming w a) (plan_naming p w h) m.0 f.0 in
-    ap has_text_lost (sym (lost_by (m.0.client == x.0.number) m.0.client m.0.number l m.2))
+    ap has_text_lost (sym ((cond_some (m.0.client == x.0.number) (record { client = m.0.client; surface = m.0.number }) l m.2).1))
     ∙ and_from (is_log_client m.0.client) (is_count m.0.number) (client_text m.0.client small.client) (count_text m.0.number small.number.0 (omega (arith, small.number.1))))
-
-back_by : (t : Bool) (r s : Returned) → ◌≡◌ {A = Option Returned} (cond t (Some r) None) (Some s) → (t ≡ true) × (r ≡ s)
-back_by true r s e = (refl, cc)
-back_by false r s e = absurd (cc)
 
 returned_text : (p : Plan) (w : World) → IsPlan p → KeepsAlways w → KeepsPlan p w → list_all has_text_return (returned_in w) ≡ true
 unfolding returned_in
@@ -87,7 +77,7 @@ returned_text p w is a h =
     all_from has_text_return (flat_map (returns_of w) w.clients) (λ r c.
     let x = flat_map_at (returns_of w) w.clients r c in
     let m = filter_map_at (return_of w x.0.number) x.0.resources r x.2 in
-    let b = back_by (goes_back w x.0.number m.0) (record { client = x.0.number; id = m.0.id; count = m.0.lent - m.0.queued }) r m.2 in
+    let b = cond_some (goes_back w x.0.number m.0) (record { client = x.0.number; id = m.0.id; count = m.0.lent - m.0.queued }) r m.2 in
     let less = ltb-true m.0.queued m.0.lent (and_parts (nat_lt m.0.queued m.0.lent) (not (is_held w x.0.number m.0.id)) b.0).0 in
     let small = small_resource p w is a h x.0 m.0 x.1 m.1 in
     ap has_text_return (sym b.1)
@@ -141,7 +131,7 @@ rest_text p w is a h = (
   all_from has_text_return (flat_map (λ (c : Client). filter_map (held_resource c.number) c.resources) w.clients) (λ r c.
       let x = flat_map_at (λ (c : Client). filter_map (held_resource c.number) c.resources) w.clients r c in
       let m = filter_map_at (held_resource x.0.number) x.0.resources r x.2 in
-      let b = back_by (nat_lt m.0.queued m.0.lent) (record { client = x.0.number; id = m.0.id; count = m.0.lent - m.0.queued }) r m.2 in
+      let b = cond_some (nat_lt m.0.queued m.0.lent) (record { client = x.0.number; id = m.0.id; count = m.0.lent - m.0.queued }) r m.2 in
       let less = ltb-true m.0.queued m.0.lent b.0 in
       let small = small_resource p w is a h x.0 m.0 x.1 m.1 in
       ap has_text_return (sym b.1)

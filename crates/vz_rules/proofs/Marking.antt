@@ -1,30 +1,15 @@
 -- Lists in which nothing stands twice, as they grow, and the marking of what is reached.
-use Rattle.std.proofs.Common.{◌≡◌, ℕ, zero, suc, ◌+◌, ◌≤◌, ◌<◌, Bool, true, false, not, ◌||◌, ◌⊎◌, inl, inr, List, [], ◌∷◌, ◌++◌, length, get_or, take, filter, refl, ap, sym, ◌∙◌, arith, cond}
+use Rattle.std.proofs.Common.{◌≡◌, ℕ, zero, suc, ◌+◌, ◌≤◌, ◌<◌, Bool, true, false, not, ◌||◌, inl, inr, List, [], ◌∷◌, ◌++◌, length, get_or, take, filter, refl, ap, sym, ◌∙◌, arith, cond}
 use Rattle.std.specs.List.{list_any}
 use Rattle.std.proofs.lemmas.List.{take_more, length_push, take_all}
 use Rattle.std.proofs.lemmas.List.Folds.{list_any-append}
 use Rattle.std.proofs.lemmas.List.Sums.{count_by-le-length, length-filter}
 use Rattle.vz_frame.specs.Frame.{has_repeat}
 use Rattle.vz_rules.specs.Closure.{adding, HasAll, IsClosed, IsLeastClosed}
-
-pub from_or : (a b : Bool) → (a || b) ≡ true → (a ≡ true) ⊎ (b ≡ true)
-from_or true b h = inl refl
-from_or false b h = inr h
-
-pub left_or : (a b : Bool) → a ≡ true → (a || b) ≡ true
-left_or a b h = rw h refl
-
-pub right_or : (a b : Bool) → b ≡ true → (a || b) ≡ true
-right_or true b h = refl
-right_or false b h = h
-
-neither : (a b : Bool) → (a || b) ≡ false → (a ≡ false) × (b ≡ false)
-neither true b h = absurd (cc)
-neither false b h = (refl, h)
-
-or_false : (a : Bool) → (a || false) ≡ a
-or_false true = refl
-or_false false = refl
+use Rattle.std.proofs.lemmas.Bool.{or_parts}
+use Rattle.vz_rules.proofs.Facts.{or_false, or_pairs}
+use Rattle.vz_rules.proofs.Reached.{adding_has as adds_has}
+pub use Rattle.std.proofs.lemmas.Bool.{or_cases as from_or, or_left as left_or, or_right as right_or}
 
 module _ {A : Type 0} (same : A → A → Bool) (from_same : (a b : A) → same a b ≡ true → a ≡ b) (self_same : (a : A) → same a a ≡ true) where
   abbrev has : List A → A → Bool
@@ -52,29 +37,8 @@ module _ {A : Type 0} (same : A → A → Bool) (from_same : (a b : A) → same 
   has_push : (xs : List A) (y x : A) → has (xs ++ y ∷ []) x ≡ (has xs x || same x y)
   has_push xs y x = list_any-append (same x) xs (y ∷ []) ∙ ap (λ t. has xs x || t) (or_false (same x y))
 
-  -- a list with an element put in, where it is not yet there
-  with_one : (xs : List A) (m x : A) (t : Bool) → has xs m ≡ t → has (cond t xs (xs ++ m ∷ [])) x ≡ (has xs x || same x m)
-  with_one xs m x true e =
-      elim (same x m) as (λ (s : Bool). same x m ≡ s → has xs x ≡ (has xs x || s)) [
-        | true ↦ λ h. let there : has xs x ≡ true = ap (has xs) (from_same x m h) ∙ e in there ∙ sym (right_or (has xs x) true refl)
-        | false ↦ λ h. sym (or_false (has xs x))
-      ] refl
-  with_one xs m x false e = has_push xs m x
-
-  or_assoc : (a b c : Bool) → ((a || b) || c) ≡ (a || (b || c))
-  or_assoc true b c = refl
-  or_assoc false b c = refl
-
   pub adding_has : (more xs : List A) (x : A) → has (adding same xs more) x ≡ (has xs x || has more x)
-  adding_has [] xs x = sym (or_false (has xs x))
-  adding_has (m ∷ more) xs x =
-      adding_has more (cond (has xs m) xs (xs ++ m ∷ [])) x
-      ∙ (ap (λ t. t || has more x) (with_one xs m x (has xs m) refl) ∙ or_assoc (has xs x) (same x m) (has more x))
-
-  -- first these, then those
-  pub adding_append : (ys zs xs : List A) → adding same xs (ys ++ zs) ≡ adding same (adding same xs ys) zs
-  adding_append [] zs xs = refl
-  adding_append (y ∷ ys) zs xs = adding_append ys zs (cond (has xs y) xs (xs ++ y ∷ []))
+  adding_has more xs x = adds_has A same from_same self_same (λ y. []) [] (λ y z h. h) more xs x
 
   pub longer : (more xs : List A) → length xs ≤ length (adding same xs more)
   longer [] xs = omega arith
@@ -108,13 +72,7 @@ module _ {A : Type 0} (same : A → A → Bool) (from_same : (a b : A) → same 
 
   repeat_push : (xs : List A) (y : A) → has_repeat same (xs ++ y ∷ []) ≡ (has_repeat same xs || has xs y)
   repeat_push [] y = refl
-  repeat_push (x ∷ xs) y = rw (has_push xs y x, repeat_push xs y, same_flip x y) (four (has xs x) (same y x) (has_repeat same xs) (has xs y))
-    where
-      four : (a b c d : Bool) → ((a || b) || (c || d)) ≡ ((a || c) || (b || d))
-      four true b c d = refl
-      four false true true d = refl
-      four false true false d = refl
-      four false false c d = refl
+  repeat_push (x ∷ xs) y = rw (has_push xs y x, repeat_push xs y, same_flip x y) (or_pairs (has xs x) (same y x) (has_repeat same xs) (has xs y))
 
   -- nothing stands twice
   pub stays_once : (more xs : List A) → has_repeat same xs ≡ false → has_repeat same (adding same xs more) ≡ false
@@ -152,7 +110,7 @@ module _ {A : Type 0} (same : A → A → Bool) (from_same : (a b : A) → same 
   pub fits : (xs all : List A) → has_repeat same xs ≡ false → ((x : A) → has xs x ≡ true → has all x ≡ true) → length xs ≤ length all
   fits [] all once h = omega arith
   fits (x ∷ xs) all once h =
-      let parts = neither (has xs x) (has_repeat same xs) once in
+      let parts = or_parts (has xs x) (has_repeat same xs) once in
       let less = fewer x all (h x (left_or (same x x) (has xs x) (self_same x))) in
       let other : (z : A) → has xs z ≡ true → same x z ≡ false =
       λ z k. elim (same x z) as (λ (t : Bool). same x z ≡ t → t ≡ false) [

@@ -2,6 +2,8 @@
 use Rattle.std.proofs.Common.{◌≡◌, ℕ, zero, suc, ◌<◌, Bool, true, false, ◌&&◌, ◌||◌, ◌⊎◌, inl, inr, Option, Some, None, List, [], ◌∷◌, ◌++◌, length, map, filter, take, get_or, refl, ap, sym, ◌∙◌, arith, cond, subst, slice_get, Contains, find, is_some}
 use Rattle.std.proofs.lemmas.Bool.{both_ways}
 use Rattle.std.specs.List.{list_any, list_all, filter_map, flat_map, cons_option}
+use Rattle.vz_rules.proofs.Facts.{or_true}
+pub use Rattle.std.proofs.lemmas.List.Elements.{Contains-push_cases as contains_push, Contains-push as push_contains_last, Contains-append_cases as append_contains}
 
 -- Members
 
@@ -38,14 +40,6 @@ map_contains f (y ∷ xs) x c =
       | inr r ↦ contains_there (f y) (f x) (map f xs) (map_contains f xs x r)
     ]
 
-pub contains_push : {A : Type 0} (xs : List A) (y x : A) → Contains (xs ++ y ∷ []) x → Contains xs x ⊎ (y ≡ x)
-contains_push [] y x c = elim (contains_cases y x [] c) [ inl e ↦ inr e | inr r ↦ inl r ]
-contains_push (z ∷ xs) y x c =
-    elim (contains_cases z x (xs ++ y ∷ []) c) [
-      | inl e ↦ inl (subst (λ w. Contains (z ∷ xs) w) e (contains_here z xs))
-      | inr r ↦ elim (contains_push xs y x r) [ inl m ↦ inl (contains_there z x xs m) | inr e ↦ inr e ]
-    ]
-
 pub push_contains : {A : Type 0} (xs : List A) (y x : A) → Contains xs x → Contains (xs ++ y ∷ []) x
 push_contains [] y x c = absurd (contains_none x c)
 push_contains (z ∷ xs) y x c =
@@ -54,13 +48,9 @@ push_contains (z ∷ xs) y x c =
       | inr r ↦ contains_there z x (xs ++ y ∷ []) (push_contains xs y x r)
     ]
 
-pub push_contains_last : {A : Type 0} (xs : List A) (y : A) → Contains (xs ++ y ∷ []) y
-push_contains_last [] y = contains_here y []
-push_contains_last (z ∷ xs) y = contains_there z y (xs ++ y ∷ []) (push_contains_last xs y)
-
 -- Places
 
-none_not_some : {A : Type 0} (x : A) → ◌≡◌ {A = Option A} None (Some x) → ⊥
+pub none_not_some : {A : Type 0} (x : A) → ◌≡◌ {A = Option A} None (Some x) → ⊥
 none_not_some x h = absurd (cc)
 
 pub at_contains : {A : Type 0} (xs : List A) (n : ℕ) (x : A) → slice_get xs n ≡ Some x → Contains xs x
@@ -124,16 +114,12 @@ any_at p (y ∷ xs) h =
       | false ↦ λ e k. let r = any_at p xs k in (r.0, contains_there y r.0 xs r.1, r.2)
     ] refl h
 
-or_yes : (a : Bool) → (a || true) ≡ true
-or_yes true = refl
-or_yes false = refl
-
 pub any_from : {A : Type 0} (p : A → Bool) (xs : List A) (x : A) → Contains xs x → p x ≡ true → list_any p xs ≡ true
 any_from p [] x c h = absurd (contains_none x c)
 any_from p (y ∷ xs) x c h =
     elim (contains_cases y x xs c) [
       | inl e ↦ ap (λ t. t || list_any p xs) (ap p e ∙ h)
-      | inr r ↦ ap (λ t. p y || t) (any_from p xs x r h) ∙ or_yes (p y)
+      | inr r ↦ ap (λ t. p y || t) (any_from p xs x r h) ∙ or_true (p y)
     ]
 
 pub any_none : {A : Type 0} (p : A → Bool) (xs : List A) → ((x : A) → Contains xs x → p x ≡ false) → list_any p xs ≡ false
@@ -210,14 +196,6 @@ filter_map_at h (x ∷ xs) y c =
         | inr r ↦ let m = filter_map_at h xs y r in (m.0, contains_there x m.0 xs m.1, m.2)
       ]
     ] refl c
-
-pub append_contains : {A : Type 0} (xs ys : List A) (x : A) → Contains (xs ++ ys) x → Contains xs x ⊎ Contains ys x
-append_contains [] ys x c = inr c
-append_contains (z ∷ xs) ys x c =
-    elim (contains_cases z x (xs ++ ys) c) [
-      | inl e ↦ inl (subst (λ w. Contains (z ∷ xs) w) e (contains_here z xs))
-      | inr r ↦ elim (append_contains xs ys x r) [ inl m ↦ inl (contains_there z x xs m) | inr e ↦ inr e ]
-    ]
 
 pub filter_map_has : {A B : Type 0} (h : A → Option B) (xs : List A) (x : A) (y : B) → Contains xs x → h x ≡ Some y → Contains (filter_map h xs) y
 filter_map_has h [] x y c e = absurd (contains_none x c)

@@ -23,8 +23,7 @@ use Rattle.vz_rules.proofs.Agree.{Misses}
 same_starts : (a b : Option SurfaceId) → same_start a b ≡ true → a ≡ b
 same_starts None None h = refl
 same_starts (Some a) (Some b) h = ap Some (from_same a b h)
-same_starts None (Some b) h = absurd (cc)
-same_starts (Some a) None h = absurd (cc)
+same_starts _ _ h = absurd (cc)
 
 -- ranges that are the same are one
 pub range_is : (a b : SurfaceRange) → same_range a b ≡ true → a ≡ b
@@ -63,8 +62,7 @@ since_misses a accepted j l h u c e =
 
 by_parts : (w s d : Bool) → w ≡ true → s ≡ true → ((w && s) && d) ≡ false → d ≡ false
 by_parts true true d p q h = h
-by_parts true false d p q h = absurd (cc)
-by_parts false s d p q h = absurd (cc)
+by_parts _ _ d p q h = absurd (cc)
 
 -- at a point of its surface that is seen, the damage misses what it misses as seen there
 pub since_clear : (a : Aggregation) (accepted : List FrameData) (j : FrameData) (l P : Point) (place : Placement) → IsSeen P l place → has (sized (frame_size j.frame)) l ≡ true

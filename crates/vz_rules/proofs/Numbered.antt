@@ -1,5 +1,5 @@
 -- The clients keep their numbers, which are those of the files.
-use Rattle.std.proofs.Common.{◌≡◌, ℕ, ◌+◌, ◌<◌, ◌≤◌, Bool, true, false, ◌&&◌, ◌==◌, Option, Some, None, List, [], ◌∷◌, map, length, refl, ap, ◌∙◌, cond, arith, find, is_some}
+use Rattle.std.proofs.Common.{◌≡◌, ℕ, ◌+◌, ◌<◌, ◌≤◌, Bool, true, false, ◌&&◌, ◌==◌, Some, None, List, [], ◌∷◌, map, length, refl, ap, ◌∙◌, cond, arith, find, is_some}
 use Rattle.std.specs.Prelude.{nat_lt}
 use Rattle.std.specs.List.{list_all}
 use Rattle.std.proofs.lemmas.Bool.{and_from, lt-ltb, eqb-false}
@@ -20,6 +20,7 @@ use Rattle.vz_rules.proofs.Given.{number_of}
 use Rattle.vz_rules.proofs.Prefixes.{Steps, along}
 use Rattle.vz_rules.proofs.Follow_ups.{outcome_clients}
 use Rattle.vz_rules.proofs.Cases.{DisplayCases, client_cases, answer_cases}
+use Rattle.vz_rules.proofs.Facts.{same_when, some_of}
 
 -- Keys
 
@@ -31,7 +32,7 @@ keys_kept key f (x ∷ xs) same = ap (λ k. k ∷ map key (map f xs)) (same x) �
 head_same : {A : Type 0} (a b : A) (as' bs : List A) → a ∷ as' ≡ b ∷ bs → a ≡ b
 head_same a b as' bs e = cc
 
-rest_same : {A : Type 0} (a b : A) (as' bs : List A) → a ∷ as' ≡ b ∷ bs → as' ≡ bs
+pub rest_same : {A : Type 0} (a b : A) (as' bs : List A) → a ∷ as' ≡ b ∷ bs → as' ≡ bs
 rest_same a b as' bs e = cc
 
 above_keys : {A : Type 0} (key : A → ℕ) (n : ℕ) (xs ys : List A) → map key xs ≡ map key ys → list_all (λ y. nat_lt n (key y)) ys ≡ true → list_all (λ y. nat_lt n (key y)) xs ≡ true
@@ -71,16 +72,8 @@ found_keys key n (x ∷ xs) (y ∷ ys) e =
 abbrev KeepsNumbers : World → Answer → Type 0
 KeepsNumbers w a = map number_of a.world.clients ≡ map number_of w.clients
 
-pub changed_number : (f : Client → Client) (t : Bool) (x : Client) → (f x).number ≡ x.number → (cond t (took (f x)) x).number ≡ x.number
-changed_number f true x e = e
-changed_number f false x e = refl
-
 taking_numbers : (w : World) (c : Client) (f : Client → Client) → ((x : Client) → (f x).number ≡ x.number) → map number_of (taking f c w).clients ≡ map number_of w.clients
-taking_numbers w c f same = keys_kept number_of (λ x. cond (x.number == c.number) (took (f x)) x) w.clients (λ x. changed_number f (x.number == c.number) x (same x))
-
-either_number : (t : Bool) (x y : Client) → y.number ≡ x.number → (cond t y x).number ≡ x.number
-either_number true x y e = e
-either_number false x y e = refl
+taking_numbers w c f same = keys_kept number_of (λ x. cond (x.number == c.number) (took (f x)) x) w.clients (λ x. same_when number_of (x.number == c.number) _ x (same x))
 
 client_numbers : (p : Plan) (w : World) (n : ℕ) → KeepsNumbers w (client_answer p w n)
 unfolding accepted
@@ -93,9 +86,8 @@ client_numbers p w n =
       not_yet = λ at. refl;
       stored = λ id block free at. keeps (λ x. record x { resources = put_resource id block x.resources }) (λ x. refl);
       submitted = λ local frame good at.
-          keeps (submitting w frame) (λ x. either_number (frame.metadata.ack == w.tick) (record x { resources = map (lend frame.resources) x.resources })
-          (record x { resources = map (lend frame.resources) x.resources; answered = w.tick }) refl);
-      noted = λ m at. keeps (answer_tick w.tick m) (λ x. either_number (m == w.tick) x (record x { answered = w.tick }) refl);
+          keeps (submitting w frame) (λ x. same_when number_of (frame.metadata.ack == w.tick) (record x { resources = map (lend frame.resources) x.resources; answered = w.tick }) (record x { resources = map (lend frame.resources) x.resources }) refl);
+      noted = λ m at. keeps (answer_tick w.tick m) (λ x. same_when number_of (m == w.tick) (record x { answered = w.tick }) x refl);
       reclaimed = λ at. keeps reclaim (λ x. refl);
       rooted = λ local root at. keeps plain (λ x. refl);
       joined = λ parent child good at. keeps plain (λ x. refl);
@@ -109,7 +101,7 @@ unfolding begin_answer
 display_numbers p w =
     let tick = next_tick w.tick in
     record {
-      begins = keys_kept number_of (deliver p w tick) w.clients (λ x. either_number _ x (record x { delivered = Some tick }) refl);
+      begins = keys_kept number_of (deliver p w tick) w.clients (λ x. same_when number_of _ (record x { delivered = Some tick }) x refl);
       draws = λ r quiet last in_flight. refl;
       dones = λ r quiet in_flight. refl;
       overs = refl;
@@ -154,11 +146,7 @@ new_found n c (f ∷ fs) l m =
       | false ↦ λ e. let other : n ≡ c → ⊥ = eqb-false n c e in new_found (n + 1) c fs (omega arith) (omega arith)
     ] refl
 
-some_client : (o : Option Client) → is_some o ≡ true → (x : Client) × (o ≡ Some x)
-some_client None h = absurd (cc)
-some_client (Some x) h = (x, refl)
-
 -- each client of the plan is there
 pub client_there : (p : Plan) (w : World) (c : ℕ) → HasNumbers p w → NamesClient p (event.Client c) → (x : Client) × (client_at w c ≡ Some x)
 client_there p w c e names =
-    some_client (client_at w c) (found_keys number_of c w.clients (new_clients 1 p.files) e ∙ new_found 1 c p.files (omega (arith, names.0)) (omega (arith, names.1)))
+    some_of (client_at w c) (found_keys number_of c w.clients (new_clients 1 p.files) e ∙ new_found 1 c p.files (omega (arith, names.0)) (omega (arith, names.1)))

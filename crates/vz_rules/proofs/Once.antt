@@ -16,7 +16,7 @@ use Rattle.vz_rules.specs.Returns.{holds, is_held, goes_back, give_back, feed, m
 use Rattle.vz_rules.specs.Step.{answer_to, outcome_of, presented_by, step_in, world, entry_in, NamesClient, Legal}
 use Rattle.vz_rules.specs.Log.{rest_of}
 use Rattle.vz_rules.specs.Accounts.{share_of, of_client, total_of, lent_in, queued_in, is_return_of, out_between, IsReturnedOnce, ReturnsEachOnce}
-use Rattle.vz_rules.proofs.Facts.{and_counted}
+use Rattle.vz_rules.proofs.Facts.{and_counted, some_of}
 use Rattle.vz_rules.proofs.Rising.{find_test, sum_same, counted}
 use Rattle.vz_rules.proofs.Given.{size_of, given_of, amount_in}
 use Rattle.vz_rules.proofs.Runs.{world-more}
@@ -207,10 +207,6 @@ unheld_rest p h c id l named none =
     omega (arith, all.none_out none, (accounts_are p h c id l named).held)
 
 -- What is held is in the rest
-
-some_of : {A : Type 0} (o : Option A) → is_some o ≡ true → (x : A) × (o ≡ Some x)
-some_of None h = absurd (cc)
-some_of (Some x) h = (x, refl)
 
 -- a resource that is held was stored
 held_stored : (w : World) (x : Client) (id : ℕ) → KeepsShelf (holds w) w.subs x → is_held w x.number id ≡ true → is_some (resource_in id x.resources) ≡ true

@@ -50,8 +50,7 @@ full_is scene i P on =
 same_shown : (t u : Bool) (x y : Colour) → t ≡ u → (u ≡ true → x ≡ y) → ◌≡◌ {A = Colour} (elim t [ true ↦ x | false ↦ black ]) (elim u [ true ↦ y | false ↦ black ])
 same_shown true true x y e h = h refl
 same_shown false false x y e h = refl
-same_shown true false x y e h = absurd (cc)
-same_shown false true x y e h = absurd (cc)
+same_shown _ _ x y e h = absurd (cc)
 
 from_origin : (p : Point) → plus p (record { x = pos 0; y = pos 0 }) ≡ p
 from_origin p =

@@ -8,7 +8,7 @@ use Rattle.std.proofs.lemmas.List.Elements.{All-from_recursion, All-contains}
 use Rattle.vz_geom.specs.declared.Size.{Size}
 use Rattle.vz_ids.specs.declared.SurfaceId.{SurfaceId}
 use Rattle.vz_ids.specs.declared.SurfaceRange.{SurfaceRange}
-use Rattle.vz_ids.specs.Ids.{same_surface, same_range}
+use Rattle.vz_ids.specs.Ids.{same_surface, same_range, newer}
 use Rattle.vz_frame.specs.declared.frame.RenderPass.{RenderPass}
 use Rattle.vz_frame.specs.declared.frame.DrawQuad.{DrawQuad}
 use Rattle.vz_frame.specs.declared.frame.Material.{Material}
@@ -17,7 +17,6 @@ use Rattle.vz_frame.specs.Frame.{passes_down, names_pass}
 use Rattle.vz_rules.specs.World.{FrameData, Scene, frame_on}
 use Rattle.vz_rules.specs.Closure.{adding}
 use Rattle.vz_rules.specs.Scene.{shown_frame, newest, newer_frame, in_range, after_start, or_else, id_of_frame}
-use Rattle.vz_ids.specs.Ids.{newer}
 use Rattle.vz_rules.specs.Paint.{on_path, levels}
 use Rattle.vz_rules.specs.Walk.{Placement, Visit, Quad, Shows, Enters, WalkNamed, WalkRange, quad_walked, pass_walked, groups_walked, root_walked, range_walked, walk, whole, walk_of, place_in}
 use Rattle.vz_rules.specs.Damage.{shown_range, of_same_range, aggregation_of, index_in, shows_other, is_switched}

@@ -1,6 +1,5 @@
 -- The first file whose sink an earlier one has, looked for place by place.
-use Rattle.std.proofs.Common.{◌≡◌, ℕ, ◌+◌, ◌<◌, Bool, true, false, ◌||◌, cond, Some, List, [], ◌∷◌, ◌++◌, map, take, drop, length, get_or, reverse, refl, sym, ap, ◌∙◌}
-use Rattle.std.proofs.Common.{drop-cons, add-one}
+use Rattle.std.proofs.Common.{◌≡◌, ℕ, ◌+◌, ◌<◌, Bool, true, false, ◌||◌, cond, Some, List, [], ◌∷◌, ◌++◌, map, take, drop, length, get_or, reverse, refl, sym, ap, ◌∙◌, drop-cons, add-one}
 use Rattle.std.proofs.lemmas.List.{map-append, reverse-append}
 use Rattle.std.proofs.lemmas.List.Folds.{list_any-append}
 use Rattle.std.proofs.lemmas.Grind.{take_at_read}
@@ -9,27 +8,22 @@ use Rattle.vz_ids.specs.declared.FrameSinkId.{FrameSinkId}
 use Rattle.vz_ids.specs.Ids.{same_sink}
 use Rattle.vz_frame.specs.declared.message.ClientFile.{ClientFile}
 use Rattle.vz_rules.specs.Plan.{taken_from}
+use Rattle.vz_rules.proofs.Facts.{or_true, or_false}
 
 -- the sinks of files, the last file's first
 abbrev pub sinks_before : List ClientFile → List FrameSinkId
 sinks_before files = reverse (map (λ (f : ClientFile). f.sink) files)
 
 or_comm : (a b : Bool) → (a || b) ≡ (b || a)
-or_comm true true = refl
-or_comm true false = refl
-or_comm false true = refl
-or_comm false false = refl
+or_comm a true = or_true a
+or_comm a false = or_false a
 
 -- a test of some element of a list, the order being turned
 pub any_before : {A B : Type 0} (p : B → Bool) (f : A → B) (xs : List A) → list_any p (reverse (map f xs)) ≡ list_any (λ x. p (f x)) xs
 any_before p f [] = refl
 any_before p f (x ∷ xs) =
     ap (list_any p) (reverse-append (f x ∷ []) (map f xs)) ∙ (list_any-append p (reverse (map f xs)) (f x ∷ [])
-    ∙ (or_comm (list_any p (reverse (map f xs))) (p (f x) || false) ∙ (ap (λ t. (p (f x) || false) || t) (any_before p f xs) ∙ or_false (p (f x)) (list_any (λ y. p (f y)) xs))))
-  where
-    or_false : (a b : Bool) → ((a || false) || b) ≡ (a || b)
-    or_false true b = refl
-    or_false false b = refl
+    ∙ (or_comm (list_any p (reverse (map f xs))) (p (f x) || false) ∙ (ap (λ t. (p (f x) || false) || t) (any_before p f xs) ∙ ap (λ t. t || list_any (λ y. p (f y)) xs) (or_false (p (f x))))))
 
 -- one place further
 pub taken_step : (files : List ClientFile) (n : ℕ) (f : ClientFile) → n < length files → f ≡ get_or files n f

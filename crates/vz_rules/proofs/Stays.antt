@@ -1,7 +1,7 @@
 -- What follows a change leaves what submissions were accepted with, opens none, and leaves the sizes of surfaces.
-use Rattle.std.proofs.Common.{◌≡◌, ℕ, zero, suc, Bool, true, false, not, ◌&&◌, List, [], ◌∷◌, map, filter, length, refl, ap, sym, ◌∙◌, cond, Contains}
+use Rattle.std.proofs.Common.{◌≡◌, ℕ, zero, suc, Bool, true, false, not, ◌&&◌, List, map, filter, length, refl, ap, sym, ◌∙◌, cond, Contains}
 use Rattle.std.specs.List.{list_any}
-use Rattle.std.proofs.lemmas.Bool.{and_parts, or_left}
+use Rattle.std.proofs.lemmas.Bool.{or_left}
 use Rattle.vz_geom.specs.declared.Size.{Size}
 use Rattle.vz_ids.specs.declared.SurfaceId.{SurfaceId}
 use Rattle.vz_ids.specs.declared.Sub.{Sub}
@@ -16,6 +16,9 @@ use Rattle.vz_rules.specs.Kept.{HasSize, is_open}
 use Rattle.vz_rules.proofs.Members.{contains_map, map_contains}
 use Rattle.vz_rules.proofs.Kept_states.{open_before}
 use Rattle.vz_rules.proofs.Kept_clears.{drops}
+use Rattle.vz_rules.proofs.Facts.{same_when, same_either}
+use Rattle.vz_rules.proofs.Settled.{ready_waits}
+use Rattle.vz_rules.proofs.Follow_ups.{frames_kept}
 
 -- the frame of a submission
 abbrev pub frame_of : Submission → FrameData
@@ -45,10 +48,6 @@ stays_then w v u first second =
 pub opens_same : (xs : List Submission) (t : Submission) → Contains xs t → is_open t ≡ true → WasOpen xs t
 opens_same xs t c o = (t, c, o, refl)
 
-pub frames_mapped : (f : Submission → Submission) → ((s : Submission) → (f s).submitted ≡ s.submitted) → (xs : List Submission) → map frame_of (map f xs) ≡ map frame_of xs
-frames_mapped f same [] = refl
-frames_mapped f same (s ∷ xs) = ap (λ (i : FrameData). i ∷ map frame_of (map f xs)) (same s) ∙ ap (λ l. s.submitted ∷ l) (frames_mapped f same xs)
-
 pub opens_mapped : (f : Submission → Submission) → ((s : Submission) → (f s).submitted ≡ s.submitted) → ((s : Submission) → is_open (f s) ≡ true → is_open s ≡ true)
     → (xs : List Submission) (t : Submission)
     → Contains (map f xs) t → is_open t ≡ true → WasOpen xs t
@@ -69,14 +68,9 @@ pub stays_mapped : (w : World) (f : Submission → Submission) (g : Surface → 
     → ((s : Submission) → is_open (f s) ≡ true → is_open s ≡ true)
     → KeepsSize g → Stays w (record w { subs = map f w.subs; surfaces = map g w.surfaces })
 stays_mapped w f g same opens size =
-    record { active = frames_mapped f same w.subs; opens = opens_mapped f same opens w.subs; surfaces = sizes_mapped g size w.surfaces }
+    record { active = frames_kept f w.subs same; opens = opens_mapped f same opens w.subs; surfaces = sizes_mapped g size w.surfaces }
 
 -- Activation
-
-round_frame : (b u : Bool) (s : Submission) → (cond b (record s { state = Active; was_active = true }) (cond u (record s { state = Past }) s)).submitted ≡ s.submitted
-round_frame true u s = refl
-round_frame false true s = refl
-round_frame false false s = refl
 
 round_open : (b u : Bool) (s : Submission) → (b ≡ true → is_waiting s ≡ true)
     → is_open (cond b (record s { state = Active; was_active = true }) (cond u (record s { state = Past }) s)) ≡ true → is_open s ≡ true
@@ -85,26 +79,14 @@ round_open false true s waits o = absurd (cc)
 round_open false false s waits o = o
 
 marked_size : (ss : List Surface) (risen : List Submission) → KeepsSize (marked_by ss risen)
-marked_size ss risen = record { id = λ s. by_id (list_any (is_before ss s) risen) s; size = λ s. by_size (list_any (is_before ss s) risen) s }
-  where
-    by_id : (t : Bool) (s : Surface) → (cond t (record s { marked = true }) s).id ≡ s.id
-    by_id true s = refl
-    by_id false s = refl
-
-    by_size : (t : Bool) (s : Surface) → (cond t (record s { marked = true }) s).size ≡ s.size
-    by_size true s = refl
-    by_size false s = refl
-
-ready_waits : (w : World) (s : Submission) → is_ready w s ≡ true → is_waiting s ≡ true
-unfolding is_ready
-ready_waits w s h = (and_parts (is_waiting s) _ h).0
+marked_size ss risen = record { id = λ s. same_when (λ (x : Surface). x.id) (list_any (is_before ss s) risen) _ s refl; size = λ s. same_when (λ (x : Surface). x.size) (list_any (is_before ss s) risen) _ s refl }
 
 stays_round : (w : World) → Stays w (round w)
 unfolding round ready
 stays_round w =
     let risen = filter (is_ready w) w.subs in
     stays_mapped w (after_round (is_ready w) risen) (marked_by w.surfaces risen)
-    (λ s. round_frame (is_ready w s) (is_active s && list_any (is_on s.submitted.id) risen) s)
+    (λ s. same_either (λ (x : Submission). x.submitted) (is_ready w s) (is_active s && list_any (is_on s.submitted.id) risen) _ _ s refl refl)
     (λ s. round_open (is_ready w s) (is_active s && list_any (is_on s.submitted.id) risen) s (ready_waits w s))
     (marked_size w.surfaces risen)
 
@@ -120,26 +102,10 @@ stays_settle w = stays_rounds (length w.subs) w
 -- Collection
 
 named_size : (w : World) → KeepsSize (name_one w)
-named_size w = record { id = λ s. by_id (not s.destroyed && is_named_now w s.id) s; size = λ s. by_size (not s.destroyed && is_named_now w s.id) s }
-  where
-    by_id : (t : Bool) (s : Surface) → (cond t (record s { named = true }) s).id ≡ s.id
-    by_id true s = refl
-    by_id false s = refl
-
-    by_size : (t : Bool) (s : Surface) → (cond t (record s { named = true }) s).size ≡ s.size
-    by_size true s = refl
-    by_size false s = refl
+named_size w = record { id = λ s. same_when (λ (x : Surface). x.id) (not s.destroyed && is_named_now w s.id) _ s refl; size = λ s. same_when (λ (x : Surface). x.size) (not s.destroyed && is_named_now w s.id) _ s refl }
 
 destroyed_size : (kept : List SurfaceId) → KeepsSize (destroy kept)
-destroyed_size kept = record { id = λ s. by_id (is_lost kept s) s; size = λ s. by_size (is_lost kept s) s }
-  where
-    by_id : (t : Bool) (s : Surface) → (cond t (record s { destroyed = true }) s).id ≡ s.id
-    by_id true s = refl
-    by_id false s = refl
-
-    by_size : (t : Bool) (s : Surface) → (cond t (record s { destroyed = true }) s).size ≡ s.size
-    by_size true s = refl
-    by_size false s = refl
+destroyed_size kept = record { id = λ s. same_when (λ (x : Surface). x.id) (is_lost kept s) _ s refl; size = λ s. same_when (λ (x : Surface). x.size) (is_lost kept s) _ s refl }
 
 stays_naming : (w : World) → Stays w (naming w)
 unfolding naming
@@ -164,7 +130,7 @@ stays_fed : (presented : List Sub) (w : World) → Stays w (feed presented w)
 unfolding feed
 stays_fed presented w =
     record {
-      active = frames_mapped (mark_fed w presented) (λ s. refl) w.subs;
+      active = frames_kept (mark_fed w presented) w.subs (λ s. refl);
       opens = opens_mapped (mark_fed w presented) (λ s. refl) (λ s o. o) w.subs;
       surfaces = λ id size h. h;
     }

@@ -21,11 +21,12 @@ use Rattle.vz_rules.specs.Messages.{Answer, says, took, taking, answer_tick, sub
 use Rattle.vz_rules.specs.Step.{answer_to, begin_answer, deliver, is_attached, next_tick, outcome_of, step_in, world, entry_in, presented_by, Legal}
 use Rattle.vz_rules.specs.Whole.{is_of, mine, is_in_time}
 use Rattle.vz_rules.specs.Accounts.{takes, taken_in, message_at, answer_for, IsAnswerTo, IsTaking}
-use Rattle.vz_rules.proofs.Facts.{false_at, flip}
+use Rattle.vz_rules.proofs.Facts.{false_at, flip, same_when, plus_none, uncounted}
 use Rattle.vz_rules.proofs.Rising.{find_map}
 use Rattle.vz_rules.proofs.Follow_ups.{outcome_clients}
 use Rattle.vz_rules.proofs.Prefixes.{legal-front, legal-at, Steps, along}
 use Rattle.vz_rules.proofs.Cases.{is_event_of, DisplayCases, client_cases, answer_cases, number_at}
+use Rattle.vz_rules.proofs.Members.{none_not_some}
 
 -- Clients that are changed and keep their numbers
 
@@ -58,14 +59,6 @@ took_by : (f : Client → Client) (t : Bool) (x : Client) → (f x).taken ≡ x.
 took_by f true x e = ap (λ n. n + 1) e
 took_by f false x e = omega arith
 
-numbered_by : (f : Client → Client) (t : Bool) (x : Client) → (f x).number ≡ x.number → (cond t (took (f x)) x).number ≡ x.number
-numbered_by f true x e = e
-numbered_by f false x e = refl
-
-uncounted : (t : Bool) → t ≡ false → 0 ≡ 0 + cond t 1 0
-uncounted true e = absurd (cc)
-uncounted false e = omega arith
-
 taken_more : (f : Client → Client) (n c : ℕ) (o : Option Client) → ((x : Client) → (f x).taken ≡ x.taken) → ((x : Client) → o ≡ Some x → x.number ≡ c) → (o ≡ None → (n == c) ≡ false)
     → taken_of (option_map (λ x. cond (x.number == n) (took (f x)) x) o) ≡ taken_of o + cond (n == c) 1 0
 taken_more f n c None taken number none = uncounted (n == c) (none refl)
@@ -80,7 +73,7 @@ not_none w n c x e h =
 taking_counts : (w : World) (n c : ℕ) (x : Client) (f : Client → Client) → client_at w n ≡ Some x → x.number ≡ n → ((y : Client) → (f y).number ≡ y.number) → ((y : Client) → (f y).taken ≡ y.taken)
     → taken_in (taking f x w) c ≡ taken_in w c + cond (n == c) 1 0
 taking_counts w n c x f e number same taken =
-    ap taken_of (find_map (λ (y : Client). y.number == c) (λ y. cond (y.number == x.number) (took (f y)) y) w.clients (λ y. ap (λ m. m == c) (numbered_by f (y.number == x.number) y (same y))))
+    ap taken_of (find_map (λ (y : Client). y.number == c) (λ y. cond (y.number == x.number) (took (f y)) y) w.clients (λ y. ap (λ m. m == c) (same_when (λ (z : Client). z.number) (y.number == x.number) (took (f y)) y (same y))))
     ∙ (taken_more f x.number c (client_at w c) taken (λ y h. number_at w c y h) (λ h. not_none w x.number c x (ap (client_at w) number ∙ e) h)
     ∙ ap (λ m. taken_in w c + cond (m == c) 1 0) number)
 
@@ -113,19 +106,12 @@ client_counts p w n c =
       left = λ at. keeps (λ y. record y { closed = true }) (λ y. refl) (λ y. refl);
     })
 
-plus_none : (n : ℕ) → n ≡ n + 0
-plus_none n = omega arith
-
-delivers : (t : Bool) (tick : ℕ) (x : Client) → ((cond t (record x { delivered = Some tick }) x).number ≡ x.number) × ((cond t (record x { delivered = Some tick }) x).taken ≡ x.taken)
-delivers true tick x = (refl, refl)
-delivers false tick x = (refl, refl)
-
 display_counts : (p : Plan) (w : World) (c : ℕ) → DisplayCases p w (CountsTaken w c)
 unfolding begin_answer
 display_counts p w c =
     let tick = next_tick w.tick in
     record {
-      begins = clients_keep (deliver p w tick) w.clients c (λ x. (delivers (is_attached p w x && not x.closed) tick x).0) (λ x. (delivers (is_attached p w x && not x.closed) tick x).1)
+      begins = clients_keep (deliver p w tick) w.clients c (λ x. same_when (λ (y : Client). y.number) (is_attached p w x && not x.closed) _ x refl) (λ x. same_when (λ (y : Client). y.taken) (is_attached p w x && not x.closed) _ x refl)
           ∙ plus_none (taken_in w c);
       draws = λ r quiet last in_flight. plus_none (taken_in w c);
       dones = λ r quiet in_flight. plus_none (taken_in w c);
@@ -187,9 +173,6 @@ pub record IsSplit {A : Type 0} (t : A → Bool) (xs : List A) (k : ℕ) (x : A)
   pub earlier : length (filter t before) ≡ k
   pub passes : t x ≡ true
 
-none_not_some : {A : Type 0} (x : A) → ◌≡◌ {A = Option A} None (Some x) → ⊥
-none_not_some x h = absurd (cc)
-
 split_later : {A : Type 0} (t : A → Bool) (y : A) (ys : List A) (k m : ℕ) (x : A) (b : Bool) → t y ≡ b → cond b (suc k) k ≡ m → IsSplit t ys k x → IsSplit t (y ∷ ys) m x
 split_later t y ys k m x b e counted r =
     record {
@@ -219,10 +202,7 @@ split_at t (y ∷ ys) k x h =
 
 pub event_is : (c : ℕ) (e : Event) → is_event_of c e ≡ true → e ≡ event.Client c
 event_is c (event.Client d) h = ap event.Client (eqb-true d c h)
-event_is c event.Begin h = absurd (cc)
-event_is c event.Draw h = absurd (cc)
-event_is c event.Done h = absurd (cc)
-event_is c event.Over h = absurd (cc)
+event_is c _ h = absurd (cc)
 
 -- an answer in time is one to a message of a client
 record IsGiven (p : Plan) (w : World) (c : ℕ) (a : Answer) : Type 0 where

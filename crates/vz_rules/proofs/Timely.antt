@@ -10,14 +10,14 @@ use Rattle.vz_frame.specs.declared.frame.CompositorFrame.{CompositorFrame}
 use Rattle.vz_rules.specs.Plan.{Plan, IsPlan}
 use Rattle.vz_rules.specs.declared.entry.Entry.{Entry}
 use Rattle.vz_rules.specs.declared.entry.Event.{Event}
-use Rattle.vz_rules.specs.declared.entry.State.TheVariants.{Active, Past, Dropped}
+use Rattle.vz_rules.specs.declared.entry.State.TheVariants.{Dropped}
 use Rattle.vz_rules.specs.World.{World, Client, FrameData, Submission, is_waiting, is_active, is_on, sub_of, has_sub}
 use Rattle.vz_rules.specs.Settle.{is_met, has_come, is_ready, ready, after_round, round, rounds, settle, activated_in}
 use Rattle.vz_rules.specs.Messages.{Answer, id_of, replace_on, accepted}
 use Rattle.vz_rules.specs.Step.{answer_to, begin_answer, outcome_of, presented_by, step_in, entry_in, world, Legal}
 use Rattle.vz_rules.specs.Accounts.{IsTimely, activations_over}
 use Rattle.vz_rules.specs.Kept.{KeepsAlways}
-use Rattle.vz_rules.proofs.Facts.{length_map, map_at}
+use Rattle.vz_rules.proofs.Facts.{length_map, map_at, same_either}
 use Rattle.vz_rules.proofs.Members.{any_at, contains_at, at_contains, at_map, at_same, at_push, at_within}
 use Rattle.vz_rules.proofs.Counts.{count_at}
 use Rattle.vz_rules.proofs.Kept_facts.{subs_apart, waits_uncome}
@@ -28,23 +28,18 @@ use Rattle.vz_rules.proofs.Prefixes.{legal-front, legal-at}
 use Rattle.vz_rules.proofs.Numbered.{keys_kept}
 use Rattle.vz_rules.proofs.Leaves.{after, left, drops, subs_after, dropped_rest, same_come}
 use Rattle.vz_rules.proofs.Told.{told_once, activations_more}
-use Rattle.vz_rules.proofs.Cases.{client_cases, answer_cases}
+use Rattle.vz_rules.proofs.Cases.{answer_cases, few_cases}
 
 -- what its having come depends on
 abbrev key : Submission → FrameData × ℕ
 key s = (s.submitted, s.due)
-
-after_key : (becomes past : Bool) (s : Submission) → key (cond becomes (record s { state = Active; was_active = true }) (cond past (record s { state = Past }) s)) ≡ key s
-after_key true past s = refl
-after_key false true s = refl
-after_key false false s = refl
 
 rounds_keys : (n : ℕ) (w : World) → map key (rounds n w).subs ≡ map key w.subs
 unfolding rounds round
 rounds_keys zero w = refl
 rounds_keys (suc n) w =
     rounds_keys n (round w)
-    ∙ keys_kept key (after_round (is_ready w) (ready w)) w.subs (λ s. after_key (is_ready w s) (is_active s && list_any (is_on s.submitted.id) (ready w)) s)
+    ∙ keys_kept key (after_round (is_ready w) (ready w)) w.subs (λ s. same_either key (is_ready w s) (is_active s && list_any (is_on s.submitted.id) (ready w)) _ _ s refl refl)
 
 settle_keys : (w : World) → map key (settle w).subs ≡ map key w.subs
 unfolding settle
@@ -95,18 +90,10 @@ answer_waited : (p : Plan) (w : World) (e : Event) → Waited w (answer_to p w e
 unfolding begin_answer
 answer_waited p w e =
     let same : Waited w (record { reply = (answer_to p w e).reply; world = w }) = waited_same w.subs in
-    answer_cases p w (λ d a. Waited w a) (λ n. client_cases p w n (Waited w) same (λ c found number. record {
-      turned = λ m r timely at. same;
-      not_yet = λ at. same;
-      stored = λ id block free at. same;
-      submitted = λ local frame good at. accepted_waited w c local frame;
-      noted = λ m at. same;
-      reclaimed = λ at. same;
-      rooted = λ local root at. same;
-      joined = λ parent child good at. same;
-      began = λ m d at. same;
-      over = λ at. same;
-      left = λ at. same;
+    answer_cases p w (λ d a. Waited w a) (λ n. few_cases p w n (Waited w) (record {
+      others = λ r a b clients root relations. same;
+      submitted = λ c found number local frame good at. accepted_waited w c local frame;
+      left = λ c clients. same;
     })) (record { begins = same; draws = λ r quiet last in_flight. same; dones = λ r quiet in_flight. same; overs = same }) e
 
 -- One entry

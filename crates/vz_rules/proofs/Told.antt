@@ -16,33 +16,29 @@ use Rattle.vz_rules.specs.declared.entry.Entry.{Entry}
 use Rattle.vz_rules.specs.declared.entry.Fed.{Fed}
 use Rattle.vz_rules.specs.declared.entry.State.TheVariants.{Active, Past, Dropped}
 use Rattle.vz_rules.specs.World.{World, Client, Surface, Submission, is_waiting, is_active, is_ended, is_on, is_in_flight, sub_of, has_sub, opening, FrameData, client_at}
-use Rattle.vz_rules.specs.Settle.{has_come, is_ready, ready, after_round, round, rounds, activated_over, settle, activated_in}
+use Rattle.vz_rules.specs.Settle.{is_ready, ready, after_round, round, rounds, activated_over, settle, activated_in}
 use Rattle.vz_rules.specs.Reach.{drop_on, lost_in, naming, clearing, collect}
 use Rattle.vz_rules.specs.Returns.{give_back, feedback_of, mark_fed, feed, fed_in}
 use Rattle.vz_rules.specs.Messages.{Answer, id_of, new_submission, replace_on, accepted, client_answer}
 use Rattle.vz_rules.specs.Step.{answer_to, begin_answer, outcome_of, presented_by, step_in, entry_in, world, Legal, NamesClient}
 use Rattle.vz_rules.specs.Accounts.{IsAcceptance, feedback_over, activations_over, TellsEachOnce}
 use Rattle.vz_rules.specs.Log.{unfed_of, rest_in, rest_of}
-use Rattle.vz_rules.proofs.Counts.{count_cons, count_push}
+use Rattle.vz_rules.proofs.Counts.{count_cons, count_push, count_same, count_none}
 use Rattle.vz_rules.proofs.Rising.{counted, sum_same, sum_flat, sum_one, Rising}
 use Rattle.vz_rules.proofs.Given.{number_of}
 use Rattle.vz_rules.proofs.Numbered.{numbers_are, numbers_rise, client_there}
 use Rattle.vz_rules.proofs.Acceptances.{acceptances_are}
 use Rattle.vz_rules.proofs.Follow_ups.{frames_of, frames_kept, outcome_frames, count_kept}
 use Rattle.vz_rules.proofs.Prefixes.{Steps, along, legal-at}
-use Rattle.vz_rules.proofs.Cases.{DisplayCases, client_cases, answer_cases, number_at}
+use Rattle.vz_rules.proofs.Cases.{DisplayCases, answer_cases, number_at, few_cases}
+use Rattle.vz_rules.proofs.Facts.{same_either, none_plus, and_false}
+use Rattle.vz_rules.proofs.Settled.{ready_waits}
 
 -- Counts
 
-count_append : {A : Type 0} (t : A → Bool) (xs ys : List A) → count_by t (xs ++ ys) ≡ count_by t xs + count_by t ys
-count_append t xs ys = sum_by-append (λ y. cond (t y) 1 0) xs ys
-
 -- as many pass a test after each was changed, where it says the same
 pub count_map : {A : Type 0} (f : A → A) (t : A → Bool) (xs : List A) → ((x : A) → t (f x) ≡ t x) → count_by t (map f xs) ≡ count_by t xs
-count_map f t [] same = refl
-count_map f t (x ∷ xs) same =
-    count_cons t (f x) (map f xs)
-    ∙ (ap (λ (b : Bool). cond b 1 0 + count_by t (map f xs)) (same x) ∙ (ap (λ n. cond (t x) 1 0 + n) (count_map f t xs same) ∙ sym (count_cons t x xs)))
+count_map f t xs same = count_same f t t xs same
 
 all_map : {A : Type 0} (f : A → A) (t : A → Bool) (xs : List A) → ((x : A) → t x ≡ true → t (f x) ≡ true) → list_all t xs ≡ true → list_all t (map f xs) ≡ true
 all_map f t [] keeps h = refl
@@ -78,9 +74,7 @@ abbrev dropped_by : Bool → Submission → Submission
 dropped_by t s = cond t (record s { state = Dropped }) s
 
 after_rest : (becomes past : Bool) (s : Submission) → ((after_by becomes past s).submitted ≡ s.submitted) × ((after_by becomes past s).fed ≡ s.fed)
-after_rest true past s = (refl, refl)
-after_rest false true s = (refl, refl)
-after_rest false false s = (refl, refl)
+after_rest becomes past s = (same_either (λ (x : Submission). x.submitted) becomes past _ _ s refl refl, same_either (λ (x : Submission). x.fed) becomes past _ _ s refl refl)
 
 dropped_rest : (t : Bool) (s : Submission) → ((dropped_by t s).submitted ≡ s.submitted) × ((dropped_by t s).fed ≡ s.fed) × ((dropped_by t s).was_active ≡ s.was_active)
 dropped_rest true s = (refl, refl, refl)
@@ -168,10 +162,6 @@ round_list w sub becomes risen (s ∷ ss) waits h =
       round_list w sub becomes risen ss waits both.1,
     )
 
-ready_waits : (w : World) (s : Submission) → is_ready w s ≡ true → is_waiting s ≡ true
-unfolding is_ready
-ready_waits w s h = (and_parts (is_waiting s) (has_come w s) h).0
-
 round_acts : (w : World) (sub : Sub) → list_all is_fresh w.subs ≡ true
     → count_by (has_acted sub) (round w).subs ≡ count_by (has_acted sub) w.subs + count_by (same_sub sub) (map sub_of (ready w))
 unfolding round ready
@@ -186,7 +176,7 @@ rounds_act : (n : ℕ) (w : World) (sub : Sub) → list_all is_fresh w.subs ≡ 
 unfolding rounds activated_over
 rounds_act zero w sub h = omega arith
 rounds_act (suc n) w sub h =
-    omega (arith, rounds_act n (round w) sub (round_fresh w h), round_acts w sub h, count_append (same_sub sub) (map sub_of (ready w)) (activated_over n (round w)))
+    omega (arith, rounds_act n (round w) sub (round_fresh w h), round_acts w sub h, sum_by-append (λ y. cond ((same_sub sub) y) 1 0) (map sub_of (ready w)) (activated_over n (round w)))
 
 rounds_fresh : (n : ℕ) (w : World) → list_all is_fresh w.subs ≡ true → list_all is_fresh (rounds n w).subs ≡ true
 unfolding rounds
@@ -309,10 +299,6 @@ Keeps w a = KeepsTold w.subs a.world.subs
 told_same : (xs : List Submission) → KeepsTold xs xs
 told_same xs = record { fed = λ sub. refl; acted = λ sub. refl; fresh = λ h. h; names = λ h. h }
 
-and_none : (a : Bool) → ◌≡◌ {A = ℕ} (cond (a && false) 1 0) 0
-and_none true = refl
-and_none false = refl
-
 accepted_told : (w : World) (c : Client) (local : LocalSurfaceId) (frame : CompositorFrame) → Keeps w (accepted w c local frame)
 unfolding accepted new_submission
 accepted_told w c local frame =
@@ -322,11 +308,11 @@ accepted_told w c local frame =
     let replaced : List Submission = map replace w.subs in
     let active : frames_of replaced ≡ frames_of w.subs = frames_kept replace w.subs (λ s. (dropped_rest (drops s) s).0) in
     record {
-      fed = λ sub. omega (arith, count_push (has_fed sub) replaced new, and_none (is_named sub new), count_map replace (has_fed sub) w.subs (λ s. (steady_fed sub).dropped (drops s) s));
+      fed = λ sub. omega (arith, count_push (has_fed sub) replaced new, ap {B = ℕ} (λ (b : Bool). cond b 1 0) (and_false (is_named sub new)), count_map replace (has_fed sub) w.subs (λ s. (steady_fed sub).dropped (drops s) s));
       acted = λ sub. omega (
         arith,
         count_push (has_acted sub) replaced new,
-        and_none (is_named sub new),
+        ap {B = ℕ} (λ (b : Bool). cond b 1 0) (and_false (is_named sub new)),
         count_map replace (has_acted sub) w.subs (λ s.
             let r = dropped_rest (drops s) s in ap (λ i. same_sub sub i.sub && (replace s).was_active) r.0 ∙ ap (λ b. is_named sub s && b) r.2),
       );
@@ -337,19 +323,7 @@ accepted_told w c local frame =
 client_told : (p : Plan) (w : World) (n : ℕ) → Keeps w (client_answer p w n)
 client_told p w n =
     let same : KeepsTold w.subs w.subs = told_same w.subs in
-    client_cases p w n (Keeps w) same (λ c e number. record {
-      turned = λ m r timely at. same;
-      not_yet = λ at. same;
-      stored = λ id block free at. same;
-      submitted = λ local frame good at. accepted_told w c local frame;
-      noted = λ m at. same;
-      reclaimed = λ at. same;
-      rooted = λ local root at. same;
-      joined = λ parent child good at. same;
-      began = λ m d at. same;
-      over = λ at. same;
-      left = λ at. same;
-    })
+    few_cases p w n (Keeps w) (record { others = λ r a b clients root relations. same; submitted = λ c e number local frame good at. accepted_told w c local frame; left = λ c clients. same })
 
 display_told : (p : Plan) (w : World) → DisplayCases p w (λ e a. Keeps w a)
 unfolding begin_answer
@@ -477,19 +451,12 @@ count_filtered g t u [] = refl
 count_filtered g t u (x ∷ xs) =
     elim (u x) as (λ (b : Bool). count_by t (map g (cond b (x ∷ filter u xs) (filter u xs))) ≡ cond (b && t (g x)) 1 0 + count_by (λ y. u y && t (g y)) xs) [
       | true ↦ count_cons t (g x) (map g (filter u xs)) ∙ ap (λ n. cond (t (g x)) 1 0 + n) (count_filtered g t u xs)
-      | false ↦ count_filtered g t u xs ∙ plus_none (count_by (λ y. u y && t (g y)) xs)
+      | false ↦ count_filtered g t u xs ∙ none_plus (count_by (λ y. u y && t (g y)) xs)
     ]
     ∙ sym (count_cons (λ y. u y && t (g y)) x xs)
-  where
-    plus_none : (n : ℕ) → n ≡ 0 + n
-    plus_none n = omega arith
 
 count_alike : {A : Type 0} (t u : A → Bool) (xs : List A) → ((x : A) → t x ≡ u x) → count_by t xs ≡ count_by u xs
 count_alike t u xs same = sum_same (λ x. cond (t x) 1 0) (λ x. cond (u x) 1 0) xs (λ x. ap {B = ℕ} (λ (b : Bool). cond b 1 0) (same x))
-
-count_never : {A : Type 0} (t : A → Bool) (xs : List A) → ((x : A) → t x ≡ false) → count_by t xs ≡ 0
-count_never t [] none = refl
-count_never t (x ∷ xs) none = count_cons t x xs ∙ (ap (λ (b : Bool). cond b 1 0 + count_by t xs) (none x) ∙ omega (arith, count_never t xs none))
 
 -- with a for the client, b for what had feedback, and c and d for the name
 regroup : (a b c d : Bool) → (c ≡ true → a ≡ true) → ((a && not b) && (c && d)) ≡ ((c && d) && not b)
@@ -521,7 +488,7 @@ unfed_own w sub x e =
 unfed_other : (w : World) (sub : Sub) (x : Client) → (x.number == sub.client) ≡ false → unfed_named w sub x ≡ 0
 unfed_other w sub x e =
     count_filtered sub_of (same_sub sub) (λ s. (s.submitted.sub.client == x.number) && not s.fed) w.subs
-    ∙ count_never (λ s. ((s.submitted.sub.client == x.number) && not s.fed) && is_named sub s) w.subs (λ s.
+    ∙ count_none (λ s. ((s.submitted.sub.client == x.number) && not s.fed) && is_named sub s) w.subs (λ s c.
     never_both (s.submitted.sub.client == x.number) s.fed (sub.client == s.submitted.sub.client) (sub.ordinal == s.submitted.sub.ordinal) (λ t.
     ne_eqb sub.client s.submitted.sub.client (λ k. eqb-false x.number sub.client e (sym (eqb-true s.submitted.sub.client x.number t) ∙ sym k))))
 

@@ -1,9 +1,9 @@
 -- What an answer, and what follows it, do to the totals of a client's resource.
-use Rattle.std.proofs.Common.{◌≡◌, ℕ, ◌+◌, ◌-◌, ◌<◌, ◌≤◌, Bool, true, false, not, ◌&&◌, ◌||◌, ◌==◌, inl, inr, Option, Some, None, List, [], ◌∷◌, map, refl, ap, sym, ◌∙◌, subst, cond, arith, sum_by, is_some}
+use Rattle.std.proofs.Common.{◌≡◌, ℕ, ◌+◌, ◌-◌, ◌<◌, ◌≤◌, Bool, true, false, ◌&&◌, ◌||◌, ◌==◌, Option, Some, None, List, [], ◌∷◌, map, refl, ap, sym, ◌∙◌, subst, cond, arith, sum_by, is_some}
 use Rattle.std.specs.Prelude.{nat_lt}
 use Rattle.std.specs.Option.{option_map}
 use Rattle.std.specs.List.{list_all, list_any}
-use Rattle.std.proofs.lemmas.Bool.{eqb-true, eqb-false, ltb-true, ltb-false, lt-ltb, and_parts, and_from, both_ways, cases_order}
+use Rattle.std.proofs.lemmas.Bool.{eqb-true, ltb-true, lt-ltb, and_parts, and_from, both_ways, or_parts, not-false}
 use Rattle.std.proofs.lemmas.List.Sums.{sum_by-append}
 use Rattle.vz_pixels.specs.Block.{Block}
 use Rattle.vz_frame.specs.declared.frame.Listing.{Listing}
@@ -13,10 +13,11 @@ use Rattle.vz_rules.specs.World.{World, Client, Resource, resource_in}
 use Rattle.vz_rules.specs.Messages.{took, new_resource, put_resource, is_unknown, lend, reclaim}
 use Rattle.vz_rules.specs.Returns.{goes_back, queue_resource, returns_of, queue_returns}
 use Rattle.vz_rules.specs.Accounts.{total_of}
-use Rattle.vz_rules.specs.Kept.{count_of}
-use Rattle.vz_rules.proofs.Facts.{false_at}
+use Rattle.vz_rules.specs.Kept.{count_of, AreRising}
+use Rattle.vz_rules.proofs.Facts.{false_at, uncounted}
 use Rattle.vz_rules.proofs.Rising.{find_map, find_test, counted, Rising, rising_map, find_above}
 use Rattle.vz_rules.proofs.Given.{id_of, size_of, given_of, resource_given}
+use Rattle.vz_rules.proofs.Kept_returns.{rising_put}
 
 -- the queued references of a resource in a client's queue
 abbrev pub in_queue_of : ℕ → Client → ℕ
@@ -49,46 +50,24 @@ unchanged id x y same queue up =
 
 -- An upload
 
-above_put : (n id : ℕ) (block : Block) (rs : List Resource) → nat_lt n id ≡ true → list_all (λ (t : Resource). nat_lt n t.id) rs ≡ true
-    → list_all (λ (t : Resource). nat_lt n t.id) (put_resource id block rs) ≡ true
-above_put n id block [] l h = and_from (nat_lt n id) true l refl
-above_put n id block (s ∷ ss) l h =
-    let both = and_parts (nat_lt n s.id) (list_all (λ (t : Resource). nat_lt n t.id) ss) h in
-    elim (s.id == id) as (λ (b : Bool). list_all (λ (t : Resource). nat_lt n t.id) (cond b (record s { block = block } ∷ ss) (cond (nat_lt id s.id) (new_resource id block ∷ s ∷ ss) (s ∷ put_resource id block ss))) ≡ true) [
-      | true ↦ h
-      | false ↦ elim (nat_lt id s.id) as (λ (b : Bool). list_all (λ (t : Resource). nat_lt n t.id) (cond b (new_resource id block ∷ s ∷ ss) (s ∷ put_resource id block ss)) ≡ true) [
-        | true ↦ and_from (nat_lt n id) (list_all (λ (t : Resource). nat_lt n t.id) (s ∷ ss)) l h
-        | false ↦ and_from (nat_lt n s.id) (list_all (λ (t : Resource). nat_lt n t.id) (put_resource id block ss)) both.0 (above_put n id block ss l both.1)
-      ]
-    ]
-
 above_less : (n m : ℕ) (rs : List Resource) → n < m → list_all (λ (t : Resource). nat_lt m t.id) rs ≡ true → list_all (λ (t : Resource). nat_lt n t.id) rs ≡ true
 above_less n m [] l h = refl
 above_less n m (s ∷ ss) l h =
     let both = and_parts (nat_lt m s.id) (list_all (λ (t : Resource). nat_lt m t.id) ss) h in
     and_from (nat_lt n s.id) (list_all (λ (t : Resource). nat_lt n t.id) ss) (lt-ltb n s.id (omega (arith, ltb-true m s.id both.0, l))) (above_less n m ss l both.1)
 
-less_other : (a b : ℕ) → b ≤ a → (a ≡ b → ⊥) → b < a
-less_other a b l n = elim (cases_order a b) [ inl e ↦ absurd (n e) | inr r ↦ elim r [ inl k ↦ absurd (omega arith) | inr k ↦ k ] ]
-
 above_new : (id : ℕ) (s : Resource) (ss : List Resource) → nat_lt id s.id ≡ true → Rising id_of (s ∷ ss) → list_all (λ (t : Resource). nat_lt id t.id) (s ∷ ss) ≡ true
 above_new id s ss l up =
     and_from (nat_lt id s.id) (list_all (λ (t : Resource). nat_lt id t.id) ss) l (above_less id s.id ss (ltb-true id s.id l) up.0)
 
-rising_put : (id : ℕ) (block : Block) (rs : List Resource) → Rising id_of rs → Rising id_of (put_resource id block rs)
-rising_put id block [] up = (refl, tt)
-rising_put id block (s ∷ ss) up =
-    elim (s.id == id) as (λ (b : Bool). (s.id == id) ≡ b
-    → Rising id_of (cond b (record s { block = block } ∷ ss) (cond (nat_lt id s.id) (new_resource id block ∷ s ∷ ss) (s ∷ put_resource id block ss)))) [
-      | true ↦ λ e. up
-      | false ↦ λ e.
-          elim (nat_lt id s.id) as (λ (b : Bool). nat_lt id s.id ≡ b → Rising id_of (cond b (new_resource id block ∷ s ∷ ss) (s ∷ put_resource id block ss))) [
-            | true ↦ λ l. (above_new id s ss l up, up)
-            | false ↦ λ l.
-                let less : s.id < id = less_other id s.id (ltb-false id s.id l) (λ d. eqb-false s.id id e (sym d)) in
-                (above_put s.id id block ss (lt-ltb s.id id less) up.0, rising_put id block ss up.1)
-          ] refl
-    ] refl
+-- resources stand by rising id, in the words of both
+are_rising : (rs : List Resource) → Rising id_of rs → AreRising rs
+are_rising [] up = tt
+are_rising (s ∷ ss) up = (up.0, are_rising ss up.1)
+
+from_rising : (rs : List Resource) → AreRising rs → Rising id_of rs
+from_rising [] up = tt
+from_rising (s ∷ ss) up = (up.0, from_rising ss up.1)
 
 -- a total that a new resource does not have, and that a new block leaves
 abbrev IsTotal : (Resource → ℕ) → Type 0
@@ -131,7 +110,7 @@ storing id block x = record x { resources = put_resource id block x.resources }
 pub answered_stored : (n id : ℕ) (block : Block) (x : Client) → Rising id_of x.resources → IsAnswered n x (took (storing id block x)) 0 []
 answered_stored n id block x up =
     record {
-      rising = rising_put id block x.resources up;
+      rising = from_rising (put_resource id block x.resources) (rising_put id block x.resources (are_rising x.resources up));
       lent = omega (arith, total_put (λ s. s.lent) (λ s b. (refl, refl)) n id block x.resources up);
       queued = total_put (λ s. s.queued) (λ s b. (refl, refl)) n id block x.resources up;
       reclaimed = λ e. omega (arith, total_put (λ s. s.reclaimed) (λ s b. (refl, refl)) n id block x.resources up);
@@ -162,20 +141,12 @@ counted_same : (total : Resource → ℕ) (f : Resource → Resource) (o : Optio
 counted_same total f None same = refl
 counted_same total f (Some s) same = same s
 
-one_counted : (n : ℕ) (t : Bool) → t ≡ false → 0 ≡ 0 + cond t 1 0
-one_counted n true e = absurd (cc)
-one_counted n false e = omega arith
-
 lent_by : (listings : List Listing) (id : ℕ) (rs : List Resource) (o : Option Resource) → resource_in id rs ≡ o → (list_any (lists id) listings ≡ true → is_some o ≡ true)
     → counted (λ s. s.lent) (option_map (lend listings) o) ≡ counted (λ s. s.lent) o + cond (list_any (lists id) listings) 1 0
-lent_by listings id rs None e known = one_counted id (list_any (lists id) listings) (false_at (list_any (lists id) listings) (λ t. both_ways false refl (known t)))
+lent_by listings id rs None e known = uncounted (list_any (lists id) listings) (false_at (list_any (lists id) listings) (λ t. both_ways false refl (known t)))
 lent_by listings id rs (Some s) e known =
     lent_more listings (list_any (lists s.id) listings) s
     ∙ ap (λ n. s.lent + cond (list_any (lists n) listings) 1 0) (eqb-true s.id id (find_test (λ (r : Resource). r.id == id) rs s e))
-
--- a client whose listings are lent
-abbrev pub lending : List Listing → Client → Client
-lending listings x = record x { resources = map (lend listings) x.resources }
 
 pub answered_lent : (id : ℕ) (listings : List Listing) (x y : Client) → y.resources ≡ map (lend listings) x.resources → y.queue ≡ x.queue → Rising id_of x.resources
     → (list_any (lists id) listings ≡ true → is_some (resource_in id x.resources) ≡ true) → IsAnswered id x y (cond (list_any (lists id) listings) 1 0) []
@@ -201,20 +172,12 @@ unknown_some id l (s ∷ ss) e h =
       | false ↦ λ k m. ap (λ (t : Bool). is_some (cond t (Some s) (resource_in id ss))) (ap (λ n. s.id == n) (sym e) ∙ k) ∙ unknown_some id l ss e m
     ] refl h
 
-or_no : (a b : Bool) → (a || b) ≡ false → (a ≡ false) × (b ≡ false)
-or_no true b h = absurd (cc)
-or_no false b h = (refl, h)
-
-not_no : (a : Bool) → not a ≡ false → a ≡ true
-not_no true h = refl
-not_no false h = absurd (cc)
-
 pub known_listed : (id : ℕ) (rs : List Resource) (listings : List Listing) → list_any (is_unknown rs) listings ≡ false → list_any (lists id) listings ≡ true → is_some (resource_in id rs) ≡ true
 known_listed id rs [] h k = absurd (cc)
 known_listed id rs (l ∷ ls) h k =
-    let none = or_no (is_unknown rs l) (list_any (is_unknown rs) ls) h in
+    let none = or_parts (is_unknown rs l) (list_any (is_unknown rs) ls) h in
     elim (lists id l) as (λ (t : Bool). lists id l ≡ t → (t || list_any (lists id) ls) ≡ true → is_some (resource_in id rs) ≡ true) [
-      | true ↦ λ e m. unknown_some id l rs (eqb-true l.id id e) (not_no _ none.0)
+      | true ↦ λ e m. unknown_some id l rs (eqb-true l.id id e) (not-false _ none.0)
       | false ↦ λ e m. known_listed id rs ls none.1 m
     ] refl k
 

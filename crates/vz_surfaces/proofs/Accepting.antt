@@ -1,8 +1,8 @@
 -- What is kept of surfaces where a submission is accepted.
-use Rattle.std.proofs.Common.{◌≡◌, ℕ, ◌+◌, Bool, true, false, not, ◌&&◌, ◌||◌, inl, inr, Option, Some, None, List, [], ◌∷◌, ◌++◌, map, refl, ap, sym, ◌∙◌, arith, cond, Contains, count_by}
-use Rattle.std.specs.Prelude.{nat_le, nat_lt}
+use Rattle.std.proofs.Common.{◌≡◌, ℕ, ◌+◌, Bool, true, false, not, ◌&&◌, Option, Some, None, List, [], ◌∷◌, ◌++◌, map, refl, ap, sym, ◌∙◌, arith, cond, Contains, count_by}
+use Rattle.std.proofs.lemmas.Bool.Decides.{nat_tests}
 use Rattle.std.specs.Option.{option_map}
-use Rattle.std.proofs.lemmas.Bool.{and_parts, or_cases, both_ways, ltb-true}
+use Rattle.std.proofs.lemmas.Bool.{and_parts, or_cases, both_ways}
 use Rattle.vz_ids.specs.declared.FrameSinkId.{FrameSinkId}
 use Rattle.vz_ids.specs.declared.LocalSurfaceId.{LocalSurfaceId}
 use Rattle.vz_ids.specs.declared.SurfaceId.{SurfaceId}
@@ -30,12 +30,7 @@ use Rattle.vz_surfaces.proofs.Others.{never, no_and, and_swap, waits_inactive, C
 -- A new id
 
 raises_none : (a : LocalSurfaceId) → is_raised a a ≡ true → ⊥
-raises_none a h =
-    let on = and_parts (nat_le a.parent a.parent && nat_le a.child a.child) (nat_lt a.parent a.parent || nat_lt a.child a.child) h in
-    elim (or_cases (nat_lt a.parent a.parent) (nat_lt a.child a.child) on.1) [
-      | inl l ↦ omega (arith, ltb-true a.parent a.parent l)
-      | inr l ↦ omega (arith, ltb-true a.child a.child l)
-    ]
+raises_none a h = grind (arith, nat_tests, and_parts, or_cases)
 
 -- where the id goes on from the last one no surface has it
 pub is_unknown : (st : Stored) (c : ℕ) (sink : FrameSinkId) (local : LocalSurfaceId) → KeepsStored st → IsSinkOf c sink st → violates (last_in st.surfaces c) local ≡ false
@@ -58,11 +53,7 @@ replaced_by : (w o : Bool) (s : Submission) → o ≡ false → cond (w && o) (r
 replaced_by w o s e = ap (λ (t : Bool). cond t (record s { state = Dropped }) s) (no_and w o e)
 
 pub replaces_on : (id : SurfaceId) (subs : List Submission) → ChangesOn id (replace_on id) subs
-replaces_on id subs =
-    record {
-      submitted = λ s c. when_same (λ (x : Submission). x.submitted) (λ s. record s { state = Dropped }) (is_waiting s && is_on id s) s refl;
-      others = λ s c e. replaced_by (is_waiting s) (is_on id s) s e;
-    }
+replaces_on id subs = grind (arith, nat_tests, when_same, replaced_by)
 
 acts_by : (w o : Bool) (s : Submission) → (w ≡ true → is_active s ≡ false) → is_active (cond (w && o) (record s { state = Dropped }) s) ≡ is_active s
 acts_by true true s h = sym (h refl)
@@ -199,11 +190,4 @@ module _ (st : Stored) (c : ℕ) (sink : FrameSinkId) (local : LocalSurfaceId) (
   -- how many exist
   pub stored_count : existing_count (storing c sink local frame blocks st) ≡ existing_count st + cond (is_last (last_in st.surfaces c) local) 0 1
   unfolding existing_count storing
-  stored_count = by (is_last (last_in st.surfaces c) local)
-    where
-      add_none : (n : ℕ) → n ≡ n + 0
-      add_none n = omega arith
-
-      by : (t : Bool) → count_by (λ (s : Created). not s.destroyed) (cond t st.surfaces (st.surfaces ++ the_new ∷ [])) ≡ count_by (λ (s : Created). not s.destroyed) st.surfaces + cond t 0 1
-      by true = add_none (count_by (λ (s : Created). not s.destroyed) st.surfaces)
-      by false = count_push (λ (s : Created). not s.destroyed) st.surfaces the_new
+  stored_count = grind (arith, nat_tests, count_push)

@@ -1,5 +1,6 @@
 -- What waits is found by its surface and by its name.
-use Rattle.std.proofs.Common.{◌≡◌, Bool, true, false, Option, Some, None, is_some, find, refl, ap, sym, ◌∙◌, ◌&&◌, Contains}
+use Rattle.std.proofs.Common.{arith, ◌≡◌, true, Option, Some, None, is_some, find, refl, ap, sym, ◌∙◌, ◌&&◌, Contains}
+use Rattle.std.proofs.lemmas.Bool.Decides.{nat_tests}
 use Rattle.std.proofs.lemmas.Bool.{both_ways}
 use Rattle.std.specs.Option.{option_map}
 use Rattle.vz_ids.specs.declared.SurfaceId.{SurfaceId}
@@ -50,12 +51,4 @@ waits_there t w o st sub r h e x c waits name = e ∙ (ap (waits_on w) (sym name
 
 -- and it has no other
 pub waits_alone : (t : Table) (w : Waits) (o : Owners) (st : Stored) (sub : Sub) (r : Option SurfaceId) → Keeps t w o st → r ≡ waits_on w sub → is_some r ≡ is_waiting_in st sub
-waits_alone t w o st sub r h e = by (is_some r) (is_waiting_in st sub) refl refl
-  where
-    by : (a b : Bool) → is_some r ≡ a → is_waiting_in st sub ≡ b → a ≡ b
-    by true true f g = refl
-    by false false f g = refl
-    by true false f g = absurd (both_ways (is_waiting_in st sub) g (h.waits.only sub (ap is_some (sym e) ∙ f)))
-    by false true f g =
-        let x = named_at st sub g in
-        absurd (both_ways (is_some r) f (ap is_some (e ∙ (ap (waits_on w) (sym (same_names (sub_of x.0) sub x.3)) ∙ h.waits.found x.0 x.1 x.2))))
+waits_alone t w o st sub r h e = grind (arith, nat_tests, both_ways (is_waiting_in st sub), named_at st sub, both_ways (is_some r), same_names)

@@ -1,10 +1,10 @@
 -- What is counted of clients stays where surfaces and submissions keep what is counted.
-use Rattle.std.proofs.Common.{◌≡◌, ℕ, ◌+◌, Bool, true, false, ◌&&◌, ◌==◌, Option, Some, None, List, [], ◌∷◌, map, find, refl, ap, sym, ◌∙◌, arith, cond, Contains, count_by, slice_get, suc}
+use Rattle.std.proofs.Common.{◌≡◌, ℕ, ◌+◌, Bool, true, false, ◌&&◌, Option, Some, None, List, [], ◌∷◌, map, find, refl, ap, sym, ◌∙◌, arith, cond, Contains, count_by, slice_get, suc}
+use Rattle.std.proofs.lemmas.Bool.Decides.{nat_tests}
 use Rattle.std.specs.Option.{option_map}
 use Rattle.vz_geom.specs.declared.Size.{Size}
 use Rattle.vz_ids.specs.declared.LocalSurfaceId.{LocalSurfaceId}
-use Rattle.vz_rules.specs.World.{Surface, FrameData, Submission}
-use Rattle.vz_rules.specs.Kept.{last_in, is_surface_of, is_by}
+use Rattle.vz_rules.specs.World.{Surface, Submission}
 use Rattle.vz_rules.proofs.Counts.{count_cons}
 use Rattle.vz_rules.proofs.Members.{contains_at}
 use Rattle.vz_rules.proofs.Kept_last.{last_map}
@@ -31,14 +31,7 @@ read_by g (Some c) h = λ i. Some (((h.id c i).local, h.size c i))
 pub owners_stay : (o : Owners) (f : Submission → Submission) (g : Surface → Surface) (st : Stored) → ((s : Submission) → Contains st.subs s → (f s).submitted ≡ s.submitted) → KeepsCounted g
     → KeepsOwners o st → KeepsOwners o (record { surfaces = map g st.surfaces; subs = map f st.subs })
 unfolding last_of
-owners_stay o f g st same counted h =
-    record {
-      accepted = λ c n. h.accepted c n ∙ sym (count_kept (is_by c) f st.subs (λ s p. ap (λ (i : FrameData). i.sub.client == c) (same s p)));
-      created = λ c n. h.created c n ∙ sym (count_kept (is_surface_of c) g st.surfaces (λ s p. ap (λ k. k == c) (counted.client s)));
-      last = λ c n. h.last c n
-          ∙ sym (ap (option_map {U = Named} (λ (s : Surface). (s.id.local, s.size))) (last_map g (λ (s : Surface). s.client == c) st.surfaces (λ s. ap (λ k. k == c) (counted.client s)))
-          ∙ read_by g (last_in st.surfaces c) counted);
-    }
+owners_stay o f g st same counted h = grind (arith, nat_tests, count_kept, last_map, read_by)
 
 -- One fewer
 

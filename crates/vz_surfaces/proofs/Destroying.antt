@@ -1,5 +1,6 @@
 -- What is kept where a surface is destroyed, and where surfaces are marked.
-use Rattle.std.proofs.Common.{◌≡◌, ℕ, ◌+◌, Bool, true, false, not, ◌&&◌, ◌||◌, ◌==◌, Option, Some, None, List, [], ◌∷◌, map, find, refl, ap, sym, ◌∙◌, cond, subst, Contains}
+use Rattle.std.proofs.Common.{arith, ◌≡◌, ℕ, ◌+◌, Bool, true, false, not, ◌&&◌, ◌||◌, Option, Some, None, List, [], ◌∷◌, map, find, refl, ap, sym, ◌∙◌, cond, subst, Contains}
+use Rattle.std.proofs.lemmas.Bool.Decides.{nat_tests}
 use Rattle.std.specs.Option.{option_map}
 use Rattle.std.proofs.lemmas.Bool.{and_parts, both_ways}
 use Rattle.vz_ids.specs.declared.SurfaceId.{SurfaceId}
@@ -26,23 +27,10 @@ use Rattle.vz_surfaces.proofs.Naming.{name_of, one_named}
 -- Marks
 
 marks_kept : (c : ℕ) → KeepsKept (mark_of c)
-marks_kept c =
-    let marks = λ (s : Surface). record s { marked = true } in
-    record {
-      client = λ s. when_same (λ (y : Surface). y.client) marks (s.client == c) s refl;
-      number = λ s. when_same (λ (y : Surface). y.number) marks (s.client == c) s refl;
-      id = λ s. when_same (λ (y : Surface). y.id) marks (s.client == c) s refl;
-      destroyed = λ s. when_same (λ (y : Surface). y.destroyed) marks (s.client == c) s refl;
-    }
+marks_kept c = grind (arith, nat_tests, when_same)
 
 marks_counted : (c : ℕ) → KeepsCounted (mark_of c)
-marks_counted c =
-    let marks = λ (s : Surface). record s { marked = true } in
-    record {
-      client = λ s. when_same (λ (y : Surface). y.client) marks (s.client == c) s refl;
-      id = λ s. when_same (λ (y : Surface). y.id) marks (s.client == c) s refl;
-      size = λ s. when_same (λ (y : Surface). y.size) marks (s.client == c) s refl;
-    }
+marks_counted c = grind (arith, nat_tests, when_same)
 
 pub marked_at : (c : ℕ) (st : Stored) (q : SurfaceId) → surface_at (marking c st) q ≡ surface_at st q
 unfolding surface_at marking
@@ -72,20 +60,10 @@ dropped_by : (o on : Bool) (s : Submission) → on ≡ false → cond (o && on) 
 dropped_by o on s e = ap (λ (t : Bool). cond t (record s { state = Dropped }) s) (no_and o on e)
 
 pub drops_on : (id : SurfaceId) (subs : List Submission) → ChangesOn id (dropped_at id) subs
-drops_on id subs =
-    record {
-      submitted = λ s c. when_same (λ (x : Submission). x.submitted) (λ s. record s { state = Dropped }) ((is_waiting s || is_active s) && is_on id s) s refl;
-      others = λ s c e. dropped_by (is_waiting s || is_active s) (is_on id s) s e;
-    }
+drops_on id subs = grind (arith, nat_tests, when_same, dropped_by)
 
 ends_counted : (id : SurfaceId) → KeepsCounted (ended_at id)
-ends_counted id =
-    let ends = λ (s : Surface). record s { destroyed = true } in
-    record {
-      client = λ s. when_same (λ (y : Surface). y.client) ends (same_surface s.id id) s refl;
-      id = λ s. when_same (λ (y : Surface). y.id) ends (same_surface s.id id) s refl;
-      size = λ s. when_same (λ (y : Surface). y.size) ends (same_surface s.id id) s refl;
-    }
+ends_counted id = grind (arith, nat_tests, when_same)
 
 ends_not : (t : Bool) (s : Surface) → (t && not (cond t (record s { destroyed = true }) s).destroyed) ≡ false
 ends_not true s = refl

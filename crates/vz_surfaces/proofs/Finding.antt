@@ -1,5 +1,6 @@
 -- What is found in lists whose elements changed, and in lists with one element more.
-use Rattle.std.proofs.Common.{◌≡◌, ◌+◌, Bool, true, false, ◌⊎◌, inl, inr, Option, Some, None, List, [], ◌∷◌, ◌++◌, map, find, refl, ap, sym, ◌∙◌, cond, Contains, count_by}
+use Rattle.std.proofs.Common.{arith, ◌≡◌, ◌+◌, Bool, true, false, ◌⊎◌, inl, inr, Option, Some, None, List, [], ◌∷◌, ◌++◌, map, find, refl, ap, sym, ◌∙◌, cond, Contains, count_by}
+use Rattle.std.proofs.lemmas.Bool.Decides.{nat_tests}
 use Rattle.std.specs.Option.{option_map}
 use Rattle.vz_rules.specs.Scene.{or_else}
 use Rattle.vz_rules.proofs.Members.{contains_here, contains_there, contains_none, contains_cases}
@@ -24,11 +25,7 @@ module _ {A : Type 0} where
   -- one element more at the end is found where none before it is
   pub find_end : (p : A → Bool) (xs : List A) (y : A) → find p (xs ++ y ∷ []) ≡ or_else (find p xs) (cond (p y) (Some y) None)
   find_end p [] y = refl
-  find_end p (x ∷ xs) y =
-      elim (p x) as (λ (t : Bool). cond t (Some x) (find p (xs ++ y ∷ [])) ≡ or_else (cond t (Some x) (find p xs)) (cond (p y) (Some y) None)) [
-        | true ↦ refl
-        | false ↦ find_end p xs y
-      ]
+  find_end p (x ∷ xs) y = grind (arith, nat_tests, find_end p xs y)
 
   or_none : (o : Option A) → or_else o None ≡ o
   or_none None = refl

@@ -1,19 +1,20 @@
 -- A store changes as the machine's state does.
-use Rattle.std.proofs.Common.{◌≡◌, ℕ, ◌+◌, Bool, true, false, ◌&&◌, ◌||◌, ◌==◌, Option, Some, None, List, [], ◌∷◌, ◌++◌, map, find, refl, ap, sym, ◌∙◌, cond, Contains, is_some}
+use Rattle.std.proofs.Common.{arith, ◌≡◌, ℕ, ◌+◌, Bool, true, false, ◌&&◌, ◌||◌, ◌==◌, Option, Some, None, List, [], ◌∷◌, ◌++◌, map, find, refl, ap, sym, ◌∙◌, cond, Contains, is_some}
+use Rattle.std.proofs.lemmas.Bool.Decides.{nat_tests}
 use Rattle.std.specs.Option.{option_map}
 use Rattle.std.proofs.lemmas.List.{map-append}
 use Rattle.std.proofs.lemmas.Bool.{both_ways, and_from, eq-eqb}
 use Rattle.vz_ids.specs.declared.LocalSurfaceId.{LocalSurfaceId}
 use Rattle.vz_ids.specs.declared.Sub.{Sub}
-use Rattle.vz_ids.specs.Ids.{same_surface, same_sub}
+use Rattle.vz_ids.specs.Ids.{same_sub}
 use Rattle.vz_frame.specs.declared.frame.CompositorFrame.{CompositorFrame}
 use Rattle.vz_frame.specs.declared.message.Message.TheVariants.{Close}
 use Rattle.vz_rules.specs.declared.entry.State.TheVariants.{Dropped, Past, Active}
 use Rattle.vz_rules.specs.Plan.{Plan}
 use Rattle.vz_rules.specs.World.{World, Client, Surface, Submission, is_waiting, is_active, is_on, sub_of, opening}
-use Rattle.vz_rules.specs.Settle.{number_of, is_before, marked_by}
+use Rattle.vz_rules.specs.Settle.{is_before, marked_by}
 use Rattle.vz_rules.specs.Reach.{drop_on}
-use Rattle.vz_rules.specs.Messages.{accepted, new_submission, with_surface, blocks_of, is_last, replace_on, mark_of, message_answer}
+use Rattle.vz_rules.specs.Messages.{accepted, new_submission, with_surface, blocks_of, replace_on, mark_of, message_answer}
 use Rattle.vz_rules.specs.Singly.{rising, going, as_one_rises, as_one_goes}
 use Rattle.vz_rules.specs.Kept.{KeepsAlways, last_in, is_surface_of, is_by}
 use Rattle.vz_rules.proofs.Members.{contains_at, at_same, any_from, find_at, found}
@@ -21,7 +22,7 @@ use Rattle.vz_rules.proofs.Counts.{count_same}
 use Rattle.vz_rules.proofs.Rising.{find_map}
 use Rattle.vz_rules.proofs.Kept_facts.{subs_apart}
 use Rattle.vz_rules.proofs.Kept_last.{last_map}
-use Rattle.vz_surfaces.specs.Stored.{Stored, bare_surface, bare_sub, stored_of, nothing_stored, surface_of, new_surface, creating, accepted_as, waiting_with, storing, named_in, raising, activating, marking, ended_at, dropped_at, destroying}
+use Rattle.vz_surfaces.specs.Stored.{Stored, bare_surface, bare_sub, stored_of, nothing_stored, surface_of, creating, accepted_as, waiting_with, storing, named_in, raising, activating, marking, ended_at, dropped_at, destroying}
 
 -- both lists agree
 pub agree : {a b : List Surface} {x y : List Submission} → a ≡ b → x ≡ y → ◌≡◌ {A = Stored} (record { surfaces = a; subs = x }) (record { surfaces = b; subs = y })
@@ -41,25 +42,10 @@ started p = refl
 pub last_bare : (ss : List Surface) (c : ℕ) → last_in (map bare_surface ss) c ≡ option_map bare_surface (last_in ss c)
 last_bare ss c = last_map bare_surface (λ s. s.client == c) ss (λ x. refl)
 
-is_last_bare : (o : Option Surface) (local : LocalSurfaceId) → is_last (option_map bare_surface o) local ≡ is_last o local
-is_last_bare None local = refl
-is_last_bare (Some s) local = refl
-
-created_by : (t : Bool) (ss : List Surface) (new : Surface) → map bare_surface (cond t ss (ss ++ new ∷ [])) ≡ cond t (map bare_surface ss) (map bare_surface ss ++ bare_surface new ∷ [])
-created_by true ss new = refl
-created_by false ss new = map-append bare_surface ss (new ∷ [])
-
 created_same : (w : World) (c : Client) (local : LocalSurfaceId) (frame : CompositorFrame)
     → map bare_surface (with_surface w c local frame) ≡ creating c.number c.sink local frame (map bare_surface w.surfaces)
 unfolding with_surface
-created_same w c local frame =
-    let ss = w.surfaces in
-    let id = surface_of c.sink local in
-    created_by (is_last (last_in ss c.number) local) ss (record (new_surface c.number id frame ss) { born = w.tick })
-    ∙ (ap (λ n. cond (is_last (last_in ss c.number) local) (map bare_surface ss) (map bare_surface ss ++ record (new_surface c.number id frame ss) { number = n + 1 } ∷ []))
-    (sym (count_same bare_surface (is_surface_of c.number) (is_surface_of c.number) ss (λ x. refl)))
-    ∙ ap (λ (t : Bool). cond t (map bare_surface ss) (map bare_surface ss ++ new_surface c.number id frame (map bare_surface ss) ∷ []))
-    (sym (ap (λ o. is_last o local) (last_bare ss c.number) ∙ is_last_bare (last_in ss c.number) local)))
+created_same w c local frame = grind (arith, nat_tests, map-append, count_same bare_surface (is_surface_of c.number) (is_surface_of c.number), last_bare)
 
 dropped_by : (t : Bool) (s : Submission) → bare_sub (cond t (record s { state = Dropped }) s) ≡ cond t (record (bare_sub s) { state = Dropped }) (bare_sub s)
 dropped_by true s = refl
@@ -88,19 +74,12 @@ number_by : (o : Option Surface) → (elim (option_map bare_surface o) as (λ o.
 number_by None = refl
 number_by (Some c) = refl
 
-number_bare : (ss : List Surface) (s : Submission) → number_of (map bare_surface ss) (bare_sub s) ≡ number_of ss s
-number_bare ss s =
-    ap (λ (o : Option Surface). elim o as (λ o. ℕ) [ Some c ↦ c.number | None ↦ 0 ]) (find_map (λ c. same_surface c.id s.submitted.id) bare_surface ss (λ x. refl))
-    ∙ number_by (find (λ c. same_surface c.id s.submitted.id) ss)
-
 marked_when : (t : Bool) (c : Surface) → bare_surface (cond t (record c { marked = true }) c) ≡ cond t (record (bare_surface c) { marked = true }) (bare_surface c)
 marked_when true c = refl
 marked_when false c = refl
 
 marked_bare : (ss : List Surface) (s : Submission) (c : Surface) → bare_surface (marked_by ss (s ∷ []) c) ≡ marked_by (map bare_surface ss) (bare_sub s ∷ []) (bare_surface c)
-marked_bare ss s c =
-    marked_when (is_before ss c s || false) c
-    ∙ ap (λ n. cond (((c.client == s.submitted.sub.client) && Rattle.std.specs.Prelude.nat_lt c.number n) || false) (record (bare_surface c) { marked = true }) (bare_surface c)) (sym (number_bare ss s))
+marked_bare ss s c = grind (arith, nat_tests, marked_when (is_before ss c s || false) c, find_map, number_by)
 
 rises_by : (one past : Bool) (t : Submission)
     → bare_sub (cond one (record t { state = Active; was_active = true }) (cond past (record t { state = Past }) t))
@@ -124,16 +103,11 @@ found_by w s h c (Some t) e =
     ap (λ z. Some z) (at_same w.subs n.0 m.0 t s n.1 m.1 (subs_apart w n.0 m.0 t s h n.1 m.1 there.1))
 
 pub named_bare : (w : World) (s : Submission) → KeepsAlways w → Contains w.subs s → named_in (sub_of s) (map bare_sub w.subs) ≡ Some (bare_sub s)
-named_bare w s h c =
-    find_map (λ t. same_sub (sub_of t) (sub_of s)) bare_sub w.subs (λ x. refl)
-    ∙ ap (option_map bare_sub) (found_by w s h c (find (λ t. same_sub (sub_of t) (sub_of s)) w.subs) refl)
+named_bare w s h c = grind (arith, nat_tests, find_map, found_by w s h c)
 
 pub follows_activated : (w : World) (s : Submission) → KeepsAlways w → Contains w.subs s → stored_of (rising s w) ≡ activating (sub_of s) (stored_of w)
 unfolding stored_of rising activating raising
-follows_activated w s h c =
-    agree (map_turned bare_surface (marked_by w.surfaces (s ∷ [])) (marked_by (map bare_surface w.surfaces) (bare_sub s ∷ [])) w.surfaces (marked_bare w.surfaces s))
-    (map_turned bare_sub (as_one_rises s) (as_one_rises (bare_sub s)) w.subs (rises_bare s))
-    ∙ ap (λ (o : Option Submission). elim o as (λ o. Stored) [ Some s ↦ raising s (stored_of w) | None ↦ stored_of w ]) (sym (named_bare w s h c))
+follows_activated w s h c = grind (arith, nat_tests, agree, map_turned, marked_bare, rises_bare, named_bare)
 
 -- Closing and destroying
 
@@ -141,17 +115,6 @@ pub follows_closed : (w : World) (c : Client) → stored_of (message_answer w c 
 unfolding stored_of message_answer marking
 follows_closed w c = agree (map_turned bare_surface (mark_of c.number) (mark_of c.number) w.surfaces (λ s. marked_when (s.client == c.number) s)) refl
 
-ends_by : (t : Bool) (c : Surface) → bare_surface (cond t (record c { destroyed = true }) c) ≡ cond t (record (bare_surface c) { destroyed = true }) (bare_surface c)
-ends_by true c = refl
-ends_by false c = refl
-
-or_no : (a b : Bool) (s : Submission) → cond (a && (b || false)) (record s { state = Dropped }) s ≡ cond (a && b) (record s { state = Dropped }) s
-or_no a true s = refl
-or_no a false s = refl
-
 pub follows_destroyed : (w : World) (c : Surface) → stored_of (going c w) ≡ destroying c.id (stored_of w)
 unfolding stored_of going destroying
-follows_destroyed w c =
-    agree (map_turned bare_surface (as_one_goes c) (ended_at c.id) w.surfaces (λ d. ends_by (same_surface d.id c.id) d))
-    (map_turned bare_sub (drop_on (c ∷ [])) (dropped_at c.id) w.subs (λ s.
-    dropped_by ((is_waiting s || is_active s) && (is_on c.id s || false)) s ∙ or_no (is_waiting s || is_active s) (is_on c.id s) (bare_sub s)))
+follows_destroyed w c = grind (arith, nat_tests, agree, map_turned bare_surface (as_one_goes c) (ended_at c.id) w.surfaces, map_turned bare_sub (drop_on (c ∷ [])) (dropped_at c.id) w.subs, dropped_by)

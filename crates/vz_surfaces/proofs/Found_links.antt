@@ -1,6 +1,7 @@
 -- The link that is found in the groups is that of what a range shows.
-use Rattle.std.proofs.Common.{◌≡◌, Bool, true, false, Option, Some, None, is_some, List, [], ◌∷◌, filter, find, reverse, refl, ap, sym, ◌∙◌, cond, subst, Contains}
-use Rattle.std.specs.Option.{option_map, option_map_or, option_and_then}
+use Rattle.std.proofs.Common.{arith, ◌≡◌, Bool, true, false, Option, Some, None, is_some, List, [], ◌∷◌, filter, find, reverse, refl, ap, sym, ◌∙◌, cond, Contains}
+use Rattle.std.proofs.lemmas.Bool.Decides.{nat_tests}
+use Rattle.std.specs.Option.{option_map}
 use Rattle.vz_ids.specs.declared.SurfaceId.{SurfaceId}
 use Rattle.vz_ids.specs.declared.SurfaceRange.{SurfaceRange}
 use Rattle.vz_ids.specs.Ids.{same_group, at_least}
@@ -8,11 +9,10 @@ use Rattle.vz_rules.specs.Scene.{or_else}
 use Rattle.vz_rules.proofs.Members.{contains_here, contains_there, filter_at}
 use Rattle.vz_surfaces.specs.Stored.{Stored}
 use Rattle.vz_surfaces.specs.Reading.{shown_in}
-use Rattle.vz_surfaces.specs.declared.table.Surface.{Surface}
 use Rattle.vz_surfaces.specs.declared.table.Table.{Table}
 use Rattle.vz_surfaces.specs.declared.groups.Link.{Link}
 use Rattle.vz_surfaces.specs.declared.groups.Groups.{Groups}
-use Rattle.vz_surfaces.specs.Memory.{key_at, under, KeepsTable}
+use Rattle.vz_surfaces.specs.Memory.{key_at, KeepsTable}
 use Rattle.vz_surfaces.specs.Chains.{links_at, ids_of, chain_at, acting_under, KeepsGroups, KeepsLinks, that_passes, starts_from, last_acting, newest_to, newest_from, shown_link}
 use Rattle.vz_surfaces.proofs.Linking.{ids_filter}
 use Rattle.vz_surfaces.proofs.Shown.{is_acting, id_passes, id_from, last_step, ids_show}
@@ -28,40 +28,20 @@ either_link (Some l) b = refl
 
 pass_link : (p : SurfaceId → Bool) (o : Option Link) → option_map (λ (x : Link). x.id) (that_passes p o) ≡ id_passes p (option_map (λ (x : Link). x.id) o)
 pass_link p None = refl
-pass_link p (Some l) = by (p l.id)
-  where
-    by : (b : Bool) → option_map (λ (x : Link). x.id) (cond b (Some l) None) ≡ cond b (Some l.id) None
-    by true = refl
-    by false = refl
+pass_link p (Some l) = grind (arith, nat_tests)
 
 passed : (p : SurfaceId → Bool) (o : Option Link) (l : Link) → that_passes p o ≡ Some l → o ≡ Some l
 passed p None l e = e
-passed p (Some m) l e = by (p m.id) e
-  where
-    by : (b : Bool) → ◌≡◌ {A = Option Link} (cond b (Some m) None) (Some l) → ◌≡◌ {A = Option Link} (Some m) (Some l)
-    by true f = f
-    by false f = absurd (cc)
+passed p (Some m) l e = grind (arith, nat_tests)
 
 -- what is found from the end is one of the list
 last_there : (p : Link → Bool) (xs : List Link) (x : Link) → find p (reverse xs) ≡ Some x → Contains xs x
 last_there p [] x e = absurd (cc)
-last_there p (y ∷ xs) x e = by (find p (reverse xs)) refl (p y) (sym (last_step p y xs) ∙ e) (last_there p xs x)
-  where
-    one : {a b : Link} → Some a ≡ Some b → a ≡ b
-    one f = cc
-
-    by : (o : Option Link) → find p (reverse xs) ≡ o → (b : Bool) → or_else o (cond b (Some y) None) ≡ Some x → (find p (reverse xs) ≡ Some x → Contains xs x) → Contains (y ∷ xs) x
-    by None f true g rest = subst (Contains (y ∷ xs)) (one g) (contains_here y xs)
-    by None f false g rest = absurd (cc)
-    by (Some z) f b g rest = contains_there y x xs (rest (f ∙ g))
+last_there p (y ∷ xs) x e = grind (arith, nat_tests, last_step, last_there p xs x, contains_here, contains_there)
 
 module _ (t : Table) (g : Groups) (h : KeepsLinks t g) where
   acts_link : (l : Link) → key_at t l.id ≡ Some l.key → is_some (acting_under t l.key) ≡ is_acting t l.id
-  acts_link l e = by (under t l.key) ∙ sym (ap (λ o. option_map_or (λ (s : Surface). is_some s.active) (option_and_then (under t) o) false) e)
-    where
-      by : (o : Option Surface) → is_some (option_and_then (λ (s : Surface). s.active) o) ≡ option_map_or (λ (s : Surface). is_some s.active) o false
-      by None = refl
-      by (Some s) = refl
+  acts_link l e = grind (arith, nat_tests)
 
   last_links : (ls : List Link) → ((l : Link) → Contains ls l → key_at t l.id ≡ Some l.key)
       → option_map (λ (x : Link). x.id) (find (λ (l : Link). is_some (acting_under t l.key)) (reverse ls)) ≡ find (is_acting t) (reverse (ids_of ls))
@@ -83,23 +63,11 @@ module _ (t : Table) (g : Groups) (h : KeepsLinks t g) where
   from_ids : (s : Option SurfaceId) (end : SurfaceId) → option_map (λ (x : Link). x.id) (newest_from t g s end) ≡ id_from t g s end
   unfolding last_acting
   from_ids None end = refl
-  from_ids (Some start) end = by (same_group start end)
-    where
-      p : Link → Bool
-      p = λ (l : Link). is_some (acting_under t l.key)
-
-      by : (b : Bool) → option_map (λ (x : Link). x.id) (cond b None (that_passes (λ id. at_least id start) (find p (reverse (links_at g start)))))
-          ≡ cond b None (id_passes (λ id. at_least id start) (find (is_acting t) (reverse (chain_at g start))))
-      by true = refl
-      by false = pass_link (λ id. at_least id start) (find p (reverse (links_at g start))) ∙ ap (id_passes (λ id. at_least id start)) (last_links (links_at g start) (h.keys start))
+  from_ids (Some start) end = grind (arith, nat_tests, id_passes, is_acting t, pass_link, last_links (links_at g start) (h.keys start))
 
   -- the surface of the link that is found is what the range shows
   pub shows : (st : Stored) → KeepsTable t st → KeepsGroups g st → (range : SurfaceRange) → option_map (λ (x : Link). x.id) (shown_link t g range) ≡ shown_in st range
-  shows st ht hg range =
-      either_link (that_passes (starts_from range.start range.end) (newest_to t g range.end)) (newest_from t g range.start range.end)
-      ∙ (ap (λ o. or_else o (option_map (λ (x : Link). x.id) (newest_from t g range.start range.end))) (pass_link (starts_from range.start range.end) (newest_to t g range.end) ∙ ap (id_passes (starts_from range.start range.end)) (to_ids range.end))
-      ∙ (ap (or_else (id_passes (starts_from range.start range.end) (find (is_acting t) (reverse (filter (at_least range.end) (chain_at g range.end)))))) (from_ids range.start range.end)
-      ∙ ids_show t g st ht hg range))
+  shows st ht hg range = grind (arith, nat_tests, either_link, pass_link, id_passes, to_ids, is_acting, from_ids, ids_show)
 
   from_there : (s : Option SurfaceId) (end : SurfaceId) (l : Link) → newest_from t g s end ≡ Some l → key_at t l.id ≡ Some l.key
   unfolding last_acting

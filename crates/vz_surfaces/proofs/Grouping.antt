@@ -1,5 +1,6 @@
 -- Groups have the surfaces that exist, and what was ever active, over the changes of a store.
-use Rattle.std.proofs.Common.{◌≡◌, ℕ, Bool, true, false, not, ◌&&◌, ◌||◌, ◌==◌, ◌⊎◌, inl, inr, rules, Option, Some, None, List, [], ◌∷◌, ◌++◌, map, filter, refl, ap, sym, ◌∙◌, cond, subst, Contains, append-nil}
+use Rattle.std.proofs.Common.{arith, ◌≡◌, ℕ, Bool, true, false, not, ◌&&◌, ◌||◌, ◌==◌, ◌⊎◌, inl, inr, rules, Option, Some, None, List, [], ◌∷◌, ◌++◌, map, filter, refl, ap, sym, ◌∙◌, cond, subst, Contains, append-nil}
+use Rattle.std.proofs.lemmas.Bool.Decides.{nat_tests}
 use Rattle.std.specs.List.{list_any}
 use Rattle.std.proofs.lemmas.List.{map-append}
 use Rattle.std.proofs.lemmas.List.Elements.{filter-append}
@@ -14,7 +15,7 @@ use Rattle.vz_frame.specs.declared.frame.CompositorFrame.{CompositorFrame}
 use Rattle.vz_rules.specs.declared.entry.State.TheVariants.{Active, Past, Dropped}
 use Rattle.vz_rules.specs.World.{Surface, FrameData, Submission, is_waiting, is_active, is_on, sub_of}
 use Rattle.vz_rules.specs.Settle.{is_before, marked_by}
-use Rattle.vz_rules.specs.Messages.{is_last, violates, replace_on, mark_of}
+use Rattle.vz_rules.specs.Messages.{is_last, violates, replace_on}
 use Rattle.vz_rules.specs.Singly.{as_one_rises}
 use Rattle.vz_rules.specs.Kept.{last_in}
 use Rattle.vz_rules.proofs.Reached.{from_same, from_same_sink, self_same, self_same_sink}
@@ -63,17 +64,13 @@ rising_less p (x ∷ xs) h =
 -- Groups of ids
 
 pub same_groups : (a b : SurfaceId) → same_group a b ≡ true → (a.sink ≡ b.sink) × (a.local.token.0 ≡ b.local.token.0)
-same_groups a b e =
-    let both = and_parts (same_sink a.sink b.sink) (a.local.token.0 == b.local.token.0) e in
-    (from_same_sink a.sink b.sink both.0, eqb-true a.local.token.0 b.local.token.0 both.1)
+same_groups a b e = grind (arith, nat_tests, and_parts (same_sink a.sink b.sink), from_same_sink a.sink b.sink, eqb-true a.local.token.0 b.local.token.0)
 
 pub group_from : (a b : SurfaceId) → a.sink ≡ b.sink → a.local.token.0 ≡ b.local.token.0 → same_group a b ≡ true
 group_from a b e f = and_from (same_sink a.sink b.sink) (a.local.token.0 == b.local.token.0) (ap (λ x. same_sink x b.sink) e ∙ self_same_sink b.sink) (eq-eqb a.local.token.0 b.local.token.0 f)
 
 pub reach_group : (a b : SurfaceId) → at_least a b ≡ true → same_group a b ≡ true
-reach_group a b e =
-    let x = at_least_is a b e in
-    group_from a b (λ i. record { client_id = x.client i; sink_id = x.sink i }) x.token
+reach_group a b e = grind (arith, nat_tests, at_least_is a b e, group_from a b)
 
 -- the surfaces of a group that exist
 abbrev pub chain_of : SurfaceId → List Surface → List SurfaceId
@@ -81,13 +78,7 @@ chain_of q ss = map (λ (c : Surface). c.id) (filter (λ (c : Surface). same_gro
 
 -- groups that read alike
 pub groups_alike : (old new : Groups) (st : Stored) → ((q : SurfaceId) → chain_at new q ≡ chain_at old q) → ((q : SurfaceId) → newest_at new q ≡ newest_at old q) → KeepsGroups old st → KeepsGroups new st
-groups_alike old new st chain newest h =
-    record {
-      chain = λ q. chain q ∙ h.chain q;
-      rising = λ q. subst IsRising (sym (chain q)) (h.rising q);
-      reached = λ d. ap (λ o. reaches o d) (newest d) ∙ h.reached d;
-      made = λ d local e. h.made d local (sym (newest d) ∙ e);
-    }
+groups_alike old new st chain newest h = grind (arith, nat_tests)
 
 -- Accepting
 
@@ -186,11 +177,7 @@ newer_reaches d local m false e older =
 newer_is_one : (local l : LocalSurfaceId) (o : Option LocalSurfaceId) → newer_local local o ≡ Some l → (local ≡ l) ⊎ (o ≡ Some l)
 unfolding newer_local
 newer_is_one local l None e = inl (cc)
-newer_is_one local l (Some m) e = by (newer local m) e
-  where
-    by : (t : Bool) → ◌≡◌ {A = Option LocalSurfaceId} (cond t (Some local) (Some m)) (Some l) → (local ≡ l) ⊎ (◌≡◌ {A = Option LocalSurfaceId} (Some m) (Some l))
-    by true f = inl (cc)
-    by false f = inr f
+newer_is_one local l (Some m) e = grind (arith, nat_tests)
 
 module _ (st : Stored) (x : Submission) (keeps : KeepsStored st) (in_it : Waits_in st x) where
   abbrev id_at : SurfaceId
@@ -324,34 +311,13 @@ module _ (st : Stored) (x : Submission) (keeps : KeepsStored st) (in_it : Waits_
 
 pub marked_groups : (c : ℕ) (st : Stored) (g : Groups) → KeepsGroups g st → KeepsGroups g (marking c st)
 unfolding marking was_reached
-marked_groups c st g h =
-    let marks = λ (s : Surface). record s { marked = true } in
-    record {
-      chain = λ q. h.chain q ∙ sym (read_same (mark_of c) (λ (c : Surface). c.id) (λ (c : Surface). same_group c.id q && not c.destroyed) st.surfaces
-          (λ s. when_same (λ (y : Surface). y.id) marks (s.client == c) s refl)
-          (λ s. when_same (λ (y : Surface). same_group y.id q && not y.destroyed) marks (s.client == c) s refl));
-      rising = h.rising;
-      reached = h.reached;
-      made = h.made;
-    }
+marked_groups c st g h = grind (arith, nat_tests, read_same, when_same)
 
 one_ends : (id q : SurfaceId) (c : Surface) (rest : List Surface) (same in_q : Bool) → same_surface c.id id ≡ same → same_group c.id q ≡ in_q
     → map (λ (c : Surface). c.id) (cond (same_group (cond same (record c { destroyed = true }) c).id q && not (cond same (record c { destroyed = true }) c).destroyed) (cond same (record c { destroyed = true }) c ∷ rest) rest)
     ≡ cond (in_q && not c.destroyed) (cond (not same) (c.id ∷ map (λ (c : Surface). c.id) rest) (map (λ (c : Surface). c.id) rest)) (map (λ (c : Surface). c.id) rest)
-one_ends id q c rest true in_q e f = gone (same_group c.id q) ∙ sym (both_same (in_q && not c.destroyed))
-  where
-    gone : (b : Bool) → map (λ (c : Surface). c.id) (cond (b && false) (record c { destroyed = true } ∷ rest) rest) ≡ map (λ (c : Surface). c.id) rest
-    gone true = refl
-    gone false = refl
-
-    both_same : (b : Bool) → cond b (map (λ (c : Surface). c.id) rest) (map (λ (c : Surface). c.id) rest) ≡ map (λ (c : Surface). c.id) rest
-    both_same true = refl
-    both_same false = refl
-one_ends id q c rest false in_q e f = ap (λ (b : Bool). map (λ (c : Surface). c.id) (cond (b && not c.destroyed) (c ∷ rest) rest)) f ∙ by (in_q && not c.destroyed)
-  where
-    by : (b : Bool) → map (λ (c : Surface). c.id) (cond b (c ∷ rest) rest) ≡ cond b (c.id ∷ map (λ (c : Surface). c.id) rest) (map (λ (c : Surface). c.id) rest)
-    by true = refl
-    by false = refl
+one_ends id q c rest true in_q e f = grind (arith, nat_tests)
+one_ends id q c rest false in_q e f = grind (arith, nat_tests)
 
 one_filtered : (x : SurfaceId) (rest : List SurfaceId) (p : SurfaceId → Bool) (b : Bool) → filter p (cond b (x ∷ rest) rest) ≡ cond b (cond (p x) (x ∷ filter p rest) (filter p rest)) (filter p rest)
 one_filtered x rest p true = refl

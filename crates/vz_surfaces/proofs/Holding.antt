@@ -1,5 +1,6 @@
 -- What memory keeps is that of the store, where a submission is accepted.
 use Rattle.std.proofs.Common.{◌≡◌, ℕ, ◌+◌, ◌≤◌, ◌<◌, Bool, true, false, not, ◌&&◌, ◌==◌, nat_eq, Option, Some, None, List, [], ◌∷◌, ◌++◌, map, find, length, refl, ap, sym, ◌∙◌, arith, cond, subst, Contains, count_by, is_some}
+use Rattle.std.proofs.lemmas.Bool.Decides.{nat_tests}
 use Rattle.std.specs.Option.{option_map}
 use Rattle.std.specs.Map.{lookup}
 use Rattle.std.proofs.lemmas.Bool.{eq-eqb}
@@ -61,11 +62,7 @@ pub record IsHeldAt (st : Stored) (id : SurfaceId) (o : Option Surface) (limit :
 -- the waiting one of what is kept
 pub kept_waiting : (id : SurfaceId) (st : Stored) (c : Created) → option_map (λ (h : Held). h.sub) (kept_of id st.subs c).waiting ≡ waiting_on st id
 unfolding waiting_on
-kept_waiting id st c = by (find (λ s. is_waiting s && is_on id s) st.subs)
-  where
-    by : (o : Option Submission) → option_map (λ (h : Held). h.sub) (option_map (λ (s : Submission). held_of s.submitted) o) ≡ option_map (λ (s : Submission). sub_of s) o
-    by None = refl
-    by (Some s) = refl
+kept_waiting id st c = grind (arith, nat_tests)
 
 standing_one : (st : Stored) (id : SurfaceId) (o : Option Created) → is_some o ≡ true → (x : Created) × (o ≡ Some x)
 standing_one st id None e = absurd (cc)
@@ -91,14 +88,11 @@ module _ (st : Stored) (c : ℕ) (sink : FrameSinkId) (local : LocalSurfaceId) (
 
   none_at : is_that ≡ false → surface_at st this ≡ None
   unfolding surface_at
-  none_at e =
-      ap (option_map (kept_of this st.subs))
-      (find_none (λ s. same_surface s.id this && not s.destroyed) st.surfaces (λ s p. ap (λ b. b && not s.destroyed) (is_unknown st c sink local keeps of goes e s p)))
+  none_at e = grind (arith, nat_tests, find_none, is_unknown st c sink local keeps of goes e)
 
   pub open_new : (t0 t1 : Table) (w : Waits) (o : Owners) (last : Bool) → Keeps t0 w o st → HasSame t0 t1 → last ≡ is_named_last (owner_at o c).last local
       → last ≡ false → look t1 this ≡ None
-  open_new t0 t1 w o last h same at e =
-      looks_same t0 t1 same this ∙ (h.table.surfaces this ∙ none_at (sym (last_is o last h.owners at) ∙ e))
+  open_new t0 t1 w o last h same at e = grind (arith, nat_tests, looks_same t0 t1 same, none_at, last_is o last h.owners at)
 
   pub few_before : (o : Owners) (owner : Owner) (limit : ℕ) → KeepsOwners o st → owner ≡ owner_at o c → count_by (is_by c) st.subs < limit → owner.created < limit
   few_before o owner limit h e few = omega (arith, ap (λ x. x.created) e, h.created c number, keeps.few_created c, few)
@@ -145,18 +139,11 @@ module _ (st : Stored) (c : ℕ) (sink : FrameSinkId) (local : LocalSurfaceId) (
   module _ (frame : CompositorFrame) (blocks : List Block) where
     opened_at : (t1 t2 : Table) (last : Bool) (created : ℕ) → ((q : SurfaceId) → look t2 q ≡ cond (not last && is_key this q) (Some (empty_surface c (created + 1))) (look t1 q))
         → ((q : SurfaceId) → look t1 q ≡ surface_at st q) → last ≡ is_that → created ≡ count_by (is_surface_of c) st.surfaces → look t2 this ≡ before_hold is_that c this st
-    opened_at t1 t2 last created opened before e n = opened this ∙ by last e
-      where
-        by : (b : Bool) → b ≡ is_that → cond (not b && is_key this this) (Some (empty_surface c (created + 1))) (look t1 this) ≡ before_hold is_that c this st
-        by true f = before this ∙ ap (λ (b : Bool). before_hold b c this st) f
-        by false f =
-            ap (λ (b : Bool). cond b (Some (empty_surface c (created + 1))) (look t1 this)) (key_of this this ∙ self_same this)
-            ∙ (ap (λ m. Some (empty_surface c (m + 1))) n ∙ ap (λ (b : Bool). before_hold b c this st) f)
+    opened_at t1 t2 last created opened before e n = grind (arith, nat_tests, before_hold, key_of, self_same)
 
     opened_apart : (t1 t2 : Table) (last : Bool) (created : ℕ) (q : SurfaceId) → same_surface this q ≡ false
         → look t2 q ≡ cond (not last && is_key this q) (Some (empty_surface c (created + 1))) (look t1 q) → look t2 q ≡ look t1 q
-    opened_apart t1 t2 last created q apart opened =
-        opened ∙ ap (λ (b : Bool). cond b (Some (empty_surface c (created + 1))) (look t1 q)) (no_and (not last) (is_key this q) (key_of this q ∙ apart))
+    opened_apart t1 t2 last created q apart opened = grind (arith, nat_tests, no_and (not last), key_of)
 
     pub accepted_keeps : (t0 t1 t2 t3 : Table) (w0 w1 w2 w3 : Waits) (o0 o1 : Owners) (owner owned : Owner) (last : Bool) (size : Size) (a : Acceptance) (replaced : Option Sub)
         → Keeps t0 w0 o0 st → HasSame t0 t1 → w1.surfaces.entries ≡ w0.surfaces.entries → size ≡ frame_size frame → owner ≡ owner_at o0 c

@@ -1,5 +1,6 @@
 -- The links of groups have the keys of their surfaces, over the changes of a store.
-use Rattle.std.proofs.Common.{◌≡◌, ℕ, Bool, true, false, not, ◌&&◌, inl, inr, Option, Some, None, List, [], ◌∷◌, ◌++◌, filter, refl, ap, sym, ◌∙◌, cond, subst, Contains}
+use Rattle.std.proofs.Common.{arith, ◌≡◌, ℕ, Bool, true, false, not, ◌&&◌, inl, inr, Option, Some, None, List, [], ◌∷◌, ◌++◌, filter, refl, ap, sym, ◌∙◌, cond, subst, Contains}
+use Rattle.std.proofs.lemmas.Bool.Decides.{nat_tests}
 use Rattle.std.proofs.lemmas.List.{map-append}
 use Rattle.std.proofs.lemmas.Bool.{and_parts}
 use Rattle.vz_ids.specs.declared.SurfaceId.{SurfaceId}
@@ -25,19 +26,11 @@ module _ (old new : Groups) where
 
   pub chain_more : (last : Bool) (l : Link) → ((q : SurfaceId) → links_at new q ≡ cond (not last && is_group l.id q) (links_at old q ++ l ∷ []) (links_at old q))
       → (q : SurfaceId) → chain_at new q ≡ cond (not last && is_group l.id q) (chain_at old q ++ l.id ∷ []) (chain_at old q)
-  chain_more last l more q = ap ids_of (more q) ∙ by (not last && is_group l.id q)
-    where
-      by : (b : Bool) → ids_of (cond b (links_at old q ++ l ∷ []) (links_at old q)) ≡ cond b (chain_at old q ++ l.id ∷ []) (chain_at old q)
-      by true = map-append (λ (x : Link). x.id) (links_at old q) (l ∷ [])
-      by false = refl
+  chain_more last l more q = grind (arith, nat_tests, map-append)
 
 pub ids_filter : (p : SurfaceId → Bool) (links : List Link) → ids_of (filter (λ (l : Link). p l.id) links) ≡ filter p (ids_of links)
 ids_filter p [] = refl
-ids_filter p (l ∷ links) =
-    elim (p l.id) as (λ (b : Bool). ids_of (cond b (l ∷ filter (λ (x : Link). p x.id) links) (filter (λ (x : Link). p x.id) links)) ≡ cond b (l.id ∷ filter p (ids_of links)) (filter p (ids_of links))) [
-      | true ↦ ap (λ xs. l.id ∷ xs) (ids_filter p links)
-      | false ↦ ids_filter p links
-    ]
+ids_filter p (l ∷ links) = grind (arith, nat_tests, ids_filter p links)
 
 pub chain_less : (old new : Groups) (id : SurfaceId)
     → ((q : SurfaceId) → links_at new q ≡ cond (is_group id q) (filter (λ (l : Link). not (same_surface l.id id)) (links_at old q)) (links_at old q))

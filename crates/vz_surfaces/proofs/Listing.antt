@@ -1,6 +1,5 @@
 -- The surfaces of each client that exist, over the changes of a store, and those of them that are marked.
 use Rattle.std.proofs.Common.{◌≡◌, ℕ, zero, suc, ◌+◌, ◌≤◌, Bool, true, false, not, ◌&&◌, ◌==◌, nat_le, nat_eq, List, [], ◌∷◌, ◌++◌, map, filter, length, refl, ap, sym, ◌∙◌, arith, cond, subst, Contains, append-nil, append_assoc, count_by}
-use Rattle.std.specs.List.{list_any}
 use Rattle.std.proofs.lemmas.List.{map-append, length-append, length-map}
 use Rattle.std.proofs.lemmas.List.Elements.{filter-append}
 use Rattle.std.proofs.lemmas.Bool.{and_parts, eqb-true}
@@ -12,8 +11,7 @@ use Rattle.vz_ids.specs.Ids.{same_surface}
 use Rattle.vz_pixels.specs.Block.{Block}
 use Rattle.vz_frame.specs.declared.frame.CompositorFrame.{CompositorFrame}
 use Rattle.vz_rules.specs.World.{Surface, Submission}
-use Rattle.vz_rules.specs.Settle.{is_before, marked_by}
-use Rattle.vz_rules.specs.Messages.{is_last, mark_of}
+use Rattle.vz_rules.specs.Messages.{is_last}
 use Rattle.vz_rules.specs.Kept.{last_in, is_surface_of}
 use Rattle.vz_rules.proofs.Members.{when_same, contains_here, contains_there, contains_map, filter_at}
 use Rattle.vz_rules.proofs.Counts.{count_cons}
@@ -46,18 +44,11 @@ lists_same g s st ss same test h =
 
 pub raised_lists : (s : Standing) (st : Stored) (x : Submission) → KeepsLists s st → KeepsLists s (raising x st)
 unfolding raising
-raised_lists s st x h =
-    let marks = λ (c : Surface). record c { marked = true } in
-    lists_same (marked_by st.surfaces (x ∷ [])) s st _
-    (λ c. when_same numbered_of marks (list_any (is_before st.surfaces c) (x ∷ [])) c refl)
-    (λ q c. when_same (λ (y : Surface). (y.client == q) && not y.destroyed) marks (list_any (is_before st.surfaces c) (x ∷ [])) c refl) h
+raised_lists s st x h = grind (arith, nat_tests, lists_same, when_same)
 
 pub marked_lists : (s : Standing) (st : Stored) (c : ℕ) → KeepsLists s st → KeepsLists s (marking c st)
 unfolding marking
-marked_lists s st c h =
-    let marks = λ (c : Surface). record c { marked = true } in
-    lists_same (mark_of c) s st st.subs (λ x. when_same numbered_of marks (x.client == c) x refl)
-    (λ q x. when_same (λ (y : Surface). (y.client == q) && not y.destroyed) marks (x.client == c) x refl) h
+marked_lists s st c h = grind (arith, nat_tests, lists_same, when_same)
 
 -- Accepting
 
@@ -104,40 +95,13 @@ module _ (st : Stored) (c : ℕ) (sink : FrameSinkId) (local : LocalSurfaceId) (
 
 -- Destroying
 
-ends_one : (id : SurfaceId) (q : ℕ) (c : Surface) (rest : List Surface) (same in_q : Bool) → same_surface c.id id ≡ same → (c.client == q) ≡ in_q
-    → map numbered_of (cond (((cond same (record c { destroyed = true }) c).client == q) && not (cond same (record c { destroyed = true }) c).destroyed) (cond same (record c { destroyed = true }) c ∷ rest) rest)
-    ≡ cond (in_q && not c.destroyed) (cond (not same) (numbered_of c ∷ map numbered_of rest) (map numbered_of rest)) (map numbered_of rest)
-ends_one id q c rest true in_q e f = gone (c.client == q) ∙ sym (both_same (in_q && not c.destroyed))
-  where
-    gone : (b : Bool) → map numbered_of (cond (b && false) (record c { destroyed = true } ∷ rest) rest) ≡ map numbered_of rest
-    gone true = refl
-    gone false = refl
-
-    both_same : (b : Bool) → cond b (map numbered_of rest) (map numbered_of rest) ≡ map numbered_of rest
-    both_same true = refl
-    both_same false = refl
-ends_one id q c rest false in_q e f = ap (λ (b : Bool). map numbered_of (cond (b && not c.destroyed) (c ∷ rest) rest)) f ∙ by (in_q && not c.destroyed)
-  where
-    by : (b : Bool) → map numbered_of (cond b (c ∷ rest) rest) ≡ cond b (numbered_of c ∷ map numbered_of rest) (map numbered_of rest)
-    by true = refl
-    by false = refl
-
-filtered_one : (x : Numbered) (rest : List Numbered) (p : Numbered → Bool) (b : Bool) → filter p (cond b (x ∷ rest) rest) ≡ cond b (cond (p x) (x ∷ filter p rest) (filter p rest)) (filter p rest)
-filtered_one x rest p true = refl
-filtered_one x rest p false = refl
-
 mapped_cond : (b : Bool) (c : Surface) (rest : List Surface) → map numbered_of (cond b (c ∷ rest) rest) ≡ cond b (numbered_of c ∷ map numbered_of rest) (map numbered_of rest)
 mapped_cond true c rest = refl
 mapped_cond false c rest = refl
 
 ends_list : (id : SurfaceId) (q : ℕ) (ss : List Surface) → list_of q (map (ended_at id) ss) ≡ filter (λ (x : Numbered). not (same_surface x.id id)) (list_of q ss)
 ends_list id q [] = refl
-ends_list id q (c ∷ ss) =
-    let p = λ (x : Numbered). not (same_surface x.id id) in
-    ends_one id q c (filter (λ (x : Surface). (x.client == q) && not x.destroyed) (map (ended_at id) ss)) (same_surface c.id id) (c.client == q) refl refl
-    ∙ (ap (λ l. cond ((c.client == q) && not c.destroyed) (cond (not (same_surface c.id id)) (numbered_of c ∷ l) l) l) (ends_list id q ss)
-    ∙ sym (ap (filter p) (mapped_cond ((c.client == q) && not c.destroyed) c (filter (λ (x : Surface). (x.client == q) && not x.destroyed) ss))
-    ∙ filtered_one (numbered_of c) (list_of q ss) p ((c.client == q) && not c.destroyed)))
+ends_list id q (c ∷ ss) = grind (arith, nat_tests, ends_list id q ss, mapped_cond)
 
 -- the surface of an id is of one client alone
 pub gone_lists : (id : SurfaceId) (c : ℕ) (st : Stored) (old new : Standing) → KeepsLists old st → ((s : Surface) → Contains st.surfaces s → same_surface s.id id ≡ true → s.client ≡ c)
@@ -170,18 +134,8 @@ front_one : (n : ℕ) (q : ℕ) (c : Surface) (rest : List Numbered) (ids : List
     → (in_q ≡ true → m ≡ nat_le c.number n)
     → map (λ (x : Numbered). x.id) (filter (λ (x : Numbered). nat_le x.number n) (cond (in_q && nd) (numbered_of c ∷ rest) rest)) ≡ cond (in_q && m && nd) (c.id ∷ ids) ids
 front_one n q c rest ids false nd m e f = sym e
-front_one n q c rest ids true false m e f = sym (no m ∙ e)
-  where
-    no : (b : Bool) → cond (b && false) (c.id ∷ ids) ids ≡ ids
-    no true = refl
-    no false = refl
-front_one n q c rest ids true true m e f = by (nat_le c.number n) m (f refl)
-  where
-    by : (a b : Bool) → b ≡ a → map (λ (x : Numbered). x.id) (cond a (numbered_of c ∷ filter (λ (x : Numbered). nat_le x.number n) rest) (filter (λ (x : Numbered). nat_le x.number n) rest)) ≡ cond (b && true) (c.id ∷ ids) ids
-    by true true g = ap (λ l. c.id ∷ l) (sym e)
-    by false false g = sym e
-    by true false g = absurd (cc)
-    by false true g = absurd (cc)
+front_one n q c rest ids true false m e f = grind (arith, nat_tests)
+front_one n q c rest ids true true m e f = grind (arith, nat_tests)
 
 marks_front : (n q : ℕ) (ss : List Surface) → ((s : Surface) → Contains ss s → (s.client == q) ≡ true → s.marked ≡ nat_le s.number n)
     → map (λ (x : Numbered). x.id) (filter (λ (x : Numbered). nat_le x.number n) (list_of q ss)) ≡ map (λ (s : Surface). s.id) (filter (λ (s : Surface). (s.client == q) && s.marked && not s.destroyed) ss)
@@ -263,19 +217,7 @@ all_first n (c ∷ ss) = omega (arith, count_cons (in_first n) c ss, count_cons 
 marked_first : (n : ℕ) (st : Stored) → length (marked_to n st) ≤ count_by (in_first n) st.surfaces
 unfolding marked_to marked_of
 marked_first zero st = omega arith
-marked_first (suc n) st =
-    omega (
-      arith,
-      length-append (marked_to n st) (marked_of (n + 1) st),
-      length-map (filter (λ (s : Surface). (s.client == (n + 1)) && s.marked && not s.destroyed) st.surfaces) (λ (s : Surface). s.id),
-      marked_first n st,
-      marked_few (n + 1) st.surfaces,
-      count_split n st.surfaces,
-      ap (λ k. count_by (in_first k) st.surfaces) (next n),
-    )
-  where
-    next : (n : ℕ) → n + 1 ≡ suc n
-    next n = omega arith
+marked_first (suc n) st = grind (arith, nat_tests, length-append (marked_to n st) (marked_of (n + 1) st), length-map, marked_first n st, marked_few (n + 1) st.surfaces, count_split n st.surfaces)
 
 -- no more are marked than exist
 pub marked_fit : (n : ℕ) (st : Stored) → length (marked_to n st) ≤ existing_count st
@@ -284,10 +226,7 @@ marked_fit n st = omega (arith, marked_first n st, all_first n st.surfaces)
 
 pub marked_next : (n : ℕ) (st : Stored) → marked_to (n + 1) st ≡ marked_to n st ++ marked_of (n + 1) st
 unfolding marked_to
-marked_next n st = ap (λ k. marked_to k st) (next n)
-  where
-    next : (n : ℕ) → n + 1 ≡ suc n
-    next n = omega arith
+marked_next n st = grind (arith, nat_tests)
 
 module _ (s : Standing) (o : Owners) (st : Stored) (h : KeepsLists s st) (hm : KeepsMarks o st) (k to : ℕ) (at : to ≡ (owner_at o (k + 1)).marked_to) where
   abbrev front : List Numbered
@@ -301,16 +240,14 @@ module _ (s : Standing) (o : Owners) (st : Stored) (h : KeepsLists s st) (hm : K
 
   -- there is room for one client more
   pub put_fits : (whole left : ℕ) → existing_count st ≤ whole → whole ≡ left + length (marked_to k st) → length front ≤ left
-  put_fits whole left fits is =
-      omega (arith, front_long, fits, is, marked_fit (k + 1) st, ap length (marked_next k st), length-append (marked_to k st) (marked_of (k + 1) st))
+  put_fits whole left fits is = grind (arith, nat_tests, front_long, marked_fit (k + 1) st, marked_next k st, length-append (marked_to k st) (marked_of (k + 1) st))
 
   pub put_more : (first old new : List SurfaceId) → old ≡ first ++ marked_to k st → new ≡ old ++ map (λ (x : Numbered). x.id) front → new ≡ first ++ marked_to (k + 1) st
   put_more first old new is added =
       added ∙ (ap (λ l. old ++ l) front_is ∙ (ap (λ l. l ++ marked_of (k + 1) st) is ∙ (append_assoc first (marked_to k st) (marked_of (k + 1) st) ∙ ap (λ l. first ++ l) (sym (marked_next k st)))))
 
   pub put_left : (whole old new : ℕ) → whole ≡ old + length (marked_to k st) → old ≡ new + length front → whole ≡ new + length (marked_to (k + 1) st)
-  put_left whole old new is used =
-      omega (arith, is, used, front_long, ap length (marked_next k st), length-append (marked_to k st) (marked_of (k + 1) st))
+  put_left whole old new is used = grind (arith, nat_tests, front_long, marked_next k st, length-append (marked_to k st) (marked_of (k + 1) st))
 
 -- before the first client none is in
 pub put_none : (first : List SurfaceId) (n : ℕ) (st : Stored) → (first ≡ first ++ marked_to 0 st) × (n ≡ n + length (marked_to 0 st))

@@ -1,8 +1,9 @@
 -- Surfaces are found by the keys of their ids, over the changes of a table.
-use Rattle.std.proofs.Common.{◌≡◌, ◌≢◌, ◌⊎◌, inl, inr, ℕ, Bool, true, false, Option, Some, None, IsSome, is_some, slice_index_or, refl, ap, sym, ◌∙◌, cond, subst}
+use Rattle.std.proofs.Common.{arith, ◌≡◌, ◌≢◌, ℕ, Bool, true, false, Option, Some, None, IsSome, is_some, refl, ap, sym, ◌∙◌, cond, subst}
+use Rattle.std.proofs.lemmas.Bool.Decides.{nat_tests}
 use Rattle.std.specs.Option.{option_map, option_and_then}
 use Rattle.std.specs.Map.{lookup}
-use Rattle.std.proofs.lemmas.Bool.{both_ways, cases_eq}
+use Rattle.std.proofs.lemmas.Bool.{both_ways}
 use Rattle.slab.specs.Slab.{with_value, Updates}
 use Rattle.slab.proofs.SlabLemmas.{Updates-with_value}
 use Rattle.vz_ids.specs.declared.SurfaceId.{SurfaceId}
@@ -35,18 +36,10 @@ pub keys_same : (t0 t1 : Table) → HasSame t0 t1 → (q : SurfaceId) → key_at
 keys_same t0 t1 h q = ap (lookup (is_key q)) h.keys
 
 pub looks_same : (t0 t1 : Table) → HasSame t0 t1 → (q : SurfaceId) → look t1 q ≡ look t0 q
-looks_same t0 t1 h q = ap (option_and_then (under t1)) (keys_same t0 t1 h q) ∙ by (key_at t0 q)
-  where
-    by : (o : Option ℕ) → option_and_then (under t1) o ≡ option_and_then (under t0) o
-    by None = refl
-    by (Some k) = ap (λ l. slice_index_or l k None) h.slots
+looks_same t0 t1 h q = grind (arith, nat_tests, keys_same t0 t1 h q)
 
 pub same_keyed : (t0 t1 : Table) → HasSame t0 t1 → IsKeyed t0 → IsKeyed t1
-same_keyed t0 t1 h keyed =
-    record {
-      there = λ id key e. subst (λ l. IsSome (slice_index_or l key None)) (sym h.slots) (keyed.there id key (sym (keys_same t0 t1 h id) ∙ e));
-      apart = λ a b key e f. keyed.apart a b key (sym (keys_same t0 t1 h a) ∙ e) (sym (keys_same t0 t1 h b) ∙ f);
-    }
+same_keyed t0 t1 h keyed = grind (arith, nat_tests, keys_same)
 
 module _ (t0 t1 : Table) (h : IsKeyed t0) where
   -- a key that an id has is not a vacant one
@@ -62,12 +55,7 @@ module _ (t0 t1 : Table) (h : IsKeyed t0) where
   module _ (id : SurfaceId) (key : ℕ) (s : Surface) (vacant : under t0 key ≡ None) (slots : Updates t0.surfaces t1.surfaces key (Some s))
       (put : (q : SurfaceId) → key_at t1 q ≡ cond (is_key id q) (Some key) (key_at t0 q)) where
     pub put_look : (q : SurfaceId) → look t1 q ≡ cond (is_key id q) (Some s) (look t0 q)
-    put_look q = ap (option_and_then (under t1)) (put q) ∙ by (is_key id q) (key_at t0 q) refl
-      where
-        by : (b : Bool) (o : Option ℕ) → key_at t0 q ≡ o → option_and_then (under t1) (cond b (Some key) o) ≡ cond b (Some s) (option_and_then (under t0) o)
-        by true o e = slots.changed
-        by false None e = refl
-        by false (Some k) e = slots.others k (taken q k key e vacant)
+    put_look q = grind (arith, nat_tests, taken q)
 
     pub put_keyed : IsKeyed t1
     put_keyed =
@@ -94,42 +82,14 @@ module _ (t0 t1 : Table) (h : IsKeyed t0) where
     same q = ap (lookup (is_key q)) stay
 
     pub change_look : (q : SurfaceId) → look t1 q ≡ cond (is_key id q) (option_map f (look t0 q)) (look t0 q)
-    change_look q = ap (option_and_then (under t1)) (same q) ∙ by (is_key id q) refl (key_at t0 q) refl
-      where
-        by : (b : Bool) → is_key id q ≡ b → (o : Option ℕ) → key_at t0 q ≡ o → option_and_then (under t1) o ≡ cond b (option_map f (option_and_then (under t0) o)) (option_and_then (under t0) o)
-        by true e None g = refl
-        by true e (Some k) g =
-            let here : k ≡ key = some_key (sym g ∙ (ap (key_at t0) (sym (same_id id q e)) ∙ at)) in
-            ap (under t1) here ∙ (slots.changed ∙ ap (λ n. option_map f (under t0 n)) (sym here))
-        by false e None g = refl
-        by false e (Some k) g = slots.others k (other id q k key at e g)
-
-    pub change_keyed : IsKeyed t1
-    change_keyed =
-        record {
-          there = λ q k e. by q k (sym (same q) ∙ e) (cases_eq k key);
-          apart = λ a b k e g. h.apart a b k (sym (same a) ∙ e) (sym (same b) ∙ g);
-        }
-      where
-        mapped : (o : Option Surface) → IsSome o → IsSome (option_map f o)
-        mapped None e = e
-        mapped (Some s) e = refl
-
-        by : (q : SurfaceId) (k : ℕ) → key_at t0 q ≡ Some k → (k ≡ key) ⊎ (k ≢ key) → IsSome (under t1 k)
-        by q k e (inl here) = subst (λ n. IsSome (under t1 n)) (sym here) (ap is_some slots.changed ∙ mapped (under t0 key) (h.there id key at))
-        by q k e (inr away) = ap is_some (slots.others k away) ∙ h.there q k e
+    change_look q = grind (arith, nat_tests, same q, some_key, same_id id q, other id q)
 
   -- A surface goes
 
   module _ (id : SurfaceId) (key : ℕ) (at : key_at t0 id ≡ Some key) (slots : Updates t0.surfaces t1.surfaces key None)
       (goes : (q : SurfaceId) → key_at t1 q ≡ cond (is_key id q) None (key_at t0 q)) where
     pub go_look : (q : SurfaceId) → look t1 q ≡ cond (is_key id q) None (look t0 q)
-    go_look q = ap (option_and_then (under t1)) (goes q) ∙ by (is_key id q) refl (key_at t0 q) refl
-      where
-        by : (b : Bool) → is_key id q ≡ b → (o : Option ℕ) → key_at t0 q ≡ o → option_and_then (under t1) (cond b None o) ≡ cond b None (option_and_then (under t0) o)
-        by true e o g = refl
-        by false e None g = refl
-        by false e (Some k) g = slots.others k (other id q k key at e g)
+    go_look q = grind (arith, nat_tests, other id q)
 
     pub go_keyed : IsKeyed t1
     go_keyed =

@@ -23,12 +23,6 @@ use Rattle.vz_surfaces.specs.declared.owners.Owners.{Owners}
 use Rattle.vz_surfaces.specs.Memory.{owner_at, HasNumber, KeepsOwners, KeepsMarks, counting, marked_up}
 use Rattle.vz_surfaces.proofs.Raising.{Waits_in}
 
--- a surface keeps its number and its mark
-pub record KeepsMark (g : Surface → Surface) : Type 0 where
-  pub client : (c : Surface) → (g c).client ≡ c.client
-  pub number : (c : Surface) → (g c).number ≡ c.number
-  pub marked : (c : Surface) → (g c).marked ≡ c.marked
-
 numbered_in : (o : Owners) (s t : Surface) → t.client ≡ s.client → t.number ≡ s.number → (1 ≤ s.number) × (s.number ≤ (owner_at o s.client).created) → (1 ≤ t.number) × (t.number ≤ (owner_at o t.client).created)
 numbered_in o s t c n h = (omega (arith, n, h.0), omega (arith, n, h.1, ap (λ k. (owner_at o k).created) c))
 
@@ -50,78 +44,37 @@ gone_marks id st o h =
 -- Marking all
 
 mark_up : (k n m : ℕ) → k ≤ n → m ≤ n → nat_le k (cond (nat_le n m) m n) ≡ true
-mark_up k n m h l = by (nat_le n m) refl
-  where
-    by : (t : Bool) → nat_le n m ≡ t → nat_le k (cond t m n) ≡ true
-    by true e = grind (arith, nat_tests)
-    by false e = grind (arith, nat_tests)
-
-up_by : (t : Bool) (n : ℕ) (o : Owner) → (cond t o (record o { marked_to = n })).marked_to ≡ cond t o.marked_to n
-up_by true n o = refl
-up_by false n o = refl
+mark_up k n m h l = grind (arith, nat_tests)
 
 up_created : (t : Bool) (n : ℕ) (o : Owner) → (cond t o (record o { marked_to = n })).created ≡ o.created
 up_created true n o = refl
 up_created false n o = refl
 
 pub up_accepted : (n : ℕ) (o : Owner) → (marked_up n o).accepted ≡ o.accepted
-up_accepted n o = by (nat_le n o.marked_to)
-  where
-    by : (t : Bool) → (cond t o (record o { marked_to = n })).accepted ≡ o.accepted
-    by true = refl
-    by false = refl
+up_accepted n o = grind (arith, nat_tests)
 
 pub up_last : (n : ℕ) (o : Owner) → (marked_up n o).last ≡ o.last
-up_last n o = by (nat_le n o.marked_to)
-  where
-    by : (t : Bool) → (cond t o (record o { marked_to = n })).last ≡ o.last
-    by true = refl
-    by false = refl
+up_last n o = grind (arith, nat_tests)
 
 module _ (old new : Owners) (c n : ℕ) (set : (q : ℕ) → 1 ≤ q → owner_at new q ≡ cond (q == c) (marked_up n (owner_at old c)) (owner_at old q)) where
   -- one client is marked up to a number
   same_of : {B : Type 0} (r : Owner → B) → r (marked_up n (owner_at old c)) ≡ r (owner_at old c) → (q : ℕ) → 1 ≤ q → r (owner_at new q) ≡ r (owner_at old q)
-  same_of r e q h =
-      ap r (set q h) ∙ (elim (q == c) as (λ (t : Bool). (q == c) ≡ t → r (cond t (marked_up n (owner_at old c)) (owner_at old q)) ≡ r (owner_at old q)) [
-        | true ↦ λ f. e ∙ ap (λ k. r (owner_at old k)) (sym (eqb-true q c f))
-        | false ↦ λ f. refl
-      ] refl)
+  same_of r e q h = grind (arith, nat_tests, eqb-true q c)
 
   pub same_created : (q : ℕ) → 1 ≤ q → (owner_at new q).created ≡ (owner_at old q).created
   same_created = same_of (λ o. o.created) (up_created (nat_le n (owner_at old c).marked_to) n (owner_at old c))
 
   pub owners_marked : (st : Stored) → KeepsOwners old st → KeepsOwners new st
-  owners_marked st h =
-      record {
-        accepted = λ q k. same_of (λ o. o.accepted) (up_accepted n (owner_at old c)) q k.0 ∙ h.accepted q k;
-        created = λ q k. same_created q k.0 ∙ h.created q k;
-        last = λ q k. same_of (λ o. o.last) (up_last n (owner_at old c)) q k.0 ∙ h.last q k;
-      }
+  owners_marked st h = grind (arith, nat_tests, same_of, up_accepted, same_created, up_last)
 
   at_same_client : (q : ℕ) → 1 ≤ q → q ≡ c → (owner_at new q).marked_to ≡ cond (nat_le n (owner_at old q).marked_to) (owner_at old q).marked_to n
-  at_same_client q h e =
-      ap (λ o. o.marked_to) (set q h ∙ (ap (λ (t : Bool). cond t (marked_up n (owner_at old c)) (owner_at old q)) (eq-eqb q c e) ∙ ap (λ k. marked_up n (owner_at old k)) (sym e)))
-      ∙ up_by (nat_le n (owner_at old q).marked_to) n (owner_at old q)
+  at_same_client q h e = grind (arith, nat_tests, eq-eqb q c e)
 
   at_other_client : (q : ℕ) → 1 ≤ q → (q == c) ≡ false → (owner_at new q).marked_to ≡ (owner_at old q).marked_to
   at_other_client q h e = ap (λ o. o.marked_to) (set q h ∙ ap (λ (t : Bool). cond t (marked_up n (owner_at old c)) (owner_at old q)) e)
 
   capped : (st : Stored) → KeepsMarks old st → ((q : ℕ) → q ≡ c → HasNumber q → n ≤ (owner_at old q).created) → (q : ℕ) → HasNumber q → (owner_at new q).marked_to ≤ (owner_at new q).created
-  capped st h few q k = by (q == c) refl
-    where
-      less : (t : Bool) (m : ℕ) → m ≤ (owner_at old q).created → n ≤ (owner_at old q).created → cond t m n ≤ (owner_at old q).created
-      less true m a b = a
-      less false m a b = b
-
-      by : (t : Bool) → (q == c) ≡ t → (owner_at new q).marked_to ≤ (owner_at new q).created
-      by true e =
-          omega (
-            arith,
-            at_same_client q k.0 (eqb-true q c e),
-            same_created q k.0,
-            less (nat_le n (owner_at old q).marked_to) (owner_at old q).marked_to (h.created q k) (few q (eqb-true q c e) k),
-          )
-      by false e = omega (arith, at_other_client q k.0 e, same_created q k.0, h.created q k)
+  capped st h few q k = grind (arith, nat_tests, at_same_client q k.0, eqb-true q c, same_created q k.0, at_other_client q k.0)
 
 marked_when : (t : Bool) (s : Surface) → (cond t (record s { marked = true }) s).marked ≡ cond t true s.marked
 marked_when true s = refl
@@ -162,13 +115,7 @@ marking_marks old new c st number h set =
 -- Becoming active
 
 mark_max : (k n m : ℕ) → 1 ≤ n → cond (nat_lt k n || false) true (nat_le k m) ≡ nat_le k (cond (nat_le (n - 1) m) m (n - 1))
-mark_max k n m h = by (nat_lt k n) refl (nat_le (n - 1) m) refl
-  where
-    by : (t : Bool) → nat_lt k n ≡ t → (u : Bool) → nat_le (n - 1) m ≡ u → cond (t || false) true (nat_le k m) ≡ nat_le k (cond u m (n - 1))
-    by true e true f = grind (arith, nat_tests)
-    by true e false f = grind (arith, nat_tests)
-    by false e true f = refl
-    by false e false f = grind (arith, nat_tests)
+mark_max k n m h = grind (arith, nat_tests)
 
 -- the surface of an id is one
 pub one_surface : (st : Stored) (s t : Surface) → KeepsStored st → Contains st.surfaces s → Contains st.surfaces t → s.id ≡ t.id → s ≡ t

@@ -1,5 +1,6 @@
 -- The waiting submissions that are found, and what is counted of clients, where a submission is accepted.
 use Rattle.std.proofs.Common.{◌≡◌, ℕ, ◌+◌, ◌≤◌, Bool, true, false, ◌&&◌, ◌==◌, inl, inr, Option, Some, None, List, [], ◌∷◌, ◌++◌, map, find, refl, ap, sym, ◌∙◌, arith, cond, subst, Contains, count_by, is_some}
+use Rattle.std.proofs.lemmas.Bool.Decides.{nat_tests}
 use Rattle.std.specs.Option.{option_map}
 use Rattle.std.specs.List.{list_any}
 use Rattle.std.proofs.lemmas.Bool.{and_parts, both_ways, eq-eqb, eqb-true}
@@ -53,10 +54,7 @@ differs st c t keeps p = never (same_sub (record { client = c; ordinal = count_b
 
 -- two of one name are one
 pub one_named : (st : Stored) (s t : Submission) → KeepsStored st → Contains st.subs s → Contains st.subs t → same_sub (sub_of s) (sub_of t) ≡ true → s ≡ t
-one_named st s t keeps p q e =
-    let n = contains_at st.subs s p in
-    let m = contains_at st.subs t q in
-    at_same st.subs n.0 m.0 s t n.1 m.1 (subs_differ st.surfaces st.subs keeps.numbers n.0 m.0 s t n.1 m.1 e)
+one_named st s t keeps p q e = grind (arith, nat_tests, contains_at st.subs s p, contains_at st.subs t q, at_same st.subs, subs_differ st.surfaces st.subs keeps.numbers)
 
 -- what waits behind a replacement waited before and is elsewhere
 still_waits : (w o : Bool) (t : Submission) → is_waiting t ≡ w → is_waiting (cond (w && o) (record t { state = Dropped }) t) ≡ true → (w ≡ true) × (o ≡ false)
@@ -137,11 +135,7 @@ add_none n = omega arith
 -- what is read of each client, where one is written
 pub owners_by : {B : Type 0} (r : Owner → B) (v : ℕ → B) (old new : Owners) (c : ℕ) (owner : Owner) → ((q : ℕ) → 1 ≤ q → owner_at new q ≡ cond (q == c) owner (owner_at old q))
     → r owner ≡ v c → ((q : ℕ) → HasNumber q → (q == c) ≡ false → r (owner_at old q) ≡ v q) → (q : ℕ) → HasNumber q → r (owner_at new q) ≡ v q
-owners_by r v old new c owner set here others q h =
-    ap r (set q h.0) ∙ (elim (q == c) as (λ (t : Bool). (q == c) ≡ t → r (cond t owner (owner_at old q)) ≡ v q) [
-      | true ↦ λ e. here ∙ ap v (sym (eqb-true q c e))
-      | false ↦ λ e. others q h e
-    ] refl)
+owners_by r v old new c owner set here others q h = grind (arith, nat_tests, eqb-true q c)
 
 module _ (st : Stored) (c : ℕ) (sink : FrameSinkId) (local : LocalSurfaceId) (frame : CompositorFrame) (blocks : List Block) where
   abbrev the_one : Surface
@@ -159,14 +153,11 @@ module _ (st : Stored) (c : ℕ) (sink : FrameSinkId) (local : LocalSurfaceId) (
 
   created_here : (t : Bool) (o : Owner) → o.created ≡ count_by (is_surface_of c) st.surfaces → cond t o.created (o.created + 1) ≡ count_by (is_surface_of c) (the_surfaces t)
   created_here true o e = e
-  created_here false o e =
-      ap (λ n. n + 1) e ∙ sym (count_push (is_surface_of c) st.surfaces the_one ∙ ap (λ (b : Bool). count_by (is_surface_of c) st.surfaces + cond b 1 0) (eq-eqb c c refl))
+  created_here false o e = grind (arith, nat_tests, count_push (is_surface_of c) st.surfaces, eq-eqb c c refl)
 
   created_apart : (t : Bool) (q : ℕ) → (q == c) ≡ false → count_by (is_surface_of q) st.surfaces ≡ count_by (is_surface_of q) (the_surfaces t)
   created_apart true q e = refl
-  created_apart false q e =
-      add_none (count_by (is_surface_of q) st.surfaces)
-      ∙ sym (count_push (is_surface_of q) st.surfaces the_one ∙ ap (λ (b : Bool). count_by (is_surface_of q) st.surfaces + cond b 1 0) (flip q c e))
+  created_apart false q e = grind (arith, nat_tests, add_none (count_by (is_surface_of q) st.surfaces), count_push (is_surface_of q) st.surfaces, flip q c e)
 
   last_here : (t : Bool) (o : Owner) → o.last ≡ name_and_size (last_in st.surfaces c) → cond t o.last (Some (local, frame_size frame)) ≡ name_and_size (last_in (the_surfaces t) c)
   last_here true o e = e

@@ -1,5 +1,5 @@
 -- Lists of surfaces by rising numbers, over the changes of a store.
-use Rattle.std.proofs.Common.{◌≡◌, ℕ, zero, suc, ◌<◌, ◌≤◌, ◌⊎◌, inl, inr, Bool, true, false, nat_le, List, [], ◌∷◌, ◌++◌, filter, take, length, get_or, refl, ap, sym, ◌∙◌, arith, cond, subst, Contains}
+use Rattle.std.proofs.Common.{◌≡◌, ℕ, zero, suc, ◌<◌, ◌≤◌, inl, inr, Bool, true, false, nat_le, List, [], ◌∷◌, ◌++◌, filter, take, length, get_or, refl, ap, sym, ◌∙◌, arith, cond, subst, Contains}
 use Rattle.std.specs.List.Sorted.{IsPartitionedBy, IsPartitionPoint}
 use Rattle.std.proofs.lemmas.Bool.Decides.{nat_tests}
 use Rattle.vz_rules.proofs.Members.{contains_here, contains_there, contains_none, contains_push, filter_at}
@@ -40,17 +40,7 @@ rises_at (x ∷ xs) (suc i) zero d h k l = absurd (omega (arith, k))
 rises_at (x ∷ xs) (suc i) (suc j) d h k l = rises_at xs i j d h.1 (omega (arith, k)) (omega (arith, l))
 
 pub rises_parts : (xs : List Numbered) (to : ℕ) → Rises xs → IsPartitionedBy (λ (x : Numbered). nat_le x.number to) xs
-rises_parts xs to h i j d l k e = by (order i j l)
-  where
-    order : (i j : ℕ) → i ≤ j → (i ≡ j) ⊎ (i < j)
-    order i j h = grind arith
-
-    less : (a b n : ℕ) → a < b → nat_le b n ≡ true → nat_le a n ≡ true
-    less a b n h e = grind (arith, nat_tests)
-
-    by : (i ≡ j) ⊎ (i < j) → nat_le (get_or xs i d).number to ≡ true
-    by (inl s) = ap (λ n. nat_le (get_or xs n d).number to) s ∙ e
-    by (inr m) = less (get_or xs i d).number (get_or xs j d).number to (rises_at xs i j d h m k) e
+rises_parts xs to h i j d l k e = grind (arith, nat_tests, rises_at)
 
 pub front_filter : (p : Numbered → Bool) (xs : List Numbered) (n : ℕ) → n ≤ length xs → IsPartitionPoint (λ (x : Numbered). p x ≡ true) (λ (x : Numbered). p x ≡ false) xs n → take n xs ≡ filter p xs
 front_filter p [] zero h point = refl

@@ -1,5 +1,6 @@
 -- A change of the submissions on one surface leaves what is kept of the others.
-use Rattle.std.proofs.Common.{◌≡◌, Bool, true, false, not, ◌&&◌, Option, Some, None, List, map, find, refl, ap, sym, ◌∙◌, Contains, count_by}
+use Rattle.std.proofs.Common.{arith, ◌≡◌, Bool, true, false, not, ◌&&◌, Option, Some, None, List, map, find, refl, ap, sym, ◌∙◌, Contains, count_by}
+use Rattle.std.proofs.lemmas.Bool.Decides.{nat_tests}
 use Rattle.std.specs.Option.{option_map}
 use Rattle.std.proofs.lemmas.Bool.{and_parts}
 use Rattle.vz_ids.specs.declared.SurfaceId.{SurfaceId}
@@ -52,11 +53,7 @@ module _ (id : SurfaceId) (f : Submission → Submission) (subs : List Submissio
   count_on q = count_kept (is_on q) f subs (λ s c. ap (λ i. same_surface i.id q) (h.submitted s c))
 
   other_same : (test : Submission → Bool) (q : SurfaceId) → same_surface id q ≡ false → (s : Submission) → Contains subs s → (test (f s) && is_on q (f s)) ≡ (test s && is_on q s)
-  other_same test q apart s c =
-      elim (is_on q s) as (λ (t : Bool). is_on q s ≡ t → (test (f s) && is_on q (f s)) ≡ (test s && is_on q s)) [
-        | true ↦ λ e. ap (λ x. test x && is_on q x) (h.others s c (off id q s apart e))
-        | false ↦ λ e. no_and (test (f s)) (is_on q (f s)) (ap (λ i. same_surface i.id q) (h.submitted s c) ∙ e) ∙ sym (no_and (test s) (is_on q s) e)
-      ] refl
+  other_same test q apart s c = grind (arith, nat_tests, off id q s apart, no_and (test (f s)) (is_on q (f s)), no_and (test s) (is_on q s))
 
   pub other_found : (test : Submission → Bool) (q : SurfaceId) → same_surface id q ≡ false → find (λ s. test s && is_on q s) (map f subs) ≡ find (λ s. test s && is_on q s) subs
   other_found test q apart =
@@ -79,17 +76,9 @@ pub record KeepsKept (g : Surface → Surface) : Type 0 where
   pub id : (c : Surface) → (g c).id ≡ c.id
   pub destroyed : (c : Surface) → (g c).destroyed ≡ c.destroyed
 
-kept_through : (g : Surface → Surface) (q : SurfaceId) (subs : List Submission) (o : Option Surface) → KeepsKept g → option_map (kept_of q subs) (option_map g o) ≡ option_map (kept_of q subs) o
-kept_through g q subs None h = refl
-kept_through g q subs (Some c) h =
-    λ i. Some (record { client = h.client c i; number = h.number c i; accepted = count_by (is_on q) subs; waiting = held_in is_waiting q subs; active = held_in is_active q subs })
-
 pub surfaces_kept : (g : Surface → Surface) (q : SurfaceId) (ss : List Surface) (subs : List Submission) → KeepsKept g
     → option_map (kept_of q subs) (standing q (map g ss)) ≡ option_map (kept_of q subs) (standing q ss)
-surfaces_kept g q ss subs h =
-    ap (option_map (kept_of q subs))
-    (find_map (λ (c : Surface). same_surface c.id q && not c.destroyed) g ss (λ c. ap (λ i. same_surface i q && not (g c).destroyed) (h.id c) ∙ ap (λ b. same_surface c.id q && not b) (h.destroyed c)))
-    ∙ kept_through g q subs (standing q ss) h
+surfaces_kept g q ss subs h = grind (arith, nat_tests, find_map)
 
 pub count_standing : (g : Surface → Surface) (ss : List Surface) → KeepsKept g → count_by (λ (s : Surface). not s.destroyed) (map g ss) ≡ count_by (λ (s : Surface). not s.destroyed) ss
 count_standing g ss h = count_kept (λ (s : Surface). not s.destroyed) g ss (λ c p. ap not (h.destroyed c))

@@ -1,14 +1,14 @@
 -- What is kept where a submission becomes active.
-use Rattle.std.proofs.Common.{◌≡◌, Bool, true, false, ◌&&◌, ◌==◌, Option, Some, None, List, [], ◌∷◌, map, find, refl, ap, sym, ◌∙◌, cond, subst, Contains, is_some}
+use Rattle.std.proofs.Common.{arith, ◌≡◌, Bool, true, false, ◌&&◌, Option, Some, None, List, [], ◌∷◌, map, find, refl, ap, sym, ◌∙◌, cond, subst, Contains, is_some}
+use Rattle.std.proofs.lemmas.Bool.Decides.{nat_tests}
 use Rattle.std.specs.Option.{option_map}
-use Rattle.std.specs.List.{list_any}
 use Rattle.std.proofs.lemmas.Bool.{and_parts, and_from, both_ways, eqb-true}
 use Rattle.vz_ids.specs.declared.SurfaceId.{SurfaceId}
 use Rattle.vz_ids.specs.declared.Sub.{Sub}
 use Rattle.vz_ids.specs.Ids.{same_surface, same_sub}
 use Rattle.vz_rules.specs.declared.entry.State.TheVariants.{Active, Past}
 use Rattle.vz_rules.specs.World.{Surface, FrameData, Submission, is_waiting, is_active, is_on, sub_of}
-use Rattle.vz_rules.specs.Settle.{is_before, marked_by}
+use Rattle.vz_rules.specs.Settle.{marked_by}
 use Rattle.vz_rules.specs.Singly.{as_one_rises}
 use Rattle.vz_rules.proofs.Reached.{self_same}
 use Rattle.vz_rules.proofs.Members.{when_same, any_at, any_from, contains_map, map_contains, contains_at, at_same, find_at, found}
@@ -32,9 +32,7 @@ pub record Waits_in (st : Stored) (x : Submission) : Type 0 where
   pub waits : is_waiting x ≡ true
 
 pub same_names : (a b : Sub) → same_sub a b ≡ true → a ≡ b
-same_names a b e =
-    let both = and_parts (a.client == b.client) (a.ordinal == b.ordinal) e in
-    λ i. record { client = eqb-true a.client b.client both.0 i; ordinal = eqb-true a.ordinal b.ordinal both.1 i }
+same_names a b e = grind (arith, nat_tests, and_parts, eqb-true a.client b.client, eqb-true a.ordinal b.ordinal)
 
 -- the submission of a name that waits
 pub waiting_one : (st : Stored) (sub : Sub) → is_waiting_in st sub ≡ true → (x : Submission) × Waits_in st x × (sub_of x ≡ sub)
@@ -89,23 +87,10 @@ acts_by false true t h e = absurd (cc)
 acts_by false false t h e = refl
 
 mark_kept : (x : Submission) (ss : List Surface) → KeepsKept (marked_by ss (x ∷ []))
-mark_kept x ss =
-    let marks = λ (c : Surface). record c { marked = true } in
-    record {
-      client = λ c. when_same (λ (y : Surface). y.client) marks (list_any (is_before ss c) (x ∷ [])) c refl;
-      number = λ c. when_same (λ (y : Surface). y.number) marks (list_any (is_before ss c) (x ∷ [])) c refl;
-      id = λ c. when_same (λ (y : Surface). y.id) marks (list_any (is_before ss c) (x ∷ [])) c refl;
-      destroyed = λ c. when_same (λ (y : Surface). y.destroyed) marks (list_any (is_before ss c) (x ∷ [])) c refl;
-    }
+mark_kept x ss = grind (arith, nat_tests, when_same)
 
 mark_counted : (x : Submission) (ss : List Surface) → KeepsCounted (marked_by ss (x ∷ []))
-mark_counted x ss =
-    let marks = λ (c : Surface). record c { marked = true } in
-    record {
-      client = λ c. when_same (λ (y : Surface). y.client) marks (list_any (is_before ss c) (x ∷ [])) c refl;
-      id = λ c. when_same (λ (y : Surface). y.id) marks (list_any (is_before ss c) (x ∷ [])) c refl;
-      size = λ c. when_same (λ (y : Surface). y.size) marks (list_any (is_before ss c) (x ∷ [])) c refl;
-    }
+mark_counted x ss = grind (arith, nat_tests, when_same)
 
 module _ (st : Stored) (x : Submission) (keeps : KeepsStored st) (in_it : Waits_in st x) where
   abbrev id_up : SurfaceId

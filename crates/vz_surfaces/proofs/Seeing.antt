@@ -1,10 +1,11 @@
 -- Active submissions are found by their surfaces, and by the ranges that show them.
-use Rattle.std.proofs.Common.{◌≡◌, Bool, true, false, ◌&&◌, Option, Some, None, List, [], ◌∷◌, filter, refl, ap, sym, ◌∙◌, cond, subst, Contains}
+use Rattle.std.proofs.Common.{arith, ◌≡◌, Bool, true, ◌&&◌, Option, Some, None, List, [], ◌∷◌, filter, refl, ap, sym, ◌∙◌, subst, Contains}
+use Rattle.std.proofs.lemmas.Bool.Decides.{nat_tests}
 use Rattle.std.specs.Option.{option_map}
 use Rattle.std.proofs.lemmas.Bool.{and_from}
 use Rattle.vz_ids.specs.declared.SurfaceId.{SurfaceId}
 use Rattle.vz_ids.specs.declared.SurfaceRange.{SurfaceRange}
-use Rattle.vz_ids.specs.Ids.{same_surface, newer}
+use Rattle.vz_ids.specs.Ids.{same_surface}
 use Rattle.vz_rules.specs.World.{World, FrameData, Submission, is_active, is_on, active_frames, frame_on}
 use Rattle.vz_rules.specs.Scene.{or_else, newest, newer_frame, in_range, after_start, shown_frame, id_of_frame}
 use Rattle.vz_rules.specs.Kept.{KeepsMessages, IsWhole, stands_in}
@@ -27,11 +28,7 @@ none_some a f = absurd (cc)
 
 by_frame : (st : Stored) (id : SurfaceId) (h : Held) (o : Option FrameData) → frame_on id (seen_frames st) ≡ o → Some h ≡ option_map held_of o → Some (frame_at id h) ≡ o
 by_frame st id h None e f = absurd (none_some h (sym f))
-by_frame st id h (Some i) e f =
-    let found = find_at (λ (j : FrameData). same_surface j.id id) (seen_frames st) i e in
-    let same : i.id ≡ id = from_same i.id id found.1 in
-    let is : h ≡ held_of i = some_same h (held_of i) f in
-    ap (λ z. Some z) (ap (frame_at id) is ∙ ap (λ (x : SurfaceId). frame_at x (held_of i)) (sym same))
+by_frame st id h (Some i) e f = grind (arith, nat_tests, find_at, from_same i.id id, some_same h (held_of i) f)
 
 -- what is kept of the active submission of a surface is that, with the surface
 pub frame_seen : (st : Stored) (id : SurfaceId) (h : Held) → Some h ≡ option_map held_of (active_on st id) → Some (frame_at id h) ≡ active_on st id
@@ -48,13 +45,8 @@ none_seen st id f = none_mapped (active_on st id) f
 -- By range
 
 newest_step : (i x : FrameData) (xs : List FrameData) (o : Option FrameData) → newest xs ≡ o → newer_frame x o ≡ Some i → (newest xs ≡ Some i → Contains xs i) → Contains (x ∷ xs) i
-newest_step i x xs None e f rest = subst (Contains (x ∷ xs)) (some_same x i f) (contains_here x xs)
-newest_step i x xs (Some j) e f rest =
-    by (newer j.id.local x.id.local) f
-  where
-    by : (t : Bool) → cond t (Some j) (Some x) ≡ Some i → Contains (x ∷ xs) i
-    by true g = contains_there x i xs (rest (e ∙ g))
-    by false g = subst (Contains (x ∷ xs)) (some_same x i g) (contains_here x xs)
+newest_step i x xs None e f rest = grind (arith, nat_tests, some_same, contains_here)
+newest_step i x xs (Some j) e f rest = grind (arith, nat_tests, contains_there, some_same, contains_here)
 
 newest_is_in : (xs : List FrameData) (i : FrameData) → newest xs ≡ Some i → Contains xs i
 newest_is_in [] i e = absurd (none_some i e)
@@ -103,8 +95,7 @@ found_alone st i keeps c =
 
 by_range : (st : Stored) (range : SurfaceRange) (id : SurfaceId) → KeepsStored st → (o : Option FrameData) → shown_frame (seen_frames st) range ≡ o → Some id ≡ id_of_frame o → active_on st id ≡ o
 by_range st range id keeps None e f = absurd (none_some id (sym f))
-by_range st range id keeps (Some i) e f =
-    ap (active_on st) (some_same id i.id f) ∙ found_alone st i keeps (shown_is_in (seen_frames st) range i e)
+by_range st range id keeps (Some i) e f = grind (arith, nat_tests, some_same id i.id f, found_alone st i keeps (shown_is_in (seen_frames st) range i e), shown_is_in (seen_frames st) range i e)
 
 -- the active submission of the surface that a range shows is what it shows
 pub range_seen : (st : Stored) (range : SurfaceRange) (id : SurfaceId) → KeepsStored st → Some id ≡ shown_in st range → active_on st id ≡ shown_frame (seen_frames st) range

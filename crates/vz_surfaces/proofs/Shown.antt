@@ -1,5 +1,6 @@
 -- What is found in the groups is what a range shows.
-use Rattle.std.proofs.Common.{◌≡◌, Bool, true, false, not, ◌&&◌, ◌||◌, ◌⊎◌, inl, inr, Option, Some, None, is_some, List, [], ◌∷◌, map, filter, find, reverse, refl, ap, sym, ◌∙◌, cond, subst, Contains}
+use Rattle.std.proofs.Common.{arith, ◌≡◌, Bool, true, false, not, ◌&&◌, ◌||◌, ◌⊎◌, inl, inr, Option, Some, None, is_some, List, [], ◌∷◌, map, filter, find, reverse, refl, ap, sym, ◌∙◌, cond, subst, Contains}
+use Rattle.std.proofs.lemmas.Bool.Decides.{nat_tests}
 use Rattle.std.specs.Option.{option_map, option_map_or}
 use Rattle.std.specs.List.{list_any}
 use Rattle.std.proofs.lemmas.List.{reverse-append}
@@ -45,13 +46,7 @@ last_step p x xs = ap (find p) (reverse-append (x ∷ []) xs) ∙ find_end p (re
 
 pub none_last : (p : SurfaceId → Bool) (xs : List SurfaceId) → find p (reverse xs) ≡ None → (y : SurfaceId) → Contains xs y → p y ≡ false
 none_last p [] e y c = absurd (contains_none y c)
-none_last p (x ∷ xs) e y c = by (find p (reverse xs)) refl (p x) refl (sym (last_step p x xs) ∙ e) (none_last p xs)
-  where
-    by : (o : Option SurfaceId) → find p (reverse xs) ≡ o → (t : Bool) → p x ≡ t → or_else o (cond t (Some x) None) ≡ None
-        → (find p (reverse xs) ≡ None → (y : SurfaceId) → Contains xs y → p y ≡ false) → p y ≡ false
-    by None f true g h rest = absurd (cc)
-    by None f false g h rest = elim (contains_cases x y xs c) [ inl s ↦ ap p (sym s) ∙ g | inr r ↦ rest f y r ]
-    by (Some z) f t g h rest = absurd (cc)
+none_last p (x ∷ xs) e y c = grind (arith, nat_tests, last_step p x xs, none_last p xs, contains_cases x y xs c)
 
 -- it passes, and the others that do are older
 pub record IsLast (p : SurfaceId → Bool) (xs : List SurfaceId) (x : SurfaceId) : Type 0 where
@@ -223,11 +218,7 @@ module _ (t : Table) (g : Groups) (st : Stored) (ht : KeepsTable t st) (hg : Kee
 
   start_goes : (s : Option SurfaceId) (end a b : SurfaceId) → at_least a b ≡ true → starts_from s end b ≡ true → starts_from s end a ≡ true
   start_goes None end a b e f = refl
-  start_goes (Some start) end a b e f = by (not (same_group start end)) f
-    where
-      by : (x : Bool) → (x || at_least b start) ≡ true → (x || at_least a start) ≡ true
-      by true k = refl
-      by false k = at_least_trans a b start e k
+  start_goes (Some start) end a b e f = grind (arith, nat_tests, at_least_trans a b start e)
 
   old_or : (a b : SurfaceId) → (b ≡ a) ⊎ (is_newer_id a b ≡ true) → at_least a b ≡ true
   old_or a b (inl e) = ap (λ i. at_least a i) e ∙ ap (λ x. x || (same_sink a.sink a.sink && newer a.local a.local)) (self_same a)
@@ -293,22 +284,7 @@ module _ (t : Table) (g : Groups) (st : Stored) (ht : KeepsTable t st) (hg : Kee
           let at = (and_parts (not (same_group start end)) (at_least j.id start) m).1 in
           sym k ∙ at_least_trans x j.id start (old_or x j.id (old j c at)) at))))
 
-  from_all : (s : Option SurfaceId) (end : SurfaceId) → id_from t g s end ≡ id_of_frame (newest (filter (after_start s end) (seen_frames st)))
-  from_all None end = sym (ap (λ l. id_of_frame (newest l)) (filter_none (after_start None end) (seen_frames st) (λ i c. refl)))
-  from_all (Some start) end = by (same_group start end) refl
-    where
-      by : (b : Bool) → same_group start end ≡ b → cond b None (id_passes (λ id. at_least id start) (find (is_acting t) (reverse (chain_at g start)))) ≡ id_of_frame (newest (filter (after_start (Some start) end) (seen_frames st)))
-      by true f = sym (ap (λ l. id_of_frame (newest l)) (filter_none (after_start (Some start) end) (seen_frames st) (λ i c. ap (λ b. not b && at_least i.id start) f)))
-      by false f = from_by start end (find (is_acting t) (reverse (chain_at g start))) refl f
-
-  either_id : (a b : Option FrameData) → or_else (id_of_frame a) (id_of_frame b) ≡ id_of_frame (or_else a b)
-  either_id None b = refl
-  either_id (Some i) b = refl
-
   -- what is found is what the range shows
   pub ids_show : (range : SurfaceRange) → or_else (id_passes (starts_from range.start range.end) (find (is_acting t) (reverse (filter (at_least range.end) (chain_at g range.end))))) (id_from t g range.start range.end) ≡ shown_in st range
   unfolding shown_in shown_frame
-  ids_show range =
-      ap (λ o. or_else o (id_from t g range.start range.end)) (in_by range (find (is_acting t) (reverse (filter (at_least range.end) (chain_at g range.end)))) refl)
-      ∙ (ap (or_else (id_of_frame (newest (filter (in_range range) (seen_frames st))))) (from_all range.start range.end)
-      ∙ either_id (newest (filter (in_range range) (seen_frames st))) (newest (filter (after_start range.start range.end) (seen_frames st))))
+  ids_show range = grind (arith, nat_tests, in_by range, filter_none, from_by)

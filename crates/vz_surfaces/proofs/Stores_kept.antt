@@ -1,6 +1,6 @@
 -- What leaves a store as it is.
-use Rattle.std.proofs.Common.{◌≡◌, ℕ, Bool, true, false, ◌&&◌, not, Option, Some, None, List, [], ◌∷◌, map, refl, ap, ◌∙◌, cond, is_some}
-use Rattle.vz_geom.specs.Rectangle.{is_empty_rect}
+use Rattle.std.proofs.Common.{arith, ◌≡◌, ℕ, Bool, true, false, ◌&&◌, not, Option, Some, None, List, [], ◌∷◌, map, refl, ap, ◌∙◌, cond, is_some}
+use Rattle.std.proofs.lemmas.Bool.Decides.{nat_tests}
 use Rattle.vz_ids.specs.declared.FrameSinkId.{FrameSinkId}
 use Rattle.vz_ids.specs.declared.LocalSurfaceId.{LocalSurfaceId}
 use Rattle.vz_ids.specs.declared.Sub.{Sub}
@@ -11,10 +11,8 @@ use Rattle.vz_rules.specs.World.{World, Client, Surface, Scene}
 use Rattle.vz_rules.specs.Scene.{scene_of}
 use Rattle.vz_rules.specs.Reach.{naming, name_one, is_named_now}
 use Rattle.vz_rules.specs.Returns.{give_back, feed, mark_fed}
-use Rattle.vz_rules.specs.Walk.{walk_of, too_much}
-use Rattle.vz_rules.specs.Damage.{drawn_damage}
 use Rattle.vz_rules.specs.Messages.{Answer, unless_refused, taking, in_use, upload_answer, hierarchy_answer, hierarchy_refusal, root_answer, await_answer}
-use Rattle.vz_rules.specs.Step.{begin_answer, draw_answer, done_answer, scene_answer, accepted_frames}
+use Rattle.vz_rules.specs.Step.{begin_answer, draw_answer, done_answer, scene_answer}
 use Rattle.vz_surfaces.specs.Stored.{Stored, bare_surface, bare_sub, stored_of}
 use Rattle.vz_surfaces.proofs.Following.{agree}
 
@@ -80,10 +78,7 @@ stays_ticked p w = refl
 
 pub stays_scene : (p : Plan) (w : World) (scene : Scene) → stored_of (scene_answer p w scene).world ≡ stored_of w
 unfolding stored_of scene_answer
-stays_scene p w scene =
-    let walked = walk_of p.size scene in
-    let damage = drawn_damage p.size w.last (accepted_frames w) scene.root walked in
-    either (too_much walked) _ _ (stored_of w) refl (either (is_some w.last && is_empty_rect damage) _ _ (stored_of w) refl refl)
+stays_scene p w scene = grind (arith, nat_tests, either)
 
 seen_or : (w : World) (o : Option Scene) (f : Scene → Answer) (b : Answer) → ((s : Scene) → stored_of (f s).world ≡ stored_of w) → stored_of b.world ≡ stored_of w
     → stored_of (elim o as (λ o. Answer) [ Some s ↦ f s | None ↦ b ]).world ≡ stored_of w

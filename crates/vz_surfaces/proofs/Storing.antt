@@ -1,12 +1,13 @@
 -- What memory keeps is that of the store, at first and over its other changes, and what is read of it.
-use Rattle.std.proofs.Common.{◌≡◌, ℕ, ◌+◌, Bool, true, false, ◌&&◌, Option, Some, None, List, [], ◌∷◌, ◌++◌, map, filter, find, length, refl, ap, sym, ◌∙◌, arith, cond, subst, is_some, Bor}
-use Rattle.std.specs.Option.{option_map, option_and_then, option_copied}
+use Rattle.std.proofs.Common.{◌≡◌, ℕ, ◌+◌, Bool, true, false, ◌&&◌, Option, Some, None, List, [], ◌∷◌, ◌++◌, filter, find, length, refl, ap, sym, ◌∙◌, arith, cond, subst, is_some, Bor}
+use Rattle.std.proofs.lemmas.Bool.Decides.{nat_tests}
+use Rattle.std.specs.Option.{option_map, option_copied}
 use Rattle.std.proofs.lemmas.Bool.{both_ways, or_left}
 use Rattle.vz_ids.specs.declared.SurfaceId.{SurfaceId}
 use Rattle.vz_ids.specs.declared.Sub.{Sub}
 use Rattle.vz_ids.specs.Ids.{same_surface}
 use Rattle.vz_rules.specs.declared.entry.Lost.{Lost}
-use Rattle.vz_rules.specs.World.{Surface as Created, FrameData, Submission, is_waiting, is_active, is_on, sub_of, active_frames, frame_on}
+use Rattle.vz_rules.specs.World.{Surface as Created, FrameData, Submission, is_waiting, is_active, is_on, active_frames}
 use Rattle.vz_rules.specs.Kept.{stands_in}
 use Rattle.vz_rules.proofs.Reached.{from_same}
 use Rattle.vz_rules.proofs.Members.{contains_none}
@@ -19,9 +20,9 @@ use Rattle.vz_surfaces.specs.declared.waits.Waits.{Waits}
 use Rattle.vz_surfaces.specs.declared.owners.Owners.{Owners}
 use Rattle.vz_surfaces.specs.Stored.{Stored, nothing_stored, raising, activating, destroying}
 use Rattle.vz_surfaces.specs.Told.{changed, changed_by, stored}
-use Rattle.vz_surfaces.specs.Reading.{stands, standing, held_of, existing_count, last_of, seen_frames, active_on}
+use Rattle.vz_surfaces.specs.Reading.{stands, standing, held_of, existing_count, last_of, active_on}
 use Rattle.vz_surfaces.specs.Keeping.{KeepsStored}
-use Rattle.vz_surfaces.specs.Memory.{is_key, key_at, under, look, IsKeyed, is_name, waits_on, owner_at, no_owner, Keeps, kept_of, surface_at, raised, waiting_on, acting_on, is_waiting_in, past_by}
+use Rattle.vz_surfaces.specs.Memory.{is_key, key_at, look, IsKeyed, is_name, waits_on, owner_at, no_owner, Keeps, kept_of, surface_at, raised, waiting_on, acting_on, is_waiting_in, past_by}
 use Rattle.vz_surfaces.specs.Chains.{acting_under}
 use Rattle.vz_surfaces.proofs.Raising.{waiting_one, Waits_in, activates, past_is, raised_here, raised_apart, raised_count, raised_owners, raised_waits}
 use Rattle.vz_surfaces.proofs.Destroying.{marked_at, marked_count, marked_owners, marked_waits, gone_here, gone_apart, gone_owners, gone_count, gone_waits}
@@ -45,23 +46,13 @@ stored_none ts e = ap (changed_by nothing_stored) e
 pub keeps_none : (t : Table) (w : Waits) (o : Owners) (ts : List Told) → ((q : SurfaceId) → look t q ≡ None) → length t.keys.entries ≡ 0 → IsKeyed t → ((q : Sub) → waits_on w q ≡ None) → ((q : ℕ) → owner_at o q ≡ no_owner) → ts ≡ []
     → Keeps t w o (stored ts)
 unfolding surface_at existing_count last_of nothing_stored
-keeps_none t w o ts none len keyed unnamed owners e =
-    subst (Keeps t w o) (sym (stored_none ts e))
-    (record {
-      table = record { surfaces = λ id. none id; count = len; keyed = keyed };
-      waits = record { found = λ s c. absurd (contains_none s c); only = λ q f. absurd (both_ways (is_some (waits_on w q)) (ap is_some (unnamed q)) f) };
-      owners = record { accepted = λ c h. ap (λ x. x.accepted) (owners c); created = λ c h. ap (λ x. x.created) (owners c); last = λ c h. ap (λ x. x.last) (owners c) };
-    })
+keeps_none t w o ts none len keyed unnamed owners e = grind (arith, nat_tests, stored_none, contains_none, both_ways)
 
 -- What is read
 
 pub exists_is : (t : Table) (w : Waits) (o : Owners) (st : Stored) (id : SurfaceId) → Keeps t w o st → is_some (look t id) ≡ stands st id
 unfolding surface_at stands
-exists_is t w o st id h = ap is_some (h.table.surfaces id) ∙ by (standing id st.surfaces)
-  where
-    by : (x : Option Created) → is_some (option_map (kept_of id st.subs) x) ≡ is_some x
-    by None = refl
-    by (Some c) = refl
+exists_is t w o st id h = grind (arith, nat_tests)
 
 seen_step : (i : FrameData) (id : SurfaceId) (in_it on : Bool) (rest : List FrameData) → same_surface i.id id ≡ on
     → find (λ (j : FrameData). same_surface j.id id) (cond in_it (i ∷ rest) rest) ≡ cond (in_it && on) (Some i) (find (λ (j : FrameData). same_surface j.id id) rest)
@@ -82,45 +73,19 @@ seen_on : (ss : List Created) (subs : List Submission) (id : SurfaceId) (b : Boo
     → find (λ (i : FrameData). same_surface i.id id) (filter (λ i. stands_in ss i.id) (active_frames subs)) ≡ cond b (option_map (λ (s : Submission). s.submitted) (find (λ s. is_active s && is_on id s) subs)) None
 seen_on ss [] id true e = refl
 seen_on ss [] id false e = refl
-seen_on ss (s ∷ subs) id b e =
-    elim (is_active s) as (λ (a : Bool). find (λ (i : FrameData). same_surface i.id id) (filter (λ i. stands_in ss i.id) (map (λ (s : Submission). s.submitted) (cond a (s ∷ filter is_active subs) (filter is_active subs))))
-    ≡ cond b (option_map (λ (s : Submission). s.submitted) (cond (a && is_on id s) (Some s) (find (λ s. is_active s && is_on id s) subs))) None) [
-      | false ↦ seen_on ss subs id b e
-      | true ↦ seen_step s.submitted id (stands_in ss s.submitted.id) (is_on id s) (filter (λ i. stands_in ss i.id) (active_frames subs)) refl
-          ∙ seen_by b (is_on id s) (stands_in ss s.submitted.id) s (find (λ (i : FrameData). same_surface i.id id) (filter (λ i. stands_in ss i.id) (active_frames subs)))
-          (find (λ s. is_active s && is_on id s) subs) (λ f. ap (stands_in ss) (from_same s.submitted.id id f) ∙ e) (seen_on ss subs id b e)
-    ]
+seen_on ss (s ∷ subs) id b e = grind (arith, nat_tests, seen_on ss subs id b e, seen_step, seen_by, from_same)
 
 pub active_none : (t : Table) (w : Waits) (o : Owners) (st : Stored) (id : SurfaceId) → Keeps t w o st → None ≡ look t id → ◌≡◌ {A = Option Held} None (option_map held_of (active_on st id))
 unfolding active_on stands
-active_none t w o st id h e =
-    let away : stands_in st.surfaces id ≡ false = sym (ap is_some e ∙ exists_is t w o st id h) in
-    sym (ap (option_map held_of) (seen_on st.surfaces st.subs id false away))
+active_none t w o st id h e = grind (arith, nat_tests, exists_is t w o st id h, seen_on st.surfaces st.subs id false)
 
 pub active_some : (t : Table) (w : Waits) (o : Owners) (st : Stored) (id : SurfaceId) (s : Surface) → Keeps t w o st → Some s ≡ look t id → s.active ≡ option_map held_of (active_on st id)
 unfolding active_on surface_at
-active_some t w o st id s h e = by (standing id st.surfaces) refl (e ∙ h.table.surfaces id)
-  where
-    twice : (x : Option Submission) → option_map (λ (s : Submission). held_of s.submitted) x ≡ option_map held_of (option_map (λ (s : Submission). s.submitted) x)
-    twice None = refl
-    twice (Some s) = refl
-
-    some_same : {A : Type 0} {a b : A} → Some a ≡ Some b → a ≡ b
-    some_same f = cc
-
-    by : (x : Option Created) → standing id st.surfaces ≡ x → Some s ≡ option_map (kept_of id st.subs) x → s.active ≡ option_map held_of (frame_on id (seen_frames st))
-    by None f g = absurd (cc)
-    by (Some c) f g =
-        ap (λ (z : Surface). z.active) (some_same g)
-        ∙ (twice (find (λ s. is_active s && is_on id s) st.subs) ∙ sym (ap (option_map held_of) (seen_on st.surfaces st.subs id true (ap is_some f))))
+active_some t w o st id s h e = grind (arith, nat_tests, seen_on st.surfaces st.subs id true)
 
 -- what is active under the key of a surface
 pub acting_reads : (t : Table) (w : Waits) (o : Owners) (st : Stored) (id : SurfaceId) (key : ℕ) → Keeps t w o st → key_at t id ≡ Some key → acting_under t key ≡ option_map held_of (active_on st id)
-acting_reads t w o st id key h e = by (under t key) (ap (option_and_then (under t)) e)
-  where
-    by : (x : Option Surface) → look t id ≡ x → option_and_then (λ (s : Surface). s.active) x ≡ option_map held_of (active_on st id)
-    by None f = active_none t w o st id h (sym f)
-    by (Some s) f = active_some t w o st id s h (sym f)
+acting_reads t w o st id key h e = grind (arith, nat_tests, active_none t w o st id h, active_some t w o st id)
 
 -- whether there is a borrowed surface
 pub some_read : (o : Option (Bor Surface)) → is_some o ≡ is_some (option_copied o)
@@ -140,11 +105,7 @@ marked_keeps t w o ts now st c inv view e =
 -- A submission becomes active
 
 pub found_waiting : (t : Table) (w : Waits) (o : Owners) (ts : List Told) (st : Stored) (sub : Sub) → Keeps t w o (stored ts) → stored ts ≡ st → is_waiting_in st sub ≡ true → None ≡ waits_on w sub → ⊥
-found_waiting t w o ts st sub inv view waits none =
-    let x = waiting_one st sub waits in
-    let h = subst (Keeps t w o) view inv in
-    let no_way : ◌≡◌ {A = Option SurfaceId} None (Some x.0.submitted.id) = none ∙ (ap (waits_on w) (sym x.2) ∙ h.waits.found x.0 x.1.there x.1.waits) in
-    absurd (cc)
+found_waiting t w o ts st sub inv view waits none = grind (arith, nat_tests, waiting_one)
 
 pub activated_keeps : (t0 t1 : Table) (w0 w1 : Waits) (o : Owners) (ts now : List Told) (st : Stored) (sub : Sub) (id : SurfaceId) → KeepsStored st → Keeps t0 w0 o (stored ts) → stored ts ≡ st
     → is_waiting_in st sub ≡ true → now ≡ ts ++ told.Activated sub ∷ [] → Some id ≡ waits_on w0 sub
@@ -180,11 +141,7 @@ activated_keeps t0 t1 w0 w1 o ts now st sub id keeps inv view waits e found gone
 
 kept_active : (id : SurfaceId) (st : Stored) (c : Created) → option_map (λ (h : Held). h.sub) (kept_of id st.subs c).active ≡ acting_on st id
 unfolding acting_on
-kept_active id st c = by (find (λ s. is_active s && is_on id s) st.subs)
-  where
-    by : (o : Option Submission) → option_map (λ (h : Held). h.sub) (option_map (λ (s : Submission). held_of s.submitted) o) ≡ option_map (λ (s : Submission). sub_of s) o
-    by None = refl
-    by (Some s) = refl
+kept_active id st c = grind (arith, nat_tests)
 
 -- the one that is past then
 pub past_reads : (t : Table) (w : Waits) (o : Owners) (ts : List Told) (st : Stored) (sub : Sub) (id : SurfaceId) (r : Option Sub) → KeepsStored st → Keeps t w o (stored ts) → stored ts ≡ st
@@ -218,10 +175,7 @@ pub record IsKeptAt (st : Stored) (id : SurfaceId) (s : Surface) : Type 0 where
 
 kept_by : (st : Stored) (id : SurfaceId) (s : Surface) (o : Option Created) → standing id st.surfaces ≡ o → Some s ≡ option_map (kept_of id st.subs) o → IsKeptAt st id s
 kept_by st id s None e f = absurd (cc)
-kept_by st id s (Some c) e f = record { surface = c; is = e; kept = some_same f }
-  where
-    some_same : {a b : Surface} → Some a ≡ Some b → a ≡ b
-    some_same f = cc
+kept_by st id s (Some c) e f = grind (arith, nat_tests)
 
 pub kept_at : (t : Table) (w : Waits) (o : Owners) (ts : List Told) (st : Stored) (id : SurfaceId) (s : Surface) → Keeps t w o (stored ts) → stored ts ≡ st → Some s ≡ look t id → IsKeptAt st id s
 unfolding surface_at
@@ -230,22 +184,13 @@ kept_at t w o ts st id s inv view e =
 
 pub lost_reads : (st : Stored) (id : SurfaceId) (s : Surface) → IsKeptAt st id s → (c : Created) → standing id st.surfaces ≡ Some c
     → ◌≡◌ {A = Lost} (record { client = s.client; surface = s.number }) (record { client = c.client; surface = c.number })
-lost_reads st id s k c e =
-    let same : k.surface ≡ c = some_same (sym k.is ∙ e) in
-    λ i. record { client = (ap (λ (x : Surface). x.client) k.kept ∙ ap (λ (x : Created). x.client) same) i; surface = (ap (λ (x : Surface). x.number) k.kept ∙ ap (λ (x : Created). x.number) same) i }
-  where
-    some_same : {a b : Created} → Some a ≡ Some b → a ≡ b
-    some_same f = cc
+lost_reads st id s k c e = grind (arith, nat_tests)
 
 -- the client of what is kept
 pub client_reads : (t : Table) (w : Waits) (o : Owners) (st : Stored) (id : SurfaceId) → Keeps t w o st
     → option_map (λ (s : Surface). s.client) (look t id) ≡ option_map (λ (c : Created). c.client) (standing id st.surfaces)
 unfolding surface_at
-client_reads t w o st id h = ap (option_map (λ (s : Surface). s.client)) (h.table.surfaces id) ∙ by (standing id st.surfaces)
-  where
-    by : (o : Option Created) → option_map (λ (s : Surface). s.client) (option_map (kept_of id st.subs) o) ≡ option_map (λ (c : Created). c.client) o
-    by None = refl
-    by (Some c) = refl
+client_reads t w o st id h = grind (arith, nat_tests)
 
 pub waiting_reads : (st : Stored) (id : SurfaceId) (s : Surface) (r : Option Sub) → IsKeptAt st id s → r ≡ option_map (λ (h : Held). h.sub) s.waiting → r ≡ waiting_on st id
 waiting_reads st id s r k e = e ∙ (ap (λ (x : Surface). option_map (λ (h : Held). h.sub) x.waiting) k.kept ∙ kept_waiting id st k.surface)

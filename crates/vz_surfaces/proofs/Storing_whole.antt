@@ -1,5 +1,6 @@
 -- What memory keeps of a store is that of it, with the groups and the lists of surfaces.
-use Rattle.std.proofs.Common.{◌≡◌, ℕ, ◌+◌, ◌-◌, ◌≤◌, ◌==◌, nat_le, nat_eq, Bool, true, false, not, ◌&&◌, Option, Some, None, List, [], ◌∷◌, ◌++◌, filter, length, refl, ap, sym, ◌∙◌, arith, cond, subst, Contains, is_some}
+use Rattle.std.proofs.Common.{◌≡◌, ℕ, ◌+◌, ◌-◌, ◌≤◌, ◌==◌, nat_le, nat_eq, true, false, not, ◌&&◌, Option, Some, None, List, [], ◌∷◌, ◌++◌, filter, length, ap, sym, ◌∙◌, arith, cond, subst, Contains, is_some}
+use Rattle.std.proofs.lemmas.Bool.Decides.{nat_tests}
 use Rattle.std.specs.Option.{option_map, option_map_or, option_and_then}
 use Rattle.std.proofs.lemmas.Bool.{or_left, and_parts}
 use Rattle.vz_ids.specs.declared.LocalSurfaceId.{LocalSurfaceId}
@@ -7,8 +8,7 @@ use Rattle.vz_ids.specs.declared.SurfaceId.{SurfaceId}
 use Rattle.vz_ids.specs.declared.SurfaceRange.{SurfaceRange}
 use Rattle.vz_ids.specs.declared.Sub.{Sub}
 use Rattle.vz_ids.specs.Ids.{same_surface}
-use Rattle.vz_rules.specs.World.{Surface as Created, Submission, is_waiting, is_active, sub_of}
-use Rattle.vz_rules.specs.Kept.{stands_in}
+use Rattle.vz_rules.specs.World.{Surface as Created, Submission, sub_of}
 use Rattle.vz_rules.proofs.Reached.{from_same}
 use Rattle.vz_rules.proofs.Members.{contains_none, find_at}
 use Rattle.vz_surfaces.specs.declared.told.Told.{Told}
@@ -20,18 +20,17 @@ use Rattle.vz_surfaces.specs.declared.waits.Waits.{Waits}
 use Rattle.vz_surfaces.specs.declared.owners.Owners.{Owners}
 use Rattle.vz_surfaces.specs.Stored.{Stored, nothing_stored, raising, activating, destroying}
 use Rattle.vz_surfaces.specs.Told.{stored}
-use Rattle.vz_surfaces.specs.Reading.{standing, was_reached, has_mark, held_of, active_on, shown_in}
+use Rattle.vz_surfaces.specs.Reading.{was_reached, has_mark, held_of, active_on, shown_in}
 use Rattle.vz_surfaces.specs.Keeping.{KeepsStored}
 use Rattle.vz_surfaces.specs.Memory.{is_key, key_at, look, IsKeyed, HasSame, is_name, waits_on, owner_at, no_owner, HasNumber, marked_up, Keeps, KeepsOwners, KeepsMarks, kept_of, surface_at, raised, is_waiting_in}
 use Rattle.std.specs.Map.{lookup}
 use Rattle.vz_surfaces.specs.declared.groups.Link.{Link}
 use Rattle.vz_surfaces.specs.declared.groups.Group.{Group}
 use Rattle.vz_surfaces.specs.declared.groups.Groups.{Groups}
-use Rattle.vz_surfaces.specs.Chains.{Stands, shown_link, acting_under, KeepsGroups, IsRising, is_group, group_at, links_at, ids_of, chain_at, newest_at, reaches, newer_local}
+use Rattle.vz_surfaces.specs.Chains.{Stands, shown_link, acting_under, KeepsGroups, IsRising, is_group, group_at, links_at, ids_of, newest_at, reaches, newer_local}
 use Rattle.vz_surfaces.proofs.Grouping.{groups_alike, marked_groups, raised_groups, gone_groups}
 use Rattle.vz_surfaces.proofs.Marking.{owners_marked, marking_marks, raised_marks, gone_marks, own_client, one_surface}
 use Rattle.vz_surfaces.specs.declared.standing.Numbered.{Numbered}
-use Rattle.vz_surfaces.specs.declared.standing.Row.{Row}
 use Rattle.vz_surfaces.specs.declared.standing.Standing.{Standing}
 use Rattle.vz_surfaces.specs.Numbers.{list_in, list_at, Rises, KeepsLists}
 use Rattle.vz_surfaces.proofs.Listing.{raised_lists, gone_lists}
@@ -74,17 +73,7 @@ stands_none t w o g ts none len keyed unnamed owners groups e =
 
 pub stands_still : (t0 t1 : Table) (w0 w1 : Waits) (o : Owners) (g0 g1 : Groups) (st : Stored) → Stands t0 w0 o g0 st → HasSame t0 t1 → w1.surfaces.entries ≡ w0.surfaces.entries
     → ((q : SurfaceId) → links_at g1 q ≡ links_at g0 q) → ((q : SurfaceId) → newest_at g1 q ≡ newest_at g0 q) → Stands t1 w1 o g1 st
-stands_still t0 t1 w0 w1 o g0 g1 st h table waits links newest =
-    record {
-      kept = record {
-        table = record { surfaces = λ q. looks_same t0 t1 table q ∙ h.kept.table.surfaces q; count = ap length table.keys ∙ h.kept.table.count; keyed = same_keyed t0 t1 table h.kept.table.keyed };
-        waits = record { found = λ s p e. ap (lookup (is_name (sub_of s))) waits ∙ h.kept.waits.found s p e; only = λ q e. h.kept.waits.only q (ap (λ l. is_some (lookup (is_name q) l)) (sym waits) ∙ e) };
-        owners = h.kept.owners;
-      };
-      groups = groups_alike g0 g1 st (chain_stays g0 g1 links) newest h.groups;
-      links = links_same t0 t1 g0 g1 (keys_same t0 t1 table) links h.links;
-      marks = h.marks;
-    }
+stands_still t0 t1 w0 w1 o g0 g1 st h table waits links newest = grind (arith, nat_tests, looks_same, same_keyed, groups_alike, chain_stays, links_same, keys_same)
 
 re_owned : (t : Table) (w : Waits) (o0 o1 : Owners) (st : Stored) → Keeps t w o0 st → KeepsOwners o1 st → Keeps t w o1 st
 re_owned t w o0 o1 st h owners = record { table = h.table; waits = h.waits; owners = owners }
@@ -103,21 +92,7 @@ marked_stands g t w o0 o1 ts now st c number inv view e set =
 -- the surface on which a submission waits is in its group
 pub has_group : (g : Groups) (t : Table) (w : Waits) (o : Owners) (ts : List Told) (st : Stored) (sub : Sub) (id : SurfaceId) → KeepsStored st → Stands t w o g (stored ts) → stored ts ≡ st
     → is_waiting_in st sub ≡ true → Some id ≡ waits_on w sub → is_some (group_at g id) ≡ true
-has_group g t w o ts st sub id keeps inv view waits found =
-    let h = subst (Keeps t w o) view inv.kept in
-    let hg = subst (KeepsGroups g) view inv.groups in
-    let x = waiting_one st sub waits in
-    let in_it = x.1 in
-    let at : id ≡ x.0.submitted.id = some_id (found ∙ (ap (waits_on w) (sym x.2) ∙ h.waits.found x.0 in_it.there in_it.waits)) in
-    let here = keeps.states.stand x.0 in_it.there (or_left (is_waiting x.0) (is_active x.0) in_it.waits) in
-    by (group_at g id) refl (chain_has t g st h.table hg id (ap (stands_in st.surfaces) at ∙ here))
-  where
-    some_id : {a b : SurfaceId} → Some a ≡ Some b → a ≡ b
-    some_id f = cc
-
-    by : (x : Option Group) → group_at g id ≡ x → Contains (chain_at g id) id → is_some x ≡ true
-    by None e c = absurd (contains_none id (subst (λ (y : Option Group). Contains (ids_of (option_map_or (λ (z : Group). z.chain.items) y [])) id) e c))
-    by (Some x) e c = refl
+has_group g t w o ts st sub id keeps inv view waits found = grind (arith, nat_tests, waiting_one st sub waits, or_left, chain_has t g st, contains_none id)
 
 -- the surface on which a submission waits
 pub record IsUp (t : Table) (st : Stored) (sub : Sub) (id : SurfaceId) : Type 0 where
@@ -132,25 +107,7 @@ pub record IsUp (t : Table) (st : Stored) (sub : Sub) (id : SurfaceId) : Type 0 
 
 pub is_up : (t : Table) (w : Waits) (o : Owners) (st : Stored) (sub : Sub) (id : SurfaceId) → KeepsStored st → Keeps t w o st → is_waiting_in st sub ≡ true → Some id ≡ waits_on w sub → IsUp t st sub id
 unfolding surface_at
-is_up t w o st sub id keeps h waits found =
-    let x = waiting_one st sub waits in
-    let in_it = x.1 in
-    let at : id ≡ x.0.submitted.id = some_id (found ∙ (ap (waits_on w) (sym x.2) ∙ h.waits.found x.0 in_it.there in_it.waits)) in
-    let here = standing_of st id (ap (stands_in st.surfaces) at ∙ keeps.states.stand x.0 in_it.there (or_left (is_waiting x.0) (is_active x.0) in_it.waits)) in
-    let found_one = find_at (λ (s : Created). same_surface s.id id && not s.destroyed) st.surfaces here.0 here.1 in
-    record {
-      one = x.0;
-      in_it = in_it;
-      named = x.2;
-      at = at;
-      surface = here.0;
-      there = found_one.0;
-      of_id = from_same here.0.id id (and_parts (same_surface here.0.id id) (not here.0.destroyed) found_one.1).0 ∙ at;
-      kept = h.table.surfaces id ∙ ap (option_map (kept_of id st.subs)) here.1;
-    }
-  where
-    some_id : {a b : SurfaceId} → Some a ≡ Some b → a ≡ b
-    some_id f = cc
+is_up t w o st sub id keeps h waits found = grind (arith, nat_tests, waiting_one, standing_of, or_left, find_at, from_same, and_parts)
 
 pub mark_number : (g : Groups) (t : Table) (w : Waits) (o : Owners) (ts : List Told) (st : Stored) (sub : Sub) (id : SurfaceId) → KeepsStored st → Stands t w o g (stored ts) → stored ts ≡ st
     → is_waiting_in st sub ≡ true → Some id ≡ waits_on w sub → HasNumber sub.client
@@ -209,11 +166,7 @@ destroyed_stands g0 g1 t0 t1 w0 w1 o ts now st id s r keeps inv view e found is 
 
 pub mark_none : (t : Table) (w : Waits) (o : Owners) (st : Stored) (id : SurfaceId) → Keeps t w o st → None ≡ look t id → false ≡ has_mark st id
 unfolding has_mark surface_at
-mark_none t w o st id h e = by (standing id st.surfaces) (e ∙ h.table.surfaces id)
-  where
-    by : (x : Option Created) → None ≡ option_map (kept_of id st.subs) x → false ≡ (elim x as (λ x. Bool) [ Some c ↦ c.marked | None ↦ false ])
-    by None f = refl
-    by (Some c) f = absurd (cc)
+mark_none t w o st id h e = grind (arith, nat_tests)
 
 pub mark_client : (t : Table) (w : Waits) (o : Owners) (ts : List Told) (st : Stored) (g : Groups) (id : SurfaceId) (s : Surface) → Stands t w o g (stored ts) → stored ts ≡ st → Some s ≡ look t id → HasNumber s.client
 mark_client t w o ts st g id s inv view e =
@@ -225,27 +178,16 @@ mark_client t w o ts st g id s inv view e =
 pub mark_some : (t : Table) (w : Waits) (o : Owners) (ts : List Told) (st : Stored) (g : Groups) (id : SurfaceId) (s : Surface) → Stands t w o g (stored ts) → stored ts ≡ st → Some s ≡ look t id
     → nat_le s.number (owner_at o s.client).marked_to ≡ has_mark st id
 unfolding has_mark
-mark_some t w o ts st g id s inv view e =
-    let k = kept_at t w o ts st id s inv.kept view e in
-    let h = subst (KeepsMarks o) view inv.marks in
-    let there = find_at (λ (c : Created). same_surface c.id id && not c.destroyed) st.surfaces k.surface k.is in
-    ap (λ (x : Surface). nat_le x.number (owner_at o x.client).marked_to) k.kept
-    ∙ (sym (h.marks k.surface there.0) ∙ sym (ap (λ (x : Option Created). elim x as (λ x. Bool) [ Some c ↦ c.marked | None ↦ false ]) k.is))
+mark_some t w o ts st g id s inv view e = grind (arith, nat_tests, kept_at t w o ts st id s inv.kept view e, find_at)
 
 -- With the lists
 
 pub lists_none : (s : Standing) (ts : List Told) → ((q : ℕ) → list_in s q ≡ None) → ts ≡ [] → KeepsLists s (stored ts)
 unfolding nothing_stored Rises
-lists_none s ts none e =
-    subst (KeepsLists s) (sym (stored_none ts e)) (record {
-      lists = λ q. ap (λ (x : Option Row). option_map_or (λ (r : Row). r.all.items) x []) (none q);
-      rise = λ q. subst Rises (sym (ap (λ (x : Option Row). option_map_or (λ (r : Row). r.all.items) x []) (none q))) tt;
-    })
+lists_none s ts none e = grind (arith, nat_tests, stored_none)
 
 pub activated_lists : (s : Standing) (st : Stored) (sub : Sub) → KeepsStored st → is_waiting_in st sub ≡ true → KeepsLists s st → KeepsLists s (activating sub st)
-activated_lists s st sub keeps waits h =
-    let x = waiting_one st sub waits in
-    subst (KeepsLists s) (sym (ap (λ y. activating y st) (sym x.2) ∙ activates st x.0 keeps x.1.there)) (raised_lists s st x.0 h)
+activated_lists s st sub keeps waits h = grind (arith, nat_tests, waiting_one, activates, raised_lists)
 
 pub destroyed_lists : (l0 l1 : Standing) (st : Stored) (id : SurfaceId) (s : Surface) → KeepsStored st → IsKeptAt st id s → KeepsLists l0 st
     → ((q : ℕ) → list_at l1 q ≡ cond (nat_eq s.client q) (filter (λ (x : Numbered). not (same_surface x.id id)) (list_at l0 q)) (list_at l0 q)) → KeepsLists l1 (destroying id st)

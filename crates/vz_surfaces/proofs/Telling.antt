@@ -1,5 +1,6 @@
 -- What is read of a store is read of the machine's state.
-use Rattle.std.proofs.Common.{◌≡◌, ℕ, Bool, true, false, ◌&&◌, ◌||◌, ◌==◌, not, Option, Some, None, List, [], ◌∷◌, map, filter, find, refl, ap, sym, ◌∙◌, cond, Contains, count_by, is_some, subst}
+use Rattle.std.proofs.Common.{arith, ◌≡◌, ℕ, Bool, true, false, ◌&&◌, ◌||◌, ◌==◌, not, Option, Some, None, List, [], ◌∷◌, map, filter, find, refl, ap, sym, ◌∙◌, cond, Contains, count_by, is_some, subst}
+use Rattle.std.proofs.lemmas.Bool.Decides.{nat_tests}
 use Rattle.std.specs.Option.{option_map}
 use Rattle.std.specs.List.{list_any}
 use Rattle.std.proofs.lemmas.Bool.{or_left, or_right, and_parts, both_ways, false_from_ne_true}
@@ -7,7 +8,7 @@ use Rattle.vz_geom.specs.declared.Size.{Size}
 use Rattle.vz_ids.specs.declared.LocalSurfaceId.{LocalSurfaceId}
 use Rattle.vz_ids.specs.declared.SurfaceId.{SurfaceId}
 use Rattle.vz_ids.specs.declared.SurfaceRange.{SurfaceRange}
-use Rattle.vz_ids.specs.Ids.{same_sink, same_surface, at_least}
+use Rattle.vz_ids.specs.Ids.{same_sink, same_surface}
 use Rattle.vz_rules.specs.World.{World, Client, Surface, FrameData, Submission, is_waiting, is_active, is_on, active_frames, frame_on, existing, exists, last_created}
 use Rattle.vz_rules.specs.Scene.{shown, shown_frame, id_of_frame}
 use Rattle.vz_rules.specs.Settle.{is_met}
@@ -50,12 +51,7 @@ tells_count w = count_same bare_surface (λ (s : Surface). not s.destroyed) (λ 
 -- what is read of those that pass, where it is not changed
 pub read_same : {A B : Type 0} (f : A → A) (r : A → B) (p : A → Bool) (xs : List A) → ((x : A) → r (f x) ≡ r x) → ((x : A) → p (f x) ≡ p x) → map r (filter p (map f xs)) ≡ map r (filter p xs)
 read_same f r p [] e g = refl
-read_same f r p (x ∷ xs) e g =
-    ap (λ (t : Bool). map r (cond t (f x ∷ filter p (map f xs)) (filter p (map f xs)))) (g x) ∙ by (p x) (read_same f r p xs e g)
-  where
-    by : (t : Bool) → map r (filter p (map f xs)) ≡ map r (filter p xs) → map r (cond t (f x ∷ filter p (map f xs)) (filter p (map f xs))) ≡ map r (cond t (x ∷ filter p xs) (filter p xs))
-    by true rest = ap (λ y. y ∷ map r (filter p (map f xs))) (e x) ∙ ap (λ l. r x ∷ l) rest
-    by false rest = rest
+read_same f r p (x ∷ xs) e g = grind (arith, nat_tests, read_same f r p xs e g)
 
 pub tells_marked : (w : World) (c : ℕ) → marked_of c (stored_of w) ≡ map (λ s. s.id) (filter (λ (s : Surface). (s.client == c) && s.marked && not s.destroyed) w.surfaces)
 unfolding marked_of stored_of
@@ -74,9 +70,7 @@ tells_last w c = ap (option_map {U = Named} (λ (s : Surface). (s.id.local, s.si
 
 pub tells_met : (w : World) (d : SurfaceId) → is_met w d ≡ (was_reached (stored_of w) d || list_any (λ (c : Client). c.closed && same_sink c.sink d.sink) w.clients)
 unfolding is_met was_reached stored_of
-tells_met w d =
-    let p = λ (s : Submission). s.was_active && at_least s.submitted.id d in
-    ap (λ (t : Bool). t || list_any (λ (c : Client). c.closed && same_sink c.sink d.sink) w.clients) (sym (any_map bare_sub p p w.subs (λ x. refl)))
+tells_met w d = grind (arith, nat_tests, any_map bare_sub)
 
 -- Active frames
 
@@ -106,23 +100,10 @@ tells_active w id h = ap (frame_on id) (seen_all w h)
 
 found_frame : (id : SurfaceId) (subs : List Submission) → frame_on id (active_frames subs) ≡ option_map (λ (s : Submission). s.submitted) (find (λ s. is_active s && is_on id s) subs)
 found_frame id [] = refl
-found_frame id (s ∷ subs) =
-    elim (is_active s) as (λ (t : Bool). frame_on id (map (λ (x : Submission). x.submitted) (cond t (s ∷ filter is_active subs) (filter is_active subs)))
-    ≡ option_map (λ (x : Submission). x.submitted) (cond (t && is_on id s) (Some s) (find (λ s. is_active s && is_on id s) subs))) [
-      | true ↦ elim (same_surface s.submitted.id id) as (λ (u : Bool). cond u (Some s.submitted) (frame_on id (active_frames subs))
-          ≡ option_map (λ (x : Submission). x.submitted) (cond u (Some s) (find (λ s. is_active s && is_on id s) subs))) [
-            | true ↦ refl
-            | false ↦ found_frame id subs
-          ]
-      | false ↦ found_frame id subs
-    ]
+found_frame id (s ∷ subs) = grind (arith, nat_tests, found_frame id subs)
 
 pub tells_acting : (w : World) (id : SurfaceId) → KeepsAlways w → active_on (stored_of w) id ≡ option_map (λ (s : Submission). s.submitted) (find (λ s. is_active s && is_on id s) w.subs)
 tells_acting w id h = tells_active w id h ∙ found_frame id w.subs
-
-bare_frame : (o : Option Submission) → option_map (λ (s : Submission). s.submitted) (option_map bare_sub o) ≡ option_map (λ (s : Submission). s.submitted) o
-bare_frame None = refl
-bare_frame (Some s) = refl
 
 waits_on_none : (w : World) (id : SurfaceId) → KeepsAlways w → stands_in w.surfaces id ≡ false → find (λ s. is_waiting s && is_on id s) w.subs ≡ None
 waits_on_none w id h none =
@@ -135,11 +116,8 @@ waiting_by : (w : World) (id : SurfaceId) (o : Option Surface) → KeepsAlways w
     → (elim o as (λ o. Option FrameData) [ Some c ↦ option_map (λ (s : Submission). s.submitted) (find (λ s. is_waiting s && is_on id s) (stored_of w).subs) | None ↦ None ])
     ≡ option_map (λ (s : Submission). s.submitted) (find (λ s. is_waiting s && is_on id s) w.subs)
 unfolding stored_of
-waiting_by w id (Some c) h e =
-    ap (option_map (λ (s : Submission). s.submitted)) (find_map (λ s. is_waiting s && is_on id s) bare_sub w.subs (λ x. refl))
-    ∙ bare_frame (find (λ s. is_waiting s && is_on id s) w.subs)
-waiting_by w id None h e =
-    ap (option_map (λ (s : Submission). s.submitted)) (sym (waits_on_none w id h (sym (stands_bare w.surfaces id) ∙ ap is_some e)))
+waiting_by w id (Some c) h e = grind (arith, nat_tests, find_map)
+waiting_by w id None h e = grind (arith, nat_tests, waits_on_none w id h, stands_bare w.surfaces id)
 
 pub tells_waiting : (w : World) (id : SurfaceId) → KeepsAlways w → waiting_at (stored_of w) id ≡ option_map (λ (s : Submission). s.submitted) (find (λ s. is_waiting s && is_on id s) w.subs)
 unfolding waiting_at

@@ -1,4 +1,4 @@
-use Rattle.std.proofs.Common.{ap, sym, ◌∙◌, ◌++◌, ◌+◌, map, length, ℕ, append-nil, arith}
+use Rattle.std.proofs.Common.{ap, sym, ◌∙◌, ◌++◌, map, length, append-nil, arith}
 use Rattle.vz_surfaces.specs.declared.standing.Numbered.{Numbered}
 use Rattle.vz_surfaces.specs.Numbers.{list_at}
 use Rattle.vz_surfaces.proofs.Numbering.{none_up_to}
