@@ -6,9 +6,8 @@ from pathlib import Path
 
 sys.path.insert(0, str(Path(__file__).resolve().parent.parent))
 
-from kit import KIT, load
+from older import rt
 
-rt = load("rt", KIT / "bin/rt")
 # As `rt must-fail` does: a library that another clone on this machine built of the same files is taken.
 rt.share_work(False)
 
@@ -35,11 +34,23 @@ def take_libraries(old, new):
             shutil.copytree(Path(old[name].rlib).parent, Path(crate.rlib).parent, copy_function=rt.link_or_copy)
 
 
-def copy_of(root, room, old):
-    """Copies a repository's crates to a room, with the libraries that are built, and returns the copies."""
+def take_proofs(old, new):
+    """Links what `rt check` kept of a crate into the copy of it."""
+    if os.path.isdir(f"{old.folder}/out/incremental"):
+        os.makedirs(f"{new.folder}/out", exist_ok=True)
+        rt.linked(f"{old.folder}/out/incremental", f"{new.folder}/out/incremental")
+
+
+def copy_of(root, room, old, names):
+    """Copies a repository's crates to a room, with the libraries that are built, and returns the copies.
+
+    What was kept of the proofs of the named ones comes with them.
+    """
     to = Path(room) / "repository"
     rt.copy_crates(str(root), str(to))
     (to / ".git").mkdir()
     new = crates_in(to)
     take_libraries(old, new)
+    for name in names:
+        take_proofs(old[name], new[name])
     return new

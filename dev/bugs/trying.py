@@ -39,14 +39,24 @@ def copy_parts(crate, room):
             shutil.copytree(f"{crate.folder}/{part}", f"{room}/{part}")
 
 
+def proved_before(crate):
+    """The folder with what `rt check` kept of a crate as it is, None where there is none."""
+    kept = f"{crate.folder}/out/incremental"
+    return kept if os.path.isdir(kept) else None
+
+
 def check_changed(crate, bugs, shared):
     """The status and the words of a check of the functions that these bugs change, and of those that they call.
 
-    Also the bugs that could be made. `shared` is the folder with what the crate's earlier checks of this kind proved.
+    Also the bugs that could be made. The check begins with what `rt check` kept of the crate as it is, or, where that
+    kept nothing, with what is in the folder `shared`: what the crate's earlier checks of this kind proved.
     """
     with tempfile.TemporaryDirectory(prefix=f"rt-edit-{os.getpid()}-") as room:
         copy_parts(crate, room)
         made = apply_all(room, bugs)
+        if proved_before(crate):
+            shared = f"{room}/kept"
+            rt.linked(proved_before(crate), shared)
         words = [rt.rtlib.RATTLE, "check", *crate.words(FLAGS, keeps=False), "--incremental", shared]
         for name in sorted({function.said() for bug in made for function in bug.functions}):
             words += ["--only", name]
@@ -88,16 +98,16 @@ def try_whole(crate, seed, bug):
     return KINDS[kind], re.sub(r"^refused, as it must be:? ?", "", said)
 
 
-def try_on_seed(crate, start, bugs, tell):
-    """Tries bugs by checks of the whole crate, which is proved as it is before, begun with what is in `start`."""
-    seed = rt.seeded(crate, FLAGS, start if os.path.isdir(start) else None)
+def try_on_seed(crate, bugs, tell):
+    """Tries bugs by checks of the whole crate, which is proved as it is before, begun with what `rt check` kept."""
+    seed = rt.seeded(crate, FLAGS, proved_before(crate))
     for bug in bugs:
         found = try_whole(crate, seed, bug) if seed else (NOT_TRIED, "the crate as it is was not proved")
         tell(bug, *found)
     shutil.rmtree(seed or "", ignore_errors=True)
 
 
-def try_all(crate, start, bugs, tell):
+def try_all(crate, bugs, tell):
     """Tries the bugs of a crate: several at a time, then one by one, and what is left by checks of the whole crate."""
     left = []
     with tempfile.TemporaryDirectory(prefix=f"rt-only-{os.getpid()}-") as shared:
@@ -105,4 +115,4 @@ def try_all(crate, start, bugs, tell):
             left += try_batch(crate, batch, shared, tell) if len(batch) > 1 else batch
         left = [bug for bug in left if not try_one(crate, bug, shared, tell)]
     if left:
-        try_on_seed(crate, start, left, tell)
+        try_on_seed(crate, left, tell)
