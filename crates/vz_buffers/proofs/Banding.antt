@@ -5,7 +5,6 @@ use Rattle.std.specs.List.{All}
 use Rattle.std.proofs.Math.Nat.{mul-le-mul_right}
 use Rattle.std.proofs.lemmas.Int.{ints}
 use Rattle.std.proofs.lemmas.List.{length-append, length-take-le, length-drop, take-append-le, drop-append-le, drop-drop}
-use Rattle.std.proofs.lemmas.List.Elements.{All-take, All-drop}
 use Rattle.vz_pixels.specs.Colour.{Colour}
 use Rattle.vz_buffers.specs.Canvas.{Canvas, IsCanvas, span_put}
 use Rattle.vz_buffers.specs.Bands.{Strip, FitsIn, ArePainters, MayPaint, ArePainted, rows_put, rows_from}
@@ -108,7 +107,7 @@ rows_both width at wide first (suc k) row xs ys same inside long =
     ∙ span_back (rows_put width at row first xs) (rows_put width at (rows_from first row) k ys) (k * width + at) ((first + k) * width + at) (row (first + k)) place)
 
 -- the rows behind some, and behind more
-shift : (from first : ℕ) (row : ℕ → List Colour) → rows_from (from + first) row ≡ rows_from first (rows_from from row)
+pub shift : (from first : ℕ) (row : ℕ → List Colour) → rows_from (from + first) row ≡ rows_from first (rows_from from row)
 shift from first row = λ i k. row (further k i)
   where
     further : (k : ℕ) → (from + first) + k ≡ from + (first + k)
@@ -140,63 +139,6 @@ module _ {P : Type 0} (able : P → Type 0) (strip : P → Strip) (width left wi
   pub one_painted : (d : P) (after : List Colour) → after ≡ rows_put width left (rows_from from (strip (get_or painters 0 d)).row) count pixels → ArePainted strip width left from count painters pixels after
   one_painted d after is = λ s same. is ∙ ap (λ (z : Strip). rows_put width left (rows_from from z.row) count pixels) (same 0 d may.some)
 
-  -- the pixels of the first rows, and those of the rest
-  pub upper_fits : (first : ℕ) → first ≤ count → first * width ≤ length pixels
-  upper_fits first few =
-      let most : first * width ≤ count * width = mul-le-mul_right width few in
-      let all = may.counted in
-      omega (arith, most, all)
-
-  pub upper_may : (half first : ℕ) (ours : List P) (top : List Colour) → 0 < half → half ≤ length painters → first ≤ count → ours ≡ take half painters → top ≡ take (first * width) pixels
-      → MayPaint able strip width left wide from first ours top
-  upper_may half first ours top some part few is at =
-      let most = may.ready.2 in
-      let limit = may.few in
-      let long = length-take-le half painters part in
-      subst (λ (ps : List P). MayPaint able strip width left wide from first ps top) (sym is)
-      (subst (λ (ts : List Colour). MayPaint able strip width left wide from first (take half painters) ts) (sym at)
-      (record {
-        some = omega (arith, some, long);
-        small = may.small;
-        few = omega (arith, few, limit);
-        ready = (may.ready.0, may.ready.1, omega (arith, most, few), All-take (λ p. able p × (strip p ≡ may.ready.0)) half painters may.ready.3);
-        counted = length-take-le (first * width) pixels (upper_fits first few);
-      }))
-
-  pub lower_may : (half first : ℕ) (theirs : List P) (bottom : List Colour) → half < length painters → first ≤ count → theirs ≡ drop half painters → bottom ≡ drop (first * width) pixels
-      → MayPaint able strip width left wide (from + first) (count - first) theirs bottom
-  lower_may half first theirs bottom part few is at =
-      let most = may.ready.2 in
-      let limit = may.few in
-      let all = may.counted in
-      let long = length-drop half painters in
-      let left_over = length-drop (first * width) pixels in
-      let whole : first + (count - first) ≡ count = omega (arith, few) in
-      let parts : (first + (count - first)) * width ≡ first * width + (count - first) * width = grind arith in
-      let counted : count * width ≡ first * width + (count - first) * width = ap (λ n. n * width) (sym whole) ∙ parts in
-      subst (λ (ps : List P). MayPaint able strip width left wide (from + first) (count - first) ps bottom) (sym is)
-      (subst (λ (ts : List Colour). MayPaint able strip width left wide (from + first) (count - first) (drop half painters) ts) (sym at)
-      (record {
-        some = omega (arith, part, long);
-        small = may.small;
-        few = omega (arith, few, limit);
-        ready = (may.ready.0, may.ready.1, omega (arith, most, few), All-drop (λ p. able p × (strip p ≡ may.ready.0)) half painters may.ready.3);
-        counted = omega (arith, left_over, counted, all);
-      }))
-
-  pub both_painted : (half first : ℕ) (ours theirs : List P) (top bottom upper lower : List Colour) → half ≤ length painters → first ≤ count → ours ≡ take half painters → theirs ≡ drop half painters → pixels ≡ top ++ bottom → length top ≡ first * width
-      → ArePainted strip width left from first ours top upper → ArePainted strip width left (from + first) (count - first) theirs bottom lower
-      → ArePainted strip width left from count painters pixels (upper ++ lower)
-  both_painted half first ours theirs top bottom upper lower part few ours_are theirs_are cut long above below = λ s same.
-      let fits = fits_too able strip width left wide (from + count) painters s may.some may.ready same in
-      let row = rows_from from s.row in
-      let mine : All (λ p. strip p ≡ s) ours = subst (All (λ p. strip p ≡ s)) (sym ours_are) (All-take (λ p. strip p ≡ s) half painters same) in
-      let other : All (λ p. strip p ≡ s) theirs = subst (All (λ p. strip p ≡ s)) (sym theirs_are) (All-drop (λ p. strip p ≡ s) half painters same) in
-      let whole : first + (count - first) ≡ count = omega (arith, few) in
-      ap₂ ◌++◌ (above s mine) (below s other ∙ ap (λ r. rows_put width left r (count - first) bottom) (shift from first s.row))
-      ∙ (sym (rows_both width left wide first (count - first) row top bottom (λ k. fits.each (from + k)) fits.inside long)
-      ∙ (ap (λ n. rows_put width left row n (top ++ bottom)) whole ∙ ap (rows_put width left row count) (sym cut)))
-
 -- rows that were painted among more pixels
 pub within_painted :
     {P : Type 0} (able : P → Type 0) (strip : P → Strip) (width left wide from count : ℕ) (painters : List P) (pixels front below rows rest painted : List Colour) (s : Strip) → 0 < length painters → ArePainters able strip width left wide count painters → All (λ p. strip p ≡ s) painters →
@@ -216,7 +158,7 @@ unfolding rows_put
 band_begins width left from s before = refl
 
 -- a row that was written in place
-put_in_place : (pixels row : List Colour) (at end : ℕ) → end ≡ at + length row → put_mid at (end - at) pixels row ≡ span_put pixels at row
+pub put_in_place : (pixels row : List Colour) (at end : ℕ) → end ≡ at + length row → put_mid at (end - at) pixels row ≡ span_put pixels at row
 unfolding span_put
 put_in_place pixels row at end is =
     let long : end - at ≡ length row = omega (arith, is) in

@@ -1,3 +1,4 @@
 mod Places
-mod Banding
+pub mod Banding
 pub mod Turning
+pub mod Taking

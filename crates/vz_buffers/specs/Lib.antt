@@ -1,3 +1,4 @@
 pub mod Canvas
 pub mod Bands
 pub mod Turns
+pub mod Taken

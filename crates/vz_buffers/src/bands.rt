@@ -1,17 +1,18 @@
 //! Painting rows of a buffer in bands, each on a thread of its own.
 ghost use Rattle.std.specs.Prelude.{◌≡◌, ◌+◌, ◌*◌, ◌≤◌, ◌<◌, ◌+ℤ◌, ◌≤ℤ◌, pos, nat_abs, List, length};
-ghost use Rattle.std.specs.Thread.{IsSync, IsSend};
 ghost use Rattle.std.specs.List.{All};
 ghost use Rattle.vz_base.specs.declared.limits.TheConstants.{GREATEST_DISPLAY_SIDE};
 ghost use Rattle.vz_geom.specs.Display.{IsDisplaySize};
 ghost use Rattle.vz_pixels.specs.Colour.{Colour};
 ghost use Rattle.vz_buffers.specs.Bands.{Strip, FitsIn, ArePainters, MayPaint, ArePainted, rows_put, rows_from};
 
-use std::thread::{Threads, join_mut};
+use crate::early::paint_job;
+use std::marker::Brand;
+use std::thread::Threads;
 use vz_geom::{Rect, Size};
 use vz_pixels::Pixel;
 
-/// Draws the rows of an area of a display, one at a time.
+/// Draws the rows of an area of a display, some at a time.
 pub trait RowPainter {
     /// The rows, from the top one on.
     ghost strip: { Self → Strip };
@@ -19,15 +20,28 @@ pub trait RowPainter {
     /// What has to hold for it to draw.
     ghost able: { Self → Type 0 };
 
-    /// Draws a row into these pixels, whatever they are before. Conditions: the row is one of the
-    /// area, and they are as many as it has.
-    fn draw(&mut self, row: u32, into: &mut [Pixel])
+    /// Draws `count` rows from row `from` on, each `wide` pixels behind the first `left` ones of a
+    /// row of the display, which has `width` pixels. Conditions: the rows are some of the area's
+    /// and fit, and `pixels` has those of as many whole rows of the display.
+    fn draw_rows(
+        &mut self,
+        from: u32,
+        count: u32,
+        width: usize,
+        left: usize,
+        wide: usize,
+        pixels: &mut [Pixel],
+    )
         requires able { able self.old }
-        requires inside { row < (strip self.old).high }
-        requires wide { length into.old ≡ length ((strip self.old).row row) }
+        requires fits { FitsIn width left wide (strip self.old) }
+        requires upto { (from + count) ≤ (strip self.old).high }
+        requires small { width ≤ GREATEST_DISPLAY_SIDE }
+        requires few { (from + count) ≤ GREATEST_DISPLAY_SIDE }
+        requires pixels { length pixels.old ≡ count * width }
         ensures able { able self.new }
         ensures strip { strip self.new ≡ strip self.old }
-        ensures drawn { into.new ≡ (strip self.old).row row };
+        ensures painted { pixels.new ≡ rows_put width left
+            (rows_from from (strip self.old).row) count pixels.old };
 }
 
 /// Where the rows of an area stand among the pixels of a display: the width of the display, the
@@ -100,7 +114,7 @@ pub(crate) fn place_of(size: &Size, area: &Rect) -> Place
 }
 
 /// How many pixels `count` rows of a display have.
-fn pixels_in(width: usize, count: usize) -> usize
+pub(crate) fn pixels_in(width: usize, count: usize) -> usize
     requires width { width ≤ GREATEST_DISPLAY_SIDE }
     requires count { count ≤ GREATEST_DISPLAY_SIDE }
     ensures value { result ≡ count * width }
@@ -115,26 +129,37 @@ pub(crate) struct Band {
     pub(crate) count: u32,
 }
 
-/// Paints a band row by row. Conditions: the rows fit, and `pixels` has those of as many whole
+/// Paints a band. Conditions: the rows fit, and `pixels` has those of as many whole
 /// rows of the display.
-fn paint_band<P: RowPainter>(place: Place, band: Band, painter: &mut P, pixels: &mut [Pixel])
+pub(crate) fn paint_band<P: RowPainter>(
+    place: Place,
+    band: Band,
+    painter: &mut P,
+    pixels: &mut [Pixel],
+)
     requires able { P.able painter.old }
     requires fits { FitsIn place.width place.left place.wide (P.strip painter.old) }
     requires upto { (band.from + band.count) ≤ (P.strip painter.old).high }
     requires small { place.width ≤ GREATEST_DISPLAY_SIDE }
     requires few { (band.from + band.count) ≤ GREATEST_DISPLAY_SIDE }
     requires pixels { length pixels.old ≡ band.count * place.width }
+    ensures able { P.able painter.new }
+    ensures strip { P.strip painter.new ≡ P.strip painter.old }
     ensures painted { pixels.new ≡ rows_put place.width place.left
         (rows_from band.from (P.strip painter.old).row) band.count pixels.old }
 {
-    for k in 0..band.count {
-        let at = pixels_in(place.width, k as usize) + place.left;
-        painter.draw(band.from + k, &mut pixels[at..at + place.wide]);
-    }
+    painter.draw_rows(
+        band.from,
+        band.count,
+        place.width,
+        place.left,
+        place.wide,
+        pixels,
+    );
 }
 
-/// How many of `count` rows the first `some` of `all` painters paint.
-fn share(count: u32, some: usize, all: usize) -> u32
+/// How many of `count` rows the first `some` of `all` equal parts have.
+pub(crate) fn share(count: u32, some: usize, all: usize) -> u32
     requires some { 0 < all }
     requires part { some ≤ all }
     ensures { result ≤ count }
@@ -147,10 +172,8 @@ fn share(count: u32, some: usize, all: usize) -> u32
     }
 }
 
-/// Paints a band: each painter an equal part of it, on a thread of its own if one can be started.
-/// The caller starts them all, one after the other, and paints the last part: a thread that had
-/// to be started by another would begin later, and the slowest part is waited for.
-#[cycle(bands)]
+/// Paints a band: the painters take its parts one by one, each on a thread of its own if one can be
+/// started.
 fn paint_bands<P: RowPainter + Send, R: Threads + Sync>(
     rt: &R,
     place: Place,
@@ -163,61 +186,7 @@ fn paint_bands<P: RowPainter + Send, R: Threads + Sync>(
     ensures { ArePainted P.strip place.width place.left band.from band.count
         painters.old pixels.old pixels.new }
 {
-    let all = painters.len();
-    if all == 1 {
-        paint_band(place, band, &mut painters[0], pixels);
-        return;
-    }
-    let upper = share(band.count, 1, all);
-    let first = Band {
-        from: band.from,
-        count: upper,
-    };
-    let second = Band {
-        from: band.from + upper,
-        count: band.count - upper,
-    };
-    let (ours, theirs) = painters.split_at_mut(1);
-    let (top, bottom) = pixels.split_at_mut(pixels_in(place.width, upper as usize));
-    paint_both(rt, place, first, ours, top, second, theirs, bottom);
-}
-
-/// Paints two bands at once. The conditions are those of each of them.
-#[cycle(bands)]
-fn paint_both<P: RowPainter + Send, R: Threads + Sync>(
-    rt: &R,
-    place: Place,
-    first: Band,
-    ours: &mut [P],
-    top: &mut [Pixel],
-    second: Band,
-    theirs: &mut [P],
-    bottom: &mut [Pixel],
-)
-    requires first { MayPaint P.able P.strip place.width place.left place.wide
-        first.from first.count ours.old top.old }
-    requires second { MayPaint P.able P.strip place.width place.left place.wide
-        second.from second.count theirs.old bottom.old }
-    ensures first { ArePainted P.strip place.width place.left first.from first.count
-        ours.old top.old top.new }
-    ensures second { ArePainted P.strip place.width place.left second.from second.count
-        theirs.old bottom.old bottom.new }
-{
-    let mut upper = ||
-        requires { IsSync R.row × IsSend P.row
-            × MayPaint P.able P.strip place.width place.left place.wide
-            first.from first.count ours.now top.now }
-        ensures { ArePainted P.strip place.width place.left first.from first.count
-            ours.entry.now top.entry.now top.exit.now }
-    { paint_bands(rt, place, first, ours, top) };
-    let mut lower = ||
-        requires { IsSync R.row × IsSend P.row
-            × MayPaint P.able P.strip place.width place.left place.wide
-            second.from second.count theirs.now bottom.now }
-        ensures { ArePainted P.strip place.width place.left second.from second.count
-            theirs.entry.now bottom.entry.now bottom.exit.now }
-    { paint_bands(rt, place, second, theirs, bottom) };
-    join_mut(rt, &mut upper, &mut lower);
+    paint_job::<Brand, P, R>(rt, place, band, painters, pixels);
 }
 
 /// Paints the `count` rows of an area of a display. The painters share them.

@@ -80,8 +80,8 @@ impl Buffer {
         steps.add(row.len() as u64);
     }
 
-    /// Puts the rows of an area into the buffer. Each painter draws an equal share of them, on a
-    /// thread of its own if one can be started. Each pixel of the area counts as a step.
+    /// Puts the rows of an area into the buffer. The painters take bands of them one by one, each
+    /// on a thread of its own if one can be started. Each pixel of the area counts as a step.
     /// Conditions: the area is not empty and inside the buffer, and there is at least one painter;
     /// each can draw, all draw the same rows, and these are as many as the area has, and as wide.
     pub fn put_rows<P: RowPainter + Send, L: Ledger, R: Threads + Sync>(

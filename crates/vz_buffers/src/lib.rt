@@ -4,9 +4,13 @@
 
 mod bands;
 mod buffer;
+mod crew;
+mod early;
+mod late;
 pub mod laws;
 mod queue;
 mod shared;
+mod slots;
 mod steps;
 
 pub use bands::RowPainter;

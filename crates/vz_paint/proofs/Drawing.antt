@@ -40,7 +40,7 @@ begins ground start w all top groups whole room rows is long =
       same = λ i low. ap (run (right_of start i) all []) (ap (λ l. get_or l i transparent) is ∙ get_or-replicate w i ground transparent low);
     }
 
-split : (all : List Op) (k : ℕ) (op : Op) → k < length all → get_or all k op ≡ op → drop k all ≡ op ∷ drop (k + 1) all
+pub split : (all : List Op) (k : ℕ) (op : Op) → k < length all → get_or all k op ≡ op → drop k all ≡ op ∷ drop (k + 1) all
 split all k op low at = drop_more all k op low ∙ ap (λ o. o ∷ drop (k + 1) all) at
 
 may_stand : (n most : ℕ) (op : Op) (rest : List Op) → is_nested n (op ∷ rest) ≡ true → deepest n (op ∷ rest) ≤ most → MayStand n most op

@@ -8,3 +8,6 @@ pub mod Banded
 pub mod Grounded
 pub mod Opaque_texels
 mod Brushing
+mod Redrawn
+mod Flatly
+mod Bands_drawn

@@ -3,3 +3,4 @@ pub mod Stack
 pub mod Strips
 pub mod Choice
 pub mod Ground
+pub mod Redraw

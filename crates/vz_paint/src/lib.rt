@@ -8,6 +8,7 @@ mod ground;
 mod group;
 mod painting;
 mod row;
+mod rows;
 mod span;
 
 pub use alone::paint_alone;

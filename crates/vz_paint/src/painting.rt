@@ -84,8 +84,9 @@ fn paint_area<L: Ledger, R: Threads + Sync>(
 /// give on opaque black, and each pixel counts as one step. An empty area is allowed. Condition:
 /// the area is inside the buffer.
 ///
-/// A large area is painted in bands, each on a thread of its own: one for each 131,072 pixels, but
-/// no more than the processors. If no thread can be started, the caller's paints all the same.
+/// A large area is painted in bands, which threads take one by one: there is a thread for each
+/// 131,072 pixels, but no more than the processors. If none can be started, the caller's paints
+/// all the same.
 ///
 /// Everything is allocated before the first row: for each thread a row for the area and one for
 /// each group that may be open at once, and a place for each operation. If that fails it returns

@@ -136,7 +136,7 @@ fn draw(
 }
 
 /// Fills a row with one colour.
-fn level(row: &mut [Pixel], ground: Pixel)
+pub(crate) fn level(row: &mut [Pixel], ground: Pixel)
     ensures { row.new ≡ replicate (length row.old) ground }
 {
     row.fill(ground);

@@ -25,7 +25,7 @@ pub(crate) struct Span {
 }
 
 /// How many of the first `count` columns of a row are left of column `x`.
-fn columns_before(start: Point, x: &i32, count: usize) -> usize
+pub(crate) fn columns_before(start: Point, x: &i32, count: usize) -> usize
     requires start { IsStart start }
     ensures most { result ≤ count }
     ensures left { 0 < result → (start.x +ℤ pos result) ≤ℤ x.now }
@@ -58,7 +58,7 @@ fn span_of(area: &Rect, start: Point, count: usize) -> Span
 }
 
 /// Blends one colour with each pixel of a row.
-fn tint(row: &mut [Pixel], color: Pixel, mode: Blend)
+pub(crate) fn tint(row: &mut [Pixel], color: Pixel, mode: Blend)
     ensures { row.new ≡ map (blend mode color) row.old }
 {
     match mode {
@@ -178,7 +178,7 @@ fn do_hide(source: &[Pixel], is_opaque: bool, opacity: u8, mode: Blend) -> bool
 /// Blends each texel, scaled by an opacity, with the pixel at its place. Those of an opaque block
 /// are copied, and also a few opaque ones of another. Condition: the texels of an opaque block are
 /// opaque.
-fn print(row: &mut [Pixel], source: &[Pixel], is_opaque: bool, opacity: u8, mode: Blend)
+pub(crate) fn print(row: &mut [Pixel], source: &[Pixel], is_opaque: bool, opacity: u8, mode: Blend)
     requires same { length row.old ≡ length source.now }
     requires opaque { is_opaque ≡ true → list_all (λ c. c.a == 255) source.now ≡ true }
     ensures { row.new ≡ zip2 (λ s d. laid mode s opacity d) source.now row.old }
@@ -192,13 +192,13 @@ fn print(row: &mut [Pixel], source: &[Pixel], is_opaque: bool, opacity: u8, mode
 
 /// The column and row of a texel in a block.
 #[derive(Clone, Copy)]
-struct Texel {
+pub(crate) struct Texel {
     column: usize,
     row: usize,
 }
 
 /// The point that is `by` pixels right of the first one of a row.
-fn right_of(start: Point, by: usize) -> Point
+pub(crate) fn right_of(start: Point, by: usize) -> Point
     requires start { IsStart start }
     requires near { by ≤ GREATEST_DISPLAY_SIDE }
     ensures { result ≡ right_of start by }
@@ -211,7 +211,7 @@ fn right_of(start: Point, by: usize) -> Point
 
 /// The texel of a block at a point of an area, if the texel in column `tx` and row `ty` is at the
 /// top left point.
-fn texel_at(block: &PixelBlock, p: Point, area: &Rect, tx: &i32, ty: &i32) -> Texel
+pub(crate) fn texel_at(block: &PixelBlock, p: Point, area: &Rect, tx: &i32, ty: &i32) -> Texel
     requires left { area.now.x ≤ℤ p.x }
     requires top { area.now.y ≤ℤ p.y }
     requires columns { ((p.x -ℤ area.now.x) +ℤ tx.now) <ℤ pos block.now.w }
@@ -231,7 +231,7 @@ fn texel_at(block: &PixelBlock, p: Point, area: &Rect, tx: &i32, ty: &i32) -> Te
 }
 
 /// `count` texels of a row of a block, from one on.
-fn texels(block: &PixelBlock, at: Texel, count: usize) -> &[Pixel]
+pub(crate) fn texels(block: &PixelBlock, at: Texel, count: usize) -> &[Pixel]
     requires across { (at.column + count) ≤ block.now.w }
     requires down { at.row < block.now.h }
     requires small { block.now.h ≤ GREATEST_BLOCK_SIDE }

@@ -1,0 +1,230 @@
+//! Drawing operations that are in no group in some rows at once.
+ghost use Rattle.std.specs.Prelude.{◌≡◌, ◌+◌, ◌*◌, ◌≤◌, ◌<◌, ◌+ℤ◌, ◌≤ℤ◌, pos, nat_le, nat_lt, ◌&&◌, ℕ, length, map, true, false};
+ghost use Rattle.vz_base.specs.declared.limits.TheConstants.{GREATEST_DISPLAY_SIDE};
+ghost use Rattle.vz_geom.specs.Rectangle.{has};
+ghost use Rattle.vz_buffers.specs.Bands.{rows_put};
+ghost use Rattle.vz_flat.specs.declared.op.Op.TheVariants.{Fill, Blit};
+ghost use Rattle.vz_flat.specs.Ops.{is_inside, is_whole, deepest};
+ghost use Rattle.vz_paint.specs.Row.{IsStart};
+ghost use Rattle.vz_paint.specs.Redraw.{point_of, AreLines, IsRedrawn, step_of, rows_of};
+
+use crate::row::level;
+use crate::span::{columns_before, print, right_of, shade, texel_at, texels, tint};
+use vz_flat::Op;
+use vz_frame::Blend;
+use vz_geom::{Point, Rect};
+use vz_pixels::{Pixel, PixelBlock};
+
+/// Where rows of which the same columns are drawn stand among the pixels of a display: its width,
+/// the first of the columns, and how many columns and rows.
+#[derive(Clone, Copy)]
+pub(crate) struct Lines {
+    pub(crate) width: usize,
+    pub(crate) left: usize,
+    pub(crate) wide: usize,
+    pub(crate) count: usize,
+}
+
+/// The columns and the rows that an area covers: from `from` up to, but without, `to`, and from
+/// `top` up to, but without, `bottom`.
+#[derive(Clone, Copy)]
+struct Patch {
+    from: usize,
+    to: usize,
+    top: usize,
+    bottom: usize,
+}
+
+/// The index of the first pixel that is drawn in a row.
+pub(crate) fn place(width: usize, left: usize, row: usize) -> usize
+    requires width { width ≤ GREATEST_DISPLAY_SIDE }
+    requires left { left ≤ GREATEST_DISPLAY_SIDE }
+    requires row { row ≤ GREATEST_DISPLAY_SIDE }
+    ensures value { result ≡ row * width + left }
+{
+    row * width + left
+}
+
+/// The point that is `by` rows below another.
+fn below(start: Point, by: usize) -> Point
+    requires top { pos 0 ≤ℤ start.y }
+    requires near { (start.y +ℤ pos by) ≤ℤ pos GREATEST_DISPLAY_SIDE }
+    ensures { result ≡ record { x = start.x; y = start.y +ℤ pos by } }
+{
+    Point {
+        x: start.x,
+        y: start.y + by as i32,
+    }
+}
+
+/// How many of the first `count` rows are above row `y`.
+fn rows_before(start: Point, y: &i32, count: usize) -> usize
+    requires top { pos 0 ≤ℤ start.y }
+    requires bottom { start.y ≤ℤ pos GREATEST_DISPLAY_SIDE }
+    ensures most { result ≤ count }
+    ensures left { 0 < result → (start.y +ℤ pos result) ≤ℤ y.now }
+    ensures right { result < count → y.now ≤ℤ (start.y +ℤ pos result) }
+{
+    if *y <= start.y {
+        return 0;
+    }
+    let before = (*y - start.y) as usize;
+    if before < count { before } else { count }
+}
+
+/// The columns and the rows that an area covers.
+fn patch_of(area: &Rect, start: Point, wide: usize, count: usize) -> Patch
+    requires start { IsStart start }
+    requires top { pos 0 ≤ℤ start.y }
+    requires bottom { start.y ≤ℤ pos GREATEST_DISPLAY_SIDE }
+    ensures ordered { result.from ≤ result.to }
+    ensures most { result.to ≤ wide }
+    ensures down { result.bottom ≤ count }
+    ensures above { (r : ℕ) (i : ℕ) → r < result.top
+        → has area.now (point_of start r i) ≡ false }
+    ensures under { (r : ℕ) (i : ℕ) → r < count → result.bottom ≤ r
+        → has area.now (point_of start r i) ≡ false }
+    ensures exact { (r : ℕ) (i : ℕ) → r < count → result.top ≤ r → r < result.bottom → i < wide
+        → has area.now (point_of start r i) ≡ (nat_le result.from i && nat_lt i result.to) }
+{
+    if area.is_empty() {
+        return Patch {
+            from: 0,
+            to: 0,
+            top: 0,
+            bottom: 0,
+        };
+    }
+    let from = columns_before(start, &area.x(), wide);
+    let to = columns_before(start, &area.right(), wide);
+    let top = rows_before(start, &area.y(), count);
+    let bottom = rows_before(start, &area.bottom(), count);
+    Patch {
+        from,
+        to,
+        top,
+        bottom,
+    }
+}
+
+/// Fills rows with one colour.
+fn level_rows(lines: Lines, start: Point, ground: Pixel, pixels: &mut [Pixel])
+    requires { AreLines start lines.width lines.left lines.wide lines.count pixels.old }
+    ensures { IsRedrawn lines.width lines.left lines.wide lines.count (λ r i d. ground)
+        pixels.old pixels.new }
+{
+    for k in 0..lines.count {
+        let at = place(lines.width, lines.left, k);
+        level(&mut pixels[at..at + lines.wide], ground);
+    }
+}
+
+/// Blends one colour, scaled by an opacity, with the pixels of rows inside an area.
+fn fill_rows(
+    lines: Lines,
+    start: Point,
+    area: &Rect,
+    color: Pixel,
+    opacity: u8,
+    mode: Blend,
+    pixels: &mut [Pixel],
+)
+    requires { AreLines start lines.width lines.left lines.wide lines.count pixels.old }
+    ensures { IsRedrawn lines.width lines.left lines.wide lines.count
+        (step_of start (Fill area.now color opacity mode)) pixels.old pixels.new }
+{
+    let here = patch_of(area, start, lines.wide, lines.count);
+    let own = shade(color, opacity);
+    for k in here.top..here.bottom {
+        let at = place(lines.width, lines.left, k);
+        tint(&mut pixels[at + here.from..at + here.to], own, mode);
+    }
+}
+
+/// Blends texels, scaled by an opacity, with the pixels of rows inside an area. The texel in
+/// column `tx` and row `ty` is at the top left point of the area.
+fn blit_rows(
+    lines: Lines,
+    start: Point,
+    area: &Rect,
+    block: &PixelBlock,
+    tx: &i32,
+    ty: &i32,
+    opacity: u8,
+    mode: Blend,
+    pixels: &mut [Pixel],
+)
+    requires lines { AreLines start lines.width lines.left lines.wide lines.count pixels.old }
+    requires inside { is_inside (Blit area.now block.now tx.now ty.now opacity mode) ≡ true }
+    ensures { IsRedrawn lines.width lines.left lines.wide lines.count
+        (step_of start (Blit area.now block.now tx.now ty.now opacity mode))
+        pixels.old pixels.new }
+{
+    let here = patch_of(area, start, lines.wide, lines.count);
+    if here.to <= here.from {
+        return;
+    }
+    for k in here.top..here.bottom {
+        let first = below(start, k);
+        let p = right_of(first, here.from);
+        let texel = texel_at(block, p, area, tx, ty);
+        let source = texels(block, texel, here.to - here.from);
+        let at = place(lines.width, lines.left, k);
+        print(
+            &mut pixels[at + here.from..at + here.to],
+            source,
+            block.is_opaque(),
+            opacity,
+            mode,
+        );
+    }
+}
+
+/// Draws a `Fill` or a `Blit` in rows.
+fn draw_in_rows(op: &Op, lines: Lines, start: Point, pixels: &mut [Pixel])
+    requires lines { AreLines start lines.width lines.left lines.wide lines.count pixels.old }
+    requires inside { is_inside op.now ≡ true }
+    ensures { IsRedrawn lines.width lines.left lines.wide lines.count (step_of start op.now)
+        pixels.old pixels.new }
+{
+    match op {
+        Op::Fill {
+            area,
+            color,
+            opacity,
+            blend,
+        } => fill_rows(lines, start, area, *color, *opacity, *blend, pixels),
+        Op::Blit {
+            area,
+            block,
+            tx,
+            ty,
+            opacity,
+            blend,
+        } => blit_rows(lines, start, area, block, tx, ty, *opacity, *blend, pixels),
+        Op::Push { .. } => {}
+        Op::Pop => {}
+    }
+}
+
+/// Draws operations in rows, on one colour: each in all rows before the next one. Conditions: they
+/// are valid, and none is in a group.
+pub(crate) fn draw_flat(
+    ops: &[&Op],
+    ground: Pixel,
+    lines: Lines,
+    start: Point,
+    pixels: &mut [Pixel],
+)
+    requires lines { AreLines start lines.width lines.left lines.wide lines.count pixels.old }
+    requires whole { is_whole (map (λ r. r.now) ops.now) ≡ true }
+    requires flat { deepest 0 (map (λ r. r.now) ops.now) ≤ 0 }
+    ensures painted { pixels.new ≡ rows_put lines.width lines.left
+        (rows_of (map (λ r. r.now) ops.now) ground start lines.wide) lines.count pixels.old }
+    ensures long { length pixels.new ≡ length pixels.old }
+{
+    level_rows(lines, start, ground, pixels);
+    for op in ops {
+        draw_in_rows(op, lines, start, pixels);
+    }
+}
