@@ -36,6 +36,13 @@ def split_outside(text, mark):
     return [*parts, text[last:].strip()]
 
 
+def parts_of(path, item):
+    """The own name, the module and the name there of what a line on a path imports: `N.d as c` is `d` of the module `N` below it."""
+    told, _, alias = item.partition(" as ")
+    module, _, name = f"{path}.{told.strip()}".rpartition(".")
+    return (alias or name).strip(), module, name
+
+
 class Lemma:
     """A declaration with a type, and where it stands: its type from `start`, `unfolding` and its clauses from `body` to `end`."""
 
@@ -99,7 +106,8 @@ class File:
                 self.aliases[found[3]] = found[1]
             elif found:
                 for it in found[2].split(","):
-                    self.imports[it.split(" as ")[-1].strip()] = (found[1], it.split(" as ")[0].strip())
+                    own, module, name = parts_of(found[1], it.strip())
+                    self.imports[own] = (module, name)
         self.bases = self._bases()
         self.lemmas = self._lemmas()
         sections = re.findall(r"^ *module _ (?:.*\n)*?.* where$", text, re.M)

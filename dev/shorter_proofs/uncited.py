@@ -1,9 +1,11 @@
 """Which declarations of a crate's proofs nothing cites, in the whole tree."""
 import re
 
-from shorter_proofs.lemmas import File, TOKEN, USE, code_of, indent_of, tokens_of
+from shorter_proofs.lemmas import File, TOKEN, USE, code_of, indent_of, parts_of, tokens_of
 
 KEPT = ("Answers.antt", "Invariants.antt", "Lib.antt", "Proof.antt")
+# The first line of a file of worked rows: each row is what a definition comes to for one input, and stands for itself.
+WORKED = re.compile(r"-- .*\bworked\b", re.I)
 
 
 def is_lemmas(path):
@@ -82,7 +84,7 @@ def without_imports(text, gone):
     for line in text.split("\n"):
         told = USE.match(line)
         names = [it.strip() for it in told[2].split(",")] if told and told[2] else []
-        left = [it for it in names if (told[1], it.split(" as ")[0].strip()) not in gone]
+        left = [it for it in names if parts_of(told[1], it)[1:] not in gone]
         if left or not names:
             lines.append(line if left == names else f"{line[: line.index('{')]}{{{', '.join(left)}}}")
     return "\n".join(lines)
@@ -115,6 +117,8 @@ def without_uncited(crate, texts, others):
     while is_changed:
         is_changed = False
         for path in texts:
+            if WORKED.match(texts[path]):
+                continue
             file = File(texts[path])
             gone = uncited_in(file, lambda name, path=path: cited_outside(others, own, crate, path, name))
             if gone:

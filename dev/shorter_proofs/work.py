@@ -8,6 +8,7 @@ import shutil
 import subprocess
 
 from kit import ROOT
+from shorter_proofs.imports import packed
 from shorter_proofs.lemmas import File, tokens_of
 from shorter_proofs.passes import proposals, rewritten
 from shorter_proofs.trees import copy_of, files_in, lines_of, proofs_of, read, stub_of, write
@@ -191,9 +192,14 @@ class Work:
                 write(f"{self.folder}/proofs/{path}", text)
             else:
                 self.remove(path)
-        is_proved, _ = self.check("--fix-imports")
-        if not is_proved:
-            raise Failed(f"as a whole: {last_of(self.output)}")
+        if any(self.texts[path] != self.all[path] for path in self.texts):
+            is_proved, _ = self.check("--fix-imports")
+            if not is_proved:
+                raise Failed(f"as a whole: {last_of(self.output)}")
+        if self.given.packs:
+            for path, text in proofs_of(self.folder).items():
+                if packed(text) != text:
+                    write(f"{self.folder}/proofs/{path}", packed(text))
         subprocess.run(["rt", "fmt"], cwd=self.folder, stdin=subprocess.DEVNULL, capture_output=True, check=False)
         if self.given.times:
             shutil.rmtree(f"{self.folder}/out/incremental", ignore_errors=True)
@@ -201,6 +207,10 @@ class Work:
         if not is_proved:
             raise Failed(f"without the imports: {last_of(self.output)}")
         return proofs_of(self.folder), seconds
+
+    def could_pack(self):
+        """Whether lines of imports can be fewer."""
+        return self.given.packs and any(packed(it) != it for it in self.all.values())
 
     def remove(self, path):
         """Takes a file of lemmas away, of which none is left."""

@@ -1,5 +1,5 @@
 -- A walk that is weighed and measured, with another visitor beside.
-use Rattle.std.proofs.Common.{◌≡◌, Bool, true, false, List, [], refl, subst, sym, ap, ◌∙◌}
+use Rattle.std.proofs.Common.{◌≡◌, Bool, true, false, List, [], refl, ap, arith}
 use Rattle.vz_geom.specs.Rectangle.{no_rectangle}
 use Rattle.vz_rules.specs.Walk.{Visit, too_much}
 use Rattle.vz_walk.specs.Meeting.{Meets}
@@ -10,6 +10,7 @@ use Rattle.vz_walk.proofs.Pairing.{is_light, other_met, is_heavy_first}
 use Rattle.vz_damage.specs.Measured.{IsMeasured}
 use Rattle.vz_damage.specs.declared.measurer.Measurer.{Measurer}
 use Rattle.vz_damage.proofs.Claiming.{met_nothing}
+use Rattle.std.proofs.lemmas.Bool.Decides.{nat_tests}
 
 abbrev Measures : Measurer → Measurer → List Visit → Type 0
 Measures start m visits = IsMeasured start.told.now.entries start.last.now m.damage m.ranges visits × (m.told ≡ start.told) ×
@@ -43,20 +44,13 @@ module _ {V : Type 0} (met : V → V → List Visit → Type 0) (stopped : V →
     begun = record { first = w; second = record { first = m; second = v; first_stopped = false }; first_stopped = false }
 
     from_start : Meets MeetsAll EndsAt r begun new all
-    from_start = subst (λ (o : Walker). Meets MeetsAll EndsAt r o new all) (old_is ∙ ap (λ (b : Both Measurer V).
-        record { first = w; second = b; first_stopped = false }) inner_is) h
+    from_start = grind (arith, nat_tests)
 
     quads : w.quads ≡ 0
     quads = ap (λ (x : Weigher). x.quads) none
 
     measures : Measures m m []
-    measures = (
-      subst (λ d. IsMeasured m.told.now.entries m.last.now d m.ranges []) (sym damage)
-          (subst (λ l. IsMeasured m.told.now.entries m.last.now no_rectangle l []) (sym ranges) (met_nothing m.told.now.entries
-          m.last.now)),
-      refl,
-      refl,
-    )
+    measures = grind (arith, nat_tests, met_nothing m.told.now.entries m.last.now)
 
     meets : MeetsBoth begun.second begun.second []
     meets = (measures, starts, refl)

@@ -2,7 +2,7 @@
 use Rattle.std.proofs.Common.{◌≡◌, ℕ, zero, suc, ◌+◌, ◌-◌, Bool, true, false, ◌&&◌, nat_lt, nat_le, List, [], ◌∷◌, map, filter, take, drop, slice_get, Some, refl, ap, sym, ◌∙◌, cond, arith}
 use Rattle.std.specs.Prelude.{count_by}
 use Rattle.std.proofs.lemmas.Bool.Decides.{nat_tests}
-use Rattle.vz_geom.specs.Rectangle.{Rectangle, bound}
+use Rattle.vz_geom.specs.Rectangle.{Rectangle}
 use Rattle.vz_ids.specs.declared.SurfaceId.{SurfaceId}
 use Rattle.vz_ids.specs.Ids.{same_surface}
 use Rattle.vz_frame.specs.Frame.{root_damage}
@@ -38,44 +38,13 @@ module _ (id : SurfaceId) where
       let same = count_cons (is_on id) s (take n subs) ∙ ap (λ q. cond q 1 0 + count_by (is_on id) (take n subs)) off in
       omega (arith, here, same)
 
-module _ (from upto b : ℕ) where
-  low : nat_lt from (b + 1) ≡ true → from - b ≡ 0
-  low h = grind (arith, nat_tests)
-
-  low_next : nat_lt from (b + 1) ≡ true → from - (b + 1) ≡ 0
-  low_next h = grind (arith, nat_tests)
-
-  high : nat_lt from (b + 1) ≡ false → from - b ≡ suc (from - (b + 1))
-  high h = grind (arith, nat_tests)
-
-  inside : nat_le (b + 1) upto ≡ true → upto - b ≡ suc (upto - (b + 1))
-  inside h = grind (arith, nat_tests)
-
-  past : nat_le (b + 1) upto ≡ false → upto - b ≡ 0
-  past h = grind (arith, nat_tests)
-
-  past_next : nat_le (b + 1) upto ≡ false → upto - (b + 1) ≡ 0
-  past_next h = grind (arith, nat_tests)
-
 drop_none : {A : Type 0} (n : ℕ) → ◌≡◌ {A = List A} (drop n []) []
-drop_none zero = refl
-drop_none (suc n) = refl
+drop_none n = grind (arith, nat_tests)
 
 -- one more in front
 module _ (from upto b : ℕ) (d : Rectangle) (rest all : List Rectangle) (is : rest ≡ drop (from - (b + 1)) (take (upto - (b + 1)) all)) where
   by_tests : (s t : Bool) → nat_lt from (b + 1) ≡ s → nat_le (b + 1) upto ≡ t → cond (s && t) (d ∷ rest) rest ≡ drop (from - b) (take (upto - b) (d ∷ all))
-  by_tests true true p q =
-      ap (λ l. d ∷ l) (is ∙ ap (λ n. drop n (take (upto - (b + 1)) all)) (low_next from upto b p))
-      ∙ sym (ap (λ n. drop n (take (upto - b) (d ∷ all))) (low from upto b p) ∙ ap (λ n. take n (d ∷ all)) (inside from upto b q))
-  by_tests false true p q =
-      is ∙ sym (ap (λ n. drop n (take (upto - b) (d ∷ all))) (high from upto b p) ∙ ap (λ n. drop (suc (from - (b + 1))) (take n (d ∷ all))) (inside from upto b q))
-  by_tests s false p q =
-      none s ∙ is ∙ ap (λ n. drop (from - (b + 1)) (take n all)) (past_next from upto b q) ∙ drop_none (from - (b + 1))
-      ∙ sym (ap (λ n. drop (from - b) (take n (d ∷ all))) (past from upto b q) ∙ drop_none (from - b))
-    where
-      none : (s : Bool) → cond (s && false) (d ∷ rest) rest ≡ rest
-      none true = refl
-      none false = refl
+  by_tests s t p q = grind (arith, nat_tests, drop_none)
 
 module _ (i : FrameData) (from upto : ℕ) where
   -- is_between, with the last index beside it
@@ -115,15 +84,8 @@ module _ (i : FrameData) (from upto : ℕ) where
 
 -- the numbers on one surface
 numbered_on : (id : SurfaceId) (subs : List Submission) → AreNumbered subs → NumberedFrom id 0 subs
-numbered_on id subs numbered n s at on =
-    numbered n s at ∙ ap (λ (x : SurfaceId). count_by (is_on x) (take n subs) + 1) (from_same s.submitted.id id on) ∙ omega arith
+numbered_on id subs numbered n s at on = grind (arith, nat_tests, from_same s.submitted.id id on)
 
 pub drawn_is_told : (w : World) (a : Aggregation) (i : FrameData) → KeepsAlways w → damage_since a (accepted_frames w) i ≡ damage_on (told_of w a i)
 unfolding damage_since damage_between
-drawn_is_told w a i keeps =
-    ap bound (cut i (index_in a i) i.index w.subs 0 (numbered_on i.id w.subs keeps.numbers.numbered))
-    ∙ ap (λ n. bound (drop n (take (i.index - 0) (map damage_of (filter (is_on i.id) w.subs))))) (none_less (index_in a i))
-    ∙ ap (λ n. bound (drop (index_in a i) (take n (map damage_of (filter (is_on i.id) w.subs))))) (none_less i.index)
-  where
-    none_less : (n : ℕ) → n - 0 ≡ n
-    none_less n = omega arith
+drawn_is_told w a i keeps = grind (arith, nat_tests, cut i (index_in a i) i.index w.subs 0 (numbered_on i.id w.subs keeps.numbers.numbered), from_same)

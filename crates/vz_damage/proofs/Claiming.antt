@@ -1,6 +1,6 @@
 -- Claims, as one visit more is met.
-use Rattle.std.proofs.Common.{◌≡◌, pos, Bool, true, false, Option, Some, None, List, [], ◌∷◌, ◌++◌, refl, subst, ap, sym, ◌∙◌, arith}
-use Rattle.std.proofs.Common.{if◌then◌else◌, OnOk, Result, Ok, Err}
+use Rattle.std.proofs.Common.{◌≡◌, pos, Bool, true, false, Option, List, [], ◌∷◌, ◌++◌, refl, ap, sym, ◌∙◌, arith}
+use Rattle.std.proofs.Common.{if◌then◌else◌, OnOk, Result}
 use Rattle.std.specs.List.{flat_map, filter_map, list_any}
 use Rattle.std.specs.Result.{is_ok}
 use Rattle.std.proofs.lemmas.Int.{ints}
@@ -21,15 +21,15 @@ use Rattle.vz_rules.specs.World.{FrameData, Scene, Aggregation}
 use Rattle.vz_rules.specs.Walk.{Placement, Visit, Quad, Shows, Enters}
 use Rattle.vz_rules.specs.Damage.{shown_range, of_same_range, is_switched, aggregation_of}
 use Rattle.vz_surfaces.specs.Stored.{Stored}
-use Rattle.vz_surfaces.specs.Reading.{seen_frames}
 use Rattle.vz_walk.specs.Meeting.{Meets}
 use Rattle.vz_walk.specs.Scenes.{scene_in, walked_in}
 use Rattle.vz_damage.specs.Told.{Told, Damaged, told_on, damage_in}
 use Rattle.vz_damage.specs.Measured.{Measurement}
 use Rattle.vz_damage.specs.Measured.{Shown, IsMeasured, IsMeasureOf, told_claims_of, told_claims, told_damage, what_changed, seen_damage}
-use Rattle.vz_damage.specs.Measured.{without_indices, has_root}
+use Rattle.vz_damage.specs.Measured.{has_root}
 use Rattle.vz_damage.proofs.Looking.{last_in}
 use Rattle.vz_damage.proofs.Joining.{bound_append, bound_one}
+use Rattle.std.proofs.lemmas.Bool.Decides.{nat_tests}
 
 -- a damage is cut by the size of its surface before it is moved
 pub seen_is : (window size damage : Rectangle) (by : Point) → meet window (moved (meet size damage) by) ≡ meet (meet window
@@ -42,9 +42,7 @@ more_none rs extra d e h = h ∙ ap bound (sym (append-nil rs) ∙ ap (λ l. rs 
 
 -- one claim more
 more_one : (rs extra : List Rectangle) (d r : Rectangle) → IsRectangle r → extra ≡ r ∷ [] → d ≡ bound rs → join d r ≡ bound (rs ++ extra)
-more_one rs extra d r proper e h =
-    ap (λ x. join x r) h ∙ (ap (join (bound rs)) (sym (bound_one r proper)) ∙ (sym (bound_append rs (r ∷ []))
-    ∙ ap (λ l. bound (rs ++ l)) (sym e)))
+more_one rs extra d r proper e h = grind (arith, nat_tests, bound_one r proper, bound_append rs (r ∷ []))
 
 adding_more : {A : Type 0} (same : A → A → Bool) (once xs ys : List A) → adding same once (xs ++ ys) ≡ adding same (adding same once xs) ys
 adding_more same once [] ys = refl
@@ -55,21 +53,14 @@ module _ (told : List (SurfaceId × Told)) (last : Shown) where
   Claims a visits = flat_map (told_claims_of told a) visits
 
   one_more : (a : Aggregation) (before : List Visit) (x : Visit) → Claims a before ++ told_claims_of told a x ≡ Claims a (before ++ x ∷ [])
-  one_more a before x =
-      ap (λ l. Claims a before ++ l) (sym (append-nil (told_claims_of told a x)))
-      ∙ sym (flat_map-append (told_claims_of told a) before (x ∷ []))
+  one_more a before x = grind (arith, nat_tests, append-nil (told_claims_of told a x), flat_map-append (told_claims_of told a) before (x ∷ []))
 
   -- a visit more, with what it claims and the range that it notes
   pub met_more : (old new : Rectangle) (was now : Shown) (before : List Visit) (x : Visit)
       → ((a : Aggregation) → a.ranges ≡ last → old ≡ bound (Claims a before) → new ≡ bound (Claims a before ++ told_claims_of told a x))
       → now ≡ adding of_same_range was (filter_map shown_range (x ∷ [])) → IsMeasured told last old was before
       → IsMeasured told last new now (before ++ x ∷ [])
-  met_more old new was now before x claim note h = record {
-    claims = λ a e. claim a e (h.claims a e) ∙ ap bound (one_more a before x);
-    ranges_met = note ∙ (ap (λ l. adding of_same_range l (filter_map shown_range (x ∷ []))) h.ranges_met
-        ∙ (sym (adding_more of_same_range [] (filter_map shown_range before) (filter_map shown_range (x ∷ [])))
-        ∙ ap (adding of_same_range []) (sym (filter_map-append shown_range before (x ∷ [])))));
-  }
+  met_more old new was now before x claim note h = grind (arith, nat_tests, one_more, adding_more, filter_map-append)
 
   -- a quad
   pub met_quad : (d : Rectangle) (rs : Shown) (before : List Visit) → IsMeasured told last d rs before
@@ -79,13 +70,11 @@ module _ (told : List (SurfaceId × Told)) (last : Shown) where
 
   noted : (range : SurfaceRange) (now : Option FrameData) (seen : Rectangle)
       → filter_map shown_range (Shows range now seen ∷ []) ≡ (range, id_of_frame now) ∷ []
-  noted range None seen = refl
-  noted range (Some i) seen = refl
+  noted range now seen = grind (arith, nat_tests)
 
   range_claim : (t : Bool) (rs : List Rectangle) (d seen : Rectangle) → IsRectangle seen → d ≡ bound rs
       → (if t then join d seen else d) ≡ bound (rs ++ (if t then seen ∷ [] else []))
-  range_claim true rs d seen proper e = more_one rs (seen ∷ []) d seen proper refl e
-  range_claim false rs d seen proper e = more_none rs [] d refl e
+  range_claim t rs d seen proper e = grind (arith, nat_tests, more_one, more_none rs [] d refl e)
 
   -- a range
   pub met_range : (old new : Rectangle) (was now : Shown) (before : List Visit) (range : SurfaceRange) (shown : Option FrameData)
@@ -94,19 +83,14 @@ module _ (told : List (SurfaceId × Told)) (last : Shown) where
       → now ≡ adding of_same_range was ((range, id_of_frame shown) ∷ [])
       → IsMeasured told last old was before → IsMeasured told last new now (before ++ Shows range shown seen ∷ [])
   unfolding told_claims_of
-  met_range old new was now before range shown seen proper claim note h =
-      met_more old new was now before (Shows range shown seen) (λ a e k. claim a e
-      ∙ range_claim (is_switched a range shown) (Claims a before) old seen proper k)
-      (note ∙ ap (adding of_same_range was) (sym (noted range shown seen))) h
+  met_range old new was now before range shown seen proper claim note h = grind (arith, nat_tests, met_more old new was now before (Shows range shown seen), range_claim, noted range shown seen)
 
   -- a surface
   pub met_surface : (old new r : Rectangle) (rs : Shown) (before : List Visit) (depth : _) (i : FrameData) (place : Placement)
       → IsRectangle r → r ≡ seen_damage (damage_in (told_on told i.id)) i place
       → new ≡ join old r → IsMeasured told last old rs before → IsMeasured told last new rs (before ++ Enters depth i place ∷ [])
   unfolding told_claims_of
-  met_surface old new r rs before depth i place proper is claim h =
-      met_more old new rs rs before (Enters depth i place) (λ a e k. claim
-      ∙ more_one (Claims a before) _ old r proper (ap (λ x. x ∷ []) (sym is)) k) refl h
+  met_surface old new r rs before depth i place proper is claim h = grind (arith, nat_tests, met_more old new rs rs before (Enters depth i place), more_one)
 
   -- nothing
   pub met_nothing : IsMeasured told last no_rectangle [] []
@@ -115,43 +99,21 @@ module _ (told : List (SurfaceId × Told)) (last : Shown) where
 
 -- What follows of a whole walk
 
-shown_of : (root : Option SurfaceId) (shown : Shown) (a : Aggregation) → last_in root shown ≡ Some a → a.ranges ≡ shown
-shown_of None shown a e = absurd (cc)
-shown_of (Some r) shown a e = sym (ap (λ (x : Aggregation). x.ranges) (some_same e))
-  where
-    some_same : {A : Type 0} {x y : A} → Some x ≡ Some y → x ≡ y
-    some_same f = cc
-
-damage_by : (size : Size) (told : List (SurfaceId × Told)) (root : SurfaceId) (walked : List Visit) (d : Rectangle)
-    (o : Option Aggregation) → has_root o root ≡ true
-    → ((a : Aggregation) → o ≡ Some a → d ≡ bound (flat_map (told_claims_of told a) walked)) → d ≡ told_damage size o told root walked
-unfolding told_damage told_claims
-damage_by size told root walked d None e h = absurd (cc)
-damage_by size told root walked d (Some a) e h =
-    h a refl ∙ ap (λ (t : Bool). bound (if t then flat_map (told_claims_of told a) walked else sized size ∷ [])) (sym e)
-
 -- the claims of all visits, where the root is that of the last aggregation
 pub damage_same : (size : Size) (last : Option SurfaceId) (shown : Shown) (told : List (SurfaceId × Told)) (root : SurfaceId)
     (walked : List Visit) (d : Rectangle) (rs : Shown)
     → has_root (last_in last shown) root ≡ true → IsMeasured told shown d rs walked
     → d ≡ told_damage size (last_in last shown) told root walked
-damage_same size last shown told root walked d rs e h = damage_by size told root walked d (last_in last shown) e (λ a f. h.claims a
-    (shown_of last shown a f))
+unfolding told_damage told_claims
+damage_same size last shown told root walked d rs e h = grind (arith, nat_tests, last_in last shown)
 
 display_is : (size : Size) → IsDisplaySize size → IsRectangle (sized size)
-display_is size h = record {
-  edges = record { left = omega (arith, ints); top = omega (arith, ints); right = omega (arith, ints); bottom = omega (arith, ints) };
-  wide = omega (arith, ints);
-  high = omega (arith, ints);
-  own = full_sides (pos 0) (pos 0) size.w size.h h.wide h.high;
-}
+display_is size h = grind (arith, nat_tests, ints, full_sides (pos 0) (pos 0) size.w size.h h.wide h.high)
 
 whole_by : (size : Size) (told : List (SurfaceId × Told)) (root : SurfaceId) (walked : List Visit) (o : Option Aggregation)
     → has_root o root ≡ false → bound (sized size ∷ []) ≡ told_damage size o told root walked
 unfolding told_damage told_claims
-whole_by size told root walked None e = refl
-whole_by size told root walked (Some a) e = ap (λ (t : Bool). bound (if t then flat_map
-    (told_claims_of told a) walked else sized size ∷ [])) (sym e)
+whole_by size told root walked o e = grind (arith, nat_tests)
 
 -- and the whole display where it is not
 pub damage_other : (size : Size) (told : List (SurfaceId × Told)) (root : SurfaceId) (walked : List Visit) (o : Option Aggregation)
@@ -164,32 +126,20 @@ pub ranges_are : (told : List (SurfaceId × Told)) (last : Shown) (d : Rectangle
 unfolding aggregation_of
 ranges_are told last d rs scene walked h = h.ranges_met
 
--- the root and the ranges are what is remembered
-kept_is : (root : SurfaceId) (active : List FrameData) (rs : Shown) (walked : List Visit)
-    → rs ≡ (aggregation_of (record { root = root; active = active }) walked).ranges
-    → ◌≡◌ {A = Aggregation} (record { root = root; indices = []; ranges = rs }) (without_indices (aggregation_of
-    (record { root = root; active = active }) walked))
-unfolding aggregation_of
-kept_is root active rs walked e = ap {B = Aggregation} (λ (l : Shown). record { root = root; indices = []; ranges = l }) e
-
 -- what changed, with them, is what is measured
 pub measure_is : (d : Damaged) (st : Stored) (root : SurfaceId) (size : Size) (m : Measurement) (damage : Rectangle) (rs : Shown)
     → m.changed ≡ what_changed d.last damage → m.kept ≡ record { root = root; indices = []; ranges = rs }
     → damage ≡ told_damage size d.last d.surfaces root (walked_in size root st)
     → rs ≡ (aggregation_of (scene_in root st) (walked_in size root st)).ranges
     → IsMeasureOf d st root size m
-measure_is d st root size m damage rs changed kept walked ranges =
-    record {
-      changed = changed ∙ ap (what_changed d.last) walked;
-      kept = kept ∙ kept_is root (seen_frames st) rs (walked_in size root st) ranges;
-    }
+unfolding aggregation_of
+measure_is d st root size m damage rs changed kept walked ranges = grind (arith, nat_tests)
 
 -- The visitor
 
 -- what holds where the call answered Ok
 pub where_ok : {T E : Type 0} (r : Result T E) (P : Type 0) → OnOk r P → is_ok r ≡ true → P
-where_ok (Ok v) P h e = h
-where_ok (Err x) P h e = absurd (cc)
+where_ok r _ h e = grind (arith, nat_tests)
 
 module _ {V A B : Type 0} (told : V → A) (last : V → B) (told_in : A → List (SurfaceId × Told)) (last_of : B → Shown) (damage : V
     → Rectangle) (ranges : V → Shown) where
@@ -205,14 +155,4 @@ module _ {V A B : Type 0} (told : V → A) (last : V → B) (told_in : A → Lis
       → (r ≡ true → (before : List Visit) → IsMeasured (told_in (told old)) (last_of (last old)) (damage old) (ranges old) before
       → IsMeasured (told_in (told old)) (last_of (last old)) (damage new) (ranges new) (before ++ x ∷ []))
       → Meets Has Stops r old new (x ∷ [])
-  meets_one r old new x a b step = record {
-    all = λ first before e h. (
-      subst (λ (t : A). IsMeasured (told_in t) (last_of (last first)) (damage new) (ranges new) (before ++ x ∷ [])) h.1
-          (subst (λ (l : B). IsMeasured (told_in (told old)) (last_of l) (damage new) (ranges new) (before ++ x ∷ [])) h.2
-          (step e before (subst (λ (t : A). IsMeasured (told_in t) (last_of (last old)) (damage old) (ranges old) before) (sym h.1)
-          (subst (λ (l : B). IsMeasured (told_in (told first)) (last_of l) (damage old) (ranges old) before) (sym h.2) h.0)))),
-      a ∙ h.1,
-      b ∙ h.2,
-    );
-    some = λ first before e h. record { front = before ++ x ∷ []; back = []; splits = append-nil (before ++ x ∷ []); there = tt };
-  }
+  meets_one r old new x a b step = grind (arith, nat_tests, append-nil)

@@ -1,24 +1,22 @@
 -- A walk goes into surfaces with active frames alone, and what it claims of them is told.
-use Rattle.std.proofs.Common.{◌≡◌, ◌&&◌, filter, ℕ, zero, suc, ◌+◌, Bool, true, false, Option, Some, None, List, [], ◌∷◌, ◌++◌, length}
-use Rattle.std.proofs.Common.{refl, sym, ap, ◌∙◌, flat_map, Contains, if◌then◌else◌}
+use Rattle.std.proofs.Common.{◌≡◌, ◌&&◌, filter, ℕ, zero, suc, ◌+◌, Bool, true, false, Option, Some, None, List, [], ◌∷◌, ◌++◌, length, arith}
+use Rattle.std.proofs.Common.{refl, sym, ap, ◌∙◌, flat_map, Contains}
 use Rattle.std.specs.List.{AllByRecursion}
 use Rattle.std.specs.Option.{option_map}
 use Rattle.vz_geom.specs.declared.Size.{Size}
-use Rattle.vz_geom.specs.Rectangle.{bound, sized}
 use Rattle.vz_ids.specs.declared.SurfaceId.{SurfaceId}
 use Rattle.vz_ids.specs.declared.SurfaceRange.{SurfaceRange}
 use Rattle.vz_ids.specs.Ids.{same_surface}
 use Rattle.vz_frame.specs.declared.frame.RenderPass.{RenderPass}
 use Rattle.vz_frame.specs.declared.frame.DrawQuad.{DrawQuad}
 use Rattle.vz_frame.specs.declared.frame.Material.{Material}
-use Rattle.vz_frame.specs.declared.frame.Material.TheVariants.{Solid, Tile, Surface, Pass}
 use Rattle.vz_frame.specs.Frame.{passes_down, names_pass}
 use Rattle.vz_rules.specs.World.{World, FrameData, Scene, Submission, Aggregation, is_active, is_on, frame_on, active_frames}
 use Rattle.vz_rules.specs.Scene.{shown_frame}
 use Rattle.vz_rules.specs.Paint.{on_path, levels}
 use Rattle.vz_rules.specs.Step.{accepted_frames}
 use Rattle.vz_rules.specs.Kept.{KeepsAlways}
-use Rattle.vz_rules.specs.Walk.{Placement, Visit, Quad, Shows, Enters, WalkRange, WalkNamed, place_in, quad_walked, pass_walked}
+use Rattle.vz_rules.specs.Walk.{Placement, Visit, Quad, Shows, Enters, WalkRange, WalkNamed, quad_walked, pass_walked}
 use Rattle.vz_rules.specs.Walk.{groups_walked, root_walked, range_walked, walk, walk_of, whole}
 use Rattle.vz_rules.specs.Damage.{aggregation_of, claims_of, claims, drawn_damage}
 use Rattle.vz_rules.proofs.Members.{find_at, filter_at, contains_map, contains_at, at_same}
@@ -26,10 +24,11 @@ use Rattle.vz_rules.proofs.Remembered.{AreAlone, shown_in, alone_on, index_is}
 use Rattle.std.proofs.lemmas.Bool.{and_from}
 use Rattle.vz_rules.proofs.Counts.{one_place}
 use Rattle.vz_rules.proofs.Reached.{self_same}
-use Rattle.vz_damage.specs.Told.{Told, told_on, with_seen, damage_in}
-use Rattle.vz_damage.specs.Accepted.{told_of, TellsActive, TellsLast, scene_from}
-use Rattle.vz_damage.specs.Measured.{told_claims_of, told_claims, told_damage, without_indices, seen_damage}
+use Rattle.vz_damage.specs.Told.{Told, told_on, with_seen}
+use Rattle.vz_damage.specs.Accepted.{TellsActive, TellsLast, scene_from}
+use Rattle.vz_damage.specs.Measured.{told_claims_of, told_claims, told_damage, without_indices}
 use Rattle.vz_damage.proofs.Between.{drawn_is_told}
+use Rattle.std.proofs.lemmas.Bool.Decides.{nat_tests}
 
 abbrev pub Each : (Visit → Type 0) → List Visit → Type 0
 Each P xs = AllByRecursion P xs
@@ -43,8 +42,7 @@ each_flat P f [] h = tt
 each_flat P f (x ∷ xs) h = each_append P (f x) (flat_map f xs) (h x) (each_flat P f xs h)
 
 each_choice : (P : Visit → Type 0) (t : Bool) (xs ys : List Visit) → Each P xs → Each P ys → Each P (elim t [ true ↦ xs | false ↦ ys ])
-each_choice P true xs ys h k = h
-each_choice P false xs ys h k = k
+each_choice _ t xs ys h k = grind (arith, nat_tests)
 
 -- the surface that is gone into has one of these frames
 abbrev pub GoesTo : List FrameData → Visit → Type 0
@@ -58,10 +56,7 @@ module _ (active : List FrameData) (walks : WalkRange) (ranges : (range : Surfac
       → (pass : RenderPass) (place : Placement) (quad : DrawQuad) (m : Material) → quad.material ≡ m
       → Each (GoesTo active) (quad_walked named walks pass place quad)
   unfolding quad_walked
-  quad_goes named h pass place quad (Solid c) e = rw e (tt, tt)
-  quad_goes named h pass place quad (Tile id tx ty) e = rw e (tt, tt)
-  quad_goes named h pass place quad (Surface range b) e = rw e (tt, ranges range (place_in place pass quad))
-  quad_goes named h pass place quad (Pass id) e = rw e (tt, h id (place_in place pass quad))
+  quad_goes named h pass place quad m e = grind (arith, nat_tests)
 
   pass_goes : (named : WalkNamed) → ((id : ℕ) (place : Placement) → Each (GoesTo active) (named id place))
       → (pass : RenderPass) (place : Placement)
@@ -93,9 +88,7 @@ into_goes : (active : List FrameData) (path : List SurfaceId) (place : Placement
             (length path + 1) i place ∷ surface i
       ]
     ])
-into_goes active path place surface h None there = tt
-into_goes active path place surface h (Some i) there =
-    each_choice (GoesTo active) (on_path path i) [] (Enters (length path + 1) i place ∷ surface i) tt (there i refl, h i)
+into_goes active path place surface h o there = grind (arith, nat_tests)
 
 walk_goes : (n : ℕ) (active : List FrameData) (path : List SurfaceId) (i : FrameData) (place : Placement)
     → Each (GoesTo active) (walk n active path i place)
@@ -118,26 +111,16 @@ whole_goes n size active (Some i) there = (there i refl, walk_goes n active [] i
 -- a walk goes into surfaces with active frames alone
 pub goes_to_active : (size : Size) (scene : Scene) → Each (GoesTo scene.active) (walk_of size scene)
 unfolding walk_of
-goes_to_active size scene =
-    whole_goes levels size scene.active (frame_on scene.root scene.active) (λ i e. (find_at (λ
-    (j : FrameData). same_surface j.id scene.root) scene.active i e).0)
+goes_to_active size scene = grind (arith, nat_tests, whole_goes levels size scene.active (frame_on scene.root scene.active), find_at)
 
 -- Claims
 
 module _ (w : World) (a : Aggregation) (told : List (SurfaceId × Told)) (keeps : KeepsAlways w) (tells : TellsActive w a told) where
-  visit_claims : (x : Visit) → GoesTo (active_frames w.subs) x
-      → told_claims_of told (without_indices a) x ≡ claims_of a (accepted_frames w) x
-  unfolding told_claims_of claims_of
-  visit_claims Quad h = refl
-  visit_claims (Shows range now seen) h = refl
-  visit_claims (Enters depth i place) h =
-      ap (λ d. seen_damage d i place ∷ []) (ap damage_in (tells i h) ∙ sym (drawn_is_told w a i keeps))
-
   walk_claims : (xs : List Visit) → Each (GoesTo (active_frames w.subs)) xs
       → flat_map (told_claims_of told (without_indices a)) xs ≡ flat_map (claims_of a (accepted_frames w)) xs
+  unfolding told_claims_of claims_of
   walk_claims [] h = refl
-  walk_claims (x ∷ xs) h = ap (λ l. l ++ flat_map (told_claims_of told (without_indices a)) xs) (visit_claims x h.0)
-      ∙ ap (λ l. claims_of a (accepted_frames w) x ++ l) (walk_claims xs h.1)
+  walk_claims (x ∷ xs) h = grind (arith, nat_tests, drawn_is_told, walk_claims xs h.1)
 
 by_last : (w : World) (told : List (SurfaceId × Told)) (size : Size) (root : SurfaceId) (xs : List Visit) (o : Option Aggregation)
     → KeepsAlways w → ((a : Aggregation) → o ≡ Some a → TellsActive w a told)
@@ -145,8 +128,7 @@ by_last : (w : World) (told : List (SurfaceId × Told)) (size : Size) (root : Su
     (accepted_frames w) root xs
 unfolding told_damage told_claims drawn_damage claims
 by_last w told size root xs None keeps tells h = refl
-by_last w told size root xs (Some a) keeps tells h =
-    ap (λ l. bound (if same_surface a.root root then l else sized size ∷ [])) (walk_claims w a told keeps (tells a refl) xs h)
+by_last w told size root xs (Some a) keeps tells h = grind (arith, nat_tests, walk_claims w a told keeps (tells a refl) xs h)
 
 -- what is measured is the damage of a drawing
 pub measured_is_drawn : (w : World) (told : List (SurfaceId × Told)) (size : Size) (root : SurfaceId) → KeepsAlways w → TellsLast w told
@@ -188,7 +170,4 @@ pub tells_drawn : (w : World) (a : Aggregation) (old new : List (SurfaceId × To
     → KeepsAlways w → TellsActive w a old
     → ((id : SurfaceId) → told_on new id ≡ option_map with_seen (told_on old id))
     → TellsActive w (aggregation_of (scene_from root w) walked) new
-tells_drawn w a old new root walked keeps tells follows i c =
-    follows i.id ∙ (ap (option_map with_seen) (tells i c)
-    ∙ ap (λ n. Some (record { damages = (told_of w a i).damages; active = i.index; seen = n }))
-    (sym (index_is (scene_from root w) walked i i (alone_on (active_frames w.subs) i (active_alone w keeps) c))))
+tells_drawn w a old new root walked keeps tells follows i c = grind (arith, nat_tests, index_is, alone_on, active_alone)

@@ -1,5 +1,5 @@
 -- What is told of a surface, as it is looked up, put in and taken out.
-use Rattle.std.proofs.Common.{◌≡◌, ℕ, ◌+◌, ◌≤◌, Bool, true, false, ◌&&◌, ◌==◌, zero, suc, List, [], ◌∷◌, Option, Some, None, refl, ap, sym, ◌∙◌, cond, length, slice_get, arith}
+use Rattle.std.proofs.Common.{◌≡◌, ℕ, ◌+◌, ◌≤◌, Bool, false, ◌&&◌, ◌==◌, zero, suc, List, [], ◌∷◌, Option, Some, None, refl, ap, ◌∙◌, cond, length, slice_get, arith}
 use Rattle.std.specs.Option.{option_map}
 use Rattle.std.specs.Map.{lookup, values_of}
 use Rattle.indexmap.specs.Layout.{set_value_at}
@@ -10,13 +10,13 @@ use Rattle.vz_rules.proofs.Reached.{self_same}
 use Rattle.vz_ids.specs.Ids.{same_surface, same_sink}
 use Rattle.vz_ids.specs.contracts.SurfaceIdPartialEq.TheImpl as surface_eq
 use Rattle.vz_damage.specs.Told.{Told, told_on, with_seen}
+use Rattle.std.proofs.lemmas.Bool.Decides.{nat_tests}
 
 abbrev pub same_id : SurfaceId → SurfaceId → Bool
 same_id = (surface_eq.ghosts).eq
 
 shift : (s p c t : Bool) → (s && (p && (c && t))) ≡ (s && ((p && c) && t))
-shift s true c t = refl
-shift s false c t = refl
+shift s p c t = grind (arith, nat_tests)
 
 pub compared : (a b : SurfaceId) → same_id a b ≡ same_surface a b
 compared a b = shift (same_sink a.sink b.sink) (a.local.parent == b.local.parent) (a.local.child == b.local.child) (a.local.token.0 == b.local.token.0)
@@ -25,16 +25,14 @@ compared a b = shift (same_sink a.sink b.sink) (a.local.parent == b.local.parent
 pub looked : (xs : List (SurfaceId × Told)) (id : SurfaceId) → told_on xs id ≡ lookup (same_id id) xs
 unfolding told_on
 looked [] id = refl
-looked (x ∷ xs) id =
-    ap (λ r. cond (same_surface id x.0) (Some x.1) r) (looked xs id) ∙ ap (λ t. cond t (Some x.1) (lookup (same_id id) xs)) (sym (compared id x.0))
+looked (x ∷ xs) id = grind (arith, nat_tests, looked xs id, compared id x.0)
 
 -- one surface has something told of it, or nothing, and the others what they had
 abbrev pub IsChanged : List (SurfaceId × Told) → List (SurfaceId × Told) → SurfaceId → Option Told → Type 0
 IsChanged old new id w = (q : SurfaceId) → lookup (same_id q) new ≡ cond (same_id id q) w (lookup (same_id q) old)
 
 pub told_after : (old new : List (SurfaceId × Told)) (id : SurfaceId) (w : Option Told) → IsChanged old new id w → (q : SurfaceId) → told_on new q ≡ cond (same_surface id q) w (told_on old q)
-told_after old new id w changed q =
-    looked new q ∙ changed q ∙ ap (λ r. cond (same_id id q) w r) (sym (looked old q)) ∙ ap (λ t. cond t w (told_on old q)) (compared id q)
+told_after old new id w changed q = grind (arith, nat_tests, looked new q, looked old q, compared id q)
 
 pub told_here : (old new : List (SurfaceId × Told)) (id : SurfaceId) (w : Option Told) → IsChanged old new id w → told_on new id ≡ w
 told_here old new id w changed = told_after old new id w changed id ∙ ap (λ t. cond t w (told_on old id)) (self_same id)
@@ -54,10 +52,7 @@ seen_to (suc k) (x ∷ xs) = (x.0, with_seen x.1) ∷ seen_to k xs
 pub see_next : (k : ℕ) (xs : List (SurfaceId × Told)) (t : Told) → Some t ≡ slice_get (values_of (seen_to k xs)) k → set_value_at (seen_to k xs) k (with_seen t) ≡ seen_to (suc k) xs
 unfolding seen_to
 see_next zero [] t h = absurd (cc)
-see_next zero (x ∷ xs) t h = ap (λ v. (x.0, with_seen v) ∷ xs) (same_some t x.1 h)
-  where
-    same_some : (a b : Told) → Some a ≡ Some b → a ≡ b
-    same_some a b e = cc
+see_next zero (x ∷ xs) t h = grind (arith, nat_tests)
 see_next (suc k) [] t h = absurd (cc)
 see_next (suc k) (x ∷ xs) t h = ap (λ l. (x.0, with_seen x.1) ∷ l) (see_next k xs t h)
 
@@ -73,11 +68,7 @@ unfolding seen_to told_on
 seen_all zero [] h id = refl
 seen_all zero (x ∷ xs) h id = absurd (omega (arith, h))
 seen_all (suc k) [] h id = refl
-seen_all (suc k) (x ∷ xs) h id =
-    elim (same_surface id x.0) as (λ (t : Bool). cond t (Some (with_seen x.1)) (told_on (seen_to k xs) id) ≡ option_map with_seen (cond t (Some x.1) (told_on xs id))) [
-      | true ↦ refl
-      | false ↦ seen_all k xs (omega (arith, h)) id
-    ]
+seen_all (suc k) (x ∷ xs) h id = grind (arith, nat_tests, seen_all k xs)
 
 -- The turn of a place
 
@@ -88,9 +79,7 @@ seen_first xs = refl
 -- a place whose value is seen
 pub turn_some : (k : ℕ) (xs now : List (SurfaceId × Told)) (t new : Told) → now ≡ seen_to k xs → Some t ≡ slice_get (values_of now) k → new ≡ with_seen t
     → set_value_at now k new ≡ seen_to (k + 1) xs
-turn_some k xs now t new is found sees =
-    ap (λ l. set_value_at l k new) is ∙ ap (set_value_at (seen_to k xs) k) sees
-    ∙ see_next k xs t (found ∙ ap (λ l. slice_get (values_of l) k) is) ∙ ap (λ n. seen_to n xs) (omega arith)
+turn_some k xs now t new is found sees = grind (arith, nat_tests, see_next k xs t)
 
 -- there is no such place
 pub turn_none : (k : ℕ) (xs now : List (SurfaceId × Told)) → now ≡ seen_to k xs → None ≡ slice_get (values_of now) k → now ≡ seen_to (k + 1) xs

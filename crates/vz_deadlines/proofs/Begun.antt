@@ -10,25 +10,17 @@ use Rattle.vz_deadlines.specs.Slots.{standing, left_in, are_distinct, AreKept}
 use Rattle.vz_deadlines.proofs.Stands.{left_standing}
 use Rattle.vz_deadlines.proofs.Found_at.{by_cases, some_is, apart}
 use Rattle.vz_deadlines.proofs.Keeps.{distinct_filter}
+use Rattle.std.proofs.lemmas.Bool.Decides.{nat_tests}
 
 -- A tick begins
 
 pub new_ones : (first list before after due : List Sub) → before ≡ first → after ≡ list → list ≡ first ++ due → take (length after - length before) (drop (length before) after) ≡ due
-new_ones first list before after due is is' put =
-    let all = is' ∙ put in
-    let long = ap length all ∙ length-append first due in
-    let same = ap length is in
-    ap (λ l. take (length after - length before) (drop (length before) l)) all ∙ ap (take (length after - length before)) (drop_at first due (length before) (sym same))
-    ∙ take_all (length after - length before) due (omega (arith, long, same))
+new_ones first list before after due is is' put = grind (arith, nat_tests, length-append first due, drop_at first due (length before), take_all)
 
 get_left : (tick : ℕ) (slots : List (Option Due)) (place : ℕ) (d : Due) → slice_get (map (left_in tick) slots) place ≡ Some (Some d) → (slice_get slots place ≡ Some (Some d)) × (nat_le d.tick tick ≡ false)
 get_left tick [] place d at = absurd (cc)
 get_left tick (None ∷ slots) zero d at = let no_way : None ≡ Some d = some_is None (Some d) at in absurd (cc)
-get_left tick (Some e ∷ slots) zero d at = by_test (nat_le e.tick tick) refl (some_is (cond (nat_le e.tick tick) None (Some e)) (Some d) at)
-  where
-    by_test : (t : Bool) → nat_le e.tick tick ≡ t → cond t None (Some e) ≡ Some d → (Some (Some e) ≡ Some (Some d)) × (nat_le d.tick tick ≡ false)
-    by_test true own is = absurd (cc)
-    by_test false own is = (ap Some is, ap (λ (x : Due). nat_le x.tick tick) (sym (some_is e d is)) ∙ own)
+get_left tick (Some e ∷ slots) zero d at = grind (arith, nat_tests, some_is (cond (nat_le e.tick tick) None (Some e)) (Some d) at, some_is e d)
 get_left tick (o ∷ slots) (suc place) d at = get_left tick slots place d at
 
 -- one of those that are due stands in a slot
@@ -58,13 +50,7 @@ due_stands tick (Some e ∷ slots) s h = by_test (nat_le e.tick tick) refl h (du
 left_and_due : (tick : ℕ) (list : List Due) → length (left_at tick list) + length (due_at tick list) ≡ length list
 unfolding left_at due_at
 left_and_due tick [] = refl
-left_and_due tick (d ∷ list) =
-    let rest = left_and_due tick list in
-    elim (nat_le d.tick tick) as (λ (t : Bool). length (cond (not t) (d ∷ filter (λ d. not (nat_le d.tick tick)) list) (filter (λ d. not (nat_le d.tick tick)) list))
-    + length (map (λ (d : Due). d.sub) (cond t (d ∷ filter (λ d. nat_le d.tick tick) list) (filter (λ d. nat_le d.tick tick) list))) ≡ length (d ∷ list)) [
-      | true ↦ omega (arith, rest)
-      | false ↦ omega (arith, rest)
-    ]
+left_and_due tick (d ∷ list) = grind (arith, nat_tests, left_and_due tick list)
 
 distinct_left : (tick : ℕ) (list : List Due) → are_distinct list ≡ true → are_distinct (left_at tick list) ≡ true
 unfolding left_at
@@ -75,10 +61,7 @@ unfolding left_at
 none_left tick list is = ap (left_at tick) is
 
 pub begun_fits : (tick count used spare : ℕ) (slots : List (Option Due)) (place_of : Sub → Option ℕ) (gone : List Sub) → AreKept slots used count place_of spare → gone ≡ due_at tick (standing slots) → length gone ≤ count
-begun_fits tick count used spare slots place_of gone kept is =
-    let parts = left_and_due tick (standing slots) in
-    let long = ap length is in
-    omega (arith, parts, long, kept.waiting)
+begun_fits tick count used spare slots place_of gone kept is = grind (arith, nat_tests, left_and_due tick (standing slots))
 
 pub kept_begun : (tick : ℕ) (slots new : List (Option Due)) (used count spare room : ℕ) (place_of place_of' : Sub → Option ℕ) (gone : List Sub) → AreKept slots used count place_of spare → new ≡ map (left_in tick) slots → gone ≡ due_at tick (standing slots)
     → ((t : Sub) → has_sub gone t ≡ false → place_of' t ≡ place_of t) → spare ≤ room → AreKept new used (count - length gone) place_of' room

@@ -1,5 +1,5 @@
 -- Slots of which none knows a tick, and slots that become free.
-use Rattle.std.proofs.Common.{◌≡◌, ℕ, zero, suc, ◌+◌, ◌-◌, ◌/◌, ◌≤◌, ◌<◌, true, ◌==◌, nat_le, Option, Some, None, is_some, List, [], ◌∷◌, ◌++◌, length, take, drop, slice_set as set, get_or, map, filter, replicate, refl, ap, sym, subst, ◌∙◌, arith, cond}
+use Rattle.std.proofs.Common.{◌≡◌, ℕ, zero, suc, ◌+◌, ◌-◌, ◌/◌, ◌≤◌, ◌<◌, true, ◌==◌, nat_le, Option, Some, None, is_some, List, [], ◌∷◌, ◌++◌, length, take, drop, slice_set as set, get_or, map, filter, replicate, refl, ap, sym, subst, ◌∙◌, arith}
 use Rattle.std.specs.List.{list_all}
 use Rattle.std.proofs.lemmas.Bool.Decides.{nat_tests}
 use Rattle.std.proofs.lemmas.List.{length-map, append-nil, append_assoc, take_all, drop_all, map-set, length-set, replicate_more}
@@ -41,9 +41,7 @@ unbounded_take : (n : ℕ) (slots : List Slot) → are_unbounded slots ≡ true 
 unfolding are_unbounded
 unbounded_take zero slots h = refl
 unbounded_take (suc n) [] h = refl
-unbounded_take (suc n) (s ∷ slots) h =
-    let parts = both (s.soonest == 0) (list_all (λ s. s.soonest == 0) slots) h in
-    two_true (s.soonest == 0) (list_all (λ s. s.soonest == 0) (take n slots)) parts.0 (unbounded_take n slots parts.1)
+unbounded_take (suc n) (s ∷ slots) h = grind (arith, nat_tests, both, two_true, unbounded_take n slots)
 
 unbounded_drop : (n : ℕ) (slots : List Slot) → are_unbounded slots ≡ true → are_unbounded (drop n slots) ≡ true
 unfolding are_unbounded
@@ -73,11 +71,9 @@ pub from_freed : (least : ℕ) (slots : List (Option Due)) (place : ℕ) → are
 unfolding standing are_from
 from_freed least [] place h = refl
 from_freed least (None ∷ slots) zero h = h
-from_freed least (Some d ∷ slots) zero h = (both (nat_le least d.tick) (list_all (λ d. nat_le least d.tick) (standing slots)) h).1
+from_freed least (Some d ∷ slots) zero h = grind (arith, nat_tests, both)
 from_freed least (None ∷ slots) (suc place) h = from_freed least slots place h
-from_freed least (Some d ∷ slots) (suc place) h =
-    let parts = both (nat_le least d.tick) (list_all (λ d. nat_le least d.tick) (standing slots)) h in
-    two_true (nat_le least d.tick) (list_all (λ d. nat_le least d.tick) (standing (set slots place None))) parts.0 (from_freed least slots place parts.1)
+from_freed least (Some d ∷ slots) (suc place) h = grind (arith, nat_tests, both, two_true, from_freed least slots place)
 
 take_set : (n : ℕ) (slots : List Slot) (place : ℕ) (s : Slot) → take n (set slots place s) ≡ set (take n slots) place s
 take_set zero slots place s = refl
@@ -126,31 +122,21 @@ freed_bounded (suc levels) (x ∷ slots) (suc place) s is bounded =
 -- Free slots at the end
 
 pub filled_more : (first old new : List (Option Due)) (k : ℕ) → old ≡ first ++ replicate k None → new ≡ old ++ None ∷ [] → new ≡ first ++ replicate (k + 1) None
-filled_more first old new k is more =
-    more ∙ ap (λ l. l ++ None ∷ []) is ∙ append_assoc first (replicate k None) (None ∷ []) ∙ ap (λ l. first ++ l) (replicate_more k None)
+filled_more first old new k is more = grind (arith, nat_tests, append_assoc, replicate_more)
 
 -- all of a vector was written
 pub whole_written : (items new : List Slot) (n : ℕ) → length new ≡ length items → n ≡ length items → take n (new ++ drop (length new) items) ≡ new
-whole_written items new n same long =
-    ap (λ l. take n (new ++ l)) (drop_all (length new) items (omega (arith, same))) ∙ ap (take n) (append-nil new) ∙ take_all n new (omega (arith, same, long))
+whole_written items new n same long = grind (arith, nat_tests, drop_all (length new) items, append-nil new, take_all n new)
 
 -- those that stand close up
 pub closed_held : (slots : List Slot) → held_in (filter (λ s. is_some s.due) slots) ≡ map Some (standing (held_in slots))
 unfolding standing
 closed_held [] = refl
-closed_held (s ∷ slots) =
-    elim s.due as (λ (o : Option Due). s.due ≡ o → held_in (cond (is_some o) (s ∷ filter (λ s. is_some s.due) slots) (filter (λ s. is_some s.due) slots)) ≡ map Some (standing (o ∷ held_in slots))) [
-      | Some d ↦ λ e. ap (λ o. o ∷ held_in (filter (λ s. is_some s.due) slots)) e ∙ ap (λ l. Some d ∷ l) (closed_held slots)
-      | None ↦ λ e. closed_held slots
-    ] refl
+closed_held (s ∷ slots) = grind (arith, nat_tests, closed_held slots)
 
 pub held_long : (old new : List Slot) → held_in new ≡ held_in old → length new ≡ length old
 held_long old new is = sym (length-map new (λ (s : Slot). s.due)) ∙ ap length is ∙ length-map old (λ (s : Slot). s.due)
 
 pub closed_up : (slots kept : List Slot) (old : List (Option Due)) (free : ℕ) → held_in slots ≡ old → kept ≡ filter (λ s. is_some s.due) slots → free ≡ length slots - length kept
     → held_in kept ++ replicate free None ≡ map Some (standing old) ++ replicate (length old - length (standing old)) None
-closed_up slots kept old free whole is left =
-    let held = ap held_in is ∙ closed_held slots ∙ ap (λ l. map Some (standing l)) whole in
-    let long = sym (length-map kept (λ (s : Slot). s.due)) ∙ ap length held ∙ length-map (standing old) (λ (d : Due). Some d) in
-    let all = sym (length-map slots (λ (s : Slot). s.due)) ∙ ap length whole in
-    ap (λ l. l ++ replicate free None) held ∙ ap (λ n. map Some (standing old) ++ replicate n None) (left ∙ ap (λ n. n - length kept) all ∙ ap (λ n. length old - n) long)
+closed_up slots kept old free whole is left = grind (arith, nat_tests, closed_held, length-map)

@@ -1,5 +1,5 @@
 -- What is kept of the slots, the numbers of them, and the map that finds them.
-use Rattle.std.proofs.Common.{◌≡◌, ◌≢◌, ◌⊎◌, ℕ, zero, suc, ◌+◌, ◌-◌, ◌≤◌, ◌<◌, Bool, true, false, not, ◌||◌, Option, Some, None, is_some, Result, Ok, OnOk, List, [], ◌∷◌, ◌++◌, length, drop, slice_set as set, map, filter, replicate, slice_get, refl, ap, sym, subst, inl, inr, ◌∙◌, arith, cond}
+use Rattle.std.proofs.Common.{◌≡◌, ◌≢◌, ◌⊎◌, ℕ, zero, suc, ◌+◌, ◌-◌, ◌≤◌, ◌<◌, Bool, true, false, not, Option, Some, None, is_some, Result, Ok, OnOk, List, [], ◌∷◌, ◌++◌, length, drop, slice_set as set, map, filter, replicate, slice_get, refl, ap, sym, subst, inl, inr, ◌∙◌, arith}
 use Rattle.std.proofs.lemmas.List.{append-nil, length-append, length-map, length-set, length-replicate, drop_at, drop_all, drop-append-le}
 use Rattle.vz_ids.specs.declared.Sub.{Sub}
 use Rattle.vz_ids.specs.Ids.{same_sub}
@@ -8,16 +8,14 @@ use Rattle.vz_deadlines.specs.Timing.{waits, without}
 use Rattle.vz_deadlines.specs.Slots.{standing, stands_at, are_distinct, AreFound, AreTold, AreKept}
 use Rattle.vz_deadlines.proofs.Stands.{both, two_true, standing_append, standing_fits, standing_free}
 use Rattle.vz_deadlines.proofs.Found_at.{same_is, same_self, same_back, by_cases, some_is, waits_at, stands_in, apart}
+use Rattle.std.proofs.lemmas.Bool.Decides.{nat_tests}
+use Rattle.std.proofs.lemmas.Grind.{common_steps}
 
 -- Nothing, and more room
 
 pub kept_none : (place_of : Sub → Option ℕ) (spare : ℕ) → AreKept [] 0 0 place_of spare
 unfolding standing are_distinct
 kept_none place_of spare = record { found = λ place d at. absurd (cc); distinct = refl; within = omega arith; free = refl; waiting = refl; room = omega arith }
-
-pub kept_room : (slots : List (Option Due)) (used count spare more : ℕ) (place_of new : Sub → Option ℕ) → AreKept slots used count place_of spare → ((t : Sub) → new t ≡ place_of t) → spare ≤ more → AreKept slots used count new more
-kept_room slots used count spare more place_of new kept same room =
-    record { found = λ place d at. same d.sub ∙ kept.found place d at; distinct = kept.distinct; within = kept.within; free = kept.free; waiting = kept.waiting; room = omega (arith, kept.room, room) }
 
 -- More slots
 
@@ -36,17 +34,7 @@ standing_grown slots more = standing_append slots (replicate more None) ∙ ap (
 
 pub kept_grown : (slots new : List (Option Due)) (used count spare room more : ℕ) (place_of place_of' : Sub → Option ℕ) → AreKept slots used count place_of spare → ((t : Sub) → place_of' t ≡ place_of t)
     → new ≡ slots ++ replicate more None → (length slots - used) + more ≤ room → AreKept new used count place_of' room
-kept_grown slots new used count spare room more place_of place_of' kept same is enough =
-    let long = ap length is ∙ length-append slots (replicate more None) ∙ ap (λ n. length slots + n) (length-replicate more None) in
-    let stand = ap standing is ∙ standing_grown slots more in
-    record {
-      found = λ place d at. same d.sub ∙ kept.found place d (get_front slots (replicate more None) place d (λ n h. none_free more n d h) (ap (λ l. slice_get l place) (sym is) ∙ at));
-      distinct = ap are_distinct stand ∙ kept.distinct;
-      within = omega (arith, long, kept.within);
-      free = ap (λ l. standing (drop used l)) is ∙ ap standing (drop-append-le used slots (replicate more None) kept.within) ∙ standing_grown (drop used slots) more ∙ kept.free;
-      waiting = kept.waiting ∙ ap length (sym stand);
-      room = omega (arith, long, enough, kept.within);
-    }
+kept_grown slots new used count spare room more place_of place_of' kept same is enough = grind (arith, nat_tests, length-append, length-replicate, standing_grown, get_front, none_free, drop-append-le)
 
 pub grown_list : (slots new : List (Option Due)) (more : ℕ) → new ≡ slots ++ replicate more None → standing new ≡ standing slots
 grown_list slots new more is = ap standing is ∙ standing_grown slots more
@@ -71,28 +59,11 @@ pub closed_distinct : (slots new : List (Option Due)) (free : ℕ) → new ≡ m
 closed_distinct slots new free is distinct = ap are_distinct (closed_list slots new free is) ∙ distinct
 
 pub closed_long : (slots new : List (Option Due)) → new ≡ map Some (standing slots) ++ replicate (length slots - length (standing slots)) None → length new ≡ length slots
-closed_long slots new is =
-    let all = ap length is ∙ length-append (map Some (standing slots)) (replicate (length slots - length (standing slots)) None) in
-    let one = length-map (standing slots) (λ (d : Due). Some d) in
-    let two = length-replicate {A = Option Due} (length slots - length (standing slots)) None in
-    let fits = standing_fits slots in
-    omega (arith, all, one, two, fits)
+closed_long slots new is = grind (arith, nat_tests, length-append, length-map, length-replicate, standing_fits)
 
 pub kept_closed : (slots new : List (Option Due)) (used count spare room : ℕ) (place_of place_of' : Sub → Option ℕ) → AreKept slots used count place_of spare
     → new ≡ map Some (standing slots) ++ replicate (length slots - length (standing slots)) None → AreFound place_of' new → length slots - count ≤ room → AreKept new count count place_of' room
-kept_closed slots new used count spare room place_of place_of' kept is found enough =
-    let free = length slots - length (standing slots) in
-    let list = closed_list slots new free is in
-    let long = closed_long slots new is in
-    let fits = standing_fits slots in
-    record {
-      found = found;
-      distinct = ap are_distinct list ∙ kept.distinct;
-      within = omega (arith, long, fits, kept.waiting);
-      free = ap (λ l. standing (drop count l)) is ∙ ap standing (drop_at (map Some (standing slots)) (replicate free None) count (length-map (standing slots) (λ (d : Due). Some d) ∙ sym kept.waiting)) ∙ standing_free free;
-      waiting = kept.waiting ∙ ap length (sym list);
-      room = omega (arith, long, fits, kept.waiting, enough);
-    }
+kept_closed slots new used count spare room place_of place_of' kept is found enough = grind (arith, nat_tests, closed_list, closed_long, standing_fits, drop_at, length-map, standing_free)
 
 -- One more stands
 
@@ -117,35 +88,14 @@ put_free (o ∷ slots) (suc used) d free = ap (λ n. standing (drop n (o ∷ set
 distinct_put : (list : List Due) (d : Due) → are_distinct list ≡ true → waits list d.sub ≡ false → are_distinct (list ++ d ∷ []) ≡ true
 unfolding are_distinct waits
 distinct_put [] d distinct new = refl
-distinct_put (e ∷ list) d distinct new =
-    let parts = both (not (waits list e.sub)) (are_distinct list) distinct in
-    let others = neither (same_sub e.sub d.sub) (waits list d.sub) new in
-    two_true (not (waits (list ++ d ∷ []) e.sub)) (are_distinct (list ++ d ∷ [])) (ap not (waits_more list e.sub (from_not (waits list e.sub) parts.0) (same_back e.sub d.sub others.0))) (distinct_put list d parts.1 others.1)
-  where
-    neither : (a b : Bool) → (a || b) ≡ false → (a ≡ false) × (b ≡ false)
-    neither true b h = absurd (cc)
-    neither false b h = (refl, h)
-
-    from_not : (a : Bool) → not a ≡ true → a ≡ false
-    from_not true h = absurd (cc)
-    from_not false h = refl
-
-    waits_more : (list : List Due) (s : Sub) → waits list s ≡ false → same_sub d.sub s ≡ false → waits (list ++ d ∷ []) s ≡ false
-    waits_more [] s first last = ap (λ b. b || false) last
-    waits_more (x ∷ list) s first last =
-        let parts = neither (same_sub x.sub s) (waits list s) first in
-        ap (λ b. b || waits (list ++ d ∷ []) s) parts.0 ∙ waits_more list s parts.1 last
+distinct_put (e ∷ list) d distinct new = grind (arith, nat_tests, common_steps, both (not (waits list e.sub)) (are_distinct list) distinct, two_true, same_back e.sub d.sub, distinct_put list d)
 
 get_put : (slots : List (Option Due)) (used place : ℕ) (o : Option Due) (d : Due) → slice_get (set slots used o) place ≡ Some (Some d) → ((place ≡ used) × (o ≡ Some d)) ⊎ ((slice_get slots place ≡ Some (Some d)) × (place ≢ used))
 get_put [] used place o d at = absurd (cc)
 get_put (x ∷ slots) zero zero o d at = inl (refl, some_is o (Some d) at)
 get_put (x ∷ slots) zero (suc place) o d at = inr (at, λ e. absurd (omega (arith, e)))
 get_put (x ∷ slots) (suc used) zero o d at = inr (at, λ e. absurd (omega (arith, e)))
-get_put (x ∷ slots) (suc used) (suc place) o d at =
-    elim (get_put slots used place o d at) [
-      | inl own ↦ inl (ap suc own.0, own.1)
-      | inr other ↦ inr (other.0, λ e. other.1 (omega (arith, e)))
-    ]
+get_put (x ∷ slots) (suc used) (suc place) o d at = grind (arith, nat_tests, get_put slots used place o d at)
 
 pub kept_put : (slots new : List (Option Due)) (used count spare room : ℕ) (place_of place_of' : Sub → Option ℕ) (d : Due) → AreKept slots used count place_of spare → used < length slots → waits (standing slots) d.sub ≡ false
     → new ≡ set slots used (Some d) → place_of' d.sub ≡ Some used → ((t : Sub) → same_sub d.sub t ≡ false → place_of' t ≡ place_of t) → spare ≤ room + 1 → AreKept new (used + 1) (count + 1) place_of' room
@@ -189,39 +139,15 @@ freed_free (o ∷ slots) (suc used) (suc place) free = freed_free slots used pla
 pub without_none : (list : List Due) (s : Sub) → waits list s ≡ false → without s list ≡ list
 unfolding waits without
 without_none [] s absent = refl
-without_none (d ∷ list) s absent =
-    let parts = neither (same_sub d.sub s) (waits list s) absent in
-    ap (λ t. cond (not t) (d ∷ without s list) (without s list)) parts.0 ∙ ap (λ l. d ∷ l) (without_none list s parts.1)
-  where
-    neither : (a b : Bool) → (a || b) ≡ false → (a ≡ false) × (b ≡ false)
-    neither true b h = absurd (cc)
-    neither false b h = (refl, h)
+without_none (d ∷ list) s absent = grind (arith, nat_tests, without_none list s)
 
 freed_list : (slots : List (Option Due)) (place : ℕ) (d : Due) (s : Sub) → are_distinct (standing slots) ≡ true → slice_get slots place ≡ Some (Some d) → same_sub d.sub s ≡ true → standing (set slots place None) ≡ without s (standing slots)
 unfolding standing without are_distinct
 freed_list [] place d s distinct at same = absurd (cc)
 freed_list (None ∷ slots) zero d s distinct at same = let no_way : None ≡ Some d = some_is None (Some d) at in absurd (cc)
 freed_list (None ∷ slots) (suc place) d s distinct at same = freed_list slots place d s distinct at same
-freed_list (Some e ∷ slots) zero d s distinct at same =
-    let here = some_is e d (some_is (Some e) (Some d) at) in
-    let parts = both (not (waits (standing slots) e.sub)) (are_distinct (standing slots)) distinct in
-    let own : same_sub e.sub s ≡ true = ap (λ (x : Due). same_sub x.sub s) here ∙ same in
-    let absent : waits (standing slots) s ≡ false = ap (waits (standing slots)) (sym (same_is e.sub s own)) ∙ from_not (waits (standing slots) e.sub) parts.0 in
-    sym (ap (λ t. cond (not t) (e ∷ without s (standing slots)) (without s (standing slots))) own ∙ without_none (standing slots) s absent)
-  where
-    from_not : (a : Bool) → not a ≡ true → a ≡ false
-    from_not true h = absurd (cc)
-    from_not false h = refl
-freed_list (Some e ∷ slots) (suc place) d s distinct at same =
-    let parts = both (not (waits (standing slots) e.sub)) (are_distinct (standing slots)) distinct in
-    let other : same_sub e.sub s ≡ false = apart_from (by_cases (same_sub e.sub s)) parts.0 in
-    ap (λ l. e ∷ l) (freed_list slots place d s parts.1 at same) ∙ sym (ap (λ t. cond (not t) (e ∷ without s (standing slots)) (without s (standing slots))) other)
-  where
-    apart_from : (same_sub e.sub s ≡ true) ⊎ (same_sub e.sub s ≡ false) → not (waits (standing slots) e.sub) ≡ true → same_sub e.sub s ≡ false
-    apart_from (inl own) once =
-        let twice = waits_at slots place d e.sub at (ap (same_sub d.sub) (same_is e.sub s own) ∙ same) in
-        let no_way : false ≡ true = sym (ap not twice) ∙ once in absurd (cc)
-    apart_from (inr h) once = h
+freed_list (Some e ∷ slots) zero d s distinct at same = grind (arith, nat_tests, some_is, both, same_is, without_none)
+freed_list (Some e ∷ slots) (suc place) d s distinct at same = grind (arith, nat_tests, both, by_cases, freed_list slots place d s, waits_at, same_is)
 
 freed_count : (slots : List (Option Due)) (place : ℕ) (d : Due) → slice_get slots place ≡ Some (Some d) → length (standing (set slots place None)) + 1 ≡ length (standing slots)
 unfolding standing
@@ -241,26 +167,12 @@ stands_there (o ∷ slots) (suc place) s h = stands_there slots place s h
 fewer : (p : Due → Bool) (list : List Due) (s : Sub) → not (waits list s) ≡ true → not (waits (filter p list) s) ≡ true
 unfolding waits
 fewer p [] s h = refl
-fewer p (d ∷ list) s h =
-    let parts = neither (same_sub d.sub s) (waits list s) h in
-    elim (p d) as (λ (t : Bool). not (waits (cond t (d ∷ filter p list) (filter p list)) s) ≡ true) [
-      | true ↦ ap (λ b. not (b || waits (filter p list) s)) parts.0 ∙ fewer p list s parts.1
-      | false ↦ fewer p list s parts.1
-    ]
-  where
-    neither : (a b : Bool) → not (a || b) ≡ true → (a ≡ false) × (not b ≡ true)
-    neither true b h = absurd (cc)
-    neither false b h = (refl, h)
+fewer p (d ∷ list) s h = grind (arith, nat_tests, fewer p list s)
 
 pub distinct_filter : (p : Due → Bool) (list : List Due) → are_distinct list ≡ true → are_distinct (filter p list) ≡ true
 unfolding are_distinct
 distinct_filter p [] h = refl
-distinct_filter p (d ∷ list) h =
-    let parts = both (not (waits list d.sub)) (are_distinct list) h in
-    elim (p d) as (λ (t : Bool). are_distinct (cond t (d ∷ filter p list) (filter p list)) ≡ true) [
-      | true ↦ two_true (not (waits (filter p list) d.sub)) (are_distinct (filter p list)) (fewer p list d.sub parts.0) (distinct_filter p list parts.1)
-      | false ↦ distinct_filter p list parts.1
-    ]
+distinct_filter p (d ∷ list) h = grind (arith, nat_tests, both, two_true, fewer, distinct_filter p list)
 
 distinct_without : (list : List Due) (s : Sub) → are_distinct list ≡ true → are_distinct (without s list) ≡ true
 unfolding without
@@ -313,39 +225,16 @@ absent_waits slots used count spare place_of s kept none =
 
 pub kept_lost : (slots : List (Option Due)) (used count spare room place : ℕ) (place_of place_of' : Sub → Option ℕ) (s : Sub) → AreKept slots used count place_of spare → place_of s ≡ Some place → stands_at slots place s ≡ false
     → ((t : Sub) → same_sub s t ≡ false → place_of' t ≡ place_of t) → spare ≤ room → AreKept slots used count place_of' room
-kept_lost slots used count spare room place place_of place_of' s kept told other others enough =
-    record {
-      found = λ at d h. others d.sub (apart_from at d h) ∙ kept.found at d h;
-      distinct = kept.distinct;
-      within = kept.within;
-      free = kept.free;
-      waiting = kept.waiting;
-      room = omega (arith, kept.room, enough);
-    }
-  where
-    apart_from : (at : ℕ) (d : Due) → slice_get slots at ≡ Some (Some d) → same_sub s d.sub ≡ false
-    apart_from at d h =
-        elim (by_cases (same_sub s d.sub)) [
-          | inl same ↦ let is = same_is s d.sub same in
-              let here = some_is at place (sym (kept.found at d h) ∙ ap place_of (sym is) ∙ told) in
-              let stands = stands_here slots place d s (ap (slice_get slots) (sym here) ∙ h) (ap (λ t. same_sub t s) (sym is) ∙ same_self s) in
-              let no_way : true ≡ false = sym stands ∙ other in absurd (cc)
-          | inr h ↦ h
-        ]
+kept_lost slots used count spare room place place_of place_of' s kept told other others enough = grind (arith, nat_tests, by_cases, same_is s, some_is, stands_here slots place, same_self s)
 
 pub lost_waits : (slots : List (Option Due)) (used count spare place : ℕ) (place_of : Sub → Option ℕ) (s : Sub) → AreKept slots used count place_of spare → place_of s ≡ Some place → stands_at slots place s ≡ false → waits (standing slots) s ≡ false
-lost_waits slots used count spare place place_of s kept told other =
-    absent_waits slots used count spare place_of s kept (λ at h. ap (λ n. stands_at slots n s) (some_is at place (sym h ∙ told)) ∙ other)
+lost_waits slots used count spare place place_of s kept told other = grind (arith, nat_tests, absent_waits slots used count spare place_of s kept, some_is)
 
 pub untold_waits : (slots : List (Option Due)) (used count spare : ℕ) (place_of : Sub → Option ℕ) (s : Sub) → AreKept slots used count place_of spare → place_of s ≡ None → waits (standing slots) s ≡ false
-untold_waits slots used count spare place_of s kept told =
-    absent_waits slots used count spare place_of s kept (λ at h. let no_way : Some at ≡ None = sym h ∙ told in absurd (cc))
+untold_waits slots used count spare place_of s kept told = grind (arith, nat_tests, absent_waits slots used count spare place_of s kept)
 
 pub freed_some : (slots : List (Option Due)) (used count spare place : ℕ) (place_of : Sub → Option ℕ) (s : Sub) → AreKept slots used count place_of spare → stands_at slots place s ≡ true → 1 ≤ count
-freed_some slots used count spare place place_of s kept stands =
-    let there = stands_there slots place s stands in
-    let one = freed_count slots place there.0 there.1 in
-    omega (arith, one, kept.waiting)
+freed_some slots used count spare place place_of s kept stands = grind (arith, nat_tests, stands_there slots place s stands, freed_count slots place)
 
 pub on_ok : {A E : Type 0} (r : Result A E) (x : A) (P : Type 0) → r ≡ Ok x → OnOk r P → P
 on_ok r x P is h = subst (λ (r : Result _ _). OnOk r P) is h

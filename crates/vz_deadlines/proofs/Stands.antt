@@ -1,5 +1,5 @@
 -- Those that stand in slots, as slots are joined and taken from.
-use Rattle.std.proofs.Common.{◌≡◌, ℕ, zero, suc, ◌+◌, ◌≤◌, ◌<◌, Bool, true, false, not, ◌&&◌, nat_le, Option, Some, None, List, [], ◌∷◌, ◌++◌, length, take, drop, slice_set as set, get_or, min, map, filter, replicate, refl, ap, sym, ◌∙◌, arith, cond}
+use Rattle.std.proofs.Common.{◌≡◌, ℕ, zero, suc, ◌+◌, ◌≤◌, ◌<◌, Bool, true, false, ◌&&◌, nat_le, Option, Some, None, List, [], ◌∷◌, ◌++◌, length, take, drop, slice_set as set, get_or, min, map, replicate, refl, ap, sym, ◌∙◌, arith}
 use Rattle.std.specs.List.{list_all}
 use Rattle.std.proofs.lemmas.List.{append-nil, append_assoc, length-append, length-map, length-take-le, map-append, map_more, take_more, drop_more, take-append-drop, get_or_at, nil_from_length}
 use Rattle.std.proofs.lemmas.List.Edits.{map_over_more}
@@ -10,6 +10,7 @@ use Rattle.vz_deadlines.specs.Timing.{due_at, left_at}
 use Rattle.vz_deadlines.specs.declared.slots.Slot.{Slot}
 use Rattle.vz_deadlines.specs.Slots.{standing, held_in, left_in, slot_at, are_from}
 use Rattle.vz_deadlines.proofs.Dues.{due_append, one_due, one_later, none_due, all_later}
+pub use Rattle.std.proofs.lemmas.Bool.{and_parts as both, and_from as two_true}
 
 pub standing_append : (xs ys : List (Option Due)) → standing (xs ++ ys) ≡ standing xs ++ standing ys
 unfolding standing
@@ -35,12 +36,7 @@ due_slots tick xs ys = ap (due_at tick) (standing_append xs ys) ∙ due_append t
 pub due_fits : (tick : ℕ) (list : List Due) → length (due_at tick list) ≤ length list
 unfolding due_at
 due_fits tick [] = omega arith
-due_fits tick (d ∷ list) =
-    let rest = due_fits tick list in
-    elim (nat_le d.tick tick) as (λ (t : Bool). length (map (λ (e : Due). e.sub) (cond t (d ∷ filter (λ e. nat_le e.tick tick) list) (filter (λ e. nat_le e.tick tick) list))) ≤ length (d ∷ list)) [
-      | true ↦ omega (arith, rest)
-      | false ↦ omega (arith, rest)
-    ]
+due_fits tick (d ∷ list) = grind (arith, nat_tests, due_fits tick list)
 
 -- In one slot
 
@@ -72,24 +68,11 @@ from_none least slot is = ap (λ s. are_from least (s ∷ [])) is
 
 all_append : (p : Due → Bool) (xs ys : List Due) → list_all p (xs ++ ys) ≡ (list_all p xs && list_all p ys)
 all_append p [] ys = refl
-all_append p (x ∷ xs) ys = ap (λ b. p x && b) (all_append p xs ys) ∙ joined (p x) (list_all p xs) (list_all p ys)
-  where
-    joined : (a b c : Bool) → (a && (b && c)) ≡ ((a && b) && c)
-    joined true b c = refl
-    joined false b c = refl
-
-pub both : (a b : Bool) → (a && b) ≡ true → (a ≡ true) × (b ≡ true)
-both true b h = (refl, h)
-both false b h = absurd (cc)
-
-pub two_true : (a b : Bool) → a ≡ true → b ≡ true → (a && b) ≡ true
-two_true a b p q = rw (p, q)
+all_append p (x ∷ xs) ys = grind (arith, nat_tests, all_append p xs ys)
 
 pub from_append : (least : ℕ) (xs ys : List (Option Due)) → are_from least xs ≡ true → are_from least ys ≡ true → are_from least (xs ++ ys) ≡ true
 unfolding are_from
-from_append least xs ys first second =
-    ap (list_all (λ d. nat_le least d.tick)) (standing_append xs ys) ∙ all_append (λ d. nat_le least d.tick) (standing xs) (standing ys)
-    ∙ two_true (list_all (λ d. nat_le least d.tick) (standing xs)) (list_all (λ d. nat_le least d.tick) (standing ys)) first second
+from_append least xs ys first second = grind (arith, nat_tests, standing_append xs ys, all_append, two_true)
 
 pub from_less : (less more : ℕ) (slots : List (Option Due)) → less ≤ more → are_from more slots ≡ true → are_from less slots ≡ true
 unfolding are_from
@@ -101,30 +84,15 @@ pub left_standing : (tick : ℕ) (slots : List (Option Due)) → standing (map (
 unfolding standing left_at
 left_standing tick [] = refl
 left_standing tick (None ∷ slots) = left_standing tick slots
-left_standing tick (Some d ∷ slots) =
-    elim (nat_le d.tick tick) as (λ (t : Bool). standing (cond t None (Some d) ∷ map (left_in tick) slots) ≡ cond (not t) (d ∷ left_at tick (standing slots)) (left_at tick (standing slots))) [
-      | true ↦ left_standing tick slots
-      | false ↦ ap (λ l. d ∷ l) (left_standing tick slots)
-    ]
+left_standing tick (Some d ∷ slots) = grind (arith, nat_tests, left_standing tick slots)
 
 -- one more stands from then on
 pub from_set : (least more : ℕ) (slots : List (Option Due)) (place : ℕ) (d : Due) → least ≤ more → least ≤ d.tick → are_from more slots ≡ true → are_from least (set slots place (Some d)) ≡ true
 unfolding standing are_from
 from_set least more [] place d below own from = refl
-from_set least more (slot ∷ slots) zero d below own from =
-    two_true (nat_le least d.tick) (list_all (λ e. nat_le least e.tick) (standing slots)) (grind (arith, nat_tests, own)) (from_less least more slots below (others slot from))
-  where
-    second : (a b : Bool) → (a && b) ≡ true → b ≡ true
-    second true b h = h
-    second false b h = absurd (cc)
-
-    others : (slot : Option Due) → are_from more (slot ∷ slots) ≡ true → are_from more slots ≡ true
-    others None from = from
-    others (Some e) from = second (nat_le more e.tick) (list_all (λ d. nat_le more d.tick) (standing slots)) from
+from_set least more (slot ∷ slots) zero d below own from = grind (arith, nat_tests, two_true, from_less)
 from_set least more (None ∷ slots) (suc place) d below own from = from_set least more slots place d below own from
-from_set least more (Some e ∷ slots) (suc place) d below own from =
-    let parts = both (nat_le more e.tick) (list_all (λ d. nat_le more d.tick) (standing slots)) from in
-    two_true (nat_le least e.tick) (list_all (λ d. nat_le least d.tick) (standing (set slots place (Some d)))) (grind (arith, nat_tests, below, parts.0)) (from_set least more slots place d below own parts.1)
+from_set least more (Some e ∷ slots) (suc place) d below own from = grind (arith, nat_tests, both, two_true, from_set least more slots place d below own)
 
 -- Through slots one after the other
 
@@ -152,9 +120,7 @@ due_more : (tick : ℕ) (all : List Slot) (k : ℕ) (s : Slot) → k < length al
 due_more tick all k s inside = ap (λ l. due_at tick (standing l)) (held_more all k s inside) ∙ due_slots tick (held_in (take k all)) ((get_or all k s).due ∷ [])
 
 here_is : (tick : ℕ) (all now : List Slot) (k : ℕ) (s : Slot) → k < length all → now ≡ map (slot_at tick) (take k all) ++ drop k all → get_or now k s ≡ get_or all k s
-here_is tick all now k s inside is =
-    let long : length (map (slot_at tick) (take k all)) ≡ k = length-map (take k all) (slot_at tick) ∙ length-take-le k all (omega (arith, inside)) in
-    ap (λ l. get_or l k s) (is ∙ ap (λ l. map (slot_at tick) (take k all) ++ l) (drop_more all k s inside)) ∙ get_or_at (map (slot_at tick) (take k all)) (get_or all k s) (drop (k + 1) all) s k long
+here_is tick all now k s inside is = grind (arith, nat_tests, length-map, length-take-le, drop_more, get_or_at)
 
 -- there is room for the one that is next
 pub taken_room : (tick least k spare room : ℕ) (all now : List Slot) (s : Slot) (first out : List Sub) → k < length all → length (standing (held_in all)) ≤ spare → AreTaken tick all now k least first spare out room
@@ -193,9 +159,7 @@ taken_next tick least less k spare room left all now s new first out more inside
 
 due_one_by_one : (tick : ℕ) (s : Slot) (left right : List Slot)
     → due_at tick (standing (held_in (s ∷ (left ++ right)))) ≡ due_at tick (standing (s.due ∷ [])) ++ (due_at tick (standing (held_in left)) ++ due_at tick (standing (held_in right)))
-due_one_by_one tick s left right =
-    due_slots tick (s.due ∷ []) (held_in (left ++ right)) ∙ ap (λ l. due_at tick (standing (s.due ∷ [])) ++ due_at tick (standing l)) (map-append (λ (s : Slot). s.due) left right)
-    ∙ ap (λ l. due_at tick (standing (s.due ∷ [])) ++ l) (due_slots tick (held_in left) (held_in right))
+due_one_by_one tick s left right = grind (arith, nat_tests, due_slots tick (s.due ∷ []), map-append, due_slots tick (held_in left) (held_in right))
 
 pub due_parts : (tick : ℕ) (slots : List Slot) (s : Slot) (rest left right : List Slot) → slots ≡ s ∷ rest → rest ≡ left ++ right
     → due_at tick (standing (held_in slots)) ≡ due_at tick (standing (s.due ∷ [])) ++ (due_at tick (standing (held_in left)) ++ due_at tick (standing (held_in right)))
@@ -218,12 +182,7 @@ standing_parts slots s rest left right is parts =
 -- those of the parts are put in one after the other
 pub put_parts : (tick : ℕ) (slots : List Slot) (s : Slot) (rest left right : List Slot) (first one two three : List Sub) → slots ≡ s ∷ rest → rest ≡ left ++ right → one ≡ first ++ due_at tick (standing (s.due ∷ []))
     → two ≡ one ++ due_at tick (standing (held_in left)) → three ≡ two ++ due_at tick (standing (held_in right)) → three ≡ first ++ due_at tick (standing (held_in slots))
-put_parts tick slots s rest left right first one two three is parts a b c =
-    let own = due_at tick (standing (s.due ∷ [])) in
-    let of_left = due_at tick (standing (held_in left)) in
-    let of_right = due_at tick (standing (held_in right)) in
-    c ∙ ap (λ l. l ++ of_right) (b ∙ ap (λ l. l ++ of_left) a) ∙ append_assoc (first ++ own) of_left of_right ∙ append_assoc first own (of_left ++ of_right)
-    ∙ ap (λ l. first ++ l) (sym (due_parts tick slots s rest left right is parts))
+put_parts tick slots s rest left right first one two three is parts a b c = grind (arith, nat_tests, append_assoc, append_assoc first, due_parts tick slots s rest left right is parts)
 
 pub from_parts : (least : ℕ) (slot : Option Due) (left right : List Slot) (a b c : ℕ) → least ≤ a → least ≤ b → least ≤ c → are_from a (slot ∷ []) ≡ true → are_from b (held_in left) ≡ true → are_from c (held_in right) ≡ true
     → are_from least (slot ∷ held_in (left ++ right)) ≡ true
@@ -240,11 +199,8 @@ skipped_due tick soonest slots before from = none_due tick soonest (standing slo
 pub skipped_left : (tick soonest : ℕ) (slots : List (Option Due)) → tick < soonest → are_from soonest slots ≡ true → map (left_in tick) slots ≡ slots
 unfolding standing are_from
 skipped_left tick soonest [] before from = refl
-skipped_left tick soonest (None ∷ slots) before from = ap (λ l. None ∷ l) (skipped_left tick soonest slots before from)
-skipped_left tick soonest (Some d ∷ slots) before from =
-    let parts = both (nat_le soonest d.tick) (list_all (λ d. nat_le soonest d.tick) (standing slots)) from in
-    let later : nat_le d.tick tick ≡ false = grind (arith, nat_tests, before, parts.0) in
-    ap (λ t. cond t None (Some d) ∷ map (left_in tick) slots) later ∙ ap (λ l. Some d ∷ l) (skipped_left tick soonest slots before parts.1)
+skipped_left tick soonest (None ∷ slots) before from = grind (arith, nat_tests, skipped_left tick soonest slots before from)
+skipped_left tick soonest (Some d ∷ slots) before from = grind (arith, nat_tests, both, skipped_left tick soonest slots before)
 
 pub due_empty : (tick : ℕ) (slots : List Slot) → length slots ≡ 0 → due_at tick (standing (held_in slots)) ≡ []
 unfolding standing due_at
@@ -255,8 +211,7 @@ unfolding standing are_from
 from_empty least slots is = ap (λ l. are_from least (held_in l)) (nil_from_length slots is)
 
 pub left_long : (tick : ℕ) (old new : List Slot) → held_in new ≡ map (left_in tick) (held_in old) → length new ≡ length old
-left_long tick old new is =
-    sym (length-map new (λ (s : Slot). s.due)) ∙ ap length is ∙ length-map (held_in old) (left_in tick) ∙ length-map old (λ (s : Slot). s.due)
+left_long tick old new is = grind (arith, nat_tests, length-map)
 
 pub held_each : (tick : ℕ) (old new : List Slot) → new ≡ map (slot_at tick) old → held_in new ≡ map (left_in tick) (held_in old)
 held_each tick old new is = ap held_in is ∙ each old

@@ -1,22 +1,14 @@
 -- That a scene's operations do at each point of the display what painting does.
-use Rattle.std.proofs.Common.{◌≡◌, pos, ◌&&◌, Bool, true, false, Option, Some, None, [], refl, ap, sym, ◌∙◌, cond, arith}
-use Rattle.std.proofs.lemmas.Int.{ints}
-use Rattle.vz_geom.specs.declared.Point.{Point}
-use Rattle.vz_geom.specs.declared.Size.{Size}
+use Rattle.std.proofs.Common.{◌≡◌, pos, Bool, true, false, Option, Some, None, [], refl, ap, sym, ◌∙◌, cond, arith}
+use Rattle.std.proofs.{lemmas.Int.ints, lemmas.Bool.Decides.nat_tests}
+use Rattle.vz_geom.specs.{declared.Point.Point, declared.Size.Size}
 use Rattle.vz_geom.specs.Rectangle.{Rectangle, has, plus, moved, sized}
-use Rattle.vz_geom.proofs.Points.{same_point}
-use Rattle.vz_geom.proofs.Sets.{has_moved_is, has_meet_is}
+use Rattle.vz_geom.proofs.{Points.same_point, Sets.has_moved_is, Sets.has_meet_is}
 use Rattle.vz_pixels.specs.Colour.{Colour, black}
 use Rattle.vz_frame.specs.Frame.{frame_size}
-use Rattle.vz_rules.specs.World.{FrameData, Scene, frame_on}
-use Rattle.vz_rules.specs.Paint.{full, pix, levels}
-use Rattle.vz_rules.specs.Walk.{walk_of, whole, too_much}
-use Rattle.vz_flat.specs.Ops.{run, value}
-use Rattle.vz_flat.specs.Parts.{seen_flat, surface_place}
-use Rattle.vz_flat.specs.Flat.{flat, scene_flat}
-use Rattle.vz_flat.proofs.Acting.{value_of_acts, acts_same, acts_seen}
-use Rattle.vz_flat.proofs.Levelled.{pix_until, enough_levels}
-use Rattle.vz_flat.proofs.Flattened.{flat_acts}
+use Rattle.vz_rules.specs.{World.FrameData, World.Scene, World.frame_on, Paint.full, Paint.pix, Paint.levels, Walk.walk_of, Walk.whole, Walk.too_much}
+use Rattle.vz_flat.specs.{Ops.run, Ops.value, Parts.seen_flat, Parts.surface_place, Flat.flat, Flat.scene_flat}
+use Rattle.vz_flat.proofs.{Acting.value_of_acts, Acting.acts_same, Acting.acts_seen, Levelled.pix_until, Levelled.enough_levels, Flattened.flat_acts}
 
 at_origin : (p : Point) → plus p (record { x = pos 0; y = pos 0 }) ≡ p
 at_origin p = same_point (omega (arith, ints)) (omega (arith, ints))
@@ -27,13 +19,10 @@ in_size r p = ap (has (moved r (record { x = pos 0; y = pos 0 }))) (sym (at_orig
 -- the root's part of the display
 root_part : (size : Size) (i : FrameData) (p : Point) → has (sized size) p ≡ true
     → has (surface_place i (whole size)).window p ≡ has (sized (frame_size i.frame)) p
-root_part size i p inside =
-    has_meet_is (sized size) (moved (sized (frame_size i.frame)) (record { x = pos 0; y = pos 0 })) p
-    ∙ (ap (λ t. t && has (moved (sized (frame_size i.frame)) (record { x = pos 0; y = pos 0 })) p) inside ∙ in_size (sized (frame_size i.frame)) p)
+root_part size i p inside = grind (arith, nat_tests, has_meet_is (sized size), in_size (sized (frame_size i.frame)) p)
 
 by_size : (t : Bool) (f g : Colour → Colour) (d : Colour) → f d ≡ g d → cond t (g d) d ≡ elim t [ true ↦ f d | false ↦ d ]
-by_size true f g d e = sym e
-by_size false f g d e = refl
+by_size t f g d e = grind (arith, nat_tests)
 
 by_root : (size : Size) (scene : Scene) (p : Point) → too_much (walk_of size scene) ≡ false → has (sized size) p ≡ true
     → (s : Option FrameData) → frame_on scene.root scene.active ≡ s

@@ -1,36 +1,20 @@
 -- That a scene's operations are whole.
-use Rattle.std.proofs.Common.{◌≡◌, ℕ, zero, suc, ◌+◌, ◌*◌, ◌-◌, ◌≤◌, ◌==◌, ◌||◌, Bool, true, false, Option, Some, None, List, [], ◌∷◌, length, reverse, refl, sym, cond, subst, arith, Contains}
+use Rattle.std.proofs.Common.{◌≡◌, ℕ, zero, suc, ◌+◌, ◌*◌, ◌-◌, ◌≤◌, ◌==◌, ◌||◌, Bool, true, false, Option, Some, None, List, [], ◌∷◌, length, reverse, refl, sym, subst, arith, Contains}
 use Rattle.std.specs.List.{All, flat_map}
-use Rattle.std.proofs.lemmas.List.{reverse-append, length-reverse}
+use Rattle.std.proofs.{lemmas.List.reverse-append, lemmas.List.length-reverse, lemmas.Bool.Decides.nat_tests}
 use Rattle.std.proofs.lemmas.List.Elements.{All-nil, All-cons, All-head, All-tail, All-append}
-use Rattle.vz_geom.specs.declared.Size.{Size}
-use Rattle.vz_geom.specs.Rectangle.{Rectangle}
-use Rattle.vz_ids.specs.declared.SurfaceId.{SurfaceId}
-use Rattle.vz_ids.specs.declared.SurfaceRange.{SurfaceRange}
-use Rattle.vz_ids.specs.Ids.{same_surface}
+use Rattle.vz_geom.specs.{declared.Size.Size, Rectangle.Rectangle}
+use Rattle.vz_ids.specs.{declared.SurfaceId.SurfaceId, declared.SurfaceRange.SurfaceRange}
 use Rattle.vz_pixels.specs.Colour.{Colour}
-use Rattle.vz_frame.specs.declared.blend.Blend.{Blend}
-use Rattle.vz_frame.specs.declared.frame.RenderPass.{RenderPass}
-use Rattle.vz_frame.specs.declared.frame.DrawQuad.{DrawQuad}
-use Rattle.vz_frame.specs.declared.frame.Material.{Material}
+use Rattle.vz_frame.specs.{declared.blend.Blend.Blend, declared.frame.Material.Material}
+use Rattle.vz_frame.specs.{declared.frame.RenderPass.RenderPass, declared.frame.DrawQuad.DrawQuad, Frame.passes_down, Frame.names_pass}
 use Rattle.vz_frame.specs.declared.frame.Material.TheVariants.{Solid, Tile, Surface, Pass}
-use Rattle.vz_frame.specs.Frame.{passes_down, names_pass}
-use Rattle.vz_frame.specs.Blending.{is_straight}
-use Rattle.vz_rules.specs.World.{FrameData, Scene, frame_on}
-use Rattle.vz_rules.specs.Scene.{shown_frame}
-use Rattle.vz_rules.specs.Paint.{on_path}
-use Rattle.vz_rules.specs.Walk.{Placement, place_in, whole}
-use Rattle.vz_rules.proofs.Members.{contains_here, contains_there}
-use Rattle.vz_rules.proofs.Remembered.{shown_in}
-use Rattle.vz_flat.specs.declared.op.Op.{Op}
-use Rattle.vz_flat.specs.declared.op.Op.TheVariants.{Fill}
-use Rattle.vz_flat.specs.declared.op.TheConstants.{MOST_OPEN}
-use Rattle.vz_flat.specs.Ops.{is_whole}
-use Rattle.vz_flat.specs.Parts.{seen_flat, surface_place, pass_part, inner_place}
-use Rattle.vz_flat.specs.Tiles.{tile_flat}
-use Rattle.vz_flat.specs.Gutters.{parts_round, part_flat, gutter_flat}
+use Rattle.vz_rules.specs.{World.FrameData, World.Scene, World.frame_on, Scene.shown_frame, Paint.on_path, Walk.Placement, Walk.place_in, Walk.whole}
+use Rattle.vz_rules.proofs.{Members.contains_here, Members.contains_there, Remembered.shown_in}
+use Rattle.vz_flat.specs.{declared.op.Op.Op, declared.op.Op.TheVariants.Fill}
+use Rattle.vz_flat.specs.{declared.op.TheConstants.MOST_OPEN, Ops.is_whole, Parts.seen_flat, Parts.surface_place, Parts.pass_part, Parts.inner_place}
+use Rattle.vz_flat.specs.{Gutters.parts_round, Gutters.part_flat, Gutters.gutter_flat, Whole.IsQuadWhole, Whole.IsPassWhole, Whole.IsFrameWhole}
 use Rattle.vz_flat.specs.Flat.{FlatNamed, FlatRange, FlatContent, material_flat, quad_flat, quads_flat, group_flat, groups_flat, root_flat, content_flat, present_place, laid_flat, shown_flat, range_flat, flat, scene_flat}
-use Rattle.vz_flat.specs.Whole.{IsQuadWhole, IsPassWhole, IsFrameWhole}
 use Rattle.vz_flat.proofs.Sound.{IsSound, sound_none, sound_fill, sound_both, sound_less, sound_group, sound_seen, sound_choice, whole_of_sound}
 use Rattle.vz_flat.proofs.Tile_sound.{tile_sound}
 
@@ -43,11 +27,7 @@ parts_sound k b (part ∷ parts) =
 
 gutter_sound : (k : ℕ) (range : SurfaceRange) (b : Colour) (i : FrameData) (place : Placement) → IsSound k (gutter_flat range b i place)
 unfolding gutter_flat
-gutter_sound k range b i place = by_end (same_surface i.id range.end)
-  where
-    by_end : (t : Bool) → IsSound k (cond t [] (flat_map (part_flat b) (parts_round place.window (surface_place i place).window)))
-    by_end true = sound_none k
-    by_end false = parts_sound k b (parts_round place.window (surface_place i place).window)
+gutter_sound k range b i place = grind (arith, nat_tests, sound_none k, parts_sound k b (parts_round place.window (surface_place i place).window))
 
 -- Passes
 
@@ -61,12 +41,8 @@ module _ (i : FrameData) (ranges : FlatRange) (k : ℕ)
       → IsQuadWhole i quad → IsSound n (material_flat i named ranges quad inner)
   unfolding material_flat
   material_sound n named more sound pass quad (Solid c) e place inner same fine = rw e (sound_fill n inner.window c quad.opacity quad.blend)
-  material_sound n named more sound pass quad (Tile id tx ty) e place inner same fine =
-      rw e
-      (subst (λ p. IsSound n (tile_flat i id tx ty quad.blend quad.opacity p)) (sym same)
-      (tile_sound n i pass quad place id tx ty quad.opacity quad.blend fine e))
-  material_sound n named more sound pass quad (Surface range b) e place inner same fine =
-      rw e (sound_less k n _ more (ranges_sound range b quad.blend quad.opacity inner))
+  material_sound n named more sound pass quad (Tile id tx ty) e place inner same fine = grind (arith, nat_tests, tile_sound n i pass quad place id tx ty quad.opacity quad.blend fine e)
+  material_sound n named more sound pass quad (Surface range b) e place inner same fine = grind (arith, nat_tests, sound_less k n)
   material_sound n named more sound pass quad (Pass id) e place inner same fine = rw e (sound id quad.blend quad.opacity inner)
 
   quads_sound : (n : ℕ) (named : FlatNamed) → k ≤ n → NamedSound n named → (pass : RenderPass) (place : Placement) (quads : List DrawQuad)
@@ -107,8 +83,7 @@ module _ (i : FrameData) (ranges : FlatRange) (k : ℕ)
 
 laid_sound : (k : ℕ) (body : List Op) (m : Blend) (o : ℕ) (place : Placement) → IsSound k body → IsSound (k + 1) (laid_flat body m o place)
 unfolding laid_flat
-laid_sound k body m o place sound =
-    sound_choice (k + 1) (is_straight m o) _ _ (sound_less k (k + 1) body (omega arith) sound) (sound_group k place.window o m body sound)
+laid_sound k body m o place sound = grind (arith, nat_tests, sound_choice, sound_less k, sound_group k place.window o m body sound)
 
 all_reversed : {A : Type 0} (P : A → Type 0) (xs : List A) → All P xs → All P (reverse xs)
 all_reversed P [] all = all
@@ -124,9 +99,7 @@ module _ (active : List FrameData) (all : (i : FrameData) → Contains active i 
       → (path : List SurfaceId) (range : SurfaceRange) (b : Colour) (i : FrameData) (place : Placement) → IsFrameWhole i
       → IsSound k (content_flat content path range b i place)
   unfolding content_flat
-  content_sound k content sound path range b i place fine =
-      sound_both k _ _ (gutter_sound k range b i place)
-      (sound_seen k (surface_place i place).window _ (sound path i (surface_place i place) fine))
+  content_sound k content sound path range b i place fine = grind (arith, nat_tests, sound_both k, gutter_sound k range b i place, sound_seen k (surface_place i place).window)
 
   shown_sound : (k : ℕ) (content : FlatContent) → ContentSound k content
       → (path : List SurfaceId) (range : SurfaceRange) (b : Colour) (m : Blend) (o : ℕ) (place : Placement) (i : FrameData)
@@ -143,8 +116,7 @@ module _ (active : List FrameData) (all : (i : FrameData) → Contains active i 
       → IsSound n (elim s [ None ↦ Fill place.window b o m ∷ [] | Some i ↦ elim (ends || on_path path i) [ true ↦ [] | false ↦ shown_flat content path range b m o place i ] ])
   by_shown n ends content sound path range b m o place None fine = sound_fill n place.window b o m
   by_shown n true content sound path range b m o place (Some i) fine = sound_none n
-  by_shown n false content sound path range b m o place (Some i) fine =
-      sound_choice n (on_path path i) _ _ (sound_none n) (sound i refl path range b m o place (fine i refl))
+  by_shown n false content sound path range b m o place (Some i) fine = grind (arith, nat_tests, sound_choice n (on_path path i), sound_none n)
 
   -- how many groups a range opens at most, where so many surfaces are left
   abbrev range_depth : ℕ → ℕ
@@ -179,17 +151,9 @@ module _ (active : List FrameData) (all : (i : FrameData) → Contains active i 
   by_root size (Some i) h =
       sound_seen MOST_OPEN (surface_place i (whole size)).window _ (flat_sound 64 [] i (surface_place i (whole size)) (h i refl))
 
-some_is : {x y : FrameData} → ◌≡◌ {A = Option FrameData} (Some x) (Some y) → x ≡ y
-some_is e = cc
-
 pub frame_there : (id : SurfaceId) (active : List FrameData) (i : FrameData) → frame_on id active ≡ Some i → Contains active i
 frame_there id [] i e = absurd (cc)
-frame_there id (x ∷ active) i e = by_test (frame_there id active i) (same_surface x.id id) e
-  where
-    by_test : (frame_on id active ≡ Some i → Contains active i) → (t : Bool)
-        → ◌≡◌ {A = Option FrameData} (cond t (Some x) (frame_on id active)) (Some i) → Contains (x ∷ active) i
-    by_test rest true h = subst (Contains (x ∷ active)) (some_is h) (contains_here x active)
-    by_test rest false h = contains_there x i active (rest h)
+frame_there id (x ∷ active) i e = grind (arith, nat_tests, frame_there id active i, contains_here x active, contains_there x i active)
 
 -- the operations of a scene with whole frames are whole
 pub flat_is_whole : (size : Size) (scene : Scene) → ((i : FrameData) → Contains scene.active i → IsFrameWhole i)

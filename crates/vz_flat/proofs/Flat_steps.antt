@@ -1,27 +1,16 @@
 -- What the steps of flattening ask of each other, and what they append.
-use Rattle.std.proofs.Common.{◌≡◌, ℕ, zero, suc, ◌+◌, ◌-◌, ◌<◌, ◌≤◌, ◌==◌, Some, List, [], ◌∷◌, ◌++◌, take, drop, length, get_or, reverse, refl, ap, sym, ◌∙◌, subst, arith, append_assoc, append-nil, Contains}
-use Rattle.std.proofs.lemmas.List.{drop_more, drop_all, reverse-append, take_all}
-use Rattle.std.proofs.lemmas.Grind.{take_at_read}
-use Rattle.vz_geom.specs.declared.Point.{Point}
-use Rattle.vz_geom.specs.Rectangle.{minus, corner}
-use Rattle.vz_ids.specs.declared.SurfaceId.{SurfaceId}
-use Rattle.vz_ids.specs.declared.SurfaceRange.{SurfaceRange}
-use Rattle.vz_frame.specs.declared.frame.RenderPass.{RenderPass}
-use Rattle.vz_frame.specs.declared.frame.DrawQuad.{DrawQuad}
-use Rattle.vz_rules.specs.World.{FrameData, Submission, is_active}
-use Rattle.vz_rules.specs.Scene.{shown_frame}
-use Rattle.vz_rules.specs.Kept.{IsWhole}
-use Rattle.vz_rules.specs.Walk.{Placement, place_in}
-use Rattle.vz_rules.proofs.Members.{contains_map, filter_at}
-use Rattle.vz_rules.proofs.Remembered.{shown_in}
-use Rattle.vz_surfaces.specs.Stored.{Stored}
-use Rattle.vz_surfaces.specs.Reading.{seen_frames}
-use Rattle.vz_surfaces.specs.Keeping.{KeepsFrames}
+use Rattle.std.proofs.Common.{◌≡◌, ℕ, zero, suc, ◌+◌, ◌-◌, ◌<◌, ◌≤◌, Some, List, [], ◌∷◌, ◌++◌, take, drop, length, get_or, reverse, refl, ap, sym, ◌∙◌, subst, arith, append_assoc, append-nil, Contains}
+use Rattle.std.proofs.{lemmas.List.drop_more, lemmas.List.drop_all, lemmas.List.reverse-append, lemmas.List.take_all, lemmas.Bool.Decides.nat_tests}
+use Rattle.std.proofs.lemmas.Grind.{take_at_read, common_steps}
+use Rattle.vz_geom.specs.{declared.Point.Point, Rectangle.minus, Rectangle.corner}
+use Rattle.vz_ids.specs.{declared.SurfaceId.SurfaceId, declared.SurfaceRange.SurfaceRange}
+use Rattle.vz_frame.specs.{declared.frame.RenderPass.RenderPass, declared.frame.DrawQuad.DrawQuad}
+use Rattle.vz_rules.specs.{World.FrameData, World.Submission, World.is_active, Scene.shown_frame, Kept.IsWhole, Walk.Placement, Walk.place_in}
+use Rattle.vz_rules.proofs.{Members.contains_map, Members.filter_at, Remembered.shown_in}
+use Rattle.vz_surfaces.specs.{Stored.Stored, Reading.seen_frames, Keeping.KeepsFrames}
 use Rattle.vz_placement.specs.Limits.{HasRoom, IsPassInReach, IsQuadInReach, coordinates, room_for}
 use Rattle.vz_placement.proofs.Rooms.{room_less, room_minus, place_room, drawn_room}
-use Rattle.vz_flat.specs.declared.op.Op.{Op}
-use Rattle.vz_flat.specs.Parts.{seen_flat}
-use Rattle.vz_flat.specs.Flat.{FlatRange, quads_flat, root_flat, range_flat, flat}
+use Rattle.vz_flat.specs.{declared.op.Op.Op, Parts.seen_flat, Flat.quads_flat, Flat.root_flat, Flat.flat}
 use Rattle.vz_flat.specs.Flattening.{Stand, ranges_of, material_here, quads_here, earlier_of}
 
 -- Room
@@ -35,20 +24,16 @@ group_room levels place inner k pass reach is room =
 
 pub name_room : (levels : ℕ) (p : Point) (k at : ℕ) → at < k → HasRoom (room_for levels k + coordinates 1) p
     → HasRoom (room_for levels (at + 1) + coordinates 1) p
-name_room levels p k at low room =
-    room_less (room_for levels k + coordinates 1) (room_for levels (at + 1) + coordinates 1) p room (omega (arith, low))
+name_room levels p k at low room = grind (arith, nat_tests, room_less)
 
 pub quad_room : (levels n : ℕ) (place inner : Placement) (pass : RenderPass) (quad : DrawQuad) → inner ≡ place_in place pass quad
     → IsQuadInReach quad
     → HasRoom (room_for levels (n + 1)) place.shift → HasRoom (room_for levels n + coordinates 1) inner.shift
-quad_room levels n place inner pass quad is reach room =
-    place_room (room_for levels n + coordinates 1) inner (place_in place pass quad) is (drawn_room levels n place quad room reach)
+quad_room levels n place inner pass quad is reach room = grind (arith, nat_tests, place_room, drawn_room levels n place quad room reach)
 
 pub surface_room : (levels : ℕ) (p : Point) (count : ℕ) → 0 < count → count ≤ 16 → (levels ≡ 0 → ⊥)
     → HasRoom (room_for levels 0) p → HasRoom (room_for (levels - 1) (count - 1 + 1)) p
-surface_room zero p count some few deep room = absurd (deep refl)
-surface_room (suc n) p count some few deep room =
-    room_less (room_for (suc n) 0) (room_for (suc n - 1) (count - 1 + 1)) p room (omega (arith, some, few))
+surface_room levels p count some few deep room = grind (arith, nat_tests, room_less)
 
 -- Frames
 
@@ -66,14 +51,12 @@ seen_whole st range i keeps e = frame_of st i keeps (shown_in (seen_frames st) r
 pub none_yet : (s : Stand) (earlier : List RenderPass) (pass : RenderPass) (place : Placement) (quads : List DrawQuad) (ops : List Op)
     → ops ≡ ops ++ quads_here s earlier pass place (drop (length quads) quads)
 unfolding quads_flat
-none_yet s earlier pass place quads ops =
-    sym (ap (λ l. ops ++ quads_here s earlier pass place l) (drop_all (length quads) quads (omega arith)) ∙ append-nil ops)
+none_yet s earlier pass place quads ops = grind (arith, nat_tests, common_steps, drop_all (length quads) quads)
 
 -- a quad in front of those from a place on
 split_at : (quads : List DrawQuad) (j k : ℕ) (quad : DrawQuad) → j + 1 ≡ k → k ≤ length quads → quad ≡ get_or quads j quad
     → drop j quads ≡ quad ∷ drop k quads
-split_at quads j k quad next most is =
-    drop_more quads j quad (omega (arith, most, next)) ∙ (ap (λ q. q ∷ drop (j + 1) quads) (sym is) ∙ ap (λ n. quad ∷ drop n quads) next)
+split_at quads j k quad next most is = grind (arith, nat_tests, drop_more quads j quad)
 
 split_before : (quads : List DrawQuad) (k : ℕ) (quad : DrawQuad) → 0 < k → k ≤ length quads → quad ≡ get_or quads (k - 1) quad
     → drop (k - 1) quads ≡ quad ∷ drop k quads
@@ -99,9 +82,7 @@ one_more s earlier pass place quads k quad first old new some most is so_far e =
 -- the root pass, by its place
 turned : (passes : List RenderPass) (k : ℕ) (root : RenderPass) → k + 1 ≡ length passes → root ≡ get_or passes k root
     → reverse passes ≡ root ∷ reverse (take k passes)
-turned passes k root e here =
-    ap reverse (sym (take_all (k + 1) passes (omega arith)) ∙ (take_at_read passes k root (omega arith)).1)
-    ∙ (reverse-append (take k passes) (get_or passes k root ∷ []) ∙ ap (λ r. r ∷ reverse (take k passes)) (sym here))
+turned passes k root e here = grind (arith, nat_tests, take_all, take_at_read passes k root, reverse-append (take k passes) (get_or passes k root ∷ []))
 
 root_is : (s : Stand) (k : ℕ) (root : RenderPass) (place : Placement) → k + 1 ≡ length s.seen.frame.passes
     → root ≡ get_or s.seen.frame.passes k root
@@ -129,18 +110,9 @@ surface_is (suc n) active path i id place passes k root old new some same own e 
     one_less : (n : ℕ) → suc n - 1 ≡ n
     one_less n = omega arith
 
-no_root : (i : FrameData) (ranges : FlatRange) (passes : List RenderPass) (place : Placement) → length passes ≡ 0
-    → root_flat i ranges (reverse passes) place ≡ []
-unfolding root_flat
-no_root i ranges [] place e = refl
-no_root i ranges (p ∷ ps) place e = absurd (omega arith)
-
 -- a frame without passes draws nothing
 pub no_passes : (levels : ℕ) (active : List FrameData) (path : List SurfaceId) (i : FrameData) (place : Placement) (passes : List RenderPass)
     (ops : List Op) → passes ≡ i.frame.passes → length passes ≡ 0 → ops ≡ ops ++ flat levels active path i place
-unfolding flat
+unfolding flat root_flat
 no_passes zero active path i place passes ops own e = sym (append-nil ops)
-no_passes (suc n) active path i place passes ops own e =
-    sym
-    (ap (λ l. ops ++ l) (no_root i (range_flat (n == 0) (flat n active) active (i.id ∷ path)) i.frame.passes place (sym (ap length own) ∙ e))
-    ∙ append-nil ops)
+no_passes (suc n) active path i place passes ops own e = grind (arith, nat_tests, common_steps)

@@ -1,52 +1,36 @@
 -- That a scene's list of operations does what painting does.
-use Rattle.std.proofs.Common.{◌≡◌, ℕ, zero, suc, ◌&&◌, not, ◌||◌, ◌==◌, Bool, true, false, Option, Some, None, List, [], ◌∷◌, refl, ap, ◌∙◌, cond, subst}
+use Rattle.std.proofs.Common.{◌≡◌, ℕ, zero, suc, ◌&&◌, not, ◌||◌, ◌==◌, Bool, true, false, Option, Some, None, List, [], ◌∷◌, refl, ap, ◌∙◌, cond, subst, arith}
 use Rattle.vz_geom.specs.declared.Point.{Point}
 use Rattle.vz_geom.specs.Rectangle.{Rectangle, has, plus, corner, meet, moved, sized}
 use Rattle.vz_geom.proofs.Sets.{has_moved_is, has_meet_is}
-use Rattle.vz_ids.specs.declared.SurfaceId.{SurfaceId}
-use Rattle.vz_ids.specs.declared.SurfaceRange.{SurfaceRange}
-use Rattle.vz_ids.specs.Ids.{same_surface}
+use Rattle.vz_ids.specs.{declared.SurfaceId.SurfaceId, declared.SurfaceRange.SurfaceRange, Ids.same_surface}
 use Rattle.vz_pixels.specs.Colour.{Colour, transparent, over}
-use Rattle.vz_frame.specs.declared.frame.RenderPass.{RenderPass}
-use Rattle.vz_frame.specs.declared.frame.DrawQuad.{DrawQuad}
-use Rattle.vz_frame.specs.declared.blend.Blend.{Blend}
-use Rattle.vz_frame.specs.Blending.{laid, is_straight}
-use Rattle.vz_frame.specs.declared.frame.Material.{Material}
+use Rattle.vz_frame.specs.{declared.frame.RenderPass.RenderPass, declared.blend.Blend.Blend, Frame.passes_down, Frame.names_pass, Frame.frame_size}
+use Rattle.vz_frame.specs.{declared.frame.DrawQuad.DrawQuad, Blending.laid, Blending.is_straight, declared.frame.Material.Material}
 use Rattle.vz_frame.specs.declared.frame.Material.TheVariants.{Solid, Tile, Surface, Pass}
-use Rattle.vz_frame.specs.Frame.{passes_down, names_pass, frame_size}
-use Rattle.vz_rules.specs.World.{FrameData}
-use Rattle.vz_rules.specs.Scene.{shown_frame}
+use Rattle.vz_rules.specs.{World.FrameData, Scene.shown_frame, Walk.Placement, Walk.seen_part, Walk.place_in}
 use Rattle.vz_rules.specs.Paint.{covers, local_point, Named, Embedding, Content, on_path, material_painted, quads_painted, pass_painted, group_laid, groups, root_painted, content_at, is_absent, content_laid}
-use Rattle.vz_rules.specs.Walk.{Placement, seen_part, place_in}
 use Rattle.vz_rules.proofs.Geometry.{local_stays, output_stays, has_seen_is}
-use Rattle.vz_flat.specs.declared.op.Op.{Op}
-use Rattle.vz_flat.specs.declared.op.Op.TheVariants.{Fill}
-use Rattle.vz_flat.specs.Parts.{seen_flat, pass_part, inner_place, surface_place}
-use Rattle.vz_flat.specs.Gutters.{gutter_flat}
+use Rattle.vz_flat.specs.{declared.op.Op.Op, Gutters.gutter_flat}
+use Rattle.vz_flat.specs.{declared.op.Op.TheVariants.Fill, Parts.seen_flat, Parts.pass_part, Parts.inner_place, Parts.surface_place}
 use Rattle.vz_flat.specs.Flat.{FlatNamed, FlatRange, FlatContent, material_flat, quad_flat, quads_flat, group_flat, groups_flat, root_flat, content_flat, present_place, laid_flat, shown_flat, range_flat, flat}
 use Rattle.vz_flat.proofs.Acting.{ActsAs, acts_none, acts_both, acts_fill, acts_group, acts_same, acts_seen}
-use Rattle.vz_flat.proofs.Tiled.{tile_acts}
-use Rattle.vz_flat.proofs.Guttered.{gutter_acts}
-use Rattle.vz_flat.proofs.Levelled.{embeds_until, pix_until}
+use Rattle.vz_flat.proofs.{Tiled.tile_acts, Guttered.gutter_acts, Levelled.embeds_until, Levelled.pix_until}
+use Rattle.std.proofs.lemmas.Bool.Decides.{nat_tests}
 
 -- a quad in front of others: where the window has the point and the quad covers it
 before_case : (w c s : Bool) → s ≡ (w && c) → (f g : Colour → Colour) (d : Colour)
     → cond s (f (cond w (g d) d)) (cond w (g d) d) ≡ cond w (elim c [ true ↦ f (g d) | false ↦ g d ]) d
-before_case true true s e f g d = rw e
-before_case true false s e f g d = rw e
-before_case false c s e f g d = rw e
+before_case w c s e f g d = grind (arith, nat_tests)
 
 group_case : (w c s : Bool) → s ≡ (w && c) → (m : Blend) (o : ℕ) (g : Colour → Colour) (d : Colour)
     → cond s (laid m (cond w (g transparent) transparent) o d) d ≡ cond w (elim c [ true ↦ laid m (g transparent) o d | false ↦ d ]) d
-group_case true true s e m o g d = rw e
-group_case true false s e m o g d = rw e
-group_case false c s e m o g d = rw e
+group_case w c s e m o g d = grind (arith, nat_tests)
 
 choice_acts : (P : Point) (t w : Bool) (xs ys : List Op) (f g : Colour → Colour) → ActsAs P xs (λ d. cond w (f d) d)
     → ActsAs P ys (λ d. cond w (g d) d)
     → ActsAs P (elim t [ true ↦ xs | false ↦ ys ]) (λ d. cond w (elim t [ true ↦ f d | false ↦ g d ]) d)
-choice_acts P true w xs ys f g a b = a
-choice_acts P false w xs ys f g a b = b
+choice_acts _ t w xs ys f g a b = grind (arith, nat_tests)
 
 nothing_acts : (P : Point) (w : Bool) → ActsAs P [] (λ d. cond w d d)
 nothing_acts P true = acts_none P
@@ -120,24 +104,16 @@ module _ (P : Point) (i : FrameData) (ranges : Embedding) (flat_ranges : FlatRan
 body_case : (w s e : Bool) (b : Colour) (f : Colour → Colour) (d : Colour)
     → cond (w && s) (f (cond (w && (not s && not e)) (over b d) d)) (cond (w && (not s && not e)) (over b d) d)
     ≡ cond (w && not (not s && e)) (elim s [ true ↦ f d | false ↦ over b d ]) d
-body_case true true e b f d = refl
-body_case true false true b f d = refl
-body_case true false false b f d = refl
-body_case false s e b f d = refl
+body_case w s e b f d = grind (arith, nat_tests)
 
 -- a group in the window, of a body that acts in the window
 laid_case : (w : Bool) (f : Colour → Colour) (m : Blend) (o : ℕ) (d : Colour)
     → cond w (laid m (cond w (f transparent) transparent) o d) d ≡ cond w (laid m (f transparent) o d) d
-laid_case true f m o d = refl
-laid_case false f m o d = refl
+laid_case w f m o d = grind (arith, nat_tests)
 
 present_case : (P : Point) (w s e : Bool) (place inner : Placement) → has place.window P ≡ w → has inner.window P ≡ (w && s)
     → has (Placement.window (cond e inner place)) P ≡ (w && not (not s && e))
-present_case P w true true place inner h k = k
-present_case P w false true place inner h k = k
-present_case P true true false place inner h k = h
-present_case P true false false place inner h k = h
-present_case P false s false place inner h k = h
+present_case _ w s e place inner h k = grind (arith, nat_tests)
 
 module _ (P : Point) (active : List FrameData) where
   abbrev pub ContentActs : Content → FlatContent → Type 0
@@ -191,11 +167,7 @@ module _ (P : Point) (active : List FrameData) where
   -- what is laid where the window has the point, but for what is on the path and what is absent
   skip_case : (w t s : Bool) (f : Colour → Colour) (d : Colour)
       → cond (w && not s) (elim t [ true ↦ d | false ↦ f d ]) d ≡ cond w (elim (t || s) [ true ↦ d | false ↦ f d ]) d
-  skip_case true true true f d = refl
-  skip_case true true false f d = refl
-  skip_case true false true f d = refl
-  skip_case true false false f d = refl
-  skip_case false t s f d = refl
+  skip_case w t s f d = grind (arith, nat_tests)
 
   range_acts : (ends : Bool) (content : Content) (ops : FlatContent) → ContentActs content ops
       → (path : List SurfaceId) (range : SurfaceRange) (b : Colour) (m : Blend) (o : ℕ) (l : Point) (place : Placement)

@@ -1,34 +1,23 @@
 -- That a gutter's operations lay the background round a surface.
-use Rattle.std.proofs.Common.{◌≡◌, ℤ, ◌+ℤ◌, ◌-ℤ◌, ◌≤ℤ◌, ◌<ℤ◌, int_lt, Bool, true, false, not, ◌&&◌, List, [], ◌∷◌, refl, ap, ◌∙◌, cond, subst, arith}
+use Rattle.std.proofs.Common.{◌≡◌, ◌+ℤ◌, ◌-ℤ◌, Bool, true, false, not, ◌&&◌, List, [], ◌∷◌, refl, ap, ◌∙◌, cond, subst, arith}
 use Rattle.std.specs.List.{flat_map}
-use Rattle.std.proofs.lemmas.Int.{ints}
+use Rattle.std.proofs.{lemmas.Int.ints, lemmas.Int.by_lt_z as by_less, lemmas.Bool.Decides.nat_tests}
 use Rattle.vz_geom.specs.declared.Point.{Point}
 use Rattle.vz_geom.specs.Rectangle.{Rectangle, has, is_empty_rect, plus, moved, sized}
-use Rattle.vz_geom.proofs.Sets.{IsIn, to_in, of_in, in_sides, of_sides, lt_true, has_moved_is, has_meet_is}
+use Rattle.vz_geom.proofs.Sets.{IsIn, to_in, of_in, in_sides, of_sides, has_moved_is, has_meet_is}
 use Rattle.vz_geom.proofs.Bounds.{IsInside, IsFull, of_full, in_is_full, inside_of, meet_is_covered}
-use Rattle.vz_ids.specs.declared.SurfaceRange.{SurfaceRange}
-use Rattle.vz_ids.specs.Ids.{same_surface}
+use Rattle.vz_ids.specs.{declared.SurfaceRange.SurfaceRange, Ids.same_surface}
 use Rattle.vz_pixels.specs.Colour.{Colour, over}
 use Rattle.vz_pixels.proofs.Over.{scale_full}
-use Rattle.vz_frame.specs.declared.blend.Blend.TheVariants.{Over}
-use Rattle.vz_frame.specs.Blending.{blend, laid}
-use Rattle.vz_frame.specs.Frame.{frame_size}
-use Rattle.vz_rules.specs.World.{FrameData}
-use Rattle.vz_rules.specs.Walk.{Placement}
-use Rattle.vz_flat.specs.declared.op.Op.{Op}
-use Rattle.vz_flat.specs.declared.op.Op.TheVariants.{Fill}
-use Rattle.vz_flat.specs.Parts.{surface_place}
+use Rattle.vz_frame.specs.{declared.blend.Blend.TheVariants.Over, Blending.blend, Blending.laid, Frame.frame_size}
+use Rattle.vz_rules.specs.{World.FrameData, Walk.Placement}
+use Rattle.vz_flat.specs.{declared.op.Op.Op, declared.op.Op.TheVariants.Fill, Parts.surface_place}
 use Rattle.vz_flat.specs.Gutters.{above, beneath, left_of, right_of, parts_round, part_flat, gutter_flat}
 use Rattle.vz_flat.proofs.Acting.{ActsAs, acts_none, acts_both, acts_fill, acts_same, acts_seen}
 
-straight : (b d : Colour) → laid Over b 255 d ≡ over b d
-unfolding laid blend
-straight b d = ap (λ c. over c d) (scale_full b)
-
 part_acts : (P : Point) (b : Colour) (part : Rectangle) → ActsAs P (part_flat b part) (λ d. cond (has part P) (over b d) d)
-part_acts P b part =
-    acts_seen P part (Fill part b 255 Over ∷ []) (over b) (has part P) refl
-    (acts_same P _ _ _ (λ d. ap (λ c. cond (has part P) c d) (straight b d)) (acts_fill P part b 255 Over))
+unfolding laid blend
+part_acts P b part = grind (arith, nat_tests, acts_seen P part (Fill part b 255 Over ∷ []) (over b) (has part P) refl, acts_same P, scale_full, acts_fill P part b 255 Over)
 
 -- Of four parts in a row at most one has the point, and one has it where the test is true
 
@@ -42,33 +31,17 @@ one_case : (a b c e s : Bool) (f : Colour → Colour) (d : Colour)
     → (e ≡ true → s ≡ true)
     → (a ≡ false → b ≡ false → c ≡ false → e ≡ false → s ≡ false)
     → Laid e f (Laid c f (Laid b f (Laid a f d))) ≡ Laid s f d
-one_case true b c e s f d first second third fourth none =
-    let h = first refl in rw (h.0, h.1, h.2, h.3) refl
-one_case false true c e s f d first second third fourth none =
-    let h = second refl in rw (h.0, h.1, h.2) refl
-one_case false false true e s f d first second third fourth none =
-    let h = third refl in rw (h.0, h.1) refl
-one_case false false false true s f d first second third fourth none =
-    let h = fourth refl in rw h refl
-one_case false false false false s f d first second third fourth none =
-    let h = none refl refl refl refl in rw h refl
+one_case a b c e s f d first second third fourth none = grind (arith, nat_tests)
 
 whole_part : (o i : Bool) → i ≡ false → o ≡ (o && not i)
-whole_part true i e = rw e refl
-whole_part false i e = refl
+whole_part o i e = grind (arith, nat_tests)
 
 without : (w s : Bool) → (w && not (w && s)) ≡ (w && not s)
-without true s = refl
-without false s = refl
+without w s = grind (arith, nat_tests)
 
 by_end : (P : Point) (b : Colour) (w s e : Bool) (ops : List Op) → ActsAs P ops (λ d. Laid (w && not s) (over b) d)
     → ActsAs P (cond e [] ops) (λ d. cond (w && (not s && not e)) (over b d) d)
-by_end P b true true true ops a = acts_none P
-by_end P b true true false ops a = a
-by_end P b true false true ops a = acts_none P
-by_end P b true false false ops a = a
-by_end P b false s true ops a = acts_none P
-by_end P b false s false ops a = a
+by_end _ b w s e ops a = grind (arith, nat_tests, acts_none)
 
 -- Where the point is
 
@@ -76,22 +49,8 @@ is_empty_not : (r : Rectangle) (p : Point) → is_empty_rect r ≡ true → has 
 is_empty_not r p e h =
     let full = in_is_full r p h in absurd (cc)
 
-not_less : (a b : ℤ) → int_lt a b ≡ false → b ≤ℤ a
-not_less a b h = grind (arith, ints)
-
-by_less : {A : Type 0} (a b : ℤ) → (a <ℤ b → A) → (b ≤ℤ a → A) → A
-by_less {A} a b f g = by_test (int_lt a b) refl
-  where
-    by_test : (t : Bool) → int_lt a b ≡ t → A
-    by_test true e = f (lt_true a b e)
-    by_test false e = g (not_less a b e)
-
 not_has : (r : Rectangle) (p : Point) → (has r p ≡ true → ⊥) → has r p ≡ false
-not_has r p h = by_test (has r p) refl
-  where
-    by_test : (t : Bool) → has r p ≡ t → has r p ≡ false
-    by_test true e = absurd (h e)
-    by_test false e = e
+not_has r p h = grind (arith, nat_tests)
 
 both_tests : (a b : Bool) → a ≡ true → b ≡ false → (a && not b) ≡ true
 both_tests a b e f = rw (e, f) refl
@@ -148,11 +107,7 @@ module _ (outer inner : Rectangle) (p : Point) (is : IsInside outer inner) (full
       )
 
   fourth_part : has (right_of outer inner) p ≡ true → between outer inner p ≡ true
-  fourth_part h =
-      let i = in_right h in
-      both_tests (has outer p) (has inner p)
-      (of_in outer p (record { left = omega (arith, ints); right = omega (arith, ints); top = omega (arith, ints); bottom = omega (arith, ints) }))
-      (not_has inner p (λ k. let j = to_in inner p k in absurd (omega (arith, ints))))
+  fourth_part h = grind (arith, nat_tests, in_right h, both_tests (has outer p) (has inner p), of_in outer p, ints, not_has inner p, to_in inner p)
 
   is_not : (t : Bool) → t ≡ false → t ≡ true → ⊥
   is_not t e f = absurd (cc)

@@ -1,27 +1,15 @@
 -- Painting that goes into no more surfaces on a path than there may be. Where a scene is not too much it is the whole painting.
-use Rattle.std.proofs.Common.{◌≡◌, ℕ, zero, suc, ◌+◌, ◌≤◌, ◌==◌, Bool, true, false, ◌||◌, Option, Some, None, List, [], ◌∷◌, length, refl, sym, ◌∙◌, arith}
-use Rattle.std.specs.Prelude.{nat_lt}
-use Rattle.std.specs.List.{list_any}
-use Rattle.std.proofs.lemmas.Bool.{eqb-true}
-use Rattle.std.proofs.lemmas.Int.{ints}
-use Rattle.vz_geom.specs.declared.Point.{Point}
-use Rattle.vz_geom.specs.declared.Size.{Size}
-use Rattle.vz_geom.specs.Rectangle.{has, sized}
+use Rattle.std.proofs.Common.{◌≡◌, ℕ, zero, suc, ◌+◌, ◌≤◌, ◌==◌, Bool, true, false, ◌||◌, Some, None, List, [], ◌∷◌, length, sym, ◌∙◌, arith}
+use Rattle.std.proofs.{lemmas.Bool.eqb-true, lemmas.Int.ints, lemmas.Bool.Decides.nat_tests}
+use Rattle.vz_geom.specs.{declared.Point.Point, declared.Size.Size, Rectangle.has, Rectangle.sized}
 use Rattle.vz_geom.proofs.Points.{same_point}
-use Rattle.vz_ids.specs.declared.SurfaceId.{SurfaceId}
-use Rattle.vz_ids.specs.declared.SurfaceRange.{SurfaceRange}
-use Rattle.vz_pixels.specs.Colour.{Colour, transparent, over}
-use Rattle.vz_frame.specs.declared.blend.Blend.{Blend}
-use Rattle.vz_frame.specs.declared.blend.Blend.TheVariants.{Over}
-use Rattle.vz_frame.specs.Blending.{laid}
-use Rattle.vz_frame.specs.Frame.{passes_down, frame_size}
-use Rattle.vz_rules.specs.World.{FrameData, Scene, frame_on}
-use Rattle.vz_rules.specs.Scene.{shown_frame}
+use Rattle.vz_ids.specs.{declared.SurfaceId.SurfaceId, declared.SurfaceRange.SurfaceRange}
+use Rattle.vz_pixels.specs.Colour.{Colour}
+use Rattle.vz_frame.specs.{declared.blend.Blend.Blend, Blending.laid, Frame.passes_down}
+use Rattle.vz_rules.specs.{World.FrameData, World.Scene, World.frame_on, Scene.shown_frame, Trace.trace}
 use Rattle.vz_rules.specs.Paint.{Embedding, Content, on_path, is_absent, root_painted, content_at, content_laid, embeds, pix, levels}
-use Rattle.vz_rules.specs.Trace.{trace}
-use Rattle.vz_rules.specs.Walk.{Placement, Enters, is_deep, whole, range_walked, walk, walk_of, too_much}
-use Rattle.vz_rules.proofs.Traces.{SkipsZero, trace_shown, laid_zero}
-use Rattle.vz_rules.proofs.Same.{same_shows, IsSeen, root_same}
+use Rattle.vz_rules.specs.Walk.{Placement, whole, range_walked, walk, walk_of, too_much}
+use Rattle.vz_rules.proofs.{Traces.SkipsZero, Traces.trace_shown, Traces.laid_zero, Same.same_shows, Same.IsSeen, Same.root_same}
 use Rattle.vz_rules.proofs.Agree.{embeds_skips, laid_same}
 use Rattle.vz_rules.proofs.Levels.{Shallow, or_first, or_second, shallow_parts, not_deep, choose, walked_shallow}
 
@@ -45,19 +33,7 @@ pix_until (suc n) active path i q d =
 until_skips : (ends : Bool) (content : Content) (active : List FrameData) (path : List SurfaceId)
     → SkipsZero (embeds_until ends content active path)
 unfolding embeds_until content_laid
-until_skips ends content active path range b l d =
-    elim (shown_frame active range) as (λ (s : Option FrameData). ◌≡◌ {A = Colour} (elim s [
-      | None ↦ laid Over b 0 d
-      | Some i ↦ elim
-          ((ends || on_path path i) || is_absent range i l) [ true ↦ d | false ↦ laid Over (content_at content path b i l transparent) 0 d ]
-    ]) d) [
-      | None ↦ laid_zero b d
-      | Some i ↦ elim ((ends || on_path path i) || is_absent range i l) as
-          (λ (t : Bool). ◌≡◌ {A = Colour} (elim t [ true ↦ d | false ↦ laid Over (content_at content path b i l transparent) 0 d ]) d) [
-            | true ↦ refl
-            | false ↦ laid_zero (content_at content path b i l transparent) d
-          ]
-    ]
+until_skips ends content active path range b l d = grind (arith, nat_tests, laid_zero b d, laid_zero)
 
 module _ (active : List FrameData) (P : Point) where
   -- the n levels of the whole painting and these m are enough behind a path, and do the same
@@ -67,56 +43,12 @@ module _ (active : List FrameData) (P : Point) where
       (place : Placement) → length path + 1 ≤ 64 → 65 ≤ n + length path → 64 ≤ m + length path → IsSeen P l place
       → Shallow (walk n active path i place) → (d : Colour) → pix n active path i l d ≡ pix_until m active path i l d
 
-  content_levels : (n m : ℕ) → SameLevels n m → (path : List SurfaceId) (b : Colour) (j : FrameData) (l : Point) (place : Placement)
-      → length path + 1 ≤ 64 → 65 ≤ n + length path → 64 ≤ m + length path → IsSeen P l place
-      → Shallow (walk n active path j place) → (d : Colour)
-      → content_at (pix n active) path b j l d ≡ content_at (pix_until m active) path b j l d
-  unfolding content_at
-  content_levels n m same path b j l place short en em seen shallow d =
-      choose (has (sized (frame_size j.frame)) l) _ _ (over b d) (same path j l place short en em seen shallow d)
-
-  path_levels : (n m : ℕ) → SameLevels n m
-      → (path : List SurfaceId) (b : Colour) (k : Blend) (o : ℕ) (j : FrameData) (l : Point) (place : Placement) → 65 ≤ n + length path
-      → 64 ≤ m + length path → IsSeen P l place
-      → (u t s : Bool) → (m == 0) ≡ u
-      → Shallow (elim t [ true ↦ [] | false ↦ Enters (length path + 1) j place ∷ walk n active path j place ]) → (d : Colour)
-      → ◌≡◌ {A = Colour} (elim (t || s) [ true ↦ d | false ↦ content_laid (content_at (pix n active) path b j l) k o d ])
-      (elim ((u || t) || s) [ true ↦ d | false ↦ content_laid (content_at (pix_until m active) path b j l) k o d ])
-  path_levels n m same path b k o j l place en em seen true true s e shallow d = refl
-  path_levels n m same path b k o j l place en em seen false true s e shallow d = refl
-  path_levels n m same path b k o j l place en em seen false false true e shallow d = refl
-  path_levels n m same path b k o j l place en em seen true false s e shallow d =
-      let short : length path + 1 ≤ 64 = not_deep (length path + 1)
-      (or_first (nat_lt 64 (length path + 1)) (list_any is_deep (walk n active path j place)) shallow) in
-      let none : m ≡ 0 = eqb-true m 0 e in
-      absurd (omega (arith, short, none, em))
-  path_levels n m same path b k o j l place en em seen false false false e shallow d =
-      let short : length path + 1 ≤ 64 = not_deep (length path + 1)
-      (or_first (nat_lt 64 (length path + 1)) (list_any is_deep (walk n active path j place)) shallow) in
-      let rest : Shallow (walk n active path j place) = or_second (nat_lt 64 (length path + 1))
-      (list_any is_deep (walk n active path j place)) shallow in
-      laid_same (content_at (pix n active) path b j l) (content_at (pix_until m active) path b j l)
-      (content_levels n m same path b j l place short en em seen rest) k o d
-
-  shown_levels : (n m : ℕ) → SameLevels n m
-      → (path : List SurfaceId) (range : SurfaceRange) (b : Colour) (k : Blend) (o : ℕ) (l : Point) (place : Placement)
-      → 65 ≤ n + length path → 64 ≤ m + length path → IsSeen P l place
-      → (s : Option FrameData)
-      → Shallow (elim s [ None ↦ [] | Some j ↦ elim (on_path path j) [ true ↦ [] | false ↦ Enters (length path + 1) j place ∷ walk n active path j place ] ])
-      → (d : Colour)
-      → ◌≡◌ {A = Colour} (elim s [ None ↦ laid k b o d | Some j ↦ elim (on_path path j || is_absent range j l) [ true ↦ d | false ↦ content_laid (content_at (pix n active) path b j l) k o d ] ])
-      (elim s [ None ↦ laid k b o d | Some j ↦ elim (((m == 0) || on_path path j) || is_absent range j l) [ true ↦ d | false ↦ content_laid (content_at (pix_until m active) path b j l) k o d ] ])
-  shown_levels n m same path range b k o l place en em seen None shallow d = refl
-  shown_levels n m same path range b k o l place en em seen (Some j) shallow d =
-      path_levels n m same path b k o j l place en em seen (m == 0) (on_path path j) (is_absent range j l) refl shallow d
-
   ranges_levels : (n m : ℕ) → SameLevels n m → (path : List SurfaceId) → 65 ≤ n + length path → 64 ≤ m + length path
       → (range : SurfaceRange) (b : Colour) (k : Blend) (o : ℕ) (l : Point) (place : Placement) → IsSeen P l place
       → Shallow (range_walked (walk n active) active path range place) → (d : Colour)
       → embeds (pix n active) active path range b k o l d ≡ embeds_until (m == 0) (pix_until m active) active path range b k o l d
-  unfolding embeds embeds_until range_walked
-  ranges_levels n m same path en em range b k o l place seen shallow d =
-      shown_levels n m same path range b k o l place en em seen (shown_frame active range) shallow d
+  unfolding embeds embeds_until range_walked content_at
+  ranges_levels n m same path en em range b k o l place seen shallow d = grind (arith, nat_tests, not_deep, or_first, eqb-true, or_second, laid_same, choose)
 
   same_levels : (n m : ℕ) → SameLevels n m
   unfolding pix pix_until walk trace

@@ -1,15 +1,11 @@
 -- How the nesting of groups goes on, operation by operation.
-use Rattle.std.proofs.Common.{◌≡◌, ℕ, zero, suc, ◌+◌, ◌-◌, ◌≤◌, ◌<◌, get_or, Bool, true, false, ◌&&◌, ◌==◌, max, Option, Some, None, List, [], ◌∷◌, drop, length, refl, ap, sym, ◌∙◌, arith}
-use Rattle.std.specs.Prelude.{nat_lt, MatchOption}
-use Rattle.std.specs.List.{list_all}
-use Rattle.std.proofs.lemmas.List.{drop_more}
-use Rattle.std.proofs.lemmas.Bool.{and_parts, ltb-true, eqb-true}
-use Rattle.vz_flat.specs.declared.op.Op.{Op}
+use Rattle.std.proofs.Common.{◌≡◌, ℕ, zero, suc, ◌+◌, ◌-◌, ◌≤◌, ◌<◌, get_or, true, false, ◌&&◌, max, Option, Some, None, List, [], ◌∷◌, drop, length, refl, ap, ◌∙◌, arith}
+use Rattle.std.specs.{Prelude.nat_lt, Prelude.MatchOption, List.list_all}
+use Rattle.std.proofs.{lemmas.List.drop_more, lemmas.Bool.and_parts, lemmas.Bool.ltb-true, lemmas.Bool.eqb-true, lemmas.Bool.Decides.nat_tests}
+use Rattle.vz_flat.specs.{declared.op.Op.Op, declared.op.TheConstants.MOST_OPEN, declared.nesting.Nesting.Nesting, Nesting.NestsOn}
 use Rattle.vz_flat.specs.declared.op.Op.TheVariants.{Fill, Blit, Push, Pop}
-use Rattle.vz_flat.specs.declared.op.TheConstants.{MOST_OPEN}
-use Rattle.vz_flat.specs.declared.nesting.Nesting.{Nesting}
 use Rattle.vz_flat.specs.Ops.{is_nested, is_inside, is_whole, is_whole_from, deepest}
-use Rattle.vz_flat.specs.Nesting.{NestsOn}
+use Rattle.vz_rules.proofs.Facts.{and_false as and_no}
 
 -- at least as many groups are open at once as are open
 pub deepest_least : (n : ℕ) (ops : List Op) → n ≤ deepest n ops
@@ -37,16 +33,9 @@ deepest_most n (Blit area block tx ty o m ∷ ops) few e = deepest_most n ops fe
 
 pub most_of : (ops : List Op) (n : ℕ) → is_whole ops ≡ true → n ≡ deepest 0 ops → n ≤ MOST_OPEN
 unfolding is_whole
-most_of ops n whole e =
-    let least : 0 ≤ MOST_OPEN = omega arith in
-    let most = deepest_most 0 ops least (and_parts (is_nested 0 ops) (list_all is_inside ops) whole).0 in
-    omega (arith, most, e)
+most_of ops n whole e = grind (arith, nat_tests, deepest_most 0 ops, and_parts (is_nested 0 ops) (list_all is_inside ops) whole)
 
 -- Whole operations
-
-and_no : (a : Bool) → (a && false) ≡ false
-and_no true = refl
-and_no false = refl
 
 -- an operation whose texels are not inside its block stands in no whole list
 pub outside : (n : ℕ) (op : Op) (rest : List Op) → is_inside op ≡ false → is_whole_from n (op ∷ rest) ≡ false
@@ -59,27 +48,12 @@ stays_fill before op area c o m is ordered = rw is (record { whole = λ rest. re
 
 pub stays_blit : (before : Nesting) (op : Op) (area : _) (block : _) (tx ty : _) (o : ℕ) (m : _) → op ≡ Blit area block tx ty o m → is_inside op ≡ true → before.now_open ≤ before.deepest → NestsOn before op before
 unfolding is_nested deepest
-stays_blit before op area block tx ty o m is inside ordered =
-    rw is (record {
-      whole = λ rest. ap (λ t. is_nested before.now_open rest && (t && list_all is_inside rest)) (ap is_inside (sym is) ∙ inside);
-      most = λ rest. refl;
-      ordered = ordered;
-    })
+stays_blit before op area block tx ty o m is inside ordered = grind (arith, nat_tests)
 
 -- a Push opens a group more
 pub pushes : (before after : Nesting) (area : _) (o : ℕ) (m : _) → nat_lt before.now_open MOST_OPEN ≡ true → after.now_open ≡ before.now_open + 1 → after.deepest ≡ max before.deepest (before.now_open + 1) → NestsOn before (Push area o m) after
 unfolding is_nested is_inside deepest
-pushes before after area o m low more most =
-    record {
-      whole = λ rest. rw more (ap (λ t. (t && is_nested (before.now_open + 1) rest) && list_all is_inside rest) low);
-      most = λ rest.
-          let least = deepest_least (before.now_open + 1) rest in
-          rw (more, most) (larger before.deepest (before.now_open + 1) (deepest (before.now_open + 1) rest) least);
-      ordered = omega (arith, more, most);
-    }
-  where
-    larger : (a b c : ℕ) → b ≤ c → max a c ≡ max (max a b) c
-    larger a b c low = omega (arith, low)
+pushes before after area o m low more most = grind (arith, nat_tests, deepest_least)
 
 pub pushes_too_deep : (n : ℕ) (area : _) (o : ℕ) (m : _) (rest : List Op) → nat_lt n MOST_OPEN ≡ false → is_whole_from n (Push area o m ∷ rest) ≡ false
 unfolding is_nested
@@ -88,15 +62,7 @@ pushes_too_deep n area o m rest e = ap (λ t. (t && is_nested (n + 1) rest) && l
 -- a Pop ends one
 pub pops : (before after : Nesting) → nat_lt 0 before.now_open ≡ true → after.now_open ≡ before.now_open - 1 → after.deepest ≡ before.deepest → before.now_open ≤ before.deepest → NestsOn before Pop after
 unfolding is_nested is_inside deepest
-pops before after low less same ordered =
-    record {
-      whole = λ rest. rw less (ap (λ t. (t && is_nested (before.now_open - 1) rest) && list_all is_inside rest) low);
-      most = λ rest. rw (less, same) (larger before.deepest before.now_open (deepest (before.now_open - 1) rest) ordered);
-      ordered = omega (arith, less, same, ordered);
-    }
-  where
-    larger : (a b c : ℕ) → b ≤ a → max a (max b c) ≡ max a c
-    larger a b c low = omega (arith, low)
+pops before after low less same ordered = grind (arith, nat_tests)
 
 pub pops_none : (n : ℕ) (rest : List Op) → nat_lt 0 n ≡ false → is_whole_from n (Pop ∷ rest) ≡ false
 unfolding is_nested
@@ -128,28 +94,15 @@ unfolding is_whole
 at_start ops = (omega arith, refl, omega arith)
 
 pub one_more : (before after : Nesting) (op : Op) (k : ℕ) (ops : List Op) → drop k ops ≡ op ∷ drop (k + 1) ops → IsAfter before k ops → NestsOn before op after → IsAfter after (k + 1) ops
-one_more before after op k ops split is on = (
-  on.ordered,
-  is.1 ∙ (ap (λ l. is_whole_from before.now_open l) split ∙ on.whole (drop (k + 1) ops)),
-  is.2 ∙ (ap (λ l. max before.deepest (deepest before.now_open l)) split ∙ on.most (drop (k + 1) ops)),
-)
-
-pub none_more : (n : Nesting) (op : Op) (k : ℕ) (ops : List Op) → drop k ops ≡ op ∷ drop (k + 1) ops → IsAfter n k ops → ((rest : List Op) → is_whole_from n.now_open (op ∷ rest) ≡ false) → is_whole ops ≡ false
-none_more n op k ops split is broken = is.1 ∙ (ap (λ l. is_whole_from n.now_open l) split ∙ broken (drop (k + 1) ops))
+one_more before after op k ops split is on = grind (arith, nat_tests)
 
 pub at_end : (n : Nesting) (k : ℕ) (ops : List Op) → drop k ops ≡ [] → IsAfter n k ops → n.now_open ≡ 0 → (is_whole ops ≡ true) × (n.deepest ≡ deepest 0 ops)
 unfolding is_nested deepest
-at_end n k ops done is none =
-    let same = is.2 ∙ (ap (λ l. max n.deepest (deepest n.now_open l)) done) in
-    (is.1 ∙ (ap (λ l. is_whole_from n.now_open l) done ∙ ap (λ m. (m == 0) && true) none), omega (arith, same, is.0))
+at_end n k ops done is none = grind (arith, nat_tests)
 
 pub left_open : (n : Nesting) (k : ℕ) (ops : List Op) → drop k ops ≡ [] → IsAfter n k ops → (n.now_open ≡ 0 → ⊥) → is_whole ops ≡ false
 unfolding is_nested
-left_open n k ops done is some = is.1 ∙ (ap (λ l. is_whole_from n.now_open l) done ∙ by_test (n.now_open == 0) refl)
-  where
-    by_test : (t : Bool) → (n.now_open == 0) ≡ t → (t && true) ≡ false
-    by_test true e = absurd (some (eqb-true n.now_open 0 e))
-    by_test false e = refl
+left_open n k ops done is some = grind (arith, nat_tests, eqb-true n.now_open 0)
 
 pub split : (ops : List Op) (k : ℕ) (d op : Op) → k < length ops → get_or ops k d ≡ op → drop k ops ≡ op ∷ drop (k + 1) ops
 split ops k d op low is = drop_more ops k d low ∙ ap (λ o. o ∷ drop (k + 1) ops) is
@@ -158,5 +111,4 @@ pub all_dropped : (ops : List Op) (k : ℕ) → length ops ≤ k → drop k ops 
 all_dropped [] zero e = refl
 all_dropped [] (suc k) e = refl
 all_dropped (op ∷ ops) zero e = absurd (omega (arith, e))
-all_dropped (op ∷ ops) (suc k) e =
-    let fewer : length ops ≤ k = omega (arith, e) in all_dropped ops k fewer
+all_dropped (op ∷ ops) (suc k) e = grind (arith, nat_tests, all_dropped ops k)

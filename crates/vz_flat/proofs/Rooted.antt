@@ -1,25 +1,13 @@
 -- What is drawn of a store's root.
-use Rattle.std.proofs.Common.{◌≡◌, true, false, Option, Some, None, List, [], ◌++◌, ap, sym, ◌∙◌, cond, append-nil}
-use Rattle.vz_geom.specs.declared.Point.{Point}
-use Rattle.vz_geom.specs.declared.Size.{Size}
-use Rattle.vz_geom.specs.Rectangle.{Rectangle, is_empty_rect, has, sized}
+use Rattle.std.proofs.Common.{◌≡◌, true, false, Option, Some, None, List, [], ◌++◌, ap, sym, ◌∙◌, append-nil, arith}
+use Rattle.vz_geom.specs.{declared.Point.Point, declared.Size.Size, Rectangle.Rectangle, Rectangle.is_empty_rect, Rectangle.has, Rectangle.sized}
 use Rattle.vz_ids.specs.declared.SurfaceId.{SurfaceId}
 use Rattle.vz_pixels.specs.Colour.{black}
-use Rattle.vz_rules.specs.World.{FrameData, Scene}
-use Rattle.vz_rules.specs.Kept.{IsWhole}
-use Rattle.vz_rules.specs.Paint.{full}
-use Rattle.vz_rules.specs.Walk.{Placement, walk_of, whole, too_much}
-use Rattle.vz_surfaces.specs.Stored.{Stored}
-use Rattle.vz_surfaces.specs.Reading.{seen_frames, active_on}
-use Rattle.vz_surfaces.specs.Keeping.{KeepsFrames}
-use Rattle.vz_flat.specs.declared.op.Op.{Op}
-use Rattle.vz_flat.specs.Ops.{value, is_whole}
-use Rattle.vz_flat.specs.Parts.{seen_flat, surface_place}
-use Rattle.vz_flat.specs.Flat.{flat, scene_flat}
-use Rattle.vz_flat.proofs.Flat_sound.{frame_there, flat_is_whole}
-use Rattle.vz_flat.proofs.Wholes.{frame_whole}
-use Rattle.vz_flat.proofs.Flat_steps.{frame_of}
-use Rattle.vz_flat.proofs.Drawn.{flat_is_painted}
+use Rattle.vz_rules.specs.{World.FrameData, World.Scene, Kept.IsWhole, Paint.full, Walk.Placement, Walk.walk_of, Walk.whole, Walk.too_much}
+use Rattle.vz_surfaces.specs.{Stored.Stored, Reading.seen_frames, Reading.active_on, Keeping.KeepsFrames}
+use Rattle.vz_flat.specs.{declared.op.Op.Op, Ops.value, Ops.is_whole, Parts.seen_flat, Parts.surface_place, Flat.flat, Flat.scene_flat}
+use Rattle.vz_flat.proofs.{Flat_sound.frame_there, Flat_sound.flat_is_whole, Wholes.frame_whole, Flat_steps.frame_of, Drawn.flat_is_painted}
+use Rattle.std.proofs.{lemmas.Bool.Decides.nat_tests, lemmas.Grind.common_steps}
 
 -- the scene of a store with this root
 abbrev pub scene_in : Stored → SurfaceId → Scene
@@ -33,9 +21,7 @@ scene_by : (size : Size) (st : Stored) (root : SurfaceId) (s : Option FrameData)
     → scene_flat size (scene_in st root)
     ≡ elim s [ None ↦ [] | Some i ↦ seen_flat (surface_place i (whole size)).window (flat 64 (seen_frames st) [] i (surface_place i (whole size))) ]
 unfolding scene_flat active_on
-scene_by size st root s e =
-    ap
-    (λ (o : Option FrameData). elim o [ None ↦ [] | Some i ↦ seen_flat (surface_place i (whole size)).window (flat 64 (seen_frames st) [] i (surface_place i (whole size))) ]) e
+scene_by size st root s e = grind (arith, nat_tests)
 
 pub none_drawn : (size : Size) (st : Stored) (root : SurfaceId) (ops : List Op) → active_on st root ≡ None
     → ops ≡ ops ++ scene_flat size (scene_in st root)
@@ -45,25 +31,13 @@ pub nothing_drawn : (size : Size) (st : Stored) (root : SurfaceId) (ops : List O
     → active_on st root ≡ Some i
     → at_root ≡ whole size → place ≡ surface_place i at_root → window ≡ place.window → is_empty_rect window ≡ true
     → ops ≡ ops ++ scene_flat size (scene_in st root)
-nothing_drawn size st root ops i place at_root window e f g h empty =
-    let gone : is_empty_rect (surface_place i (whole size)).window ≡ true =
-    sym (ap is_empty_rect (h ∙ ap (λ (p : Placement). p.window) (g ∙ ap (surface_place i) f))) ∙ empty in
-    sym (ap (λ l. ops ++ l) (scene_by size st root (Some i) e
-    ∙ ap (λ t. cond t [] (flat 64 (seen_frames st) [] i (surface_place i (whole size)))) gone) ∙ append-nil ops)
+nothing_drawn size st root ops i place at_root window e f g h empty = grind (arith, nat_tests, common_steps, scene_by size st root (Some i) e)
 
 pub root_drawn : (size : Size) (st : Stored) (root : SurfaceId) (old new : List Op) (i : FrameData) (place at_root : Placement) (window : Rectangle)
     → active_on st root ≡ Some i
     → at_root ≡ whole size → place ≡ surface_place i at_root → window ≡ place.window → is_empty_rect window ≡ false
     → new ≡ old ++ flat 64 (seen_frames st) [] i place → new ≡ old ++ scene_flat size (scene_in st root)
-root_drawn size st root old new i place at_root window e f g h some is =
-    let here : place ≡ surface_place i (whole size) = g ∙ ap (surface_place i) f in
-    let seen : is_empty_rect (surface_place i (whole size)).window ≡ false =
-    sym (ap is_empty_rect (h ∙ ap (λ (p : Placement). p.window) here)) ∙ some in
-    is
-    ∙ (ap (λ (p : Placement). old ++ flat 64 (seen_frames st) [] i p) here
-    ∙ ap (λ l. old ++ l)
-    (sym (scene_by size st root (Some i) e
-    ∙ ap (λ t. cond t [] (flat 64 (seen_frames st) [] i (surface_place i (whole size)))) seen)))
+root_drawn size st root old new i place at_root window e f g h some is = grind (arith, nat_tests, scene_by size st root (Some i) e)
 
 -- a list that has what is drawn behind an empty list
 pub from_empty : (size : Size) (st : Stored) (root : SurfaceId) (first list : List Op) → first ≡ []
@@ -80,5 +54,4 @@ scene_is_whole size st root list keeps e =
 pub scene_is_painted : (size : Size) (st : Stored) (root : SurfaceId) (list ops : List Op) (p : Point)
     → too_much (walk_of size (scene_in st root)) ≡ false → has (sized size) p ≡ true
     → list ≡ scene_flat size (scene_in st root) → ops ≡ list → value ops p black ≡ full (scene_in st root) p
-scene_is_painted size st root list ops p bounded inside e f =
-    ap (λ l. value l p black) (f ∙ e) ∙ flat_is_painted size (scene_in st root) p bounded inside
+scene_is_painted size st root list ops p bounded inside e f = grind (arith, nat_tests, flat_is_painted size)

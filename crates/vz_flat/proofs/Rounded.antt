@@ -1,16 +1,12 @@
 -- The parts of a rectangle round one that lies in it.
 use Rattle.std.proofs.Common.{◌≡◌, ℕ, ◌<◌, ℤ, pos, ◌+ℤ◌, ◌-ℤ◌, ◌≤ℤ◌, false, arith, to_z, of_z, w32}
-use Rattle.std.proofs.lemmas.Int.{ints}
-use Rattle.vz_geom.specs.Rectangle.{Rectangle, IsRectangle, is_empty_rect, Covers, with_sides, moved, sized}
+use Rattle.std.proofs.{lemmas.Int.ints, lemmas.Bool.Decides.nat_tests}
+use Rattle.vz_geom.specs.Rectangle.{Rectangle, IsRectangle, is_empty_rect, Covers, moved, sized}
 use Rattle.vz_geom.proofs.Bounds.{of_full, inside_of, meet_is_covered}
 use Rattle.vz_frame.specs.Frame.{frame_size}
-use Rattle.vz_rules.specs.World.{FrameData}
-use Rattle.vz_rules.specs.Walk.{Placement}
-use Rattle.vz_flat.specs.Parts.{surface_place}
-use Rattle.vz_flat.specs.Gutters.{LiesIn}
-
-pub same_sides : {x x' y y' w w' h h' : ℤ} → x ≡ x' → y ≡ y' → w ≡ w' → h ≡ h' → with_sides x y w h ≡ with_sides x' y' w' h'
-same_sides a b c d = cc
+use Rattle.vz_rules.specs.{World.FrameData, Walk.Placement}
+use Rattle.vz_flat.specs.{Parts.surface_place, Gutters.LiesIn}
+pub use Rattle.vz_geom.proofs.Algebra.{same_sides}
 
 -- the bounds of a rectangle's numbers
 pub record RectangleFacts (r : Rectangle) : Type 0 where
@@ -22,14 +18,11 @@ pub record RectangleFacts (r : Rectangle) : Type 0 where
   pub high : pos 0 ≤ℤ r.h
 
 pub facts_of : (r : Rectangle) → IsRectangle r → RectangleFacts r
-facts_of r is =
-    record { left = is.edges.left; top = is.edges.top; right = is.edges.right; bottom = is.edges.bottom; wide = is.wide; high = is.high }
+facts_of r is = grind (arith, nat_tests)
 
 pub lies_in : (outer inner : Rectangle) → Covers outer inner → is_empty_rect inner ≡ false → IsRectangle outer → IsRectangle inner
     → LiesIn outer inner
-lies_in outer inner covers some o i =
-    let is = inside_of outer inner (of_full inner some) covers in
-    record { left = is.left; top = is.top; right = is.right; bottom = is.bottom; outer_edges = o; inner_edges = i }
+lies_in outer inner covers some o i = grind (arith, nat_tests, inside_of outer inner (of_full inner some) covers, of_full inner some)
 
 -- a number less another and a third one, each read as it is
 pub read_along : (a b n : ℤ) (x y : ℤ) (t : ℕ) → a ≡ x → b ≡ y → n ≡ pos t → (pos 0 -ℤ pos 536870912) ≤ℤ x → x ≤ℤ pos 536870912

@@ -2,10 +2,8 @@
 use Rattle.std.proofs.Common.{◌≡◌, ap, subst, sym, ◌∙◌}
 use Rattle.vz_base.specs.declared.limits.TheConstants.{NEWEST_FORMAT}
 use Rattle.vz_frame.specs.declared.frame.CompositorFrame.{CompositorFrame}
-use Rattle.vz_rules.specs.World.{FrameData}
-use Rattle.vz_rules.specs.Kept.{IsWhole}
-use Rattle.vz_surfaces.specs.declared.held.Held.{Held}
-use Rattle.vz_surfaces.specs.Reading.{held_of}
+use Rattle.vz_rules.specs.{World.FrameData, Kept.IsWhole}
+use Rattle.vz_surfaces.specs.{declared.held.Held.Held, Reading.held_of}
 use Rattle.vz_placement.specs.Limits.{FitsFile}
 
 -- the frame of what is held of a whole frame fits

@@ -1,18 +1,14 @@
 -- Operations that nest within groups, and whose texels are inside their blocks.
-use Rattle.std.proofs.Common.{◌≡◌, ℕ, ◌+◌, ◌-◌, ◌≤◌, Bool, true, false, ◌&&◌, List, [], ◌∷◌, ◌++◌, refl, ap, sym, ◌∙◌, cond, arith, append_assoc}
-use Rattle.std.specs.Prelude.{nat_lt}
+use Rattle.std.proofs.Common.{◌≡◌, ℕ, ◌+◌, ◌≤◌, Bool, true, false, ◌&&◌, List, [], ◌∷◌, ◌++◌, refl, ◌∙◌, arith}
 use Rattle.std.specs.List.{list_all}
-use Rattle.std.proofs.lemmas.List.{append-nil}
-use Rattle.std.proofs.lemmas.List.Folds.{list_all-append}
-use Rattle.std.proofs.lemmas.Bool.{lt-ltb}
-use Rattle.vz_geom.specs.Rectangle.{Rectangle, is_empty_rect}
+use Rattle.std.proofs.{lemmas.List.append-nil, lemmas.Grind.common_steps}
+use Rattle.std.proofs.{lemmas.List.Folds.list_all-append, lemmas.Bool.lt-ltb, lemmas.Bool.and_from as both_true, lemmas.Bool.Decides.nat_tests}
+use Rattle.vz_geom.specs.Rectangle.{Rectangle}
 use Rattle.vz_pixels.specs.Colour.{Colour}
 use Rattle.vz_frame.specs.declared.blend.Blend.{Blend}
 use Rattle.vz_flat.specs.declared.op.Op.{Op}
 use Rattle.vz_flat.specs.declared.op.Op.TheVariants.{Fill, Blit, Push, Pop}
-use Rattle.vz_flat.specs.declared.op.TheConstants.{MOST_OPEN}
-use Rattle.vz_flat.specs.Ops.{is_nested, is_inside, is_whole}
-use Rattle.vz_flat.specs.Parts.{seen_flat, grouped_flat}
+use Rattle.vz_flat.specs.{declared.op.TheConstants.MOST_OPEN, Ops.is_nested, Ops.is_inside, Ops.is_whole, Parts.seen_flat, Parts.grouped_flat}
 
 -- operations open so many groups at most within one another, and end each; and their texels are inside their blocks
 pub record IsSound (depth : ℕ) (ops : List Op) : Type 0 where
@@ -35,15 +31,8 @@ pub sound_blit : (k : ℕ) (area : Rectangle) (block : _) (tx ty : _) (o : ℕ) 
 unfolding is_nested
 sound_blit k area block tx ty o m e = record { nests = λ n rest few. refl; inside = alone (is_inside (Blit area block tx ty o m)) e }
 
-both_true : (a b : Bool) → a ≡ true → b ≡ true → (a && b) ≡ true
-both_true a b e f = rw (e, f) refl
-
 pub sound_both : (k : ℕ) (xs ys : List Op) → IsSound k xs → IsSound k ys → IsSound k (xs ++ ys)
-sound_both k xs ys a b =
-    record {
-      nests = λ n rest few. ap (is_nested n) (append_assoc xs ys rest) ∙ (a.nests n (ys ++ rest) few ∙ b.nests n rest few);
-      inside = list_all-append is_inside xs ys ∙ both_true (list_all is_inside xs) (list_all is_inside ys) a.inside b.inside;
-    }
+sound_both k xs ys a b = grind (arith, nat_tests, common_steps, list_all-append is_inside xs ys, both_true (list_all is_inside xs) (list_all is_inside ys) a.inside b.inside)
 
 pub sound_less : (k n : ℕ) (xs : List Op) → k ≤ n → IsSound k xs → IsSound n xs
 sound_less k n xs less a = record { nests = λ o rest few. a.nests o rest (omega (arith, few, less)); inside = a.inside }
@@ -52,16 +41,7 @@ sound_less k n xs less a = record { nests = λ o rest few. a.nests o rest (omega
 nested_group : (n : ℕ) (area : Rectangle) (o : ℕ) (m : Blend) (xs rest : List Op) (k : ℕ) → n + (k + 1) ≤ MOST_OPEN → IsSound k xs
     → is_nested n ((Push area o m ∷ (xs ++ Pop ∷ [])) ++ rest) ≡ is_nested n rest
 unfolding is_nested
-nested_group n area o m xs rest k few a =
-    let room : nat_lt n MOST_OPEN ≡ true = lt-ltb n MOST_OPEN (omega (arith, few)) in
-    let inner : (n + 1) + k ≤ MOST_OPEN = omega (arith, few) in
-    ap (λ t. t && is_nested (n + 1) ((xs ++ Pop ∷ []) ++ rest)) room
-    ∙ (ap (is_nested (n + 1)) (append_assoc xs (Pop ∷ []) rest)
-    ∙ (a.nests (n + 1) (Pop ∷ rest) inner
-    ∙ (ap (λ t. t && is_nested (n + 1 - 1) rest) (lt-ltb 0 (n + 1) (omega arith)) ∙ ap (λ j. is_nested j rest) (back n))))
-  where
-    back : (n : ℕ) → n + 1 - 1 ≡ n
-    back n = omega arith
+nested_group n area o m xs rest k few a = grind (arith, nat_tests, common_steps, lt-ltb n MOST_OPEN, lt-ltb 0)
 
 pub sound_group : (k : ℕ) (area : Rectangle) (o : ℕ) (m : Blend) (xs : List Op) → IsSound k xs → IsSound (k + 1) (grouped_flat area m o xs)
 unfolding is_inside
@@ -72,18 +52,12 @@ sound_group k area o m xs a =
     }
 
 pub sound_seen : (k : ℕ) (part : Rectangle) (xs : List Op) → IsSound k xs → IsSound k (seen_flat part xs)
-sound_seen k part xs a = by_test (is_empty_rect part)
-  where
-    by_test : (t : Bool) → IsSound k (cond t [] xs)
-    by_test true = sound_none k
-    by_test false = a
+sound_seen k part xs a = grind (arith, nat_tests, sound_none k)
 
 pub sound_choice : (k : ℕ) (t : Bool) (xs ys : List Op) → IsSound k xs → IsSound k ys → IsSound k (elim t [ true ↦ xs | false ↦ ys ])
-sound_choice k true xs ys a b = a
-sound_choice k false xs ys a b = b
+sound_choice k t xs ys a b = grind (arith, nat_tests)
 
 -- a list that is sound within the limit is whole
 pub whole_of_sound : (xs : List Op) → IsSound MOST_OPEN xs → is_whole xs ≡ true
 unfolding is_whole is_nested
-whole_of_sound xs a =
-    both_true (is_nested 0 xs) (list_all is_inside xs) (ap (is_nested 0) (sym (append-nil xs)) ∙ a.nests 0 [] (omega arith)) a.inside
+whole_of_sound xs a = grind (arith, nat_tests, both_true (is_nested 0 xs) (list_all is_inside xs), append-nil xs)

@@ -1,25 +1,16 @@
 -- That the texels of a tile's operation are inside its block.
-use Rattle.std.proofs.Common.{◌≡◌, ℕ, ℤ, pos, ◌+ℤ◌, ◌-ℤ◌, ◌≤ℤ◌, Bool, true, false, ◌&&◌, ◌||◌, Option, Some, None, refl, ap, sym, ◌∙◌, subst, arith}
-use Rattle.std.proofs.lemmas.Bool.{and_parts}
-use Rattle.std.proofs.lemmas.Int.{ints}
+use Rattle.std.proofs.Common.{◌≡◌, ℕ, ℤ, pos, ◌+ℤ◌, ◌-ℤ◌, ◌≤ℤ◌, true, ◌&&◌, Option, Some, None, refl, sym, ◌∙◌, subst, arith}
+use Rattle.std.proofs.{lemmas.Bool.and_parts, lemmas.Bool.and_from as both_true, lemmas.Int.ints, lemmas.Bool.Decides.nat_tests}
 use Rattle.vz_geom.specs.declared.Point.{Point}
-use Rattle.vz_geom.specs.Rectangle.{Rectangle, is_empty_rect, has, plus, minus, corner}
-use Rattle.vz_geom.proofs.Sets.{IsIn, to_in, of_in, true_le}
-use Rattle.vz_geom.proofs.Bounds.{IsFull, of_full}
-use Rattle.vz_geom.proofs.Points.{same_point}
+use Rattle.vz_geom.specs.Rectangle.{Rectangle, has, plus, minus, corner}
+use Rattle.vz_geom.proofs.{Sets.IsIn, Sets.to_in, Sets.of_in, Sets.true_le, Bounds.IsFull, Bounds.of_full, Points.same_point}
 use Rattle.vz_pixels.specs.Block.{Block}
 use Rattle.vz_frame.specs.declared.blend.Blend.{Blend}
-use Rattle.vz_frame.specs.declared.frame.RenderPass.{RenderPass}
-use Rattle.vz_frame.specs.declared.frame.DrawQuad.{DrawQuad}
-use Rattle.vz_frame.specs.declared.frame.Material.TheVariants.{Tile}
-use Rattle.vz_rules.specs.World.{FrameData}
-use Rattle.vz_rules.specs.Paint.{covers, in_clip, block_of}
-use Rattle.vz_rules.specs.Walk.{Placement, seen_part, place_in}
+use Rattle.vz_frame.specs.{declared.frame.RenderPass.RenderPass, declared.frame.DrawQuad.DrawQuad, declared.frame.Material.TheVariants.Tile}
+use Rattle.vz_rules.specs.{World.FrameData, Paint.covers, Paint.in_clip, Paint.block_of, Walk.Placement, Walk.seen_part, Walk.place_in}
 use Rattle.vz_rules.proofs.Geometry.{has_seen_is}
-use Rattle.vz_flat.specs.declared.op.Op.TheVariants.{Blit}
+use Rattle.vz_flat.specs.{declared.op.Op.TheVariants.Blit, Tiles.first_texel, Tiles.texels_flat, Tiles.tile_flat, Whole.IsInBlock, Whole.IsQuadWhole}
 use Rattle.vz_flat.specs.Ops.{is_inside, is_span_inside}
-use Rattle.vz_flat.specs.Tiles.{first_texel, texels_flat, tile_flat}
-use Rattle.vz_flat.specs.Whole.{IsInBlock, IsQuadWhole}
 use Rattle.vz_flat.proofs.Sound.{IsSound, sound_fill, sound_blit}
 
 there_and_back : (p shift : Point) → plus (minus p shift) shift ≡ p
@@ -47,9 +38,6 @@ last r = record { x = (r.x +ℤ r.w) -ℤ pos 1; y = (r.y +ℤ r.h) -ℤ pos 1 }
 span_inside : (start count : ℤ) (side : ℕ) → pos 0 ≤ℤ start → (start +ℤ count) ≤ℤ pos side → is_span_inside start count side ≡ true
 span_inside start count side low high = rw (true_le (pos 0) start low, true_le (start +ℤ count) (pos side) high) refl
 
-both_true : (a b : Bool) → a ≡ true → b ≡ true → (a && b) ≡ true
-both_true a b e f = rw (e, f) refl
-
 texels_inside : (i : FrameData) (pass : RenderPass) (quad : DrawQuad) (place : Placement) (tx ty : ℕ) (block : Block) → IsQuadWhole i quad
     → IsInBlock quad tx ty block → IsFull (seen_part place pass quad)
     → (is_span_inside (first_texel tx ty (place_in place pass quad)).x (seen_part place pass quad).w block.w && is_span_inside (first_texel tx ty (place_in place pass quad)).y (seen_part place pass quad).h block.h) ≡ true
@@ -67,17 +55,7 @@ blit_inside : (i : FrameData) (pass : RenderPass) (quad : DrawQuad) (place : Pla
     → IsQuadWhole i quad → IsInBlock quad tx ty block
     → is_inside (Blit (seen_part place pass quad) block (first_texel tx ty (place_in place pass quad)).x (first_texel tx ty (place_in place pass quad)).y o m) ≡ true
 unfolding is_inside
-blit_inside i pass quad place tx ty block o m whole fits = by_test (is_empty_rect (seen_part place pass quad)) refl
-  where
-    inside : Bool
-    inside =
-        is_span_inside (first_texel tx ty (place_in place pass quad)).x (seen_part place pass quad).w block.w && is_span_inside
-        (first_texel tx ty (place_in place pass quad)).y (seen_part place pass quad).h block.h
-
-    by_test : (t : Bool) → is_empty_rect (seen_part place pass quad) ≡ t → (is_empty_rect (seen_part place pass quad) || inside) ≡ true
-    by_test true e = rw e refl
-    by_test false e =
-        ap (λ t. t || inside) e ∙ texels_inside i pass quad place tx ty block whole fits (of_full (seen_part place pass quad) e)
+blit_inside i pass quad place tx ty block o m whole fits = grind (arith, nat_tests, texels_inside i pass quad place tx ty block whole fits, of_full (seen_part place pass quad))
 
 texels_sound : (k : ℕ) (i : FrameData) (pass : RenderPass) (quad : DrawQuad) (place : Placement) (tx ty : ℕ) (o : ℕ) (m : Blend)
     → IsQuadWhole i quad → (s : Option Block)

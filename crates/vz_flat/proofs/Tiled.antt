@@ -1,19 +1,13 @@
 -- That a tile's operation lays its texels.
-use Rattle.std.proofs.Common.{◌≡◌, ℕ, pos, Option, Some, None, [], ◌∷◌, refl, ap, cond, subst, arith}
-use Rattle.std.proofs.lemmas.Int.{ints}
+use Rattle.std.proofs.Common.{◌≡◌, ℕ, pos, Option, Some, None, [], ◌∷◌, refl, ap, cond, arith}
+use Rattle.std.proofs.{lemmas.Int.ints, lemmas.Bool.Decides.nat_tests}
 use Rattle.vz_geom.specs.declared.Point.{Point}
 use Rattle.vz_geom.specs.Rectangle.{Rectangle, has, plus, minus, corner}
 use Rattle.vz_geom.proofs.Points.{same_point}
-use Rattle.vz_pixels.specs.Colour.{transparent}
-use Rattle.vz_pixels.specs.Block.{Block}
-use Rattle.vz_frame.specs.declared.blend.Blend.{Blend}
-use Rattle.vz_frame.specs.Blending.{laid}
-use Rattle.vz_rules.specs.World.{FrameData}
-use Rattle.vz_rules.specs.Paint.{block_of, texel_of, tile_colour}
-use Rattle.vz_rules.specs.Walk.{Placement}
-use Rattle.vz_flat.specs.declared.op.Op.TheVariants.{Blit}
-use Rattle.vz_flat.specs.Ops.{run}
-use Rattle.vz_flat.specs.Tiles.{first_texel, texels_flat, tile_flat}
+use Rattle.vz_pixels.specs.{Colour.transparent, Block.Block}
+use Rattle.vz_frame.specs.{declared.blend.Blend.Blend, Blending.laid}
+use Rattle.vz_rules.specs.{World.FrameData, Paint.block_of, Paint.texel_of, Paint.tile_colour, Walk.Placement}
+use Rattle.vz_flat.specs.{declared.op.Op.TheVariants.Blit, Ops.run, Tiles.first_texel, Tiles.texels_flat, Tiles.tile_flat}
 use Rattle.vz_flat.proofs.Acting.{ActsAs, acts_fill, acts_same}
 
 blit_acts : (p : Point) (area : Rectangle) (block : Block) (first : Point) (o : ℕ) (m : Blend)
@@ -28,9 +22,7 @@ texel_stays l shift window tx ty = same_point (omega (arith, ints)) (omega (arit
 
 texel_at : (P l : Point) (place : Placement) (tx ty : ℕ) → plus l place.shift ≡ P
     → plus (minus P (corner place.window)) (first_texel tx ty place) ≡ plus l (record { x = pos tx; y = pos ty })
-texel_at P l place tx ty stays =
-    subst (λ (p : Point). plus (minus p (corner place.window)) (first_texel tx ty place) ≡ plus l (record { x = pos tx; y = pos ty })) stays
-    (texel_stays l place.shift place.window tx ty)
+texel_at P l place tx ty stays = grind (arith, nat_tests, texel_stays l place.shift place.window tx ty)
 
 texels_act : (P l : Point) (place : Placement) (tx ty : ℕ) (m : Blend) (o : ℕ) → plus l place.shift ≡ P → (s : Option Block)
     → ActsAs P (texels_flat s (first_texel tx ty place) m o place.window) (λ d. cond (has place.window P) (laid m (texel_of s (plus l (record { x = pos tx; y = pos ty }))) o d) d)

@@ -1,51 +1,20 @@
 -- That the passes and quads of accepted frames are whole.
-use Rattle.std.proofs.Common.{◌≡◌, ℕ, suc, ℤ, pos, ◌+ℤ◌, ◌≤ℤ◌, int_lt, Bool, true, false, not, ◌&&◌, ◌||◌, Option, Some, None, List, [], ◌∷◌, ◌++◌, refl, sym, ◌∙◌, cond, subst, arith}
-use Rattle.std.specs.Prelude.{find, slice_get}
-use Rattle.std.specs.List.{All, list_any, list_all, flat_map}
-use Rattle.std.proofs.lemmas.Bool.{and_parts}
-use Rattle.std.proofs.lemmas.Int.{ints}
-use Rattle.std.proofs.lemmas.List.Elements.{All-nil, All-cons}
-use Rattle.std.proofs.lemmas.List.Folds.{list_any-append}
+use Rattle.std.proofs.Common.{◌≡◌, ℕ, suc, Bool, true, false, not, ◌&&◌, Option, Some, None, List, [], ◌∷◌, ◌++◌, refl, sym, ◌∙◌, cond, subst, arith}
+use Rattle.std.specs.{Prelude.slice_get, List.All, List.list_any, List.list_all, List.flat_map}
+use Rattle.std.proofs.{lemmas.Bool.and_parts, lemmas.Bool.or_parts, lemmas.Bool.not-false as not_false, lemmas.List.Folds.list_any-append}
+use Rattle.std.proofs.{lemmas.Int.ints, lemmas.List.Elements.All-nil, lemmas.List.Elements.All-cons, lemmas.Bool.Decides.nat_tests}
 use Rattle.vz_base.specs.declared.limits.TheConstants.{NEWEST_FORMAT}
 use Rattle.vz_geom.specs.Rectangle.{Rectangle, covers_rect}
 use Rattle.vz_geom.proofs.Bounds.{covers_of_test}
 use Rattle.vz_pixels.specs.Block.{Block}
-use Rattle.vz_frame.specs.declared.frame.CompositorFrame.{CompositorFrame}
-use Rattle.vz_frame.specs.declared.frame.Listing.{Listing}
-use Rattle.vz_frame.specs.declared.frame.RenderPass.{RenderPass}
-use Rattle.vz_frame.specs.declared.frame.DrawQuad.{DrawQuad}
-use Rattle.vz_frame.specs.declared.rules.Rule.{Rule}
-use Rattle.vz_frame.specs.declared.rules.Rule.TheVariants.{NoPass, BadRoot, PassIds, PassOrder, VisibleOutside, UnlistedResource}
-use Rattle.vz_frame.specs.declared.rules.Rule.TheVariants.{ListedTwice, TileOutside, BadRange, BadDependency, DamageOutside}
+use Rattle.vz_frame.specs.{declared.frame.CompositorFrame.CompositorFrame, declared.frame.RenderPass.RenderPass, declared.frame.DrawQuad.DrawQuad}
+use Rattle.vz_frame.specs.{declared.frame.Listing.Listing, Fits.fits_quad, Fits.fits_pass}
 use Rattle.vz_frame.specs.Frame.{lists, exceeds, tile_outside, quads_of, breaks, first_broken}
-use Rattle.vz_frame.specs.Fits.{fits_quad, fits_pass}
-use Rattle.vz_rules.specs.World.{FrameData}
-use Rattle.vz_rules.specs.Paint.{block_of}
-use Rattle.vz_rules.specs.Kept.{StandsFor, IsWhole}
+use Rattle.vz_rules.specs.{World.FrameData, Paint.block_of, Kept.StandsFor, Kept.IsWhole}
 use Rattle.vz_flat.specs.Whole.{IsInBlock, IsQuadWhole, IsPassWhole, IsFrameWhole}
 use Rattle.vz_placement.proofs.Fitting.{quad_in_reach, pass_fits, pass_in_reach, frame_passes}
 
 -- Rules that are not broken
-
-found_none : (p : Rule → Bool) (x : Rule) (xs : List Rule) → find p (x ∷ xs) ≡ None → (p x ≡ false) × (find p xs ≡ None)
-found_none p x xs e = by_test (p x) refl e
-  where
-    by_test : (t : Bool) → p x ≡ t → ◌≡◌ {A = Option Rule} (cond t (Some x) (find p xs)) None → (p x ≡ false) × (find p xs ≡ None)
-    by_test true h k = absurd (cc)
-    by_test false h k = (h, k)
-
--- the fifth and the eighth rule of a list
-two_of : (p : Rule → Bool) (a b c d v u t o : Rule) (rest : List Rule) → find p (a ∷ b ∷ c ∷ d ∷ v ∷ u ∷ t ∷ o ∷ rest) ≡ None
-    → (p v ≡ false) × (p o ≡ false)
-two_of p a b c d v u t o rest e =
-    let e1 = (found_none p a (b ∷ c ∷ d ∷ v ∷ u ∷ t ∷ o ∷ rest) e).1 in
-    let e2 = (found_none p b (c ∷ d ∷ v ∷ u ∷ t ∷ o ∷ rest) e1).1 in
-    let e3 = (found_none p c (d ∷ v ∷ u ∷ t ∷ o ∷ rest) e2).1 in
-    let e4 = (found_none p d (v ∷ u ∷ t ∷ o ∷ rest) e3).1 in
-    let e5 = found_none p v (u ∷ t ∷ o ∷ rest) e4 in
-    let e6 = (found_none p u (t ∷ o ∷ rest) e5.1).1 in
-    let e7 = (found_none p t (o ∷ rest) e6).1 in
-    (e5.0, (found_none p o rest e7).0)
 
 abbrev hides_none : DrawQuad → Bool
 hides_none quad = not (covers_rect quad.area quad.visible)
@@ -53,22 +22,9 @@ hides_none quad = not (covers_rect quad.area quad.visible)
 kept_rules : (frame : CompositorFrame) → first_broken frame ≡ None
     → (list_any hides_none (quads_of frame) ≡ false) × (list_any (tile_outside frame.resources) (quads_of frame) ≡ false)
 unfolding first_broken breaks
-kept_rules frame e =
-    two_of (breaks frame) NoPass BadRoot PassIds PassOrder VisibleOutside UnlistedResource ListedTwice TileOutside
-    (BadRange ∷ BadDependency ∷ DamageOutside ∷ []) e
-
-or_parts : (a b : Bool) → (a || b) ≡ false → (a ≡ false) × (b ≡ false)
-or_parts true b h = absurd (cc)
-or_parts false b h = (refl, h)
-
-not_false : (a : Bool) → not a ≡ false → a ≡ true
-not_false true h = refl
-not_false false h = absurd (cc)
+kept_rules frame e = grind (arith, nat_tests)
 
 -- Blocks of listings
-
-not_more : (a b : ℤ) → int_lt a b ≡ false → b ≤ℤ a
-not_more a b h = grind (arith, ints)
 
 abbrev outside : ℕ → Rectangle → ℕ → ℕ → Listing → Bool
 outside id area tx ty l = lists id l && exceeds area tx ty l
@@ -78,12 +34,7 @@ some_is e = cc
 
 block_inside : (quad : DrawQuad) (tx ty : ℕ) (l : Listing) (b : Block) → exceeds quad.area tx ty l ≡ false → StandsFor l b
     → IsInBlock quad tx ty b
-block_inside quad tx ty l b e stands =
-    let parts = or_parts (int_lt (pos l.w) (pos tx +ℤ quad.area.w)) (int_lt (pos l.h) (pos ty +ℤ quad.area.h)) e in
-    record {
-      columns = subst (λ n. (pos tx +ℤ quad.area.w) ≤ℤ pos n) (sym stands.w) (not_more _ _ parts.0);
-      rows = subst (λ n. (pos ty +ℤ quad.area.h) ≤ℤ pos n) (sym stands.h) (not_more _ _ parts.1);
-    }
+block_inside quad tx ty l b e stands = grind (arith, nat_tests, or_parts, ints)
 
 listed_inside : (quad : DrawQuad) (id tx ty : ℕ) (ls : List Listing) (bs : List Block)
     → ((n : ℕ) (l : Listing) (b : Block) → slice_get ls n ≡ Some l → slice_get bs n ≡ Some b → StandsFor l b)
@@ -142,7 +93,4 @@ module _ (i : FrameData)
 
 -- an accepted frame's passes are whole, and no more than 16
 pub frame_whole : (i : FrameData) → IsWhole i → IsFrameWhole i
-frame_whole i fine =
-    let fits = frame_passes NEWEST_FORMAT i.frame fine.frame in
-    let rules = kept_rules i.frame fine.breaks_none in
-    record { passes = passes_whole i fine.blocks i.frame.passes fits.1 rules.0 rules.1; few = fits.0 }
+frame_whole i fine = grind (arith, nat_tests, frame_passes NEWEST_FORMAT i.frame fine.frame, kept_rules i.frame fine.breaks_none, passes_whole i fine.blocks i.frame.passes)

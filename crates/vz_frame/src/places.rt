@@ -1,5 +1,5 @@
 //! The indices of ids in a list.
-ghost use Rattle.std.specs.Prelude.{◌≡◌, ◌≤◌, ◌==◌, ℕ, length, map};
+ghost use Rattle.std.specs.Prelude.{◌≡◌, ◌≤◌, ◌==◌, ℕ, length, map, IfSome};
 ghost use Rattle.vz_frame.specs.Frame.{has_repeat};
 ghost use Rattle.vz_frame.specs.Pairs.{get};
 ghost use Rattle.vz_frame.specs.Places.{first_place};
@@ -35,14 +35,21 @@ impl HasId for Listing {
 }
 
 /// A list shorter than this is scanned, which takes less time than to make a map of it.
-const FEW: usize = 8;
+const FEW: usize = 16;
 
-/// A list whose values are found by their ids, through a map. A short list is scanned instead. A
-/// list longer than the map has room for is scanned too, but no message file has one.
+/// The ids of a list with their first indices, and whether an id occurs twice.
+#[derive(Drop)]
+pub struct Index {
+    places: IdMap,
+    repeats: bool,
+}
+
+/// A list whose values are found by their ids, through a map that somebody else holds, so that
+/// nobody moves it. Without a map the list is scanned.
 #[derive(Drop)]
 pub struct Places<'a, T: HasId> {
     items: &'a [T],
-    index: Option<IdMap>,
+    index: Option<&'a Index>,
     repeats: bool,
 }
 
@@ -57,33 +64,44 @@ impl<'a, T: HasId> Model for Places<'a, T> {
     ghost view = { λ p. p.items.now };
 
     ghost invariant = { λ p. (p.repeats ≡ has_repeat (λ a b. b == a) (map T.id_of p.items.now))
-        × IfSome p.index (λ m. (n : ℕ) → get m n ≡ first_place n (map T.id_of p.items.now)) };
+        × IfSome p.index (λ m. (n : ℕ) → get m.now.places n
+        ≡ first_place n (map T.id_of p.items.now)) };
 }
 
 impl<'a, T: HasId> Places<'a, T> {
-    ghost use Rattle.std.specs.Prelude.{◌≡◌, ◌==◌, map, take, find};
+    ghost use Rattle.std.specs.Prelude.{◌≡◌, ◌==◌, ℕ, map, take, find, IfSome};
     ghost use Rattle.std.specs.List.{list_any};
     ghost use Rattle.std.specs.Option.{option_copied};
     ghost use Rattle.vz_frame.specs.Frame.{has_repeat};
+    ghost use Rattle.vz_frame.specs.Pairs.{get};
     ghost use Rattle.vz_frame.specs.Places.{first_place};
 
-    /// Makes the map of a list.
-    pub fn of(items: &'a [T]) -> Places<'a, T>
+    /// The values of a list, which are scanned.
+    pub fn scanned(items: &'a [T]) -> Places<'a, T>
         ensures { result ≡ items.now }
     {
-        if items.len() < FEW || items.len() > MOST_RESOURCES {
-            let repeats = scan_repeats(items);
-            return Places {
-                items,
-                index: None,
-                repeats,
-            };
-        }
-        let (index, repeats) = indexed(items);
+        let repeats = scan_repeats(items);
         Places {
             items,
-            index: Some(index),
+            index: None,
             repeats,
+        }
+    }
+
+    /// The values of a list, which are found through its map if it has one.
+    pub fn of(items: &'a [T], index: &'a Option<Index>) -> Places<'a, T>
+        requires { IfSome index.now (λ m. (m.repeats
+            ≡ has_repeat (λ a b. b == a) (map T.id_of items.now))
+            × ((n : ℕ) → get m.places n ≡ first_place n (map T.id_of items.now))) }
+        ensures { result ≡ items.now }
+    {
+        match index {
+            None => Places::scanned(items),
+            Some(index) => Places {
+                items,
+                index: Some(index),
+                repeats: index.repeats,
+            },
         }
     }
 
@@ -119,17 +137,35 @@ impl<'a, T: HasId> Places<'a, T> {
         ensures { result ≡ first_place id (map T.id_of self.now) }
     {
         match &self.index {
-            Some(index) => index.get(id),
+            Some(index) => index.places.get(id),
             None => scan(self.items, id),
         }
     }
 }
 
+/// Whether a list is short, so that it is scanned, which takes less time than to make a map of it.
+pub fn is_short<T>(items: &[T]) -> bool {
+    items.len() < FEW
+}
+
+/// The map of a list. A short list has none, and neither has one that is longer than the map has
+/// room for, but no message file has one.
+pub fn index_of<T: HasId>(items: &[T]) -> Option<Index>
+    ensures { IfSome result (λ m. (m.repeats ≡ has_repeat (λ a b. b == a) (map T.id_of items.now))
+        × ((n : ℕ) → get m.places n ≡ first_place n (map T.id_of items.now))) }
+{
+    if is_short(items) || items.len() > MOST_RESOURCES {
+        return None;
+    }
+    let index = indexed(items);
+    Some(index)
+}
+
 /// The ids with their first indices, and whether an id occurs twice.
-fn indexed<T: HasId>(items: &[T]) -> (IdMap, bool)
+fn indexed<T: HasId>(items: &[T]) -> Index
     requires { length items.now ≤ MOST_RESOURCES }
-    ensures places { (n : ℕ) → get result.0 n ≡ first_place n (map T.id_of items.now) }
-    ensures repeats { result.1 ≡ has_repeat (λ a b. b == a) (map T.id_of items.now) }
+    ensures repeats { result.repeats ≡ has_repeat (λ a b. b == a) (map T.id_of items.now) }
+    ensures places { (n : ℕ) → get result.places n ≡ first_place n (map T.id_of items.now) }
 {
     let mut index = IdMap::new();
     let mut repeats = false;
@@ -137,7 +173,10 @@ fn indexed<T: HasId>(items: &[T]) -> (IdMap, bool)
         let is_new = index.insert(items[place].id(), place);
         repeats |= !is_new;
     }
-    (index, repeats)
+    Index {
+        places: index,
+        repeats,
+    }
 }
 
 /// Whether an id occurs twice.

@@ -6,7 +6,7 @@ ghost use Rattle.vz_frame.specs.Frame.{bad_root, exceeds, first_broken, has_repe
 ghost use Rattle.vz_ids.specs.Ids.{is_good, same_surface};
 ghost use Rattle.std.specs.Option.{option_copied};
 
-use crate::places::Places;
+use crate::places::{Places, index_of, is_short};
 use crate::{CompositorFrame, DrawQuad, Listing, Material, RenderPass};
 use std::error::Error;
 use std::fmt;
@@ -132,9 +132,41 @@ fn first_broken(frame: &CompositorFrame) -> Option<Rule>
     ensures { result ≡ first_broken frame.now }
 {
     let passes = frame.passes.as_slice();
-    let by_id = Places::of(passes);
-    let listed = Places::of(frame.resources.as_slice());
-    let found = search_passes(passes, &by_id, &listed);
+    let resources = frame.resources.as_slice();
+    if is_short(passes) && is_short(resources) {
+        return broken_in(frame, &Places::scanned(passes), &Places::scanned(resources));
+    }
+    broken_by_maps(frame)
+}
+
+/// The first rule that a frame breaks, if it breaks one, with maps of its longer lists.
+#[inline(never)]
+fn broken_by_maps(frame: &CompositorFrame) -> Option<Rule>
+    ensures { result ≡ first_broken frame.now }
+{
+    let passes = frame.passes.as_slice();
+    let resources = frame.resources.as_slice();
+    let by_id = index_of(passes);
+    let listed = index_of(resources);
+    broken_in(
+        frame,
+        &Places::of(passes, &by_id),
+        &Places::of(resources, &listed),
+    )
+}
+
+/// The first rule that a frame breaks, if it breaks one, by its passes and by what it lists.
+fn broken_in(
+    frame: &CompositorFrame,
+    by_id: &Places<'_, RenderPass>,
+    listed: &Places<'_, Listing>,
+) -> Option<Rule>
+    requires passes { by_id.now ≡ frame.now.passes }
+    requires listed { listed.now ≡ frame.now.resources }
+    ensures { result ≡ first_broken frame.now }
+{
+    let passes = frame.passes.as_slice();
+    let found = search_passes(passes, by_id, listed);
     let table = [
         (passes.is_empty(), Rule::NoPass),
         (is_bad_root(passes.last()), Rule::BadRoot),

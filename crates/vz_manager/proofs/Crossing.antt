@@ -24,6 +24,7 @@ use Rattle.vz_returns.specs.contracts.lenders.Lenders as Lenders
 use Rattle.vz_returns.specs.contracts.pending_feedback.PendingFeedback as PendingFeedback
 use Rattle.vz_refs.specs.contracts.references.References as References
 use Rattle.vz_damage.specs.contracts.damage.Damage as Damage
+use Rattle.vz_surface_manager.specs.contracts.roster.Roster as Roster
 use Rattle.vz_surface_manager.specs.contracts.flight.Flight as Flight
 use Rattle.vz_surface_manager.specs.contracts.live.LiveSurfaces as LiveSurfaces
 use Rattle.vz_surface_manager.specs.contracts.waiting.Waiting as Waiting
@@ -112,6 +113,9 @@ references_send = search (sendable, crosses) depth 100 fits 10000
 damage_send : IsSend Damage.the_field.row
 damage_send = search (sendable, crosses) depth 100 fits 10000
 
+roster_send : IsSend Roster.the_field.row
+roster_send = search (sendable, crosses) depth 100 fits 10000
+
 flight_send : IsSend Flight.the_field.row
 flight_send = search (sendable, crosses) depth 100 fits 10000
 
@@ -123,6 +127,7 @@ live_send =
     let e = references_send in
     let f = damage_send in
     let h = flight_send in
+    let i = roster_send in
     search (sendable, crosses) depth 30
 
 waiting_send : IsSend Waiting.the_field.row

@@ -1,5 +1,5 @@
 -- What is set, as the ranges of a surface change.
-use Rattle.std.proofs.Common.{◌≡◌, ℕ, zero, suc, ◌+◌, ◌-◌, ◌<◌, ◌≤◌, ◌==◌, Bool, true, false, not, ◌||◌, Some, None, List, [], ◌∷◌, ◌++◌, length, take, map, filter, slice_get, get_or, nat_lt, refl, ap, sym, ◌∙◌, arith, cond}
+use Rattle.std.proofs.Common.{◌≡◌, ℕ, zero, suc, ◌+◌, ◌-◌, ◌<◌, ◌≤◌, ◌==◌, Bool, true, false, not, ◌||◌, Some, None, List, [], ◌∷◌, ◌++◌, length, take, map, filter, slice_get, get_or, refl, ap, sym, ◌∙◌, arith, cond}
 use Rattle.std.specs.List.{list_any}
 use Rattle.std.proofs.lemmas.Bool.Decides.{nat_tests}
 use Rattle.std.proofs.lemmas.List.{take_more, take_all}
@@ -13,57 +13,40 @@ use Rattle.vz_refs.specs.Indexing.{changing, opening, one_more, but_last}
 use Rattle.vz_rules.proofs.Marking.{left_or, right_or}
 use Rattle.vz_rules.proofs.Reached.{from_same, self_same}
 use Rattle.vz_refs.proofs.Same.{flip, apart, together}
+pub use Rattle.std.proofs.lemmas.Option.{slice_get_past as get_over}
+pub use Rattle.vz_rules.proofs.Kept_small.{at_there as some_within}
+pub use Rattle.std.proofs.lemmas.Map.Keys.{any_passes_from_place as found_there}
 
 -- Surfaces that are set, and their ranges
 
 pub changed_set : (f : List SurfaceRange → List SurfaceRange) (id x : SurfaceId) (sets : List Ranged) → is_set (changing f id sets) x ≡ is_set sets x
 unfolding changing
 changed_set f id x [] = refl
-changed_set f id x (s ∷ sets) =
-    elim (same_surface s.id id) as (λ (t : Bool). (same_surface (cond t (record { id = s.id; ranges = f s.ranges }) s).id x || is_set (changing f id sets) x) ≡ (same_surface s.id x || is_set sets x)) [
-      | true ↦ ap (λ t. same_surface s.id x || t) (changed_set f id x sets)
-      | false ↦ ap (λ t. same_surface s.id x || t) (changed_set f id x sets)
-    ]
+changed_set f id x (s ∷ sets) = grind (arith, nat_tests, changed_set f id x sets)
 
 pub changed_other : (f : List SurfaceRange → List SurfaceRange) (id x : SurfaceId) (sets : List Ranged) → same_surface id x ≡ false → ranges_of (changing f id sets) x ≡ ranges_of sets x
 unfolding changing ranges_of
 changed_other f id x [] e = refl
-changed_other f id x (s ∷ sets) e =
-    elim (same_surface s.id id) as (λ (t : Bool). same_surface s.id id ≡ t
-    → cond (same_surface (cond t (record { id = s.id; ranges = f s.ranges }) s).id x) (cond t (record { id = s.id; ranges = f s.ranges }) s).ranges (ranges_of (changing f id sets) x) ≡ cond (same_surface s.id x) s.ranges (ranges_of sets x)) [
-      | true ↦ λ g. ap (λ t. cond t (f s.ranges) (ranges_of (changing f id sets) x)) (apart s.id id x g e) ∙ changed_other f id x sets e ∙ sym (ap (λ t. cond t s.ranges (ranges_of sets x)) (apart s.id id x g e))
-      | false ↦ λ g. ap (cond (same_surface s.id x) s.ranges) (changed_other f id x sets e)
-    ] refl
+changed_other f id x (s ∷ sets) e = grind (arith, nat_tests, apart s.id id x, changed_other f id x sets e)
 
 pub changed_own : (f : List SurfaceRange → List SurfaceRange) (id : SurfaceId) (sets : List Ranged) → is_set sets id ≡ true → ranges_of (changing f id sets) id ≡ f (ranges_of sets id)
 unfolding changing ranges_of
 changed_own f id [] e = absurd (cc)
-changed_own f id (s ∷ sets) e =
-    elim (same_surface s.id id) as (λ (t : Bool). same_surface s.id id ≡ t → (t || is_set sets id) ≡ true
-    → cond (same_surface (cond t (record { id = s.id; ranges = f s.ranges }) s).id id) (cond t (record { id = s.id; ranges = f s.ranges }) s).ranges (ranges_of (changing f id sets) id) ≡ f (cond t s.ranges (ranges_of sets id))) [
-      | true ↦ λ g h. ap (λ t. cond t (f s.ranges) (ranges_of (changing f id sets) id)) g
-      | false ↦ λ g h. ap (λ t. cond t s.ranges (ranges_of (changing f id sets) id)) g ∙ changed_own f id sets h
-    ] refl e
+changed_own f id (s ∷ sets) e = grind (arith, nat_tests, changed_own f id sets)
 
 pub changed_ids : (f : List SurfaceRange → List SurfaceRange) (id : SurfaceId) (sets : List Ranged) → map (λ s. s.id) (changing f id sets) ≡ map (λ s. s.id) sets
 unfolding changing
 changed_ids f id [] = refl
-changed_ids f id (s ∷ sets) =
-    elim (same_surface s.id id) as (λ (t : Bool). (cond t (record { id = s.id; ranges = f s.ranges }) s).id ∷ map (λ s. s.id) (changing f id sets) ≡ s.id ∷ map (λ s. s.id) sets) [
-      | true ↦ ap (λ l. s.id ∷ l) (changed_ids f id sets)
-      | false ↦ ap (λ l. s.id ∷ l) (changed_ids f id sets)
-    ]
+changed_ids f id (s ∷ sets) = grind (arith, nat_tests, changed_ids f id sets)
 
 pub unset_ranges : (sets : List Ranged) (id : SurfaceId) → is_set sets id ≡ false → ranges_of sets id ≡ []
 unfolding ranges_of
 unset_ranges [] id e = refl
-unset_ranges (s ∷ sets) id e =
-    elim (same_surface s.id id) as (λ (t : Bool). (t || is_set sets id) ≡ false → cond t s.ranges (ranges_of sets id) ≡ []) [ true ↦ λ h. absurd (cc) | false ↦ λ h. unset_ranges sets id h ] e
+unset_ranges (s ∷ sets) id e = grind (arith, nat_tests, unset_ranges sets id)
 
 -- a surface with ranges is set
 pub set_with_some : (sets : List Ranged) (id : SurfaceId) → 0 < length (ranges_of sets id) → is_set sets id ≡ true
-set_with_some sets id some =
-    elim (is_set sets id) as (λ (t : Bool). is_set sets id ≡ t → t ≡ true) [ true ↦ λ e. refl | false ↦ λ e. absurd (omega (arith, some, ap length (unset_ranges sets id e))) ] refl
+set_with_some sets id some = grind (arith, nat_tests, unset_ranges sets id)
 
 pub set_ids : (sets : List Ranged) (x : SurfaceId) → is_set sets x ≡ list_any (same_surface x) (map (λ s. s.id) sets)
 set_ids [] x = refl
@@ -95,12 +78,7 @@ behind (s ∷ sets) id other ranges e =
 
 pub set_behind : (sets : List Ranged) (id other : SurfaceId) (ranges : List SurfaceRange) → is_set (sets ++ record { id = id; ranges = ranges } ∷ []) other ≡ (same_surface id other || is_set sets other)
 set_behind [] id other ranges = refl
-set_behind (s ∷ sets) id other ranges = ap (λ t. same_surface s.id other || t) (set_behind sets id other ranges) ∙ turn (same_surface s.id other) (same_surface id other) (is_set sets other)
-  where
-    turn : (a b c : Bool) → (a || (b || c)) ≡ (b || (a || c))
-    turn true true c = refl
-    turn true false c = refl
-    turn false b c = refl
+set_behind (s ∷ sets) id other ranges = grind (arith, nat_tests, set_behind sets id other ranges)
 
 pub ids_behind : (sets : List Ranged) (id : SurfaceId) (ranges : List SurfaceRange) → map (λ s. s.id) (sets ++ record { id = id; ranges = ranges } ∷ []) ≡ map (λ s. s.id) sets ++ id ∷ []
 ids_behind [] id ranges = refl
@@ -147,21 +125,11 @@ get_before [] x (suc k) e = refl
 get_before (y ∷ xs) x zero e = refl
 get_before (y ∷ xs) x (suc k) e = get_before xs x k (grind (arith, nat_tests, e))
 
-pub get_over : {A : Type 0} (xs : List A) (k : ℕ) → length xs ≤ k → slice_get xs k ≡ None
-get_over [] k h = refl
-get_over (x ∷ xs) zero h = absurd (omega (arith, h))
-get_over (x ∷ xs) (suc k) h = get_over xs k (omega (arith, h))
-
 pub get_within : {A : Type 0} (xs : List A) (k n : ℕ) → k < n → slice_get (take n xs) k ≡ slice_get xs k
 get_within xs k zero h = absurd (omega (arith, h))
 get_within [] k (suc n) h = refl
 get_within (x ∷ xs) zero (suc n) h = refl
 get_within (x ∷ xs) (suc k) (suc n) h = get_within xs k n (omega (arith, h))
-
-pub some_within : {A : Type 0} (xs : List A) (k : ℕ) → k < length xs → (x : A) × (slice_get xs k ≡ Some x)
-some_within [] k h = absurd (omega (arith, h))
-some_within (x ∷ xs) zero h = (x, refl)
-some_within (x ∷ xs) (suc k) h = some_within xs k (omega (arith, h))
 
 pub take_long : {A : Type 0} (xs : List A) (n : ℕ) → n ≤ length xs → length (take n xs) ≡ n
 take_long xs zero h = refl
@@ -169,14 +137,7 @@ take_long [] (suc n) h = absurd (omega (arith, h))
 take_long (x ∷ xs) (suc n) h = let rest = take_long xs n (omega (arith, h)) in omega (arith, rest)
 
 pub get_but_last : {A : Type 0} (xs : List A) (n k : ℕ) → n + 1 ≡ length xs → (n == k) ≡ false → slice_get (take (length xs - 1) xs) k ≡ slice_get xs k
-get_but_last xs n k e f =
-    elim (nat_lt k n) as (λ (t : Bool). nat_lt k n ≡ t → slice_get (take (length xs - 1) xs) k ≡ slice_get xs k) [
-      | true ↦ λ h. get_within xs k (length xs - 1) (let low : k < n = grind (arith, nat_tests, h) in omega (arith, low, e))
-      | false ↦ λ h.
-          let high : n < k = grind (arith, nat_tests, h, f) in
-          let cut = take_long xs (length xs - 1) (omega arith) in
-          get_over (take (length xs - 1) xs) k (omega (arith, cut, high, e)) ∙ sym (get_over xs k (omega (arith, high, e)))
-    ] refl
+get_but_last xs n k e f = grind (arith, nat_tests, get_within xs k, take_long xs, get_over, get_over xs k)
 
 pub found_place : {A : Type 0} (p : A → Bool) (xs : List A) → list_any p xs ≡ true → (k : ℕ) × (x : A) × (slice_get xs k ≡ Some x) × (p x ≡ true)
 found_place p [] h = absurd (cc)
@@ -186,21 +147,12 @@ found_place p (x ∷ xs) h =
       | false ↦ λ e g. let rest = found_place p xs g in (suc rest.0, rest.1, rest.2, rest.3)
     ] refl h
 
-pub found_there : {A : Type 0} (p : A → Bool) (xs : List A) (k : ℕ) (x : A) → slice_get xs k ≡ Some x → p x ≡ true → list_any p xs ≡ true
-found_there p [] k x e h = absurd (cc)
-found_there p (y ∷ xs) zero x e h = let is : y ≡ x = cc in left_or (p y) (list_any p xs) (ap p is ∙ h)
-found_there p (y ∷ xs) (suc k) x e h = right_or (p y) (list_any p xs) (found_there p xs k x e h)
-
 -- Which range names a surface
 
 pub named_with : (sets : List Ranged) (o id : SurfaceId) → is_named_by (ranges_of sets o) id ≡ true → is_named_in sets id ≡ true
 unfolding is_named_by is_named_in ranges_of
 named_with [] o id h = absurd (cc)
-named_with (s ∷ sets) o id h =
-    elim (same_surface s.id o) as (λ (t : Bool). list_any (names id) (cond t s.ranges (ranges_of sets o)) ≡ true → (list_any (names id) s.ranges || list_any (λ s. list_any (names id) s.ranges) sets) ≡ true) [
-      | true ↦ λ g. left_or _ _ g
-      | false ↦ λ g. right_or (list_any (names id) s.ranges) _ (named_with sets o id g)
-    ] h
+named_with (s ∷ sets) o id h = grind (arith, nat_tests, left_or, right_or (list_any (names id) s.ranges), named_with sets o id)
 
 -- a range that names a surface, and where it is set
 pub record Naming (sets : List Ranged) (id : SurfaceId) : Type 0 where
@@ -242,22 +194,12 @@ naming (s ∷ sets) id once h =
 pub changing_unset : (f : List SurfaceRange → List SurfaceRange) (id : SurfaceId) (sets : List Ranged) → is_set sets id ≡ false → changing f id sets ≡ sets
 unfolding changing
 changing_unset f id [] e = refl
-changing_unset f id (s ∷ sets) e =
-    elim (same_surface s.id id) as (λ (t : Bool). (t || is_set sets id) ≡ false → cond t (record { id = s.id; ranges = f s.ranges }) s ∷ changing f id sets ≡ s ∷ sets) [
-      | true ↦ λ h. absurd (cc)
-      | false ↦ λ h. ap (λ l. s ∷ l) (changing_unset f id sets h)
-    ] e
+changing_unset f id (s ∷ sets) e = grind (arith, nat_tests, changing_unset f id sets)
 
 pub changing_twice : (f g : List SurfaceRange → List SurfaceRange) (id : SurfaceId) (sets : List Ranged) → changing f id (changing g id sets) ≡ changing (λ xs. f (g xs)) id sets
 unfolding changing
 changing_twice f g id [] = refl
-changing_twice f g id (s ∷ sets) =
-    elim (same_surface s.id id) as (λ (t : Bool). same_surface s.id id ≡ t
-    → cond (same_surface (cond t (record { id = s.id; ranges = g s.ranges }) s).id id) (record { id = (cond t (record { id = s.id; ranges = g s.ranges }) s).id; ranges = f (cond t (record { id = s.id; ranges = g s.ranges }) s).ranges }) (cond t (record { id = s.id; ranges = g s.ranges }) s) ∷ changing f id (changing g id sets)
-    ≡ cond t (record { id = s.id; ranges = f (g s.ranges) }) s ∷ changing (λ xs. f (g xs)) id sets) [
-      | true ↦ λ e. (λ i. cond (e i) (record { id = s.id; ranges = f (g s.ranges) }) (record { id = s.id; ranges = g s.ranges }) ∷ changing_twice f g id sets i)
-      | false ↦ λ e. (λ i. cond (e i) (record { id = s.id; ranges = f s.ranges }) s ∷ changing_twice f g id sets i)
-    ] refl
+changing_twice f g id (s ∷ sets) = grind (arith, nat_tests, changing_twice f g id sets)
 
 pub changing_alike : (f g : List SurfaceRange → List SurfaceRange) (id : SurfaceId) (sets : List Ranged) → ((xs : List SurfaceRange) → f xs ≡ g xs) → changing f id sets ≡ changing g id sets
 changing_alike f g id sets h = λ i. changing (λ xs. h xs i) id sets
@@ -265,11 +207,7 @@ changing_alike f g id sets h = λ i. changing (λ xs. h xs i) id sets
 pub changing_same : (f : List SurfaceRange → List SurfaceRange) (id : SurfaceId) (sets : List Ranged) → ((xs : List SurfaceRange) → f xs ≡ xs) → changing f id sets ≡ sets
 unfolding changing
 changing_same f id [] h = refl
-changing_same f id (s ∷ sets) h =
-    elim (same_surface s.id id) as (λ (t : Bool). cond t (record { id = s.id; ranges = f s.ranges }) s ∷ changing f id sets ≡ s ∷ sets) [
-      | true ↦ (λ i. record { id = s.id; ranges = h s.ranges i } ∷ changing_same f id sets h i)
-      | false ↦ ap (λ l. s ∷ l) (changing_same f id sets h)
-    ]
+changing_same f id (s ∷ sets) h = grind (arith, nat_tests, changing_same f id sets h)
 
 pub cleared : (f : List SurfaceRange → List SurfaceRange) (id : SurfaceId) (sets : List Ranged) → has_repeat same_surface (map (λ s. s.id) sets) ≡ false → f (ranges_of sets id) ≡ [] → changing f id sets ≡ map (set_one id []) sets
 unfolding changing ranges_of
@@ -298,10 +236,7 @@ abbrev pub but_lasts : ℕ → List SurfaceRange → List SurfaceRange
 but_lasts k xs = take (length xs - k) xs
 
 pub next_shorter : (k : ℕ) (xs : List SurfaceRange) → but_last (but_lasts k xs) ≡ but_lasts (k + 1) xs
-next_shorter k xs =
-    let cut = take_long xs (length xs - k) (omega arith) in
-    let fewer : length (take (length xs - k) xs) - 1 ≡ length xs - (k + 1) = omega (arith, cut) in
-    ap (λ n. take n (take (length xs - k) xs)) fewer ∙ take_both (length xs - k) (length xs - (k + 1)) xs (omega arith)
+next_shorter k xs = grind (arith, nat_tests, take_long xs, take_both)
 
 pub all_taken : {A : Type 0} (xs : List A) → take (length xs - 0) xs ≡ xs
 all_taken xs = take_all (length xs - 0) xs (omega arith)
@@ -345,12 +280,7 @@ no_ranges id sets =
 pub removed_anyway : (id : SurfaceId) (sets : List Ranged) → removing id (map (set_one id []) sets) ≡ removing id sets
 unfolding removing
 removed_anyway id [] = refl
-removed_anyway id (s ∷ sets) =
-    elim (same_surface s.id id) as (λ (t : Bool). same_surface s.id id ≡ t
-    → cond (not (same_surface (cond t (record { id = s.id; ranges = [] }) s).id id)) (cond t (record { id = s.id; ranges = [] }) s ∷ removing id (map (set_one id []) sets)) (removing id (map (set_one id []) sets)) ≡ cond (not t) (s ∷ removing id sets) (removing id sets)) [
-      | true ↦ λ e. (λ i. cond (not (e i)) (record { id = s.id; ranges = [] } ∷ removing id (map (set_one id []) sets)) (removing id (map (set_one id []) sets))) ∙ removed_anyway id sets
-      | false ↦ λ e. (λ i. cond (not (e i)) (s ∷ removing id (map (set_one id []) sets)) (removing id (map (set_one id []) sets))) ∙ ap (λ l. s ∷ l) (removed_anyway id sets)
-    ] refl
+removed_anyway id (s ∷ sets) = grind (arith, nat_tests, removed_anyway id sets)
 
 append_more : {A : Type 0} (xs ys : List A) (y : A) → (xs ++ ys) ++ y ∷ [] ≡ xs ++ (ys ++ y ∷ [])
 append_more [] ys y = refl

@@ -16,65 +16,21 @@ use Rattle.vz_refs.specs.declared.temporaries.Numbers.{Numbers}
 use Rattle.vz_refs.specs.Lasting.{same_name, kept_in, surface_in, temporary_of, lasting_in, all_in, IsGiven, IsKept}
 use Rattle.vz_rules.proofs.Marking.{fits, left_or, right_or, from_or}
 use Rattle.vz_refs.proofs.Named.{from_name, self_name, name_laws, kept_of}
-
--- a truth from two implications
-pub both_ways : (a b : Bool) → (a ≡ true → b ≡ true) → (b ≡ true → a ≡ true) → a ≡ b
-both_ways true b f g = sym (f refl)
-both_ways false true f g = g refl
-both_ways false false f g = refl
+pub use Rattle.vz_rules.proofs.Members.{same_tests as both_ways}
+use Rattle.vz_rules.proofs.Facts.{length_map}
+use Rattle.std.proofs.lemmas.Bool.Decides.{nat_tests}
 
 second_of : (t u : Bool) → (t ≡ true → u ≡ true) → (t && u) ≡ t
-second_of true u f = f refl
-second_of false u f = refl
+second_of x0 u f = grind (arith, nat_tests)
 
 -- names of those that pass a test of names
 names_left : (p : Name → Bool) (n : Name) (es : List Named) → list_any (same_name n) (map (λ e. e.name) (filter (λ e. p e.name) es)) ≡ (p n && list_any (same_name n) (map (λ e. e.name) es))
-names_left p n [] = sym (none (p n))
-  where
-    none : (t : Bool) → (t && false) ≡ false
-    none true = refl
-    none false = refl
-names_left p n (e ∷ es) = by_test (names_left p n es) (p e.name) refl (same_name n e.name) refl
-  where
-    any : Bool
-    any = list_any (same_name n) (map (λ e. e.name) es)
-
-    by_test : list_any (same_name n) (map (λ e. e.name) (filter (λ e. p e.name) es)) ≡ (p n && list_any (same_name n) (map (λ e. e.name) es)) → (t : Bool) → p e.name ≡ t → (u : Bool) → same_name n e.name ≡ u
-        → list_any (same_name n) (map (λ e. e.name) (cond t (e ∷ filter (λ e. p e.name) es) (filter (λ e. p e.name) es))) ≡ (p n && (u || list_any (same_name n) (map (λ e. e.name) es)))
-    by_test rest true f true g =
-        let yes_n : p n ≡ true = ap p (from_name n e.name g) ∙ f in
-        ap (λ u. u || list_any (same_name n) (map (λ e. e.name) (filter (λ e. p e.name) es))) g ∙ sym (ap (λ t. t && true) yes_n)
-    by_test rest true f false g = ap (λ u. u || list_any (same_name n) (map (λ e. e.name) (filter (λ e. p e.name) es))) g ∙ rest
-    by_test rest false f true g =
-        let no_n : p n ≡ false = ap p (from_name n e.name g) ∙ f in
-        rest ∙ ap (λ t. t && list_any (same_name n) (map (λ e. e.name) es)) no_n ∙ sym (ap (λ t. t && true) no_n)
-    by_test rest false f false g = rest
+names_left p n [] = grind (arith, nat_tests)
+names_left p n (e ∷ es) = grind (arith, nat_tests, names_left p n es, from_name n e.name)
 
 left_once : (p : Name → Bool) (es : List Named) → has_repeat same_name (map (λ e. e.name) es) ≡ false → has_repeat same_name (map (λ e. e.name) (filter (λ e. p e.name) es)) ≡ false
 left_once p [] h = refl
-left_once p (e ∷ es) h = by_test (left_once p es (rest_of _ _ h)) (names_left p e.name es) (first_of _ _ h) (p e.name)
-  where
-    first_of : (a b : Bool) → (a || b) ≡ false → a ≡ false
-    first_of false b h = refl
-    first_of true b h = absurd (cc)
-
-    rest_of : (a b : Bool) → (a || b) ≡ false → b ≡ false
-    rest_of false b h = h
-    rest_of true b h = absurd (cc)
-
-    none : (t u : Bool) → u ≡ false → (t && u) ≡ false
-    none true u f = f
-    none false u f = refl
-
-    neither : (a b : Bool) → a ≡ false → b ≡ false → (a || b) ≡ false
-    neither a b p q = rw (p, q)
-
-    by_test : has_repeat same_name (map (λ e. e.name) (filter (λ e. p e.name) es)) ≡ false
-        → list_any (same_name e.name) (map (λ e. e.name) (filter (λ e. p e.name) es)) ≡ (p e.name && list_any (same_name e.name) (map (λ e. e.name) es))
-        → list_any (same_name e.name) (map (λ e. e.name) es) ≡ false → (t : Bool)
-        → has_repeat same_name (map (λ e. e.name) (cond t (e ∷ filter (λ e. p e.name) es) (filter (λ e. p e.name) es))) ≡ false
-    by_test rest any out true = neither _ _ (any ∙ none (p e.name) _ out) rest
-    by_test rest any out false = rest
+left_once p (e ∷ es) h = grind (arith, nat_tests, left_once p es, names_left p e.name es)
 
 distinct_once : (names : List Name) → IsDistinct same_name names → has_repeat same_name names ≡ false
 unfolding IsDistinct
@@ -88,10 +44,6 @@ distinct_once (x ∷ names) d = no_or _ _ (nowhere names d.0) (distinct_once nam
     nowhere [] all = refl
     nowhere (y ∷ names) all = no_or _ _ all.0 (nowhere names all.1)
 
-length_map : {A B : Type 0} (f : A → B) (xs : List A) → length (map f xs) ≡ length xs
-length_map f [] = refl
-length_map f (x ∷ xs) = let rest = length_map f xs in omega (arith, rest)
-
 -- Where the same surface is
 
 any_at : (x : SurfaceId) (es : List (Name × Kept)) → list_any (same_surface x) (map (λ t. t.id) (all_in es)) ≡ true → (i : ℕ) × (e : Name × Kept) × (slice_get es i ≡ Some e) × (same_surface x e.1.id ≡ true)
@@ -104,41 +56,14 @@ any_at x (e ∷ es) h =
 
 value_any : (x : SurfaceId) (es : List (Name × Kept)) (n : Name) (k : Kept) → lookup (same_name n) es ≡ Some k → same_surface x k.id ≡ true → list_any (same_surface x) (map (λ t. t.id) (all_in es)) ≡ true
 value_any x [] n k h is = absurd (cc)
-value_any x (e ∷ es) n k h is =
-    elim (same_name n e.0) as (λ (t : Bool). cond t (Some e.1) (lookup (same_name n) es) ≡ Some k → (same_surface x e.1.id || list_any (same_surface x) (map (λ t. t.id) (all_in es))) ≡ true) [
-      | true ↦ λ g. left_or _ _ (let one : e.1 ≡ k = cc in ap (λ (k : Kept). same_surface x k.id) one ∙ is)
-      | false ↦ λ g. right_or (same_surface x e.1.id) _ (value_any x es n k g is)
-    ] h
+value_any x (e ∷ es) n k h is = grind (arith, nat_tests, left_or, right_or (same_surface x e.1.id), value_any x es n k)
 
 module _ (surface : Name → Option SurfaceId) (numbers : ℕ → Option Numbers) (given : ℕ) (x : SurfaceId) where
   any_lasting : (es : List Named) → AllByRecursion (IsGiven surface numbers given) es → (n : Name) (d : SurfaceId) → surface n ≡ Some d → list_any (same_name n) (map (λ e. e.name) es) ≡ true → same_surface x d ≡ true
       → list_any (same_surface x) (map (λ t. t.id) (lasting_in surface es)) ≡ true
   unfolding lasting_in
   any_lasting [] every n d there h is = absurd (cc)
-  any_lasting (e ∷ es) every n d there h is =
-      by_name (any_lasting es every.1 n d there) (same_name n e.name) refl h
-    where
-      any : Bool
-      any = list_any (same_surface x) (map (λ t. t.id) (map temporary_of (filter (λ e. is_some (surface e.name)) es)))
-
-      in_front : surface e.name ≡ Some d → ((surface e.name ≡ None) ⊎ (surface e.name ≡ Some e.id))
-          → list_any (same_surface x) (map (λ t. t.id) (map temporary_of (cond (is_some (surface e.name)) (e ∷ filter (λ e. is_some (surface e.name)) es) (filter (λ e. is_some (surface e.name)) es)))) ≡ true
-      in_front has (inl f) = let no_way : None ≡ Some d = sym f ∙ has in absurd (cc)
-      in_front has (inr f) =
-          let one : d ≡ e.id = (let same : Some d ≡ Some e.id = sym has ∙ f in cc) in
-          ap (λ t. list_any (same_surface x) (map (λ t. t.id) (map temporary_of (cond t (e ∷ filter (λ e. is_some (surface e.name)) es) (filter (λ e. is_some (surface e.name)) es))))) (ap is_some has)
-          ∙ left_or _ _ (ap (same_surface x) (sym one) ∙ is)
-
-      behind : (t : Bool) → list_any (same_surface x) (map (λ t. t.id) (map temporary_of (filter (λ e. is_some (surface e.name)) es))) ≡ true
-          → list_any (same_surface x) (map (λ t. t.id) (map temporary_of (cond t (e ∷ filter (λ e. is_some (surface e.name)) es) (filter (λ e. is_some (surface e.name)) es)))) ≡ true
-      behind true f = right_or (same_surface x e.id) _ f
-      behind false f = f
-
-      by_name : (list_any (same_name n) (map (λ e. e.name) es) ≡ true → same_surface x d ≡ true → list_any (same_surface x) (map (λ t. t.id) (map temporary_of (filter (λ e. is_some (surface e.name)) es))) ≡ true)
-          → (t : Bool) → same_name n e.name ≡ t → (t || list_any (same_name n) (map (λ e. e.name) es)) ≡ true
-          → list_any (same_surface x) (map (λ t. t.id) (map temporary_of (cond (is_some (surface e.name)) (e ∷ filter (λ e. is_some (surface e.name)) es) (filter (λ e. is_some (surface e.name)) es)))) ≡ true
-      by_name rest true f g = in_front (ap surface (sym (from_name n e.name f)) ∙ there) every.0.right
-      by_name rest false f g = behind (is_some (surface e.name)) (rest g is)
+  any_lasting (e ∷ es) every n d there h is = grind (arith, nat_tests, any_lasting es every.1 n d there, left_or, right_or (same_surface x e.id), from_name n e.name)
 
   lasting_any : (es : List Named) → AllByRecursion (IsGiven surface numbers given) es → list_any (same_surface x) (map (λ t. t.id) (lasting_in surface es)) ≡ true → (n : Name) × (d : SurfaceId) × (surface n ≡ Some d) × (same_surface x d ≡ true)
   unfolding lasting_in

@@ -1,12 +1,11 @@
 -- What a range names is looked for in one group alone, from its end on, and what a tick ends by its numbers.
-use Rattle.std.proofs.Common.{◌≡◌, ℕ, ◌+◌, ◌-◌, ◌≤◌, ◌<◌, Bool, true, false, ◌==◌, ◌&&◌, nat_le, nat_lt, Option, Some, None, refl, ap, sym, subst, ◌∙◌, arith, cond}
+use Rattle.std.proofs.Common.{◌≡◌, ℕ, ◌+◌, ◌-◌, ◌≤◌, ◌<◌, Bool, true, false, ◌==◌, ◌&&◌, nat_le, nat_lt, Some, None, refl, ap, sym, ◌∙◌, arith, cond}
 use Rattle.std.proofs.lemmas.Bool.Decides.{nat_tests}
 use Rattle.vz_ids.specs.declared.SurfaceId.{SurfaceId}
 use Rattle.vz_ids.specs.declared.SurfaceRange.{SurfaceRange}
 use Rattle.vz_ids.specs.declared.GroupKey.{GroupKey}
 use Rattle.vz_ids.specs.Ids.{group_of}
 use Rattle.vz_rules.specs.Reach.{names}
-use Rattle.vz_refs.specs.declared.sets.Place.{Place}
 use Rattle.vz_refs.specs.declared.seats.Name.{Name}
 use Rattle.vz_refs.specs.declared.seats.Seats.{Seats}
 use Rattle.vz_refs.specs.Lasting.{same_name, kept_in, surface_in, name_in, size_in, Stands, Ends, IsRid, named_by}
@@ -20,11 +19,7 @@ abbrev pub IsDone : SurfaceRange → Seats → GroupKey → ℕ → Type 0
 IsDone range s group from = (i : ℕ) (n : Name) (d : SurfaceId) → from ≤ i → name_in s (record { group = group; at = i }) ≡ Some n → surface_in s n ≡ Some d → named_by range n d ≡ false
 
 pub none_beyond : (range : SurfaceRange) (s : Seats) (group : GroupKey) (n : ℕ) → Stands s → n ≡ size_in s group → IsDone range s group (n - 0)
-none_beyond range s group n stands size i x d far sits h =
-    let held = stands.held (record { group = group; at = i }) x sits in
-    let low = (stands.placed x held.0 held.1).1 in
-    let within : i < size_in s group = subst (λ (p : Place). p.at < size_in s p.group) held.2 low in
-    absurd (omega (arith, within, far, size))
+none_beyond range s group n stands size i x d far sits h = grind (arith, nat_tests)
 
 pub one_more_done : (range : SurfaceRange) (a b : Seats) (group : GroupKey) (n k : ℕ) → k < n → IsDone range a group (n - k) → Ends (named_by range) a b
     → ((x : Name) (d : SurfaceId) → name_in a (record { group = group; at = n - 1 - k }) ≡ Some x → surface_in b x ≡ Some d → named_by range x d ≡ false)
@@ -49,43 +44,13 @@ all_done range s group from stands is low done x d h =
 
 -- Numbers until a tick
 
--- three tests that hold
-three : (a b c : Bool) → a ≡ true → b ≡ true → c ≡ true → (a && (b && c)) ≡ true
-three true true true e f g = refl
-three true true false e f g = g
-three true false c e f g = f
-three false b c e f g = e
-
 -- a number within the bounds is among them
 pub is_within : (until first next k : ℕ) → first ≤ k → k < next → ((until == until) && (nat_le first k && nat_lt k next)) ≡ true
-is_within until first next k low high =
-    let same : (until == until) ≡ true = grind (arith, nat_tests) in
-    let over : nat_le first k ≡ true = grind (arith, nat_tests, low) in
-    let under : nat_lt k next ≡ true = grind (arith, nat_tests, high) in
-    three (until == until) (nat_le first k) (nat_lt k next) same over under
+is_within until first next k low high = grind (arith, nat_tests)
 
 -- those with numbers below this one are gone
 abbrev pub AreGone : ℕ → ℕ → ℕ → Seats → Type 0
 AreGone until first next s = (n : Name) → n.until ≡ until → first ≤ n.number → n.number < next → surface_in s n ≡ None
 
 pub one_more_gone : (until first k : ℕ) (a b : Seats) → AreGone until first k a → ((n : Name) → surface_in b n ≡ cond (same_name (record { until = until; number = k }) n) None (surface_in a n)) → AreGone until first (k + 1) b
-one_more_gone until first k a b gone is n same low high =
-    elim (n.number == k) as (λ (t : Bool). (n.number == k) ≡ t → surface_in b n ≡ None) [
-      | true ↦ λ e.
-          let one : record { until = until; number = k } ≡ n = λ i. record { until = sym same i; number = sym (from_eqb n.number k e) i } in
-          subst (λ (n : Name). surface_in b n ≡ None) one (is (record { until = until; number = k }) ∙ own _ (same_name (record { until = until; number = k }) (record { until = until; number = k })) (self_is until k))
-      | false ↦ λ e. is n ∙ nothing _ (same_name (record { until = until; number = k }) n) (gone n same low (less n.number k high e))
-    ] refl
-  where
-    less : (m k : ℕ) → m < k + 1 → (m == k) ≡ false → m < k
-    less m k h e = grind (arith, nat_tests)
-
-    own : (o : Option SurfaceId) (t : Bool) → t ≡ true → cond t None o ≡ None
-    own o t e = ap (λ t. cond t None o) e
-
-    self_is : (u m : ℕ) → same_name (record { until = u; number = m }) (record { until = u; number = m }) ≡ true
-    self_is u m = self_name (record { until = u; number = m })
-
-    nothing : (o : Option SurfaceId) (t : Bool) → o ≡ None → cond t None o ≡ None
-    nothing o true h = refl
-    nothing o false h = h
+one_more_gone until first k a b gone is n same low high = grind (arith, nat_tests, from_eqb n.number k, self_name)

@@ -1,5 +1,5 @@
 -- What can be reached, and the loops that reach it.
-use Rattle.std.proofs.Common.{◌≡◌, ℕ, zero, suc, ◌+◌, ◌-◌, ◌≤◌, ◌<◌, true, false, ◌||◌, inl, inr, Option, Some, None, IfSome, IsTrue, List, [], ◌∷◌, ◌++◌, length, get_or, drop, map, slice_get, refl, ap, sym, ◌∙◌, arith, subst}
+use Rattle.std.proofs.Common.{◌≡◌, ℕ, zero, suc, ◌+◌, ◌-◌, ◌≤◌, ◌<◌, true, false, inl, inr, Option, Some, None, IfSome, IsTrue, List, [], ◌∷◌, ◌++◌, length, get_or, drop, map, slice_get, refl, ap, sym, ◌∙◌, arith, subst}
 use Rattle.std.specs.List.{list_any, filter_map, cons_option}
 use Rattle.std.specs.Option.{option_map, option_to_list}
 use Rattle.std.specs.Map.{values_of}
@@ -14,9 +14,11 @@ use Rattle.vz_refs.specs.declared.seats.Name.{Name}
 use Rattle.vz_refs.specs.declared.seats.Kept.{Kept}
 use Rattle.vz_refs.specs.Lasting.{all_in}
 use Rattle.vz_refs.specs.Referring.{Ranged, Temporary, is_set, ranges_of, next_in, starts}
-use Rattle.vz_rules.proofs.Marking.{from_or, left_or, right_or, next_room, Marked, first_room, marked_first, marked_next, marked_room, marked_within, marked_all}
+use Rattle.vz_rules.proofs.Marking.{from_or, left_or, right_or, next_room, Marked, first_room, marked_first, marked_next, marked_room, marked_within}
 use Rattle.vz_rules.proofs.Reached.{from_same, self_same}
 use Rattle.vz_refs.proofs.Changing.{set_ids}
+use Rattle.vz_rules.proofs.Facts.{length_map}
+use Rattle.std.proofs.lemmas.Bool.Decides.{nat_tests}
 
 -- all that can be reached
 abbrev pub all_of : List Ranged → Option SurfaceId → List Temporary → List SurfaceId
@@ -44,10 +46,6 @@ next_inside shows sets root kept h y x e =
 pub starts_inside : (sets : List Ranged) (root : Option SurfaceId) (kept : List Temporary) (x : SurfaceId) → list_any (same_surface x) (starts root kept) ≡ true → list_any (same_surface x) (all_of sets root kept) ≡ true
 starts_inside sets root kept x e = list_any-append (same_surface x) (starts root kept) (map (λ s. s.id) sets) ∙ left_or _ (list_any (same_surface x) (map (λ s. s.id) sets)) e
 
-length_map : {A B : Type 0} (f : A → B) (xs : List A) → length (map f xs) ≡ length xs
-length_map f [] = refl
-length_map f (x ∷ xs) = let rest = length_map f xs in omega (arith, rest)
-
 length_two : {A : Type 0} (xs ys : List A) → length (xs ++ ys) ≡ length xs + length ys
 length_two [] ys = omega arith
 length_two (x ∷ xs) ys = let rest = length_two xs ys in omega (arith, rest)
@@ -62,18 +60,11 @@ pub all_room : (entries : List (Name × Kept)) (n spare : ℕ) → n + length en
 all_room entries n spare few = let same = all_long entries in omega (arith, same, few)
 
 at_most_one : (root : Option SurfaceId) → length (option_to_list root) ≤ 1
-at_most_one None = omega arith
-at_most_one (Some id) = omega arith
+at_most_one x0 = grind (arith, nat_tests)
 
 pub all_fit : (sets : List Ranged) (root : Option SurfaceId) (kept : List Temporary) (spare : ℕ) → length sets + length kept < spare → length (all_of sets root kept) ≤ spare
 unfolding starts
-all_fit sets root kept spare few =
-    let whole = length_two (starts root kept) (map (λ s. s.id) sets) in
-    let front = length_two (option_to_list root) (map (λ (t : Temporary). t.id) kept) in
-    let one = at_most_one root in
-    let temps = length_map (λ (t : Temporary). t.id) kept in
-    let ids = length_map (λ (s : Ranged). s.id) sets in
-    omega (arith, whole, front, one, temps, ids, few)
+all_fit sets root kept spare few = grind (arith, nat_tests, length_two (starts root kept), length_two (option_to_list root) (map (λ (t : Temporary). t.id) kept), at_most_one root, length_map)
 
 -- one of those that come is put in
 pub grows : (out new rest whole : List SurfaceId) (x : SurfaceId) → adding same_surface out (x ∷ rest) ≡ whole → new ≡ adding same_surface out (x ∷ []) → adding same_surface new rest ≡ whole
@@ -157,22 +148,14 @@ module _ (shows : SurfaceRange → Option SurfaceId) (sets : List Ranged) (root 
       let long = ap length same_list in
       omega (arith, few, long, before)
 
-  -- all are followed
-  pub least_of : (xs slice : List SurfaceId) (at total : ℕ) → IsMarked shows sets root kept xs at total → slice ≡ xs → length slice ≤ at
-      → IsLeastClosed same_surface (next_in shows sets) (starts root kept) xs
-  least_of xs slice at total m same_list over =
-      marked_all same_surface from_same self_same (next_in shows sets) (starts root kept) (all_of sets root kept) xs at total m (omega (arith, over, ap length same_list))
-
 -- The ranges of a surface, one after the other
 
 module _ (shows : SurfaceRange → Option SurfaceId) (ranges : List SurfaceRange) (k : ℕ) (out whole : List SurfaceId) (left : adding same_surface out (filter_map shows (drop k ranges)) ≡ whole) where
   split : (range : SurfaceRange) → slice_get ranges k ≡ Some range → drop k ranges ≡ range ∷ drop (k + 1) ranges
-  split range e =
-      drop_more ranges k range (slice_get_within ranges k range e) ∙ ap (λ r. r ∷ drop (k + 1) ranges) (get_or_from_slice_get ranges k range range e)
+  split range e = grind (arith, nat_tests, drop_more ranges k range (slice_get_within ranges k range e), slice_get_within ranges k range e, get_or_from_slice_get ranges k range range e)
 
   pub range_step : (range : SurfaceRange) (o : Option SurfaceId) → slice_get ranges k ≡ Some range → shows range ≡ o → adding same_surface out (cons_option o (filter_map shows (drop (k + 1) ranges))) ≡ whole
-  range_step range o e is =
-      sym (ap (λ l. adding same_surface out (filter_map shows l)) (split range e) ∙ ap (λ o. adding same_surface out (cons_option o (filter_map shows (drop (k + 1) ranges)))) is) ∙ left
+  range_step range o e is = grind (arith, nat_tests, split range e)
 
 -- The roots in another order
 
@@ -181,13 +164,4 @@ pub other_starts : (next : SurfaceId → List SurfaceId) (root : Option SurfaceI
     → ((x : SurfaceId) → list_any (same_surface x) (map (λ t. t.id) kept) ≡ list_any (same_surface x) (map (λ t. t.id) kept'))
     → IsLeastClosed same_surface next (starts root kept) xs → IsLeastClosed same_surface next (starts root kept') xs
 unfolding starts
-other_starts next root kept kept' xs same least = record {
-  has_roots = λ x h. least.has_roots x (has x ∙ h);
-  closed = least.closed;
-  least = λ other roots closed. least.least other (λ x h. roots x (sym (has x) ∙ h)) closed;
-}
-  where
-    has : (x : SurfaceId) → list_any (same_surface x) (option_to_list root ++ map (λ t. t.id) kept) ≡ list_any (same_surface x) (option_to_list root ++ map (λ t. t.id) kept')
-    has x =
-        list_any-append (same_surface x) (option_to_list root) (map (λ t. t.id) kept) ∙ ap (λ t. list_any (same_surface x) (option_to_list root) || t) (same x)
-        ∙ sym (list_any-append (same_surface x) (option_to_list root) (map (λ t. t.id) kept'))
+other_starts next root kept kept' xs same least = grind (arith, nat_tests, list_any-append)

@@ -13,6 +13,7 @@ use Rattle.vz_refs.specs.declared.seats.Kept.{Kept}
 use Rattle.vz_refs.specs.declared.seats.Seats.{Seats}
 use Rattle.vz_refs.specs.Lasting.{seat_of, kept_in, surface_in, name_in, size_in, room_in, Stands, IsEnded, Ends, IsRid, of_sink, not_of}
 use Rattle.vz_refs.proofs.Named.{kept_of}
+use Rattle.std.proofs.lemmas.Bool.Decides.{nat_tests}
 
 -- what a map has by keys of which some stay
 pub by_key : {K X : Type 0} (same : K → K → Bool) (from : (a b : K) → same a b ≡ true → a ≡ b) (stays : K → Bool) (es : List (K × X)) (k : K)
@@ -25,15 +26,7 @@ module _ (sink : FrameSinkId) (a b : Seats) (stands : Stands a)
     (sizes : (g : GroupKey) → size_in b g ≡ cond (not (same_sink g.sink sink)) (size_in a g) 0) where
   -- one that stays was there, and is of another sink
   stays : (n : Name) (k : Kept) → kept_in b n ≡ Some k → (kept_in a n ≡ Some k) × (same_sink k.id.sink sink ≡ false)
-  stays n k h = by_old (kept_in a n) refl (sym (keeps n) ∙ h)
-    where
-      by_test : (x : Kept) (t : Bool) → same_sink x.id.sink sink ≡ t → kept_in a n ≡ Some x → cond (not t) (Some x) None ≡ Some k → (kept_in a n ≡ Some k) × (same_sink k.id.sink sink ≡ false)
-      by_test x true e f g = absurd (cc)
-      by_test x false e f g = (f ∙ g, (let is : x ≡ k = cc in ap (λ (y : Kept). same_sink y.id.sink sink) (sym is) ∙ e))
-
-      by_old : (o : Option Kept) → kept_in a n ≡ o → not_of sink o ≡ Some k → (kept_in a n ≡ Some k) × (same_sink k.id.sink sink ≡ false)
-      by_old None f g = absurd (cc)
-      by_old (Some x) f g = by_test x (same_sink x.id.sink sink) refl f g
+  stays n k h = grind (arith, nat_tests)
 
   -- one of another sink stays
   still : (n : Name) (k : Kept) → kept_in a n ≡ Some k → same_sink k.id.sink sink ≡ false → kept_in b n ≡ Some k
@@ -88,6 +81,4 @@ module _ (sink : FrameSinkId) (a b : Seats) (stands : Stands a)
       by_name p n false e h = sym (ap (λ t. cond (not t) (name_in a p) None) e) ∙ h
 
   pub go_rid : IsRid (of_sink sink) b
-  go_rid n d h =
-      let k = kept_of (kept_in b n) d h in
-      ap (λ (x : SurfaceId). same_sink x.sink sink) (sym k.2) ∙ (stays n k.0 k.1).1
+  go_rid n d h = grind (arith, nat_tests, kept_of (kept_in b n) d h, stays n)

@@ -1,11 +1,10 @@
 -- The indexes, where a surface has one range more.
-use Rattle.std.proofs.Common.{◌≡◌, ℕ, ◌+◌, ◌==◌, Bool, true, false, Option, Some, None, List, [], ◌∷◌, ◌++◌, length, slice_get, refl, ap, sym, subst, ◌∙◌, arith, cond}
+use Rattle.std.proofs.Common.{◌≡◌, ℕ, ◌+◌, true, Option, Some, None, List, [], ◌∷◌, ◌++◌, length, slice_get, refl, ap, ◌∙◌, arith, cond}
 use Rattle.std.specs.Option.{option_map}
 use Rattle.vz_ids.specs.declared.SurfaceId.{SurfaceId}
 use Rattle.vz_ids.specs.declared.SurfaceRange.{SurfaceRange}
 use Rattle.vz_ids.specs.Ids.{same_surface, group_of}
 use Rattle.vz_ids.specs.declared.GroupKey.{GroupKey}
-use Rattle.vz_frame.specs.Frame.{has_repeat}
 use Rattle.vz_rules.proofs.Reached.{from_same}
 use Rattle.vz_refs.specs.declared.sets.Nth.{Nth}
 use Rattle.vz_refs.specs.declared.sets.Place.{Place}
@@ -16,6 +15,7 @@ use Rattle.vz_refs.specs.Seated.{IsSeated}
 use Rattle.vz_refs.proofs.Seating.{sized, seat_more}
 use Rattle.vz_refs.proofs.Same.{from_nth, self_nth, second_not}
 use Rattle.vz_refs.proofs.Changing.{changed_set, changed_other, changed_own, changed_ids, get_last, get_before, get_over}
+use Rattle.std.proofs.lemmas.Bool.Decides.{nat_tests}
 
 one_longer : {A : Type 0} (xs : List A) (x : A) → length (xs ++ x ∷ []) ≡ length xs + 1
 one_longer [] x = refl
@@ -42,40 +42,14 @@ module _ (sets : List Ranged) (count : SurfaceId → Option ℕ) (edge : Nth →
     own_ranges = changed_own (one_more range) id sets there
 
     more_counted : (q : SurfaceId) → count' q ≡ cond (is_set new_sets q) (Some (length (ranges_of new_sets q))) None
-    more_counted q =
-        counts q
-        ∙ elim (same_surface id q) as (λ (t : Bool). same_surface id q ≡ t → cond t (option_map (λ _. n + 1) (count q)) (count q) ≡ cond (is_set sets q) (Some (length (ranges_of new_sets q))) None) [
-          | true ↦ λ e. subst (λ (q : SurfaceId). option_map (λ _. n + 1) (count q) ≡ cond (is_set sets q) (Some (length (ranges_of new_sets q))) None) (from_same id q e) own
-          | false ↦ λ e. good.counted q ∙ ap (λ l. cond (is_set sets q) (Some (length l)) None) (sym (changed_other (one_more range) id q sets e))
-        ] refl
-        ∙ ap (λ t. cond t (Some (length (ranges_of new_sets q))) None) (sym (changed_set (one_more range) id q sets))
-      where
-        own : option_map (λ _. n + 1) (count id) ≡ cond (is_set sets id) (Some (length (ranges_of new_sets id))) None
-        own =
-            let long : n + 1 ≡ length (ranges_of new_sets id) = omega (arith, many, one_longer (ranges_of sets id) range, ap length own_ranges) in
-            ap (option_map (λ _. n + 1)) (good.counted id ∙ ap (λ t. cond t (Some (length (ranges_of sets id))) None) there) ∙ ap (λ k. Some k) long ∙ sym (ap (λ t. cond t (Some (length (ranges_of new_sets id))) None) there)
+    more_counted q = grind (arith, nat_tests, from_same id q, changed_other (one_more range) id q sets, changed_set (one_more range) id q sets, one_longer (ranges_of sets id) range, own_ranges)
 
     more_ranged : (q : Nth) → option_map (λ e. e.range) (edge' q) ≡ slice_get (ranges_of new_sets q.of) q.nth
-    more_ranged q =
-        ap (option_map (λ e. e.range)) (edges q)
-        ∙ elim (same_nth here q) as (λ (t : Bool). same_nth here q ≡ t → option_map (λ (e : Edge). e.range) (cond t (Some put) (edge q)) ≡ slice_get (ranges_of new_sets q.of) q.nth) [
-          | true ↦ λ e. subst (λ (q : Nth). Some range ≡ slice_get (ranges_of new_sets q.of) q.nth) (from_nth here q e) (sym (ap (λ l. slice_get l n) own_ranges ∙ get_last (ranges_of sets id) range n many))
-          | false ↦ λ e. good.ranged q ∙ elim (same_surface id q.of) as (λ (t : Bool). same_surface id q.of ≡ t → slice_get (ranges_of sets q.of) q.nth ≡ slice_get (ranges_of new_sets q.of) q.nth) [
-            | true ↦ λ f.
-                let is = from_same id q.of f in
-                let apart : (length (ranges_of sets id) == q.nth) ≡ false = ap (λ k. k == q.nth) (sym many) ∙ second_not (same_surface id q.of) (n == q.nth) e f in
-                subst (λ (o : SurfaceId). slice_get (ranges_of sets o) q.nth ≡ slice_get (ranges_of new_sets o) q.nth) is (sym (ap (λ l. slice_get l q.nth) own_ranges ∙ get_before (ranges_of sets id) range q.nth apart))
-            | false ↦ λ f. ap (λ l. slice_get l q.nth) (sym (changed_other (one_more range) id q.of sets f))
-          ] refl
-        ] refl
+    more_ranged q = grind (arith, nat_tests, from_nth, own_ranges, get_last, from_same, second_not, get_before, changed_other)
 
     -- nothing stood there
     nothing : edge here ≡ None
-    nothing = by_edge (edge here) refl (good.ranged here ∙ get_over (ranges_of sets id) n (omega (arith, many)))
-      where
-        by_edge : (o : Option Edge) → edge here ≡ o → option_map (λ (e : Edge). e.range) o ≡ None → edge here ≡ None
-        by_edge None e f = e
-        by_edge (Some x) e f = absurd (cc)
+    nothing = grind (arith, nat_tests, get_over (ranges_of sets id) n)
 
     more_seated : IsSeated place_of edge' ends' (λ h. or_zero (size' h))
     more_seated =
@@ -83,12 +57,7 @@ module _ (sets : List Ranged) (count : SurfaceId → Option ℕ) (edge : Nth →
         (λ h. ap or_zero (sizes h) ∙ sized (same_key (group_of range.end) h) (z + 1) (size h))
 
     pub appended : IsIndexed new_sets count' edge' ends' size'
-    appended = record {
-      counted = more_counted;
-      ranged = more_ranged;
-      seated = more_seated;
-      once = ap (has_repeat same_surface) (changed_ids (one_more range) id sets) ∙ good.once;
-    }
+    appended = grind (arith, nat_tests, more_counted, more_ranged, more_seated, changed_ids (one_more range) id sets)
 
   -- Where the group of the end has a name of its own
 

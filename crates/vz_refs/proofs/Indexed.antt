@@ -1,5 +1,5 @@
 -- The indexes, as what is set changes.
-use Rattle.std.proofs.Common.{◌≡◌, ℕ, zero, suc, ◌+◌, ◌<◌, ◌≤◌, ◌==◌, Bool, true, false, not, ◌&&◌, ◌||◌, Option, Some, None, is_some, List, [], ◌∷◌, ◌++◌, length, map, slice_get, refl, ap, sym, subst, ◌∙◌, arith, cond}
+use Rattle.std.proofs.Common.{◌≡◌, ℕ, zero, suc, ◌+◌, ◌<◌, ◌≤◌, Bool, true, false, ◌||◌, Option, Some, None, is_some, List, [], ◌∷◌, ◌++◌, length, map, slice_get, refl, ap, sym, subst, ◌∙◌, arith, cond}
 use Rattle.std.specs.List.{list_any, IsDistinct, AllByRecursion}
 use Rattle.std.specs.Map.{lookup, keys_of}
 use Rattle.std.specs.Option.{option_map, option_map_or}
@@ -7,7 +7,6 @@ use Rattle.std.proofs.lemmas.Map.Made.{is_some-lookup}
 use Rattle.std.proofs.lemmas.Map.Entries.{length-keys_of}
 use Rattle.std.proofs.lemmas.Bool.Decides.{nat_tests}
 use Rattle.vz_ids.specs.declared.SurfaceId.{SurfaceId}
-use Rattle.vz_ids.specs.declared.SurfaceRange.{SurfaceRange}
 use Rattle.vz_ids.specs.Ids.{same_surface, group_of}
 use Rattle.vz_ids.specs.declared.GroupKey.{GroupKey}
 use Rattle.vz_rules.specs.Reach.{names}
@@ -31,18 +30,10 @@ module _ (sets : List Ranged) (count : SurfaceId → Option ℕ) (edge : Nth →
   -- How many a surface has
 
   pub count_some : (id : SurfaceId) (n : ℕ) → cond (is_set sets id) (Some (length (ranges_of sets id))) None ≡ Some n → n ≡ length (ranges_of sets id)
-  count_some id n h = by_test (is_set sets id) h
-    where
-      by_test : (t : Bool) → cond t (Some (length (ranges_of sets id))) None ≡ Some n → n ≡ length (ranges_of sets id)
-      by_test true e = cc
-      by_test false e = absurd (cc)
+  count_some id n h = grind (arith, nat_tests)
 
   pub count_none : (id : SurfaceId) → cond (is_set sets id) (Some (length (ranges_of sets id))) None ≡ None → 0 ≡ length (ranges_of sets id)
-  count_none id h = by_test (is_set sets id) refl h
-    where
-      by_test : (t : Bool) → is_set sets id ≡ t → cond t (Some (length (ranges_of sets id))) None ≡ None → 0 ≡ length (ranges_of sets id)
-      by_test true f e = absurd (cc)
-      by_test false f e = sym (ap length (unset_ranges sets id f))
+  count_none id h = grind (arith, nat_tests, unset_ranges sets id)
 
   -- A surface more, and a surface fewer
 
@@ -77,43 +68,15 @@ module _ (sets : List Ranged) (count : SurfaceId → Option ℕ) (edge : Nth →
           ∙ stays_once same_surface from_same self_same (id ∷ []) (map (λ s. s.id) sets) good.once
 
   pub forgotten : (id : SurfaceId) → ranges_of sets id ≡ [] → (count' : SurfaceId → Option ℕ) → ((q : SurfaceId) → count' q ≡ cond (same_surface id q) None (count q)) → IsIndexed (removing id sets) count' edge ends size
-  forgotten id empty count' counts = record {
-    counted = fewer_counted;
-    ranged = λ q. good.ranged q ∙ ap (λ l. slice_get l q.nth) (sym (same_ranges q.of));
-    seated = good.seated;
-    once = removed_once sets id good.once;
-  }
-    where
-      same_ranges : (x : SurfaceId) → ranges_of (removing id sets) x ≡ ranges_of sets x
-      same_ranges x =
-          removed_ranges sets id x ∙ elim (same_surface id x) as (λ (t : Bool). same_surface id x ≡ t → cond t [] (ranges_of sets x) ≡ ranges_of sets x) [
-            | true ↦ λ e. sym (ap (ranges_of sets) (sym (from_same id x e)) ∙ empty)
-            | false ↦ λ e. refl
-          ] refl
-
-      fewer_counted : (q : SurfaceId) → count' q ≡ cond (is_set (removing id sets) q) (Some (length (ranges_of (removing id sets) q))) None
-      fewer_counted q =
-          counts q
-          ∙ elim (same_surface id q) as (λ (t : Bool). cond t None (count q) ≡ cond (not t && is_set sets q) (Some (length (ranges_of sets q))) None) [ true ↦ refl | false ↦ good.counted q ]
-          ∙ sym (λ i. cond (removed_has sets id q i) (Some (length (same_ranges q i))) None)
+  forgotten id empty count' counts = grind (arith, nat_tests, removed_once sets id good.once, removed_ranges sets id, from_same id, removed_has sets id)
 
   -- each range of a surface is in the index
   pub edge_there : (id : SurfaceId) (k : ℕ) → k < length (ranges_of sets id) → is_some (edge (record { of = id; nth = k })) ≡ true
-  edge_there id k low =
-      let some = some_within (ranges_of sets id) k low in
-      by_edge (edge (record { of = id; nth = k })) (good.ranged (record { of = id; nth = k }) ∙ some.1)
-    where
-      by_edge : (o : Option Edge) {x : SurfaceRange} → option_map (λ (e : Edge). e.range) o ≡ Some x → is_some o ≡ true
-      by_edge None e = absurd (cc)
-      by_edge (Some e) f = refl
+  edge_there id k low = grind (arith, nat_tests, some_within (ranges_of sets id) k low)
 
   -- a surface is set where the index knows it
   pub counts_set : (id : SurfaceId) → is_some (count id) ≡ is_set sets id
-  counts_set id = ap is_some (good.counted id) ∙ by_set (is_set sets id)
-    where
-      by_set : (t : Bool) → is_some (cond t (Some (length (ranges_of sets id))) None) ≡ t
-      by_set true = refl
-      by_set false = refl
+  counts_set id = grind (arith, nat_tests)
 
   -- What names a surface
 
@@ -155,23 +118,12 @@ module _ (sets : List Ranged) (count : SurfaceId → Option ℕ) (edge : Nth →
 pub none_set : (count : SurfaceId → Option ℕ) (edge : Nth → Option Edge) (ends : Place → Option Nth) (size : GroupKey → Option ℕ)
     → ((q : SurfaceId) → count q ≡ None) → ((q : Nth) → edge q ≡ None) → ((p : Place) → ends p ≡ None) → ((h : GroupKey) → size h ≡ None) → IsIndexed [] count edge ends size
 unfolding ranges_of
-none_set count edge ends size a b c d = record {
-  counted = a;
-  ranged = λ q. ap (option_map (λ (e : Edge). e.range)) (b q);
-  seated = record {
-    placed = λ q e h. let no_way : None ≡ Some e = sym (b q) ∙ h in absurd (cc);
-    held = λ p q h. let no_way : None ≡ Some q = sym (c p) ∙ h in absurd (cc);
-    filled = λ p low. absurd (omega (arith, low, ap or_zero (d p.group)));
-  };
-  once = refl;
-}
+none_set count edge ends size a b c d = grind (arith, nat_tests)
 
 -- the same indexes
 pub kept : (sets : List Ranged) (count count' : SurfaceId → Option ℕ) (edge edge' : Nth → Option Edge) (ends ends' : Place → Option Nth) (size size' : GroupKey → Option ℕ)
     → IsIndexed sets count edge ends size → count ≡ count' → edge ≡ edge' → ends ≡ ends' → size ≡ size' → IsIndexed sets count' edge' ends' size'
-kept sets count count' edge edge' ends ends' size size' good a b c d =
-    subst (λ (f : SurfaceId → Option ℕ). IsIndexed sets f edge' ends' size') a (subst (λ (f : Nth → Option Edge). IsIndexed sets count f ends' size') b
-    (subst (λ (f : Place → Option Nth). IsIndexed sets count edge f size') c (subst (λ (f : GroupKey → Option ℕ). IsIndexed sets count edge ends f) d good)))
+kept sets count count' edge edge' ends ends' size size' good a b c d = grind (arith, nat_tests)
 
 -- No more stand in a map than it has entries
 
@@ -186,11 +138,7 @@ module _ {K : Type 0} (same : K → K → Bool) (from : (a b : K) → same a b �
 
   not_below : (n k : ℕ) → n ≤ k → list_any (same (key k)) (below n) ≡ false
   not_below zero k h = refl
-  not_below (suc n) k h =
-      elim (same (key k) (key n)) as (λ (t : Bool). same (key k) (key n) ≡ t → (t || list_any (same (key k)) (below n)) ≡ false) [
-        | true ↦ λ e. absurd (let is = number k n (from (key k) (key n) e) in omega (arith, is, h))
-        | false ↦ λ e. not_below n k (omega (arith, h))
-      ] refl
+  not_below (suc n) k h = grind (arith, nat_tests, not_below n k)
 
   below_once : (n : ℕ) → has_repeat same (below n) ≡ false
   below_once zero = refl
@@ -198,25 +146,15 @@ module _ {K : Type 0} (same : K → K → Bool) (from : (a b : K) → same a b �
 
   in_below : {X : Type 0} (es : List (K × X)) (n : ℕ) → ((k : ℕ) → k < n → is_some (lookup (same (key k)) es) ≡ true) → (x : K) → list_any (same x) (below n) ≡ true → list_any (same x) (keys_of es) ≡ true
   in_below es zero all x h = absurd (cc)
-  in_below es (suc n) all x h =
-      elim (same x (key n)) as (λ (t : Bool). same x (key n) ≡ t → (t || list_any (same x) (below n)) ≡ true → list_any (same x) (keys_of es) ≡ true) [
-        | true ↦ λ e g. subst (λ (x : K). list_any (same x) (keys_of es) ≡ true) (sym (from x (key n) e)) (sym (is_some-lookup (same (key n)) es) ∙ all n (omega arith))
-        | false ↦ λ e g. in_below es n (λ k low. all k (omega (arith, low))) x g
-      ] refl h
+  in_below es (suc n) all x h = grind (arith, nat_tests, is_some-lookup (same (key n)) es, in_below es n)
 
   pub no_more : {X : Type 0} (es : List (K × X)) (n : ℕ) → ((k : ℕ) → k < n → is_some (lookup (same (key k)) es) ≡ true) → n ≤ length es
-  no_more es n all =
-      let few = fits same from self (below n) (keys_of es) (below_once n) (in_below es n all) in
-      omega (arith, few, below_long n, length-keys_of es)
+  no_more es n all = grind (arith, nat_tests, fits same from self, below_once n, in_below es n all, below_long n, length-keys_of es)
 
 -- the place of a range that is there changes
 pub moved_edge : (edge : Nth → Option Edge) (slot q : Nth) (e : Edge) (at : ℕ) → edge slot ≡ Some e
     → cond (same_nth slot q) (Some (record { range = e.range; at = at })) (edge q) ≡ cond (same_nth slot q) (option_map (λ (e : Edge). record { range = e.range; at = at }) (edge q)) (edge q)
-moved_edge edge slot q e at was =
-    elim (same_nth slot q) as (λ (t : Bool). same_nth slot q ≡ t → cond t (Some (record { range = e.range; at = at })) (edge q) ≡ cond t (option_map (λ (e : Edge). record { range = e.range; at = at }) (edge q)) (edge q)) [
-      | true ↦ λ s. sym (ap (option_map (λ (e : Edge). record { range = e.range; at = at })) (ap edge (sym (from_nth slot q s)) ∙ was))
-      | false ↦ λ s. refl
-    ] refl
+moved_edge edge slot q e at was = grind (arith, nat_tests, from_nth slot q)
 
 -- a map that knows which surfaces are set has as many entries
 distinct_once : (ids : List SurfaceId) → IsDistinct same_surface ids → has_repeat same_surface ids ≡ false
@@ -244,11 +182,4 @@ same_length sets es once distinct same =
     ids_length (s ∷ sets) = let rest = ids_length sets in omega (arith, rest)
 
 pub one_more_below : (p : ℕ → Bool) (n : ℕ) → ((k : ℕ) → k < n → p k ≡ false) → p n ≡ false → (k : ℕ) → k < n + 1 → p k ≡ false
-one_more_below p n before here k low =
-    elim (k == n) as (λ (t : Bool). (k == n) ≡ t → p k ≡ false) [
-      | true ↦ λ e. ap p (from_eqb k n e) ∙ here
-      | false ↦ λ e. before k (less k n low e)
-    ] refl
-  where
-    less : (k n : ℕ) → k < n + 1 → (k == n) ≡ false → k < n
-    less k n h e = grind (arith, nat_tests)
+one_more_below p n before here k low = grind (arith, nat_tests, from_eqb k n)

@@ -1,42 +1,27 @@
 -- The derived tests of keys are those of the definitions.
-use Rattle.std.proofs.Common.{◌≡◌, Bool, rules, is_some, refl, [], Option, Some, None, Result, Ok, Err, OnOk, sym, ap, subst, ◌∙◌, cond}
+use Rattle.std.proofs.Common.{◌≡◌, Bool, is_some, [], Option, Some, None, Result, Ok, OnOk, sym, ap, subst, ◌∙◌, cond, arith}
 use Rattle.std.specs.Map.{lookup}
 use Rattle.std.specs.Option.{option_map}
 use Rattle.indexmap.specs.IndexMap.{IndexMap, get, Updates}
-use Rattle.vz_ids.specs.declared.SurfaceId.{SurfaceId}
 use Rattle.vz_ids.specs.Ids.{same_surface}
 use Rattle.vz_ids.specs.contracts.SurfaceIdPartialEq.TheImpl.{eq-value as surface_eq}
-use Rattle.vz_ids.specs.declared.GroupKey.{GroupKey}
 use Rattle.vz_refs.specs.contracts.sets.NthPartialEq.TheImpl.{eq-value as nth_eq}
 use Rattle.vz_ids.specs.contracts.GroupKeyPartialEq.TheImpl.{eq-value as group_eq}
 use Rattle.vz_refs.specs.contracts.sets.PlacePartialEq.TheImpl.{eq-value as place_eq}
-use Rattle.vz_refs.specs.declared.sets.Nth.{Nth}
-use Rattle.vz_refs.specs.declared.sets.Place.{Place}
 use Rattle.vz_refs.specs.Indexing.{same_nth, same_key, same_place}
+use Rattle.std.proofs.lemmas.Bool.Decides.{nat_tests}
 
 pub surfaces : surface_eq.it ≡ same_surface
-surfaces = λ i a b. one a b i
-  where
-    one : (a b : SurfaceId) → surface_eq.it a b ≡ same_surface a b
-    one a b = search rules
+surfaces = grind (arith, nat_tests)
 
 pub nths : nth_eq.it ≡ same_nth
-nths = λ i a b. one a b i
-  where
-    one : (a b : Nth) → nth_eq.it a b ≡ same_nth a b
-    one a b = search rules
+nths = grind (arith, nat_tests)
 
 pub groups : group_eq.it ≡ same_key
-groups = λ i a b. one a b i
-  where
-    one : (a b : GroupKey) → group_eq.it a b ≡ same_key a b
-    one a b = search rules
+groups = grind (arith, nat_tests)
 
 pub places : place_eq.it ≡ same_place
-places = λ i a b. one a b i
-  where
-    one : (a b : Place) → place_eq.it a b ≡ same_place a b
-    one a b = search rules
+places = grind (arith, nat_tests)
 
 module _ {K X S : Type 0} (eq same : K → K → Bool) (is : eq ≡ same) where
   -- what a map has at a key
@@ -61,10 +46,8 @@ pub nothing : {K X S : Type 0} (same : K → K → Bool) (m : IndexMap K X S) �
 nothing same m e q = ap (lookup (same q)) e
 
 pub of_ok : {T E : Type 0} (r : Result T E) (P : Type 0) (x : T) → r ≡ Ok x → OnOk r P → P
-of_ok (Ok y) P x e h = h
-of_ok (Err y) P x e h = absurd (cc)
+of_ok x0 x1 x e h = grind (arith, nat_tests)
 
 -- what is lent is there
 pub copied_some : {T : Type 0} (o : Option T) → {U : Type 0} (f : T → U) → is_some o ≡ is_some (option_map f o)
-copied_some None f = refl
-copied_some (Some x) f = refl
+copied_some x0 f = grind (arith, nat_tests)

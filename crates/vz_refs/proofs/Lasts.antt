@@ -1,5 +1,5 @@
 -- Those that were ever made temporary, and those that are there.
-use Rattle.std.proofs.Common.{◌≡◌, ℕ, ◌+◌, ◌≤◌, ◌<◌, Bool, true, false, not, ◌&&◌, ◌||◌, nat_lt, nat_le, nat_eq, ◌⊎◌, Option, Some, None, is_some, List, [], ◌∷◌, ◌++◌, map, filter, refl, ap, sym, subst, inl, inr, ◌∙◌, arith, cond}
+use Rattle.std.proofs.Common.{◌≡◌, ℕ, ◌+◌, ◌≤◌, ◌<◌, Bool, true, false, not, ◌&&◌, nat_lt, nat_le, nat_eq, ◌⊎◌, Option, Some, None, is_some, List, [], ◌∷◌, ◌++◌, map, filter, refl, ap, sym, subst, inl, inr, ◌∙◌, arith, cond}
 use Rattle.std.specs.List.{list_any, AllByRecursion}
 use Rattle.std.proofs.lemmas.Bool.Decides.{nat_tests}
 use Rattle.std.proofs.lemmas.List.Folds.{list_any-append}
@@ -13,12 +13,7 @@ use Rattle.vz_refs.specs.Referring.{Temporary}
 use Rattle.vz_refs.specs.Lasting.{same_name, surface_in, IsEnded, Ends, IsRid, over_at, temporary_of, lasting_in, numbers_or, AreWithin, IsGiven, IsKept}
 use Rattle.vz_rules.proofs.Marking.{stays_once}
 use Rattle.vz_refs.proofs.Named.{from_name, self_name, was_there}
-
-some_inj : {A : Type 0} (a b : A) → Some a ≡ Some b → a ≡ b
-some_inj a b e = cc
-
-true_false : (t : Bool) → t ≡ true → t ≡ false → true ≡ false
-true_false t e f = sym e ∙ f
+use Rattle.std.proofs.lemmas.Option.{same_Some as some_inj}
 
 -- What is seen of those that are there
 
@@ -28,15 +23,7 @@ left_in : (first second : Name → Option SurfaceId) (test : Temporary → Bool)
     → lasting_in second ever ≡ filter (λ t. not (test t)) (lasting_in first ever)
 unfolding lasting_in
 left_in first second test [] all = refl
-left_in first second test (e ∷ ever) all =
-    ap (λ t. map temporary_of (cond t (e ∷ filter (λ e. is_some (second e.name)) ever) (filter (λ e. is_some (second e.name)) ever))) all.0
-    ∙ by_tests (left_in first second test ever all.1) (is_some (first e.name)) (test (temporary_of e)) refl
-  where
-    by_tests : map temporary_of (filter (λ e. is_some (second e.name)) ever) ≡ filter (λ t. not (test t)) (map temporary_of (filter (λ e. is_some (first e.name)) ever)) → (t u : Bool) → test (temporary_of e) ≡ u → map temporary_of (cond (t && not u) (e ∷ filter (λ e. is_some (second e.name)) ever) (filter (λ e. is_some (second e.name)) ever))
-        ≡ filter (λ t. not (test t)) (map temporary_of (cond t (e ∷ filter (λ e. is_some (first e.name)) ever) (filter (λ e. is_some (first e.name)) ever)))
-    by_tests rest false u h = rest
-    by_tests rest true true h = rest ∙ sym (ap (λ t. cond (not t) (temporary_of e ∷ filter (λ t. not (test t)) (map temporary_of (filter (λ e. is_some (first e.name)) ever))) (filter (λ t. not (test t)) (map temporary_of (filter (λ e. is_some (first e.name)) ever)))) h)
-    by_tests rest true false h = ap (λ l. temporary_of e ∷ l) rest ∙ sym (ap (λ t. cond (not t) (temporary_of e ∷ filter (λ t. not (test t)) (map temporary_of (filter (λ e. is_some (first e.name)) ever))) (filter (λ t. not (test t)) (map temporary_of (filter (λ e. is_some (first e.name)) ever)))) h)
+left_in first second test (e ∷ ever) all = grind (arith, nat_tests, left_in first second test ever all.1)
 
 -- a fact of each is made into another one
 all_map : (P Q : Named → Type 0) → ((e : Named) → P e → Q e) → (ever : List Named) → AllByRecursion P ever → AllByRecursion Q ever
@@ -59,11 +46,7 @@ module _ (over : Name → SurfaceId → Bool) (a b : Seats) (ends : Ends over a 
 
   -- one that is there was there
   pub some_was : (n : Name) → is_some (surface_in b n) ≡ true → is_some (surface_in a n) ≡ true
-  some_was n h = by_new (surface_in b n) refl h
-    where
-      by_new : (o : Option SurfaceId) → surface_in b n ≡ o → is_some o ≡ true → is_some (surface_in a n) ≡ true
-      by_new None e f = absurd (cc)
-      by_new (Some d) e f = ap is_some (was_there over a b ends n d e)
+  some_was n h = grind (arith, nat_tests, was_there over a b ends n)
 
   pub kept_after : (numbers : ℕ → Option Numbers) (given : ℕ) (ever : List Named) → IsKept (surface_in a) numbers given ever → IsKept (surface_in b) numbers given ever
   kept_after numbers given ever kept = record {
@@ -94,8 +77,7 @@ module _ (over : Name → SurfaceId → Bool) (a b : Seats) (ends : Ends over a 
 -- the same where surfaces and numbers are the same
 pub kept_same : (surface surface' : Name → Option SurfaceId) (numbers numbers' : ℕ → Option Numbers) (given : ℕ) (ever : List Named) → IsKept surface numbers given ever
     → ((n : Name) → surface' n ≡ surface n) → ((u : ℕ) → numbers' u ≡ numbers u) → IsKept surface' numbers' given ever
-kept_same surface surface' numbers numbers' given ever kept is same =
-    subst (λ (f : Name → Option SurfaceId). IsKept f numbers' given ever) (λ i n. sym (is n) i) (subst (λ (f : ℕ → Option Numbers). IsKept surface f given ever) (λ i u. sym (same u) i) kept)
+kept_same surface surface' numbers numbers' given ever kept is same = grind (arith, nat_tests)
 
 -- numbers until earlier ticks go, where nothing lasts until one of them
 pub kept_later : (tick : ℕ) (s : Seats) (numbers numbers' : ℕ → Option Numbers) (given : ℕ) (ever : List Named) → IsKept (surface_in s) numbers given ever → IsRid (over_at tick) s
@@ -142,39 +124,10 @@ module _ (surface : Name → Option SurfaceId) (numbers : ℕ → Option Numbers
   abbrev name : Name
   name = record { until = until; number = all.next }
 
-  -- nothing has the name
-  pub unknown : surface name ≡ None
-  unknown = by_surface (surface name) refl
-    where
-      by_surface : (o : Option SurfaceId) → surface name ≡ o → surface name ≡ None
-      by_surface None e = e
-      by_surface (Some d) e =
-          let old = kept.within name (ap is_some e) in
-          let next : all.next ≡ old.0.next = ap (λ o. (numbers_or given o).next) old.1 in
-          absurd (let low = old.3 in omega (arith, low, next))
-
-  next_few : all.next ≤ given
-  next_few = by_numbers (numbers until) refl
-    where
-      by_numbers : (o : Option Numbers) → numbers until ≡ o → (numbers_or given o).next ≤ given
-      by_numbers None e = omega arith
-      by_numbers (Some x) e = (kept.few until x e).1
-
-  -- the next number fits
-  pub next_fits : (last : ℕ) → given < last → all.next < last
-  next_fits last h = let few = next_few in omega (arith, few, h)
-
   -- no one that ever was has the name
   never : (es : List Named) → AllByRecursion (IsGiven surface numbers given) es → list_any (same_name name) (map (λ e. e.name) es) ≡ false
   never [] every = refl
-  never (e ∷ es) every = neither (same_name name e.name) _ refl (never es every.1)
-    where
-      neither : (t u : Bool) → same_name name e.name ≡ t → u ≡ false → (t || u) ≡ false
-      neither false u f g = g
-      neither true u f g =
-          let one : name ≡ e.name = from_name name e.name f in
-          let low = every.0.fresh in
-          absurd (omega (arith, low, ap (λ (n : Name). n.number) one, ap (λ (n : Name). (numbers_or given (numbers n.until)).next) one))
+  never (e ∷ es) every = grind (arith, nat_tests, never es every.1, from_name name e.name)
 
   module _ (surface' : Name → Option SurfaceId) (is : (n : Name) → surface' n ≡ cond (same_name name n) (Some id) (surface n))
       (numbers' : ℕ → Option Numbers) (has : (u : ℕ) → numbers' u ≡ cond (nat_eq until u) (Some (record { first = all.first; next = all.next + 1 })) (numbers u)) where
@@ -182,35 +135,13 @@ module _ (surface : Name → Option SurfaceId) (numbers : ℕ → Option Numbers
     new = record { name = name; id = id }
 
     other_name : (e : Named) → e.name.number < (numbers_or given (numbers e.name.until)).next → same_name name e.name ≡ false
-    other_name e low =
-        elim (same_name name e.name) as (λ (t : Bool). same_name name e.name ≡ t → t ≡ false) [
-          | true ↦ λ f.
-              let one : name ≡ e.name = from_name name e.name f in
-              absurd (omega (arith, low, ap (λ (n : Name). n.number) one, ap (λ (n : Name). (numbers_or given (numbers n.until)).next) one))
-          | false ↦ λ f. refl
-        ] refl
+    other_name e low = grind (arith, nat_tests, from_name name e.name)
 
     front_low : all.first ≤ all.next
-    front_low = by_numbers (numbers until) refl
-      where
-        by_numbers : (o : Option Numbers) → numbers until ≡ o → (numbers_or given o).first ≤ (numbers_or given o).next
-        by_numbers None e = omega arith
-        by_numbers (Some x) e = (kept.few until x e).0
+    front_low = grind (arith, nat_tests)
 
     from_tick : (u : ℕ) → nat_eq until u ≡ true → until ≡ u
     from_tick u h = grind (arith, nat_tests)
-
-    -- the next number until a tick does not fall
-    no_fall : (u m : ℕ) → m < (numbers_or given (numbers u)).next → m < (numbers_or (given + 1) (numbers' u)).next
-    no_fall u m low = subst (λ (o : Option Numbers). m < (numbers_or (given + 1) o).next) (sym (has u)) (by_test (nat_eq until u) refl)
-      where
-        by_old : (o : Option Numbers) → m < (numbers_or given o).next → m < (numbers_or (given + 1) o).next
-        by_old None h = omega (arith, h)
-        by_old (Some x) h = h
-
-        by_test : (t : Bool) → nat_eq until u ≡ t → m < (numbers_or (given + 1) (cond t (Some (record { first = all.first; next = all.next + 1 })) (numbers u))).next
-        by_test true e = let same : until ≡ u = from_tick u e in omega (arith, low, ap (λ (u : ℕ). (numbers_or given (numbers u)).next) same)
-        by_test false e = by_old (numbers u) low
 
     own_numbers : numbers' until ≡ Some (record { first = all.first; next = all.next + 1 })
     own_numbers = has until ∙ ap (λ t. cond t (Some (record { first = all.first; next = all.next + 1 })) (numbers until)) (let own : nat_eq until until ≡ true = grind (arith, nat_tests) in own)
@@ -222,11 +153,7 @@ module _ (surface : Name → Option SurfaceId) (numbers : ℕ → Option Numbers
     old_surface e low = is e.name ∙ ap (λ t. cond t (Some id) (surface e.name)) (other_name e low)
 
     old_given : (e : Named) → IsGiven surface numbers given e → IsGiven surface' numbers' (given + 1) e
-    old_given e g = record { right = by_right g.right; fresh = no_fall e.name.until e.name.number g.fresh }
-      where
-        by_right : ((surface e.name ≡ None) ⊎ (surface e.name ≡ Some e.id)) → ((surface' e.name ≡ None) ⊎ (surface' e.name ≡ Some e.id))
-        by_right (inl h) = inl (old_surface e g.fresh ∙ h)
-        by_right (inr h) = inr (old_surface e g.fresh ∙ h)
+    old_given e g = grind (arith, nat_tests, from_tick, old_surface e g.fresh)
 
     new_given : IsGiven surface' numbers' (given + 1) new
     new_given = record { right = inr own_surface; fresh = subst (λ (o : Option Numbers). all.next < (numbers_or (given + 1) o).next) (sym own_numbers) (omega arith) }
@@ -236,18 +163,7 @@ module _ (surface : Name → Option SurfaceId) (numbers : ℕ → Option Numbers
     names_more (e ∷ es) = ap (λ l. e.name ∷ l) (names_more es)
 
     more_known : (n : Name) → is_some (surface' n) ≡ true → list_any (same_name n) (map (λ e. e.name) (ever ++ new ∷ [])) ≡ true
-    more_known n h = ap (list_any (same_name n)) (names_more ever) ∙ list_any-append (same_name n) (map (λ e. e.name) ever) (name ∷ []) ∙ by_test (same_name name n) refl
-      where
-        first_or : (a b : Bool) → a ≡ true → (a || b) ≡ true
-        first_or a b e = rw e refl
-
-        second_or : (a b : Bool) → b ≡ true → (a || (b || false)) ≡ true
-        second_or true b e = refl
-        second_or false b e = rw e refl
-
-        by_test : (t : Bool) → same_name name n ≡ t → (list_any (same_name n) (map (λ e. e.name) ever) || (same_name n name || false)) ≡ true
-        by_test true e = second_or _ (same_name n name) (ap (same_name n) (from_name name n e) ∙ self_name n)
-        by_test false e = first_or _ _ (kept.known n (sym (ap is_some (is n ∙ ap (λ t. cond t (Some id) (surface n)) e)) ∙ h))
+    more_known n h = grind (arith, nat_tests, names_more ever, list_any-append (same_name n), from_name name n, self_name n)
 
     more_once : has_repeat same_name (map (λ e. e.name) (ever ++ new ∷ [])) ≡ false
     more_once =
@@ -256,37 +172,10 @@ module _ (surface : Name → Option SurfaceId) (numbers : ℕ → Option Numbers
         ∙ stays_once same_name from_name self_name (name ∷ []) (map (λ e. e.name) ever) kept.once
 
     more_within : AreWithin surface' numbers'
-    more_within n h = by_test (same_name name n) refl
-      where
-        old_within : surface' n ≡ surface n → (x : Numbers) × (numbers' n.until ≡ Some x) × (x.first ≤ n.number) × (n.number < x.next)
-        old_within same = by_tick (nat_eq until n.until) refl (kept.within n (sym (ap is_some same) ∙ h))
-          where
-            by_tick : (t : Bool) → nat_eq until n.until ≡ t → (x : Numbers) × (numbers n.until ≡ Some x) × (x.first ≤ n.number) × (n.number < x.next)
-                → (x : Numbers) × (numbers' n.until ≡ Some x) × (x.first ≤ n.number) × (n.number < x.next)
-            by_tick true e w =
-                let one : until ≡ n.until = from_tick n.until e in
-                let x : all ≡ w.0 = ap (numbers_or given) (ap numbers one ∙ w.1) in (
-                  record { first = all.first; next = all.next + 1 },
-                  ap numbers' (sym one) ∙ own_numbers,
-                  (let low = w.2 in omega (arith, low, ap (λ (x : Numbers). x.first) x)),
-                  (let high = w.3 in omega (arith, high, ap (λ (x : Numbers). x.next) x)),
-                )
-            by_tick false e w = (w.0, has n.until ∙ ap (λ t. cond t (Some (record { first = all.first; next = all.next + 1 })) (numbers n.until)) e ∙ w.1, w.2, w.3)
-
-        by_test : (t : Bool) → same_name name n ≡ t → (x : Numbers) × (numbers' n.until ≡ Some x) × (x.first ≤ n.number) × (n.number < x.next)
-        by_test true e =
-            subst (λ (n : Name). (x : Numbers) × (numbers' n.until ≡ Some x) × (x.first ≤ n.number) × (n.number < x.next)) (from_name name n e)
-            (record { first = all.first; next = all.next + 1 }, own_numbers, front_low, omega arith)
-        by_test false e = old_within (is n ∙ ap (λ t. cond t (Some id) (surface n)) e)
+    more_within n h = grind (arith, nat_tests, from_tick n.until, own_numbers, from_name name n, front_low)
 
     more_few : (u : ℕ) (x : Numbers) → numbers' u ≡ Some x → (x.first ≤ x.next) × (x.next ≤ given + 1)
-    more_few u x h = by_test (nat_eq until u) (sym (has u) ∙ h)
-      where
-        by_test : (t : Bool) → cond t (Some (record { first = all.first; next = all.next + 1 })) (numbers u) ≡ Some x → (x.first ≤ x.next) × (x.next ≤ given + 1)
-        by_test true e =
-            let one : record { first = all.first; next = all.next + 1 } ≡ x = some_inj _ x e in
-            subst (λ (x : Numbers). (x.first ≤ x.next) × (x.next ≤ given + 1)) one ((let low = front_low in omega (arith, low)), (let few = next_few in omega (arith, few)))
-        by_test false e = let old = kept.few u x e in (old.0, (let few = old.1 in omega (arith, few)))
+    more_few u x h = grind (arith, nat_tests, some_inj, front_low)
 
     pub more_kept : IsKept surface' numbers' (given + 1) (ever ++ new ∷ [])
     more_kept = record {

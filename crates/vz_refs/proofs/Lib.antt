@@ -5,7 +5,6 @@ pub mod Growing
 pub mod Shrinking
 pub mod Keeping
 pub mod Keyed
-pub mod Searching
 pub mod Gathering
 pub mod Noting
 pub mod Seating

@@ -1,9 +1,8 @@
 -- Names of temporary surfaces, and which of them end.
-use Rattle.std.proofs.Common.{min, ◌≡◌, ℕ, ◌≤◌, Bool, true, false, ◌==◌, Option, Some, None, refl, ap, sym, subst, inl, inr, ◌∙◌, arith, cond}
+use Rattle.std.proofs.Common.{min, ◌≡◌, ℕ, ◌≤◌, Bool, true, Option, Some, None, refl, ap, sym, subst, inl, inr, ◌∙◌, arith, cond}
 use Rattle.std.specs.Option.{option_map}
 use Rattle.std.specs.Cmp.{IsEquivalence}
 use Rattle.std.proofs.Math.Nat.{min-le_left, min-le_right, min-eq_left, min-eq_right}
-use Rattle.std.proofs.lemmas.Bool.{cases_lt}
 use Rattle.vz_ids.specs.declared.SurfaceId.{SurfaceId}
 use Rattle.vz_refs.specs.declared.sets.Place.{Place}
 use Rattle.vz_refs.specs.declared.seats.Name.{Name}
@@ -15,32 +14,21 @@ use Rattle.vz_refs.specs.Indexing.{or_zero, same_key, same_place}
 use Rattle.vz_refs.specs.Lasting.{same_name, seat_of, kept_in, size_in, surface_in, name_in, room_in, Stands, IsEnded, Ends}
 use Rattle.vz_rules.proofs.Marking.{same_flip}
 use Rattle.vz_refs.proofs.Same.{both, two_true, from_eqb, eqb_self}
+use Rattle.std.proofs.lemmas.Bool.Decides.{nat_tests}
 
 pub from_name : (a b : Name) → same_name a b ≡ true → a ≡ b
-from_name a b h =
-    let parts = both (a.until == b.until) (a.number == b.number) h in
-    λ i. record { until = from_eqb a.until b.until parts.0 i; number = from_eqb a.number b.number parts.1 i }
+from_name a b h = grind (arith, nat_tests, both, from_eqb a.until b.until, from_eqb a.number b.number)
 
 pub self_name : (a : Name) → same_name a a ≡ true
 self_name a = two_true _ _ (eqb_self a.until) (eqb_self a.number)
 
 -- the test for the same name is an equivalence
 pub name_laws : IsEquivalence same_name
-name_laws = record {
-  refl = self_name;
-  symm = λ a b. same_flip same_name from_name self_name a b;
-  congr = λ a b d e. ap (λ n. same_name n d) (from_name a b e);
-}
+name_laws = grind (arith, nat_tests, self_name, same_flip, from_name)
 
 -- the least of several is no less where each is no less
 pub least_mono : (a b x y : ℕ) → a ≤ x → b ≤ y → min a b ≤ min x y
-least_mono a b x y p q =
-    let l = min-le_left a b in
-    let r = min-le_right a b in
-    elim (cases_lt x y) [
-      | inl less ↦ subst (λ m. min a b ≤ m) (sym (min-eq_left (omega (arith, less)))) (omega (arith, l, p))
-      | inr more ↦ subst (λ m. min a b ≤ m) (sym (min-eq_right more)) (omega (arith, r, q))
-    ]
+least_mono a b x y p q = grind (arith, nat_tests, min-le_left a b, min-le_right a b, min-eq_left, min-eq_right)
 
 -- the surface of what is kept
 pub kept_of : (o : Option Kept) (d : SurfaceId) → option_map (λ (k : Kept). k.id) o ≡ Some d → (k : Kept) × (o ≡ Some k) × (k.id ≡ d)
@@ -50,51 +38,16 @@ kept_of (Some k) d e = (k, refl, (let is : k.id ≡ d = cc in is))
 -- Changes one after the other
 
 pub ends_none : (over : Name → SurfaceId → Bool) (a : Seats) → Stands a → Ends over a a
-ends_none over a stands = record {
-  stands = stands;
-  surfaces = λ n d h. inl h;
-  no_more = λ n h. h;
-  names = λ p n h. (p.at, omega arith, h);
-  room = omega arith;
-}
+ends_none over a stands = grind (arith, nat_tests)
 
 pub ends_both : (over : Name → SurfaceId → Bool) (a b c : Seats) → Ends over a b → Ends over b c → Ends over a c
-ends_both over a b c p q = record {
-  stands = q.stands;
-  surfaces = λ n d h. next n d (surface_in b n) refl (p.surfaces n d h);
-  no_more = λ n h. q.no_more n (p.no_more n h);
-  names = λ place n h.
-      (let second = q.names place n h in
-      let first = p.names (record place { at = second.0 }) n second.2 in
-      (first.0, (let f = first.1 in let g = second.1 in omega (arith, f, g)), first.2));
-  room = (let f = p.room in let g = q.room in omega (arith, f, g));
-}
-  where
-    next : (n : Name) (d : SurfaceId) (o : Option SurfaceId) → surface_in b n ≡ o → IsEnded (over n d) (Some d) o → IsEnded (over n d) (Some d) (surface_in c n)
-    next n d o is (inl e) = q.surfaces n d (is ∙ e)
-    next n d o is (inr e) = inr (e.0, q.no_more n (is ∙ e.1))
+ends_both over a b c p q = grind (arith, nat_tests)
 
 -- one goes that is to end
 pub ends_one : (over : Name → SurfaceId → Bool) (a b : Seats) (x : Name) → Stands b → ((n : Name) → surface_in b n ≡ cond (same_name x n) None (surface_in a n))
     → ((p : Place) (n : Name) → name_in b p ≡ Some n → (j : ℕ) × (p.at ≤ j) × (name_in a (record p { at = j }) ≡ Some n)) → room_in a ≤ room_in b
     → ((d : SurfaceId) → surface_in a x ≡ Some d → over x d ≡ true) → Ends over a b
-ends_one over a b x stands is names room to_end = record {
-  stands = stands;
-  surfaces = λ n d h. by_test n d (same_name x n) refl h;
-  no_more = λ n h. is n ∙ nothing (same_name x n) (surface_in a n) h;
-  names = names;
-  room = room;
-}
-  where
-    nothing : (t : Bool) (o : Option SurfaceId) → o ≡ None → cond t None o ≡ None
-    nothing true o h = refl
-    nothing false o h = h
-
-    by_test : (n : Name) (d : SurfaceId) (t : Bool) → same_name x n ≡ t → surface_in a n ≡ Some d → IsEnded (over n d) (Some d) (surface_in b n)
-    by_test n d true e h =
-        let one = from_name x n e in
-        inr (subst (λ (n : Name). over n d ≡ true) one (to_end d (ap (surface_in a) one ∙ h)), is n ∙ ap (λ t. cond t None (surface_in a n)) e)
-    by_test n d false e h = inl (is n ∙ ap (λ t. cond t None (surface_in a n)) e ∙ h)
+ends_one over a b x stands is names room to_end = grind (arith, nat_tests, from_name x)
 
 -- one that is there was there
 pub was_there : (over : Name → SurfaceId → Bool) (a b : Seats) → Ends over a b → (n : Name) (d : SurfaceId) → surface_in b n ≡ Some d → surface_in a n ≡ Some d

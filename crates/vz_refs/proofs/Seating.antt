@@ -1,5 +1,5 @@
 -- What stands in groups, as one more comes and as one goes.
-use Rattle.std.proofs.Common.{◌≡◌, ℕ, ◌+◌, ◌<◌, ◌≤◌, ◌==◌, Bool, true, false, ◌&&◌, Option, Some, None, is_some, refl, ap, sym, subst, ◌∙◌, arith, cond}
+use Rattle.std.proofs.Common.{◌≡◌, ℕ, ◌+◌, ◌<◌, ◌≤◌, ◌==◌, Bool, true, false, Option, Some, None, is_some, refl, ap, sym, subst, ◌∙◌, arith, cond}
 use Rattle.std.specs.Option.{option_map}
 use Rattle.std.proofs.lemmas.Bool.Decides.{nat_tests}
 use Rattle.vz_ids.specs.declared.GroupKey.{GroupKey}
@@ -7,19 +7,11 @@ use Rattle.vz_refs.specs.declared.sets.Place.{Place}
 use Rattle.vz_refs.specs.Indexing.{or_zero, same_key, same_place}
 use Rattle.vz_refs.specs.Seated.{IsSeated}
 use Rattle.vz_refs.proofs.Same.{from_key, self_key, from_place, self_place, second_not}
-
-some_inj : {A : Type 0} (a b : A) → Some a ≡ Some b → a ≡ b
-some_inj a b e = cc
+use Rattle.std.proofs.lemmas.Option.{same_Some as some_inj}
+use Rattle.std.proofs.lemmas.Bool.{and_right as and_not, and_left as not_and}
 
 not_same : {A : Type 0} (same : A → A → Bool) (from : (a b : A) → same a b ≡ true → a ≡ b) (a b : A) → ((a ≡ b) → true ≡ false) → same a b ≡ false
 not_same same from a b f = elim (same a b) as (λ (t : Bool). same a b ≡ t → t ≡ false) [ true ↦ λ e. f (from a b e) | false ↦ λ e. refl ] refl
-
-and_not : (a b : Bool) → b ≡ false → (a && b) ≡ false
-and_not true b e = e
-and_not false b e = refl
-
-not_and : (a b : Bool) → a ≡ false → (a && b) ≡ false
-not_and a b e = rw e refl
 
 less_than : (a m z : ℕ) → a < m → z + 1 ≡ m → (z == a) ≡ false → a < z
 less_than a m z h e f = grind (arith, nat_tests)
@@ -27,17 +19,12 @@ less_than a m z h e f = grind (arith, nat_tests)
 below : (a z m : ℕ) → (z == a) ≡ false → a < z + 1 → z ≡ m → a < m
 below a z m e f g = grind (arith, nat_tests)
 
-unlike : (a z : ℕ) → a < z → (z == a) ≡ false
-unlike a z h = grind (arith, nat_tests)
-
 -- the size of a group that was written
 pub sized : (t : Bool) (n : ℕ) (o : Option ℕ) → or_zero (cond t (Some n) o) ≡ cond t n (or_zero o)
-sized true n o = refl
-sized false n o = refl
+sized x0 n o = grind (arith, nat_tests)
 
 pub sized_left : (t : Bool) (o : Option ℕ) → or_zero (cond t o None) ≡ cond t (or_zero o) 0
-sized_left true o = refl
-sized_left false o = refl
+sized_left x0 o = grind (arith, nat_tests)
 
 -- what stands is the same where what is kept is
 pub seated_same : {K E : Type 0} (place : E → Place) (kept kept' : K → Option E) (at : Place → Option K) (size : GroupKey → ℕ) → IsSeated place kept at size → ((q : K) → kept' q ≡ kept q) → IsSeated place kept' at size
@@ -45,8 +32,7 @@ seated_same {K} {E} place kept kept' at size good is = subst (λ (f : K → Opti
 
 -- nothing goes where nothing was
 pub gone_already : {K E : Type 0} (same : K → K → Bool) (from : (a b : K) → same a b ≡ true → a ≡ b) (kept kept' : K → Option E) (x : K) → kept x ≡ None → ((q : K) → kept' q ≡ cond (same x q) None (kept q)) → (q : K) → kept' q ≡ kept q
-gone_already same from kept kept' x none is q =
-    is q ∙ elim (same x q) as (λ (t : Bool). same x q ≡ t → cond t None (kept q) ≡ kept q) [ true ↦ λ e. sym (ap kept (sym (from x q e)) ∙ none) | false ↦ λ e. refl ] refl
+gone_already same from kept kept' x none is q = grind (arith, nat_tests)
 
 module _ {K E : Type 0} (same : K → K → Bool) (from : (a b : K) → same a b ≡ true → a ≡ b) (self : (a : K) → same a a ≡ true) (place : E → Place)
     (kept : K → Option E) (at : Place → Option K) (size : GroupKey → ℕ) (good : IsSeated place kept at size) where
@@ -59,30 +45,8 @@ module _ {K E : Type 0} (same : K → K → Bool) (from : (a b : K) → same a b
     own_size : size' (place put).group ≡ (place put).at + 1
     own_size = sizes (place put).group ∙ ap (λ t. cond t ((place put).at + 1) (size (place put).group)) (self_key (place put).group)
 
-    no_less : (g : GroupKey) → size g ≤ size' g
-    no_less g =
-        elim (same_key (place put).group g) as (λ (t : Bool). same_key (place put).group g ≡ t → size g ≤ size' g) [
-          | true ↦ λ e. subst (λ (g : GroupKey). size g ≤ size' g) (from_key _ g e) (omega (arith, big, own_size))
-          | false ↦ λ e. let is = sizes g ∙ ap (λ t. cond t ((place put).at + 1) (size g)) e in omega (arith, is)
-        ] refl
-
     more_placed : (q : K) (e : E) → kept' q ≡ Some e → (at' (place e) ≡ Some q) × ((place e).at < size' (place e).group)
-    more_placed q e h =
-        elim (same x q) as (λ (t : Bool). same x q ≡ t → cond t (Some put) (kept q) ≡ Some e → (at' (place e) ≡ Some q) × ((place e).at < size' (place e).group)) [
-          | true ↦ λ f g.
-              subst (λ (e : E). (at' (place e) ≡ Some q) × ((place e).at < size' (place e).group)) (some_inj put e g)
-              (subst (λ (q : K). at' (place put) ≡ Some q) (from x q f) (ats (place put) ∙ ap (λ t. cond t (Some x) (at (place put))) (self_place (place put))), omega (arith, own_size))
-          | false ↦ λ f g.
-              let old = good.placed q e g in (
-                elim (same_place (place put) (place e)) as (λ (t : Bool). same_place (place put) (place e) ≡ t → at' (place e) ≡ Some q) [
-                  | true ↦ λ k.
-                      let is = from_place (place put) (place e) k in
-                      absurd (omega (arith, old.1, big, ap (λ (p : Place). p.at) is, ap (λ (p : Place). size p.group) is))
-                  | false ↦ λ k. ats (place e) ∙ ap (λ t. cond t (Some x) (at (place e))) k ∙ old.0
-                ] refl,
-                (let less = no_less (place e).group in omega (arith, old.1, less)),
-              )
-        ] refl (sym (keeps q) ∙ h)
+    more_placed q e h = grind (arith, nat_tests, some_inj, self_place, own_size, from_place, from_key)
 
     more_held : (p : Place) (q : K) → at' p ≡ Some q → (e : E) × (kept' q ≡ Some e) × (place e ≡ p)
     more_held p q h =
@@ -101,19 +65,7 @@ module _ {K E : Type 0} (same : K → K → Bool) (from : (a b : K) → same a b
         ] refl (sym (ats p) ∙ h)
 
     more_filled : (p : Place) → p.at < size' p.group → is_some (at' p) ≡ true
-    more_filled p low =
-        elim (same_place (place put) p) as (λ (t : Bool). same_place (place put) p ≡ t → is_some (at' p) ≡ true) [
-          | true ↦ λ f. ap is_some (ats p ∙ ap (λ t. cond t (Some x) (at p)) f)
-          | false ↦ λ f.
-              ap is_some (ats p ∙ ap (λ t. cond t (Some x) (at p)) f)
-              ∙ good.filled p (elim (same_key (place put).group p.group) as (λ (t : Bool). same_key (place put).group p.group ≡ t → p.at < size p.group) [
-                | true ↦ λ k.
-                    let is = from_key (place put).group p.group k in
-                    let apart = second_not (same_key (place put).group p.group) ((place put).at == p.at) f k in
-                    below p.at (place put).at (size p.group) apart (omega (arith, low, ap size' (sym is), own_size)) (omega (arith, big, ap size is))
-                | false ↦ λ k. let is = sizes p.group ∙ ap (λ t. cond t ((place put).at + 1) (size p.group)) k in omega (arith, low, is)
-              ] refl)
-        ] refl
+    more_filled p low = grind (arith, nat_tests, from_key (place put).group p.group, second_not (same_key (place put).group p.group), own_size)
 
     pub seat_more : IsSeated place kept' at' size'
     seat_more = record { placed = more_placed; held = more_held; filled = more_filled }
@@ -155,17 +107,13 @@ module _ {K E : Type 0} (same : K → K → Bool) (from : (a b : K) → same a b
       kept_else q e f = keeps q ∙ ap (λ t. cond t (option_map move (cond (same x q) None (kept q))) (cond (same x q) None (kept q))) e ∙ ap (λ t. cond t None (kept q)) f
 
       at_else : (p : Place) → same_place (place gone) p ≡ false → same_place tail p ≡ false → at' p ≡ at p
-      at_else p e f =
-          ats p ∙ ap (λ t. cond t (option_map (λ _. m) (cond (same_place tail p) None (at p))) (cond (same_place tail p) None (at p))) e ∙ ap (λ t. cond t None (at p)) f
+      at_else p e f = grind (arith, nat_tests)
 
       tail_apart : same x m ≡ false → same_place tail (place gone) ≡ false
       tail_apart e = not_same same_place from_place tail (place gone) (λ is. apart_from x m e (some_inj x m (sym was_at.0 ∙ sym (ap at is) ∙ last)))
 
       moved_spot : same x m ≡ false → at' (place gone) ≡ Some m
-      moved_spot e =
-          ats (place gone)
-          ∙ ap (λ t. cond t (option_map (λ _. m) (cond (same_place tail (place gone)) None (at (place gone)))) (cond (same_place tail (place gone)) None (at (place gone)))) (self_place (place gone))
-          ∙ ap (λ t. option_map (λ _. m) (cond t None (at (place gone)))) (tail_apart e) ∙ ap (option_map (λ _. m)) was_at.0
+      moved_spot e = grind (arith, nat_tests, self_place (place gone), tail_apart e)
 
       fewer_placed : (q : K) (e : E) → kept' q ≡ Some e → (at' (place e) ≡ Some q) × ((place e).at < size' (place e).group)
       fewer_placed q e h = by_test (same m q) (same x q) refl refl (sym (keeps q) ∙ h)
@@ -227,26 +175,7 @@ module _ {K E : Type 0} (same : K → K → Bool) (from : (a b : K) → same a b
               (old.0, kept_else q not_m not_x ∙ old.1, old.2)
 
       fewer_filled : (p : Place) → p.at < size' p.group → is_some (at' p) ≡ true
-      fewer_filled p low =
-          elim (same_key (place gone).group p.group) as (λ (t : Bool). same_key (place gone).group p.group ≡ t → is_some (at' p) ≡ true) [
-            | true ↦ λ s.
-                let is = from_key (place gone).group p.group s in
-                let less : p.at < z = omega (arith, low, ap size' is, own_less) in
-                stays (and_not (same_key (place gone).group p.group) (z == p.at) (unlike p.at z less)) (omega (arith, less, big, ap size is))
-            | false ↦ λ s.
-                let is = sizes p.group ∙ ap (λ t. cond t z (size p.group)) s in
-                stays (not_and (same_key (place gone).group p.group) (z == p.at) s) (omega (arith, low, is))
-          ] refl
-        where
-          still : (t : Bool) (o : Option K) → is_some (cond t (option_map (λ _. m) o) o) ≡ is_some o
-          still true None = refl
-          still true (Some q) = refl
-          still false o = refl
-
-          stays : same_place tail p ≡ false → p.at < size p.group → is_some (at' p) ≡ true
-          stays off h =
-              ap is_some (ats p) ∙ ap (λ u. is_some (cond (same_place (place gone) p) (option_map (λ _. m) (cond u None (at p))) (cond u None (at p)))) off
-              ∙ still (same_place (place gone) p) (at p) ∙ good.filled p h
+      fewer_filled p low = grind (arith, nat_tests, from_key, own_less, and_not, not_and)
 
       pub seat_fewer : IsSeated place kept' at' size'
       seat_fewer = record { placed = fewer_placed; held = fewer_held; filled = fewer_filled }
@@ -281,10 +210,7 @@ module _ {K E : Type 0} (same : K → K → Bool) (from : (a b : K) → same a b
 
       ats_in : (p : Place) → at' p ≡ cond (same_place (place gone) p) (option_map (λ _. m) (cond (same_place (record { group = (place gone).group; at = z }) p) None (at p)))
           (cond (same_place (record { group = (place gone).group; at = z }) p) None (at p))
-      ats_in p =
-          ats p ∙ ap (λ (o : Option K). cond (same_place (record { group = g; at = (place gone).at }) p) (option_map (λ _. m) o) o) (first_at p)
-          ∙ ap (λ (g : GroupKey). cond (same_place (record { group = g; at = (place gone).at }) p) (option_map (λ _. m) (cond (same_place (record { group = g; at = z }) p) None (at p)))
-          (cond (same_place (record { group = g; at = z }) p) None (at p))) is
+      ats_in p = grind (arith, nat_tests)
 
       sizes_in : (h : GroupKey) → size' h ≡ cond (same_key (place gone).group h) z (size h)
       sizes_in h = sizes h ∙ ap (λ (g : GroupKey). cond (same_key g h) z (size h)) is
@@ -301,6 +227,4 @@ module _ {K E : Type 0} (same : K → K → Bool) (from : (a b : K) → same a b
   pub one_more_in : (x : K) (put : E) (g : GroupKey) → g ≡ (place put).group → kept x ≡ None → (place put).at ≡ size g → (kept' : K → Option E) → ((q : K) → kept' q ≡ cond (same x q) (Some put) (kept q))
       → (at' : Place → Option K) → ((p : Place) → at' p ≡ cond (same_place (record { group = g; at = (place put).at }) p) (Some x) (at p))
       → (size' : GroupKey → ℕ) → ((h : GroupKey) → size' h ≡ cond (same_key g h) ((place put).at + 1) (size h)) → IsSeated place kept' at' size'
-  one_more_in x put g is new big kept' keeps at' ats size' sizes =
-      seat_more x put new (big ∙ ap size is) kept' keeps at' (λ p. ats p ∙ ap (λ (g : GroupKey). cond (same_place (record { group = g; at = (place put).at }) p) (Some x) (at p)) is)
-      size' (λ h. sizes h ∙ ap (λ (g : GroupKey). cond (same_key g h) ((place put).at + 1) (size h)) is)
+  one_more_in x put g is new big kept' keeps at' ats size' sizes = grind (arith, nat_tests, seat_more x put new)

@@ -4,7 +4,6 @@ use Rattle.std.specs.Option.{option_map}
 use Rattle.vz_ids.specs.declared.SurfaceId.{SurfaceId}
 use Rattle.vz_ids.specs.Ids.{same_surface, group_of}
 use Rattle.vz_ids.specs.declared.GroupKey.{GroupKey}
-use Rattle.vz_frame.specs.Frame.{has_repeat}
 use Rattle.vz_rules.proofs.Reached.{from_same}
 use Rattle.vz_refs.specs.declared.sets.Nth.{Nth}
 use Rattle.vz_refs.specs.declared.sets.Place.{Place}
@@ -15,6 +14,7 @@ use Rattle.vz_refs.specs.Seated.{IsSeated}
 use Rattle.vz_refs.proofs.Seating.{seat_fewer}
 use Rattle.vz_refs.proofs.Same.{from_nth, self_nth, from_key, second_not}
 use Rattle.vz_refs.proofs.Changing.{changed_set, changed_other, changed_own, changed_ids, set_with_some, get_but_last, get_over, take_long}
+use Rattle.std.proofs.lemmas.Bool.Decides.{nat_tests}
 
 module _ (sets : List Ranged) (count : SurfaceId → Option ℕ) (edge : Nth → Option Edge) (ends : Place → Option Nth) (size : GroupKey → Option ℕ) (good : IsIndexed sets count edge ends size) where
   -- A range fewer
@@ -36,9 +36,6 @@ module _ (sets : List Ranged) (count : SurfaceId → Option ℕ) (edge : Nth →
     abbrev group : GroupKey
     group = group_of gone.range.end
 
-    abbrev tail : Place
-    tail = record { group = group; at = z }
-
     abbrev with_at : Edge → Edge
     with_at e = record { range = e.range; at = gone.at }
 
@@ -49,23 +46,10 @@ module _ (sets : List Ranged) (count : SurfaceId → Option ℕ) (edge : Nth →
     less_long = let cut = take_long (ranges_of sets id) (length (ranges_of sets id) - 1) (omega arith) in omega (arith, cut, many, ap length less_ranges)
 
     fewer_counted : (q : SurfaceId) → count' q ≡ cond (is_set fewer_sets q) (Some (length (ranges_of fewer_sets q))) None
-    fewer_counted q =
-        counts q
-        ∙ elim (same_surface id q) as (λ (t : Bool). same_surface id q ≡ t → cond t (option_map (λ _. n) (count q)) (count q) ≡ cond (is_set sets q) (Some (length (ranges_of fewer_sets q))) None) [
-          | true ↦ λ e. subst (λ (q : SurfaceId). option_map (λ _. n) (count q) ≡ cond (is_set sets q) (Some (length (ranges_of fewer_sets q))) None) (from_same id q e) own
-          | false ↦ λ e. good.counted q ∙ ap (λ l. cond (is_set sets q) (Some (length l)) None) (sym (changed_other but_last id q sets e))
-        ] refl
-        ∙ ap (λ t. cond t (Some (length (ranges_of fewer_sets q))) None) (sym (changed_set but_last id q sets))
-      where
-        own : option_map (λ _. n) (count id) ≡ cond (is_set sets id) (Some (length (ranges_of fewer_sets id))) None
-        own =
-            let there = set_with_some sets id (omega (arith, many)) in
-            ap (option_map (λ _. n)) (good.counted id ∙ ap (λ t. cond t (Some (length (ranges_of sets id))) None) there) ∙ ap (λ k. Some k) (sym less_long) ∙ sym (ap (λ t. cond t (Some (length (ranges_of fewer_sets id))) None) there)
+    fewer_counted q = grind (arith, nat_tests, from_same, changed_other, changed_set, set_with_some, less_long)
 
     same_range : (t : Bool) (o : Option Edge) → option_map (λ (e : Edge). e.range) (cond t (option_map with_at o) o) ≡ option_map (λ (e : Edge). e.range) o
-    same_range true None = refl
-    same_range true (Some e) = refl
-    same_range false o = refl
+    same_range x0 o = grind (arith, nat_tests)
 
     fewer_ranged : (q : Nth) → option_map (λ e. e.range) (edge' q) ≡ slice_get (ranges_of fewer_sets q.of) q.nth
     fewer_ranged q =
@@ -81,27 +65,14 @@ module _ (sets : List Ranged) (count : SurfaceId → Option ℕ) (edge : Nth →
         ] refl
 
     less_sizes : (h : GroupKey) → or_zero (size' h) ≡ cond (same_key group h) z (or_zero (size h))
-    less_sizes h = ap or_zero (sizes h) ∙ by_test (same_key group h) refl
-      where
-        by_size : (o : Option ℕ) → z + 1 ≡ or_zero o → or_zero (option_map (λ _. z) o) ≡ z
-        by_size None e = absurd (omega (arith, e))
-        by_size (Some m) e = refl
-
-        by_test : (t : Bool) → same_key group h ≡ t → or_zero (cond t (option_map (λ _. z) (size h)) (size h)) ≡ cond t z (or_zero (size h))
-        by_test true e = by_size (size h) (big ∙ ap (λ g. or_zero (size g)) (from_key group h e))
-        by_test false e = refl
+    less_sizes h = grind (arith, nat_tests, from_key)
 
     fewer_seated : IsSeated place_of edge' ends' (λ h. or_zero (size' h))
     fewer_seated =
         seat_fewer same_nth from_nth self_nth place_of edge ends (λ h. or_zero (size h)) good.seated slot gone was z big moved last with_at (λ e. refl) edge' edges ends' ended (λ h. or_zero (size' h)) less_sizes
 
     pub popped : IsIndexed fewer_sets count' edge' ends' size'
-    popped = record {
-      counted = fewer_counted;
-      ranged = fewer_ranged;
-      seated = fewer_seated;
-      once = ap (has_repeat same_surface) (changed_ids but_last id sets) ∙ good.once;
-    }
+    popped = grind (arith, nat_tests, fewer_counted, fewer_ranged, fewer_seated, changed_ids but_last id sets)
 
   -- Where the group of the end has a name of its own
 

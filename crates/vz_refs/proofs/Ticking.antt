@@ -1,5 +1,5 @@
 -- The ticks at which some end, one after the other.
-use Rattle.std.proofs.Common.{◌≡◌, ℕ, ◌+◌, ◌≤◌, ◌<◌, Bool, true, false, not, ◌||◌, nat_lt, nat_le, nat_eq, Some, None, is_some, List, ◌∷◌, filter, length, drop, slice_get, refl, ap, sym, ◌∙◌, arith}
+use Rattle.std.proofs.Common.{◌≡◌, ℕ, ◌+◌, ◌≤◌, ◌<◌, Bool, true, false, not, ◌||◌, nat_le, nat_eq, Some, None, is_some, List, ◌∷◌, filter, length, drop, slice_get, refl, ap, sym, ◌∙◌, arith}
 use Rattle.std.specs.List.{list_any}
 use Rattle.std.specs.Map.{lookup, keys_of}
 use Rattle.std.proofs.lemmas.Bool.Decides.{nat_tests}
@@ -21,19 +21,14 @@ from_tick a b h = grind (arith, nat_tests)
 -- those that do not last to a tick at most are those that last beyond it
 pub until_later : (n : ℕ) (list : List Temporary) → filter (λ t. not (nat_le t.until n)) list ≡ lasting n list
 unfolding lasting
-until_later n list = λ i. filter (λ t. one t.until i) list
-  where
-    one : (u : ℕ) → not (nat_le u n) ≡ nat_lt n u
-    one u = grind (arith, nat_tests)
+until_later n list = grind (arith, nat_tests)
 
 -- each that is to end lasts until one of these ticks
 abbrev pub AreAhead : ℕ → Seats → List ℕ → Type 0
 AreAhead tick s ticks = (n : Name) (d : SurfaceId) → surface_in s n ≡ Some d → nat_le n.until tick ≡ true → list_any (nat_eq n.until) ticks ≡ true
 
 pub all_ahead : (tick : ℕ) (s : Seats) (entries : List (ℕ × Numbers)) → AreWithin (surface_in s) (λ u. lookup (nat_eq u) entries) → AreAhead tick s (keys_of entries)
-all_ahead tick s entries within n d h over =
-    let all = within n (ap is_some h) in
-    sym (is_some-lookup (nat_eq n.until) entries) ∙ ap is_some all.1
+all_ahead tick s entries within n d h over = grind (arith, nat_tests, is_some-lookup (nat_eq n.until) entries)
 
 pub next_ahead : (tick : ℕ) (a b : Seats) (entries : List (ℕ × Numbers)) (k : ℕ) → k < length (keys_of entries) → AreWithin (surface_in a) (λ u. lookup (nat_eq u) entries) → AreAhead tick a (drop k (keys_of entries)) → Ends (over_at tick) a b
     → ((n : Name) (all : Numbers) → slice_get (keys_of entries) k ≡ Some n.until → n.until ≤ tick → lookup (nat_eq n.until) entries ≡ Some all → all.first ≤ n.number → n.number < all.next → surface_in b n ≡ None)
@@ -59,8 +54,4 @@ next_ahead tick a b entries k low within ahead ends gone n d h over =
     split u e = drop_more (keys_of entries) k u low ∙ ap (λ x. x ∷ drop (k + 1) (keys_of entries)) (get_or_from_slice_get (keys_of entries) k u u e)
 
 pub none_ahead : (tick : ℕ) (s : Seats) (ticks : List ℕ) (k : ℕ) → length ticks ≤ k → AreAhead tick s (drop k ticks) → IsRid (over_at tick) s
-none_ahead tick s ticks k over ahead n d h =
-    elim (nat_le n.until tick) as (λ (t : Bool). nat_le n.until tick ≡ t → t ≡ false) [
-      | true ↦ λ e. let no_way : false ≡ true = sym (ap (list_any (nat_eq n.until)) (drop_all k ticks over)) ∙ ahead n d h e in absurd (cc)
-      | false ↦ λ e. refl
-    ] refl
+none_ahead tick s ticks k over ahead n d h = grind (arith, nat_tests, drop_all k ticks over)

@@ -1,19 +1,16 @@
 -- Ranges that end what they name, one after the other.
-use Rattle.std.proofs.Common.{◌≡◌, ℕ, ◌+◌, ◌≤◌, ◌<◌, Bool, true, false, not, ◌||◌, ◌&&◌, List, [], ◌∷◌, length, take, get_or, filter, refl, ap, sym, ◌∙◌, cond}
+use Rattle.std.proofs.Common.{◌≡◌, ℕ, ◌+◌, ◌≤◌, ◌<◌, Bool, true, false, not, ◌||◌, ◌&&◌, List, [], ◌∷◌, length, take, get_or, filter, refl, ap, sym, ◌∙◌, arith}
 use Rattle.std.specs.List.{list_any}
 use Rattle.std.proofs.lemmas.List.{take_all}
 use Rattle.std.proofs.lemmas.List.Folds.{list_any_more}
 use Rattle.vz_ids.specs.declared.SurfaceRange.{SurfaceRange}
 use Rattle.vz_rules.specs.Reach.{names}
 use Rattle.vz_refs.specs.Referring.{Temporary, is_named_by, unnamed}
+use Rattle.std.proofs.lemmas.Bool.Decides.{nat_tests}
 
 filter_twice : (p q : Temporary → Bool) (xs : List Temporary) → filter p (filter q xs) ≡ filter (λ t. q t && p t) xs
 filter_twice p q [] = refl
-filter_twice p q (x ∷ xs) =
-    elim (q x) as (λ (t : Bool). filter p (cond t (x ∷ filter q xs) (filter q xs)) ≡ cond (t && p x) (x ∷ filter (λ t. q t && p t) xs) (filter (λ t. q t && p t) xs)) [
-      | true ↦ ap (λ l. cond (p x) (x ∷ l) l) (filter_twice p q xs)
-      | false ↦ filter_twice p q xs
-    ]
+filter_twice p q (x ∷ xs) = grind (arith, nat_tests, filter_twice p q xs)
 
 -- no range names any
 pub unnamed_none : (xs : List Temporary) → xs ≡ unnamed [] xs

@@ -1,29 +1,18 @@
 -- The references that are alive, as a submission is accepted and as a drawn frame holds more or less.
 use Rattle.std.proofs.Common.{◌≡◌, ℕ, suc, ◌+◌, ◌≤◌, Bool, true, false, not, ◌&&◌, ◌||◌, ◌==◌, Option, Some, None, is_some, List, [], ◌∷◌, ◌++◌, map, find, count_by, slice_get, refl, ap, sym, ◌∙◌, arith, cond, Contains}
-use Rattle.std.proofs.lemmas.Bool.Decides.{nat_tests}
+use Rattle.std.proofs.{lemmas.Bool.Decides.nat_tests, lemmas.List.Folds.list_any-append}
 use Rattle.std.specs.List.{list_any}
-use Rattle.std.proofs.lemmas.Bool.{and_parts, and_from, eqb-true, eq-eqb}
-use Rattle.std.proofs.lemmas.List.Folds.{list_any-append}
-use Rattle.vz_ids.specs.declared.SurfaceId.{SurfaceId}
-use Rattle.vz_ids.specs.declared.LocalSurfaceId.{LocalSurfaceId}
-use Rattle.vz_ids.specs.declared.Sub.{Sub}
-use Rattle.vz_ids.specs.Ids.{same_surface, same_sub}
-use Rattle.vz_frame.specs.declared.frame.CompositorFrame.{CompositorFrame}
-use Rattle.vz_frame.specs.declared.frame.Listing.{Listing}
-use Rattle.vz_frame.specs.declared.rules.Rule.TheVariants.{ListedTwice}
-use Rattle.vz_frame.specs.Frame.{breaks, rules_in_order, first_broken}
-use Rattle.vz_rules.specs.declared.entry.State.TheVariants.{Dropped}
+use Rattle.std.proofs.lemmas.Bool.{and_parts, and_from, eqb-true, eq-eqb, or_left as or_first}
+use Rattle.vz_ids.specs.{declared.SurfaceId.SurfaceId, declared.LocalSurfaceId.LocalSurfaceId, declared.Sub.Sub, Ids.same_surface, Ids.same_sub}
+use Rattle.vz_frame.specs.{declared.frame.CompositorFrame.CompositorFrame, Frame.breaks, Frame.rules_in_order, Frame.first_broken}
+use Rattle.vz_frame.specs.{declared.frame.Listing.Listing, declared.rules.Rule.TheVariants.ListedTwice}
+use Rattle.vz_rules.specs.{declared.entry.State.TheVariants.Dropped, Kept.KeepsAlways, Kept.borrows, Kept.is_by, Kept.stands_in}
 use Rattle.vz_rules.specs.World.{World, Client, Surface, Submission, exists, is_waiting, is_active, is_on, has_sub, is_in_flight, last_created, sub_of}
 use Rattle.vz_rules.specs.Messages.{accepted, id_of, submit_refusal, new_submission, with_surface, replace_on, is_unknown, is_last, violates}
-use Rattle.vz_rules.specs.Kept.{KeepsAlways, borrows, is_by, stands_in}
-use Rattle.vz_rules.proofs.Reached.{from_same}
+use Rattle.vz_rules.proofs.{Reached.from_same, Counts.count_cons, Counts.count_push, Counts.count_none, Counts.count_at, Kept_submits.always_accepted}
 use Rattle.vz_rules.proofs.Members.{contains_at, at_contains, find_at, found, any_at, any_from, push_contains_last, when_same}
-use Rattle.vz_rules.proofs.Counts.{count_cons, count_push, count_none, count_at}
-use Rattle.vz_rules.proofs.Kept_facts.{subs_apart}
-use Rattle.vz_rules.proofs.Kept_last.{one_client}
-use Rattle.vz_rules.proofs.Kept_submits.{always_accepted}
-use Rattle.vz_returns.specs.Released.{holds_there, holds_in_flight, alive_in}
-use Rattle.vz_returns.specs.Listed.{lists_twice, waiting_listings}
+use Rattle.vz_rules.proofs.{Kept_facts.subs_apart, Kept_last.one_client, Kept_rounds.self_sub}
+use Rattle.vz_returns.specs.{Released.holds_there, Released.holds_in_flight, Released.alive_in, Listed.lists_twice, Listed.waiting_listings}
 use Rattle.vz_returns.proofs.Test_counts.{IsSplit, split_and, count_both, one_found, share, one_shares, found_shares}
 use Rattle.vz_returns.proofs.Alive.{split_by, split_gone, alive_step, one_there, one_named}
 
@@ -46,10 +35,6 @@ unfolding first_broken breaks
 allowed_once frame e = none_passes (breaks frame) rules_in_order ListedTwice e twice_is_tested
 
 -- A submission is accepted
-
-or_first : (a b : Bool) → a ≡ true → (a || b) ≡ true
-or_first true b e = refl
-or_first false b e = absurd (cc)
 
 module _ (w : World) (h : KeepsAlways w) (c : Client) (known : Contains w.clients c) (local : LocalSurfaceId) (frame : CompositorFrame)
   where
@@ -216,9 +201,6 @@ found_one t xs s there e one = by (find t xs) refl
     by : (o : Option _) → find t xs ≡ o → find t xs ≡ Some s
     by None f = let bad : true ≡ false = sym (any_from t xs s there e) ∙ (sym (found t xs) ∙ ap is_some f) in absurd (cc)
     by (Some x) f = let at = find_at t xs x f in f ∙ ap (λ z. Some z) (one x at.0 at.1)
-
-self_sub : (s : Sub) → same_sub s s ≡ true
-self_sub s = and_from (s.client == s.client) (s.ordinal == s.ordinal) (eq-eqb s.client s.client refl) (eq-eqb s.ordinal s.ordinal refl)
 
 module _ (w : World) (h : KeepsAlways w) (s : Submission) (known : Contains w.subs s) where
   abbrev is_it : Submission → Bool

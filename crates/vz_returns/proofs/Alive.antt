@@ -1,55 +1,30 @@
 -- The references that are alive, as surfaces and submissions change.
 use Rattle.std.proofs.Common.{◌≡◌, ℕ, ◌+◌, ◌≤◌, Bool, true, false, not, ◌&&◌, ◌||◌, ◌==◌, Some, List, [], ◌∷◌, map, find, count_by, refl, ap, sym, subst, ◌∙◌, arith, cond, Contains}
-use Rattle.std.proofs.lemmas.Bool.Decides.{nat_tests}
+use Rattle.std.proofs.{lemmas.Bool.Decides.nat_tests, lemmas.Bool.and_parts, lemmas.Bool.and_from}
 use Rattle.std.specs.List.{list_any}
-use Rattle.std.proofs.lemmas.Bool.{and_parts, and_from}
-use Rattle.vz_ids.specs.declared.SurfaceId.{SurfaceId}
-use Rattle.vz_ids.specs.Ids.{same_surface, same_sub}
-use Rattle.vz_frame.specs.declared.frame.Listing.{Listing}
-use Rattle.vz_frame.specs.Frame.{lists}
-use Rattle.vz_rules.specs.declared.entry.State.TheVariants.{Active, Past}
+use Rattle.vz_ids.specs.{declared.SurfaceId.SurfaceId, Ids.same_surface, Ids.same_sub}
+use Rattle.vz_frame.specs.{declared.frame.Listing.Listing, Frame.lists}
+use Rattle.vz_rules.specs.{declared.entry.State.TheVariants.Active, declared.entry.State.TheVariants.Past, Settle.marked_by, Reach.drop_on}
 use Rattle.vz_rules.specs.World.{World, Surface, Submission, exists, is_waiting, is_active, is_on, is_in_flight, sub_of}
-use Rattle.vz_rules.specs.Settle.{marked_by}
-use Rattle.vz_rules.specs.Reach.{drop_on}
-use Rattle.vz_rules.specs.Singly.{as_one_rises, rising, as_one_goes, going}
-use Rattle.vz_rules.specs.Kept.{KeepsAlways, borrows, stands_in}
-use Rattle.vz_rules.proofs.Reached.{from_same}
+use Rattle.vz_rules.specs.{Singly.as_one_rises, Singly.rising, Singly.as_one_goes, Singly.going, Kept.KeepsAlways, Kept.borrows, Kept.stands_in}
+use Rattle.vz_rules.proofs.{Reached.from_same, Counts.count_none, Kept_facts.subs_apart, Kept_small.one_submitter, Kept_last.one_owner, Facts.or_true}
 use Rattle.vz_rules.proofs.Members.{contains_at, at_same, find_at, found, any_map, when_same}
 use Rattle.vz_rules.proofs.Rising.{find_map}
-use Rattle.vz_rules.proofs.Counts.{count_none}
-use Rattle.vz_rules.proofs.Kept_facts.{subs_apart}
-use Rattle.vz_rules.proofs.Kept_small.{one_submitter}
-use Rattle.vz_rules.proofs.Kept_last.{one_owner}
 use Rattle.vz_returns.specs.Released.{holds_there, holds_in_flight, alive_in}
 use Rattle.vz_returns.specs.Listed.{lists_twice, waiting_listings, active_listings}
 use Rattle.vz_returns.proofs.Test_counts.{IsSplit, split_and, count_split, count_alike, count_both, one_found, share, found_shares}
+pub use Rattle.vz_rules.proofs.Facts.{and_false as false_and}
 
 -- Tests
 
 pub split_by : (x y c : Bool) → x ≡ y → c ≡ false → IsSplit x y c
-split_by true true true e f = absurd (cc)
-split_by true true false e f = refl
-split_by true false c e f = absurd (cc)
-split_by false true c e f = absurd (cc)
-split_by false false true e f = absurd (cc)
-split_by false false false e f = refl
+split_by x y c e f = grind (arith, nat_tests)
 
 pub split_gone : (x y c : Bool) → x ≡ true → y ≡ false → c ≡ true → IsSplit x y c
-split_gone true false true e f g = refl
-split_gone true false false e f g = absurd (cc)
-split_gone true true c e f g = absurd (cc)
-split_gone false y c e f g = absurd (cc)
+split_gone x y c e f g = grind (arith, nat_tests)
 
 pub not_both : (t : Submission) → is_waiting t ≡ true → is_active t ≡ false
 not_both t h = grind (arith, nat_tests)
-
-pub false_and : (a : Bool) → (a && false) ≡ false
-false_and true = refl
-false_and false = refl
-
-or_true : (a : Bool) → (a || true) ≡ true
-or_true true = refl
-or_true false = refl
 
 -- Surfaces that exist
 

@@ -1,8 +1,7 @@
 -- What is read after several releases, and the returns that are answered.
 use Rattle.std.proofs.Common.{◌≡◌, ℕ, ◌+◌, ◌-◌, ◌≤◌, ◌<◌, Bool, true, false, ◌==◌, ◌&&◌, Option, Some, None, List, [], ◌∷◌, ◌++◌, map, nat_lt, nat_le, option_to_list, refl, ap, sym, ◌∙◌, arith, cond}
 use Rattle.std.specs.List.{list_all}
-use Rattle.std.proofs.lemmas.List.{append-nil, append_assoc}
-use Rattle.std.proofs.lemmas.Bool.Decides.{nat_tests}
+use Rattle.std.proofs.{lemmas.List.append-nil, lemmas.List.append_assoc, lemmas.Bool.Decides.nat_tests}
 use Rattle.vz_rules.specs.declared.entry.Returned.{Returned}
 use Rattle.vz_rules.proofs.Counts.{count_cons}
 use Rattle.vz_returns.specs.Held.{Counted, Holding, counted_at, received_of, alive_of, is_rising, is_last, return_at, released}
@@ -38,11 +37,7 @@ times_same : (j id : ℕ) (ids : List ℕ) → (id == j) ≡ true → times j (i
 times_same j id ids e = times_cons j id ids ∙ ap (λ (t : Bool). cond t 1 0 + times j ids) e
 
 pub rest_suffices : (id : ℕ) (ids : List ℕ) (h : Holding) → Suffice (id ∷ ids) h → Suffice ids (released id h)
-rest_suffices id ids h s j = by (id == j) refl
-  where
-    by : (t : Bool) → (id == j) ≡ t → times j ids ≤ alive_of j (released id h).counted
-    by true e = omega (arith, s j, times_same j id ids e, alive_own j id h e)
-    by false e = omega (arith, s j, times_other j id ids e, alive_other j id h e)
+rest_suffices id ids h s j = grind (arith, nat_tests, times_same j id ids, alive_own j id h, times_other j id ids, alive_other j id h)
 
 pub alive_all : (j : ℕ) (ids : List ℕ) (h : Holding) → Suffice ids h → alive_of j (release_all ids h).counted ≡ alive_of j h.counted - times j ids
 alive_all j [] h s = omega arith

@@ -1,33 +1,22 @@
 -- What clients lent, as the state changes by one change.
 use Rattle.std.proofs.Common.{◌≡◌, ℕ, ◌+◌, ◌-◌, ◌≤◌, ◌<◌, Bool, true, false, ◌||◌, ◌==◌, Some, List, [], ◌∷◌, ◌++◌, length, map, slice_get, set, get_or, refl, ap, sym, subst, ◌∙◌, arith, cond, Contains}
 use Rattle.std.specs.List.{list_any}
-use Rattle.std.proofs.lemmas.Bool.Decides.{nat_tests}
-use Rattle.std.proofs.lemmas.Bool.{and_from}
-use Rattle.std.proofs.lemmas.List.{length-map}
-use Rattle.std.proofs.lemmas.List.Folds.{list_any-append}
-use Rattle.vz_ids.specs.declared.LocalSurfaceId.{LocalSurfaceId}
-use Rattle.vz_ids.specs.declared.Sub.{Sub}
-use Rattle.vz_ids.specs.Ids.{same_sub}
-use Rattle.vz_frame.specs.declared.frame.CompositorFrame.{CompositorFrame}
-use Rattle.vz_frame.specs.declared.frame.Listing.{Listing}
-use Rattle.vz_rules.specs.Plan.{Plan}
+use Rattle.std.proofs.{lemmas.Bool.Decides.nat_tests, lemmas.Bool.and_from, lemmas.List.length-map, lemmas.List.Folds.list_any-append}
+use Rattle.vz_ids.specs.{declared.LocalSurfaceId.LocalSurfaceId, declared.Sub.Sub, Ids.same_sub}
+use Rattle.vz_frame.specs.{declared.frame.CompositorFrame.CompositorFrame, declared.frame.Listing.Listing}
+use Rattle.vz_rules.specs.{Plan.Plan, Singly.rising, Singly.going}
 use Rattle.vz_rules.specs.World.{World, Client, Surface, Resource, Submission, has_sub, is_waiting, is_active, last_created, sub_of}
 use Rattle.vz_rules.specs.Messages.{accepted, took, submitting, lend, is_unknown}
-use Rattle.vz_rules.specs.Singly.{rising, going}
-use Rattle.vz_rules.proofs.Members.{at_map, at_contains}
-use Rattle.vz_rules.proofs.Kept_small.{at_there}
-use Rattle.vz_rules.proofs.Kept_submits.{one_of_number}
+use Rattle.vz_rules.proofs.{Members.at_map, Members.at_contains, Kept_small.at_there, Kept_submits.one_of_number}
 use Rattle.vz_returns.specs.Held.{is_rising}
-use Rattle.vz_returns.specs.Released.{AreCounts, alive_in, out_in, times}
+use Rattle.vz_returns.specs.{Released.AreCounts, Released.alive_in, Released.out_in, Released.times, Listed.ids_of, Listed.lists_twice}
 use Rattle.vz_returns.proofs.Releases.{from_eqb, to_eqb}
 use Rattle.vz_returns.specs.Lent.{Lent, AreLent, IsLender, Suffice, IsCountable, lent_all, shared_all}
-use Rattle.vz_returns.specs.Listed.{ids_of, lists_twice}
 use Rattle.vz_returns.specs.Changes.{IsAccepted, IsRising, IsGoing, IsDrawn, IsDone}
 use Rattle.vz_returns.proofs.Test_counts.{share, one_shares, share_of_own, share_of_other}
-use Rattle.vz_returns.proofs.Alive.{alive_risen, alive_gone}
+use Rattle.vz_returns.proofs.{Alive.alive_risen, Alive.alive_gone, Clients.out_lent, Clients.submits, Clients.countable, Clients.alive_some}
 use Rattle.vz_returns.proofs.Accepted.{before_it, alive_before, alive_accepted, alive_flying, allowed_parts, allowed_once}
 use Rattle.vz_returns.proofs.Steps.{lent_set, frees, frees_enough, holds_more, AreMoved, GoesOn, times_more, own_at, lent_stays, received_lent_all, alive_lent_all}
-use Rattle.vz_returns.proofs.Clients.{out_lent, submits, countable, alive_some}
 
 client_is : (client : ℕ) (items : List Lent) → IsLender client items → client ≡ (client - 1) + 1
 client_is client items known = omega (arith, known.0)

@@ -1,26 +1,16 @@
 -- Clients and their resources, as references are lent and queues are handed over.
 use Rattle.std.proofs.Common.{◌≡◌, ℕ, ◌+◌, ◌-◌, ◌≤◌, Bool, true, false, ◌&&◌, ◌==◌, Option, Some, None, is_some, List, [], map, count_by, refl, ap, sym, subst, ◌∙◌, arith, cond, Contains}
-use Rattle.std.proofs.lemmas.Bool.Decides.{nat_tests}
-use Rattle.std.specs.List.{list_any}
-use Rattle.std.specs.Option.{option_map}
-use Rattle.std.proofs.lemmas.Bool.{and_parts, eqb-true}
+use Rattle.std.proofs.{lemmas.Bool.Decides.nat_tests, lemmas.Bool.and_parts, lemmas.Bool.eqb-true}
+use Rattle.std.specs.{List.list_any, Option.option_map}
 use Rattle.vz_ids.specs.declared.Sub.{Sub}
-use Rattle.vz_frame.specs.declared.frame.Listing.{Listing}
-use Rattle.vz_frame.specs.declared.frame.CompositorFrame.{CompositorFrame}
-use Rattle.vz_frame.specs.Frame.{lists}
-use Rattle.vz_rules.specs.Plan.{Plan, IsPlan}
+use Rattle.vz_frame.specs.{declared.frame.Listing.Listing, declared.frame.CompositorFrame.CompositorFrame, Frame.lists}
+use Rattle.vz_rules.specs.{Plan.Plan, Plan.IsPlan, Messages.took, Messages.lend, Messages.submitting, Messages.is_unknown}
 use Rattle.vz_rules.specs.World.{World, Client, Resource, Submission, resource_in}
-use Rattle.vz_rules.specs.Messages.{took, lend, submitting, is_unknown}
 use Rattle.vz_rules.specs.Kept.{KeepsAlways, KeepsPlan, borrows, is_by}
-use Rattle.vz_rules.proofs.Members.{find_at, contains_at, when_same}
-use Rattle.vz_rules.proofs.Rising.{find_map}
-use Rattle.vz_rules.proofs.Counts.{count_at}
-use Rattle.vz_rules.proofs.Kept_small.{count_weaker, small_client, small_resource}
-use Rattle.vz_rules.proofs.Totals.{known_listed}
-use Rattle.vz_returns.specs.Held.{Holding}
+use Rattle.vz_rules.proofs.{Members.find_at, Members.contains_at, Members.when_same, Rising.find_map}
+use Rattle.vz_rules.proofs.{Counts.count_at, Kept_small.count_weaker, Kept_small.small_client, Kept_small.small_resource, Totals.known_listed}
+use Rattle.vz_returns.specs.{Held.Holding, Lent.IsCountable, Listed.ids_of, Listed.lists_twice}
 use Rattle.vz_returns.specs.Released.{holds_there, holds_in_flight, times, out_in, alive_in, AreCounts}
-use Rattle.vz_returns.specs.Lent.{IsCountable}
-use Rattle.vz_returns.specs.Listed.{ids_of, lists_twice}
 use Rattle.vz_returns.proofs.Test_counts.{listed_once}
 
 -- the references that are out of a resource, if there is one

@@ -1,15 +1,12 @@
 -- What is due, by places, is the feedback given now in the order of acceptance.
 use Rattle.std.proofs.Common.{◌≡◌, ℕ, suc, ◌+◌, ◌-◌, ◌≤◌, ◌<◌, Bool, true, false, ◌==◌, inl, inr, Option, Some, None, is_some, List, [], ◌∷◌, map, Contains, count_by, filter_map, IsPermutation, refl, ap, sym, subst, ◌∙◌, arith, cond}
-use Rattle.std.specs.List.{cons_option}
-use Rattle.std.specs.List.Sorted.{IsNonDecreasingBy}
+use Rattle.std.specs.{List.cons_option, List.Sorted.IsNonDecreasingBy}
 use Rattle.std.proofs.lemmas.Bool.Decides.{nat_tests}
 use Rattle.std.proofs.lemmas.List.Sorted.{Contains-permutation, IsPermutation-sym, sum_by-IsPermutation}
-use Rattle.vz_rules.specs.declared.entry.Fed.{Fed}
-use Rattle.vz_rules.specs.World.{Submission}
+use Rattle.vz_rules.specs.{declared.entry.Fed.Fed, World.Submission}
 use Rattle.vz_rules.proofs.Members.{contains_here, contains_there, contains_cases, contains_none}
 use Rattle.vz_rules.proofs.Counts.{count_cons, count_none}
-use Rattle.vz_returns.specs.declared.due.Due.{Due}
-use Rattle.vz_returns.specs.Owed.{Owed, Owes, gets_at}
+use Rattle.vz_returns.specs.{declared.due.Due.Due, Owed.Owed, Owed.Owes, Owed.gets_at}
 use Rattle.vz_returns.proofs.Owes.{some_same}
 
 -- one that stands in a list counts

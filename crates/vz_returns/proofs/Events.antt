@@ -1,35 +1,21 @@
 -- Which feedback submissions get, as one is accepted, as one becomes active, and as a surface is destroyed.
 use Rattle.std.proofs.Common.{◌≡◌, ℕ, ◌+◌, ◌≤◌, Bool, true, false, not, ◌&&◌, ◌||◌, Option, Some, None, is_some, [], ◌∷◌, map, find, slice_get, Contains, count_by, refl, ap, sym, subst, ◌∙◌, arith, cond}
 use Rattle.std.specs.Option.{option_map}
-use Rattle.std.proofs.lemmas.Bool.Decides.{nat_tests}
-use Rattle.vz_ids.specs.declared.SurfaceId.{SurfaceId}
-use Rattle.vz_ids.specs.declared.LocalSurfaceId.{LocalSurfaceId}
-use Rattle.vz_ids.specs.declared.Sub.{Sub}
-use Rattle.vz_ids.specs.Ids.{same_sub}
+use Rattle.std.proofs.{lemmas.Bool.Decides.nat_tests, lemmas.Bool.and_parts as both_true}
+use Rattle.vz_ids.specs.{declared.SurfaceId.SurfaceId, declared.LocalSurfaceId.LocalSurfaceId, declared.Sub.Sub, Ids.same_sub}
 use Rattle.vz_frame.specs.declared.frame.CompositorFrame.{CompositorFrame}
-use Rattle.vz_rules.specs.declared.entry.State.{State}
+use Rattle.vz_rules.specs.{declared.entry.State.State, Returns.feedback_of, Reach.drop_on, Singly.as_one_rises, Singly.rising, Singly.going}
 use Rattle.vz_rules.specs.declared.entry.State.TheVariants.{Waiting, Active, Past, Dropped}
-use Rattle.vz_rules.specs.Plan.{Plan}
+use Rattle.vz_rules.specs.{Plan.Plan, Messages.accepted, Messages.new_submission, Messages.id_of, Messages.replace_on, Kept.KeepsAlways, Kept.is_by}
 use Rattle.vz_rules.specs.World.{World, Client, Surface, Submission, opening, is_waiting, is_active, is_on, is_in_flight, sub_of}
-use Rattle.vz_rules.specs.Returns.{feedback_of}
-use Rattle.vz_rules.specs.Messages.{accepted, new_submission, id_of, replace_on}
-use Rattle.vz_rules.specs.Reach.{drop_on}
-use Rattle.vz_rules.specs.Singly.{as_one_rises, rising, going}
-use Rattle.vz_rules.specs.Kept.{KeepsAlways, is_by}
 use Rattle.vz_rules.proofs.Members.{at_contains, contains_at, contains_none, at_map, find_at, found, any_from, at_same, same_tests}
-use Rattle.vz_rules.proofs.Counts.{one_place, count_at}
-use Rattle.vz_rules.proofs.Facts.{false_at}
-use Rattle.vz_rules.proofs.Kept_facts.{subs_apart}
+use Rattle.vz_rules.proofs.{Counts.one_place, Counts.count_at, Facts.false_at, Kept_facts.subs_apart}
 use Rattle.vz_returns.specs.declared.ended.Ended.{Ended}
 use Rattle.vz_returns.specs.Owed.{Owed, AreOwed, place_of, ended_of, waiting_on, active_on}
 use Rattle.vz_returns.specs.Notes.{IsNoted, IsAdded, dropped_by, is_name, fed_as, noted}
 use Rattle.vz_returns.proofs.Owes.{none_some, yes_no, same_self, owes_mapped, owes_added}
 use Rattle.vz_returns.proofs.Noted.{owes_noted}
 use Rattle.vz_returns.proofs.Single.{at_cond, ends_one, open_none, none_also, ended_twice}
-
-both_true : (a m : Bool) → (a && m) ≡ true → (a ≡ true) × (m ≡ true)
-both_true true m h = (refl, h)
-both_true false m h = absurd (cc)
 
 -- the one that is dropped with the waiting one of a surface, and with its active one
 abbrev drops_waiting : World → SurfaceId → Option Sub
@@ -130,9 +116,7 @@ and_first true b h c = refl
 and_first false b h c = absurd (cc)
 
 and_second : (a b : Bool) → (a && b) ≡ true → (c : Bool) → (c || a) ≡ true
-and_second true b h true = refl
-and_second true b h false = refl
-and_second false b h c = absurd (cc)
+and_second a b h c = grind (arith, nat_tests)
 
 pub owed_accepted : (w : World) (c : Client) (local : LocalSurfaceId) (frame : CompositorFrame) (old mid new : Owed) (sub : Sub)
     (replaced : Option Ended)

@@ -1,18 +1,11 @@
 -- Feedback that is given, and the submissions of a frame that is done.
-use Rattle.std.proofs.Common.{◌≡◌, ℕ, ◌+◌, Bool, true, false, not, ◌&&◌, ◌||◌, Option, Some, None, is_none, List, [], ◌∷◌, ◌++◌, length, ◌<◌, ◌≤◌, take, get_or, filter_map, take_all, refl, ap, sym, subst, arith, cond}
-use Rattle.std.proofs.lemmas.List.{take_more}
-use Rattle.std.proofs.lemmas.Bool.Decides.{nat_tests}
-use Rattle.vz_ids.specs.declared.Sub.{Sub}
-use Rattle.vz_ids.specs.Ids.{same_sub}
-use Rattle.vz_rules.specs.declared.entry.Fed.{Fed}
-use Rattle.vz_rules.specs.World.{World, Submission, is_ended, is_in_flight, has_sub, sub_of}
+use Rattle.std.proofs.Common.{◌≡◌, ℕ, ◌+◌, Bool, true, not, ◌&&◌, ◌||◌, Option, Some, None, is_none, List, [], ◌∷◌, ◌++◌, length, ◌<◌, ◌≤◌, take, get_or, filter_map, take_all, sym, subst, arith, cond}
+use Rattle.std.proofs.{lemmas.List.take_more, lemmas.Bool.Decides.nat_tests}
+use Rattle.vz_ids.specs.{declared.Sub.Sub, Ids.same_sub}
+use Rattle.vz_rules.specs.{declared.entry.Fed.Fed, World.World, World.Submission, World.has_sub, Ends.landed, Ends.presenting}
 use Rattle.vz_rules.specs.Returns.{feedback_of, mark_fed, feed, fed_in, give_back}
-use Rattle.vz_rules.specs.Ends.{landed, presenting}
-use Rattle.vz_returns.specs.Owed.{Owed, Owes, AreOwed, place_of}
-use Rattle.vz_returns.specs.Notes.{IsNoted, is_name, fed_as, noted, without_due}
-use Rattle.vz_returns.proofs.Owes.{owes_same, owes_given}
-use Rattle.vz_returns.proofs.Noted.{owes_noted}
-use Rattle.vz_returns.proofs.Single.{given, also, landed_flat, twice_flat}
+use Rattle.vz_returns.specs.{Owed.Owed, Owed.Owes, Owed.AreOwed, Notes.IsNoted, Notes.is_name, Notes.noted, Notes.without_due}
+use Rattle.vz_returns.proofs.{Owes.owes_same, Owes.owes_given, Noted.owes_noted, Single.given, Single.also, Single.landed_flat, Single.twice_flat}
 
 -- what is given is the feedback of the state
 pub fed_is : (presented : List Sub) (w : World) (before list : List Fed) → list ≡ before ++ filter_map (feedback_of w presented) w.subs
@@ -23,28 +16,15 @@ fed_is presented w before list e = e
 -- one that gets feedback gets none behind it
 none_behind : (fed has ends : Bool) (x y : Fed)
     → cond (fed || not (is_none (cond fed None (cond has (Some x) (cond ends (Some y) None))))) None (cond ends (Some y) None) ≡ None
-none_behind true has ends x y = refl
-none_behind false true ends x y = refl
-none_behind false false true x y = refl
-none_behind false false false x y = refl
+none_behind fed has ends x y = grind (arith, nat_tests)
 
 still_awaits : (fed : Bool) (g v : Option Fed) → v ≡ None → (not (fed || not (is_none g)) && is_none v) ≡ (not fed && is_none g)
-still_awaits true g v e = refl
-still_awaits false None v e = ap (λ (o : Option Fed). true && is_none o) e
-still_awaits false (Some x) v e = refl
+still_awaits fed g v e = grind (arith, nat_tests)
 
 pub owed_fed : (presented : List Sub) (w : World) (old new : Owed) → Owes (feedback_of w presented) w.subs old → new ≡ without_due old
     → AreOwed (feed presented w) new
 unfolding feed
-owed_fed presented w old new o is =
-    owes_given (mark_fed w presented) (feedback_of w presented) (feedback_of w []) w.subs old new (λ s. refl)
-    (λ s. still_awaits s.fed (feedback_of w presented s) (feedback_of w [] (mark_fed w presented s)) (none s)) none
-    (λ t. ap (λ f. place_of f t) is) (ap (λ f. f.due) is) (ap (λ f. f.accepted) is) o
-  where
-    none : (s : Submission) → feedback_of w [] (mark_fed w presented s) ≡ None
-    none s =
-        none_behind s.fed (has_sub presented (sub_of s)) (is_ended s && not (is_in_flight w.in_flight (sub_of s)))
-        (fed_as true (sub_of s)) (fed_as false (sub_of s))
+owed_fed presented w old new o is = grind (arith, nat_tests, owes_given (mark_fed w presented) (feedback_of w presented) (feedback_of w []) w.subs old new, still_awaits, none_behind)
 
 -- The frame that is done
 

@@ -1,15 +1,12 @@
 -- The releases of a step give what the machine's state gives back.
 use Rattle.std.proofs.Common.{◌≡◌, ℕ, ◌+◌, ◌-◌, Bool, true, false, not, ◌==◌, ◌&&◌, ◌||◌, Option, Some, None, List, [], ◌∷◌, map, count_by, nat_lt, refl, ap, sym, ◌∙◌, arith, cond}
-use Rattle.std.specs.List.{list_all, list_any, filter_map, cons_option}
-use Rattle.std.specs.Option.{option_map}
+use Rattle.std.specs.{List.list_all, List.list_any, List.filter_map, List.cons_option, Option.option_map}
 use Rattle.std.proofs.lemmas.Bool.Decides.{nat_tests}
 use Rattle.vz_frame.specs.Frame.{lists}
 use Rattle.vz_rules.specs.World.{World, Submission, Client, Resource, resource_in}
 use Rattle.vz_rules.specs.Returns.{holds, is_held, goes_back, return_of, queue_resource, returns_of, queue_returns, give_back}
-use Rattle.vz_rules.specs.Kept.{borrows, AreRising}
-use Rattle.vz_rules.specs.declared.entry.Returned.{Returned}
-use Rattle.vz_rules.proofs.Counts.{count_cons}
-use Rattle.vz_rules.proofs.Rising.{find_map, find_test}
+use Rattle.vz_rules.specs.{Kept.borrows, Kept.AreRising, declared.entry.Returned.Returned}
+use Rattle.vz_rules.proofs.{Counts.count_cons, Rising.find_map, Rising.find_test}
 use Rattle.vz_returns.specs.Held.{Counted, Holding, counted_at, received_of, alive_of, is_rising}
 use Rattle.vz_returns.specs.Released.{holds_there, holds_in_flight, alive_in, out_in, times, is_sorted, AreCounts, release_all, returns_in}
 use Rattle.vz_returns.proofs.Orders.{one_list}

@@ -1,10 +1,8 @@
 -- A submission among those that wait in their order, found by halving.
 use Rattle.std.proofs.Common.{◌≡◌, ℕ, zero, suc, ◌+◌, ◌≤◌, ◌<◌, Bool, true, false, not, ◌||◌, ◌⊎◌, inl, inr, List, [], ◌∷◌, remove, length, get_or, refl, ap, sym, ◌∙◌, arith, cond, subst}
-use Rattle.std.specs.List.{list_all}
-use Rattle.std.specs.List.Sorted.{IsPartitionedBy, IsPartitionPoint}
+use Rattle.std.specs.{List.list_all, List.Sorted.IsPartitionedBy, List.Sorted.IsPartitionPoint}
 use Rattle.std.proofs.lemmas.Bool.Decides.{nat_tests}
-use Rattle.vz_ids.specs.declared.Sub.{Sub}
-use Rattle.vz_ids.specs.Ids.{same_sub}
+use Rattle.vz_ids.specs.{declared.Sub.Sub, Ids.same_sub}
 use Rattle.vz_rules.proofs.Counts.{count_cons}
 use Rattle.vz_returns.specs.Unfed.{before, in_order, is_open, place_in, fed}
 use Rattle.vz_returns.proofs.Kept.{both, over, or_after, two_false, two_true, none_before, all_over, one_more, from_same_sub}
@@ -32,11 +30,7 @@ split (suc i) (suc j) h = elim (split i j (omega (arith, h))) [ inl e ↦ inl (a
 
 -- those that come before a submission are a front part
 pub parted : (list : List Sub) (s : Sub) → in_order list ≡ true → IsPartitionedBy (λ t. before t s) list
-parted list s sorted i j d h l e = by_order (split i j h)
-  where
-    by_order : (i ≡ j) ⊎ (i < j) → before (get_or list i d) s ≡ true
-    by_order (inl p) = ap (λ n. before (get_or list n d) s) p ∙ e
-    by_order (inr p) = over (get_or list i d) (get_or list j d) s (rises list i j d sorted p l) e
+parted list s sorted i j d h l e = grind (arith, nat_tests, split i j h, over (get_or list i d) (get_or list j d) s, rises list i j d sorted)
 
 -- the place behind them is their number
 pub point_is : (list : List Sub) (s : Sub) (n : ℕ) → n ≤ length list → IsPartitionPoint (λ t. before t s ≡ true) (λ t. before t s ≡ false) list n → n ≡ place_in list s

@@ -1,20 +1,12 @@
 -- Which submissions wait when one is opened or fed.
 use Rattle.std.proofs.Common.{◌≡◌, ℕ, zero, suc, ◌+◌, Bool, true, false, not, ◌==◌, ◌&&◌, ◌||◌, List, [], ◌∷◌, ◌++◌, filter, map, insert, refl, ap, sym, ◌∙◌, arith, cond}
 use Rattle.std.specs.List.{list_any, list_all}
-use Rattle.std.proofs.lemmas.Bool.Decides.{nat_tests}
-use Rattle.vz_ids.specs.declared.Sub.{Sub}
-use Rattle.vz_ids.specs.Ids.{same_sub}
-use Rattle.std.proofs.lemmas.List.Folds.{list_any-append}
+use Rattle.std.proofs.{lemmas.Bool.Decides.nat_tests, lemmas.List.Folds.list_any-append, lemmas.Bool.eqb-true as from_eqb}
+use Rattle.vz_ids.specs.{declared.Sub.Sub, Ids.same_sub}
 use Rattle.vz_rules.specs.World.{Submission, sub_of}
 use Rattle.vz_rules.proofs.Counts.{count_cons}
 use Rattle.vz_returns.specs.Unfed.{before, in_order, is_open, place_in, opened, fed, AreUnfed, mark_of}
-
-pub both : (a b : Bool) → (a && b) ≡ true → (a ≡ true) × (b ≡ true)
-both true b h = (refl, h)
-both false b h = absurd (cc)
-
-from_eqb : (a b : ℕ) → (a == b) ≡ true → a ≡ b
-from_eqb a b h = grind (arith, nat_tests)
+pub use Rattle.std.proofs.lemmas.Bool.{and_parts as both, or_parts as two_false, and_from as two_true}
 
 same_numbers : {c c' o o' : ℕ} → c ≡ c' → o ≡ o' → ◌≡◌ {A = Sub} (record { client = c; ordinal = o }) (record { client = c'; ordinal = o' })
 same_numbers p q = cc
@@ -23,9 +15,7 @@ pub from_same_sub : (a b : Sub) → same_sub a b ≡ true → a ≡ b
 from_same_sub a b h = let parts = both (a.client == b.client) (a.ordinal == b.ordinal) h in same_numbers (from_eqb _ _ parts.0) (from_eqb _ _ parts.1)
 
 in_front : (a b c : Bool) → (b || (a || c)) ≡ (a || (b || c))
-in_front true true c = refl
-in_front true false c = refl
-in_front false b c = refl
+in_front a b c = grind (arith, nat_tests)
 
 opened_at : (list : List Sub) (s t : Sub) (n : ℕ) → is_open (insert list n s) t ≡ (same_sub s t || is_open list t)
 opened_at [] s t zero = refl
@@ -50,13 +40,6 @@ over a b c h k = grind (arith, nat_tests)
 
 pub or_after : (a b : Sub) → before a b ≡ false → same_sub a b ≡ false → before b a ≡ true
 or_after a b h k = grind (arith, nat_tests)
-
-pub two_false : (a b : Bool) → (a || b) ≡ false → (a ≡ false) × (b ≡ false)
-two_false true b h = absurd (cc)
-two_false false b h = (refl, h)
-
-pub two_true : (a b : Bool) → a ≡ true → b ≡ true → (a && b) ≡ true
-two_true a b p q = rw (p, q)
 
 -- what one comes before, an earlier one comes before
 pub all_over : (a b : Sub) (list : List Sub) → before a b ≡ true → list_all (before b) list ≡ true → list_all (before a) list ≡ true
@@ -106,18 +89,7 @@ fed_in_order (x ∷ list) s sorted = grind (arith, nat_tests, both (list_all (be
 -- The machine's state
 
 pub accepted_unfed : (subs : List Submission) (list : List Sub) (s : Submission) → s.fed ≡ false → AreUnfed subs list → AreUnfed (subs ++ s ∷ []) (opened (sub_of s) list)
-accepted_unfed subs list s new are t =
-    opened_has list (sub_of s) t ∙ ap (λ b. same_sub (sub_of s) t || b) (are t)
-    ∙ by_end (same_sub (sub_of s) t) (list_any (λ x. not x.fed && same_sub (sub_of x) t) subs) s.fed new
-    ∙ sym (list_any-append (λ (x : Submission). not x.fed && same_sub (sub_of x) t) subs (s ∷ []))
-  where
-    by_end : (a b f : Bool) → f ≡ false → (a || b) ≡ (b || ((not f && a) || false))
-    by_end true true f e = refl
-    by_end false true f e = refl
-    by_end true false true e = e
-    by_end true false false e = refl
-    by_end false false true e = refl
-    by_end false false false e = refl
+accepted_unfed subs list s new are t = grind (arith, nat_tests, opened_has list (sub_of s) t, list_any-append)
 
 one_marked : (s : Submission) (f t : Sub) (rest : Bool) (b : Bool) → same_sub (sub_of s) f ≡ b
     → (not (same_sub f t) && ((not s.fed && same_sub (sub_of s) t) || rest)) ≡ ((not (cond b (record s { fed = true }) s).fed && same_sub (sub_of (cond b (record s { fed = true }) s)) t) || (not (same_sub f t) && rest))

@@ -2,11 +2,9 @@
 use Rattle.std.proofs.Common.{◌≡◌, ℕ, ◌+◌, ◌-◌, ◌<◌, ◌≤◌, Bool, true, false, Option, Some, None, List, [], ◌∷◌, ◌++◌, filter, length, drop, nat_lt, nat_le, refl, ap, sym, ◌∙◌, arith, cond}
 use Rattle.std.specs.List.{list_all, slice_get}
 use Rattle.std.proofs.lemmas.List.{drop_more, drop_all}
-use Rattle.std.proofs.lemmas.Option.{slice_get_within, get_or_from_slice_get}
+use Rattle.std.proofs.{lemmas.Option.slice_get_within, lemmas.Option.get_or_from_slice_get, lemmas.Bool.Decides.nat_tests}
 use Rattle.std.proofs.lemmas.List.{append_assoc, append-nil}
-use Rattle.std.proofs.lemmas.Bool.Decides.{nat_tests}
-use Rattle.vz_returns.specs.declared.counts.Counts.{Counts}
-use Rattle.vz_returns.specs.Ordered.{counted_of, in_order}
+use Rattle.vz_returns.specs.{declared.counts.Counts.Counts, Ordered.counted_of, Ordered.in_order}
 use Rattle.vz_rules.specs.declared.entry.Returned.{Returned}
 use Rattle.vz_returns.specs.Held.{Counted, is_rising, put_in, from_on, first_from, nearer, as_returns}
 use Rattle.vz_returns.proofs.Releases.{both, from_eqb}

@@ -1,31 +1,18 @@
 -- What clients lent stands for a state with the same references.
 use Rattle.std.proofs.Common.{◌≡◌, ℕ, Bool, true, false, not, ◌&&◌, ◌||◌, ◌==◌, Option, Some, None, List, [], ◌∷◌, ◌+◌, count_by, length, map, slice_get, refl, ap, sym, ◌∙◌, arith, cond, Contains}
-use Rattle.std.proofs.lemmas.Bool.Decides.{nat_tests}
-use Rattle.std.proofs.lemmas.List.{length-map, map-id}
-use Rattle.vz_ids.specs.declared.FrameSinkId.{FrameSinkId}
-use Rattle.vz_ids.specs.declared.LocalSurfaceId.{LocalSurfaceId}
-use Rattle.vz_ids.specs.declared.Sub.{Sub}
+use Rattle.std.proofs.{lemmas.Bool.Decides.nat_tests, lemmas.List.length-map, lemmas.List.map-id}
+use Rattle.vz_ids.specs.{declared.FrameSinkId.FrameSinkId, declared.LocalSurfaceId.LocalSurfaceId, declared.Sub.Sub}
 use Rattle.vz_pixels.specs.Block.{Block}
 use Rattle.vz_frame.specs.declared.message.Message.TheVariants.{Close}
-use Rattle.vz_rules.specs.declared.entry.Refusal.{Refusal}
+use Rattle.vz_rules.specs.{declared.entry.Refusal.Refusal, Plan.Plan, Reach.name_one, Reach.naming, Returns.feed, Returns.mark_fed, Singly.rising}
 use Rattle.vz_rules.specs.declared.entry.Refusal.TheVariants as refusal
 use Rattle.vz_rules.specs.declared.entry.Reply.TheVariants as reply
-use Rattle.vz_rules.specs.Plan.{Plan}
 use Rattle.vz_rules.specs.World.{World, Client, Surface, Resource, Submission, exists, is_waiting, is_active, has_sub, sub_of}
-use Rattle.vz_rules.specs.Reach.{name_one, naming}
-use Rattle.vz_rules.specs.Returns.{feed, mark_fed}
 use Rattle.vz_rules.specs.Messages.{Answer, says, id_of, took, taking, refused, put_resource, upload_answer, hierarchy_answer, hierarchy_refusal, unless_refused, root_answer, await_answer, message_answer, mark_of, in_use, relate}
-use Rattle.vz_rules.specs.Singly.{rising}
-use Rattle.vz_rules.specs.Step.{begin_answer, deliver, next_tick, is_attached}
-use Rattle.vz_rules.specs.Kept.{KeepsAlways, AreRising, borrows}
+use Rattle.vz_rules.specs.{Step.begin_answer, Step.deliver, Step.next_tick, Step.is_attached, Kept.KeepsAlways, Kept.AreRising, Kept.borrows}
 use Rattle.vz_rules.proofs.Members.{at_map, at_within, at_contains, contains_at, when_same}
-use Rattle.vz_rules.proofs.Counts.{count_none}
-use Rattle.vz_rules.proofs.Rising.{counted, Rising}
-use Rattle.vz_rules.proofs.Given.{id_of as resource_id}
-use Rattle.vz_rules.proofs.Totals.{answered_stored}
-use Rattle.vz_returns.specs.Released.{alive_in, holds_there, out_in}
-use Rattle.vz_returns.specs.Lent.{Lent, AreLent, IsLender}
-use Rattle.vz_returns.specs.Listed.{active_listings}
+use Rattle.vz_rules.proofs.{Counts.count_none, Rising.counted, Rising.Rising, Given.id_of as resource_id, Totals.answered_stored}
+use Rattle.vz_returns.specs.{Released.alive_in, Released.holds_there, Released.out_in, Lent.Lent, Lent.AreLent, Lent.IsLender, Listed.active_listings}
 use Rattle.vz_returns.specs.Quiet.{KeepsReferences, AreAlike}
 use Rattle.vz_returns.proofs.Test_counts.{share}
 use Rattle.vz_returns.proofs.Alive.{alive_step, alive_risen, split_by, exists_kept, false_and}
@@ -87,9 +74,7 @@ keeps_all = record { number = λ c. refl; resources = λ c. refl; queue = λ c. 
 
 pub lent_alike : (w v : World) (items : List Lent) → AreAlike w v → AreLent w items → AreLent v items
 unfolding alive_in
-lent_alike w v items same lent =
-    lent_same w v items (ap length same.clients) (stays_as w v same.clients)
-    (λ c id i. alive_in (record w { surfaces = same.surfaces i; subs = same.subs i; in_flight = same.in_flight i }) c id) lent
+lent_alike w v items same lent = grind (arith, nat_tests, lent_same w v items (ap length same.clients) (stays_as w v same.clients), stays_as w v same.clients)
 
 -- Surfaces
 
@@ -275,8 +260,4 @@ lent_uploaded w c id block items always lent =
 -- Each client lends
 
 pub lends : (w : World) (c : Client) (items : List Lent) → KeepsAlways w → Contains w.clients c → AreLent w items → IsLender c.number items
-lends w c items always there lent =
-    let n = contains_at w.clients c there in
-    let number = always.clients.numbered n.0 c n.1 in
-    let within = at_within w.clients n.0 c n.1 in
-    (omega (arith, number), omega (arith, number, within, lent.many))
+lends w c items always there lent = grind (arith, nat_tests, contains_at w.clients c there, at_within w.clients)

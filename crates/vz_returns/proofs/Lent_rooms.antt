@@ -1,17 +1,12 @@
 -- The room of lenders, and the resources that are out, as one lender changes.
 use Rattle.std.proofs.Common.{◌≡◌, ℕ, zero, suc, ◌+◌, ◌-◌, ◌≤◌, ◌<◌, true, false, ◌==◌, Option, Some, List, [], ◌∷◌, length, drop, slice_get, slice_index_or, set, sum_by, refl, ap, sym, subst, ◌∙◌, arith}
-use Rattle.std.proofs.lemmas.Bool.Decides.{nat_tests}
-use Rattle.std.proofs.lemmas.List.Sums.{sum_by-cons}
+use Rattle.std.proofs.{lemmas.Bool.Decides.nat_tests, lemmas.List.Sums.sum_by-cons}
 use Rattle.vz_rules.specs.World.{World, Client}
-use Rattle.vz_rules.proofs.Members.{at_within, at_contains, contains_at}
-use Rattle.vz_rules.proofs.Kept_small.{at_there}
-use Rattle.vz_returns.specs.Held.{Holding, is_rising, lent, shared}
-use Rattle.vz_returns.specs.Released.{AreCounts}
-use Rattle.vz_returns.proofs.Orders.{put_more, put_same, counts_there, rising_put}
-use Rattle.vz_returns.proofs.Releases.{from_eqb}
+use Rattle.vz_rules.proofs.{Members.at_within, Members.at_contains, Members.contains_at, Kept_small.at_there}
+use Rattle.vz_returns.specs.{Held.Holding, Held.is_rising, Held.lent, Held.shared, Released.AreCounts}
+use Rattle.vz_returns.proofs.{Orders.put_more, Orders.put_same, Orders.counts_there, Orders.rising_put, Steps.at_set, Steps.at_others}
+use Rattle.vz_returns.proofs.{Releases.from_eqb, Listings.first_some, Listings.suffice_shared, Listings.left_next}
 use Rattle.vz_returns.specs.Lent.{Lent, AreLent, NoneReleased, HasPlaces, IsRoomier, AreRoomier, Suffice, lent_all, shared_all, resources_out}
-use Rattle.vz_returns.proofs.Listings.{first_some, suffice_shared, left_next}
-use Rattle.vz_returns.proofs.Steps.{at_set, at_others}
 
 -- What is out
 

@@ -1,18 +1,14 @@
 -- Listings one after the other: what is left of them, and what is counted on the way.
-use Rattle.std.proofs.Common.{◌≡◌, ℕ, suc, ◌+◌, ◌<◌, ◌≤◌, Bool, true, false, ◌==◌, ◌||◌, List, [], ◌∷◌, length, drop, slice_index_or, refl, ap, sym, subst, ◌∙◌, arith, cond, Contains}
+use Rattle.std.proofs.Common.{◌≡◌, ℕ, suc, ◌+◌, ◌<◌, ◌≤◌, Bool, true, false, ◌==◌, List, [], ◌∷◌, length, drop, slice_index_or, ap, sym, subst, ◌∙◌, arith, cond, Contains}
 use Rattle.std.specs.List.{list_any}
-use Rattle.std.proofs.Math.Seq.{drop-cons}
-use Rattle.std.proofs.Math.ListN.{drop_of_length-le}
-use Rattle.std.proofs.lemmas.Bool.Decides.{nat_tests}
-use Rattle.vz_frame.specs.declared.frame.Listing.{Listing}
-use Rattle.vz_frame.specs.Frame.{lists}
-use Rattle.vz_rules.proofs.Members.{contains_here, contains_there, contains_map, none_at}
-use Rattle.vz_rules.proofs.Counts.{count_cons}
+use Rattle.std.proofs.{Math.Seq.drop-cons, Math.ListN.drop_of_length-le, lemmas.Bool.Decides.nat_tests}
+use Rattle.vz_frame.specs.{declared.frame.Listing.Listing, Frame.lists}
+use Rattle.vz_rules.proofs.{Members.contains_here, Members.contains_there, Members.contains_map, Members.none_at, Counts.count_cons}
 use Rattle.vz_returns.specs.Held.{Holding, received_of, alive_of, lent, shared}
-use Rattle.vz_returns.specs.Released.{times}
-use Rattle.vz_returns.proofs.Releases.{to_eqb, received_lent, alive_lent, received_shared, alive_shared}
-use Rattle.vz_returns.specs.Lent.{Suffice, IsCountable, AreCountable}
-use Rattle.vz_returns.specs.Listed.{ids_of, lists_twice}
+use Rattle.vz_returns.specs.{Released.times, Lent.Suffice, Lent.IsCountable, Lent.AreCountable, Listed.ids_of, Listed.lists_twice}
+use Rattle.vz_returns.proofs.Releases.{received_lent, alive_lent, received_shared, alive_shared}
+pub use Rattle.std.proofs.lemmas.Bool.{or_parts as or_no}
+pub use Rattle.vz_returns.proofs.All_released.{first_alive as first_some}
 
 one_more : (k : ℕ) → suc k ≡ k + 1
 one_more k = omega arith
@@ -28,10 +24,6 @@ pub done_next : {S : Type 0} (f : List ℕ → S → S) (g : ℕ → S → S) �
     → (L : List Listing) (k : ℕ) (d : Listing) (now new : S) (all : S) → k < length L → f (ids_of (drop k L)) now ≡ all
     → new ≡ g (slice_index_or L k d).id now → f (ids_of (drop (k + 1) L)) new ≡ all
 done_next f g step L k d now new all inside was is = grind (arith, nat_tests, left_next L k d inside)
-
-pub or_no : (a b : Bool) → (a || b) ≡ false → (a ≡ false) × (b ≡ false)
-or_no true b h = absurd (cc)
-or_no false b h = (refl, h)
 
 pub other_way : (a b : ℕ) → (a == b) ≡ false → (b == a) ≡ false
 other_way a b e = grind (arith, nat_tests, e)
@@ -62,27 +54,8 @@ countable_shared id rest h none are j there = grind (arith, nat_tests, is_other,
 pub times_at : (j id : ℕ) (ids : List ℕ) (t : Bool) → (id == j) ≡ t → times j (id ∷ ids) ≡ cond t 1 0 + times j ids
 times_at j id ids t e = count_cons (λ n. n == j) id ids ∙ ap {B = ℕ} (λ (b : Bool). cond b 1 0 + times j ids) e
 
-pub first_some : (id : ℕ) (ids : List ℕ) (h : Holding) → Suffice (id ∷ ids) h → 0 < alive_of id h.counted
-first_some id ids h s = omega (arith, s id, times_at id id ids true (to_eqb id id refl))
-
 pub suffice_shared : (id : ℕ) (ids : List ℕ) (h : Holding) → Suffice (id ∷ ids) h → Suffice ids (shared id h)
-suffice_shared id ids h s j = by (id == j) refl
-  where
-    by : (t : Bool) → (id == j) ≡ t → times j ids ≤ alive_of j (shared id h).counted
-    by true e = omega (
-      arith,
-      s j,
-      times_at j id ids true e,
-      alive_shared j id h
-          ∙ ap (λ (t : Bool). cond t (alive_of j h.counted + 1) (alive_of j h.counted)) e,
-    )
-    by false e = omega (
-      arith,
-      s j,
-      times_at j id ids false e,
-      alive_shared j id h
-          ∙ ap (λ (t : Bool). cond t (alive_of j h.counted + 1) (alive_of j h.counted)) e,
-    )
+suffice_shared id ids h s j = grind (arith, nat_tests, times_at j id ids true, alive_shared j id h, times_at j id ids false)
 
 -- the countables and the references of what is left
 pub left_countable : (L : List Listing) (k : ℕ) (d : Listing) (h : Holding) → k < length L → AreCountable (ids_of (drop k L)) h

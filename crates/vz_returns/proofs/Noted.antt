@@ -1,52 +1,34 @@
 -- Feedback that became due.
 use Rattle.std.proofs.Common.{◌≡◌, ℕ, ◌+◌, Bool, true, false, not, ◌&&◌, ◌==◌, inl, inr, Option, Some, None, is_some, is_none, List, [], ◌∷◌, ◌++◌, slice_get, Contains, count_by, refl, ap, sym, subst, ◌∙◌, arith, cond, append-nil}
 use Rattle.std.specs.Option.{option_and_then}
-use Rattle.std.proofs.lemmas.Bool.Decides.{nat_tests}
-use Rattle.vz_ids.specs.declared.Sub.{Sub}
-use Rattle.vz_ids.specs.Ids.{same_sub}
-use Rattle.vz_rules.specs.declared.entry.Fed.{Fed}
-use Rattle.vz_rules.specs.World.{Submission, sub_of}
-use Rattle.vz_rules.proofs.Members.{contains_at, contains_push}
-use Rattle.vz_rules.proofs.Counts.{count_push}
-use Rattle.vz_returns.proofs.Kept.{from_same_sub}
+use Rattle.std.proofs.{lemmas.Bool.Decides.nat_tests, lemmas.Bool.and_parts as both_true}
+use Rattle.vz_ids.specs.{declared.Sub.Sub, Ids.same_sub}
+use Rattle.vz_rules.specs.{declared.entry.Fed.Fed, World.Submission, World.sub_of}
+use Rattle.vz_rules.proofs.{Members.contains_at, Members.contains_push, Counts.count_push}
+use Rattle.vz_returns.proofs.{Kept.from_same_sub, Single.also}
 use Rattle.vz_returns.specs.declared.due.Due.{Due}
 use Rattle.vz_returns.specs.Owed.{Owed, Owes, place_of, awaits, gets_at}
 use Rattle.vz_returns.specs.Notes.{IsNoted, is_name, fed_as, due_at, dues_of, noted}
-use Rattle.vz_returns.proofs.Single.{also}
 use Rattle.vz_returns.proofs.Owes.{some_same, none_some, yes_no, owes_same, owes_alike, same_self}
 
 -- One submission
 
 left_waits : (fed : Bool) (g : Option Fed) (m : Bool) (x : Fed)
     → (not fed && is_none (also fed g m x)) ≡ true → ((not fed && is_none g) ≡ true) × (m ≡ false)
-left_waits true g m x h = absurd (cc)
-left_waits false None true x h = absurd (cc)
-left_waits false None false x h = (refl, refl)
-left_waits false (Some y) m x h = absurd (cc)
+left_waits fed g m x h = grind (arith, nat_tests)
 
 still_waits : (fed : Bool) (g : Option Fed) (m : Bool) (x : Fed) → (not fed && is_none g) ≡ true → m ≡ false
     → (not fed && is_none (also fed g m x)) ≡ true
-still_waits true g m x h k = absurd (cc)
-still_waits false None true x h k = absurd (cc)
-still_waits false None false x h k = refl
-still_waits false (Some y) m x h k = absurd (cc)
+still_waits fed g m x h k = grind (arith, nat_tests)
 
 gets_now : (a m : Bool) (g : Option Fed) (x : Fed) → a ≡ true → m ≡ true → cond (a && m) (Some x) g ≡ Some x
-gets_now true true g x h k = refl
-gets_now true false g x h k = absurd (cc)
-gets_now false m g x h k = absurd (cc)
+gets_now a m g x h k = grind (arith, nat_tests)
 
 gets_as_before : (a m : Bool) (g : Option Fed) (x : Fed) → (a && m) ≡ false → cond (a && m) (Some x) g ≡ g
 gets_as_before a m g x h = ap (λ t. cond t (Some x) g) h
 
 none_now : (fed : Bool) (g : Option Fed) → (not fed && is_none g) ≡ true → g ≡ None
-none_now fed None h = refl
-none_now true (Some x) h = absurd (cc)
-none_now false (Some x) h = absurd (cc)
-
-both_true : (a m : Bool) → (a && m) ≡ true → (a ≡ true) × (m ≡ true)
-both_true true m h = (refl, h)
-both_true false m h = absurd (cc)
+none_now fed g h = grind (arith, nat_tests)
 
 -- All of them
 

@@ -2,12 +2,10 @@
 use Rattle.std.proofs.Common.{◌≡◌, ℕ, zero, suc, ◌+◌, Option, Some, List, [], ◌∷◌, ◌++◌, length, slice_get, refl, ap, sym, subst, ◌∙◌, arith}
 use Rattle.std.proofs.lemmas.Bool.Decides.{nat_tests}
 use Rattle.vz_frame.specs.declared.message.ClientFile.{ClientFile}
-use Rattle.vz_rules.specs.Plan.{Plan}
-use Rattle.vz_rules.specs.World.{Client, opening, new_clients}
+use Rattle.vz_rules.specs.{Plan.Plan, World.Client, World.opening, World.new_clients}
 use Rattle.vz_rules.proofs.Members.{at_push, contains_at}
 use Rattle.vz_returns.specs.Held.{received_of, alive_of, is_rising}
-use Rattle.vz_returns.specs.Released.{AreCounts, are_some, alive_in, out_in}
-use Rattle.vz_returns.specs.Lent.{Lent, AreLent, NoneReleased}
+use Rattle.vz_returns.specs.{Released.AreCounts, Released.are_some, Released.alive_in, Released.out_in, Lent.Lent, Lent.AreLent, Lent.NoneReleased}
 
 -- a client of this place has lent nothing
 abbrev pub AreNew : List Lent → Type 0

@@ -1,14 +1,11 @@
 -- Those that await feedback are those that have places, where one is added and where one is noted.
 use Rattle.std.proofs.Common.{◌≡◌, ℕ, zero, suc, ◌+◌, ◌-◌, ◌<◌, Bool, true, false, not, ◌&&◌, ◌||◌, Option, Some, None, is_some, List, [], ◌∷◌, length, insert, min, Result, Ok, Err, OnOk, IfOk, refl, ap, sym, subst, ◌∙◌, arith, cond}
-use Rattle.std.specs.List.{list_all}
-use Rattle.std.specs.Map.{lookup}
-use Rattle.std.proofs.lemmas.Bool.Decides.{nat_tests}
-use Rattle.vz_ids.specs.declared.Sub.{Sub}
-use Rattle.vz_ids.specs.Ids.{same_sub}
+use Rattle.std.specs.{List.list_all, Map.lookup}
+use Rattle.std.proofs.{lemmas.Bool.Decides.nat_tests, Math.Nat.min-le_right}
+use Rattle.vz_ids.specs.{declared.Sub.Sub, Ids.same_sub}
 use Rattle.vz_returns.specs.Unfed.{before, in_order, is_open, place_in, opened, fed}
 use Rattle.vz_returns.proofs.Kept.{both, from_same_sub, opened_has, fed_has, opened_in_order, fed_in_order}
 use Rattle.vz_returns.proofs.Halved.{none_left}
-use Rattle.std.proofs.Math.Nat.{min-le_right}
 use Rattle.vz_returns.specs.Notes.{AreKept, room_for}
 
 -- How many

@@ -1,19 +1,9 @@
 -- Lists by rising ids: what is found in them, and that two in which the same is found are one.
-use Rattle.std.proofs.Common.{◌≡◌, ℕ, ◌+◌, Bool, true, false, ◌==◌, ◌&&◌, ◌<◌, ◌≤◌, min, Option, Some, None, is_some, Result, Ok, Err, OnErr, IsOk, List, [], ◌∷◌, length, nat_lt, nat_eq, refl, ap, sym, ◌∙◌, arith, cond}
-use Rattle.std.specs.List.{list_all, AllByRecursion, IsDistinct}
-use Rattle.std.specs.Map.{lookup, keys_of}
-use Rattle.std.specs.Option.{option_map}
-use Rattle.std.proofs.lemmas.Bool.Decides.{nat_tests}
-use Rattle.vz_returns.specs.declared.counts.Counts.{Counts}
+use Rattle.std.proofs.Common.{◌≡◌, ℕ, ◌+◌, Bool, true, false, ◌==◌, ◌<◌, ◌≤◌, min, Option, Some, None, is_some, Result, Ok, Err, OnErr, IsOk, List, [], ◌∷◌, length, nat_lt, nat_eq, refl, ap, sym, ◌∙◌, arith, cond}
+use Rattle.std.specs.{List.list_all, List.AllByRecursion, List.IsDistinct, Map.lookup, Map.keys_of, Option.option_map}
+use Rattle.std.proofs.{lemmas.Bool.Decides.nat_tests, lemmas.Bool.and_parts as both, lemmas.Bool.eqb-true as from_eqb}
+use Rattle.vz_returns.specs.{declared.counts.Counts.Counts, Ordered.counted_of, Ordered.in_order}
 use Rattle.vz_returns.specs.Held.{Counted, counted_at, received_of, alive_of, is_rising, put_in, without}
-use Rattle.vz_returns.specs.Ordered.{counted_of, in_order}
-
-both : (a b : Bool) → (a && b) ≡ true → (a ≡ true) × (b ≡ true)
-both true b h = (refl, h)
-both false b h = absurd (cc)
-
-from_eqb : (a b : ℕ) → (a == b) ≡ true → a ≡ b
-from_eqb a b h = grind (arith, nat_tests)
 
 -- What is found
 

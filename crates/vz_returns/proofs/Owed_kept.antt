@@ -3,32 +3,18 @@ use Rattle.std.proofs.Common.{◌≡◌, ℕ, ◌+◌, ◌<◌, Bool, true, fals
 use Rattle.std.proofs.lemmas.Bool.Decides.{nat_tests}
 use Rattle.std.specs.Option.{option_and_then}
 use Rattle.vz_geom.specs.Rectangle.{is_empty_rect}
-use Rattle.vz_ids.specs.declared.FrameSinkId.{FrameSinkId}
-use Rattle.vz_ids.specs.declared.LocalSurfaceId.{LocalSurfaceId}
-use Rattle.vz_ids.specs.declared.Sub.{Sub}
-use Rattle.vz_ids.specs.Ids.{same_sub}
+use Rattle.vz_ids.specs.{declared.FrameSinkId.FrameSinkId, declared.LocalSurfaceId.LocalSurfaceId, declared.Sub.Sub, Ids.same_sub}
 use Rattle.vz_pixels.specs.Block.{Block}
-use Rattle.vz_frame.specs.declared.frame.CompositorFrame.{CompositorFrame}
-use Rattle.vz_frame.specs.declared.message.Message.TheVariants.{Close}
-use Rattle.vz_rules.specs.declared.entry.Event.TheVariants.{Over}
-use Rattle.vz_rules.specs.declared.entry.Refusal.{Refusal}
-use Rattle.vz_rules.specs.Plan.{Plan, IsPlan}
+use Rattle.vz_frame.specs.{declared.frame.CompositorFrame.CompositorFrame, declared.message.Message.TheVariants.Close}
+use Rattle.vz_rules.specs.{declared.entry.Event.TheVariants.Over, Plan.Plan, Plan.IsPlan, Scene.scene_of, Reach.naming, Damage.drawn_damage}
+use Rattle.vz_rules.specs.{declared.entry.Refusal.Refusal, Returns.give_back, Returns.feedback_of, Walk.walk_of, Walk.walked_subs, Walk.too_much}
 use Rattle.vz_rules.specs.World.{World, Client, Scene, Submission, sub_of}
-use Rattle.vz_rules.specs.Scene.{scene_of}
-use Rattle.vz_rules.specs.Reach.{naming}
-use Rattle.vz_rules.specs.Returns.{give_back, feedback_of}
-use Rattle.vz_rules.specs.Walk.{walk_of, walked_subs, too_much}
-use Rattle.vz_rules.specs.Damage.{drawn_damage}
 use Rattle.vz_rules.specs.Messages.{Answer, unless_refused, taking, in_use, new_submission, message_answer, upload_answer, hierarchy_answer, hierarchy_refusal, root_answer, await_answer}
 use Rattle.vz_rules.specs.Step.{begin_answer, draw_answer, scene_answer, accepted_frames, answer_to}
 use Rattle.vz_rules.specs.Kept.{Keeps, KeepsAlways, KeepsPlan, KeepsMessages, is_by}
-use Rattle.vz_rules.proofs.Members.{at_contains, contains_here}
-use Rattle.vz_rules.proofs.Kept_facts.{unfed_open}
-use Rattle.vz_rules.proofs.Kept_few.{lists_short}
-use Rattle.vz_returns.specs.declared.due.Due.{Due}
-use Rattle.vz_returns.specs.Owed.{Owed, AreOwed, place_of, gets_at}
-use Rattle.vz_returns.proofs.Owes.{none_some, yes_no, same_self, owes_same}
-use Rattle.vz_returns.proofs.Events.{new_name}
+use Rattle.vz_rules.proofs.{Members.at_contains, Members.contains_here, Kept_facts.unfed_open, Kept_few.lists_short}
+use Rattle.vz_returns.specs.{declared.due.Due.Due, Owed.Owed, Owed.AreOwed, Owed.place_of, Owed.gets_at}
+use Rattle.vz_returns.proofs.{Owes.none_some, Owes.yes_no, Owes.same_self, Owes.owes_same, Events.new_name}
 
 pub stays_named : (w : World) (f : Owed) → AreOwed w f → AreOwed (naming w) f
 unfolding naming

@@ -1,23 +1,16 @@
 -- What is owed is still what is kept, where submissions change and where one more is accepted.
-use Rattle.std.proofs.Common.{◌≡◌, ℕ, zero, suc, ◌+◌, Bool, true, false, not, ◌&&◌, ◌==◌, ◌⊎◌, inl, inr, Option, Some, None, is_some, is_none, List, [], ◌∷◌, ◌++◌, length, map, slice_get, Contains, count_by, refl, ap, sym, subst, ◌∙◌, arith, cond}
+use Rattle.std.proofs.Common.{◌≡◌, ℕ, zero, suc, ◌+◌, Bool, true, false, not, ◌&&◌, ◌==◌, inl, inr, Option, Some, None, is_some, is_none, List, [], ◌∷◌, ◌++◌, length, map, slice_get, Contains, count_by, refl, ap, sym, subst, ◌∙◌, arith, cond}
 use Rattle.std.proofs.lemmas.Bool.Decides.{nat_tests}
-use Rattle.vz_ids.specs.declared.Sub.{Sub}
-use Rattle.vz_ids.specs.Ids.{same_sub}
-use Rattle.vz_rules.specs.declared.entry.Fed.{Fed}
-use Rattle.vz_rules.specs.World.{Submission, sub_of}
+use Rattle.vz_ids.specs.{declared.Sub.Sub, Ids.same_sub}
+use Rattle.vz_rules.specs.{declared.entry.Fed.Fed, World.Submission, World.sub_of}
 use Rattle.vz_returns.proofs.Kept.{from_same_sub}
 use Rattle.vz_rules.proofs.Members.{at_contains, contains_here, contains_there, contains_none, at_map, at_push}
 use Rattle.vz_rules.proofs.Facts.{length_map, map_at}
-use Rattle.vz_returns.specs.declared.due.Due.{Due}
+use Rattle.vz_returns.specs.{declared.due.Due.Due, Notes.IsAdded}
 use Rattle.vz_returns.specs.Owed.{Owed, Owes, place_of, awaits, gets_at}
-use Rattle.vz_returns.specs.Notes.{IsAdded}
-
-pub either : (t : Bool) → (t ≡ true) ⊎ (t ≡ false)
-either true = inl refl
-either false = inr refl
-
-pub some_same : {A : Type 0} (x y : A) → Some x ≡ Some y → x ≡ y
-some_same x y e = cc
+pub use Rattle.std.proofs.lemmas.Bool.{cases_Bool as either}
+pub use Rattle.std.proofs.lemmas.Option.{same_Some as some_same}
+pub use Rattle.vz_rules.proofs.Kept_rounds.{self_sub as same_self}
 
 pub none_some : {A : Type 0} (x : A) (o : Option A) → o ≡ None → o ≡ Some x → true ≡ false
 none_some x None e f = absurd (cc)
@@ -120,9 +113,6 @@ first_at (x ∷ subs) s (suc n) u h = first_at subs s n u h
 last_at : (subs : List Submission) (s : Submission) → slice_get (subs ++ s ∷ []) (length subs) ≡ Some s
 last_at [] s = refl
 last_at (x ∷ subs) s = last_at subs s
-
-pub same_self : (t : Sub) → same_sub t t ≡ true
-same_self t = grind (arith, nat_tests)
 
 pub owes_added : (gets : Submission → Option Fed) (subs : List Submission) (s : Submission) (old new : Owed) → gets s ≡ None → s.fed ≡ false
     → ((n : ℕ) (u : Submission) → slice_get subs n ≡ Some u → same_sub (sub_of s) (sub_of u) ≡ false) → IsAdded (sub_of s) old new

@@ -1,22 +1,10 @@
 -- What is read of counts after releases, and what goes back.
-use Rattle.std.proofs.Common.{◌≡◌, ℕ, ◌+◌, ◌-◌, ◌<◌, Bool, true, false, ◌==◌, ◌&&◌, Option, Some, None, List, [], ◌∷◌, nat_lt, refl, ap, ◌∙◌, arith, cond}
+use Rattle.std.proofs.Common.{◌≡◌, ℕ, ◌+◌, ◌-◌, ◌<◌, Bool, true, false, ◌==◌, Option, Some, None, List, [], ◌∷◌, nat_lt, refl, ap, ◌∙◌, arith, cond}
 use Rattle.std.proofs.lemmas.Bool.Decides.{nat_tests}
 use Rattle.vz_returns.specs.Held.{Counted, Holding, counted_at, received_of, alive_of, is_rising, put_in, without, is_last, lent, shared, released}
 use Rattle.vz_returns.specs.Released.{are_some}
 use Rattle.vz_returns.proofs.Orders.{at_put, at_without, rising_put, rising_without}
-
-pub both : (a b : Bool) → (a && b) ≡ true → (a ≡ true) × (b ≡ true)
-both true b h = (refl, h)
-both false b h = absurd (cc)
-
-pub two_true : (a b : Bool) → a ≡ true → b ≡ true → (a && b) ≡ true
-two_true a b p q = rw (p, q)
-
-pub from_eqb : (a b : ℕ) → (a == b) ≡ true → a ≡ b
-from_eqb a b h = grind (arith, nat_tests)
-
-pub to_eqb : (a b : ℕ) → a ≡ b → (a == b) ≡ true
-to_eqb a b h = grind (arith, nat_tests, h)
+pub use Rattle.std.proofs.lemmas.Bool.{and_parts as both, and_from as two_true, eqb-true as from_eqb, eq-eqb as to_eqb}
 
 -- Reads
 

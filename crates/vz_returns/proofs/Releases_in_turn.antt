@@ -1,24 +1,17 @@
 -- References that are released one after the other, and the room of what goes back.
 use Rattle.std.proofs.Common.{◌≡◌, ℕ, suc, ◌+◌, ◌<◌, ◌≤◌, true, ◌==◌, Some, None, List, [], ◌∷◌, ◌++◌, length, drop, slice_index_or, option_to_list, nat_le, refl, ap, sym, subst, ◌∙◌, arith, cond}
-use Rattle.std.specs.List.{list_all}
-use Rattle.std.specs.List.Sorted.{IsPermutation, IsNonDecreasing}
+use Rattle.std.specs.{List.list_all, List.Sorted.IsPermutation, List.Sorted.IsNonDecreasing}
 use Rattle.std.proofs.Common.{append-nil}
 use Rattle.std.proofs.lemmas.List.{append_assoc}
-use Rattle.std.proofs.lemmas.Bool.Decides.{nat_tests}
-use Rattle.std.proofs.lemmas.List.Sorted.{sum_by-IsPermutation, IsPermutation-refl}
-use Rattle.vz_rules.specs.World.{World, Client}
-use Rattle.vz_rules.specs.Returns.{returns_of, queue_returns, give_back}
+use Rattle.std.proofs.{lemmas.Bool.Decides.nat_tests, lemmas.List.Sorted.sum_by-IsPermutation, lemmas.List.Sorted.IsPermutation-refl}
+use Rattle.vz_rules.specs.{World.World, World.Client, Returns.returns_of, Returns.queue_returns, Returns.give_back, declared.entry.Returned.Returned}
 use Rattle.vz_rules.specs.Kept.{AreRising}
-use Rattle.vz_rules.specs.declared.entry.Returned.{Returned}
 use Rattle.vz_returns.specs.Held.{Holding, alive_of, is_rising, return_at, released}
 use Rattle.vz_returns.specs.Released.{AreCounts, alive_in, is_sorted, times, release_all, returns_in}
-use Rattle.vz_returns.proofs.Orders.{without_length, put_same, counts_there}
-use Rattle.vz_returns.proofs.Releases.{two_true, rising_released}
-use Rattle.vz_returns.proofs.Given_back.{returns_are, counts_after}
-use Rattle.vz_returns.proofs.All_released.{rest_suffices}
+use Rattle.vz_returns.proofs.{Orders.without_length, Orders.put_same, Orders.counts_there, Given_back.returns_are, Given_back.counts_after}
+use Rattle.vz_returns.proofs.{Releases.two_true, Releases.rising_released, All_released.rest_suffices, Listings.left_next, Listings.first_some}
 use Rattle.vz_returns.specs.Lent.{Suffice, all_alive}
 use Rattle.vz_returns.proofs.Totals.{all_released}
-use Rattle.vz_returns.proofs.Listings.{left_next, first_some}
 
 pub fewer_left : (id : ℕ) (h : Holding) (r : Returned) → return_at id h ≡ Some r → is_rising h.counted ≡ true → 0 < alive_of id h.counted
     → length (released id h).counted + 1 ≡ length h.counted

@@ -1,21 +1,14 @@
 -- What is still out: each resource of which some reference is alive, with all that were received.
 use Rattle.std.proofs.Common.{◌≡◌, ℕ, suc, ◌-◌, Bool, true, false, ◌&&◌, ◌==◌, Option, Some, None, List, [], ◌∷◌, ◌++◌, length, map, nat_lt, slice_get, refl, ap, sym, ◌∙◌, arith, cond}
-use Rattle.std.specs.List.{list_all, flat_map, filter_map}
-use Rattle.std.specs.Option.{option_map}
+use Rattle.std.specs.{List.list_all, List.flat_map, List.filter_map, Option.option_map}
 use Rattle.std.proofs.lemmas.Bool.Decides.{nat_tests}
-use Rattle.vz_rules.specs.World.{World, Client, Resource, resource_in}
-use Rattle.vz_rules.specs.Log.{held_resource, rest_in}
-use Rattle.vz_rules.specs.Returns.{is_held, return_of}
-use Rattle.vz_rules.specs.Kept.{KeepsAlways, AreRising}
-use Rattle.vz_rules.proofs.Members.{all_at, find_at, at_contains}
-use Rattle.vz_rules.proofs.Rising.{find_map}
+use Rattle.vz_rules.specs.{World.World, World.Client, World.Resource, World.resource_in, Returns.is_held, Returns.return_of}
+use Rattle.vz_rules.specs.{Log.held_resource, Log.rest_in, Kept.KeepsAlways, Kept.AreRising}
+use Rattle.vz_rules.proofs.{Members.all_at, Members.find_at, Members.at_contains, Rising.find_map}
 use Rattle.vz_returns.specs.Held.{Counted, Holding, counted_at, received_of, is_rising, as_returns, held}
-use Rattle.vz_returns.specs.Released.{AreCounts, are_some, out_in}
-use Rattle.vz_returns.proofs.Orders.{one_list}
-use Rattle.vz_returns.proofs.Releases.{both, two_true, from_eqb}
-use Rattle.vz_returns.proofs.All_released.{as_counted, same_returns}
-use Rattle.vz_returns.proofs.Given_back.{given, given_of, given_rising, given_found}
-use Rattle.vz_returns.specs.Lent.{Lent, AreLent}
+use Rattle.vz_returns.specs.{Released.AreCounts, Released.are_some, Released.out_in, Lent.Lent, Lent.AreLent}
+use Rattle.vz_returns.proofs.{Orders.one_list, Given_back.given, Given_back.given_of, Given_back.given_rising, Given_back.given_found}
+use Rattle.vz_returns.proofs.{Releases.both, Releases.two_true, Releases.from_eqb, All_released.as_counted, All_released.same_returns}
 
 -- counts of a client, as its returns have them
 mark : ℕ → Counted → Counted

@@ -2,23 +2,15 @@
 use Rattle.std.proofs.Common.{◌≡◌, ℕ, zero, suc, ◌+◌, ◌-◌, ◌≤◌, ◌<◌, Bool, false, ◌==◌, Option, Some, List, [], ◌∷◌, ◌++◌, length, take, drop, slice_get, set, get_or, refl, ap, sym, subst, ◌∙◌, arith, cond, Contains}
 use Rattle.std.specs.List.{flat_map}
 use Rattle.std.proofs.lemmas.Bool.Decides.{nat_tests}
-use Rattle.std.proofs.lemmas.List.{append-nil, append_assoc, length-map}
-use Rattle.std.proofs.lemmas.Option.{slice_get-get_or}
-use Rattle.vz_rules.specs.declared.entry.Returned.{Returned}
-use Rattle.vz_rules.specs.World.{World, Client}
-use Rattle.vz_rules.specs.Messages.{took, taking, reclaim, in_use as refused_in_use}
+use Rattle.std.proofs.{lemmas.List.append-nil, lemmas.List.append_assoc, lemmas.List.length-map, lemmas.Option.slice_get-get_or}
+use Rattle.vz_rules.specs.{declared.entry.Returned.Returned, World.World, World.Client}
+use Rattle.vz_rules.specs.{Messages.took, Messages.taking, Messages.reclaim, Messages.in_use as refused_in_use, Kept.KeepsAlways, Kept.AreRising}
 use Rattle.vz_rules.specs.Returns.{holds, returns_of, queue_returns, give_back, returned_in}
-use Rattle.vz_rules.specs.Kept.{KeepsAlways, AreRising}
-use Rattle.vz_rules.proofs.Members.{at_map, at_contains, at_within, contains_at}
+use Rattle.vz_rules.proofs.{Members.at_map, Members.at_contains, Members.at_within, Members.contains_at, Kept_submits.one_of_number}
 use Rattle.vz_rules.proofs.Kept_small.{at_there}
-use Rattle.vz_rules.proofs.Kept_submits.{one_of_number}
-use Rattle.vz_returns.specs.Held.{taken, in_use}
-use Rattle.vz_returns.specs.Released.{AreCounts, alive_in}
-use Rattle.vz_returns.proofs.Releases.{from_eqb, to_eqb}
-use Rattle.vz_returns.proofs.Uses.{uses_are}
+use Rattle.vz_returns.specs.{Held.taken, Held.in_use, Released.AreCounts, Released.alive_in}
+use Rattle.vz_returns.proofs.{Releases.from_eqb, Releases.to_eqb, Uses.uses_are, Steps.lent_set, Steps.GoesOn, Steps.own_at, Clients.out_reclaimed}
 use Rattle.vz_returns.specs.Lent.{Lent, AreLent, IsLender, NoneReleased, Suffice, resources_out}
-use Rattle.vz_returns.proofs.Steps.{lent_set, GoesOn, own_at}
-use Rattle.vz_returns.proofs.Clients.{out_reclaimed}
 use Rattle.vz_returns.proofs.Lent_rooms.{by_place}
 
 -- Given back to the first of them

@@ -1,11 +1,8 @@
 -- The feedback of one submission, by whether it has some, ended and is in flight.
 use Rattle.std.proofs.Common.{arith, ◌≡◌, Bool, true, false, not, ◌&&◌, ◌||◌, Option, Some, None, is_none, [], refl, ap, sym, ◌∙◌, cond}
-use Rattle.std.proofs.lemmas.Bool.Decides.{nat_tests}
-use Rattle.std.proofs.lemmas.Bool.{and_right}
-use Rattle.vz_rules.specs.declared.entry.Fed.{Fed}
-use Rattle.vz_rules.specs.declared.entry.State.{State}
+use Rattle.std.proofs.{lemmas.Bool.Decides.nat_tests, lemmas.Bool.and_right}
+use Rattle.vz_rules.specs.{declared.entry.Fed.Fed, declared.entry.State.State, Returns.feedback_of}
 use Rattle.vz_rules.specs.World.{World, Submission, is_waiting, is_active, is_ended, is_in_flight, sub_of}
-use Rattle.vz_rules.specs.Returns.{feedback_of}
 use Rattle.vz_returns.specs.Notes.{fed_as}
 
 -- what it gets, where it has some, ended and is in flight
@@ -62,16 +59,9 @@ ended_twice fed wa ac on flies m n x e f = grind (arith, nat_tests, cond_same)
 
 pub landed_flat : (fed ends has : Bool) (x y : Fed)
     → cond fed None (cond has (Some x) (cond (ends && true) (Some y) None)) ≡ also fed (given fed ends has y) has x
-landed_flat true ends has x y = refl
-landed_flat false true true x y = refl
-landed_flat false true false x y = refl
-landed_flat false false true x y = refl
-landed_flat false false false x y = refl
+landed_flat fed ends has x y = grind (arith, nat_tests)
 
 -- One of two lists
 
 pub twice_flat : (fed a b : Bool) (g : Option Fed) (x : Fed) → also fed g (a || b) x ≡ also fed (also fed g a x) b x
-twice_flat true a b g x = refl
-twice_flat false true b None x = refl
-twice_flat false false b None x = refl
-twice_flat false a b (Some y) x = refl
+twice_flat fed a b g x = grind (arith, nat_tests)

@@ -1,18 +1,13 @@
 -- What clients lent stands for a state, as one of them changes.
 use Rattle.std.proofs.Common.{◌≡◌, ℕ, zero, suc, ◌+◌, ◌<◌, Bool, true, false, ◌==◌, Option, Some, List, [], ◌∷◌, ◌++◌, length, slice_get, set, get_or, refl, ap, sym, subst, ◌∙◌, arith, cond}
-use Rattle.std.proofs.lemmas.Option.{slice_get-get_or}
-use Rattle.std.proofs.lemmas.Bool.Decides.{nat_tests}
-use Rattle.std.proofs.lemmas.List.Sums.{sum_by-append}
-use Rattle.vz_rules.specs.World.{World, Client}
-use Rattle.vz_rules.specs.Kept.{KeepsClients}
-use Rattle.vz_rules.proofs.Members.{at_within}
-use Rattle.vz_rules.proofs.Kept_small.{at_there}
+use Rattle.std.proofs.{lemmas.Option.slice_get-get_or, lemmas.Bool.Decides.nat_tests, lemmas.List.Sums.sum_by-append}
+use Rattle.vz_rules.specs.{World.World, World.Client, Kept.KeepsClients}
+use Rattle.vz_rules.proofs.{Members.at_within, Kept_small.at_there}
 use Rattle.vz_returns.specs.Held.{Holding, received_of, alive_of, is_rising, lent, shared}
 use Rattle.vz_returns.specs.Released.{are_some, times, alive_in, AreCounts}
-use Rattle.vz_returns.proofs.Orders.{rising_put}
+use Rattle.vz_returns.proofs.{Orders.rising_put, Listings.times_at, Listings.first_some, Listings.suffice_shared}
 use Rattle.vz_returns.proofs.Releases.{from_eqb, to_eqb, received_lent, alive_lent, some_lent, received_shared, alive_shared, some_shared}
 use Rattle.vz_returns.specs.Lent.{Lent, AreLent, Suffice, lent_all, shared_all}
-use Rattle.vz_returns.proofs.Listings.{times_at, first_some, suffice_shared}
 
 -- One of a list is another
 

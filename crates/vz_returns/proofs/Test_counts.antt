@@ -1,17 +1,12 @@
 -- How many pass a test, where some of them pass no longer.
 use Rattle.std.proofs.Common.{◌≡◌, ℕ, ◌+◌, ◌≤◌, Bool, true, false, ◌&&◌, ◌==◌, Option, Some, None, List, [], ◌∷◌, map, find, count_by, refl, ap, subst, arith, cond, Contains}
-use Rattle.std.proofs.lemmas.Bool.Decides.{nat_tests}
+use Rattle.std.proofs.{lemmas.Bool.Decides.nat_tests, lemmas.Bool.and_right as and_false}
 use Rattle.std.specs.List.{list_any}
-use Rattle.vz_frame.specs.declared.frame.Listing.{Listing}
-use Rattle.vz_frame.specs.Frame.{lists}
-use Rattle.vz_rules.specs.World.{Submission}
-use Rattle.vz_rules.specs.Kept.{borrows}
-use Rattle.vz_rules.proofs.Members.{contains_here, contains_there, contains_at}
-use Rattle.vz_rules.proofs.Counts.{count_cons, count_none, count_at}
-use Rattle.vz_returns.specs.Released.{times}
-use Rattle.vz_returns.proofs.Releases.{from_eqb}
-use Rattle.vz_returns.specs.Listed.{ids_of, lists_twice, listed_by}
-use Rattle.vz_returns.proofs.Listings.{or_no, times_at}
+use Rattle.vz_frame.specs.{declared.frame.Listing.Listing, Frame.lists}
+use Rattle.vz_rules.specs.{World.Submission, Kept.borrows}
+use Rattle.vz_rules.proofs.{Members.contains_here, Members.contains_there, Members.contains_at, Counts.count_cons, Counts.count_none, Counts.count_at}
+use Rattle.vz_returns.specs.{Released.times, Listed.ids_of, Listed.lists_twice, Listed.listed_by}
+use Rattle.vz_returns.proofs.{Releases.from_eqb, Listings.or_no, Listings.times_at}
 
 -- one passes where it passes still, or where it passes another test, and not both
 abbrev pub IsSplit : Bool → Bool → Bool → Type 0
@@ -65,10 +60,6 @@ count_both before one two (x ∷ xs) h =
       count_both before one two xs
           (λ y c. h y (contains_there x y xs c)),
     )
-
-and_false : (a b : Bool) → b ≡ false → (a && b) ≡ false
-and_false true b e = e
-and_false false b e = refl
 
 none_counted : {A : Type 0} (t : A → Bool) (xs : List A) → count_by t xs ≡ 0 → (x : A) → Contains xs x → t x ≡ false
 none_counted t xs none x there = by (t x) refl

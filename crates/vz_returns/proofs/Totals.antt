@@ -1,13 +1,10 @@
 -- All references that are alive: how their number changes, and that no more are released.
 use Rattle.std.proofs.Common.{◌≡◌, ℕ, ◌+◌, ◌<◌, ◌≤◌, Bool, true, false, not, ◌==◌, List, [], ◌∷◌, length, filter, nat_lt, refl, ap, sym, ◌∙◌, arith, cond}
 use Rattle.std.specs.List.{list_all}
-use Rattle.std.proofs.lemmas.Bool.Decides.{nat_tests}
-use Rattle.std.proofs.lemmas.List.Sums.{sum_by-cons}
-use Rattle.vz_rules.proofs.Counts.{count_cons}
+use Rattle.std.proofs.{lemmas.Bool.Decides.nat_tests, lemmas.List.Sums.sum_by-cons}
 use Rattle.vz_returns.specs.Held.{Counted, Holding, alive_of, is_rising, put_in, without, lent, shared, released}
-use Rattle.vz_returns.specs.Released.{times}
-use Rattle.vz_returns.proofs.Releases.{both, from_eqb, to_eqb}
-use Rattle.vz_returns.specs.Lent.{all_alive}
+use Rattle.vz_returns.specs.{Released.times, Lent.all_alive}
+use Rattle.vz_returns.proofs.{Releases.both, Releases.from_eqb, Releases.to_eqb, Listings.times_at}
 
 pub all_cons : (x : Counted) (list : List Counted) → all_alive (x ∷ list) ≡ x.alive + all_alive list
 unfolding all_alive
@@ -89,9 +86,6 @@ all_released id h up some = grind (arith, nat_tests, all_without id h.counted up
 -- the ids that are another one
 others : ℕ → List ℕ → List ℕ
 others id ids = filter (λ n. not (n == id)) ids
-
-times_at : (j id : ℕ) (ids : List ℕ) (t : Bool) → (id == j) ≡ t → times j (id ∷ ids) ≡ cond t 1 0 + times j ids
-times_at j id ids t e = count_cons (λ n. n == j) id ids ∙ ap {B = ℕ} (λ (b : Bool). cond b 1 0 + times j ids) e
 
 split_length : (id : ℕ) (ids : List ℕ) → length ids ≡ times id ids + length (others id ids)
 unfolding others

@@ -1,22 +1,15 @@
 -- The submissions that await feedback between steps, by client and ordinal, are the rest of the state.
 use Rattle.std.proofs.Common.{◌≡◌, ℕ, suc, ◌<◌, Bool, true, false, not, ◌&&◌, ◌||◌, ◌==◌, Option, Some, None, is_some, is_none, List, [], ◌∷◌, ◌++◌, take, map, filter, flat_map, slice_get, Contains, count_by, refl, ap, sym, ◌∙◌, arith, cond}
 use Rattle.std.specs.List.{list_any, list_all}
-use Rattle.std.proofs.lemmas.Bool.Decides.{nat_tests}
-use Rattle.std.proofs.lemmas.List.Folds.{list_any-append, list_all-append}
-use Rattle.vz_ids.specs.declared.Sub.{Sub}
-use Rattle.vz_ids.specs.Ids.{same_sub}
-use Rattle.vz_rules.specs.World.{World, Client, Submission, sub_of}
-use Rattle.vz_rules.specs.Returns.{feedback_of}
-use Rattle.vz_rules.specs.Log.{unfed_of, rest_in}
-use Rattle.vz_rules.specs.Kept.{Keeps, KeepsAlways, AreOrdered, is_by}
+use Rattle.std.proofs.{lemmas.Bool.Decides.nat_tests, lemmas.List.Folds.list_any-append, lemmas.List.Folds.list_all-append}
+use Rattle.vz_ids.specs.{declared.Sub.Sub, Ids.same_sub}
+use Rattle.vz_rules.specs.{World.World, World.Client, World.Submission, World.sub_of, Kept.Keeps, Kept.KeepsAlways, Kept.AreOrdered, Kept.is_by}
+use Rattle.vz_rules.specs.{Returns.feedback_of, Log.unfed_of, Log.rest_in}
 use Rattle.vz_rules.proofs.Members.{at_contains, contains_at, contains_here, contains_there, contains_map, filter_at, flat_map_at, any_at, any_from, any_map, all_from, same_tests}
 use Rattle.vz_rules.proofs.Counts.{count_before}
-use Rattle.vz_returns.specs.Unfed.{before, in_order, is_open}
+use Rattle.vz_returns.specs.{Unfed.before, Unfed.in_order, Unfed.is_open, Owed.Owed, Owed.AreOwed, Owed.place_of}
 use Rattle.vz_returns.proofs.Kept.{both, two_true, all_over, or_after, from_same_sub}
-use Rattle.vz_returns.specs.Owed.{Owed, AreOwed, place_of}
-use Rattle.vz_returns.proofs.Owes.{either, same_self, yes_no}
-use Rattle.vz_returns.proofs.Open_places.{none_behind}
-use Rattle.vz_returns.proofs.Owed_kept.{none_gets}
+use Rattle.vz_returns.proofs.{Owes.either, Owes.same_self, Owes.yes_no, Open_places.none_behind, Owed_kept.none_gets}
 
 -- Two lists in their order with the same submissions are one
 

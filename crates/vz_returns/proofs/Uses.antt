@@ -1,15 +1,11 @@
 -- A resource is in use by the counts exactly where an upload of it is refused.
 use Rattle.std.proofs.Common.{◌≡◌, ℕ, ◌+◌, ◌-◌, ◌≤◌, Bool, true, false, ◌==◌, ◌||◌, Option, Some, None, List, [], ◌∷◌, Contains, sum_by, is_some, nat_lt, refl, ap, sym, ◌∙◌, arith, cond}
 use Rattle.std.specs.List.{list_any}
-use Rattle.std.proofs.lemmas.List.Sums.{sum_by-cons}
-use Rattle.std.proofs.lemmas.Bool.Decides.{nat_tests}
+use Rattle.std.proofs.{lemmas.List.Sums.sum_by-cons, lemmas.Bool.Decides.nat_tests}
 use Rattle.vz_rules.specs.World.{World, Client, Resource, Submission, resource_in}
-use Rattle.vz_rules.specs.Messages.{in_use as refused_in_use}
-use Rattle.vz_rules.specs.Kept.{KeepsShelf, count_of}
-use Rattle.vz_rules.specs.declared.entry.Returned.{Returned}
+use Rattle.vz_rules.specs.{Messages.in_use as refused_in_use, Kept.KeepsShelf, Kept.count_of, declared.entry.Returned.Returned}
 use Rattle.vz_rules.proofs.Members.{contains_here, contains_there, find_at, found, any_from, any_none}
-use Rattle.vz_returns.specs.Held.{Holding, in_use}
-use Rattle.vz_returns.specs.Released.{out_in, AreCounts}
+use Rattle.vz_returns.specs.{Held.Holding, Held.in_use, Released.out_in, Released.AreCounts}
 use Rattle.vz_returns.proofs.Releases.{from_eqb, to_eqb, some_of_both}
 
 more_is_some : (n m : ℕ) → 1 ≤ n → nat_lt 0 (n + m) ≡ true

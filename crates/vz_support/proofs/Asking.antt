@@ -1,32 +1,20 @@
 -- What is asked of a client is what is asked of it in the machine's state.
 use Rattle.std.proofs.Common.{◌≡◌, ℕ, ◌+◌, ◌-◌, ◌<◌, ◌≤◌, Bool, true, false, not, ◌&&◌, ◌||◌, ◌==◌, nat_lt, Option, Some, None, is_some}
-use Rattle.std.proofs.Common.{is_none, length, option_copied, Bor, refl, ap, sym, ◌∙◌, subst, arith}
-use Rattle.std.proofs.lemmas.Bool.{eq-eqb}
-use Rattle.vz_frame.specs.declared.message.Message.{Message}
-use Rattle.vz_frame.specs.declared.message.Message.TheVariants.{Upload, Submit, DidNotProduce, Reclaim, SetRoot, Hierarchy, Await, Close}
-use Rattle.vz_frame.specs.Frame.{first_of}
-use Rattle.vz_rules.specs.Plan.{Plan}
+use Rattle.std.proofs.Common.{is_none, length, option_copied, Bor, refl, ap, ◌∙◌, arith}
+use Rattle.std.proofs.{lemmas.Bool.eq-eqb, lemmas.Bool.Decides.nat_tests}
+use Rattle.vz_frame.specs.{declared.message.Message.Message, declared.message.Message.TheVariants.Await, Frame.first_of}
+use Rattle.vz_rules.specs.{Plan.Plan, Kept.KeepsClients, Kept.KeepsPlan, Course.waits, Course.is_idle, Course.has_answered, Step.is_attached}
 use Rattle.vz_rules.specs.World.{World, Client, Machine, client_at, next_message}
-use Rattle.vz_rules.specs.Kept.{KeepsClients, KeepsPlan}
-use Rattle.vz_rules.specs.Course.{waits, is_idle, has_answered}
-use Rattle.vz_rules.specs.Step.{is_attached}
-use Rattle.vz_rules.proofs.Cases.{number_at}
-use Rattle.vz_rules.proofs.Kept_small.{at_there}
-use Rattle.vz_rules.proofs.Members.{at_contains, any_from, found}
+use Rattle.vz_rules.proofs.{Cases.number_at, Kept_small.at_there, Members.at_contains, Members.any_from, Members.found}
 use Rattle.vz_machine.specs.Stepping.{HasClient, asked, waits_at, idle_at, answered_at, attached_at, listed_at, listed_in}
-use Rattle.vz_support.specs.Sent.{sender_at}
-use Rattle.vz_support.specs.Sending.{IsSender}
+use Rattle.vz_support.specs.{Sent.sender_at, Sending.IsSender, Supporting.Supported, Supporting.IsSupport, Supporting.is_await}
 use Rattle.vz_support.proofs.Clients_kept.{tells_next}
 use Rattle.vz_sinks.specs.Relating.{standing, attached_in}
 use Rattle.vz_sinks.proofs.Same_seats.{standing_is, attached_as}
-use Rattle.vz_support.specs.Supporting.{Supported, IsSupport, is_await}
 
 -- a copy of what is borrowed is there where that is
 pub copied_none : {A : Type 0} (o : Option (Bor A)) (t : Bool) → is_some o ≡ not t → t ≡ is_none (option_copied o)
-copied_none None true e = refl
-copied_none None false e = absurd (cc)
-copied_none (Some b) true e = absurd (cc)
-copied_none (Some b) false e = refl
+copied_none o t e = grind (arith, nat_tests)
 
 some_client : (o : Option Client) → is_some o ≡ true → (x : Client) × (o ≡ Some x)
 some_client None h = absurd (cc)
@@ -46,9 +34,7 @@ numbered_there w c keeps some known =
 -- each client of the plan is kept
 pub known_there : (m : Machine) (c : ℕ) (v : Supported) → KeepsPlan m.plan m.world → IsSupport m.plan m.world v → HasClient m c
     → (1 ≤ c) × (c ≤ length v.clients)
-known_there m c v keeps is has =
-    let many : length v.clients ≡ length m.plan.files = is.clients.count ∙ keeps.files.as_many in
-    (omega (arith, has.0), omega (arith, has.1, many))
+known_there m c v keeps is has = grind (arith, nat_tests)
 
 -- what is kept of a client of the state
 pub kept_of : (p : Plan) (w : World) (v : Supported) (c : ℕ) (x : Client) → IsSupport p w v → client_at w c ≡ Some x
@@ -57,9 +43,7 @@ kept_of p w v c x is here = is.clients.each c x here
 
 pub next_same : (p : Plan) (w : World) (v : Supported) (c : ℕ) (x : Client) → IsSupport p w v → client_at w c ≡ Some x
     → first_of (sender_at v.clients c).left ≡ next_message p x
-next_same p w v c x is here =
-    let number : x.number ≡ c = number_at w c x here in
-    ap (λ n. first_of (sender_at v.clients n).left) (sym number) ∙ tells_next p w x v.clients is.clients (ap (client_at w) number ∙ here)
+next_same p w v c x is here = grind (arith, nat_tests, number_at w c x here, tells_next p w x v.clients is.clients)
 
 -- the begin-frame that stands
 pub stands_same : (p : Plan) (w : World) (v : Supported) (c : ℕ) (x : Client) → IsSupport p w v → client_at w c ≡ Some x
@@ -73,16 +57,7 @@ attached_same p w v c x is here = ap (λ s. attached_in s c) is.sinks ∙ attach
 waits_by : (o : Option Message) (d : Option ℕ) (a b : Bool)
     → (is_await o && not (is_some d) && a && b)
     ≡ elim o as (λ o. Bool) [ Some m ↦ (elim m as (λ m. Bool) [ Await ↦ is_none d && a && b | _ ↦ false ]) | None ↦ false ]
-waits_by None d a b = refl
-waits_by (Some (Upload id block)) d a b = refl
-waits_by (Some (Submit local frame)) d a b = refl
-waits_by (Some (DidNotProduce n)) d a b = refl
-waits_by (Some Reclaim) d a b = refl
-waits_by (Some (SetRoot local)) d a b = refl
-waits_by (Some (Hierarchy parent child)) d a b = refl
-waits_by (Some Await) None a b = refl
-waits_by (Some Await) (Some n) a b = refl
-waits_by (Some Close) d a b = refl
+waits_by o d a b = grind (arith, nat_tests)
 
 pub waits_same : (p : Plan) (w : World) (v : Supported) (c : ℕ) (x : Client) → IsSupport p w v → client_at w c ≡ Some x
     → (is_await (first_of (sender_at v.clients c).left) && not (is_some (standing v.sinks.seats c)) && not v.over
@@ -96,9 +71,7 @@ waits_same p w v c x is here =
 asked_here : (m : Machine) (v : Supported) (c : ℕ) (b : Bool) (f : Client → Bool) → KeepsClients m.world.clients
     → IsSupport m.plan m.world v → 1 ≤ c → c ≤ length v.clients
     → ((x : Client) → client_at m.world c ≡ Some x → b ≡ f x) → b ≡ asked (client_at m.world c) f
-asked_here m v c b f keeps is some known same =
-    let there = numbered_there m.world c keeps some (subst (λ n. c ≤ n) is.clients.count known) in
-    same there.0 there.1 ∙ ap (λ o. asked o f) (sym there.1)
+asked_here m v c b f keeps is some known same = grind (arith, nat_tests, numbered_there m.world c keeps some)
 
 module _ (m : Machine) (v : Supported) (c : ℕ) (keeps : KeepsClients m.world.clients) (is : IsSupport m.plan m.world v) (some : 1 ≤ c)
     (known : c ≤ length v.clients) where
@@ -133,7 +106,4 @@ module _ (m : Machine) (v : Supported) (c : ℕ) (keeps : KeepsClients m.world.c
       asked_here m v c b (is_attached m.plan m.world) keeps is some known (λ x here. e ∙ attached_same m.plan m.world v c x is here)
 
   pub listed_here : (n : ℕ) → n ≡ listed_in (first_of (sender_at v.clients c).left) → n ≡ listed_at m c
-  listed_here n e =
-      let there = numbered_there m.world c keeps some (subst (λ k. c ≤ k) is.clients.count known) in
-      e ∙ (ap listed_in (next_same m.plan m.world v c there.0 is there.1)
-      ∙ ap (λ (o : Option Client). elim o as (λ o. ℕ) [ Some x ↦ listed_in (next_message m.plan x) | None ↦ 0 ]) (sym there.1))
+  listed_here n e = grind (arith, nat_tests, numbered_there m.world c keeps some, next_same m.plan m.world v c)

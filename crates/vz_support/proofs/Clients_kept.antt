@@ -1,30 +1,18 @@
 -- What leaves clients' messages and blocks as they are, and what is read of them.
-use Rattle.std.proofs.Common.{◌≡◌, ℕ, zero, suc, ◌+◌, ◌-◌, Bool, true, false, not, ◌&&◌, ◌||◌, ◌==◌, Option, Some, None, is_some, List, [], ◌∷◌, map, find, drop, length, get_or, slice_get, refl, ap, sym, ◌∙◌, subst, cond, nat_lt, arith}
-use Rattle.std.specs.Option.{option_map, option_map_or, option_and_then}
-use Rattle.std.specs.List.{list_any, list_all, filter_map, cons_option}
-use Rattle.std.proofs.lemmas.Bool.{eqb-true, and_parts, ltb-true}
+use Rattle.std.proofs.Common.{◌≡◌, ℕ, zero, suc, ◌+◌, ◌-◌, Bool, true, false, not, ◌&&◌, ◌==◌, Option, Some, None, is_some, List, [], ◌∷◌, map, find, drop, length, get_or, slice_get, refl, ap, sym, ◌∙◌, subst, cond, nat_lt, arith}
+use Rattle.std.specs.{Option.option_map, Option.option_map_or, Option.option_and_then, List.list_any, List.list_all, List.filter_map}
+use Rattle.std.proofs.{lemmas.Bool.eqb-true, lemmas.Bool.and_parts, lemmas.Option.get_or_from_slice_get as got, lemmas.Bool.Decides.nat_tests}
 use Rattle.vz_ids.specs.declared.Sub.{Sub}
 use Rattle.vz_pixels.specs.Block.{Block}
-use Rattle.vz_frame.specs.declared.frame.CompositorFrame.{CompositorFrame}
-use Rattle.vz_frame.specs.declared.frame.Listing.{Listing}
-use Rattle.vz_frame.specs.declared.message.ClientFile.{ClientFile}
+use Rattle.vz_frame.specs.{declared.frame.CompositorFrame.CompositorFrame, declared.frame.Listing.Listing, declared.message.ClientFile.ClientFile}
 use Rattle.vz_frame.specs.Frame.{first_of}
-use Rattle.vz_rules.specs.Plan.{Plan}
+use Rattle.vz_rules.specs.{Plan.Plan, Settle.round}
 use Rattle.vz_rules.specs.World.{World, Client, Surface, Submission, Scene, Resource, client_at, file_of, next_message, resource_in, new_client, new_clients, opening}
-use Rattle.vz_rules.specs.Kept.{AreRising}
-use Rattle.vz_rules.specs.Scene.{scene_of}
-use Rattle.vz_rules.specs.Settle.{round}
-use Rattle.vz_rules.specs.Reach.{naming}
-use Rattle.vz_rules.specs.Returns.{queue_resource, queue_returns, goes_back, give_back, feed}
-use Rattle.vz_geom.specs.Rectangle.{is_empty_rect}
+use Rattle.vz_rules.specs.{Kept.AreRising, Messages.Answer, Messages.says, Messages.is_unknown, Messages.blocks_of, Singly.rising, Singly.going}
+use Rattle.vz_rules.specs.{Scene.scene_of, Reach.naming, Returns.queue_returns, Returns.give_back, Returns.feed, Walk.walk_of, Walk.too_much}
 use Rattle.vz_rules.specs.declared.entry.Reply.TheVariants as reply
-use Rattle.vz_rules.specs.Messages.{Answer, says, is_unknown, blocks_of}
-use Rattle.vz_rules.specs.Singly.{rising, going}
-use Rattle.vz_rules.specs.Step.{deliver, is_attached, next_tick, accepted_frames, begin_answer, scene_answer, draw_answer, done_answer}
-use Rattle.vz_rules.specs.Walk.{walk_of, too_much}
-use Rattle.vz_rules.specs.Damage.{drawn_damage}
-use Rattle.vz_rules.proofs.Members.{find_at, contains_at}
-use Rattle.vz_rules.proofs.Kept_first.{client_at_first}
+use Rattle.vz_rules.specs.Step.{deliver, is_attached, next_tick, begin_answer, scene_answer, draw_answer, done_answer}
+use Rattle.vz_rules.proofs.{Members.find_at, Members.contains_at, Kept_first.client_at_first, Facts.or_false, Facts.map_at as mapped}
 use Rattle.vz_support.specs.Sent.{Sender, opened, nobody, sender_at, block_in, knows, blocks_in}
 use Rattle.vz_support.specs.Sending.{left_in, IsSender, AreSenders}
 use Rattle.vz_support.proofs.Sending.{IsAlike, blocks_kept, all_alike}
@@ -69,9 +57,7 @@ either_same false a b w e f = f
 
 scene_same : (p : Plan) (w : World) (scene : Scene) → (scene_answer p w scene).world.clients ≡ w.clients
 unfolding scene_answer
-scene_same p w scene =
-    either_same (too_much (walk_of p.size scene)) _ _ w refl
-    (either_same (is_some w.last && is_empty_rect (drawn_damage p.size w.last (accepted_frames w) scene.root (walk_of p.size scene))) _ _ w refl refl)
+scene_same p w scene = grind (arith, nat_tests, either_same (too_much (walk_of p.size scene)), either_same)
 
 maybe_same : (p : Plan) (w : World) (o : Option Scene) → (elim o as (λ o. Answer) [ Some scene ↦ scene_answer p w scene | None ↦ says reply.NoRoot w ]).world.clients ≡ w.clients
 maybe_same p w None = refl
@@ -102,17 +88,7 @@ queued_block false r = refl
 
 pub stays_given : (p : Plan) (w : World) (list : List Sender) → AreSenders p w list → AreSenders p (give_back w) list
 unfolding give_back
-stays_given p w list h =
-    all_alike p w (give_back w) (queue_returns w) list refl
-    (λ x. record {
-      number = refl;
-      sink = refl;
-      taken = refl;
-      closed = refl;
-      answered = refl;
-      blocks = λ id. blocks_kept (queue_resource w x.number) id x.resources (λ r. queued_id (goes_back w x.number r) r) (λ r. queued_block (goes_back w x.number r) r);
-    })
-    h
+stays_given p w list h = grind (arith, nat_tests, all_alike p w (give_back w) (queue_returns w) list refl, blocks_kept, queued_id, queued_block)
 
 -- What is read
 
@@ -132,12 +108,7 @@ tells_next p w x list h here = ap first_of (h.each x.number x here).left ∙ fir
 read_same : (blocks : List (ℕ × Block)) (rs : List Resource) (ls : List Listing) → ((id : ℕ) → block_in blocks id ≡ option_map (λ (r : Resource). r.block) (resource_in id rs))
     → filter_map (λ (l : Listing). option_map (λ (s : Resource). s.block) (resource_in l.id rs)) ls ≡ blocks_in blocks ls
 read_same blocks rs [] e = refl
-read_same blocks rs (l ∷ ls) e =
-    by _ _ (sym (e l.id)) (read_same blocks rs ls e)
-  where
-    by : (a b : Option Block) → a ≡ b → filter_map (λ (l : Listing). option_map (λ (s : Resource). s.block) (resource_in l.id rs)) ls ≡ blocks_in blocks ls
-        → cons_option a (filter_map (λ (l : Listing). option_map (λ (s : Resource). s.block) (resource_in l.id rs)) ls) ≡ cons_option b (blocks_in blocks ls)
-    by a b f rest = ap (λ o. cons_option o (filter_map (λ (l : Listing). option_map (λ (s : Resource). s.block) (resource_in l.id rs)) ls)) f ∙ ap (cons_option b) rest
+read_same blocks rs (l ∷ ls) e = grind (arith, nat_tests, read_same blocks rs ls e)
 
 pub tells_blocks : (p : Plan) (w : World) (x : Client) (frame : CompositorFrame) (list : List Sender) → AreSenders p w list → client_at w x.number ≡ Some x
     → blocks_of x.resources frame ≡ blocks_in (sender_at list x.number).blocks frame.resources
@@ -149,40 +120,16 @@ serves l s = (s.id == l.id) && (s.block.w == l.w) && (s.block.h == l.h)
 -- of rising resources one at most has an id, the first that is found
 none_serves : (l : Listing) (rs : List Resource) → list_all (λ (t : Resource). nat_lt l.id t.id) rs ≡ true → list_any (serves l) rs ≡ false
 none_serves l [] h = refl
-none_serves l (r ∷ rs) h =
-    let parts = and_parts (nat_lt l.id r.id) (list_all (λ (t : Resource). nat_lt l.id t.id) rs) h in
-    ap (λ (t : Bool). (t && (r.block.w == l.w) && (r.block.h == l.h)) || list_any (serves l) rs) (off (r.id == l.id) refl parts.0)
-    ∙ none_serves l rs parts.1
-  where
-    off : (t : Bool) → (r.id == l.id) ≡ t → nat_lt l.id r.id ≡ true → t ≡ false
-    off true e g = let same : r.id ≡ l.id = eqb-true r.id l.id e in absurd (omega (arith, same, ltb-true l.id r.id g))
-    off false e g = refl
-
-or_false : (t : Bool) → (t || false) ≡ t
-or_false true = refl
-or_false false = refl
+none_serves l (r ∷ rs) h = grind (arith, nat_tests, and_parts (nat_lt l.id r.id), none_serves l rs, eqb-true r.id l.id)
 
 served : (l : Listing) (rs : List Resource) → AreRising rs → list_any (serves l) rs ≡ option_map_or (λ (b : Block). (b.w == l.w) && (b.h == l.h)) (option_map (λ (r : Resource). r.block) (resource_in l.id rs)) false
 served l [] up = refl
-served l (r ∷ rs) up = by (r.id == l.id) refl (served l rs up.1)
-  where
-    by : (t : Bool) → (r.id == l.id) ≡ t → list_any (serves l) rs ≡ option_map_or (λ (b : Block). (b.w == l.w) && (b.h == l.h)) (option_map (λ (s : Resource). s.block) (resource_in l.id rs)) false
-        → (t && (r.block.w == l.w) && (r.block.h == l.h)) || list_any (serves l) rs
-        ≡ option_map_or (λ (b : Block). (b.w == l.w) && (b.h == l.h)) (option_map (λ (s : Resource). s.block) (cond t (Some r) (resource_in l.id rs))) false
-    by false e rest = rest
-    by true e rest =
-        ap (λ (u : Bool). ((r.block.w == l.w) && (r.block.h == l.h)) || u) (none_serves l rs (subst (λ n. list_all (λ (t : Resource). nat_lt n t.id) rs ≡ true) (eqb-true r.id l.id e) up.0))
-        ∙ or_false ((r.block.w == l.w) && (r.block.h == l.h))
+served l (r ∷ rs) up = grind (arith, nat_tests, served l rs up.1, none_serves l rs, eqb-true r.id l.id, or_false)
 
 all_known : (blocks : List (ℕ × Block)) (rs : List Resource) (ls : List Listing) → AreRising rs → ((id : ℕ) → block_in blocks id ≡ option_map (λ (r : Resource). r.block) (resource_in id rs))
     → list_any (is_unknown rs) ls ≡ not (list_all (knows blocks) ls)
 all_known blocks rs [] up e = refl
-all_known blocks rs (l ∷ ls) up e =
-    by _ _ (served l rs up ∙ ap (λ (o : Option Block). option_map_or (λ (b : Block). (b.w == l.w) && (b.h == l.h)) o false) (sym (e l.id))) (all_known blocks rs ls up e)
-  where
-    by : (a b : Bool) → a ≡ b → list_any (is_unknown rs) ls ≡ not (list_all (knows blocks) ls) → (not a || list_any (is_unknown rs) ls) ≡ not (b && list_all (knows blocks) ls)
-    by a true f rest = ap (λ (t : Bool). not t || list_any (is_unknown rs) ls) f ∙ rest
-    by a false f rest = ap (λ (t : Bool). not t || list_any (is_unknown rs) ls) f
+all_known blocks rs (l ∷ ls) up e = grind (arith, nat_tests, served l rs up, all_known blocks rs ls up e)
 
 pub tells_unknown : (p : Plan) (w : World) (x : Client) (frame : CompositorFrame) (list : List Sender) → AreRising x.resources → AreSenders p w list → client_at w x.number ≡ Some x
     → list_any (is_unknown x.resources) frame.resources ≡ not (list_all (knows (sender_at list x.number).blocks) frame.resources)
@@ -190,30 +137,12 @@ tells_unknown p w x frame list up h here = all_known (sender_at list x.number).b
 
 -- The opening
 
-got : {A : Type 0} (xs : List A) (n : ℕ) (x d : A) → slice_get xs n ≡ Some x → get_or xs n d ≡ x
-got [] n x d e = absurd (cc)
-got (y ∷ xs) zero x d e = cc
-got (y ∷ xs) (suc n) x d e = got xs n x d e
-
-mapped : {A B : Type 0} (f : A → B) (xs : List A) (n : ℕ) (x : A) → slice_get xs n ≡ Some x → slice_get (map f xs) n ≡ Some (f x)
-mapped f [] n x e = absurd (cc)
-mapped f (y ∷ xs) zero x e = let same : y ≡ x = cc in ap (λ z. Some (f z)) same
-mapped f (y ∷ xs) (suc n) x e = mapped f xs n x e
-
 count_new : (k : ℕ) (files : List ClientFile) → length (map opened files) ≡ length (new_clients k files)
 count_new k [] = refl
 count_new k (f ∷ files) = ap (λ n. suc n) (count_new (k + 1) files)
 
 opens_as : (p : Plan) (x : Client) (f : ClientFile) → file_of p x.number ≡ Some f → x ≡ new_client x.number f.sink → IsSender p x (opened f)
-opens_as p x f e is =
-    record {
-      sink = sym (ap (λ (y : Client). y.sink) is);
-      left = sym (ap (λ o. left_in o 0) e) ∙ ap (left_in (file_of p x.number)) (sym (ap (λ (y : Client). y.taken) is));
-      taken = sym (ap (λ (y : Client). y.taken) is);
-      closed = sym (ap (λ (y : Client). y.closed) is);
-      answered = sym (ap (λ (y : Client). y.answered) is);
-      blocks = λ id. ap (λ (rs : List Resource). option_map (λ (r : Resource). r.block) (resource_in id rs)) (sym (ap (λ (y : Client). y.resources) is));
-    }
+opens_as p x f e is = grind (arith, nat_tests)
 
 pub opens : (p : Plan) → AreSenders p (opening p) (map opened p.files)
 unfolding opening

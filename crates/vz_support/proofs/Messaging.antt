@@ -1,147 +1,54 @@
 -- What each message of a client changes of what is kept of it.
-use Rattle.std.proofs.Common.{◌≡◌, ℕ, ◌+◌, Bool, true, false, ◌==◌, Option, Some, None, List, [], ◌∷◌, map, refl, ap, sym, ◌∙◌, subst, cond, nat_lt, nat_eq}
+use Rattle.std.proofs.Common.{◌≡◌, ℕ, Bool, true, false, ◌==◌, Option, Some, None, List, [], ◌∷◌, map, refl, sym, subst, cond, nat_eq, arith}
 use Rattle.std.specs.Option.{option_map}
-use Rattle.std.proofs.lemmas.Bool.{eqb-true, eq-eqb}
+use Rattle.std.proofs.{lemmas.Bool.eqb-true, lemmas.Bool.Decides.nat_tests}
 use Rattle.indexmap.specs.IndexMap.{insert_entry}
 use Rattle.vz_ids.specs.declared.LocalSurfaceId.{LocalSurfaceId}
 use Rattle.vz_pixels.specs.Block.{Block}
-use Rattle.vz_frame.specs.declared.frame.CompositorFrame.{CompositorFrame}
-use Rattle.vz_frame.specs.declared.message.Message.TheVariants.{Close}
-use Rattle.vz_rules.specs.Plan.{Plan}
+use Rattle.vz_frame.specs.{declared.frame.CompositorFrame.CompositorFrame, declared.message.Message.TheVariants.Close}
+use Rattle.vz_rules.specs.{Plan.Plan, Kept.KeepsClients}
 use Rattle.vz_rules.specs.World.{World, Client, Resource, client_at, resource_in}
-use Rattle.vz_rules.specs.Kept.{KeepsClients}
-use Rattle.vz_frame.specs.Frame.{lists}
-use Rattle.std.specs.List.{list_any}
 use Rattle.vz_rules.specs.declared.entry.Refusal.TheVariants as refusal
 use Rattle.vz_rules.specs.declared.entry.Reply.TheVariants as reply
-use Rattle.vz_rules.specs.Messages.{says, refused, took, taking, reclaim, answer_tick, submitting, lend, in_use, new_resource, put_resource, upload_answer, accepted, message_answer}
-use Rattle.vz_support.specs.Sent.{Sender, sender_at, taking_one, closing, answering, answered_by, block_in, storing_block}
-use Rattle.vz_support.specs.Changed.{ChangesOne}
-use Rattle.vz_support.specs.Sending.{IsSender, AreSenders}
+use Rattle.vz_rules.specs.Messages.{says, refused, took, taking, reclaim, answer_tick, submitting, lend, in_use, put_resource, upload_answer, accepted, message_answer}
+use Rattle.vz_support.specs.Sent.{Sender, sender_at, taking_one, closing, answered_by, block_in, storing_block}
+use Rattle.vz_support.specs.{Changed.ChangesOne, Sending.IsSender, Sending.AreSenders}
 use Rattle.vz_support.proofs.Sending.{IsAlike, alike_sends, took_sends, blocks_kept, one_changes}
+use Rattle.vz_rules.proofs.Facts.{flip as symmetric}
 
 -- a client that took a message and is otherwise alike
 took_alike : (p : Plan) (x y : Client) (s : Sender) → IsAlike x y → IsSender p x s → IsSender p (took y) (taking_one s)
 took_alike p x y s a h = took_sends p y s (alike_sends p x y s a h)
 
-alike_self : (x : Client) → IsAlike x x
-alike_self x = record { number = refl; sink = refl; taken = refl; closed = refl; answered = refl; blocks = λ id. refl }
-
 reclaimed_alike : (x : Client) → IsAlike x (reclaim x)
-reclaimed_alike x =
-    record {
-      number = refl;
-      sink = refl;
-      taken = refl;
-      closed = refl;
-      answered = refl;
-      blocks = λ id. blocks_kept (λ (r : Resource). record r { reclaimed = r.queued }) id x.resources (λ r. refl) (λ r. refl);
-    }
+reclaimed_alike x = grind (arith, nat_tests, blocks_kept)
 
 -- Blocks that are stored
-
-symmetric : (a b : ℕ) → (a == b) ≡ (b == a)
-symmetric a b =
-    by (a == b) refl (b == a) refl
-  where
-    by : (t : Bool) → (a == b) ≡ t → (u : Bool) → (b == a) ≡ u → t ≡ u
-    by true e true f = refl
-    by true e false f = sym (eq-eqb b a (sym (eqb-true a b e))) ∙ f
-    by false e true f = sym e ∙ eq-eqb a b (sym (eqb-true b a f))
-    by false e false f = refl
 
 -- the entry of an id is the new one
 put_in_map : (id i : ℕ) (block : Block) (es : List (ℕ × Block)) → block_in (insert_entry nat_eq es id block) i ≡ cond (i == id) (Some block) (block_in es i)
 put_in_map id i block [] = refl
-put_in_map id i block (e ∷ es) = by (id == e.0) refl (put_in_map id i block es)
-  where
-    by : (t : Bool) → (id == e.0) ≡ t → block_in (insert_entry nat_eq es id block) i ≡ cond (i == id) (Some block) (block_in es i)
-        → block_in (cond t ((e.0, block) ∷ es) (e ∷ insert_entry nat_eq es id block)) i ≡ cond (i == id) (Some block) (cond (i == e.0) (Some e.1) (block_in es i))
-    by true f rest =
-        let same : id ≡ e.0 = eqb-true id e.0 f in
-        ap (λ n. cond (i == n) (Some block) (block_in es i)) (sym same) ∙ (elim (i == id) as (λ (t : Bool). (i == id) ≡ t → cond t (Some block) (block_in es i) ≡ cond t (Some block) (cond (i == e.0) (Some e.1) (block_in es i))) [
-          | true ↦ λ g. refl
-          | false ↦ λ g. ap (λ (t : Bool). cond t (Some e.1) (block_in es i)) (sym (ap (λ n. i == n) (sym same) ∙ g))
-        ] refl)
-    by false f rest =
-        elim (i == e.0) as (λ (t : Bool). (i == e.0) ≡ t → cond t (Some e.1) (block_in (insert_entry nat_eq es id block) i) ≡ cond (i == id) (Some block) (cond t (Some e.1) (block_in es i))) [
-          | true ↦ λ g. ap (λ (t : Bool). cond t (Some block) (Some e.1)) (sym (ap (λ n. n == id) (eqb-true i e.0 g) ∙ (symmetric e.0 id ∙ f)))
-          | false ↦ λ g. rest
-        ] refl
+put_in_map id i block (e ∷ es) = grind (arith, nat_tests, put_in_map id i block es, eqb-true id e.0, eqb-true i e.0, symmetric e.0 id)
 
 abbrev read : Option Resource → Option Block
 read = option_map (λ (r : Resource). r.block)
 
 -- and the resource of an id has it
 put_in_list : (id i : ℕ) (block : Block) (rs : List Resource) → read (resource_in i (put_resource id block rs)) ≡ cond (i == id) (Some block) (read (resource_in i rs))
-put_in_list id i block [] = elim (id == i) as (λ (t : Bool). (id == i) ≡ t → read (cond t (Some (new_resource id block)) None) ≡ cond (i == id) (Some block) None) [
-  | true ↦ λ f. ap (λ (t : Bool). cond t (Some block) None) (sym (symmetric i id ∙ f))
-  | false ↦ λ f. ap (λ (t : Bool). cond t (Some block) None) (sym (symmetric i id ∙ f))
-] refl
-put_in_list id i block (r ∷ rs) = by (r.id == id) refl (nat_lt id r.id) (put_in_list id i block rs)
-  where
-    old_or : (t : Bool) → (id == i) ≡ t → (o : Option Resource) → read (cond t (Some (new_resource id block)) o) ≡ cond (i == id) (Some block) (read o)
-    old_or true f o = ap (λ (t : Bool). cond t (Some block) (read o)) (sym (symmetric i id ∙ f))
-    old_or false f o = ap (λ (t : Bool). cond t (Some block) (read o)) (sym (symmetric i id ∙ f))
-
-    by : (t : Bool) → (r.id == id) ≡ t → (u : Bool) → read (resource_in i (put_resource id block rs)) ≡ cond (i == id) (Some block) (read (resource_in i rs))
-        → read (resource_in i (cond t (record r { block = block } ∷ rs) (cond u (new_resource id block ∷ r ∷ rs) (r ∷ put_resource id block rs))))
-        ≡ cond (i == id) (Some block) (read (cond (r.id == i) (Some r) (resource_in i rs)))
-    by true f u rest =
-        let same : r.id ≡ id = eqb-true r.id id f in
-        elim (r.id == i) as (λ (t : Bool). (r.id == i) ≡ t
-        → read (cond t (Some (record r { block = block })) (resource_in i rs)) ≡ cond (i == id) (Some block) (read (cond t (Some r) (resource_in i rs)))) [
-          | true ↦ λ g. ap (λ (t : Bool). cond t (Some block) (Some r.block)) (sym (symmetric i id ∙ (ap (λ n. n == i) (sym same) ∙ g)))
-          | false ↦ λ g. ap (λ (t : Bool). cond t (Some block) (read (resource_in i rs))) (sym (symmetric i id ∙ (ap (λ n. n == i) (sym same) ∙ g)))
-        ] refl
-    by false f true rest = old_or (id == i) refl (cond (r.id == i) (Some r) (resource_in i rs))
-    by false f false rest =
-        elim (r.id == i) as (λ (t : Bool). (r.id == i) ≡ t
-        → read (cond t (Some r) (resource_in i (put_resource id block rs))) ≡ cond (i == id) (Some block) (read (cond t (Some r) (resource_in i rs)))) [
-          | true ↦ λ g. ap (λ (t : Bool). cond t (Some block) (Some r.block)) (sym (ap (λ n. n == id) (sym (eqb-true r.id i g)) ∙ f))
-          | false ↦ λ g. rest
-        ] refl
+put_in_list id i block [] = grind (arith, nat_tests, symmetric i id)
+put_in_list id i block (r ∷ rs) = grind (arith, nat_tests, put_in_list id i block rs, symmetric i id, eqb-true r.id id, eqb-true r.id i)
 
 stored_sends : (p : Plan) (x : Client) (id : ℕ) (block : Block) (s : Sender) → IsSender p x s
     → IsSender p (took (record x { resources = put_resource id block x.resources })) (storing_block id block (taking_one s))
-stored_sends p x id block s i =
-    let t = took_sends p x s i in
-    record {
-      sink = t.sink;
-      left = t.left;
-      taken = t.taken;
-      closed = t.closed;
-      answered = t.answered;
-      blocks = λ n. put_in_map id n block s.blocks ∙ (ap (λ o. cond (n == id) (Some block) o) (i.blocks n) ∙ sym (put_in_list id n block x.resources));
-    }
+stored_sends p x id block s i = grind (arith, nat_tests, took_sends p x s i, put_in_map id, put_in_list id)
 
 -- A tick that is answered
 
 ticked_sends : (p : Plan) (y : Client) (tick n : ℕ) (s : Sender) → IsSender p (took y) s → IsSender p (took (answer_tick tick n y)) (answered_by tick n s)
-ticked_sends p y tick n s i = by (n == tick)
-  where
-    by : (t : Bool) → IsSender p (took (cond t (record y { answered = tick }) y)) (cond t (answering tick s) s)
-    by true = record { sink = i.sink; left = i.left; taken = i.taken; closed = i.closed; answered = refl; blocks = i.blocks }
-    by false = i
+ticked_sends p y tick n s i = grind (arith, nat_tests)
 
 lent_alike : (x : Client) (frame : CompositorFrame) → IsAlike x (record x { resources = map (lend frame.resources) x.resources })
-lent_alike x frame =
-    record {
-      number = refl;
-      sink = refl;
-      taken = refl;
-      closed = refl;
-      answered = refl;
-      blocks = λ id. blocks_kept (lend frame.resources) id x.resources (λ r. kept_id (list_any (lists r.id) frame.resources) r) (λ r. kept_block (list_any (lists r.id) frame.resources) r);
-    }
-  where
-    kept_id : (t : Bool) (r : Resource) → (cond t (record r { lent = r.lent + 1 }) r).id ≡ r.id
-    kept_id true r = refl
-    kept_id false r = refl
-
-    kept_block : (t : Bool) (r : Resource) → (cond t (record r { lent = r.lent + 1 }) r).block ≡ r.block
-    kept_block true r = refl
-    kept_block false r = refl
+lent_alike x frame = grind (arith, nat_tests, blocks_kept (lend frame.resources))
 
 ticked_number : (t : Bool) (tick : ℕ) (y : Client) → (cond t (record y { answered = tick }) y).number ≡ y.number
 ticked_number true tick y = refl
@@ -163,9 +70,7 @@ module _ (p : Plan) (w : World) (x : Client) (old new : List Sender) (keeps : Ke
       h refl (λ y. refl)
 
   closed_sends : IsSender p x (sender_at old x.number) → IsSender p (took (record x { closed = true })) (closing (taking_one (sender_at old x.number)))
-  closed_sends i =
-      let t = took_sends p x (sender_at old x.number) i in
-      record { sink = t.sink; left = t.left; taken = t.taken; closed = refl; answered = t.answered; blocks = t.blocks }
+  closed_sends i = grind (arith, nat_tests, took_sends p x (sender_at old x.number) i)
 
   pub follows_closed : ChangesOne x.number (λ s. closing (taking_one s)) old new → AreSenders p (message_answer w x Close).world new
   unfolding message_answer

@@ -1,33 +1,27 @@
 -- What is answered by what is kept for all clients is what the machine answers.
-use Rattle.std.proofs.Common.{◌≡◌, ℕ, ◌+◌, Bool, true, false, ◌&&◌, ◌==◌, Option, Some, None, List, [], ◌∷◌, map, refl, ap, sym, ◌∙◌, subst}
+use Rattle.std.proofs.Common.{◌≡◌, ℕ, Bool, true, false, ◌&&◌, ◌==◌, Option, Some, None, List, [], ◌∷◌, map, refl, ap, sym, ◌∙◌, subst}
 use Rattle.std.proofs.Common.{cond, if◌then◌else◌, arith, option_and_then, Contains}
-use Rattle.std.proofs.lemmas.Bool.{eq-eqb, eqb-true}
-use Rattle.vz_ids.specs.declared.FrameSinkId.{FrameSinkId}
-use Rattle.vz_ids.specs.declared.LocalSurfaceId.{LocalSurfaceId}
-use Rattle.vz_ids.specs.declared.SurfaceId.{SurfaceId}
+use Rattle.std.proofs.{lemmas.Bool.eq-eqb, lemmas.Bool.eqb-true, lemmas.Bool.Decides.nat_tests}
+use Rattle.vz_ids.specs.{declared.FrameSinkId.FrameSinkId, declared.LocalSurfaceId.LocalSurfaceId, declared.SurfaceId.SurfaceId}
 use Rattle.vz_frame.specs.declared.message.Message.{Message}
-use Rattle.vz_frame.specs.declared.message.Message.TheVariants.{SetRoot, Hierarchy}
-use Rattle.vz_frame.specs.Frame.{first_of}
+use Rattle.vz_frame.specs.{declared.message.Message.TheVariants.SetRoot, declared.message.Message.TheVariants.Hierarchy, Frame.first_of}
 use Rattle.vz_rules.specs.declared.entry.Reply.TheVariants as reply
 use Rattle.vz_rules.specs.declared.entry.Refusal.TheVariants as refusal
-use Rattle.vz_rules.specs.Plan.{Plan}
+use Rattle.vz_rules.specs.{Plan.Plan, Kept.KeepsClients}
 use Rattle.vz_rules.specs.World.{World, Client, client_at, change_client, first_sink}
 use Rattle.vz_rules.specs.Messages.{Answer, took, taking, says, refused, unless_refused, id_of, relate, reaches, root_answer}
 use Rattle.vz_rules.specs.Messages.{hierarchy_answer, hierarchy_refusal, await_answer}
-use Rattle.vz_rules.specs.Kept.{KeepsClients}
-use Rattle.vz_rules.proofs.Members.{contains_at, contains_map, find_at, map_fixed, at_same}
-use Rattle.vz_support.specs.Sent.{Sender, sender_at, taking_one}
-use Rattle.vz_support.specs.Changed.{ChangesOne}
-use Rattle.vz_support.specs.Sending.{AreSenders}
-use Rattle.vz_support.proofs.Messaging.{follows_begun}
+use Rattle.vz_rules.proofs.Members.{contains_map, find_at, map_fixed}
+use Rattle.vz_support.specs.{Sent.Sender, Sent.sender_at, Sent.taking_one, Changed.ChangesOne, Sending.AreSenders}
+use Rattle.vz_support.proofs.{Messaging.follows_begun, Asking.kept_of, Asking.stands_same}
 use Rattle.vz_sinks.specs.declared.refusals.SinkError.{SinkError}
 use Rattle.vz_sinks.specs.declared.refusals.SinkError.TheVariants as error
 use Rattle.vz_sinks.specs.Relating.{Related, seat_of, take_one, standing, refusal_for, refusal_in, refusal_of, is_known_in, is_own}
 use Rattle.vz_sinks.proofs.Same_seats.{refused_as}
-use Rattle.vz_support.specs.Supporting.{Supported, IsSupport, Sends}
-use Rattle.vz_support.specs.Relations.{reply_for, relations_for}
-use Rattle.vz_support.proofs.Asking.{kept_of, stands_same}
+use Rattle.vz_support.specs.{Supporting.Supported, Supporting.IsSupport, Supporting.Sends, Relations.reply_for, Relations.relations_for}
 use Rattle.vz_support.proofs.Taking.{number_is, sent_is, here_is, some_is, changes_at, takes_plain}
+pub use Rattle.std.proofs.lemmas.Bool.{ne_eqb as other_number, eq-eqb as one_number}
+pub use Rattle.vz_rules.proofs.Kept_submits.{one_of_number as same_client}
 
 -- The parts
 
@@ -35,15 +29,7 @@ use Rattle.vz_support.proofs.Taking.{number_is, sent_is, here_is, some_is, chang
 pub makes : (p : Plan) (u : World) (v : Supported) → AreSenders p u v.clients → first_sink p ≡ Some v.sinks.first
     → v.sinks.seats ≡ map seat_of u.clients
     → v.sinks.relations ≡ u.relations → v.tick ≡ u.tick → v.root ≡ u.root → v.over ≡ u.over → IsSupport p u v
-makes p u v senders first seats relations tick root over =
-    record {
-      clients = senders;
-      first = first;
-      sinks = λ i. record { first = v.sinks.first; seats = seats i; relations = relations i };
-      tick = tick;
-      root = root;
-      over = over;
-    }
+makes p u v senders first seats relations tick root over = grind (arith, nat_tests)
 
 pub seats_are : (p : Plan) (w : World) (v : Supported) → IsSupport p w v → v.sinks.seats ≡ map seat_of w.clients
 seats_are p w v is = ap (λ (r : Related). r.seats) is.sinks
@@ -63,26 +49,12 @@ same_local_id a b e = cc
 pub not_root : (w : World) (x : Client) (local : LocalSurfaceId) → (x.number == 1) ≡ false
     → root_answer w x local ≡ refused w x refusal.NotRoot
 unfolding root_answer
-not_root w x local e =
-    ap (λ (t : Bool). cond t (says reply.Rooted (record (taking (λ y. y) x w) { root = Some (id_of x local) }))
-    (refused w x refusal.NotRoot)) e
+not_root w x local e = grind (arith, nat_tests)
 
 pub rooted : (w : World) (x : Client) (local : LocalSurfaceId) → (x.number == 1) ≡ true
     → root_answer w x local ≡ says reply.Rooted (record (taking (λ y. y) x w) { root = Some (id_of x local) })
 unfolding root_answer
-rooted w x local e =
-    ap (λ (t : Bool). cond t (says reply.Rooted (record (taking (λ y. y) x w) { root = Some (id_of x local) }))
-    (refused w x refusal.NotRoot)) e
-
-pub other_number : (a b : ℕ) → (a ≡ b → ⊥) → (a == b) ≡ false
-other_number a b other = by (a == b) refl
-  where
-    by : (t : Bool) → (a == b) ≡ t → t ≡ false
-    by true e = absurd (other (eqb-true a b e))
-    by false e = refl
-
-pub one_number : (a b : ℕ) → a ≡ b → (a == b) ≡ true
-one_number a b e = eq-eqb a b e
+rooted w x local e = grind (arith, nat_tests)
 
 -- Relations
 
@@ -100,22 +72,14 @@ no_memory h c parent child e =
 
 said : (w : World) (x : Client) (a : Answer) (o : Option SinkError) → (o ≡ Some error.Memory → ⊥) → a.reply ≡ reply.Joined
     → reply_for o ≡ (unless_refused w x (option_and_then refusal_of o) a).reply
-said w x a None h e = sym e
-said w x a (Some error.Loop) h e = refl
-said w x a (Some error.UnknownSink) h e = refl
-said w x a (Some error.ParentOfOther) h e = refl
-said w x a (Some error.Memory) h e = absurd (h refl)
+said w x a o h e = grind (arith, nat_tests)
 
 -- by why a relation is refused, the state is one or the other
 left_by : (w : World) (x : Client) (a : Answer) (parent child : FrameSinkId) (rs : List (FrameSinkId × FrameSinkId))
     (Q : World → List (FrameSinkId × FrameSinkId) → Type 0) (o : Option SinkError)
     → (o ≡ Some error.Memory → ⊥) → Q a.world (relate parent child rs) → Q (taking (λ y. y) x w) rs
     → Q (unless_refused w x (option_and_then refusal_of o) a).world (relations_for o parent child rs)
-left_by w x a parent child rs Q None h joined turned = joined
-left_by w x a parent child rs Q (Some error.Loop) h joined turned = turned
-left_by w x a parent child rs Q (Some error.UnknownSink) h joined turned = turned
-left_by w x a parent child rs Q (Some error.ParentOfOther) h joined turned = turned
-left_by w x a parent child rs Q (Some error.Memory) h joined turned = absurd (h refl)
+left_by w x a parent child rs _ o h joined turned = grind (arith, nat_tests)
 
 -- the relation of a message
 same_relation : (a b d e : FrameSinkId) → ◌≡◌ {A = Option Message} (Some (Hierarchy a b)) (Some (Hierarchy d e)) → (a ≡ d) × (b ≡ e)
@@ -132,16 +96,6 @@ begun_seats : (c : ℕ) (xs : List Client)
     → map seat_of (change_client (λ (y : Client). took (record y { delivered = None })) c xs) ≡ map (take_one c) (map seat_of xs)
 begun_seats c [] = refl
 begun_seats c (x ∷ xs) = λ i. one_begun (x.number == c) x i ∷ begun_seats c xs i
-
--- two clients of one number are one
-pub same_client : (clients : List Client) (x y : Client) → KeepsClients clients → Contains clients x → Contains clients y
-    → x.number ≡ y.number → x ≡ y
-same_client clients x y keeps cx cy e =
-    let n = contains_at clients x cx in
-    let m = contains_at clients y cy in
-    let first : x.number ≡ n.0 + 1 = keeps.numbered n.0 x n.1 in
-    let second : y.number ≡ m.0 + 1 = keeps.numbered m.0 y m.1 in
-    at_same clients n.0 m.0 x y n.1 m.1 (omega (arith, first, second, e))
 
 -- where a client has no begin-frame, none is taken
 none_taken : (w : World) (c : ℕ) (x : Client) → KeepsClients w.clients → client_at w c ≡ Some x → x.delivered ≡ None
@@ -187,17 +141,11 @@ awaits w x = by_delivered w x x.delivered
 module _ (p : Plan) (w : World) (v : Supported) (c : ℕ) (x : Client) (m : Message) (sends : Sends p w c x m) (is : IsSupport p w v) where
   -- the sink of a client that took a message
   sink_is : (new : List Sender) → ChangesOne c taking_one v.clients new → (sender_at new c).sink ≡ x.sink
-  sink_is new changes =
-      ap (λ (s : Sender). s.sink) (changes.each c (some_is p w v c x m sends is))
-      ∙ (ap (λ (t : Bool). (cond t (taking_one (sender_at v.clients c)) (sender_at v.clients c)).sink) (eq-eqb c c refl)
-      ∙ (kept_of p w v c x is sends.here).sink)
+  sink_is new changes = grind (arith, nat_tests, some_is p w v c x m sends is, eq-eqb c c refl, kept_of p w v c x is sends.here)
 
   pub refuses_root : (local : LocalSurfaceId) (new : List Sender) → (c == 1) ≡ false → ChangesOne c taking_one v.clients new
       → IsSupport p (root_answer w x local).world (record v { clients = new })
-  refuses_root local new other changes =
-      subst (λ (a : Answer). IsSupport p a.world (record v { clients = new }))
-      (sym (not_root w x local (ap (λ n. n == 1) (number_is p w v c x m sends is) ∙ other)))
-      (takes_plain p w v c x m sends is new changes)
+  refuses_root local new other changes = grind (arith, nat_tests, not_root w x local, number_is p w v c x m sends is, takes_plain p w v c x m sends is new changes)
 
   pub says_not_root : (local : LocalSurfaceId) → (c == 1) ≡ false → reply.Refused refusal.NotRoot ≡ (root_answer w x local).reply
   says_not_root local other =
@@ -221,9 +169,7 @@ module _ (p : Plan) (w : World) (v : Supported) (c : ℕ) (x : Client) (m : Mess
   -- why a relation is refused
   refusal_is : (parent child : FrameSinkId)
       → option_and_then refusal_of (refusal_in v.sinks c parent child) ≡ hierarchy_refusal w x parent child
-  refusal_is parent child =
-      ap (λ (h : Related). option_and_then refusal_of (refusal_in h c parent child)) is.sinks
-      ∙ sym (refused_as w x c v.sinks.first parent child sends.here)
+  refusal_is parent child = grind (arith, nat_tests, refused_as w x c v.sinks.first parent child sends.here)
 
   pub asked_is : (parent child a b : FrameSinkId) (next : Message) → m ≡ Hierarchy parent child
       → Some next ≡ first_of (sender_at v.clients c).left
@@ -234,10 +180,7 @@ module _ (p : Plan) (w : World) (v : Supported) (c : ℕ) (x : Client) (m : Mess
   pub says_related : (parent child : FrameSinkId)
       → reply_for (refusal_in v.sinks c parent child) ≡ (hierarchy_answer w x parent child).reply
   unfolding hierarchy_answer
-  says_related parent child =
-      let joined : Answer = says reply.Joined (record (taking (λ y. y) x w) { relations = relate parent child w.relations }) in
-      said w x joined (refusal_in v.sinks c parent child) (no_memory v.sinks c parent child) refl
-      ∙ ap (λ o. (unless_refused w x o joined).reply) (refusal_is parent child)
+  says_related parent child = grind (arith, nat_tests, said w x, no_memory v.sinks c parent child, refusal_is parent child)
 
   pub relates : (parent child : FrameSinkId) (new : List Sender) (s : Related) → ChangesOne c taking_one v.clients new
       → s.first ≡ v.sinks.first → s.seats ≡ v.sinks.seats
@@ -291,10 +234,7 @@ module _ (p : Plan) (w : World) (v : Supported) (c : ℕ) (x : Client) (m : Mess
   -- no begin-frame is taken where none stands
   stays_seated : (s : Related) → None ≡ standing v.sinks.seats c → s.seats ≡ map (take_one c) v.sinks.seats
       → s.seats ≡ map seat_of w.clients
-  stays_seated s none seats =
-      seats
-      ∙ (ap (map (take_one c)) (seats_are p w v is)
-      ∙ none_taken w c x sends.keeps.clients sends.here (sym (none ∙ stands_same p w v c x is sends.here)))
+  stays_seated s none seats = grind (arith, nat_tests, seats_are p w v is, none_taken w c x sends.keeps.clients sends.here, stands_same p w v c x is sends.here)
 
   pub waits_on : (s : Related) → None ≡ standing v.sinks.seats c → v.over ≡ false → s.first ≡ v.sinks.first
       → s.seats ≡ map (take_one c) v.sinks.seats → s.relations ≡ v.sinks.relations

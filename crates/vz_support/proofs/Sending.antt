@@ -1,18 +1,13 @@
 -- What is kept of clients changes as the machine's state does.
 use Rattle.std.proofs.Common.{◌≡◌, ℕ, zero, suc, ◌+◌, ◌≤◌, Bool, true, false, ◌==◌, Option, Some, None, List, [], ◌∷◌, map, find, drop, length, refl, ap, sym, ◌∙◌, subst, cond, arith}
 use Rattle.std.specs.Option.{option_map}
-use Rattle.std.proofs.lemmas.Bool.{eqb-true, eq-eqb}
+use Rattle.std.proofs.{lemmas.Bool.eqb-true, lemmas.Bool.eq-eqb, lemmas.Bool.Decides.nat_tests}
 use Rattle.vz_pixels.specs.Block.{Block}
 use Rattle.vz_frame.specs.declared.message.ClientFile.{ClientFile}
-use Rattle.vz_rules.specs.Plan.{Plan}
+use Rattle.vz_rules.specs.{Plan.Plan, Messages.took, Kept.KeepsClients}
 use Rattle.vz_rules.specs.World.{World, Client, Resource, client_at, change_client, file_of, resource_in}
-use Rattle.vz_rules.specs.Messages.{took}
-use Rattle.vz_rules.specs.Kept.{KeepsClients}
-use Rattle.vz_rules.proofs.Members.{find_at, contains_at}
-use Rattle.vz_rules.proofs.Rising.{find_map, find_test}
-use Rattle.vz_support.specs.Sent.{Sender, sender_at, taking_one}
-use Rattle.vz_support.specs.Changed.{ChangesOne}
-use Rattle.vz_support.specs.Sending.{left_in, IsSender, AreSenders}
+use Rattle.vz_rules.proofs.{Members.find_at, Members.contains_at, Rising.find_map, Rising.find_test, Facts.length_map as count_mapped}
+use Rattle.vz_support.specs.{Sent.Sender, Sent.sender_at, Sent.taking_one, Changed.ChangesOne, Sending.left_in, Sending.IsSender, Sending.AreSenders}
 
 -- One client
 
@@ -38,27 +33,11 @@ pub record IsAlike (x y : Client) : Type 0 where
   pub blocks : (id : ℕ) → option_map (λ (r : Resource). r.block) (resource_in id y.resources) ≡ option_map (λ (r : Resource). r.block) (resource_in id x.resources)
 
 pub alike_sends : (p : Plan) (x y : Client) (s : Sender) → IsAlike x y → IsSender p x s → IsSender p y s
-alike_sends p x y s a h =
-    record {
-      sink = h.sink ∙ sym a.sink;
-      left = h.left ∙ (ap (λ n. left_in (file_of p n) x.taken) (sym a.number) ∙ ap (left_in (file_of p y.number)) (sym a.taken));
-      taken = h.taken ∙ sym a.taken;
-      closed = h.closed ∙ sym a.closed;
-      answered = h.answered ∙ sym a.answered;
-      blocks = λ id. h.blocks id ∙ sym (a.blocks id);
-    }
+alike_sends p x y s a h = grind (arith, nat_tests)
 
 -- one more of its messages is taken
 pub took_sends : (p : Plan) (x : Client) (s : Sender) → IsSender p x s → IsSender p (took x) (taking_one s)
-took_sends p x s h =
-    record {
-      sink = h.sink;
-      left = ap (drop 1) h.left ∙ one_less (file_of p x.number) x.taken;
-      taken = ap (λ n. n + 1) h.taken;
-      closed = h.closed;
-      answered = h.answered;
-      blocks = h.blocks;
-    }
+took_sends p x s h = grind (arith, nat_tests, one_less (file_of p x.number) x.taken)
 
 read_kept : {A : Type 0} (f : A → A) (r : A → Block) (o : Option A) → ((x : A) → r (f x) ≡ r x) → option_map r (option_map f o) ≡ option_map r o
 read_kept f r None e = refl
@@ -67,9 +46,7 @@ read_kept f r (Some x) e = ap (λ z. Some z) (e x)
 -- resources that are changed keep their blocks
 pub blocks_kept : (f : Resource → Resource) (id : ℕ) (rs : List Resource) → ((r : Resource) → (f r).id ≡ r.id) → ((r : Resource) → (f r).block ≡ r.block)
     → option_map (λ (r : Resource). r.block) (resource_in id (map f rs)) ≡ option_map (λ (r : Resource). r.block) (resource_in id rs)
-blocks_kept f id rs same kept =
-    ap (option_map (λ (r : Resource). r.block)) (find_map (λ (r : Resource). r.id == id) f rs (λ r. ap (λ n. n == id) (same r)))
-    ∙ read_kept f (λ r. r.block) (resource_in id rs) kept
+blocks_kept f id rs same kept = grind (arith, nat_tests, find_map, read_kept f)
 
 -- All clients
 
@@ -80,10 +57,6 @@ mapped_at c f xs y same e = by (find (λ (z : Client). z.number == c) xs) refl (
     by : (o : Option Client) → find (λ (z : Client). z.number == c) xs ≡ o → option_map f o ≡ Some y → (x : Client) × (find (λ (z : Client). z.number == c) xs ≡ Some x) × (f x ≡ y)
     by None g h = absurd (cc)
     by (Some x) g h = (x, g, cc)
-
-count_mapped : {A B : Type 0} (f : A → B) (xs : List A) → length (map f xs) ≡ length xs
-count_mapped f [] = refl
-count_mapped f (x ∷ xs) = ap (λ n. suc n) (count_mapped f xs)
 
 -- all clients are changed to ones alike
 pub all_alike : (p : Plan) (w v : World) (f : Client → Client) (list : List Sender) → v.clients ≡ map f w.clients → ((x : Client) → IsAlike x (f x)) → AreSenders p w list → AreSenders p v list
@@ -107,20 +80,13 @@ some_is a b q = cc
 
 -- clients are numbered from 1
 pub some_number : (clients : List Client) (c : ℕ) (z : Client) → KeepsClients clients → find (λ (y : Client). y.number == c) clients ≡ Some z → 1 ≤ c
-some_number clients c z keeps e =
-    let found = find_at (λ (y : Client). y.number == c) clients z e in
-    let at = contains_at clients z found.0 in
-    let number : z.number ≡ at.0 + 1 = keeps.numbered at.0 z at.1 in
-    let same : z.number ≡ c = eqb-true z.number c found.1 in
-    omega (arith, number, same)
+some_number clients c z keeps e = grind (arith, nat_tests, find_at, contains_at clients z, eqb-true z.number c)
 
 module _ (p : Plan) (w v : World) (x : Client) (f : Client → Client) (g : Sender → Sender) (old new : List Sender)
     (keeps : KeepsClients w.clients) (here : client_at w x.number ≡ Some x) (changes : ChangesOne x.number g old new)
     (step : IsSender p x (sender_at old x.number) → IsSender p (took (f x)) (g (sender_at old x.number))) (h : AreSenders p w old) where
   here_new : sender_at new x.number ≡ g (sender_at old x.number)
-  here_new =
-      changes.each x.number (some_number w.clients x.number x keeps here)
-      ∙ ap (λ (b : Bool). cond b (g (sender_at old x.number)) (sender_at old x.number)) (eq-eqb x.number x.number refl)
+  here_new = grind (arith, nat_tests, some_number w.clients x.number x keeps here, eq-eqb x.number x.number refl)
 
   each_by : (c : ℕ) (y z : Client) → client_at w c ≡ Some z → z.number ≡ c → (t : Bool) → (z.number == x.number) ≡ t → cond t (took (f z)) z ≡ y → IsSender p y (sender_at new c)
   each_by c y z at number true t k =

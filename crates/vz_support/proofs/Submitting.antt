@@ -1,33 +1,20 @@
 -- Submissions that are accepted or given back, and what is asked for them.
-use Rattle.std.proofs.Common.{◌≡◌, ℕ, suc, ◌+◌, ◌-◌, ◌≤◌, Bool, true, false, not, ◌&&◌, ◌||◌, ◌==◌, Option, Some, List, [], ◌∷◌, map, drop}
+use Rattle.std.proofs.Common.{◌≡◌, ℕ, suc, ◌+◌, ◌-◌, ◌≤◌, Bool, true, false, not, ◌&&◌, ◌||◌, ◌==◌, Option, Some, List, [], ◌∷◌, drop}
 use Rattle.std.proofs.Common.{length, get_or, slice_get, refl, ap, sym, ◌∙◌, subst, cond, arith}
 use Rattle.std.specs.List.{list_any, list_all}
-use Rattle.std.proofs.lemmas.Bool.{eqb-true}
-use Rattle.vz_ids.specs.declared.FrameSinkId.{FrameSinkId}
-use Rattle.vz_ids.specs.declared.LocalSurfaceId.{LocalSurfaceId}
-use Rattle.vz_ids.specs.Ids.{same_sink}
-use Rattle.vz_frame.specs.declared.frame.CompositorFrame.{CompositorFrame}
-use Rattle.vz_frame.specs.declared.frame.Listing.{Listing}
-use Rattle.vz_frame.specs.declared.message.Message.{Message}
-use Rattle.vz_frame.specs.declared.message.Message.TheVariants.{Submit}
-use Rattle.vz_frame.specs.Frame.{first_of}
-use Rattle.vz_rules.specs.Plan.{Plan}
-use Rattle.vz_rules.specs.World.{World, Client, client_at}
-use Rattle.vz_rules.specs.Messages.{taking, lend, submitting, accepted, is_unknown, blocks_of}
-use Rattle.vz_rules.specs.Kept.{KeepsClients, AreRising}
-use Rattle.vz_rules.proofs.Cases.{number_at}
-use Rattle.vz_rules.proofs.Members.{at_contains, at_within, find_at}
+use Rattle.std.proofs.{lemmas.Bool.eqb-true, lemmas.Bool.Decides.nat_tests}
+use Rattle.vz_ids.specs.{declared.FrameSinkId.FrameSinkId, declared.LocalSurfaceId.LocalSurfaceId, Ids.same_sink}
+use Rattle.vz_frame.specs.{declared.frame.CompositorFrame.CompositorFrame, declared.message.Message.TheVariants.Submit, Frame.first_of}
+use Rattle.vz_frame.specs.{declared.frame.Listing.Listing, declared.message.Message.Message}
+use Rattle.vz_rules.specs.{Plan.Plan, World.World, World.Client, World.client_at, Kept.KeepsClients, Kept.AreRising}
+use Rattle.vz_rules.specs.Messages.{taking, submitting, accepted, is_unknown, blocks_of}
+use Rattle.vz_rules.proofs.{Cases.number_at, Members.at_contains, Members.at_within, Members.find_at}
 use Rattle.vz_support.specs.Sent.{Sender, nobody, sender_at, taking_one, giving_back, answered_by, knows, blocks_in}
 use Rattle.vz_support.specs.Changed.{ChangesOne}
-use Rattle.vz_support.specs.Sending.{IsSender, AreSenders}
-use Rattle.vz_support.proofs.Sending.{some_number}
-use Rattle.vz_support.proofs.Clients_kept.{tells_unknown, tells_blocks}
-use Rattle.vz_support.proofs.Messaging.{follows_accepted}
-use Rattle.vz_support.specs.Supporting.{Supported, IsSupport, HasTaken, Sends}
-use Rattle.vz_support.proofs.Support_kept.{stays_like}
-use Rattle.vz_support.proofs.Asking.{numbered_there}
+use Rattle.vz_support.specs.{Sending.IsSender, Sending.AreSenders, Supporting.Supported, Supporting.IsSupport, Supporting.HasTaken, Supporting.Sends}
+use Rattle.vz_support.proofs.{Sending.some_number, Asking.numbered_there, Requesting.same_client}
+use Rattle.vz_support.proofs.{Clients_kept.tells_unknown, Clients_kept.tells_blocks, Messaging.follows_accepted, Support_kept.stays_like}
 use Rattle.vz_support.proofs.Taking.{two_changes, takes, ticked_seat, here_is, some_is, sent_is, noted_at}
-use Rattle.vz_support.proofs.Requesting.{same_client}
 
 -- Accepted
 
@@ -47,12 +34,7 @@ module _ (p : Plan) (w : World) (c : ℕ) (x : Client) (local : LocalSurfaceId) 
   accepts_before : (new : List Sender) → AreSenders p (accepted w x local frame).world new
       → IsSupport p (accepted w x local frame).world (record before { clients = new })
   unfolding accepted
-  accepts_before new senders =
-      stays_like p (taking (submitting w frame) x w) (accepted w x local frame).world (record before { clients = new })
-      (record { clients = refl; relations = refl; tick = refl; root = refl; over = refl })
-      (takes p w before x (submitting w frame) new
-      (λ y. ticked_seat (frame.metadata.ack == w.tick) w.tick (record y { resources = map (lend frame.resources) y.resources }))
-      (record { count = senders.count; each = senders.each }) is)
+  accepts_before new senders = grind (arith, nat_tests, stays_like p (taking (submitting w frame) x w) (accepted w x local frame).world, takes p w before x (submitting w frame) new, ticked_seat)
 
   pub accepts : (new : List Sender) → ChangesOne c (answered_by v.tick frame.metadata.ack) v.clients new
       → IsSupport p (accepted w x local frame).world (record v { clients = new })
@@ -70,9 +52,7 @@ whole m (y ∷ xs) e = let same : y ≡ m = cc in ap (λ z. z ∷ xs) (sym same)
 
 -- what was taken and is given back is as before
 restored : (m : Message) (s : Sender) → first_of s.left ≡ Some m → giving_back m (taking_one s) ≡ s
-restored m s e =
-    let count : s.taken + 1 - 1 ≡ s.taken = omega arith in
-    λ i. record s { left = whole m s.left e i; taken = count i }
+restored m s e = grind (arith, nat_tests, whole m s.left e)
 
 back_at : (c q : ℕ) (s : Sender) (old : List Sender) → s ≡ sender_at old c → (t : Bool) → (q == c) ≡ t
     → cond t s (sender_at old q) ≡ sender_at old q
@@ -117,20 +97,12 @@ pub unknown_same : (p : Plan) (w : World) (v : Supported) (c : ℕ) (x : Client)
     → AreRising x.resources → IsSupport p w v
     → client_at w c ≡ Some x → frame.resources ≡ ls → b ≡ list_all (knows (sender_at v.clients c).blocks) ls
     → not b ≡ list_any (is_unknown x.resources) frame.resources
-unknown_same p w v c x frame ls b up is here same e =
-    let number : x.number ≡ c = number_at w c x here in
-    (λ i. not ((e ∙ ap (list_all (knows (sender_at v.clients c).blocks)) (sym same)) i))
-    ∙ (ap (λ n. not (list_all (knows (sender_at v.clients n).blocks) frame.resources)) (sym number)
-    ∙ sym (tells_unknown p w x frame v.clients up is.clients (ap (client_at w) number ∙ here)))
+unknown_same p w v c x frame ls b up is here same e = grind (arith, nat_tests, number_at w c x here, tells_unknown p w x frame v.clients up is.clients)
 
 pub blocks_same : (p : Plan) (w : World) (v : Supported) (c : ℕ) (x : Client) (frame : CompositorFrame) (ls : List Listing)
     → IsSupport p w v
     → client_at w c ≡ Some x → frame.resources ≡ ls → blocks_in (sender_at v.clients c).blocks ls ≡ blocks_of x.resources frame
-blocks_same p w v c x frame ls is here same =
-    let number : x.number ≡ c = number_at w c x here in
-    ap (blocks_in (sender_at v.clients c).blocks) (sym same)
-    ∙ (ap (λ n. blocks_in (sender_at v.clients n).blocks frame.resources) (sym number)
-    ∙ sym (tells_blocks p w x frame v.clients is.clients (ap (client_at w) number ∙ here)))
+blocks_same p w v c x frame ls is here same = grind (arith, nat_tests, number_at w c x here, tells_blocks p w x frame v.clients is.clients)
 
 -- a client is found by its place
 at_place : (w : World) (n : ℕ) (x : Client) → KeepsClients w.clients → slice_get w.clients n ≡ Some x → client_at w (n + 1) ≡ Some x

@@ -1,25 +1,16 @@
 -- Changes of the machine's state that are none of what is kept for the clients.
-use Rattle.std.proofs.Common.{◌≡◌, ℕ, zero, suc, Bool, true, false, ◌&&◌, ◌==◌, Option, Some, None, is_some, List, [], ◌∷◌, map, find}
+use Rattle.std.proofs.Common.{◌≡◌, ℕ, zero, suc, Bool, true, false, ◌==◌, Option, Some, None, is_some, List, [], ◌∷◌, map, find, arith}
 use Rattle.std.proofs.Common.{length, refl, ap, sym, ◌∙◌, cond}
-use Rattle.vz_ids.specs.declared.FrameSinkId.{FrameSinkId}
-use Rattle.vz_ids.specs.declared.Sub.{Sub}
-use Rattle.vz_geom.specs.Rectangle.{is_empty_rect}
+use Rattle.vz_ids.specs.{declared.FrameSinkId.FrameSinkId, declared.Sub.Sub}
 use Rattle.vz_rules.specs.declared.entry.Reply.TheVariants as reply
-use Rattle.vz_rules.specs.Plan.{Plan}
+use Rattle.vz_rules.specs.{Plan.Plan, Returns.queue_returns, Returns.give_back, Returns.feed, Step.scene_answer, Step.draw_answer, Step.done_answer}
 use Rattle.vz_rules.specs.World.{World, Client, Surface, Submission, Scene}
-use Rattle.vz_rules.specs.Scene.{scene_of}
-use Rattle.vz_rules.specs.Settle.{round, rounds, settle}
-use Rattle.vz_rules.specs.Reach.{naming, clearing, collect}
-use Rattle.vz_rules.specs.Returns.{queue_returns, give_back, feed}
-use Rattle.vz_rules.specs.Messages.{Answer, says}
-use Rattle.vz_rules.specs.Singly.{rising, going}
-use Rattle.vz_rules.specs.Step.{accepted_frames, scene_answer, draw_answer, done_answer}
-use Rattle.vz_rules.specs.Walk.{walk_of, too_much}
-use Rattle.vz_rules.specs.Damage.{drawn_damage}
-use Rattle.vz_support.specs.Sending.{AreSenders}
+use Rattle.vz_rules.specs.{Scene.scene_of, Singly.rising, Singly.going, Walk.walk_of, Walk.too_much}
+use Rattle.vz_rules.specs.{Settle.round, Settle.rounds, Settle.settle, Reach.naming, Reach.clearing, Reach.collect, Messages.Answer, Messages.says}
+use Rattle.vz_support.specs.{Sending.AreSenders, Supporting.Supported, Supporting.IsSupport}
 use Rattle.vz_support.proofs.Clients_kept.{stays_given as keeps_given}
 use Rattle.vz_sinks.specs.Relating.{seat_of, related_in}
-use Rattle.vz_support.specs.Supporting.{Supported, IsSupport}
+use Rattle.std.proofs.lemmas.Bool.Decides.{nat_tests}
 
 -- what is kept for the clients is of these parts of the state alone
 pub record IsLike (w u : World) : Type 0 where
@@ -39,15 +30,7 @@ pub related_by : (first : FrameSinkId) (w u : World) → map seat_of u.clients �
 related_by first w u e f = λ i. record { first = first; seats = sym e i; relations = sym f i }
 
 pub stays_like : (p : Plan) (w u : World) (v : Supported) → IsLike w u → IsSupport p w v → IsSupport p u v
-stays_like p w u v like h =
-    record {
-      clients = same_senders p w u v like.clients h.clients;
-      first = h.first;
-      sinks = h.sinks ∙ related_by v.sinks.first w u (ap (map seat_of) like.clients) like.relations;
-      tick = h.tick ∙ sym like.tick;
-      root = h.root ∙ sym like.root;
-      over = h.over ∙ sym like.over;
-    }
+stays_like p w u v like h = grind (arith, nat_tests, same_senders p w u v like.clients h.clients, related_by v.sinks.first w u (ap (map seat_of) like.clients) like.relations)
 
 -- Rounds
 
@@ -96,15 +79,7 @@ same_seats f (x ∷ xs) e = λ i. e x i ∷ same_seats f xs e i
 
 pub stays_given : (p : Plan) (w : World) (v : Supported) → IsSupport p w v → IsSupport p (give_back w) v
 unfolding give_back
-stays_given p w v h =
-    record {
-      clients = keeps_given p w v.clients h.clients;
-      first = h.first;
-      sinks = h.sinks ∙ related_by v.sinks.first w (give_back w) (same_seats (queue_returns w) w.clients (λ x. refl)) refl;
-      tick = h.tick;
-      root = h.root;
-      over = h.over;
-    }
+stays_given p w v h = grind (arith, nat_tests, keeps_given p w v.clients h.clients, related_by v.sinks.first w (give_back w), same_seats (queue_returns w) w.clients)
 
 pub stays_fed : (p : Plan) (w : World) (presented : List Sub) (v : Supported) → IsSupport p w v → IsSupport p (feed presented w) v
 unfolding feed
@@ -117,21 +92,14 @@ like_either false a b w e f = f
 
 like_done : (w : World) → IsLike w (done_answer w).world
 unfolding done_answer
-like_done w =
-    like_either (is_some w.in_flight) (says reply.Shown (record w { in_flight = None })) (says reply.Nothing w) w
-    (record { clients = refl; relations = refl; tick = refl; root = refl; over = refl })
-    (record { clients = refl; relations = refl; tick = refl; root = refl; over = refl })
+like_done w = grind (arith, nat_tests, like_either (is_some w.in_flight))
 
 pub stays_done : (p : Plan) (w : World) (v : Supported) → IsSupport p w v → IsSupport p (done_answer w).world v
 stays_done p w v h = stays_like p w (done_answer w).world v (like_done w) h
 
 like_scene : (p : Plan) (w : World) (scene : Scene) → IsLike w (scene_answer p w scene).world
 unfolding scene_answer
-like_scene p w scene =
-    like_either (too_much (walk_of p.size scene)) _ _ w (record { clients = refl; relations = refl; tick = refl; root = refl; over = refl })
-    (like_either (is_some w.last && is_empty_rect (drawn_damage p.size w.last (accepted_frames w) scene.root (walk_of p.size scene))) _ _ w
-    (record { clients = refl; relations = refl; tick = refl; root = refl; over = refl })
-    (record { clients = refl; relations = refl; tick = refl; root = refl; over = refl }))
+like_scene p w scene = grind (arith, nat_tests, like_either (too_much (walk_of p.size scene)), like_either)
 
 like_maybe : (p : Plan) (w : World) (o : Option Scene)
     → IsLike w (elim o as (λ o. Answer) [ Some scene ↦ scene_answer p w scene | None ↦ says reply.NoRoot w ]).world
@@ -140,9 +108,7 @@ like_maybe p w (Some scene) = like_scene p w scene
 
 like_drawn : (p : Plan) (w : World) → IsLike w (draw_answer p w).world
 unfolding draw_answer
-like_drawn p w =
-    like_either (is_some w.in_flight) _ _ w (record { clients = refl; relations = refl; tick = refl; root = refl; over = refl })
-    (like_maybe p w (scene_of w))
+like_drawn p w = grind (arith, nat_tests, like_either (is_some w.in_flight), like_maybe p w (scene_of w))
 
 pub stays_drawn : (p : Plan) (w : World) (v : Supported) → IsSupport p w v → IsSupport p (draw_answer p w).world v
 stays_drawn p w v h = stays_like p w (draw_answer p w).world v (like_drawn p w) h

@@ -1,26 +1,19 @@
 -- What is kept for a client changes with the message that it takes.
-use Rattle.std.proofs.Common.{◌≡◌, ℕ, ◌≤◌, Bool, true, false, ◌==◌, Option, Some, List, [], ◌∷◌, map, refl, ap, sym, ◌∙◌, subst, cond}
-use Rattle.std.proofs.lemmas.Bool.{eq-eqb}
+use Rattle.std.proofs.Common.{◌≡◌, ℕ, ◌≤◌, Bool, true, false, ◌==◌, Option, Some, List, [], ◌∷◌, map, refl, ap, sym, ◌∙◌, subst, cond, arith}
+use Rattle.std.proofs.{lemmas.Bool.eq-eqb, lemmas.Bool.Decides.nat_tests}
 use Rattle.vz_pixels.specs.Block.{Block}
 use Rattle.vz_frame.specs.declared.message.Message.{Message}
-use Rattle.vz_frame.specs.declared.message.Message.TheVariants.{DidNotProduce, Close}
-use Rattle.vz_frame.specs.Frame.{first_of}
+use Rattle.vz_frame.specs.{declared.message.Message.TheVariants.DidNotProduce, declared.message.Message.TheVariants.Close, Frame.first_of}
 use Rattle.vz_rules.specs.declared.entry.Reply.TheVariants as reply
 use Rattle.vz_rules.specs.declared.entry.Refusal.TheVariants as refusal
-use Rattle.vz_rules.specs.Plan.{Plan}
-use Rattle.vz_rules.specs.World.{World, Client, client_at, change_client}
+use Rattle.vz_rules.specs.{Plan.Plan, World.World, World.Client, World.client_at, World.change_client}
 use Rattle.vz_rules.specs.Messages.{took, taking, says, refused, reclaim, answer_tick, in_use, put_resource, upload_answer, message_answer}
-use Rattle.vz_rules.proofs.Cases.{number_at}
-use Rattle.vz_rules.proofs.Members.{when_same}
+use Rattle.vz_rules.proofs.{Cases.number_at, Members.when_same}
 use Rattle.vz_support.specs.Sent.{Sender, sender_at, taking_one, closing, answered_by, storing_block}
-use Rattle.vz_support.specs.Changed.{ChangesOne}
-use Rattle.vz_support.specs.Sending.{AreSenders}
-use Rattle.vz_support.proofs.Sending.{some_number}
+use Rattle.vz_support.specs.{Changed.ChangesOne, Sending.AreSenders, Supporting.Supported, Supporting.IsSupport, Supporting.Sends}
+use Rattle.vz_support.proofs.{Sending.some_number, Support_kept.same_seats, Support_kept.related_by, Asking.next_same}
 use Rattle.vz_support.proofs.Messaging.{follows_plain, follows_reclaim, follows_noted, follows_stored, follows_closed}
 use Rattle.vz_sinks.specs.Relating.{Related, seat_of, close_one}
-use Rattle.vz_support.specs.Supporting.{Supported, IsSupport, Sends}
-use Rattle.vz_support.proofs.Support_kept.{same_seats, related_by}
-use Rattle.vz_support.proofs.Asking.{next_same}
 
 pub same_number : (a b : ℕ) → ◌≡◌ {A = Option Message} (Some (DidNotProduce a)) (Some (DidNotProduce b)) → a ≡ b
 same_number a b e = cc
@@ -33,16 +26,7 @@ twice false a b d = refl
 
 pub two_changes : (c : ℕ) (f g : Sender → Sender) (a b d : List Sender) → 1 ≤ c → ChangesOne c f a b → ChangesOne c g b d
     → ChangesOne c (λ s. g (f s)) a d
-two_changes c f g a b d some first second =
-    record {
-      count = second.count ∙ first.count;
-      each = λ q one.
-          let here : sender_at b c ≡ f (sender_at a c) =
-          first.each c some ∙ ap (λ (t : Bool). cond t (f (sender_at a c)) (sender_at a c)) (eq-eqb c c refl) in
-          second.each q one
-          ∙ ((λ i. cond (q == c) (g (here i)) (first.each q one i))
-          ∙ twice (q == c) (g (f (sender_at a c))) (f (sender_at a c)) (sender_at a q));
-    }
+two_changes c f g a b d some first second = grind (arith, nat_tests, eq-eqb c c refl, twice)
 
 -- The seats
 
@@ -68,15 +52,7 @@ closed_seats c (x ∷ xs) = λ i. one_closed (x.number == c) x i ∷ closed_seat
 pub takes : (p : Plan) (w : World) (v : Supported) (x : Client) (f : Client → Client) (new : List Sender)
     → ((y : Client) → seat_of (f y) ≡ seat_of y)
     → AreSenders p (taking f x w) new → IsSupport p w v → IsSupport p (taking f x w) (record v { clients = new })
-takes p w v x f new e senders is =
-    record {
-      clients = senders;
-      first = is.first;
-      sinks = is.sinks ∙ related_by v.sinks.first w (taking f x w) (took_seats f x.number w.clients e) refl;
-      tick = is.tick;
-      root = is.root;
-      over = is.over;
-    }
+takes p w v x f new e senders is = grind (arith, nat_tests, related_by v.sinks.first w (taking f x w) (took_seats f x.number w.clients e) refl, took_seats f x.number w.clients e)
 
 pub ticked_seat : (t : Bool) (tick : ℕ) (y : Client) → seat_of (cond t (record y { answered = tick }) y) ≡ seat_of y
 ticked_seat true tick y = refl

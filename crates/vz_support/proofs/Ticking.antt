@@ -1,14 +1,11 @@
 -- A begin-frame and the end are those of the machine's state.
-use Rattle.std.proofs.Common.{◌≡◌, ℕ, true, refl, ap, sym, ◌∙◌}
-use Rattle.vz_rules.specs.declared.entry.Reply.TheVariants.{Ticked}
-use Rattle.vz_rules.specs.Plan.{Plan}
-use Rattle.vz_rules.specs.World.{World}
-use Rattle.vz_rules.specs.Step.{next_tick, begin_answer}
-use Rattle.vz_support.proofs.Clients_kept.{stays_begun}
+use Rattle.std.proofs.Common.{◌≡◌, ℕ, true, ap, sym, ◌∙◌, arith}
+use Rattle.vz_rules.specs.{declared.entry.Reply.TheVariants.Ticked, Plan.Plan, World.World, Step.next_tick, Step.begin_answer}
+use Rattle.vz_support.proofs.{Clients_kept.stays_begun, Requesting.makes, Requesting.first_is, Requesting.relations_are}
 use Rattle.vz_sinks.specs.Relating.{Related, delivered_to}
 use Rattle.vz_sinks.proofs.Same_seats.{delivered_as}
 use Rattle.vz_support.specs.Supporting.{Supported, IsSupport}
-use Rattle.vz_support.proofs.Requesting.{makes, first_is, relations_are}
+use Rattle.std.proofs.lemmas.Bool.Decides.{nat_tests}
 
 pub says_ticked : (p : Plan) (w : World) (v : Supported) (tick : ℕ) → IsSupport p w v → tick ≡ next_tick v.tick
     → (begin_answer p w).reply ≡ Ticked tick
@@ -28,6 +25,4 @@ ticks p w v tick s is e first seats relations =
     (relations ∙ relations_are p w v is) (e ∙ ap next_tick is.tick) is.root is.over
 
 pub is_over : (p : Plan) (w : World) (v : Supported) → IsSupport p w v → IsSupport p (record w { over = true }) (record v { over = true })
-is_over p w v is =
-    makes p (record w { over = true }) (record v { over = true }) (record { count = is.clients.count; each = is.clients.each }) is.first
-    (ap (λ (r : Related). r.seats) is.sinks) (ap (λ (r : Related). r.relations) is.sinks) is.tick is.root refl
+is_over p w v is = grind (arith, nat_tests, makes p)

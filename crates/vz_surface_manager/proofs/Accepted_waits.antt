@@ -1,55 +1,30 @@
 -- Those that wait where a submission is accepted.
-use Rattle.std.proofs.Common.{◌≡◌, ℕ, suc, ◌+◌, ◌≤◌, ◌<◌, Bool, true, false, not, ◌&&◌, ◌||◌, ◌==◌, List, [], ◌∷◌, ◌++◌, length, map, filter, refl, ap, sym, ◌∙◌, arith, cond, Contains, count_by, append-nil}
-use Rattle.std.specs.Prelude.{nat_le, option_to_list}
-use Rattle.std.specs.List.{list_any, list_all}
-use Rattle.std.proofs.lemmas.Bool.{and_parts, eqb-true, eq-eqb}
-use Rattle.std.proofs.lemmas.Bool.Decides.{nat_tests}
-use Rattle.std.proofs.lemmas.List.{map-append}
-use Rattle.std.proofs.lemmas.List.Elements.{filter-append}
-use Rattle.std.proofs.lemmas.List.Folds.{list_any-append}
-use Rattle.vz_ids.specs.declared.LocalSurfaceId.{LocalSurfaceId}
-use Rattle.vz_ids.specs.declared.SurfaceId.{SurfaceId}
-use Rattle.vz_ids.specs.declared.Sub.{Sub}
-use Rattle.vz_ids.specs.Ids.{same_sub, same_sink, at_least}
+use Rattle.std.proofs.Common.{◌≡◌, ℕ, suc, ◌+◌, ◌≤◌, ◌<◌, Bool, true, false, not, ◌&&◌, ◌||◌, ◌==◌, List, [], ◌∷◌, ◌++◌, length, map, filter, refl, ap, sym, ◌∙◌, arith, cond, Contains, count_by}
+use Rattle.std.specs.{Prelude.nat_le, Prelude.option_to_list, List.list_any, List.list_all}
+use Rattle.std.proofs.{lemmas.Bool.and_parts, lemmas.Bool.eqb-true, lemmas.Bool.eq-eqb, lemmas.List.Elements.filter-append, lemmas.Grind.common_steps}
+use Rattle.std.proofs.{lemmas.Bool.Decides.nat_tests, lemmas.List.map-append, lemmas.List.Folds.list_any-append}
+use Rattle.vz_ids.specs.{declared.LocalSurfaceId.LocalSurfaceId, declared.SurfaceId.SurfaceId, declared.Sub.Sub, Ids.same_sub}
 use Rattle.vz_frame.specs.declared.frame.CompositorFrame.{CompositorFrame}
-use Rattle.vz_rules.specs.declared.entry.State.TheVariants.{Dropped}
+use Rattle.vz_rules.specs.{declared.entry.State.TheVariants.Dropped, Settle.is_met, Settle.ready, Kept.KeepsAlways, Kept.is_by}
 use Rattle.vz_rules.specs.World.{World, Client, Submission, is_waiting, is_on, sub_of}
-use Rattle.vz_rules.specs.Settle.{is_met, ready}
-use Rattle.vz_rules.specs.Messages.{new_submission, accepted, id_of, took, submitting, lend}
-use Rattle.vz_rules.specs.Kept.{KeepsAlways, is_by}
+use Rattle.vz_rules.specs.Messages.{new_submission, accepted, id_of, took, submitting}
 use Rattle.vz_rules.proofs.Members.{any_none, any_map, contains_at, contains_map, filter_at, filter_none, when_same}
-use Rattle.vz_rules.proofs.Counts.{count_at}
-use Rattle.vz_deps.specs.Tracking.{Blocked, is_blocked}
-use Rattle.vz_deps.specs.Blocking.{dependencies_of, blocked_of}
-use Rattle.vz_deadlines.specs.declared.due.Due.{Due}
-use Rattle.vz_deadlines.specs.Timing.{waits, due_of}
+use Rattle.vz_rules.proofs.{Counts.count_at, Facts.or_false as or_none}
+use Rattle.vz_deps.specs.{Tracking.Blocked, Tracking.is_blocked, Blocking.dependencies_of, Blocking.blocked_of}
+use Rattle.vz_deadlines.specs.{declared.due.Due.Due, Timing.waits, Timing.due_of}
 use Rattle.vz_surface_manager.specs.declared.arrival.Arrival.{Arrival}
-use Rattle.vz_surface_manager.specs.Waits.{Waits, AreWaiting, Tells, is_among}
-use Rattle.vz_surface_manager.specs.Left_out.{blocked_without, due_without}
+use Rattle.vz_surface_manager.specs.{Waits.Waits, Waits.AreWaiting, Waits.Tells, Waits.is_among, Left_out.blocked_without, Left_out.due_without}
 use Rattle.vz_surface_manager.proofs.Waits_on.{Stand, comes, stays, stand_of, waiting_from, stand_alike, ready_comes}
 use Rattle.vz_surface_manager.proofs.Waits_kept.{ClosesNone, met_by, met_is, met_alike, taken_closes}
-use Rattle.vz_surface_manager.proofs.Dropped_waits.{dropping, drops_leave, stand_dropped}
-use Rattle.vz_surface_manager.proofs.Closed_waits.{none_comes}
+use Rattle.vz_surface_manager.proofs.{Dropped_waits.dropping, Dropped_waits.drops_leave, Dropped_waits.stand_dropped, Closed_waits.none_comes}
 
 none_is_less : (n : ℕ) → false ≡ (suc n == 0)
-none_is_less n =
-    elim (suc n == 0) as (λ (t : Bool). (suc n == 0) ≡ t → false ≡ t) [
-      | true ↦ λ e. absurd (omega (arith, eqb-true (suc n) 0 e))
-      | false ↦ λ e. refl
-    ] refl
+none_is_less n = grind (arith, nat_tests, eqb-true (suc n) 0)
 
 -- all pass where none fails
 all_counted : {A : Type 0} (p : A → Bool) (xs : List A) → list_all p xs ≡ (length (filter (λ x. not (p x)) xs) == 0)
 all_counted p [] = refl
-all_counted p (x ∷ xs) =
-    elim (p x) as (λ (t : Bool). (t && list_all p xs) ≡ (length (cond (not t) (x ∷ filter (λ x. not (p x)) xs) (filter (λ x. not (p x)) xs)) == 0)) [
-      | true ↦ all_counted p xs
-      | false ↦ none_is_less (length (filter (λ x. not (p x)) xs))
-    ]
-
-or_none : (a : Bool) → (a || false) ≡ a
-or_none true = refl
-or_none false = refl
+all_counted p (x ∷ xs) = grind (arith, nat_tests, all_counted p xs, none_is_less (length (filter (λ x. not (p x)) xs)))
 
 -- it becomes active at once
 abbrev pub at_once : List SurfaceId → ℕ → ℕ → Bool
@@ -69,10 +44,7 @@ module _ (w : World) (c : Client) (local : LocalSurfaceId) (frame : CompositorFr
   k x = cond (x.number == c.number) (took (submitting w frame x)) x
 
   submits : ClosesNone k
-  submits =
-      taken_closes (submitting w frame) c.number
-      (λ x. when_same (λ (y : Client). y.closed) (λ (y : Client). record y { answered = w.tick }) (frame.metadata.ack == w.tick) (record x { resources = map (lend frame.resources) x.resources }) refl)
-      (λ x. when_same (λ (y : Client). y.sink) (λ (y : Client). record y { answered = w.tick }) (frame.metadata.ack == w.tick) (record x { resources = map (lend frame.resources) x.resources }) refl)
+  submits = grind (arith, nat_tests, taken_closes (submitting w frame) c.number, when_same)
 
   subs_then : (accepted w c local frame).world.subs ≡ map (dropping drops) w.subs ++ new ∷ []
   unfolding accepted
@@ -92,11 +64,7 @@ module _ (w : World) (c : Client) (local : LocalSurfaceId) (frame : CompositorFr
 
   -- a submission that was never active meets nothing
   meets_none : (clients : List Client) → met_by (map (dropping drops) w.subs ++ new ∷ []) clients ≡ met_by (map (dropping drops) w.subs) clients
-  meets_none clients =
-      λ i d. (list_any-append (λ (s : Submission). s.was_active && at_least s.submitted.id d) (map (dropping drops) w.subs) (new ∷ [])
-      ∙ (ap (λ (t : Bool). list_any (λ (s : Submission). s.was_active && at_least s.submitted.id d) (map (dropping drops) w.subs) || ((t && at_least new.submitted.id d) || false)) was_not
-      ∙ or_none (list_any (λ (s : Submission). s.was_active && at_least s.submitted.id d) (map (dropping drops) w.subs)))) i
-      || list_any (λ c. c.closed && same_sink c.sink d.sink) clients
+  meets_none clients = grind (arith, nat_tests, list_any-append, dropping, was_not, or_none)
 
   met_then : is_met (accepted w c local frame).world ≡ is_met w
   met_then =
@@ -114,28 +82,14 @@ module _ (w : World) (c : Client) (local : LocalSurfaceId) (frame : CompositorFr
 
     -- what is told says whether it becomes active at once
     new_comes : comes (is_met w) w.tick new ≡ at_once lacked a.due tick
-    new_comes =
-        ap (λ (t : Bool). t && (list_all (is_met w) (dependencies_of new) || nat_le new.due w.tick)) waits_new
-        ∙ (λ i. (all_counted (is_met w) (dependencies_of new) ∙ ap (λ (l : List SurfaceId). length l == 0) (sym lacks)) i || nat_le (sym told.due i) (sym told.tick i))
+    new_comes = grind (arith, nat_tests, waits_new, all_counted (is_met w), lacks)
 
     new_stays : stays (is_met w) w.tick new ≡ not (at_once lacked a.due tick)
-    new_stays =
-        ap (λ (t : Bool). t && not (list_all (is_met w) (dependencies_of new) || nat_le new.due w.tick)) waits_new
-        ∙ (λ i. not ((all_counted (is_met w) (dependencies_of new) ∙ ap (λ (l : List SurfaceId). length l == 0) (sym lacks)) i || nat_le (sym told.due i) (sym told.tick i)))
+    new_stays = grind (arith, nat_tests, waits_new, all_counted (is_met w), lacks)
 
     appended : {B : Type 0} (g : Submission → B) (t : Bool) (xs : List Submission) (y : B) → g new ≡ y → stays (is_met w) w.tick new ≡ not t
         → map g (filter (stays (is_met w) w.tick) xs) ++ cond t [] (y ∷ []) ≡ map g (filter (stays (is_met w) w.tick) (xs ++ new ∷ []))
-    appended g t xs y e f =
-        sym (
-        ap (map g) (filter-append (stays (is_met w) w.tick) xs (new ∷ []))
-        ∙ (map-append g (filter (stays (is_met w) w.tick) xs) (filter (stays (is_met w) w.tick) (new ∷ []))
-        ∙ (λ i. map g (filter (stays (is_met w) w.tick) xs) ++ map g (cond (f i) (new ∷ []) []))
-        ∙ by_test t)
-        )
-      where
-        by_test : (t : Bool) → map g (filter (stays (is_met w) w.tick) xs) ++ map g (cond (not t) (new ∷ []) []) ≡ map g (filter (stays (is_met w) w.tick) xs) ++ cond t [] (y ∷ [])
-        by_test true = refl
-        by_test false = ap (λ (z : _). map g (filter (stays (is_met w) w.tick) xs) ++ z ∷ []) e
+    appended g t xs y e f = grind (arith, nat_tests, filter-append (stays (is_met w) w.tick) xs, stays (is_met w) w.tick, map-append g (filter (stays (is_met w) w.tick) xs))
 
     pub waits_accepted : (old later : Waits) → KeepsAlways w → AreWaiting w old
         → later.blocked ≡ blocked_without (option_to_list a.replaced) old.blocked ++ cond (at_once lacked a.due tick) [] (record { sub = a.sub; unmet = lacked } ∷ [])
@@ -160,8 +114,7 @@ module _ (w : World) (c : Client) (local : LocalSurfaceId) (frame : CompositorFr
         waiting_from v later (stand_alike (is_met w) (is_met v) w.tick v.tick (those ++ new ∷ []) v.subs later.blocked later.due met_then tick_then subs_then whole)
 
     dropped_comes : (t : Bool) (s : Submission) → comes (is_met w) w.tick s ≡ false → comes (is_met w) w.tick (cond t (record s { state = Dropped }) s) ≡ false
-    dropped_comes true s h = refl
-    dropped_comes false s h = h
+    dropped_comes t s h = grind (arith, nat_tests)
 
     none_else : ready w ≡ [] → filter (comes (is_met w) w.tick) (map (dropping drops) w.subs) ≡ []
     none_else none =
@@ -170,35 +123,20 @@ module _ (w : World) (c : Client) (local : LocalSurfaceId) (frame : CompositorFr
         ap (comes (is_met w) w.tick) (sym s.2) ∙ dropped_comes (drops s.0) s.0 (none_comes w s.0 none s.1))
 
     pub ready_accepted : ready w ≡ [] → map sub_of (ready (accepted w c local frame).world) ≡ cond (at_once lacked a.due tick) (a.sub ∷ []) []
-    ready_accepted none =
-        let v = (accepted w c local frame).world in
-        ap (map sub_of) (ready_comes v ∙ ((λ i. filter (comes (met_then i) (tick_then i)) (subs_then i))
-        ∙ (filter-append (comes (is_met w) w.tick) (map (dropping drops) w.subs) (new ∷ [])
-        ∙ (λ i. none_else none i ++ cond (new_comes i) (new ∷ []) []))))
-        ∙ by_test (at_once lacked a.due tick)
-      where
-        by_test : (t : Bool) → map sub_of (cond t (new ∷ []) []) ≡ cond t (a.sub ∷ []) []
-        by_test true = ap (λ s. s ∷ []) (sym told.sub)
-        by_test false = refl
+    ready_accepted none = grind (arith, nat_tests, ready_comes, comes, met_then, tick_then, subs_then, filter-append, dropping, none_else, new_comes)
 
     -- what is left and what becomes active, in either case
 
     pub waits_at_once : (old later : Waits) → at_once lacked a.due tick ≡ true → KeepsAlways w → AreWaiting w old
         → later.blocked ≡ blocked_without (option_to_list a.replaced) old.blocked → later.due ≡ due_without (option_to_list a.replaced) old.due
         → AreWaiting (accepted w c local frame).world later
-    waits_at_once old later now_is h r e f =
-        waits_accepted old later h r
-        (e ∙ (sym (append-nil (blocked_without (option_to_list a.replaced) old.blocked)) ∙ (λ i. blocked_without (option_to_list a.replaced) old.blocked ++ cond (sym now_is i) [] (record { sub = a.sub; unmet = lacked } ∷ []))))
-        (f ∙ (sym (append-nil (due_without (option_to_list a.replaced) old.due)) ∙ (λ i. due_without (option_to_list a.replaced) old.due ++ cond (sym now_is i) [] (record { sub = a.sub; tick = a.due } ∷ []))))
+    waits_at_once old later now_is h r e f = grind (arith, nat_tests, common_steps, waits_accepted old later h r)
 
     pub waits_later : (old later : Waits) → at_once lacked a.due tick ≡ false → KeepsAlways w → AreWaiting w old
         → later.blocked ≡ blocked_without (option_to_list a.replaced) old.blocked ++ record { sub = a.sub; unmet = lacked } ∷ []
         → later.due ≡ due_without (option_to_list a.replaced) old.due ++ record { sub = a.sub; tick = a.due } ∷ []
         → AreWaiting (accepted w c local frame).world later
-    waits_later old later not_now h r e f =
-        waits_accepted old later h r
-        (e ∙ (λ i. blocked_without (option_to_list a.replaced) old.blocked ++ cond (sym not_now i) [] (record { sub = a.sub; unmet = lacked } ∷ [])))
-        (f ∙ (λ i. due_without (option_to_list a.replaced) old.due ++ cond (sym not_now i) [] (record { sub = a.sub; tick = a.due } ∷ [])))
+    waits_later old later not_now h r e f = grind (arith, nat_tests, waits_accepted old later h r)
 
     pub active_at_once : at_once lacked a.due tick ≡ true → ready w ≡ [] → map sub_of (ready (accepted w c local frame).world) ≡ a.sub ∷ []
     active_at_once now_is none = ready_accepted none ∙ ap (λ (t : Bool). cond t (a.sub ∷ []) []) now_is
@@ -242,15 +180,7 @@ pub lacks_none : (lacked : List SurfaceId) (due tick : ℕ) → (length lacked =
 lacks_none lacked due tick e = ap (λ (t : Bool). t || nat_le due tick) e
 
 pub is_due : (lacked : List SurfaceId) (due tick : ℕ) → due ≤ tick → at_once lacked due tick ≡ true
-is_due lacked due tick h =
-    let come : nat_le due tick ≡ true = grind (arith, nat_tests, h) in
-    ap (λ (t : Bool). (length lacked == 0) || t) come ∙ or_yes (length lacked == 0)
-  where
-    or_yes : (a : Bool) → (a || true) ≡ true
-    or_yes true = refl
-    or_yes false = refl
+is_due lacked due tick h = grind (arith, nat_tests)
 
 pub is_neither : (lacked : List SurfaceId) (due tick : ℕ) → (length lacked == 0) ≡ false → tick < due → at_once lacked due tick ≡ false
-is_neither lacked due tick e h =
-    let come : nat_le due tick ≡ false = grind (arith, nat_tests, h) in
-    ap (λ (t : Bool). t || nat_le due tick) e ∙ come
+is_neither lacked due tick e h = grind (arith, nat_tests)

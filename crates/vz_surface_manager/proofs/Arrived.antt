@@ -1,106 +1,64 @@
 -- A submission is accepted: what surfaces and what hangs on them stand for then.
 use Rattle.std.proofs.Common.{◌≡◌, ℕ, suc, ◌+◌, ◌-◌, ◌<◌, ◌≤◌, Bool, true, false, ◌&&◌, ◌==◌, not, inl, inr, Option, Some, None, List, [], ◌∷◌, length, map, find, refl, ap, sym, ◌∙◌, subst, arith, cond, Contains, sum_by, count_by}
-use Rattle.std.specs.Option.{option_map}
-use Rattle.std.specs.List.{list_any}
-use Rattle.std.proofs.lemmas.Bool.{and_from, and_parts, eqb-true}
-use Rattle.std.proofs.lemmas.List.Sums.{sum_by_push}
+use Rattle.std.specs.{Option.option_map, List.list_any}
+use Rattle.std.proofs.{lemmas.Bool.and_from, lemmas.Bool.and_parts, lemmas.Bool.eqb-true, lemmas.List.Sums.sum_by_push, lemmas.Bool.Decides.nat_tests}
 use Rattle.vz_geom.specs.Rectangle.{Rectangle}
-use Rattle.vz_ids.specs.declared.FrameSinkId.{FrameSinkId}
-use Rattle.vz_ids.specs.declared.LocalSurfaceId.{LocalSurfaceId}
-use Rattle.vz_ids.specs.declared.SurfaceId.{SurfaceId}
-use Rattle.vz_ids.specs.declared.Sub.{Sub}
-use Rattle.vz_ids.specs.Ids.{same_sink, same_local, same_surface}
+use Rattle.vz_ids.specs.{declared.FrameSinkId.FrameSinkId, declared.LocalSurfaceId.LocalSurfaceId, Ids.same_sink, Ids.same_local, Ids.same_surface}
+use Rattle.vz_ids.specs.{declared.SurfaceId.SurfaceId, declared.Sub.Sub}
 use Rattle.vz_pixels.specs.Block.{Block}
-use Rattle.vz_frame.specs.declared.frame.CompositorFrame.{CompositorFrame}
-use Rattle.vz_frame.specs.declared.frame.Listing.{Listing}
-use Rattle.vz_frame.specs.Frame.{root_damage}
-use Rattle.vz_rules.specs.declared.entry.State.TheVariants.{Dropped}
-use Rattle.vz_rules.specs.Plan.{Plan}
+use Rattle.vz_frame.specs.{declared.frame.CompositorFrame.CompositorFrame, declared.frame.Listing.Listing, Frame.root_damage}
+use Rattle.vz_rules.specs.{declared.entry.State.TheVariants.Dropped, Plan.Plan}
 use Rattle.vz_rules.specs.World.{World, Client, Surface, Submission, exists, last_created, is_waiting, is_on, sub_of}
 use Rattle.vz_rules.specs.Messages.{accepted, new_submission, is_unknown, violates, is_last, id_of, replace_on}
 use Rattle.vz_rules.specs.Kept.{KeepsAlways, HasSmallClient, IsWhole, last_in, is_by}
 use Rattle.vz_rules.proofs.Members.{contains_map, contains_push, push_contains_last, any_from, found, at_contains}
-use Rattle.vz_rules.proofs.Counts.{count_same, count_cons}
-use Rattle.vz_rules.proofs.Reached.{self_same}
-use Rattle.vz_rules.proofs.Rising.{find_map}
-use Rattle.vz_rules.proofs.Kept_last.{last_at, one_client}
-use Rattle.vz_rules.proofs.Kept_small.{small_client}
-use Rattle.vz_rules.proofs.Kept_few.{lists_short}
-use Rattle.vz_rules.proofs.Kept_submits.{one_of_number, always_accepted}
-use Rattle.vz_surface_manager.specs.Kept_surfaces.{AreKept}
-use Rattle.vz_surface_manager.proofs.New_surfaces.{kept_accepted, kept_created}
-use Rattle.vz_surfaces.specs.declared.held.Held.{Held}
+use Rattle.vz_rules.proofs.{Counts.count_same, Counts.count_cons, Reached.self_same, Rising.find_map, Kept_small.small_client}
+use Rattle.vz_rules.proofs.{Kept_last.last_at, Kept_last.one_client, Kept_few.lists_short, Kept_submits.one_of_number, Kept_submits.always_accepted}
+use Rattle.vz_surface_manager.specs.{Kept_surfaces.AreKept, Allowed.IsAllowed, Live.Live, Live.AreLive, Live.AreWhole, Live.wants}
+use Rattle.vz_surface_manager.proofs.{New_surfaces.kept_accepted, New_surfaces.kept_created, Told_accepted.told_accepted, Told_accepted.next_stored}
+use Rattle.vz_surfaces.specs.{declared.held.Held.Held, Keeping.KeepsStored}
 use Rattle.vz_surfaces.specs.Stored.{Stored, stored_of, storing, surface_of, bare_surface, bare_sub}
-use Rattle.vz_surfaces.specs.Reading.{stands, held_of, waiting_at}
-use Rattle.vz_surfaces.specs.Keeping.{KeepsStored}
-use Rattle.vz_surfaces.specs.Memory.{HasNumber, IsSinkOf, held_in}
-use Rattle.vz_surfaces.proofs.Following.{last_bare, follows_accepted}
-use Rattle.vz_surfaces.proofs.Telling.{tells_exists}
-use Rattle.vz_surfaces.proofs.Kept_of_world.{keeps_of_world}
+use Rattle.vz_surfaces.specs.{Reading.stands, Reading.held_of, Reading.waiting_at, Memory.HasNumber, Memory.IsSinkOf, Memory.held_in}
+use Rattle.vz_surfaces.proofs.{Following.last_bare, Following.follows_accepted, Telling.tells_exists, Kept_of_world.keeps_of_world}
 use Rattle.vz_damage.specs.Told.{Damaged, told_on, next_index, with_damage}
-use Rattle.vz_surface_manager.specs.Allowed.{IsAllowed}
-use Rattle.vz_surface_manager.proofs.Told_accepted.{told_accepted, next_stored}
-use Rattle.vz_returns.specs.Lent.{Lent, AreLent, IsLender, HasRoom}
-use Rattle.vz_returns.specs.Listed.{lists_twice, listed_by}
-use Rattle.vz_returns.specs.Changes.{IsAccepted}
-use Rattle.vz_returns.proofs.Accepted.{allowed_parts}
-use Rattle.vz_returns.proofs.Alive.{one_there}
-use Rattle.vz_returns.proofs.Lent_kept.{lends}
-use Rattle.vz_returns.specs.declared.ended.Ended.{Ended}
+use Rattle.vz_returns.specs.{Lent.Lent, Lent.AreLent, Lent.IsLender, Lent.HasRoom, Changes.IsAccepted, declared.ended.Ended.Ended}
+use Rattle.vz_returns.proofs.{Accepted.allowed_parts, Alive.one_there, Lent_kept.lends, Owed_kept.new_unplaced, Owed_kept.few_accepted}
 use Rattle.vz_returns.specs.Owed.{OwedAndRoom, AreOwed, ended_of, place_of, waiting_on}
-use Rattle.vz_returns.proofs.Owed_kept.{new_unplaced, few_accepted}
-use Rattle.vz_surface_manager.proofs.Flights_kept.{flown_accepted}
-use Rattle.vz_surface_manager.specs.Live.{Live, AreLive, AreWhole, wants}
-use Rattle.vz_surface_manager.specs.Ended_subs.{listings_of, ended_in, wanted_by}
-use Rattle.vz_surface_manager.specs.Acceptance.{IsAccepting, new_one}
-use Rattle.vz_surface_manager.proofs.Wanted_places.{sum_less, sum_one, wanted_of}
-use Rattle.vz_surface_manager.proofs.Live_kept.{whole_mapped, ended_is}
+use Rattle.vz_surface_manager.proofs.{Flights_kept.flown_accepted, Live_kept.whole_mapped, Live_kept.ended_is}
+use Rattle.vz_surface_manager.specs.{Ended_subs.listings_of, Ended_subs.ended_in, Ended_subs.wanted_by, Acceptance.IsAccepting, Acceptance.new_one}
+use Rattle.vz_surface_manager.proofs.{Wanted_places.sum_less, Wanted_places.sum_one, Wanted_places.wanted_of, Gone.wanted_frame, Gone.wanted_fits}
 use Rattle.vz_surface_manager.proofs.Found.{frame_of, waits_in, listings_read, found_once, waits_alone}
-use Rattle.vz_surface_manager.proofs.Gone.{wanted_frame, wanted_fits}
 
 -- Small facts
 
 violates_bare : (o : Option Surface) (local : LocalSurfaceId) → violates (option_map bare_surface o) local ≡ violates o local
-violates_bare None local = refl
-violates_bare (Some s) local = refl
+violates_bare o local = grind (arith, nat_tests)
 
 last_is_bare : (o : Option Surface) (local : LocalSurfaceId) → is_last (option_map bare_surface o) local ≡ is_last o local
-last_is_bare None local = refl
-last_is_bare (Some s) local = refl
+last_is_bare o local = grind (arith, nat_tests)
 
 count_within : {A : Type 0} (p : A → Bool) (xs : List A) → count_by p xs ≤ length xs
 count_within p [] = omega arith
-count_within p (x ∷ xs) = by (p x) refl (count_within p xs)
-  where
-    by : (t : Bool) → p x ≡ t → count_by p xs ≤ length xs → count_by p (x ∷ xs) ≤ length (x ∷ xs)
-    by true e h = omega (arith, h, count_cons p x xs, ap {B = ℕ} (λ (b : Bool). cond b 1 0) e)
-    by false e h = omega (arith, h, count_cons p x xs, ap {B = ℕ} (λ (b : Bool). cond b 1 0) e)
+count_within p (x ∷ xs) = grind (arith, nat_tests, count_within p xs, count_cons p x xs)
 
 length_bare : (xs : List Submission) → length (map bare_sub xs) ≡ length xs
 length_bare [] = refl
 length_bare (x ∷ xs) = ap (λ n. suc n) (length_bare xs)
 
 held_twice : (o : Option Submission) → option_map (λ (s : Submission). held_of s.submitted) (option_map bare_sub o) ≡ frame_of o
-held_twice None = refl
-held_twice (Some s) = refl
+held_twice o = grind (arith, nat_tests)
 
 names_of : (o : Option Submission) → option_map (λ (x : Held). x.sub) (frame_of o) ≡ option_map (λ (s : Submission). sub_of s) o
-names_of None = refl
-names_of (Some s) = refl
+names_of o = grind (arith, nat_tests)
 
 drops : (a on : Bool) (t : Submission) → is_waiting t ≡ a → (a && on) ≡ true → wants (cond (a && on) (record t { state = Dropped }) t) ≡ 0
-drops true true t e f = refl
-drops true false t e f = absurd (cc)
-drops false on t e f = absurd (cc)
+drops a on t e f = grind (arith, nat_tests)
 
 keeps_on : (a on : Bool) (t : Submission) → (a && on) ≡ false → wants (cond (a && on) (record t { state = Dropped }) t) ≡ wants t
-keeps_on true true t f = absurd (cc)
-keeps_on true false t f = refl
-keeps_on false on t f = refl
+keeps_on a on t f = grind (arith, nat_tests)
 
 frame_replaced : (b : Bool) (t : Submission) → (cond b (record t { state = Dropped }) t).submitted ≡ t.submitted
-frame_replaced true t = refl
-frame_replaced false t = refl
+frame_replaced b t = grind (arith, nat_tests)
 
 module _ (p : Plan) (w : World) (c : Client) (client : ℕ) (sink : FrameSinkId) (local : LocalSurfaceId) (frame : CompositorFrame) (blocks : List Block) (v : Live)
     (h : IsAccepting p w c client sink local frame blocks v) where
@@ -171,20 +129,14 @@ module _ (p : Plan) (w : World) (c : Client) (client : ℕ) (sink : FrameSinkId)
       (ap (λ k. same_sink k c.sink) on ∙ (and_parts (same_sink c.sink c.sink) (same_local local local) (self_same id)).0) f) (ap not stays.0))
 
   pub stands_there : is_last (last_in v.store.surfaces client) local ≡ true → stands v.store (surface_of sink local) ≡ true
-  stands_there e =
-      (λ i. stands (h.live.store i) (id_is i)) ∙ (tells_exists w id
-      ∙ stands_last (last_created w c.number) refl (sym (ap (λ o. is_last o local) last_there ∙ last_is_bare (last_created w c.number) local) ∙ e))
+  stands_there e = grind (arith, nat_tests, id_is, tells_exists w, stands_last (last_created w c.number) refl, last_there, last_is_bare (last_created w c.number) local)
 
   few_there : count_by (is_by client) v.store.subs ≤ length w.subs
   unfolding stored_of
-  few_there =
-      subst (λ (st : Stored). count_by (is_by client) st.subs ≤ length w.subs) (sym h.live.store)
-      (subst (λ n. count_by (is_by client) (map bare_sub w.subs) ≤ n) (length_bare w.subs) (count_within (is_by client) (map bare_sub w.subs)))
+  few_there = grind (arith, nat_tests, length_bare w.subs, count_within (is_by client) (map bare_sub w.subs))
 
   pub few : count_by (is_by client) v.store.subs < 4294967295
-  few =
-      let short = (lists_short p w h.plan always h.of_plan h.messages).subs in
-      omega (arith, few_there, short)
+  few = grind (arith, nat_tests, lists_short, always, few_there)
 
   own_surface : (s : Surface) → Contains (stored_of w).surfaces s → s.client ≡ client → s.id.sink ≡ sink
   unfolding stored_of
@@ -211,8 +163,7 @@ module _ (p : Plan) (w : World) (c : Client) (client : ℕ) (sink : FrameSinkId)
   is_lender = subst (λ n. IsLender n v.lent) h.number (lends w c v.lent always h.known h.live.lent)
 
   pub stored_after : (store : Stored) → store ≡ storing client sink local frame blocks v.store → store ≡ stored_of after
-  stored_after store e =
-      e ∙ ((λ i. storing (back i) (sym h.own i) local frame (h.listed i) (h.live.store i)) ∙ sym (follows_accepted w c local frame))
+  stored_after store e = grind (arith, nat_tests, back, follows_accepted w c local frame)
 
   new_there : Contains after.subs new
   unfolding accepted
@@ -240,27 +191,10 @@ module _ (p : Plan) (w : World) (c : Client) (client : ℕ) (sink : FrameSinkId)
 
   pub replaced_is : (o r : Option Held) → o ≡ r → r ≡ held_in is_waiting (surface_of sink local) v.store.subs → o ≡ frame_of waiting
   unfolding stored_of
-  replaced_is o r e f =
-      e ∙ (f ∙ ((λ i. held_in is_waiting (id_is i) (h.live.store i).subs)
-      ∙ (ap (option_map (λ (s : Submission). held_of s.submitted)) (find_map (λ s. is_waiting s && is_on id s) bare_sub w.subs (λ x. refl)) ∙ held_twice waiting)))
+  replaced_is o r e f = grind (arith, nat_tests, id_is, find_map, held_twice)
 
   pub is_accepted : (L R : List Listing) (o : Option Held) → L ≡ frame.resources → o ≡ frame_of waiting → R ≡ listings_of o → IsAccepted p w c local frame client L R v.lent
-  is_accepted L R o e f g =
-      let replaces : R ≡ listed_by waiting = g ∙ (ap listings_of f ∙ listings_read waiting) in
-      record {
-        plan = h.plan;
-        always = always;
-        of_plan = h.of_plan;
-        known = h.known;
-        number = h.number;
-        goes_on = h.goes_on;
-        allowed = h.allowed;
-        listed = e;
-        replaces = replaces;
-        once = ap lists_twice replaces ∙ found_once there w.subs h.live.whole;
-        none_released = h.none_released;
-        lent = h.live.lent;
-      }
+  is_accepted L R o e f g = grind (arith, nat_tests, listings_read, always, found_once)
 
   pub room_for : (L : List Listing) → L ≡ frame.resources → HasRoom (length frame.resources) client v.lent → HasRoom (length L) client v.lent
   room_for L e room = subst (λ n. HasRoom n client v.lent) (ap length (sym e)) room
@@ -269,8 +203,7 @@ module _ (p : Plan) (w : World) (c : Client) (client : ℕ) (sink : FrameSinkId)
 
   count_there : count_by (is_by client) v.store.subs ≡ count_by (λ (s : Submission). s.submitted.sub.client == c.number) w.subs
   unfolding stored_of
-  count_there =
-      (λ i. count_by (is_by (back i)) (h.live.store i).subs) ∙ count_same bare_sub (is_by c.number) (λ (s : Submission). s.submitted.sub.client == c.number) w.subs (λ x. refl)
+  count_there = grind (arith, nat_tests, back, count_same bare_sub (is_by c.number))
 
   new_name : sub_of new ≡ record { client = c.number; ordinal = count_by (λ (s : Submission). s.submitted.sub.client == c.number) w.subs + 1 }
   unfolding new_submission

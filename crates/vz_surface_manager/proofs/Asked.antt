@@ -1,21 +1,16 @@
 -- What a submission asks of the surfaces: the last one of its client, and whether something of a group was ever active.
-use Rattle.std.proofs.Common.{◌≡◌, ℕ, Bool, ◌&&◌, ◌||◌, Option, Some, None, refl, ap, sym, ◌∙◌}
-use Rattle.std.specs.Option.{option_map}
-use Rattle.std.specs.List.{list_any}
-use Rattle.vz_ids.specs.declared.LocalSurfaceId.{LocalSurfaceId}
-use Rattle.vz_ids.specs.declared.SurfaceId.{SurfaceId}
-use Rattle.vz_ids.specs.Ids.{same_sink, at_least}
-use Rattle.vz_frame.specs.declared.frame.CompositorFrame.{CompositorFrame}
-use Rattle.vz_frame.specs.Frame.{frame_size}
+use Rattle.std.proofs.Common.{◌≡◌, ℕ, Bool, ◌&&◌, ◌||◌, Option, refl, ap, sym, ◌∙◌, arith}
+use Rattle.std.specs.{Option.option_map, List.list_any}
+use Rattle.vz_ids.specs.{declared.LocalSurfaceId.LocalSurfaceId, declared.SurfaceId.SurfaceId, Ids.same_sink, Ids.at_least}
+use Rattle.vz_frame.specs.{declared.frame.CompositorFrame.CompositorFrame, Frame.frame_size}
 use Rattle.vz_rules.specs.World.{World, Client, Surface, Submission, last_created}
-use Rattle.vz_rules.specs.Messages.{violates, is_last, has_other_size}
-use Rattle.vz_rules.specs.Settle.{is_met}
+use Rattle.vz_rules.specs.{Messages.violates, Messages.is_last, Messages.has_other_size, Settle.is_met}
 use Rattle.vz_rules.proofs.Members.{any_map}
-use Rattle.vz_surfaces.specs.Stored.{stored_of, bare_sub}
-use Rattle.vz_surfaces.specs.Reading.{last_of, was_reached}
+use Rattle.vz_surfaces.specs.{Stored.stored_of, Stored.bare_sub, Reading.last_of, Reading.was_reached}
 use Rattle.vz_surfaces.proofs.Telling.{tells_last}
 use Rattle.vz_surface_manager.specs.Live.{Live, AreLive}
 use Rattle.vz_surface_manager.specs.Last_surface.{NameAndSize, name_and_size, violates_named, is_last_named, has_other_size_named}
+use Rattle.std.proofs.lemmas.Bool.Decides.{nat_tests}
 
 -- a surface that may be there, by its local id and its size
 abbrev pub read_of : Option Surface → Option NameAndSize
@@ -48,16 +43,14 @@ met_asked w d active gone e f = λ i. e i || f i
 -- What the refusal of a submission asks of the last surface is told by its local id and its size
 
 violates_read : (o : Option Surface) (local : LocalSurfaceId) → violates o local ≡ violates_named (read_of o) local
-violates_read None local = refl
-violates_read (Some c) local = refl
+violates_read o local = grind (arith, nat_tests)
 
 pub violates_asked : (o : Option Surface) (r : Option NameAndSize) (local : LocalSurfaceId) → r ≡ read_of o
     → violates o local ≡ violates_named r local
 violates_asked o r local e = violates_read o local ∙ ap (λ q. violates_named q local) (sym e)
 
 is_last_read : (o : Option Surface) (local : LocalSurfaceId) → is_last o local ≡ is_last_named (read_of o) local
-is_last_read None local = refl
-is_last_read (Some c) local = refl
+is_last_read o local = grind (arith, nat_tests)
 
 pub is_last_asked : (o : Option Surface) (r : Option NameAndSize) (local : LocalSurfaceId) → r ≡ read_of o
     → is_last o local ≡ is_last_named r local
@@ -65,8 +58,7 @@ is_last_asked o r local e = is_last_read o local ∙ ap (λ q. is_last_named q l
 
 size_read : (o : Option Surface) (local : LocalSurfaceId) (frame : CompositorFrame)
     → has_other_size o local frame ≡ has_other_size_named (read_of o) local (frame_size frame)
-size_read None local frame = refl
-size_read (Some c) local frame = refl
+size_read o local frame = grind (arith, nat_tests)
 
 pub size_asked : (o : Option Surface) (r : Option NameAndSize) (local : LocalSurfaceId) (frame : CompositorFrame)
     → r ≡ read_of o → has_other_size o local frame ≡ has_other_size_named r local (frame_size frame)

@@ -2,20 +2,16 @@
 use Rattle.std.proofs.Common.{◌≡◌, ℕ, zero, suc, ◌+◌, ◌-◌, ◌≤◌, ◌<◌, ◌==◌, Bool, true, false, not, ◌&&◌, inl, inr, Option, Some, None, List}
 use Rattle.std.proofs.Common.{[], ◌∷◌, ◌++◌, length, map, filter, refl, ap, sym, ◌∙◌, subst, arith, cond, slice_get, Contains, append_assoc}
 use Rattle.std.proofs.Common.{append-nil}
-use Rattle.std.specs.Prelude.{nat_le}
-use Rattle.std.specs.List.{flat_map, filter_map, cons_option}
+use Rattle.std.specs.{Prelude.nat_le, List.flat_map, List.filter_map, List.cons_option}
 use Rattle.std.proofs.lemmas.Bool.{and_from, and_parts, eqb-true, eq-eqb, leb-true, leb-false, false_from_ne_true}
-use Rattle.std.proofs.lemmas.List.{map-append}
+use Rattle.std.proofs.{lemmas.List.map-append, lemmas.Bool.Decides.nat_tests}
 use Rattle.vz_ids.specs.Ids.{same_surface}
-use Rattle.vz_rules.specs.declared.entry.Lost.{Lost}
-use Rattle.vz_rules.specs.World.{World, Client, Surface}
+use Rattle.vz_rules.specs.{declared.entry.Lost.Lost, World.World, World.Client, World.Surface, Kept.KeepsAlways}
 use Rattle.vz_rules.specs.Reach.{has_id, naming, reach, is_lost, lost_in, lost_of, destroyed_in}
-use Rattle.vz_rules.specs.Kept.{KeepsAlways}
 use Rattle.vz_rules.proofs.Members.{contains_here, contains_there, contains_cases, contains_none, contains_at, at_same, at_within}
 use Rattle.vz_rules.proofs.Members.{append_contains, filter_at, filter_has, filter_none}
 use Rattle.vz_rules.proofs.Kept_facts.{surfaces_apart}
-use Rattle.vz_surfaces.specs.Stored.{stored_of}
-use Rattle.vz_surfaces.specs.Reading.{marked_of, marked_to}
+use Rattle.vz_surfaces.specs.{Stored.stored_of, Reading.marked_to}
 use Rattle.vz_surfaces.proofs.Telling.{tells_marked}
 use Rattle.vz_surface_manager.proofs.Names_differ.{AreApart, differ_joined, created_apart}
 
@@ -43,20 +39,13 @@ told_of c = record { client = c.client; surface = c.number }
 pub marked_are : (n : ℕ) (w : World) → marked_to n (stored_of w) ≡ map (λ (c : Surface). c.id) (to (made w) n)
 unfolding marked_to
 marked_are zero w = refl
-marked_are (suc n) w =
-    ap (λ l. l ++ marked_of (n + 1) (stored_of w)) (marked_are n w)
-    ∙ (ap (λ l. map (λ (c : Surface). c.id) (to (made w) n) ++ l) (tells_marked w (n + 1))
-    ∙ sym (map-append (λ (c : Surface). c.id) (to (made w) n) (made w (n + 1))))
+marked_are (suc n) w = grind (arith, nat_tests, marked_are n w, tells_marked w, map-append)
 
 -- Members
 
 left_contains : {A : Type 0} (xs ys : List A) (x : A) → Contains xs x → Contains (xs ++ ys) x
 left_contains [] ys x c = absurd (contains_none x c)
-left_contains (y ∷ xs) ys x c =
-    elim (contains_cases y x xs c) [
-      | inl e ↦ subst (Contains ((y ∷ xs) ++ ys)) e (contains_here y (xs ++ ys))
-      | inr m ↦ contains_there y x (xs ++ ys) (left_contains xs ys x m)
-    ]
+left_contains (y ∷ xs) ys x c = grind (arith, nat_tests, contains_cases y x xs c, contains_here y, contains_there y x, left_contains xs ys x)
 
 right_contains : {A : Type 0} (xs ys : List A) (x : A) → Contains ys x → Contains (xs ++ ys) x
 right_contains [] ys x c = c
@@ -104,10 +93,7 @@ to_made w n s c =
 
 module _ (w : World) (h : KeepsAlways w) where
   one_of_id : (c d : Surface) → Contains w.surfaces c → Contains w.surfaces d → same_surface c.id d.id ≡ true → c ≡ d
-  one_of_id c d p q e =
-      let n = contains_at w.surfaces c p in
-      let m = contains_at w.surfaces d q in
-      at_same w.surfaces n.0 m.0 c d n.1 m.1 (surfaces_apart w n.0 m.0 c d h n.1 m.1 e)
+  one_of_id c d p q e = grind (arith, nat_tests, contains_at w.surfaces c p, contains_at w.surfaces d q, at_same w.surfaces, surfaces_apart w)
 
   pub to_apart : (n : ℕ) → AreApart (to (made w) n)
   to_apart zero = tt
@@ -145,9 +131,7 @@ module _ (w : World) (h : KeepsAlways w) where
 pub there_lost : (w : World) (s : Surface) → Contains w.surfaces s → s.marked ≡ true → s.destroyed ≡ false → unreached w s ≡ true
     → Contains (lost_in w) s
 unfolding lost_in
-there_lost w s c marked stands out =
-    filter_has (is_lost (reach w)) w.surfaces s c (and_from (s.marked && not s.destroyed) (unreached w s)
-    (and_from s.marked (not s.destroyed) marked (ap not stands)) out)
+there_lost w s c marked stands out = grind (arith, nat_tests, filter_has (is_lost (reach w)) w.surfaces s c, and_from, and_from s.marked (not s.destroyed) marked (ap not stands))
 
 pub losing_lost : (w : World) (s : Surface) → Contains (losing w) s → Contains (lost_in w) s
 losing_lost w s c =
@@ -159,12 +143,7 @@ losing_lost w s c =
 
 filter_joined : {A : Type 0} (p : A → Bool) (xs ys : List A) → filter p (xs ++ ys) ≡ filter p xs ++ filter p ys
 filter_joined p [] ys = refl
-filter_joined p (x ∷ xs) ys = by (p x) (filter_joined p xs ys)
-  where
-    by : (t : Bool) → filter p (xs ++ ys) ≡ filter p xs ++ filter p ys
-        → cond t (x ∷ filter p (xs ++ ys)) (filter p (xs ++ ys)) ≡ cond t (x ∷ filter p xs) (filter p xs) ++ filter p ys
-    by true e = ap (λ l. x ∷ l) e
-    by false e = e
+filter_joined p (x ∷ xs) ys = grind (arith, nat_tests, filter_joined p xs ys)
 
 -- those of a client that are lost
 abbrev told_by : World → ℕ → List Lost
@@ -172,20 +151,14 @@ told_by w c = map told_of (filter (unreached w) (made w c))
 
 told_to : (w : World) (n : ℕ) → map told_of (filter (unreached w) (to (made w) n)) ≡ to (told_by w) n
 told_to w zero = refl
-told_to w (suc n) =
-    ap (map told_of) (filter_joined (unreached w) (to (made w) n) (made w (n + 1)))
-    ∙ (map-append told_of (filter (unreached w) (to (made w) n)) (filter (unreached w) (made w (n + 1)))
-    ∙ ap (λ l. l ++ told_by w (n + 1)) (told_to w n))
+told_to w (suc n) = grind (arith, nat_tests, filter_joined, map-append, told_to w n)
 
 -- one surface of a list, as it is told for a client: with a for being of the client, m for marked, d for destroyed and k for reached
 told_first : (w : World) (a m d k : Bool) (s : Surface) (xs zs : List Surface) (ys : List Lost) (f : Surface → Option Lost)
     → f s ≡ cond a (Some (told_of s)) None → unreached w s ≡ not k → filter_map f xs ≡ map told_of (filter (unreached w) zs)
     → filter_map f (cond ((m && not d) && not k) (s ∷ xs) xs) ≡ map told_of (filter (unreached w) (cond ((a && m) && not d) (s ∷ zs) zs))
-told_first w true true false false s xs zs ys f e g h =
-    ap (λ (o : Option Lost). cons_option o (filter_map f xs)) e
-    ∙ (ap (λ l. told_of s ∷ l) h ∙ ap (λ (t : Bool). map told_of (cond t (s ∷ filter (unreached w) zs) (filter (unreached w) zs))) (sym g))
-told_first w true true false true s xs zs ys f e g h = h ∙ ap
-    (λ (t : Bool). map told_of (cond t (s ∷ filter (unreached w) zs) (filter (unreached w) zs))) (sym g)
+told_first w true true false false s xs zs ys f e g h = grind (arith, nat_tests)
+told_first w true true false true s xs zs ys f e g h = grind (arith, nat_tests)
 told_first w true true true k s xs zs ys f e g h = h
 told_first w true false d k s xs zs ys f e g h = h
 told_first w false true false false s xs zs ys f e g h = ap (λ (o : Option Lost). cons_option o (filter_map f xs)) e ∙ h
@@ -197,9 +170,7 @@ told_of_client : (w : World) (c : ℕ) (ss : List Surface)
     → filter_map (λ (s : Surface). cond (s.client == c) (Some (told_of s)) None) (filter (is_lost (reach w)) ss)
     ≡ map told_of (filter (unreached w) (filter (λ (s : Surface). (s.client == c) && s.marked && not s.destroyed) ss))
 told_of_client w c [] = refl
-told_of_client w c (s ∷ ss) =
-    told_first w (s.client == c) s.marked s.destroyed (has_id (reach w) s.id) s _ _ []
-    (λ (s : Surface). cond (s.client == c) (Some (told_of s)) None) refl refl (told_of_client w c ss)
+told_of_client w c (s ∷ ss) = grind (arith, nat_tests, told_first w, told_of_client w c ss)
 
 lost_told : (w : World) (c : Client) → lost_of (lost_in w) c ≡ told_by w c.number
 unfolding lost_in

@@ -1,29 +1,18 @@
 -- Those that wait where a client is closed, and over a round.
-use Rattle.std.proofs.Common.{◌≡◌, Bool, true, false, not, ◌&&◌, ◌||◌, ◌==◌, List, [], map, filter, refl, ap, sym, ◌∙◌, cond, subst, Contains}
-use Rattle.std.specs.Prelude.{nat_le}
-use Rattle.std.specs.List.{list_any, list_all}
-use Rattle.std.proofs.lemmas.Bool.{and_parts, and_from, eqb-true, eq-eqb}
-use Rattle.vz_ids.specs.declared.FrameSinkId.{FrameSinkId}
-use Rattle.vz_ids.specs.declared.SurfaceId.{SurfaceId}
-use Rattle.vz_ids.specs.declared.Sub.{Sub}
-use Rattle.vz_ids.specs.Ids.{same_sink}
+use Rattle.std.proofs.Common.{◌≡◌, Bool, true, false, not, ◌&&◌, ◌||◌, ◌==◌, List, [], map, filter, refl, ap, sym, ◌∙◌, subst, Contains, arith}
+use Rattle.std.specs.List.{list_any}
+use Rattle.std.proofs.{lemmas.Bool.and_parts, lemmas.Bool.and_from, lemmas.Bool.eqb-true, lemmas.Bool.eq-eqb, lemmas.Bool.Decides.nat_tests}
+use Rattle.vz_ids.specs.{declared.FrameSinkId.FrameSinkId, declared.SurfaceId.SurfaceId, declared.Sub.Sub, Ids.same_sink}
 use Rattle.vz_frame.specs.declared.message.Message.TheVariants.{Close}
-use Rattle.vz_rules.specs.declared.entry.State.{State}
-use Rattle.vz_rules.specs.declared.entry.State.TheVariants.{Waiting, Active, Past, Dropped}
-use Rattle.vz_rules.specs.World.{World, Client, Submission, is_waiting, is_active, is_on, sub_of}
+use Rattle.vz_rules.specs.{declared.entry.State.State, Messages.message_answer, Kept.KeepsAlways}
+use Rattle.vz_rules.specs.World.{World, Client, Submission, is_waiting, is_active, sub_of}
 use Rattle.vz_rules.specs.Settle.{is_met, has_come, is_ready, ready, round, after_round}
-use Rattle.vz_rules.specs.Messages.{message_answer}
-use Rattle.vz_rules.specs.Kept.{KeepsAlways}
 use Rattle.vz_rules.proofs.Members.{any_at, any_from, any_map, none_filtered, same_tests}
 use Rattle.vz_rules.proofs.Kept_submits.{one_of_number}
-use Rattle.vz_rules.proofs.Reached.{from_same_sink, self_same_sink}
-use Rattle.vz_deps.specs.Tracking.{freed, still, meets, meets_any, is_of_sink}
-use Rattle.vz_deps.specs.Blocking.{dependencies_of, blocked_of}
+use Rattle.vz_rules.proofs.{Reached.from_same_sink, Reached.self_same_sink, Kept_singly.active_waits_not, Kept_singly.apart}
+use Rattle.vz_deps.specs.Tracking.{freed, still, meets_any, is_of_sink}
 use Rattle.vz_deps.proofs.Rounds.{close_meets, round_meets}
-use Rattle.vz_deadlines.specs.Timing.{due_of}
-use Rattle.vz_surface_manager.specs.Waits.{Waits, AreWaiting}
-use Rattle.vz_surface_manager.specs.Left_out.{due_without}
-use Rattle.vz_rules.proofs.Kept_singly.{active_waits_not, apart}
+use Rattle.vz_surface_manager.specs.{Waits.Waits, Waits.AreWaiting, Left_out.due_without}
 use Rattle.vz_surface_manager.proofs.Filtered.{filter_alike, filter_changed}
 use Rattle.vz_surface_manager.proofs.Waits_on.{Stand, comes, stays, stand_of, waiting_from, stand_alike, ready_comes}
 use Rattle.vz_surface_manager.proofs.More_met.{met_then, rises, all_then, frees, leaves, clears}
@@ -81,8 +70,7 @@ waits_closed w c sink old new gone h at r is e f g =
     waiting_from v new (stand_alike then (is_met v) w.tick v.tick w.subs v.subs new.blocked new.due (met_closed w c sink h at is) refl refl (stand_then w old new (is_of_sink sink) gone h r e f g))
 
 not_yet : (a b : Bool) → a ≡ false → (not a && b) ≡ b
-not_yet true b e = absurd (cc)
-not_yet false b e = refl
+not_yet a b e = grind (arith, nat_tests)
 
 pub ready_closed : (w : World) (c : Client) (sink : FrameSinkId) (old : Waits) → KeepsAlways w → Contains w.clients c → ready w ≡ [] → AreWaiting w old → sink ≡ c.sink
     → freed (is_of_sink sink) old.blocked ≡ map sub_of (ready (message_answer w c Close).world)
@@ -98,12 +86,7 @@ ready_closed w c sink old h at none r is =
 -- A round
 
 came : (a m n d : Bool) → (m ≡ true → n ≡ true) → (a && (m || d)) ≡ true → false ≡ (a && not (n || d))
-came true true true d h e = refl
-came true true false d h e = let no_way : false ≡ true = h refl in absurd (cc)
-came true false true true h e = refl
-came true false false true h e = refl
-came true false n false h e = absurd (cc)
-came false m n d h e = refl
+came a m n d h e = grind (arith, nat_tests)
 
 module _ (w : World) (more : SurfaceId → Bool) where
   abbrev then : SurfaceId → Bool
@@ -117,57 +100,22 @@ module _ (w : World) (more : SurfaceId → Bool) where
   past_waits_not s b e = active_waits_not s (and_parts (is_active s) b e).0
 
   risen_stays : (s : Submission) → stays then w.tick (risen s) ≡ stays then w.tick s
-  risen_stays s =
-      elim (comes (is_met w) w.tick s) as (λ (t : Bool). comes (is_met w) w.tick s ≡ t → stays then w.tick (cond t (record s { state = Active; was_active = true })
-      (cond (is_active s && list_any (is_on s.submitted.id) (filter (comes (is_met w) w.tick) w.subs)) (record s { state = Past }) s)) ≡ stays then w.tick s) [
-        | true ↦ λ e. came (is_waiting s) (list_all (is_met w) (dependencies_of s)) (list_all then (dependencies_of s)) (nat_le s.due w.tick) (all_then (is_met w) more w.tick w.subs (dependencies_of s)) e
-        | false ↦ λ e. elim (is_active s && list_any (is_on s.submitted.id) (filter (comes (is_met w) w.tick) w.subs))
-            as (λ (u : Bool). (is_active s && list_any (is_on s.submitted.id) (filter (comes (is_met w) w.tick) w.subs)) ≡ u → stays then w.tick (cond u (record s { state = Past }) s) ≡ stays then w.tick s) [
-              | true ↦ λ f. sym (ap (λ (a : Bool). a && not (list_all then (dependencies_of s) || nat_le s.due w.tick)) (past_waits_not s _ f))
-              | false ↦ λ f. refl
-            ] refl
-      ] refl
+  risen_stays s = grind (arith, nat_tests, comes, stays, came, all_then, past_waits_not)
 
   risen_comes : (s : Submission) → comes then w.tick (risen s) ≡ rises (is_met w) more w.tick w.subs s
-  risen_comes s =
-      elim (comes (is_met w) w.tick s) as (λ (t : Bool). comes then w.tick (cond t (record s { state = Active; was_active = true })
-      (cond (is_active s && list_any (is_on s.submitted.id) (filter (comes (is_met w) w.tick) w.subs)) (record s { state = Past }) s)) ≡ (not t && comes then w.tick s)) [
-        | true ↦ refl
-        | false ↦ elim (is_active s && list_any (is_on s.submitted.id) (filter (comes (is_met w) w.tick) w.subs))
-            as (λ (u : Bool). (is_active s && list_any (is_on s.submitted.id) (filter (comes (is_met w) w.tick) w.subs)) ≡ u → comes then w.tick (cond u (record s { state = Past }) s) ≡ comes then w.tick s) [
-              | true ↦ λ f. sym (ap (λ (a : Bool). a && (list_all then (dependencies_of s) || nat_le s.due w.tick)) (past_waits_not s _ f))
-              | false ↦ λ f. refl
-            ] refl
-      ]
+  risen_comes s = grind (arith, nat_tests, comes (is_met w) w.tick s, comes, comes (is_met w) w.tick, past_waits_not s)
 
   same_risen : {B : Type 0} (g : Submission → B) → ((s : Submission) (t : State) (b : Bool) → g (record s { state = t; was_active = b }) ≡ g s) → (s : Submission) → g (risen s) ≡ g s
-  same_risen g h s =
-      elim (comes (is_met w) w.tick s) as (λ (t : Bool). g (cond t (record s { state = Active; was_active = true })
-      (cond (is_active s && list_any (is_on s.submitted.id) (filter (comes (is_met w) w.tick) w.subs)) (record s { state = Past }) s)) ≡ g s) [
-        | true ↦ h s Active true
-        | false ↦ elim (is_active s && list_any (is_on s.submitted.id) (filter (comes (is_met w) w.tick) w.subs)) as (λ (u : Bool). g (cond u (record s { state = Past }) s) ≡ g s) [
-          | true ↦ h s Past s.was_active
-          | false ↦ refl
-        ]
-      ]
+  same_risen g h s = grind (arith, nat_tests, comes (is_met w) w.tick s, comes (is_met w) w.tick)
 
   stand_risen : (new : Waits) → Stand then w.tick w.subs new.blocked new.due → Stand then w.tick (map risen w.subs) new.blocked new.due
-  stand_risen new h =
-      record {
-        blocked = h.blocked ∙ sym (filter_changed risen (blocked_of then) (stays then w.tick) (stays then w.tick) w.subs (λ s c. risen_stays s) (λ s e. same_risen (blocked_of then) (λ s t b. refl) s));
-        due = h.due ∙ sym (filter_changed risen due_of (stays then w.tick) (stays then w.tick) w.subs (λ s c. risen_stays s) (λ s e. same_risen due_of (λ s t b. refl) s));
-      }
+  stand_risen new h = grind (arith, nat_tests, filter_changed, stays, risen_stays, same_risen)
 
   risen_ready : map sub_of (filter (comes then w.tick) (map risen w.subs)) ≡ map sub_of (filter (rises (is_met w) more w.tick w.subs) w.subs)
-  risen_ready =
-      filter_changed risen (λ (s : Submission). sub_of s) (comes then w.tick) (rises (is_met w) more w.tick w.subs) w.subs (λ s c. risen_comes s)
-      (λ s e. same_risen (λ (s : Submission). sub_of s) (λ s t b. refl) s)
+  risen_ready = grind (arith, nat_tests, filter_changed, comes, rises (is_met w) more w.tick w.subs, risen_comes, same_risen)
 
 met_round : (w : World) (ids : List SurfaceId) → ids ≡ map (λ (s : Submission). s.submitted.id) (ready w) → is_met (round w) ≡ met_then (is_met w) (meets_any ids) w.tick w.subs
-met_round w ids is =
-    λ i d. (round_meets w d
-    ∙ (ap (λ (t : Bool). is_met w d || t) (sym (any_map (λ (s : Submission). s.submitted.id) (λ id. meets id d) (λ (s : Submission). meets s.submitted.id d) (ready w) (λ s. refl)))
-    ∙ ap (λ (l : List SurfaceId). is_met w d || meets_any l d) (sym is))) i
+met_round w ids is = grind (arith, nat_tests, round_meets w, any_map)
 
 subs_round : (w : World) → (round w).subs ≡ map (after_round (comes (is_met w) w.tick) (filter (comes (is_met w) w.tick) w.subs)) w.subs
 unfolding round ready is_ready has_come
@@ -186,7 +134,4 @@ waits_round w ids old new gone h r is e f g =
 
 pub ready_round : (w : World) (ids : List SurfaceId) (old : Waits) → AreWaiting w old → ids ≡ map (λ (s : Submission). s.submitted.id) (ready w)
     → freed (meets_any ids) old.blocked ≡ map sub_of (ready (round w))
-ready_round w ids old r is =
-    freed_of w old (meets_any ids) r
-    ∙ (sym (risen_ready w (meets_any ids))
-    ∙ ap (map sub_of) ((λ i. filter (comes (sym (met_round w ids is) i) (sym (tick_round w) i)) (sym (subs_round w) i)) ∙ sym (ready_comes (round w))))
+ready_round w ids old r is = grind (arith, nat_tests, freed_of w old (meets_any ids) r, risen_ready w (meets_any ids), comes, met_round w ids is, tick_round w, subs_round w, ready_comes (round w))

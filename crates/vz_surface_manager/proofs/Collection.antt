@@ -1,38 +1,21 @@
 -- A collection, while surfaces are destroyed one after another.
 use Rattle.std.proofs.Common.{◌≡◌, ◌==◌, ℕ, ◌+◌, ◌<◌, ◌≤◌, Bool, true, false, not, Option, None, List, [], ◌∷◌, ◌++◌, length, map, filter}
 use Rattle.std.proofs.Common.{refl, ap, sym, ◌∙◌, subst, arith, cond, Contains, append_assoc, append-nil, slice_index_or}
-use Rattle.std.proofs.lemmas.List.{map-append, length-map}
-use Rattle.vz_ids.specs.declared.SurfaceId.{SurfaceId}
-use Rattle.vz_ids.specs.Ids.{same_surface}
+use Rattle.std.proofs.{lemmas.List.map-append, lemmas.List.length-map, lemmas.Bool.eqb-true, lemmas.Bool.Decides.nat_tests, lemmas.Grind.common_steps}
+use Rattle.vz_ids.specs.{declared.SurfaceId.SurfaceId, Ids.same_surface}
 use Rattle.vz_frame.specs.Roomy.{Roomy}
-use Rattle.vz_rules.specs.declared.entry.Lost.{Lost}
-use Rattle.vz_rules.specs.World.{World, Surface}
+use Rattle.vz_rules.specs.{declared.entry.Lost.Lost, World.World, World.Surface, Singly.as_one_goes, Singly.going, Singly.all_going, Singly.IsMarked}
 use Rattle.vz_rules.specs.Reach.{has_id, naming, lost_in, clearing, destroyed_in}
-use Rattle.vz_rules.specs.Singly.{as_one_goes, going, all_going, IsMarked}
 use Rattle.vz_rules.specs.Kept.{KeepsAlways}
 use Rattle.vz_rules.proofs.Members.{contains_here, contains_there, contains_at, at_same, map_contains}
-use Rattle.vz_rules.proofs.Kept_facts.{surfaces_apart}
-use Rattle.vz_rules.proofs.Kept_goes.{clearing_singly}
-use Rattle.vz_rules.proofs.Kept_singly.{marked_on}
-use Rattle.vz_surfaces.specs.Stored.{stored_of}
-use Rattle.vz_surfaces.specs.Reading.{marked_to}
-use Rattle.vz_surface_manager.specs.Kept_surfaces.{has_kept}
-use Rattle.vz_surface_manager.proofs.Rooted.{lost_not_kept}
-use Rattle.vz_returns.specs.Lent.{resources_out}
-use Rattle.vz_returns.specs.Notes.{owed_count}
-use Rattle.vz_surface_manager.specs.Changes.{IsGoing}
-use Rattle.vz_surface_manager.specs.declared.surface_manager.SurfaceManager.{SurfaceManager}
-use Rattle.vz_surface_manager.specs.Settles.{AreSettling}
-use Rattle.vz_surface_manager.specs.Collects.{IsToCollect, IsDestroying}
-use Rattle.std.proofs.lemmas.Bool.{eqb-true}
-use Rattle.vz_surface_manager.proofs.Rounded.{none_long}
-use Rattle.vz_surface_manager.proofs.Names_differ.{AreApart}
+use Rattle.vz_rules.proofs.{Kept_facts.surfaces_apart, Kept_goes.clearing_singly, Kept_singly.marked_on}
+use Rattle.vz_surfaces.specs.{Stored.stored_of, Reading.marked_to}
+use Rattle.vz_surface_manager.specs.{Kept_surfaces.has_kept, Changes.IsGoing, Settles.AreSettling}
+use Rattle.vz_surface_manager.proofs.{Rooted.lost_not_kept, Rounded.none_long, Names_differ.AreApart}
+use Rattle.vz_returns.specs.{Lent.resources_out, Notes.owed_count}
+use Rattle.vz_surface_manager.specs.{declared.surface_manager.SurfaceManager.SurfaceManager, Collects.IsToCollect, Collects.IsDestroying}
 use Rattle.vz_surface_manager.proofs.By_client.{to, made, unreached, losing, told_of, marked_are, to_made, to_apart, lost_there, there_lost}
 use Rattle.vz_surface_manager.proofs.By_client.{losing_lost, told_whole}
-
--- the marked ones that exist
-abbrev marked_ones : World → List Surface
-marked_ones w = to (made w) 16
 
 -- those of the first so many that are not reached are destroyed, and told
 pub record IsGoingOn (w : World) (k : ℕ) (v : SurfaceManager) (old new : List Lost) : Type 0 where
@@ -49,10 +32,7 @@ pub record IsGoingOn (w : World) (k : ℕ) (v : SurfaceManager) (old new : List 
   pub told : new ≡ old ++ map told_of (filter (unreached w) done)
 
 first_marked : (w : World) (c : Surface) → KeepsAlways w → Contains w.surfaces c → c.marked ≡ true → IsMarked w c.id
-first_marked w c h p marked s q e =
-    let n = contains_at w.surfaces s q in
-    let m = contains_at w.surfaces c p in
-    ap (λ (x : Surface). x.marked) (at_same w.surfaces n.0 m.0 s c n.1 m.1 (surfaces_apart w n.0 m.0 s c h n.1 m.1 e)) ∙ marked
+first_marked w c h p marked s q e = grind (arith, nat_tests, contains_at w.surfaces s q, contains_at w.surfaces c p, at_same w.surfaces, surfaces_apart w)
 
 pub begins : (w : World) (marked reached : List SurfaceId) (v : SurfaceManager) (old : List Lost) → IsDestroying w marked reached v
     → IsGoingOn w 0 v old old
@@ -92,20 +72,14 @@ in_middle (x ∷ done) rest c = contains_there x c (done ++ c ∷ rest) (in_midd
 
 filter_last : (p : Surface → Bool) (xs : List Surface) (c : Surface) → filter p (xs ++ c ∷ []) ≡ filter p xs ++ cond (p c) (c ∷ []) []
 filter_last p [] c = refl
-filter_last p (x ∷ xs) c = by (p x) (filter_last p xs c)
-  where
-    by : (t : Bool) → filter p (xs ++ c ∷ []) ≡ filter p xs ++ cond (p c) (c ∷ []) []
-        → cond t (x ∷ filter p (xs ++ c ∷ [])) (filter p (xs ++ c ∷ [])) ≡ cond t (x ∷ filter p xs) (filter p xs) ++ cond (p c) (c ∷ []) []
-    by true e = ap (λ l. x ∷ l) e
-    by false e = e
+filter_last p (x ∷ xs) c = grind (arith, nat_tests, filter_last p xs c)
 
 other_stays : (c d : Surface) → same_surface d.id c.id ≡ false → as_one_goes c d ≡ d
 other_stays c d e = ap (λ (t : Bool). cond t (record d { destroyed = true }) d) e
 
 stays_there : (w : World) (c d : Surface) → Contains w.surfaces d → same_surface d.id c.id ≡ false → Contains (going c w).surfaces d
 unfolding going
-stays_there w c d p e = subst (λ x. Contains (map (as_one_goes c) w.surfaces) x) (other_stays c d e)
-    (map_contains (as_one_goes c) w.surfaces d p)
+stays_there w c d p e = grind (arith, nat_tests, other_stays c d e, map_contains (as_one_goes c) w.surfaces d p)
 
 module _ (w : World) (marked reached : List SurfaceId) (start v : SurfaceManager) (k : ℕ) (e : SurfaceId) (old new : List Lost)
     (h : IsDestroying w marked reached start)
@@ -128,11 +102,7 @@ module _ (w : World) (marked reached : List SurfaceId) (start v : SurfaceManager
       by (c ∷ cs) f = record { one = c; more = cs; is = f }
 
   pub its_id : next.one.id ≡ slice_index_or marked k e
-  its_id =
-      sym (at_place on.done next.more next.one e)
-      ∙ (ap (λ l. slice_index_or (map (λ (c : Surface). c.id) (on.done ++ l)) (length on.done) e) (sym next.is)
-      ∙ (ap (λ n. slice_index_or (map (λ (c : Surface). c.id) (on.done ++ on.rest)) n e) on.many
-      ∙ ap (λ l. slice_index_or l k e) (sym (ids_are ∙ ap (map (λ (c : Surface). c.id)) on.all))))
+  its_id = grind (arith, nat_tests, at_place on.done, ids_are)
 
   was_made : Contains w.surfaces next.one × (next.one.marked ≡ true) × (next.one.destroyed ≡ false)
   was_made =
@@ -176,21 +146,11 @@ module _ (w : World) (marked reached : List SurfaceId) (start v : SurfaceManager
 
   leads_by : (t : Bool) → unreached w next.one ≡ t → all_going
       (cond t (next.one ∷ filter (unreached w) next.more) (filter (unreached w) next.more)) on.now ≡ all_going (losing w) w
-  leads_by t f =
-      ap (λ (b : Bool). all_going (cond b (next.one ∷ filter (unreached w) next.more) (filter (unreached w) next.more)) on.now) (sym f)
-      ∙ (ap (λ l. all_going (filter (unreached w) l) on.now) (sym next.is) ∙ on.leads)
+  leads_by t f = grind (arith, nat_tests, unreached w)
 
   told_with : (t : Bool) → unreached w next.one ≡ t → map told_of (filter (unreached w) (on.done ++ next.one ∷ [])) ≡ map told_of
       (filter (unreached w) on.done) ++ cond t (told_of next.one ∷ []) []
-  told_with t f =
-      ap (map told_of) (filter_last (unreached w) on.done next.one
-      ∙ ap (λ (b : Bool). filter (unreached w) on.done ++ cond b (next.one ∷ []) []) f)
-      ∙ (map-append told_of (filter (unreached w) on.done) (cond t (next.one ∷ []) []) ∙ by t)
-    where
-      by : (b : Bool) → map told_of (filter (unreached w) on.done) ++ map told_of (cond b (next.one ∷ []) []) ≡ map told_of
-          (filter (unreached w) on.done) ++ cond b (told_of next.one ∷ []) []
-      by true = refl
-      by false = refl
+  told_with t f = grind (arith, nat_tests, told_of, filter_last, unreached, map-append)
 
   -- it is reached, and stays
   pub stays : has_id reached (slice_index_or marked k e) ≡ true → IsGoingOn w (k + 1) v old new
@@ -244,23 +204,7 @@ module _ (w : World) (marked reached : List SurfaceId) (start v : SurfaceManager
     (h : IsDestroying w marked reached start)
     (over : length marked ≤ k) (on : IsGoingOn w k v old new) where
   no_rest : on.rest ≡ []
-  no_rest = by on.rest refl
-    where
-      longer : (done rest : List Surface) (c : Surface) → length (done ++ c ∷ rest) ≡ length done + length rest + 1
-      longer [] rest c = omega arith
-      longer (x ∷ done) rest c = omega (arith, longer done rest c)
-
-      by : (l : List Surface) → on.rest ≡ l → on.rest ≡ []
-      by [] f = f
-      by (c ∷ cs) f =
-          absurd (omega (
-            arith,
-            over,
-            on.many,
-            ap length (h.are_marked ∙ (marked_are 16 w ∙ ap (map (λ (c : Surface). c.id)) (on.all ∙ ap (λ l. on.done ++ l) f))),
-            length-map (on.done ++ c ∷ cs) (λ (c : Surface). c.id),
-            longer on.done cs c,
-          ))
+  no_rest = grind (arith, nat_tests, common_steps, marked_are 16 w, length-map)
 
   ends_there : on.now ≡ clearing w
   unfolding all_going
@@ -273,9 +217,7 @@ module _ (w : World) (marked reached : List SurfaceId) (start v : SurfaceManager
   ends_named = subst (λ x. naming x ≡ x) ends_there on.named
 
   pub ends_told : new ≡ old ++ destroyed_in w
-  ends_told =
-      let all_done : on.done ≡ to (made w) 16 = sym (on.all ∙ (ap (λ l. on.done ++ l) no_rest ∙ append-nil on.done)) in
-      on.told ∙ ap (λ l. old ++ l) (ap (λ l. map told_of (filter (unreached w) l)) all_done ∙ told_whole w h.stands.always h.named h.few)
+  ends_told = grind (arith, nat_tests, common_steps, to (made w) 16, made w, no_rest, told_of, unreached w, told_whole w h.stands.always h.named h.few)
 
 -- those of the first so many that are not reached are destroyed and told, and nothing more is out or owed
 abbrev pub AreGoing : List SurfaceId → List SurfaceId → SurfaceManager → Roomy Lost → ℕ → SurfaceManager → Roomy Lost → Type 0
@@ -306,8 +248,7 @@ module _ (w : World) (root : Option SurfaceId) (v : SurfaceManager) (h : IsToCol
   stays_named = subst (λ x. naming x ≡ x) (sym all_stay) h.named
 
   pub none_told : (old : List Lost) → old ≡ old ++ destroyed_in w
-  none_told old = sym (append-nil old) ∙ ap (λ l. old ++ l) (sym
-      (sym (told_whole w h.stands.always h.named h.few) ∙ ap (map told_of) none_lose))
+  none_told old = grind (arith, nat_tests, common_steps, told_whole w h.stands.always h.named h.few, told_of, none_lose)
 
 -- the marked ones, put into an empty list
 pub listed : (first out slice more : List SurfaceId) → out ≡ first ++ more → first ≡ [] → slice ≡ out → slice ≡ more
@@ -316,6 +257,4 @@ listed first out slice more e f g = g ∙ (e ∙ ap (λ l. l ++ more) f)
 pub none_listed : (w : World) (v : SurfaceManager) (first out slice : List SurfaceId) → AreSettling w None v
     → out ≡ first ++ marked_to 16 v.live.store → first ≡ [] → slice ≡ out
     → (length slice == 0) ≡ true → marked_to 16 (stored_of w) ≡ []
-none_listed w v first out slice h e f g none =
-    ap (marked_to 16) (sym h.live.store)
-    ∙ (sym (listed first out slice (marked_to 16 v.live.store) e f g) ∙ none_long slice (omega (arith, eqb-true (length slice) 0 none)))
+none_listed w v first out slice h e f g none = grind (arith, nat_tests, listed first out slice (marked_to 16 v.live.store) e f g, none_long slice, eqb-true (length slice) 0 none)

@@ -1,22 +1,16 @@
 -- How many submissions are in a roster.
 use Rattle.std.proofs.Common.{◌≡◌, ℕ, suc, ◌+◌, ◌≤◌, Bool, true, false, not, Some, List, [], ◌∷◌, refl, ap, ◌∙◌, arith, cond}
 use Rattle.std.proofs.Common.{IsFalse, Contains, length, map, filter, slice_get}
-use Rattle.std.proofs.lemmas.Bool.{both_ways}
-use Rattle.std.proofs.lemmas.List.Filters.{length-filter_both}
+use Rattle.std.proofs.{lemmas.Bool.both_ways, lemmas.List.Filters.length-filter_both, lemmas.Bool.Decides.nat_tests}
 use Rattle.std.specs.List.{list_any}
-use Rattle.vz_ids.specs.declared.Sub.{Sub}
-use Rattle.vz_ids.specs.Ids.{same_sub}
+use Rattle.vz_ids.specs.{declared.Sub.Sub, Ids.same_sub}
 use Rattle.vz_rules.specs.World.{FrameData, Submission, active_frames, has_sub, is_active, sub_of}
-use Rattle.vz_rules.specs.Walk.{Visit, goes_into}
-use Rattle.vz_rules.specs.Kept.{stands_in}
+use Rattle.vz_rules.specs.{Walk.Visit, Walk.goes_into, Kept.stands_in}
 use Rattle.vz_rules.proofs.Members.{contains_here, contains_there, contains_at, contains_map, map_contains}
 use Rattle.vz_rules.proofs.Members.{any_at, any_from, none_at, filter_at, filter_has}
 use Rattle.vz_rules.proofs.Kept_accepted.{subs_differ}
-use Rattle.vz_surfaces.specs.Stored.{Stored}
-use Rattle.vz_surfaces.specs.Reading.{seen_frames}
-use Rattle.vz_surfaces.specs.Keeping.{KeepsStored}
-use Rattle.vz_surface_manager.specs.Flown.{Flown, subs_of}
-use Rattle.vz_surface_manager.specs.Rosters.{flown_as, flown_in, same_flown}
+use Rattle.vz_surfaces.specs.{Stored.Stored, Reading.seen_frames, Keeping.KeepsStored}
+use Rattle.vz_surface_manager.specs.{Flown.Flown, Flown.subs_of, Rosters.flown_as, Rosters.flown_in, Rosters.same_flown}
 use Rattle.vz_surface_manager.proofs.Gathered.{Once}
 
 -- No two of one name
@@ -67,8 +61,7 @@ map_twice f name (x ∷ xs) = ap (λ (l : List Sub). name (f x) ∷ l) (map_twic
 
 apart_mapped : {A B : Type 0} (f : A → B) (name : B → Sub) (xs : List A) → Apart (λ (x : A). name (f x)) xs → Apart name (map f xs)
 apart_mapped f name [] h = tt
-apart_mapped f name (x ∷ xs) h =
-    (ap (λ (l : List Sub). has_sub l (name (f x))) (map_twice f name xs) ∙ h.0, apart_mapped f name xs h.1)
+apart_mapped f name (x ∷ xs) h = grind (arith, nat_tests, map_twice f name xs, apart_mapped f name xs h.1)
 
 apart_once : (xs : List Flown) → Apart (λ (f : Flown). f.0) xs → Once xs
 apart_once [] h = tt
@@ -94,8 +87,7 @@ drawn_once active visits h =
 
 one_less : (ys : List Flown) (x : Flown) → Contains (filter (same_flown x) ys) x
     → length (filter (λ (f : Flown). not (same_flown x f)) ys) + 1 ≤ length ys
-one_less ys x c =
-    omega (arith, length-filter_both (same_flown x) (λ (f : Flown). not (same_flown x f)) (λ f. refl) ys, c.1)
+one_less ys x c = grind (arith, nat_tests, length-filter_both (same_flown x))
 
 fewer : ((f : Flown) → same_flown f f ≡ true) → (xs ys : List Flown) → Once xs → ((f : Flown) → Contains xs f → Contains ys f)
     → length xs ≤ length ys

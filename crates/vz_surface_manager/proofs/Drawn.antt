@@ -1,54 +1,35 @@
 -- A drawing: what is answered, and what hangs on surfaces stands for the state that it leaves.
 use Rattle.std.proofs.Common.{◌≡◌, ◌&&◌, Bool, true, false, Option, Some, None}
 use Rattle.std.proofs.Common.{is_some, List, refl, ap, sym, ◌∙◌, subst, arith, cond, Contains}
-use Rattle.std.specs.Option.{option_map}
-use Rattle.std.specs.Prelude.{IfSome}
-use Rattle.vz_geom.specs.declared.Size.{Size}
-use Rattle.vz_geom.specs.Rectangle.{Rectangle, is_empty_rect}
-use Rattle.vz_ids.specs.declared.SurfaceId.{SurfaceId}
-use Rattle.vz_ids.specs.declared.Sub.{Sub}
+use Rattle.std.specs.{Option.option_map, Prelude.IfSome}
+use Rattle.vz_geom.specs.{declared.Size.Size, Rectangle.Rectangle, Rectangle.is_empty_rect}
+use Rattle.vz_ids.specs.{declared.SurfaceId.SurfaceId, declared.Sub.Sub}
 use Rattle.vz_rules.specs.declared.entry.Reply.TheVariants as reply
-use Rattle.vz_rules.specs.Plan.{Plan}
-use Rattle.vz_rules.specs.World.{World, Scene, FrameData, Submission, Aggregation, active_frames, frame_on}
-use Rattle.vz_rules.specs.Scene.{scene_of}
-use Rattle.vz_rules.specs.Walk.{walk_of, too_much}
-use Rattle.vz_rules.specs.Damage.{aggregation_of, drawn_damage}
-use Rattle.vz_rules.specs.Messages.{Answer, says}
-use Rattle.vz_rules.specs.Step.{draw_answer, scene_answer, accepted_frames}
-use Rattle.vz_rules.specs.Kept.{IsWhole}
+use Rattle.vz_rules.specs.{Plan.Plan, Walk.walk_of, Walk.too_much, Messages.Answer, Messages.says, Kept.IsWhole}
+use Rattle.vz_rules.specs.World.{World, Scene, Submission, Aggregation, active_frames, frame_on}
+use Rattle.vz_rules.specs.{Scene.scene_of, Damage.aggregation_of, Damage.drawn_damage, Step.draw_answer, Step.scene_answer, Step.accepted_frames}
 use Rattle.vz_rules.proofs.Members.{contains_map}
-use Rattle.vz_surface_manager.specs.Kept_surfaces.{AreKept}
-use Rattle.vz_surface_manager.proofs.Sets_kept.{stays_same}
-use Rattle.vz_surfaces.specs.Stored.{Stored, stored_of, bare_sub}
+use Rattle.vz_surface_manager.specs.{Kept_surfaces.AreKept, Flown.Flown, Flown.AreFlown, Flown.subs_of, Live.Live, Live.AreLive, Live.AreWhole}
+use Rattle.vz_surface_manager.proofs.{Sets_kept.stays_same, Seen.reply_drawn, Seen.told_drawn, Viewed.rootless, Viewed.unseen_root, Viewed.seen_root}
+use Rattle.vz_surfaces.specs.{Stored.Stored, Stored.stored_of, Stored.bare_sub, Keeping.KeepsStored, Keeping.KeepsFrames}
 use Rattle.vz_surfaces.specs.Reading.{active_on, seen_frames}
-use Rattle.vz_surfaces.specs.Keeping.{KeepsStored, KeepsFrames}
 use Rattle.vz_surfaces.proofs.Stores_kept as stored
-use Rattle.vz_surfaces.proofs.Telling.{seen_all, tells_active}
-use Rattle.vz_surfaces.proofs.Kept_of_world.{keeps_of_world}
+use Rattle.vz_surfaces.proofs.{Telling.seen_all, Telling.tells_active, Kept_of_world.keeps_of_world}
 use Rattle.vz_walk.specs.Scenes.{scene_in, walked_in}
-use Rattle.vz_damage.specs.Told.{Damaged, told_on, with_seen}
+use Rattle.vz_damage.specs.{Told.Damaged, Told.told_on, Told.with_seen, Measured.Measurement, Measured.told_damage, Measured.without_indices}
 use Rattle.vz_damage.specs.Accepted.{scene_from}
-use Rattle.vz_damage.specs.Measured.{Measurement, told_damage, without_indices}
 use Rattle.vz_damage.proofs.Entering.{measured_is_drawn}
-use Rattle.vz_surface_manager.specs.Told_damage.{AreTold}
-use Rattle.vz_surface_manager.specs.Allowed.{drawn_reply}
-use Rattle.vz_surface_manager.proofs.Read.{tells_last}
-use Rattle.vz_surface_manager.proofs.Seen.{reply_drawn, told_drawn}
-use Rattle.vz_surface_manager.proofs.Viewed.{rootless, unseen_root, seen_root}
+use Rattle.vz_surface_manager.specs.{Told_damage.AreTold, Allowed.drawn_reply, Rosters.IsRosterOf, Rosters.flown_from}
+use Rattle.vz_surface_manager.proofs.{Read.tells_last, Quiet.live_by}
 use Rattle.vz_returns.specs.Lent.{Lent, AreLent, NoneReleased}
 use Rattle.vz_returns.proofs.Lent_kept.{lent_alike, lent_ordered, lent_none_drawn}
 use Rattle.vz_returns.proofs.Owed_kept as owed
-use Rattle.vz_surface_manager.specs.Flown.{Flown, AreFlown, subs_of}
-use Rattle.vz_surface_manager.specs.Rosters.{IsRosterOf, flown_from}
-use Rattle.vz_surface_manager.proofs.Flights_kept.{flown_some}
-use Rattle.vz_surface_manager.proofs.Drawn_flights.{flown_active, flown_drawn, flown_still}
-use Rattle.vz_surface_manager.specs.Live.{Live, AreLive, AreWhole}
+use Rattle.vz_surface_manager.proofs.{Flights_kept.flown_some, Drawn_flights.flown_active, Drawn_flights.flown_drawn, Drawn_flights.flown_still}
 use Rattle.vz_surface_manager.specs.Drawn_frame.{IsDrawing, IsSeen, IsShowing, IsLifting, Measures}
-use Rattle.vz_surface_manager.proofs.Quiet.{live_by}
+use Rattle.std.proofs.lemmas.Bool.Decides.{nat_tests}
 
 none_some : {A : Type 0} (o : Option A) → is_some o ≡ false → o ≡ None
-none_some None e = refl
-none_some (Some x) e = absurd (cc)
+none_some o e = grind (arith, nat_tests)
 
 -- The answers
 
@@ -62,22 +43,16 @@ busy_answer p w e = ap (λ (t : Bool). cond t (says reply.Busy w) (by_scene p w 
 
 free_answer : (p : Plan) (w : World) (o : Option Scene) → is_some w.in_flight ≡ false → scene_of w ≡ o → draw_answer p w ≡ by_scene p w o
 unfolding draw_answer
-free_answer p w o e f =
-    ap (λ (t : Bool). cond t (says reply.Busy w) (by_scene p w (scene_of w))) e ∙ ap (by_scene p w) f
+free_answer p w o e f = grind (arith, nat_tests)
 
 heavy_answer : (p : Plan) (w : World) (s : Scene) → too_much (walk_of p.size s) ≡ true → scene_answer p w s ≡ says reply.TooMuch w
 unfolding scene_answer
-heavy_answer p w s e = first (too_much (walk_of p.size s)) _ e
-  where
-    first : (t : Bool) (a : Answer) → t ≡ true → cond t (says reply.TooMuch w) a ≡ says reply.TooMuch w
-    first true a f = refl
-    first false a f = absurd (cc)
+heavy_answer p w s e = grind (arith, nat_tests)
 
 -- What a drawing leaves
 
 one_of : (P : World → Type 0) (t : Bool) (a b : Answer) → P a.world → P b.world → P (cond t a b).world
-one_of P true a b first other = first
-one_of P false a b first other = other
+one_of _ t a b first other = grind (arith, nat_tests)
 
 drawn_as : (P : World → Type 0) (p : Plan) (w : World)
     → ((last : Option Aggregation) (flight : Option (List Sub)) → P (record w { last = last; in_flight = flight }))
@@ -124,11 +99,7 @@ module _ (p : Plan) (w : World) (root : SurfaceId) (size : Size) (v : Live) (h :
       (unseen_root w root h.rooted (sym active_is ∙ none_some (active_on v.store root) f))
 
   seen_is : is_some (active_on v.store root) ≡ true → scene_of w ≡ Some (scene_from root w)
-  seen_is f = by (active_on v.store root) f (sym active_is)
-    where
-      by : (o : Option FrameData) → is_some o ≡ true → frame_on root (active_frames w.subs) ≡ o → scene_of w ≡ Some (scene_from root w)
-      by None e g = absurd (cc)
-      by (Some i) e g = seen_root w root i h.rooted g
+  seen_is f = grind (arith, nat_tests, active_is, seen_root w root)
 
   frames_are : seen_frames v.store ≡ active_frames w.subs
   frames_are = ap (λ (st : Stored). seen_frames st) h.live.store ∙ seen_all w h.keeps.always
@@ -144,15 +115,7 @@ module _ (p : Plan) (w : World) (root : SurfaceId) (size : Size) (v : Live) (h :
 
   shows_is : is_some v.flight ≡ false → is_some (active_on v.store root) ≡ true → too_much (walked_in size root v.store) ≡ false
       → IsShowing p w root size v
-  shows_is e f g =
-      record {
-        drawing = h;
-        walks = record {
-          free = free_is p w (Some root) size v h e;
-          seen = seen_is f;
-          fits = sym (ap too_much walked_is) ∙ g;
-        };
-      }
+  shows_is e f g = grind (arith, nat_tests, free_is p w (Some root) size v h e, seen_is f, walked_is)
 
 -- What a call finds, where a root is given and no frame is in flight
 
@@ -200,16 +163,11 @@ module _ (p : Plan) (w : World) (root : SurfaceId) (size : Size) (v : Live) (h :
 
   damage_is : told_damage size v.damaged.last v.damaged.surfaces root (walked_in size root v.store)
       ≡ drawn_damage p.size w.last (accepted_frames w) root (walk_of p.size (scene_from root w))
-  damage_is =
-      (λ i. told_damage (sym h.drawing.sized_as i) (h.drawing.live.told.last i) v.damaged.surfaces root
-      (walked_is p w root size v h.drawing i))
-      ∙ measured_is_drawn w v.damaged.surfaces p.size root h.drawing.keeps.always
-      (tells_last w v.damaged h.drawing.keeps.always h.drawing.live.told)
+  damage_is = grind (arith, nat_tests, walked_is, measured_is_drawn, tells_last)
 
   -- what is measured tells what is answered
   pub reply_is : (m : Measurement) → Measures root size v m → drawn_reply m.changed ≡ (draw_answer p w).reply
-  reply_is m is =
-      ap drawn_reply is.changed ∙ sym (reply_drawn p w root h.walks v.damaged _ h.drawing.live.told damage_is)
+  reply_is m is = grind (arith, nat_tests, reply_drawn p w root h.walks v.damaged, damage_is)
 
   reply_none : (m : Measurement) → Measures root size v m → m.changed ≡ None → (draw_answer p w).reply ≡ reply.Unchanged
   reply_none m is e = sym (reply_is m is) ∙ ap drawn_reply e
@@ -222,16 +180,11 @@ module _ (p : Plan) (w : World) (root : SurfaceId) (size : Size) (v : Live) (h :
 
   kept_is : without_indices (aggregation_of (scene_in root v.store) (walked_in size root v.store))
       ≡ without_indices (aggregation_of (scene_from root w) (walk_of p.size (scene_from root w)))
-  kept_is =
-      λ i.
-      let scene : Scene = record { root = root; active = frames_are p w root size v h.drawing i } in
-      without_indices (aggregation_of scene (walk_of (sym h.drawing.sized_as i) scene))
+  kept_is = grind (arith, nat_tests, frames_are p w root size v h.drawing)
 
   told_is : (m : Measurement) (d : Damaged) → Measures root size v m → d.last ≡ Some m.kept
       → ((id : SurfaceId) → told_on d.surfaces id ≡ option_map with_seen (told_on v.damaged.surfaces id)) → AreTold done d
-  told_is m d is last tells =
-      told_drawn p w root h.walks v.damaged d h.drawing.live.told tells
-      (last ∙ ap (λ (a : Aggregation). Some a) (is.kept ∙ kept_is))
+  told_is m d is last tells = grind (arith, nat_tests, told_drawn p w root h.walks v.damaged d h.drawing.live.told tells, kept_is)
 
   live_left : (lent : List Lent) (d : Damaged) (flight : Option (List Flown)) → AreLent done lent → AreTold done d → AreFlown done flight
       → AreLive done None (record v { lent = lent; damaged = d; flight = flight })

@@ -1,27 +1,21 @@
 -- A drawing: the drawn frame is what the walk over the store goes into.
-use Rattle.std.proofs.Common.{◌≡◌, Bool, true, false, ◌&&◌, Option, Some, None, is_some, List, filter, refl, ap, sym, ◌∙◌, cond, Contains}
+use Rattle.std.proofs.Common.{◌≡◌, Bool, true, false, ◌&&◌, Option, Some, None, is_some, List, filter, refl, ap, sym, ◌∙◌, cond, Contains, arith}
 use Rattle.std.proofs.Common.{subst}
 use Rattle.std.specs.List.{list_any}
-use Rattle.vz_geom.specs.declared.Size.{Size}
-use Rattle.vz_geom.specs.Rectangle.{Rectangle, is_empty_rect}
-use Rattle.vz_ids.specs.declared.SurfaceId.{SurfaceId}
-use Rattle.vz_ids.specs.declared.Sub.{Sub}
+use Rattle.vz_geom.specs.{declared.Size.Size, Rectangle.Rectangle, Rectangle.is_empty_rect}
+use Rattle.vz_ids.specs.{declared.SurfaceId.SurfaceId, declared.Sub.Sub}
 use Rattle.vz_rules.specs.declared.entry.Reply.TheVariants as reply
-use Rattle.vz_rules.specs.Plan.{Plan}
+use Rattle.vz_rules.specs.{Plan.Plan, Messages.Answer, Messages.says}
 use Rattle.vz_rules.specs.World.{World, Scene, FrameData, Submission, active_frames, is_active, sub_of}
-use Rattle.vz_rules.specs.Scene.{scene_of}
+use Rattle.vz_rules.specs.{Scene.scene_of, Damage.aggregation_of, Damage.drawn_damage, Step.scene_answer, Step.draw_answer, Step.accepted_frames}
 use Rattle.vz_rules.specs.Walk.{Visit, walk_of, walked_subs, too_much, goes_into}
-use Rattle.vz_rules.specs.Damage.{aggregation_of, drawn_damage}
-use Rattle.vz_rules.specs.Messages.{Answer, says}
-use Rattle.vz_rules.specs.Step.{scene_answer, draw_answer, accepted_frames}
 use Rattle.vz_rules.proofs.Members.{contains_map, filter_at}
-use Rattle.vz_surfaces.specs.Stored.{stored_of}
-use Rattle.vz_surfaces.specs.Reading.{seen_frames}
+use Rattle.vz_surfaces.specs.{Stored.stored_of, Reading.seen_frames}
 use Rattle.vz_damage.specs.Accepted.{scene_from}
 use Rattle.vz_surface_manager.specs.Allowed.{Draws}
-use Rattle.vz_surface_manager.specs.Flown.{Flown, AreFlown, subs_of}
-use Rattle.vz_surface_manager.specs.Rosters.{flown_as, flown_in, flown_from}
+use Rattle.vz_surface_manager.specs.{Flown.Flown, Flown.AreFlown, Flown.subs_of, Rosters.flown_as, Rosters.flown_in, Rosters.flown_from}
 use Rattle.vz_surface_manager.proofs.Rostered.{drawn_names}
+use Rattle.std.proofs.lemmas.Bool.Decides.{nat_tests}
 
 -- an active submission lists this
 abbrev pub IsActive : World → Flown → Type 0
@@ -49,8 +43,7 @@ module _ (w : World) (seen : seen_frames (stored_of w) ≡ active_frames w.subs)
   from_is size root = ap (λ (l : List FrameData). flown_in l (walk_of size (record { root = root; active = l }))) seen
 
   pub flown_active : (size : Size) (root : SurfaceId) (f : Flown) → Contains (flown_from size root (stored_of w)) f → IsActive w f
-  flown_active size root f c =
-      active_in w (walk_of size (scene_from root w)) f (subst (λ (l : List Flown). Contains l f) (from_is size root) c)
+  flown_active size root f c = grind (arith, nat_tests, active_in w (walk_of size (scene_from root w)) f, from_is size root)
 
   some_same : (a b : List Flown) → ◌≡◌ {A = Option (List Flown)} (Some a) (Some b) → a ≡ b
   some_same a b e = cc
@@ -85,11 +78,7 @@ module _ (p : Plan) (w : World) (root : SurfaceId) (k : Draws p w root) where
 
   answer_is : draw_answer p w ≡ answered (is_some w.last && is_empty_rect damage)
   unfolding draw_answer scene_answer
-  answer_is =
-      ap (λ (t : Bool). cond t (says reply.Busy w)
-      (elim (scene_of w) as (λ o. Answer) [ Some s ↦ scene_answer p w s | None ↦ says reply.NoRoot w ])) k.free
-      ∙ (ap (λ (o : Option Scene). elim o as (λ o. Answer) [ Some s ↦ scene_answer p w s | None ↦ says reply.NoRoot w ]) k.seen
-      ∙ ap (λ (t : Bool). cond t (says reply.TooMuch w) (answered (is_some w.last && is_empty_rect damage))) k.fits)
+  answer_is = grind (arith, nat_tests)
 
   -- where this changed
   drawn_by : seen_frames (stored_of w) ≡ active_frames w.subs → (t : Bool) (d : Rectangle) → (answered t).reply ≡ reply.Drawn d
@@ -105,21 +94,17 @@ module _ (p : Plan) (w : World) (root : SurfaceId) (k : Draws p w root) where
 
   -- where nothing did
   still_by : (f : Option (List Flown)) → AreFlown w f → (t : Bool) → (answered t).reply ≡ reply.Unchanged → AreFlown (answered t).world f
-  still_by f h true e = record { drawn = h.drawn; listed = h.listed }
-  still_by f h false e = absurd (cc)
+  still_by f h t e = grind (arith, nat_tests)
 
   pub flown_still : (f : Option (List Flown)) → (draw_answer p w).reply ≡ reply.Unchanged → AreFlown w f
       → AreFlown (draw_answer p w).world f
-  flown_still f e h =
-      subst (λ (a : Answer). AreFlown a.world f) (sym answer_is)
-      (still_by f h (is_some w.last && is_empty_rect damage) (sym (ap (λ (a : Answer). a.reply) answer_is) ∙ e))
+  flown_still f e h = grind (arith, nat_tests, answer_is, still_by f h)
 
 -- Where nothing is drawn
 
 busy_by : (t : Bool) (a : Answer) (w : World) (f : Option (List Flown)) → t ≡ true → AreFlown w f
     → AreFlown (cond t (says reply.Busy w) a).world f
-busy_by true a w f busy h = h
-busy_by false a w f busy h = absurd (cc)
+busy_by t a w f busy h = grind (arith, nat_tests)
 
 pub flown_busy : (p : Plan) (w : World) (f : Option (List Flown)) → is_some w.in_flight ≡ true → AreFlown w f
     → AreFlown (draw_answer p w).world f
@@ -128,21 +113,16 @@ flown_busy p w f busy h = busy_by (is_some w.in_flight) _ w f busy h
 
 either : (t : Bool) (a : Answer) (w : World) (f : Option (List Flown)) → AreFlown w f → AreFlown a.world f
     → AreFlown (cond t (says reply.Busy w) a).world f
-either true a w f h then = h
-either false a w f h then = then
+either t a w f h then = grind (arith, nat_tests)
 
 pub flown_nowhere : (p : Plan) (w : World) (f : Option (List Flown)) → scene_of w ≡ None → AreFlown w f
     → AreFlown (draw_answer p w).world f
 unfolding draw_answer
-flown_nowhere p w f none h =
-    either (is_some w.in_flight) _ w f h
-    (subst (λ (o : Option Scene). AreFlown (elim o as (λ o. Answer) [ Some s ↦ scene_answer p w s | None ↦ says reply.NoRoot w ]).world f)
-    (sym none) h)
+flown_nowhere p w f none h = grind (arith, nat_tests, either (is_some w.in_flight))
 
 beyond : (t : Bool) (a : Answer) (w : World) (f : Option (List Flown)) → t ≡ true → AreFlown w f
     → AreFlown (cond t (says reply.TooMuch w) a).world f
-beyond true a w f much h = h
-beyond false a w f much h = absurd (cc)
+beyond t a w f much h = grind (arith, nat_tests)
 
 too_much_by : (p : Plan) (w : World) (f : Option (List Flown)) (s : Scene) → too_much (walk_of p.size s) ≡ true → AreFlown w f
     → AreFlown (scene_answer p w s).world f
@@ -152,7 +132,4 @@ too_much_by p w f s much h = beyond (too_much (walk_of p.size s)) _ w f much h
 pub flown_too_much : (p : Plan) (w : World) (f : Option (List Flown)) (s : Scene) → scene_of w ≡ Some s
     → too_much (walk_of p.size s) ≡ true → AreFlown w f → AreFlown (draw_answer p w).world f
 unfolding draw_answer
-flown_too_much p w f s seen much h =
-    either (is_some w.in_flight) _ w f h
-    (subst (λ (o : Option Scene). AreFlown (elim o as (λ o. Answer) [ Some x ↦ scene_answer p w x | None ↦ says reply.NoRoot w ]).world f)
-    (sym seen) (too_much_by p w f s much h))
+flown_too_much p w f s seen much h = grind (arith, nat_tests, either (is_some w.in_flight), too_much_by p w f s much h)

@@ -1,25 +1,15 @@
 -- Those that wait without some of them, and where a submission on a surface is dropped.
-use Rattle.std.proofs.Common.{◌≡◌, ℕ, Bool, true, false, not, ◌&&◌, ◌||◌, Option, Some, None, List, map, filter, find, refl, ap, sym, ◌∙◌, cond, Contains, is_some}
-use Rattle.std.specs.Prelude.{option_to_list}
-use Rattle.std.specs.Option.{option_map}
-use Rattle.std.proofs.lemmas.Bool.{and_parts, and_from}
-use Rattle.vz_ids.specs.declared.SurfaceId.{SurfaceId}
-use Rattle.vz_ids.specs.declared.Sub.{Sub}
-use Rattle.vz_ids.specs.Ids.{same_sub}
-use Rattle.vz_rules.specs.declared.entry.State.TheVariants.{Dropped}
+use Rattle.std.proofs.Common.{◌≡◌, ℕ, Bool, true, false, not, ◌&&◌, ◌||◌, Option, Some, None, List, map, filter, find, refl, ap, sym, ◌∙◌, cond, Contains, is_some, arith}
+use Rattle.std.specs.{Prelude.option_to_list, Option.option_map}
+use Rattle.std.proofs.{lemmas.Bool.and_parts, lemmas.Bool.and_from, lemmas.Bool.Decides.nat_tests}
+use Rattle.vz_ids.specs.{declared.SurfaceId.SurfaceId, declared.Sub.Sub, Ids.same_sub}
+use Rattle.vz_rules.specs.{declared.entry.State.TheVariants.Dropped, Settle.is_met, Singly.going, Kept.KeepsAlways}
 use Rattle.vz_rules.specs.World.{World, Submission, Surface, is_waiting, is_active, is_on, sub_of, has_sub}
-use Rattle.vz_rules.specs.Settle.{is_met}
-use Rattle.vz_rules.specs.Singly.{going}
-use Rattle.vz_rules.specs.Kept.{KeepsAlways}
 use Rattle.vz_rules.proofs.Members.{contains_at, at_same, find_at, found, none_at, same_tests, when_same}
-use Rattle.vz_rules.proofs.Counts.{one_place}
-use Rattle.vz_deps.specs.Tracking.{Blocked}
-use Rattle.vz_deps.specs.Blocking.{blocked_of}
-use Rattle.vz_deadlines.specs.declared.due.Due.{Due}
-use Rattle.vz_deadlines.specs.Timing.{due_of}
-use Rattle.vz_surface_manager.specs.Waits.{Waits, AreWaiting, waiting_on}
-use Rattle.vz_surface_manager.specs.Left_out.{blocked_without, due_without}
-use Rattle.vz_rules.proofs.Kept_singly.{apart, own_sub}
+use Rattle.vz_rules.proofs.{Counts.one_place, Kept_singly.apart, Kept_singly.own_sub, Facts.or_false as or_none}
+use Rattle.vz_deps.specs.{Tracking.Blocked, Blocking.blocked_of}
+use Rattle.vz_deadlines.specs.{declared.due.Due.Due, Timing.due_of}
+use Rattle.vz_surface_manager.specs.{Waits.Waits, Waits.AreWaiting, Waits.waiting_on, Left_out.blocked_without, Left_out.due_without}
 use Rattle.vz_surface_manager.proofs.Filtered.{filter_alike, filter_twice, filter_mapped, filter_changed}
 use Rattle.vz_surface_manager.proofs.Waits_on.{Stand, stays, stand_of, waiting_from, stand_alike}
 use Rattle.vz_surface_manager.proofs.Waits_kept.{LeavesActive, met_by, met_is, met_alike, map_same}
@@ -27,20 +17,12 @@ use Rattle.vz_surface_manager.proofs.Waits_kept.{LeavesActive, met_by, met_is, m
 pub blocked_less : (met : SurfaceId → Bool) (p q : Submission → Bool) (gone : List Sub) (subs : List Submission)
     → ((s : Submission) → Contains subs s → (p s && not (has_sub gone (sub_of s))) ≡ q s) → blocked_without gone (map (blocked_of met) (filter p subs)) ≡ map (blocked_of met) (filter q subs)
 unfolding blocked_without
-blocked_less met p q gone subs h =
-    filter_mapped (λ (b : Blocked). not (has_sub gone b.sub)) (blocked_of met) (filter p subs)
-    ∙ ap (map (blocked_of met)) (filter_twice (λ (s : Submission). not (has_sub gone (sub_of s))) p subs ∙ filter_alike (λ s. p s && not (has_sub gone (sub_of s))) q subs h)
+blocked_less met p q gone subs h = grind (arith, nat_tests, filter_mapped, filter_twice, filter_alike)
 
 pub due_less : (p q : Submission → Bool) (gone : List Sub) (subs : List Submission) → ((s : Submission) → Contains subs s → (p s && not (has_sub gone (sub_of s))) ≡ q s)
     → due_without gone (map due_of (filter p subs)) ≡ map due_of (filter q subs)
 unfolding due_without
-due_less p q gone subs h =
-    filter_mapped (λ (d : Due). not (has_sub gone d.sub)) due_of (filter p subs)
-    ∙ ap (map due_of) (filter_twice (λ (s : Submission). not (has_sub gone (sub_of s))) p subs ∙ filter_alike (λ s. p s && not (has_sub gone (sub_of s))) q subs h)
-
-or_none : (a : Bool) → (a || false) ≡ a
-or_none true = refl
-or_none false = refl
+due_less p q gone subs h = grind (arith, nat_tests, filter_mapped, filter_twice, filter_alike)
 
 -- of those that wait, exactly the one that is told is on the surface
 pub gone_is : (w : World) (id : SurfaceId) (s : Submission) → KeepsAlways w → Contains w.subs s → is_waiting s ≡ true
@@ -70,20 +52,16 @@ abbrev pub dropping : (Submission → Bool) → Submission → Submission
 dropping t s = cond (t s) (record s { state = Dropped }) s
 
 and_none : (a : Bool) → false ≡ (a && false)
-and_none true = refl
-and_none false = refl
+and_none a = grind (arith, nat_tests)
 
 and_all : (a : Bool) → a ≡ (a && true)
-and_all true = refl
-and_all false = refl
+and_all a = grind (arith, nat_tests)
 
 stays_by : (met : SurfaceId → Bool) (tick : ℕ) (s : Submission) (b : Bool) → stays met tick (cond b (record s { state = Dropped }) s) ≡ (stays met tick s && not b)
-stays_by met tick s true = and_none (stays met tick s)
-stays_by met tick s false = and_all (stays met tick s)
+stays_by met tick s b = grind (arith, nat_tests, and_none (stays met tick s), stays met tick s, and_all (stays met tick s))
 
 alike_after : (a x u v : Bool) → (a ≡ true → u ≡ v) → ((a && x) && not u) ≡ ((a && x) && not v)
-alike_after true x u v h = ap (λ t. x && not t) (h refl)
-alike_after false x u v h = refl
+alike_after a x u v h = grind (arith, nat_tests)
 
 module _ (w : World) (id : SurfaceId) (t : Submission → Bool) (h : KeepsAlways w) (same : (s : Submission) → is_waiting s ≡ true → t s ≡ is_on id s) where
   abbrev gone : List Sub
@@ -113,17 +91,12 @@ module _ (w : World) (id : SurfaceId) (t : Submission → Bool) (h : KeepsAlways
       }
 
 pub drops_leave : (t : Submission → Bool) → LeavesActive (dropping t)
-drops_leave t =
-    record {
-      was = λ s. when_same (λ (x : Submission). x.was_active) (λ s. record s { state = Dropped }) (t s) s refl;
-      submitted = λ s. when_same (λ (x : Submission). x.submitted) (λ s. record s { state = Dropped }) (t s) s refl;
-    }
+drops_leave t = grind (arith, nat_tests, when_same)
 
 -- A surface is destroyed
 
 ends_there : (a b o : Bool) → a ≡ true → ((a || b) && (o || false)) ≡ o
-ends_there true b o h = or_none o
-ends_there false b o h = absurd (cc)
+ends_there a b o h = grind (arith, nat_tests, or_none o)
 
 pub waits_gone : (w : World) (c : Surface) (old new : Waits) (sub : Option Sub) → KeepsAlways w → AreWaiting w old → sub ≡ waiting_on w c.id
     → new.blocked ≡ blocked_without (option_to_list sub) old.blocked → new.due ≡ due_without (option_to_list sub) old.due → AreWaiting (going c w) new

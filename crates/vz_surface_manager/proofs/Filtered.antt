@@ -1,12 +1,10 @@
 -- Lists that are filtered and mapped.
-use Rattle.std.proofs.Common.{◌≡◌, ◌+◌, Bool, true, false, not, ◌&&◌, ◌==◌, List, [], ◌∷◌, length, map, filter, refl, ap, ◌∙◌, arith, cond, Contains}
-use Rattle.std.specs.List.{list_all}
-use Rattle.std.proofs.lemmas.Bool.{eq-eqb}
-use Rattle.vz_ids.specs.declared.Sub.{Sub}
+use Rattle.std.proofs.Common.{◌≡◌, ◌+◌, Bool, true, false, not, ◌&&◌, List, [], ◌∷◌, length, map, filter, refl, ap, ◌∙◌, arith, cond, Contains}
 use Rattle.vz_ids.specs.Ids.{same_sub}
-use Rattle.vz_rules.specs.World.{World, Submission, sub_of, has_sub}
-use Rattle.vz_rules.proofs.Members.{contains_here, contains_there, contains_map, map_contains, contains_at, at_same, filter_at, filter_has, any_at, any_from, same_tests}
+use Rattle.vz_rules.specs.World.{Submission, sub_of, has_sub}
+use Rattle.vz_rules.proofs.Members.{contains_here, contains_there, contains_map, map_contains, filter_at, filter_has, any_at, any_from, same_tests}
 use Rattle.vz_rules.proofs.Kept_singly.{Apart, own_sub}
+use Rattle.std.proofs.lemmas.Bool.Decides.{nat_tests}
 
 -- tests that say the same of each
 pub filter_alike : {A : Type 0} (p q : A → Bool) (xs : List A) → ((x : A) → Contains xs x → p x ≡ q x) → filter p xs ≡ filter q xs
@@ -17,20 +15,12 @@ filter_alike p q (x ∷ xs) h =
 -- two tests, one after another
 pub filter_twice : {A : Type 0} (p q : A → Bool) (xs : List A) → filter p (filter q xs) ≡ filter (λ x. q x && p x) xs
 filter_twice p q [] = refl
-filter_twice p q (x ∷ xs) =
-    elim (q x) as (λ (t : Bool). filter p (cond t (x ∷ filter q xs) (filter q xs)) ≡ cond (t && p x) (x ∷ filter (λ x. q x && p x) xs) (filter (λ x. q x && p x) xs)) [
-      | true ↦ ap (λ l. cond (p x) (x ∷ l) l) (filter_twice p q xs)
-      | false ↦ filter_twice p q xs
-    ]
+filter_twice p q (x ∷ xs) = grind (arith, nat_tests, filter_twice p q xs)
 
 -- a test of what was made of each
 pub filter_mapped : {A B : Type 0} (r : B → Bool) (g : A → B) (xs : List A) → filter r (map g xs) ≡ map g (filter (λ x. r (g x)) xs)
 filter_mapped r g [] = refl
-filter_mapped r g (x ∷ xs) =
-    elim (r (g x)) as (λ (t : Bool). cond t (g x ∷ filter r (map g xs)) (filter r (map g xs)) ≡ map g (cond t (x ∷ filter (λ x. r (g x)) xs) (filter (λ x. r (g x)) xs))) [
-      | true ↦ ap (λ l. g x ∷ l) (filter_mapped r g xs)
-      | false ↦ filter_mapped r g xs
-    ]
+filter_mapped r g (x ∷ xs) = grind (arith, nat_tests, filter_mapped r g xs)
 
 -- what is made of those that pass, where each was changed before
 pub filter_changed : {A B : Type 0} (f : A → A) (g : A → B) (p q : A → Bool) (xs : List A) → ((x : A) → Contains xs x → p (f x) ≡ q x)
@@ -51,29 +41,7 @@ filter_all (x ∷ xs) = ap (λ l. x ∷ l) (filter_all xs)
 -- those that pass and those that do not are all
 pub both_lengths : {A : Type 0} (p : A → Bool) (xs : List A) → length (filter (λ x. not (p x)) xs) + length (filter p xs) ≡ length xs
 both_lengths p [] = refl
-both_lengths p (x ∷ xs) =
-    let rest = both_lengths p xs in
-    elim (p x) as (λ (t : Bool). length (cond (not t) (x ∷ filter (λ x. not (p x)) xs) (filter (λ x. not (p x)) xs)) + length (cond t (x ∷ filter p xs) (filter p xs)) ≡ length (x ∷ xs)) [
-      | true ↦ omega (arith, rest)
-      | false ↦ omega (arith, rest)
-    ]
-
--- all pass where none is left that does not
-pub none_left : {A : Type 0} (p : A → Bool) (xs : List A) → filter (λ x. not (p x)) xs ≡ [] → list_all p xs ≡ true
-none_left p [] e = refl
-none_left p (x ∷ xs) e =
-    elim (p x) as (λ (t : Bool). cond (not t) (x ∷ filter (λ x. not (p x)) xs) (filter (λ x. not (p x)) xs) ≡ [] → (t && list_all p xs) ≡ true) [
-      | true ↦ λ f. none_left p xs f
-      | false ↦ λ f. absurd (cc)
-    ] e
-
-pub all_left : {A : Type 0} (p : A → Bool) (xs : List A) → list_all p xs ≡ true → filter (λ x. not (p x)) xs ≡ []
-all_left p [] e = refl
-all_left p (x ∷ xs) e =
-    elim (p x) as (λ (t : Bool). (t && list_all p xs) ≡ true → cond (not t) (x ∷ filter (λ x. not (p x)) xs) (filter (λ x. not (p x)) xs) ≡ []) [
-      | true ↦ λ f. all_left p xs f
-      | false ↦ λ f. absurd (cc)
-    ] e
+both_lengths p (x ∷ xs) = grind (arith, nat_tests, both_lengths p xs)
 
 -- Names
 

@@ -1,32 +1,23 @@
 -- The drawn frame stays where what is in flight and what was accepted does.
-use Rattle.std.proofs.Common.{◌≡◌, ℕ, ◌==◌, Bool, true, false, ◌&&◌, ◌||◌, Option, Some, None, List, [], ◌∷◌, map, refl, ap, sym, ◌∙◌, cond}
+use Rattle.std.proofs.Common.{◌≡◌, ℕ, Bool, true, ◌&&◌, ◌||◌, Option, Some, None, List, [], ◌∷◌, map, refl, ap, sym, ◌∙◌, cond, arith}
 use Rattle.std.proofs.Common.{Contains, subst}
 use Rattle.std.proofs.Common.{is_some}
-use Rattle.std.specs.Option.{option_map}
-use Rattle.std.specs.List.{list_any}
-use Rattle.vz_ids.specs.declared.FrameSinkId.{FrameSinkId}
-use Rattle.vz_ids.specs.declared.LocalSurfaceId.{LocalSurfaceId}
-use Rattle.vz_ids.specs.declared.Sub.{Sub}
-use Rattle.vz_ids.specs.Ids.{same_sub}
+use Rattle.std.specs.{Option.option_map, List.list_any}
+use Rattle.vz_ids.specs.{declared.FrameSinkId.FrameSinkId, declared.LocalSurfaceId.LocalSurfaceId, declared.Sub.Sub, Ids.same_sub}
 use Rattle.vz_pixels.specs.Block.{Block}
-use Rattle.vz_frame.specs.declared.frame.CompositorFrame.{CompositorFrame}
-use Rattle.vz_frame.specs.declared.message.Message.TheVariants.{Close}
-use Rattle.vz_rules.specs.declared.entry.Event.TheVariants.{Over}
-use Rattle.vz_rules.specs.declared.entry.Refusal.{Refusal}
+use Rattle.vz_frame.specs.{declared.frame.CompositorFrame.CompositorFrame, declared.message.Message.TheVariants.Close}
+use Rattle.vz_rules.specs.{declared.entry.Event.TheVariants.Over, declared.entry.Refusal.Refusal, Singly.rising, Singly.going, Singly.as_one_rises}
 use Rattle.vz_rules.specs.declared.entry.State.TheVariants.{Active, Past, Dropped}
-use Rattle.vz_rules.specs.Plan.{Plan}
+use Rattle.vz_rules.specs.{Plan.Plan, Returns.give_back, Returns.feed, Returns.mark_fed, Step.answer_to, Step.begin_answer, Step.done_answer}
 use Rattle.vz_rules.specs.World.{World, Client, Surface, Submission, FrameData, opening, is_waiting, is_active, is_on, is_in_flight}
 use Rattle.vz_rules.specs.World.{has_sub, sub_of}
-use Rattle.vz_rules.specs.Singly.{rising, going, as_one_rises}
 use Rattle.vz_rules.specs.Reach.{naming, drop_on}
-use Rattle.vz_rules.specs.Returns.{give_back, feed, mark_fed}
 use Rattle.vz_rules.specs.declared.entry.Reply.TheVariants as reply
 use Rattle.vz_rules.specs.Messages.{Answer, says, accepted, new_submission, replace_on, taking, unless_refused, in_use, upload_answer}
 use Rattle.vz_rules.specs.Messages.{hierarchy_refusal, hierarchy_answer, root_answer, await_answer, message_answer}
-use Rattle.vz_rules.specs.Step.{answer_to, begin_answer, done_answer}
 use Rattle.vz_rules.proofs.Members.{map_contains, push_contains}
-use Rattle.vz_surface_manager.specs.Flown.{Flown, AreFlown, subs_of, flies}
-use Rattle.vz_surface_manager.specs.Rosters.{IsRosterOf}
+use Rattle.vz_surface_manager.specs.{Flown.Flown, Flown.AreFlown, Flown.subs_of, Flown.flies, Rosters.IsRosterOf}
+use Rattle.std.proofs.lemmas.Bool.Decides.{nat_tests}
 
 -- a submission is still there, as it was accepted
 abbrev StaysIn : List Submission → Submission → Type 0
@@ -53,8 +44,7 @@ flown_changed w v f g e changed same h =
     flown_kept w v f e (λ s c. (g s, subst (λ (l : List Submission). Contains l (g s)) (sym changed) (map_contains g w.subs s c), same s)) h
 
 flown_same : (w v : World) (f : Option (List Flown)) → v.in_flight ≡ w.in_flight → v.subs ≡ w.subs → AreFlown w f → AreFlown v f
-flown_same w v f e same h =
-    flown_kept w v f e (λ s c. (s, subst (λ (l : List Submission). Contains l s) (sym same) c, refl)) h
+flown_same w v f e same h = grind (arith, nat_tests, flown_kept w v f e)
 
 -- What follows a step
 
@@ -72,9 +62,7 @@ flown_fed presented w f h = flown_changed w _ f (mark_fed w presented) refl refl
 
 risen_by : (one past : Bool) (t : Submission)
     → (cond one (record t { state = Active; was_active = true }) (cond past (record t { state = Past }) t)).submitted ≡ t.submitted
-risen_by true past t = refl
-risen_by false true t = refl
-risen_by false false t = refl
+risen_by one past t = grind (arith, nat_tests)
 
 pub flown_risen : (s : Submission) (w : World) (f : Option (List Flown)) → AreFlown w f → AreFlown (rising s w) f
 unfolding rising
@@ -83,8 +71,7 @@ flown_risen s w f h =
     (λ t. risen_by (same_sub (sub_of t) (sub_of s)) (is_active t && is_on s.submitted.id t) t) h
 
 dropped_by : (t : Bool) (s : Submission) → (cond t (record s { state = Dropped }) s).submitted ≡ s.submitted
-dropped_by true s = refl
-dropped_by false s = refl
+dropped_by t s = grind (arith, nat_tests)
 
 pub flown_gone : (c : Surface) (w : World) (f : Option (List Flown)) → AreFlown w f → AreFlown (going c w) f
 unfolding going
@@ -120,8 +107,7 @@ flown_accepted w c local frame f h =
 -- by the way that is taken
 either : (w : World) (f : Option (List Flown)) (t : Bool) (a b : Answer) → AreFlown a.world f → AreFlown b.world f
     → AreFlown (cond t a b).world f
-either w f true a b h k = h
-either w f false a b h k = k
+either w f t a b h k = grind (arith, nat_tests)
 
 refused_or : (w : World) (f : Option (List Flown)) (c : Client) (o : Option Refusal) (a : Answer) → AreFlown w f → AreFlown a.world f
     → AreFlown (unless_refused w c o a).world f
@@ -131,25 +117,21 @@ refused_or w f c (Some r) a h k = flown_taking (λ x. x) c w f h
 pub flown_uploaded : (w : World) (c : Client) (id : ℕ) (block : Block) (f : Option (List Flown)) → AreFlown w f
     → AreFlown (upload_answer w c id block).world f
 unfolding upload_answer
-flown_uploaded w c id block f h =
-    either w f (in_use c.resources id) _ _ (flown_taking (λ x. x) c w f h) (flown_same w _ f refl refl h)
+flown_uploaded w c id block f h = grind (arith, nat_tests, either w f (in_use c.resources id), flown_taking, flown_same w)
 
 pub flown_related : (w : World) (c : Client) (parent child : FrameSinkId) (f : Option (List Flown)) → AreFlown w f
     → AreFlown (hierarchy_answer w c parent child).world f
 unfolding hierarchy_answer
-flown_related w c parent child f h =
-    refused_or w f c (hierarchy_refusal w c parent child) _ h (flown_same w _ f refl refl h)
+flown_related w c parent child f h = grind (arith, nat_tests, refused_or w f c (hierarchy_refusal w c parent child), flown_same w)
 
 pub flown_rooted : (w : World) (c : Client) (local : LocalSurfaceId) (f : Option (List Flown)) → AreFlown w f
     → AreFlown (root_answer w c local).world f
 unfolding root_answer
-flown_rooted w c local f h =
-    either w f (c.number == 1) _ _ (flown_same w _ f refl refl h) (flown_taking (λ x. x) c w f h)
+flown_rooted w c local f h = grind (arith, nat_tests, either w f, flown_same w, flown_taking)
 
 begun_by : (f : Option (List Flown)) (o : Option ℕ) (g : ℕ → Answer) (b : Answer) → ((n : ℕ) → AreFlown (g n).world f)
     → AreFlown b.world f → AreFlown (elim o as (λ o. Answer) [ Some n ↦ g n | None ↦ b ]).world f
-begun_by f None g b h k = k
-begun_by f (Some n) g b h k = h n
+begun_by f o g b h k = grind (arith, nat_tests)
 
 pub flown_awaited : (w : World) (c : Client) (f : Option (List Flown)) → AreFlown w f → AreFlown (await_answer w c).world f
 unfolding await_answer
@@ -181,15 +163,13 @@ flown_done w = done_by w w.in_flight refl
 -- What is told
 
 flies_by : (f : Option (List Flown)) (sub : Sub) → flies f sub ≡ is_in_flight (option_map subs_of f) sub
-flies_by None sub = refl
-flies_by (Some flown) sub = refl
+flies_by f sub = grind (arith, nat_tests)
 
 pub flown_flies : (w : World) (f : Option (List Flown)) (sub : Sub) → AreFlown w f → flies f sub ≡ is_in_flight w.in_flight sub
 flown_flies w f sub h = flies_by f sub ∙ ap (λ (o : Option (List Sub)). is_in_flight o sub) (sym h.drawn)
 
 some_by : (f : Option (List Flown)) → is_some f ≡ is_some (option_map subs_of f)
-some_by None = refl
-some_by (Some flown) = refl
+some_by f = grind (arith, nat_tests)
 
 pub flown_some : (w : World) (f : Option (List Flown)) → AreFlown w f → is_some f ≡ is_some w.in_flight
 flown_some w f h = some_by f ∙ ap (λ (o : Option (List Sub)). is_some o) (sym h.drawn)

@@ -1,27 +1,18 @@
 -- What a store finds for the machine's state.
-use Rattle.std.proofs.Common.{◌≡◌, Bool, true, false, ◌&&◌, Option, Some, None, List, [], ◌∷◌, find, refl, ap, sym, ◌∙◌, cond, ◌||◌, Contains, is_some}
-use Rattle.std.specs.Option.{option_map}
-use Rattle.std.specs.List.{list_any}
-use Rattle.std.proofs.lemmas.Bool.{and_from, and_parts, both_ways}
-use Rattle.vz_ids.specs.declared.SurfaceId.{SurfaceId}
-use Rattle.vz_ids.specs.Ids.{same_sub}
-use Rattle.vz_frame.specs.declared.rules.Rule.{Rule}
-use Rattle.vz_frame.specs.declared.rules.Rule.TheVariants.{ListedTwice}
-use Rattle.vz_frame.specs.Frame.{first_broken, breaks, rules_in_order}
+use Rattle.std.proofs.Common.{◌≡◌, Bool, true, false, ◌&&◌, Option, Some, None, List, [], ◌∷◌, find, refl, ap, sym, ◌∙◌, cond, ◌||◌, Contains, is_some, arith}
+use Rattle.std.specs.{Option.option_map, List.list_any}
+use Rattle.std.proofs.{lemmas.Bool.and_from, lemmas.Bool.and_parts, lemmas.Bool.both_ways, lemmas.Bool.Decides.nat_tests}
+use Rattle.vz_ids.specs.{declared.SurfaceId.SurfaceId, Ids.same_sub}
+use Rattle.vz_frame.specs.{declared.rules.Rule.Rule, Frame.first_broken, Frame.breaks}
 use Rattle.vz_rules.specs.World.{World, Client, Surface, Submission, FrameData, is_waiting, is_active, is_on, sub_of}
 use Rattle.vz_rules.specs.Kept.{KeepsAlways, IsWhole}
 use Rattle.vz_rules.proofs.Members.{map_contains, contains_at, at_same, any_from, find_at, found, none_at, at_contains}
-use Rattle.vz_rules.proofs.Counts.{one_place}
-use Rattle.vz_rules.proofs.Reached.{self_same}
-use Rattle.vz_rules.proofs.Kept_singly.{own_sub}
-use Rattle.vz_surfaces.specs.declared.held.Held.{Held}
-use Rattle.vz_surfaces.specs.Stored.{Stored, stored_of, bare_sub}
-use Rattle.vz_surfaces.specs.Reading.{held_of, active_on, waiting_at}
-use Rattle.vz_surfaces.specs.Memory.{is_waiting_in}
+use Rattle.vz_rules.proofs.{Counts.one_place, Reached.self_same, Kept_singly.own_sub}
+use Rattle.vz_surfaces.specs.{declared.held.Held.Held, Memory.is_waiting_in}
+use Rattle.vz_surfaces.specs.{Stored.Stored, Stored.stored_of, Stored.bare_sub, Reading.held_of, Reading.active_on, Reading.waiting_at}
 use Rattle.vz_surfaces.proofs.Telling.{tells_acting, tells_waiting}
 use Rattle.vz_returns.specs.Listed.{lists_twice, listed_by}
-use Rattle.vz_surface_manager.specs.Live.{AreWhole}
-use Rattle.vz_surface_manager.specs.Ended_subs.{listings_of}
+use Rattle.vz_surface_manager.specs.{Live.AreWhole, Ended_subs.listings_of}
 
 -- the frame of a submission that is found
 abbrev pub frame_of : Option Submission → Option Held
@@ -29,18 +20,15 @@ frame_of o = option_map held_of (option_map (λ (s : Submission). s.submitted) o
 
 pub acts_in : (w : World) (st : Stored) (id : SurfaceId) (o : Option Held) → KeepsAlways w → st ≡ stored_of w → o ≡ option_map held_of (active_on st id)
     → o ≡ frame_of (find (λ s. is_active s && is_on id s) w.subs)
-acts_in w st id o h is e =
-    e ∙ (ap (λ (s : Stored). option_map held_of (active_on s id)) is ∙ ap (option_map held_of) (tells_acting w id h))
+acts_in w st id o h is e = grind (arith, nat_tests, tells_acting w id h)
 
 pub waits_in : (w : World) (st : Stored) (id : SurfaceId) (o : Option Held) → KeepsAlways w → st ≡ stored_of w → o ≡ option_map held_of (waiting_at st id)
     → o ≡ frame_of (find (λ s. is_waiting s && is_on id s) w.subs)
-waits_in w st id o h is e =
-    e ∙ (ap (λ (s : Stored). option_map held_of (waiting_at s id)) is ∙ ap (option_map held_of) (tells_waiting w id h))
+waits_in w st id o h is e = grind (arith, nat_tests, tells_waiting w id h)
 
 -- what it lists
 pub listings_read : (o : Option Submission) → listings_of (frame_of o) ≡ listed_by o
-listings_read None = refl
-listings_read (Some s) = refl
+listings_read o = grind (arith, nat_tests)
 
 -- accepted frames list no resource twice
 none_found : (p : Rule → Bool) (r : Rule) (rules : List Rule) → find p rules ≡ None → Contains rules r → p r ≡ false
@@ -55,16 +43,10 @@ none_found p r rules e c = none_at p rules r (by_find rules e) c
 
 pub whole_once : (i : FrameData) → IsWhole i → lists_twice i.frame.resources ≡ false
 unfolding first_broken breaks
-whole_once i h =
-    none_found (breaks i.frame) ListedTwice rules_in_order h.breaks_none
-    (at_contains rules_in_order 6 ListedTwice refl)
+whole_once i h = grind (arith, nat_tests, none_found, at_contains)
 
 pub found_once : (p : Submission → Bool) (subs : List Submission) → AreWhole subs → lists_twice (listed_by (find p subs)) ≡ false
-found_once p subs h = by (find p subs) refl
-  where
-    by : (o : Option Submission) → find p subs ≡ o → lists_twice (listed_by o) ≡ false
-    by None e = refl
-    by (Some s) e = whole_once s.submitted (h s (find_at p subs s e).0)
+found_once p subs h = grind (arith, nat_tests, whole_once, find_at)
 
 -- the client of a submission, and of a surface
 pub client_of_surface : (w : World) (c : Surface) → KeepsAlways w → Contains w.surfaces c → (x : Client) × Contains w.clients x × (x.number ≡ c.client)

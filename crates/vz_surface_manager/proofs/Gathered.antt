@@ -1,24 +1,18 @@
 -- Submissions that are gathered one after the other, each once.
-use Rattle.std.proofs.Common.{◌≡◌, ℕ, zero, suc, ◌+◌, Bool, true, false, ◌||◌, ◌&&◌, ◌==◌, Some, List, [], ◌∷◌, ◌++◌, refl, ap, sym, ◌∙◌}
+use Rattle.std.proofs.Common.{◌≡◌, ℕ, zero, suc, ◌+◌, Bool, true, false, Some, List, [], ◌∷◌, ◌++◌, refl, ap, sym, ◌∙◌}
 use Rattle.std.proofs.Common.{◌⊎◌, inl, inr, IsFalse, Contains, slice_get, take, drop, arith, cond, subst, if◌then◌else◌}
-use Rattle.std.proofs.lemmas.Bool.Decides.{nat_tests}
+use Rattle.std.proofs.{lemmas.Bool.Decides.nat_tests, lemmas.Bool.or_parts as or_no, lemmas.Bool.or_from as no_or}
 use Rattle.std.specs.List.{list_any}
-use Rattle.vz_ids.specs.declared.Sub.{Sub}
-use Rattle.vz_ids.specs.Ids.{same_sub}
-use Rattle.vz_rules.specs.Closure.{adding}
-use Rattle.vz_rules.specs.World.{has_sub}
+use Rattle.vz_ids.specs.{declared.Sub.Sub, Ids.same_sub}
+use Rattle.vz_rules.specs.{Closure.adding, World.has_sub}
 use Rattle.vz_rules.proofs.Members.{contains_none, contains_cases, contains_here, contains_there, contains_push, push_contains}
 use Rattle.vz_rules.proofs.Members.{push_contains_last, any_at, none_at, at_contains, map_contains}
-use Rattle.vz_surface_manager.specs.Flown.{Flown, subs_of}
-use Rattle.vz_surface_manager.specs.Rosters.{same_flown}
+use Rattle.vz_surface_manager.specs.{Flown.Flown, Flown.subs_of, Rosters.same_flown}
 use Rattle.vz_surface_manager.proofs.Entries.{named}
-
-eq_sym : (a b : ℕ) → (a == b) ≡ (b == a)
-eq_sym a b = grind (arith, nat_tests)
+use Rattle.vz_rules.proofs.Facts.{flip as eq_sym}
 
 pub sub_sym : (a b : Sub) → same_sub a b ≡ same_sub b a
-sub_sym a b = ap (λ t. t && (a.ordinal == b.ordinal)) (eq_sym a.client b.client)
-    ∙ ap (λ t. (b.client == a.client) && t) (eq_sym a.ordinal b.ordinal)
+sub_sym a b = grind (arith, nat_tests, eq_sym a.client b.client, eq_sym a.ordinal b.ordinal)
 
 abbrev one_added : List Flown → Flown → List Flown
 one_added xs f = if list_any (same_flown f) xs then xs else xs ++ f ∷ []
@@ -53,9 +47,7 @@ adding_from xs (g ∷ ys) f c =
 module _ (P : Flown → Type 0) (alone : (f g : Flown) → P f → P g → same_flown f g ≡ true → f ≡ g) where
   there_by : (t : Bool) (xs : List Flown) (f : Flown) → list_any (same_flown f) xs ≡ t → ((g : Flown) → Contains xs g → P g) → P f
       → Contains (cond t xs (xs ++ f ∷ [])) f
-  there_by true xs f e all p =
-      let m = any_at (same_flown f) xs e in
-      subst (λ x. Contains xs x) (sym (alone f m.0 p (all m.0 m.1) m.2)) m.1
+  there_by true xs f e all p = grind (arith, nat_tests, any_at (same_flown f) xs e)
   there_by false xs f e all p = push_contains_last xs f
 
   all_by : (t : Bool) (xs : List Flown) (f g : Flown) → ((g : Flown) → Contains xs g → P g) → P f
@@ -81,29 +73,17 @@ abbrev pub Once : List Flown → Type 0
 Once [] = Unit {0}
 Once (f ∷ fs) = IsFalse (has_sub (subs_of fs) f.0) × Once fs
 
-or_no : (a b : Bool) → (a || b) ≡ false → (a ≡ false) × (b ≡ false)
-or_no true b h = absurd (cc)
-or_no false b h = (refl, h)
-
-no_or : (a b : Bool) → a ≡ false → b ≡ false → (a || b) ≡ false
-no_or a b e f = rw (e, f)
-
 has_push : (xs : List Flown) (g : Flown) (sub : Sub) → has_sub (subs_of xs) sub ≡ false → same_sub sub g.0 ≡ false
     → has_sub (subs_of (xs ++ g ∷ [])) sub ≡ false
 has_push [] g sub e f = no_or (same_sub sub g.0) false f refl
-has_push (x ∷ xs) g sub e f =
-    let parts = or_no (same_sub sub x.0) (has_sub (subs_of xs) sub) e in
-    no_or (same_sub sub x.0) (has_sub (subs_of (xs ++ g ∷ [])) sub) parts.0 (has_push xs g sub parts.1 f)
+has_push (x ∷ xs) g sub e f = grind (arith, nat_tests, or_no (same_sub sub x.0) (has_sub (subs_of xs) sub) e, no_or (same_sub sub x.0), has_push xs g sub)
 
 once_push : (xs : List Flown) (g : Flown) → Once xs → has_sub (subs_of xs) g.0 ≡ false → Once (xs ++ g ∷ [])
 once_push [] g h e = (refl, tt)
-once_push (x ∷ xs) g h e =
-    let parts = or_no (same_sub g.0 x.0) (has_sub (subs_of xs) g.0) e in
-    (has_push xs g x.0 h.0 (sub_sym x.0 g.0 ∙ parts.0), once_push xs g h.1 parts.1)
+once_push (x ∷ xs) g h e = grind (arith, nat_tests, or_no (same_sub g.0 x.0) (has_sub (subs_of xs) g.0) e, has_push xs g x.0 h.0, sub_sym x.0 g.0, once_push xs g h.1)
 
 once_by : (t : Bool) (xs : List Flown) (g : Flown) → list_any (same_flown g) xs ≡ t → Once xs → Once (cond t xs (xs ++ g ∷ []))
-once_by true xs g e h = h
-once_by false xs g e h = once_push xs g h (sym (named xs g) ∙ e)
+once_by t xs g e h = grind (arith, nat_tests, once_push xs g h, named xs g)
 
 pub adding_once : (xs ys : List Flown) → Once xs → Once (adding same_flown xs ys)
 adding_once xs [] h = h

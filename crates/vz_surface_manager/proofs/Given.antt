@@ -1,39 +1,23 @@
 -- What goes back to clients, and what is temporary: what stands for a state stands for the next one.
-use Rattle.std.proofs.Common.{◌≡◌, ℕ, ◌+◌, ◌≤◌, Option, Some, None, List, [], map, refl, ap, sym, ◌∙◌, subst, arith, Contains, Bool, true, false, ◌∷◌, ◌++◌, length, cond}
+use Rattle.std.proofs.Common.{◌≡◌, ℕ, ◌+◌, ◌≤◌, Option, Some, None, List, [], map, refl, ap, sym, ◌∙◌, subst, arith, Contains, length}
 use Rattle.vz_base.specs.declared.limits.TheConstants.{TEMPORARY_TICKS}
-use Rattle.vz_ids.specs.declared.FrameSinkId.{FrameSinkId}
-use Rattle.vz_ids.specs.declared.SurfaceId.{SurfaceId}
-use Rattle.vz_ids.specs.declared.Sub.{Sub}
+use Rattle.vz_ids.specs.{declared.FrameSinkId.FrameSinkId, declared.SurfaceId.SurfaceId, declared.Sub.Sub}
 use Rattle.vz_frame.specs.declared.message.Message.TheVariants.{Close}
-use Rattle.vz_rules.specs.Plan.{Plan}
-use Rattle.vz_rules.specs.World.{World, Client, Surface}
-use Rattle.vz_rules.specs.Returns.{give_back, feed, mark_fed}
-use Rattle.vz_rules.specs.Messages.{taking, reclaim, message_answer}
-use Rattle.vz_rules.specs.Step.{begin_answer, next_tick}
-use Rattle.vz_rules.specs.Kept.{KeepsAlways}
-use Rattle.std.proofs.lemmas.List.{length-append}
-use Rattle.vz_refs.specs.Referring.{Referring, Ranged, Temporary, is_named_in, lasting, of_others, keeping}
-use Rattle.vz_surface_manager.specs.Kept_surfaces.{AreKept}
-use Rattle.vz_surface_manager.proofs.Sets_kept.{stays_given, stays_taken}
-use Rattle.vz_surface_manager.proofs.Fed_kept.{stays_fed}
-use Rattle.vz_surface_manager.proofs.Ticked_kept.{kept_ticking}
-use Rattle.vz_surface_manager.proofs.Closed_kept.{kept_closing}
-use Rattle.vz_surface_manager.proofs.Kept_new.{kept_new}
+use Rattle.vz_rules.specs.{Plan.Plan, Returns.give_back, Returns.feed, Returns.mark_fed, Messages.taking, Messages.reclaim, Messages.message_answer}
+use Rattle.vz_rules.specs.{World.World, World.Client, World.Surface, Step.begin_answer, Step.next_tick, Kept.KeepsAlways}
+use Rattle.std.proofs.{lemmas.List.length-append, lemmas.Bool.Decides.nat_tests}
+use Rattle.vz_refs.specs.Referring.{Referring, Ranged, Temporary, lasting, of_others, keeping}
+use Rattle.vz_surface_manager.specs.{Kept_surfaces.AreKept, Live.Live, Live.AreLive, Changes.IsNew}
+use Rattle.vz_surface_manager.proofs.{Sets_kept.stays_given, Sets_kept.stays_taken, Quiet.live_from, Quiet.live_by, Quiet.feeds_only}
+use Rattle.vz_surface_manager.proofs.{Fed_kept.stays_fed, Ticked_kept.kept_ticking, Closed_kept.kept_closing, Kept_new.kept_new, Live_kept.kept_same}
 use Rattle.vz_surfaces.specs.Stored.{Stored, marking}
 use Rattle.vz_surfaces.proofs.Stores_kept as stored
-use Rattle.vz_surfaces.proofs.Following.{follows_closed}
-use Rattle.vz_surfaces.proofs.Telling.{tells_exists}
-use Rattle.vz_surface_manager.proofs.Stored.{told_stays, last_given, last_fed, last_begun}
-use Rattle.vz_surface_manager.proofs.Told_messages.{told_closed}
-use Rattle.vz_returns.specs.Lent.{Lent, AreLent}
+use Rattle.vz_surfaces.proofs.{Following.follows_closed, Telling.tells_exists}
+use Rattle.vz_surface_manager.proofs.{Stored.told_stays, Stored.last_given, Stored.last_fed, Stored.last_begun, Told_messages.told_closed}
+use Rattle.vz_returns.specs.{Lent.Lent, Lent.AreLent, Owed.OwedAndRoom, Owed.AreOwed}
 use Rattle.vz_returns.proofs.Lent_kept.{lent_fed, lent_begun, lent_closed}
-use Rattle.vz_returns.specs.Owed.{OwedAndRoom, AreOwed}
 use Rattle.vz_returns.proofs.Owed_kept as owed
 use Rattle.vz_surface_manager.proofs.Flights_kept.{flown_given, flown_fed, flown_taking, flown_begun, flown_closed}
-use Rattle.vz_surface_manager.specs.Live.{Live, AreLive}
-use Rattle.vz_surface_manager.specs.Changes.{IsNew}
-use Rattle.vz_surface_manager.proofs.Live_kept.{kept_same}
-use Rattle.vz_surface_manager.proofs.Quiet.{live_from, live_by, feeds_only}
 
 given_subs : (w : World) → (give_back w).subs ≡ w.subs
 unfolding give_back
@@ -103,8 +87,4 @@ live_kept w c v r id until always new late sets temporary spare h =
 -- at most one surface more is kept
 pub keeps_one : (sets : List Ranged) (id : SurfaceId) (until : ℕ) (kept : List Temporary) → length (keeping sets id until kept) ≤ length kept + 1
 unfolding keeping
-keeps_one sets id until kept =
-    elim (is_named_in sets id) as (λ (t : Bool). length (cond t kept (kept ++ record { id = id; until = until } ∷ [])) ≤ length kept + 1) [
-      | true ↦ omega arith
-      | false ↦ omega (arith, length-append kept (record { id = id; until = until } ∷ []))
-    ]
+keeps_one sets id until kept = grind (arith, nat_tests, length-append kept)

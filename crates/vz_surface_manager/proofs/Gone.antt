@@ -1,60 +1,37 @@
 -- A surface is destroyed: what hung on it stands for the state then.
-use Rattle.std.proofs.Common.{◌≡◌, ℕ, ◌+◌, ◌-◌, ◌≤◌, Bool, true, false, not, ◌&&◌, ◌||◌, Option, Some, None, List, [], ◌∷◌, length, map, find, refl, ap, sym, ◌∙◌, subst, arith, cond, Contains, sum_by, is_some}
-use Rattle.std.specs.Option.{option_map}
-use Rattle.std.specs.List.{list_any}
-use Rattle.std.proofs.lemmas.Bool.{and_from, and_parts, both_ways}
-use Rattle.vz_ids.specs.declared.SurfaceId.{SurfaceId}
-use Rattle.vz_ids.specs.declared.Sub.{Sub}
-use Rattle.vz_ids.specs.Ids.{same_surface}
+use Rattle.std.proofs.Common.{◌≡◌, ℕ, ◌+◌, ◌-◌, ◌≤◌, Bool, true, false, not, ◌&&◌, ◌||◌, Option, Some, None, List, [], ◌∷◌, map, find, refl, ap, sym, ◌∙◌, subst, arith, cond, Contains, sum_by, is_some}
+use Rattle.std.specs.{Option.option_map, List.list_any}
+use Rattle.std.proofs.{lemmas.Bool.and_from, lemmas.Bool.and_parts, lemmas.Bool.both_ways, lemmas.Bool.Decides.nat_tests}
+use Rattle.vz_ids.specs.{declared.SurfaceId.SurfaceId, declared.Sub.Sub, Ids.same_surface}
 use Rattle.vz_frame.specs.declared.frame.Listing.{Listing}
-use Rattle.vz_rules.specs.declared.entry.Lost.{Lost}
-use Rattle.vz_rules.specs.declared.entry.State.TheVariants.{Dropped}
+use Rattle.vz_rules.specs.{declared.entry.Lost.Lost, declared.entry.State.TheVariants.Dropped, Reach.naming, Reach.drop_on, Singly.going}
 use Rattle.vz_rules.specs.World.{World, Surface, Submission, existing, is_waiting, is_active, is_on, sub_of}
-use Rattle.vz_rules.specs.Reach.{naming, drop_on}
-use Rattle.vz_rules.specs.Singly.{going}
 use Rattle.vz_rules.proofs.Members.{contains_at, at_same, find_at, any_from, found}
-use Rattle.vz_rules.proofs.Reached.{self_same}
-use Rattle.vz_rules.proofs.Rising.{find_map}
-use Rattle.vz_rules.proofs.Kept_facts.{surfaces_apart}
+use Rattle.vz_rules.proofs.{Reached.self_same, Rising.find_map, Kept_facts.surfaces_apart}
 use Rattle.vz_refs.specs.Referring.{Referring, removing}
-use Rattle.vz_surface_manager.specs.Kept_surfaces.{has_kept}
-use Rattle.vz_surface_manager.proofs.Gone_kept.{going_both}
-use Rattle.vz_surfaces.specs.declared.held.Held.{Held}
+use Rattle.vz_surface_manager.specs.{Kept_surfaces.has_kept, Changes.IsGoing}
+use Rattle.vz_surface_manager.proofs.{Gone_kept.going_both, Flights_kept.flown_gone, Live_kept.whole_mapped, Live_kept.kept_same, Live_kept.ended_is}
+use Rattle.vz_surfaces.specs.{declared.held.Held.Held, Keeping.KeepsStored, Memory.acting_on as stored_acting, Memory.waiting_on as stored_waiting}
 use Rattle.vz_surfaces.specs.Stored.{Stored, stored_of, bare_surface, bare_sub, destroying}
 use Rattle.vz_surfaces.specs.Reading.{standing, stands, held_of, active_on, waiting_at}
-use Rattle.vz_surfaces.specs.Keeping.{KeepsStored}
-use Rattle.vz_surfaces.specs.Memory.{acting_on as stored_acting, waiting_on as stored_waiting}
-use Rattle.vz_surfaces.proofs.Following.{follows_destroyed}
-use Rattle.vz_surfaces.proofs.Telling.{standing_bare, tells_exists}
-use Rattle.vz_surfaces.proofs.Kept_of_world.{keeps_of_world}
+use Rattle.vz_surfaces.proofs.{Following.follows_destroyed, Telling.standing_bare, Telling.tells_exists, Kept_of_world.keeps_of_world}
 use Rattle.vz_damage.specs.Told.{Damaged, told_on}
 use Rattle.vz_surface_manager.proofs.Told_gone.{told_gone}
-use Rattle.vz_returns.specs.Lent.{Lent, AreLent, IsLender}
-use Rattle.vz_returns.specs.Listed.{lists_twice, listed_by}
-use Rattle.vz_returns.specs.Changes.{IsGoing as Releases}
-use Rattle.vz_returns.proofs.Alive.{one_there}
-use Rattle.vz_returns.proofs.Lent_kept.{lends}
-use Rattle.vz_returns.specs.declared.ended.Ended.{Ended}
+use Rattle.vz_returns.specs.{Lent.Lent, Lent.AreLent, Lent.IsLender, Changes.IsGoing as Releases, declared.ended.Ended.Ended}
+use Rattle.vz_returns.proofs.{Alive.one_there, Lent_kept.lends}
 use Rattle.vz_returns.specs.Owed.{OwedAndRoom, AreOwed, ended_of, active_on as sub_active_on, waiting_on as sub_waiting_on}
-use Rattle.vz_surface_manager.specs.Live.{Live, AreLive, wants}
-use Rattle.vz_surface_manager.specs.Ended_subs.{listings_of, ended_in, wanted_by}
-use Rattle.vz_surface_manager.specs.Changes.{IsGoing}
+use Rattle.vz_surface_manager.specs.{Live.Live, Live.AreLive, Live.wants, Ended_subs.listings_of, Ended_subs.ended_in, Ended_subs.wanted_by}
 use Rattle.vz_surface_manager.proofs.Wanted_places.{sum_less, sum_one, one_wants, wanted_of, wants_not}
-use Rattle.vz_surface_manager.proofs.Flights_kept.{flown_gone}
-use Rattle.vz_surface_manager.proofs.Live_kept.{whole_mapped, kept_same, ended_is}
 use Rattle.vz_surface_manager.proofs.Found.{frame_of, acts_in, waits_in, listings_read, found_once, client_of_surface}
 
 some_same : {A : Type 0} {a b : A} → Some a ≡ Some b → a ≡ b
 some_same f = cc
 
 frame_drops : (a : Bool) (t : Submission) → (cond a (record t { state = Dropped }) t).submitted ≡ t.submitted
-frame_drops true t = refl
-frame_drops false t = refl
+frame_drops a t = grind (arith, nat_tests)
 
 drop_wants : (a b on : Bool) (t : Submission) → is_waiting t ≡ a → ((a && on) ≡ true) → wants (cond ((a || b) && (on || false)) (record t { state = Dropped }) t) ≡ 0
-drop_wants true b true t e f = refl
-drop_wants true b false t e f = absurd (cc)
-drop_wants false b on t e f = absurd (cc)
+drop_wants a b on t e f = grind (arith, nat_tests)
 
 drop_keeps : (a b on : Bool) (t : Submission) → is_waiting t ≡ a → ((a && on) ≡ false) → wants (cond ((a || b) && (on || false)) (record t { state = Dropped }) t) ≡ wants t
 drop_keeps true b true t e f = absurd (cc)
@@ -64,36 +41,23 @@ drop_keeps false true false t e f = refl
 drop_keeps false false on t e f = refl
 
 pub wanted_frame : (p : Submission → Bool) (subs : List Submission) → ((s : Submission) → p s ≡ true → is_waiting s ≡ true) → wanted_by (frame_of (find p subs)) ≡ wanted_of (find p subs)
-wanted_frame p subs waits = by (find p subs) refl
-  where
-    by : (o : Option Submission) → find p subs ≡ o → wanted_by (frame_of o) ≡ wanted_of o
-    by None e = refl
-    by (Some s) e = sym (ap {B = ℕ} (λ (b : Bool). cond b (length s.submitted.frame.metadata.references + 1) 0) (waits s (find_at p subs s e).1))
+wanted_frame p subs waits = grind (arith, nat_tests, frame_of, wanted_of, find_at p subs)
 
 pub wanted_fits : (p : Submission → Bool) (subs : List Submission) → wanted_of (find p subs) ≤ sum_by wants subs
-wanted_fits p subs = by (find p subs) refl
-  where
-    by : (o : Option Submission) → find p subs ≡ o → wanted_of o ≤ sum_by wants subs
-    by None e = omega arith
-    by (Some s) e = one_wants subs s (find_at p subs s e).0
+wanted_fits p subs = grind (arith, nat_tests, wanted_of, one_wants, find_at)
 
 names_bare : (o : Option Submission) → option_map (λ (s : Submission). sub_of s) (option_map bare_sub o) ≡ option_map (λ (s : Submission). sub_of s) o
-names_bare None = refl
-names_bare (Some s) = refl
+names_bare o = grind (arith, nat_tests)
 
 -- the name of what waits on a surface of a store
 pub stored_waits : (w : World) (id : SurfaceId) → stored_waiting (stored_of w) id ≡ sub_waiting_on w id
 unfolding stored_waiting stored_of
-stored_waits w id =
-    ap (option_map (λ (s : Submission). sub_of s)) (find_map (λ s. is_waiting s && is_on id s) bare_sub w.subs (λ x. refl))
-    ∙ names_bare (find (λ s. is_waiting s && is_on id s) w.subs)
+stored_waits w id = grind (arith, nat_tests, find_map, names_bare)
 
 -- and of what is active there
 pub stored_acts : (w : World) (id : SurfaceId) → stored_acting (stored_of w) id ≡ sub_active_on w id
 unfolding stored_acting stored_of
-stored_acts w id =
-    ap (option_map (λ (s : Submission). sub_of s)) (find_map (λ s. is_active s && is_on id s) bare_sub w.subs (λ x. refl))
-    ∙ names_bare (find (λ s. is_active s && is_on id s) w.subs)
+stored_acts w id = grind (arith, nat_tests, find_map, names_bare)
 
 module _ (w : World) (d : Surface) (id : SurfaceId) (v : Live) (h : IsGoing w d id v) where
   abbrev there : Submission → Bool
@@ -109,10 +73,7 @@ module _ (w : World) (d : Surface) (id : SurfaceId) (v : Live) (h : IsGoing w d 
   back = sym h.name
 
   alone : (c : Surface) → Contains w.surfaces c → same_surface c.id d.id ≡ true → c ≡ d
-  alone c k e =
-      let n = contains_at w.surfaces c k in
-      let m = contains_at w.surfaces d h.known in
-      at_same w.surfaces n.0 m.0 c d n.1 m.1 (surfaces_apart w n.0 m.0 c d h.always n.1 m.1 e)
+  alone c k e = grind (arith, nat_tests, contains_at w.surfaces c k, contains_at w.surfaces d h.known, at_same w.surfaces, surfaces_apart w)
 
   existing_is : existing w d.id ≡ Some d
   existing_is = by (existing w d.id) refl
@@ -129,9 +90,7 @@ module _ (w : World) (d : Surface) (id : SurfaceId) (v : Live) (h : IsGoing w d 
 
   pub standing_is : standing id v.store.surfaces ≡ Some (bare_surface d)
   unfolding stored_of
-  standing_is =
-      (λ i. standing (back i) (h.live.store i).surfaces)
-      ∙ (standing_bare w.surfaces d.id ∙ ap (option_map bare_surface) existing_is)
+  standing_is = grind (arith, nat_tests, back, standing_bare w.surfaces d.id, existing_is)
 
   pub client_is : (client : ℕ) → Some client ≡ option_map (λ (c : Surface). c.client) (standing id v.store.surfaces) → client ≡ d.client
   client_is client e = some_same (e ∙ ap (option_map (λ (c : Surface). c.client)) standing_is)
@@ -155,19 +114,7 @@ module _ (w : World) (d : Surface) (id : SurfaceId) (v : Live) (h : IsGoing w d 
 
   pub releases : (client : ℕ) (o a : Option Held) (L M : List Listing) → client ≡ d.client → o ≡ frame_of waiting → a ≡ frame_of acting → L ≡ listings_of o → M ≡ listings_of a
       → Releases w d client L M v.lent
-  releases client o a L M own e f g k =
-      let listed : L ≡ listed_by waiting = g ∙ (ap listings_of e ∙ listings_read waiting) in
-      let acts : M ≡ listed_by acting = k ∙ (ap listings_of f ∙ listings_read acting) in
-      record {
-        always = h.always;
-        known = h.known;
-        own = sym own;
-        ends = listed;
-        ends_active = acts;
-        once = ap lists_twice listed ∙ found_once (λ t. is_waiting t && is_on d.id t) w.subs h.live.whole;
-        once_active = ap lists_twice acts ∙ found_once (λ t. is_active t && is_on d.id t) w.subs h.live.whole;
-        lent = h.live.lent;
-      }
+  releases client o a L M own e f g k = grind (arith, nat_tests, listings_read, found_once)
 
   wants_is : (o : Option Held) → o ≡ frame_of waiting → wanted_by o ≡ wanted_of waiting
   wants_is o e = ap wanted_by e ∙ wanted_frame there w.subs (λ s f. (and_parts (is_waiting s) (is_on d.id s) f).0)

@@ -1,26 +1,21 @@
 -- What is kept, as a surface is destroyed.
-use Rattle.std.proofs.Common.{◌≡◌, ◌+◌, Bool, true, false, not, ◌&&◌, ◌||◌, ◌⊎◌, inl, inr, Option, None, List, [], ◌∷◌, map, filter, refl, ap, sym, ◌∙◌, subst, cond, Contains, nat_lt}
+use Rattle.std.proofs.Common.{◌≡◌, ◌+◌, Bool, true, false, ◌&&◌, ◌⊎◌, inl, inr, Option, None, List, [], ◌∷◌, map, filter, refl, ap, sym, ◌∙◌, subst, cond, Contains, arith}
 use Rattle.std.specs.List.{list_any}
-use Rattle.std.proofs.lemmas.Bool.{and_parts, and_from, both_ways}
+use Rattle.std.proofs.{lemmas.Bool.and_parts, lemmas.Bool.and_from, lemmas.Bool.both_ways, lemmas.Bool.Decides.nat_tests}
 use Rattle.vz_base.specs.declared.limits.TheConstants.{TEMPORARY_TICKS}
-use Rattle.vz_ids.specs.declared.SurfaceId.{SurfaceId}
-use Rattle.vz_ids.specs.Ids.{same_surface}
-use Rattle.vz_rules.specs.declared.entry.State.TheVariants.{Dropped}
+use Rattle.vz_ids.specs.{declared.SurfaceId.SurfaceId, Ids.same_surface}
 use Rattle.vz_rules.specs.World.{World, Surface, Submission, FrameData, is_waiting, is_active, is_on, active_frames, frame_on}
-use Rattle.vz_rules.specs.Reach.{names, is_named_now, naming, has_closed, drop_on}
-use Rattle.vz_rules.specs.Singly.{as_one_goes, going}
-use Rattle.vz_rules.specs.Kept.{stands_in}
+use Rattle.vz_rules.specs.{Reach.names, Reach.is_named_now, Reach.naming, Reach.drop_on, Singly.as_one_goes, Singly.going, Kept.stands_in}
 use Rattle.vz_rules.proofs.Reached.{from_same}
 use Rattle.vz_rules.proofs.Members.{contains_map, map_contains, any_at, any_from, filter_has}
 use Rattle.vz_rules.proofs.Kept_reach.{AllNamed, named_is, named_after, naming_stays, stands_back}
 use Rattle.vz_refs.specs.Referring.{Temporary}
-use Rattle.vz_refs.specs.Referring.{Referring, is_set, removing}
+use Rattle.vz_refs.specs.Referring.{Referring, removing}
 use Rattle.vz_refs.specs.Meaning.{references_of}
 use Rattle.vz_refs.proofs.Keeping.{removed_ranges, removed_has}
 use Rattle.vz_surface_manager.specs.Kept_surfaces.{lasts, is_one, has_kept, names_it, AreNoted, IsKeptFor, AreKept}
 use Rattle.vz_surface_manager.proofs.Set_owners.{never, other_way, own_removing}
-use Rattle.vz_surface_manager.proofs.Risen_one.{active_cons, seen_as, seen_inactive, seen_off}
-use Rattle.vz_surface_manager.proofs.Risen_kept.{frame_of}
+use Rattle.vz_surface_manager.proofs.{Risen_one.active_cons, Risen_one.seen_as, Risen_one.seen_inactive, Risen_one.seen_off, Risen_kept.frame_of}
 
 -- what a submission is as a surface is destroyed
 pub data Drops (id : SurfaceId) (s : Submission) (r : Submission) : Type 0 where
@@ -28,34 +23,22 @@ pub data Drops (id : SurfaceId) (s : Submission) (r : Submission) : Type 0 where
   IsLeft : (is_active s ≡ true → is_on id s ≡ false) → r ≡ s → Drops id s r
 
 drops : (d : Surface) (s : Submission) → Drops d.id s (drop_on (d ∷ []) s)
-drops d s = by (is_waiting s) (is_active s) refl (is_on d.id s) refl
-  where
-    by : (a b : Bool) → is_active s ≡ b → (o : Bool) → is_on d.id s ≡ o → Drops d.id s (cond ((a || b) && (o || false)) (record s { state = Dropped }) s)
-    by true b e true f = IsDropped f refl refl refl
-    by true b e false f = IsLeft (λ k. f) refl
-    by false true e true f = IsDropped f refl refl refl
-    by false true e false f = IsLeft (λ k. f) refl
-    by false false e o f = IsLeft (λ k. absurd (both_ways (is_active s) e k)) refl
+drops d s = grind (arith, nat_tests, both_ways (is_active s))
 
 goes_id : (d x : Surface) (t : Bool) → (cond t (record x { destroyed = true }) x).id ≡ x.id
-goes_id d x true = refl
-goes_id d x false = refl
+goes_id d x t = grind (arith, nat_tests)
 
 goes_born : (x : Surface) (t : Bool) → (cond t (record x { destroyed = true }) x).born ≡ x.born
-goes_born x true = refl
-goes_born x false = refl
+goes_born x t = grind (arith, nat_tests)
 
 goes_named : (x : Surface) (t : Bool) → (cond t (record x { destroyed = true }) x).named ≡ x.named
-goes_named x true = refl
-goes_named x false = refl
+goes_named x t = grind (arith, nat_tests)
 
 goes_stands : (x : Surface) (t : Bool) → (cond t (record x { destroyed = true }) x).destroyed ≡ false → (t ≡ false) × (x.destroyed ≡ false)
-goes_stands x true e = absurd (cc)
-goes_stands x false e = (refl, e)
+goes_stands x t e = grind (arith, nat_tests)
 
 goes_gone : (x : Surface) (t : Bool) → x.destroyed ≡ true → (cond t (record x { destroyed = true }) x).destroyed ≡ true
-goes_gone x true e = refl
-goes_gone x false e = e
+goes_gone x t e = grind (arith, nat_tests)
 
 module _ (w : World) (d : Surface) (r : Referring) (all : AllNamed w) (away : has_kept r.temporary d.id ≡ false) (h : AreKept w None r) where
   abbrev after : World
@@ -68,22 +51,16 @@ module _ (w : World) (d : Surface) (r : Referring) (all : AllNamed w) (away : ha
 
   gone_step : (q : SurfaceId) (s t : Submission) (a b : Option FrameData) → same_surface d.id q ≡ true → Drops d.id s t → a ≡ None → seen_as q (is_active t) t.submitted a ≡ None
   gone_step q s t a b e (IsDropped on off rests is) f = seen_inactive q (is_active t) t.submitted a off ∙ f
-  gone_step q s t a b e (IsLeft clear is) f =
-      seen_off q (is_active t) t.submitted a
-      (λ k. ap (λ (y : Submission). same_surface y.submitted.id q) is ∙ (ap (same_surface s.submitted.id) (sym (from_same d.id q e)) ∙ clear (ap is_active (sym is) ∙ k)))
-      ∙ f
+  gone_step q s t a b e (IsLeft clear is) f = grind (arith, nat_tests, seen_off q (is_active t) t.submitted a, from_same d.id q e)
 
   left_step : (q : SurfaceId) (s t : Submission) (a b : Option FrameData) → same_surface d.id q ≡ false → Drops d.id s t → a ≡ b
       → seen_as q (is_active t) t.submitted a ≡ seen_as q (is_active s) s.submitted b
-  left_step q s t a b e (IsDropped on off rests is) f =
-      seen_inactive q (is_active t) t.submitted a off
-      ∙ (f ∙ sym (seen_off q (is_active s) s.submitted b (λ k. ap (λ i. same_surface i q) (from_same s.submitted.id d.id on) ∙ e)))
+  left_step q s t a b e (IsDropped on off rests is) f = grind (arith, nat_tests, seen_inactive, seen_off, from_same)
   left_step q s t a b e (IsLeft clear is) f = ap (λ (y : Submission). seen_as q (is_active y) y.submitted a) is ∙ ap (seen_as q (is_active s) s.submitted) f
 
   frames_gone : (q : SurfaceId) (ss : List Submission) → same_surface d.id q ≡ true → frame_on q (active_frames (map (drop_on (d ∷ [])) ss)) ≡ None
   frames_gone q [] e = refl
-  frames_gone q (s ∷ ss) e =
-      active_cons q (drop_on (d ∷ []) s) (map (drop_on (d ∷ [])) ss) ∙ gone_step q s (drop_on (d ∷ []) s) _ None e (drops d s) (frames_gone q ss e)
+  frames_gone q (s ∷ ss) e = grind (arith, nat_tests, active_cons q (drop_on (d ∷ []) s) (map (drop_on (d ∷ [])) ss), gone_step q s (drop_on (d ∷ []) s), frames_gone q ss e)
 
   frames_left : (q : SurfaceId) (ss : List Submission) → same_surface d.id q ≡ false → frame_on q (active_frames (map (drop_on (d ∷ [])) ss)) ≡ frame_on q (active_frames ss)
   frames_left q [] e = refl
@@ -92,11 +69,7 @@ module _ (w : World) (d : Surface) (r : Referring) (all : AllNamed w) (away : ha
 
   frame_after : (q : SurfaceId) → frame_on q (active_frames after.subs) ≡ cond (same_surface d.id q) None (frame_on q (active_frames w.subs))
   unfolding going
-  frame_after q = by (same_surface d.id q) refl
-    where
-      by : (t : Bool) → same_surface d.id q ≡ t → frame_on q (active_frames (map (drop_on (d ∷ [])) w.subs)) ≡ cond t None (frame_on q (active_frames w.subs))
-      by true e = frames_gone q w.subs e
-      by false e = frames_left q w.subs e
+  frame_after q = grind (arith, nat_tests, frames_gone q w.subs, frames_left q w.subs)
 
   subs_from : (s : Submission) → Contains after.subs s → (t : Submission) × Contains w.subs t × Drops d.id t s
   unfolding going
@@ -149,33 +122,14 @@ module _ (w : World) (d : Surface) (r : Referring) (all : AllNamed w) (away : ha
 
   lasts_left : (x : Surface) → Contains w.surfaces x → lasts after x ≡ lasts w x
   unfolding lasts going
-  lasts_left x m = by x.destroyed refl x.named refl
-    where
-      rest : Bool → Bool → Bool → Bool
-      rest g n k = ((not g && not (n || k)) && not (has_closed w x.client)) && nat_lt w.tick (x.born + TEMPORARY_TICKS)
-
-      by : (g : Bool) → x.destroyed ≡ g → (n : Bool) → x.named ≡ n
-          → (((not g && not (n || is_named_now after x.id)) && not (has_closed w x.client)) && nat_lt w.tick (x.born + TEMPORARY_TICKS))
-          ≡ (((not g && not (n || is_named_now w x.id)) && not (has_closed w x.client)) && nat_lt w.tick (x.born + TEMPORARY_TICKS))
-      by true e n f = refl
-      by false e true f = refl
-      by false e false f =
-          let before : is_named_now w x.id ≡ false = never (is_named_now w x.id) (λ k. both_ways x.named f (all x m e k)) in
-          let now : is_named_now after x.id ≡ false = never (is_named_now after x.id) (λ k. both_ways (is_named_now w x.id) before (named_less x.id k)) in
-          ap (λ k. ((true && not k) && not (has_closed w x.client)) && nat_lt w.tick (x.born + TEMPORARY_TICKS)) (now ∙ sym before)
+  lasts_left x m = grind (arith, nat_tests, never (is_named_now w x.id), both_ways x.named, never, both_ways (is_named_now w x.id), named_less x.id)
 
   lasts_gone : (x : Surface) → lasts after (record x { destroyed = true }) ≡ false
   unfolding lasts
   lasts_gone x = refl
 
   lasting_after : (x : Surface) → Contains after.surfaces x → has_kept r.temporary x.id ≡ lasts after x
-  lasting_after x m =
-      let y = surfaces_from x m in
-      subst (λ (z : Surface). has_kept r.temporary z.id ≡ lasts after z) y.2 (by y.0 y.1 (is_it y.0) refl)
-    where
-      by : (y : Surface) → Contains w.surfaces y → (t : Bool) → is_it y ≡ t → has_kept r.temporary (cond t (record y { destroyed = true }) y).id ≡ lasts after (cond t (record y { destroyed = true }) y)
-      by y n true e = ap (has_kept r.temporary) (from_same y.id d.id e) ∙ (away ∙ sym (lasts_gone y))
-      by y n false e = h.lasting y n refl ∙ sym (lasts_left y n)
+  lasting_after x m = grind (arith, nat_tests, surfaces_from x m, from_same, lasts_gone, lasts_left)
 
   known_after : (t : Temporary) → Contains r.temporary t → IsKeptFor after.surfaces t
   known_after t m =
@@ -202,22 +156,10 @@ module _ (w : World) (d : Surface) (r : Referring) (all : AllNamed w) (away : ha
       (noted_one y.0 (h.noted s t y.0 (subst (Contains w.subs) (sym su) u.1) (subst (Contains w.subs) (sym tv) v.1) y.1 a b on (ap (λ (i : SurfaceId). names_it i s) (sym id) ∙ n)))
 
   references_by : (t : Bool) (o : Option FrameData) → cond t [] (references_of o) ≡ references_of (cond t None o)
-  references_by true o = refl
-  references_by false o = refl
+  references_by t o = grind (arith, nat_tests)
 
   pub kept_going : AreKept after None (record r { sets = removing d.id r.sets })
-  kept_going =
-      record {
-        sets = λ q. removed_ranges r.sets d.id q
-            ∙ (ap (λ l. cond (same_surface d.id q) [] l) (h.sets q) ∙ (references_by (same_surface d.id q) (frame_on q (active_frames w.subs)) ∙ ap references_of (sym (frame_after q))));
-        own = own_removing d.id r.sets h.own;
-        all_set = λ i m. let f = frames_in i m in
-            removed_has r.sets d.id i.id ∙ and_from (not (same_surface d.id i.id)) (is_set r.sets i.id) (ap not f.1) (h.all_set i f.0);
-        lasting = λ x m e. lasting_after x m;
-        fresh = λ x m e. absurd (cc);
-        known = known_after;
-        noted = noted_after;
-      }
+  kept_going = grind (arith, nat_tests, removed_ranges, references_by, frame_after, own_removing, frames_in, removed_has, and_from, lasting_after, known_after, noted_after)
 
   all_after : AllNamed after
   all_after x m e k =

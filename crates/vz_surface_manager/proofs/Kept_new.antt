@@ -1,37 +1,23 @@
 -- A new surface is kept, once all that follows became active.
 use Rattle.std.proofs.Common.{◌≡◌, ◌+◌, Bool, true, false, not, ◌&&◌, ◌||◌, inl, inr, Option, Some, None, List, [], ◌∷◌, ◌++◌, refl, ap, sym, ◌∙◌, subst, cond, Contains, nat_lt, arith}
 use Rattle.std.specs.List.{list_any}
-use Rattle.std.proofs.lemmas.Bool.{and_parts, and_from, both_ways, lt-ltb}
+use Rattle.std.proofs.{lemmas.Bool.and_parts, lemmas.Bool.and_from, lemmas.Bool.both_ways, lemmas.Bool.lt-ltb, lemmas.Bool.Decides.nat_tests}
 use Rattle.vz_base.specs.declared.limits.TheConstants.{TEMPORARY_TICKS}
-use Rattle.vz_ids.specs.declared.SurfaceId.{SurfaceId}
-use Rattle.vz_ids.specs.Ids.{same_surface}
+use Rattle.vz_ids.specs.{declared.SurfaceId.SurfaceId, Ids.same_surface}
 use Rattle.vz_rules.specs.World.{World, Surface, FrameData, active_frames, frame_on}
-use Rattle.vz_rules.specs.Reach.{names, is_named_now, naming, has_closed}
-use Rattle.vz_rules.specs.Kept.{KeepsAlways, stands_in}
-use Rattle.vz_rules.proofs.Reached.{from_same, self_same}
+use Rattle.vz_rules.specs.{Reach.names, Reach.is_named_now, Reach.naming, Reach.has_closed, Kept.KeepsAlways, Kept.stands_in}
+use Rattle.vz_rules.proofs.{Reached.from_same, Reached.self_same, Kept_reach.AllNamed, Kept_reach.named_is, Kept_reach.named_after}
 use Rattle.vz_rules.proofs.Members.{contains_push, any_at, any_from, find_at, same_tests}
 use Rattle.vz_rules.proofs.Kept_facts.{active_seen}
-use Rattle.vz_rules.proofs.Kept_reach.{AllNamed, named_is, named_after}
 use Rattle.vz_refs.specs.Referring.{Temporary}
 use Rattle.vz_refs.specs.Referring.{Referring, Ranged, is_named_by, is_named_in, keeping}
 use Rattle.vz_refs.specs.Meaning.{references_of}
 use Rattle.vz_surface_manager.specs.Kept_surfaces.{lasts, has_kept, AreNoted, IsKeptFor, AreKept}
-use Rattle.vz_surface_manager.proofs.Risen_kept.{frame_of}
-use Rattle.vz_surface_manager.proofs.Accepted_kept.{stands_active}
-use Rattle.vz_surface_manager.proofs.New_surfaces.{noted_all}
-use Rattle.vz_surface_manager.proofs.Ticked_kept.{one_surface}
+use Rattle.vz_surface_manager.proofs.{Risen_kept.frame_of, Accepted_kept.stands_active, New_surfaces.noted_all, Ticked_kept.one_surface}
 
 kept_push : (kept : List Temporary) (t : Temporary) (q : SurfaceId) → has_kept (kept ++ t ∷ []) q ≡ (has_kept kept q || same_surface t.id q)
-kept_push [] t q = or_false (same_surface t.id q)
-  where
-    or_false : (b : Bool) → (b || false) ≡ b
-    or_false true = refl
-    or_false false = refl
-kept_push (x ∷ kept) t q = ap (λ b. same_surface x.id q || b) (kept_push kept t q) ∙ or_more (same_surface x.id q) (has_kept kept q) (same_surface t.id q)
-  where
-    or_more : (a b d : Bool) → (a || (b || d)) ≡ ((a || b) || d)
-    or_more true b d = refl
-    or_more false b d = refl
+kept_push [] t q = grind (arith, nat_tests)
+kept_push (x ∷ kept) t q = grind (arith, nat_tests, kept_push kept t q)
 
 named_by_ranges : (id : SurfaceId) (o : Option FrameData) → list_any (names id) (references_of o) ≡ true → (i : FrameData) × (o ≡ Some i) × (list_any (names id) i.frame.metadata.references ≡ true)
 named_by_ranges id None e = absurd (cc)
@@ -73,11 +59,7 @@ lasts_new : (d n k cl y : Bool) → d ≡ false → (n ≡ true → k ≡ true) 
 lasts_new true n k cl y a b c e = absurd (cc)
 lasts_new false n k true y a b c e = absurd (cc)
 lasts_new false n k false false a b c e = absurd (cc)
-lasts_new false n true false true a b c e = named n
-  where
-    named : (n : Bool) → (((not false && not (n || true)) && not false) && true) ≡ not true
-    named true = refl
-    named false = refl
+lasts_new false n true false true a b c e = grind (arith, nat_tests)
 lasts_new false true false false true a b c e = absurd (both_ways false refl (b refl))
 lasts_new false false false false true a b c e = refl
 
@@ -91,15 +73,7 @@ module _ (v : World) (c : Surface) (r : Referring) (always : KeepsAlways v) (all
 
   kept_at : (q : SurfaceId) → has_kept kept q ≡ (has_kept r.temporary q || (not (is_named_now v c.id) && same_surface c.id q))
   unfolding keeping
-  kept_at q = ap (λ t. has_kept (cond t r.temporary (r.temporary ++ new ∷ [])) q) (named_sets v (Some c.id) r always h c.id) ∙ by (is_named_now v c.id)
-    where
-      or_false : (b : Bool) → b ≡ (b || false)
-      or_false true = refl
-      or_false false = refl
-
-      by : (t : Bool) → has_kept (cond t r.temporary (r.temporary ++ new ∷ [])) q ≡ (has_kept r.temporary q || (not t && same_surface c.id q))
-      by true = or_false (has_kept r.temporary q)
-      by false = kept_push r.temporary new q
+  kept_at q = grind (arith, nat_tests, named_sets v (Some c.id) r always h c.id, kept_push r.temporary)
 
   young : nat_lt v.tick (c.born + TEMPORARY_TICKS) ≡ true
   young = ap (λ n. nat_lt v.tick (n + TEMPORARY_TICKS)) born ∙ lt-ltb v.tick (v.tick + TEMPORARY_TICKS) (omega arith)
@@ -109,14 +83,10 @@ module _ (v : World) (c : Surface) (r : Referring) (always : KeepsAlways v) (all
   lasts_c = lasts_new c.destroyed c.named (is_named_now v c.id) (has_closed v c.client) (nat_lt v.tick (c.born + TEMPORARY_TICKS)) stands unnamed open_client young
 
   at_new : (b k t : Bool) → b ≡ false → t ≡ true → (b || (not k && t)) ≡ not k
-  at_new true k t e f = absurd (cc)
-  at_new false true t e f = refl
-  at_new false false t e f = f
+  at_new b k t e f = grind (arith, nat_tests)
 
   at_old : (b k t : Bool) → t ≡ false → (b || (not k && t)) ≡ b
-  at_old true k t f = refl
-  at_old false true t f = refl
-  at_old false false t f = f
+  at_old b k t f = grind (arith, nat_tests)
 
   lasting_new : (d : Surface) → Contains v.surfaces d → has_kept kept d.id ≡ lasts v d
   lasting_new d m = by (same_surface c.id d.id) refl
@@ -142,17 +112,7 @@ module _ (v : World) (c : Surface) (r : Referring) (always : KeepsAlways v) (all
           ]
 
   noted_new : AreNoted v None
-  noted_new s t x p q m a b on n =
-      elim (noted_all v s x always (subst AllNamed all (named_after v)) p a m n) [ inl e ↦ inl e | inr e ↦ inr (inl e) ]
+  noted_new s t x p q m a b on n = grind (arith, nat_tests, noted_all v s x always (subst AllNamed all (named_after v)) p a m n, named_after v)
 
   pub kept_new : AreKept v None (record r { temporary = kept })
-  kept_new =
-      record {
-        sets = h.sets;
-        own = h.own;
-        all_set = h.all_set;
-        lasting = λ d m e. lasting_new d m;
-        fresh = λ d m e. absurd (cc);
-        known = known_new;
-        noted = noted_new;
-      }
+  kept_new = grind (arith, nat_tests, lasting_new, known_new, noted_new)

@@ -1,13 +1,7 @@
 -- What is kept of surfaces where clients, relations, the root or the end change.
 use Rattle.std.proofs.Common.{◌≡◌, true, Option, List, refl}
-use Rattle.vz_ids.specs.declared.FrameSinkId.{FrameSinkId}
-use Rattle.vz_ids.specs.declared.SurfaceId.{SurfaceId}
-use Rattle.vz_rules.specs.Plan.{Plan}
-use Rattle.vz_rules.specs.World.{World, Client}
-use Rattle.vz_rules.specs.declared.entry.Event.TheVariants.{Over}
-use Rattle.vz_rules.specs.Reach.{naming}
-use Rattle.vz_rules.specs.Messages.{taking}
-use Rattle.vz_rules.specs.Step.{answer_to}
+use Rattle.vz_ids.specs.{declared.FrameSinkId.FrameSinkId, declared.SurfaceId.SurfaceId}
+use Rattle.vz_rules.specs.{Plan.Plan, World.World, World.Client, declared.entry.Event.TheVariants.Over, Reach.naming, Messages.taking, Step.answer_to}
 use Rattle.vz_refs.specs.Referring.{Referring}
 use Rattle.vz_surface_manager.specs.Kept_surfaces.{AreKept}
 use Rattle.vz_surface_manager.proofs.Sets_kept.{stays_same, stays_taken}

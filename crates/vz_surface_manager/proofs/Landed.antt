@@ -1,33 +1,22 @@
 -- The drawn frame is done: what hangs on surfaces stands for the state then.
-use Rattle.std.proofs.Common.{◌≡◌, ◌++◌, Some, None, is_some, Option, List, [], refl, ap, sym, ◌∙◌, subst, arith, cond, map, pos}
+use Rattle.std.proofs.Common.{◌≡◌, ◌++◌, Some, None, is_some, Option, List, [], refl, sym, ◌∙◌, subst, arith, cond, map, pos}
 use Rattle.vz_ids.specs.declared.Sub.{Sub}
 use Rattle.vz_rules.specs.declared.entry.Event.TheVariants as event
 use Rattle.vz_rules.specs.declared.entry.Reply.TheVariants as reply
-use Rattle.vz_rules.specs.declared.entry.Fed.{Fed}
-use Rattle.vz_rules.specs.World.{World}
-use Rattle.vz_rules.specs.Messages.{says}
-use Rattle.vz_rules.specs.Step.{answer_to, done_answer}
-use Rattle.vz_rules.specs.Returns.{give_back, feed, fed_in, feedback_of, mark_fed}
-use Rattle.vz_rules.specs.Ends.{landed, presenting}
-use Rattle.vz_rules.specs.Kept.{KeepsAlways}
+use Rattle.vz_rules.specs.{declared.entry.Fed.Fed, World.World, Messages.says, Ends.landed, Ends.presenting}
+use Rattle.vz_rules.specs.{Step.answer_to, Step.done_answer, Returns.give_back, Returns.feed, Returns.fed_in, Returns.mark_fed, Kept.KeepsAlways}
 use Rattle.vz_rules.proofs.Kept_steps.{always_answer}
-use Rattle.vz_surface_manager.proofs.Sets_kept.{stays_same, stays_given}
-use Rattle.vz_surface_manager.proofs.Fed_kept.{stays_fed}
+use Rattle.vz_surface_manager.proofs.{Sets_kept.stays_same, Sets_kept.stays_given, Stored.told_stays, Stored.last_given, Stored.last_fed}
+use Rattle.vz_surface_manager.proofs.{Fed_kept.stays_fed, Roster_in_flight.roster_feeds, Roster_in_flight.roster_fed, Roster_in_flight.roster_feed}
 use Rattle.vz_surfaces.specs.Stored.{stored_of}
 use Rattle.vz_surfaces.proofs.Stores_kept as stored
 use Rattle.vz_surfaces.proofs.Telling.{tells_exists}
-use Rattle.vz_surface_manager.proofs.Stored.{told_stays, last_given, last_fed}
-use Rattle.vz_returns.specs.Lent.{Lent, AreLent}
-use Rattle.vz_returns.proofs.Lent_kept.{lent_ordered, lent_fed}
-use Rattle.vz_returns.specs.Owed.{Owed, OwedAndRoom, AreOwed}
-use Rattle.vz_returns.proofs.Owes.{owes_same}
-use Rattle.vz_surface_manager.specs.Flown.{Flown, AreFlown, subs_of}
+use Rattle.vz_returns.specs.{Lent.Lent, Lent.AreLent, Owed.Owed, Owed.OwedAndRoom, Owed.AreOwed}
+use Rattle.vz_returns.proofs.{Lent_kept.lent_ordered, Lent_kept.lent_fed, Owes.owes_same}
+use Rattle.vz_surface_manager.specs.{Flown.Flown, Flown.AreFlown, Flown.subs_of, Live.Live, Live.AreLive, Frame_end.IsFlying, Frame_end.IsLanding}
 use Rattle.vz_surface_manager.specs.Rosters.{IsRosterOf}
-use Rattle.vz_surface_manager.proofs.Flights_kept.{flown_none}
-use Rattle.vz_surface_manager.proofs.Roster_in_flight.{roster_feeds, roster_fed, roster_feed}
-use Rattle.vz_surface_manager.specs.Live.{Live, AreLive}
-use Rattle.vz_surface_manager.specs.Frame_end.{IsFlying, IsLanding}
-use Rattle.vz_surface_manager.proofs.Quiet.{live_from, feeds_only}
+use Rattle.vz_surface_manager.proofs.{Flights_kept.flown_none, Quiet.live_from, Quiet.feeds_only}
+use Rattle.std.proofs.lemmas.Bool.Decides.{nat_tests}
 
 some_same : {A : Type 0} {a b : A} → Some a ≡ Some b → a ≡ b
 some_same f = cc
@@ -35,8 +24,7 @@ some_same f = cc
 done_by : (w : World) (o : Option (List Sub)) (drawn : List Sub) → o ≡ Some drawn
     → KeepsAlways (cond (is_some o) (says reply.Shown (record w { in_flight = None })) (says reply.Nothing w)).world
     → KeepsAlways (landed w)
-done_by w None drawn e h = absurd (cc)
-done_by w (Some d) drawn e h = h
+done_by w o drawn e h = grind (arith, nat_tests)
 
 -- what always holds, holds once it is done
 pub always_landed : (w : World) (drawn : List Sub) → w.in_flight ≡ Some drawn → KeepsAlways w → KeepsAlways (landed w)
@@ -98,15 +86,10 @@ module _ (w : World) (drawn : List Sub) (v : Live) (h : IsFlying w drawn v) (flo
   rostered = record w { in_flight = Some (subs_of roster) }
 
   pub owed_rostered : AreOwed rostered v.owed.owed
-  owed_rostered = owes_same (feedback_of w []) (feedback_of rostered []) w.subs v.owed.owed
-      (λ s c. roster_feeds w flown roster flown_is is [] s) h.live.owed
+  owed_rostered = grind (arith, nat_tests, owes_same, roster_feeds, flown_is)
 
   pub fed_drawn : (before list : List Fed) → list ≡ before ++ fed_in (subs_of roster) (landed w) → list ≡ before ++ fed_in drawn (landed w)
-  fed_drawn before list f =
-      f ∙ ap (λ (l : List Fed). before ++ l)
-      (roster_fed (landed w) flown roster is ∙ ap (λ (l : List Sub). fed_in l (landed w)) (sym drawn_is))
+  fed_drawn before list f = grind (arith, nat_tests, roster_fed (landed w) flown roster is, drawn_is)
 
   pub owed_drawn : (f : Owed) → AreOwed (presenting (subs_of roster) (landed w)).world f → AreOwed (presenting drawn (landed w)).world f
-  owed_drawn f o =
-      subst (λ (u : World). AreOwed u f)
-      (roster_feed (give_back (landed w)) flown roster is ∙ ap (λ (l : List Sub). feed l (give_back (landed w))) (sym drawn_is)) o
+  owed_drawn f o = grind (arith, nat_tests, roster_feed (give_back (landed w)) flown roster is, drawn_is)

@@ -1,20 +1,16 @@
 -- The submissions of a drawn frame hold what they list, one after the other.
 use Rattle.std.proofs.Common.{◌≡◌, ℕ, zero, suc, ◌+◌, ◌≤◌, true, Some, List, [], ◌∷◌}
-use Rattle.std.proofs.Common.{◌++◌, length, take, take_all, drop, slice_get, ap, sym, ◌∙◌, subst, arith, Contains}
+use Rattle.std.proofs.Common.{◌++◌, length, take, take_all, drop, slice_get, ap, sym, ◌∙◌, arith, Contains}
 use Rattle.vz_ids.specs.declared.Sub.{Sub}
 use Rattle.vz_frame.specs.declared.frame.Listing.{Listing}
 use Rattle.vz_rules.specs.Plan.{Plan}
 use Rattle.vz_rules.specs.World.{World, Submission, has_sub, is_active, sub_of}
 use Rattle.vz_rules.proofs.Members.{at_contains}
 use Rattle.vz_returns.specs.Lent.{Lent, AreLent, IsLender, NoneReleased, HasPlaces}
-use Rattle.vz_returns.specs.Listed.{lists_twice}
-use Rattle.vz_returns.specs.Changes.{IsDrawn}
-use Rattle.vz_surface_manager.specs.Flown.{Flown, subs_of}
-use Rattle.vz_surface_manager.specs.Rosters.{listing_count}
-use Rattle.vz_surface_manager.proofs.Listing_counts.{count_next}
-use Rattle.vz_surface_manager.specs.Drawn_frame.{IsLifting}
-use Rattle.vz_surface_manager.proofs.Found.{whole_once}
-use Rattle.vz_surface_manager.proofs.Released.{lender_there}
+use Rattle.vz_returns.specs.{Listed.lists_twice, Changes.IsDrawn}
+use Rattle.vz_surface_manager.specs.{Flown.Flown, Flown.subs_of, Rosters.listing_count, Drawn_frame.IsLifting}
+use Rattle.vz_surface_manager.proofs.{Listing_counts.count_next, Found.whole_once, Released.lender_there}
+use Rattle.std.proofs.lemmas.Bool.Decides.{nat_tests}
 
 take_from : (xs : List Flown) (k : ℕ) (f : Flown) → slice_get xs k ≡ Some f → subs_of (take (suc k) xs) ≡ subs_of (take k xs) ++ f.0 ∷ []
 take_from [] k f e = absurd (cc)
@@ -71,6 +67,4 @@ module _ (p : Plan) (w : World) (roster : List Flown) (first : List Lent) (h : I
   -- the frame has one more of them
   pub lifts_more : (new : List Lent) → AreLent (record w { in_flight = Some (subs_of (take k roster) ++ sub_of acting.0 ∷ []) }) new
       → AreLent (record w { in_flight = Some (subs_of (take (k + 1) roster)) }) new
-  lifts_more new is =
-      subst (λ (l : List Sub). AreLent (record w { in_flight = Some l }) new)
-      (ap (λ (x : Sub). subs_of (take k roster) ++ x ∷ []) acting.3 ∙ sym (take_next roster k (sub, listings) at)) is
+  lifts_more new is = grind (arith, nat_tests, take_next roster k (sub, listings) at)

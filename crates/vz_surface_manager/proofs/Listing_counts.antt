@@ -1,9 +1,7 @@
 -- The listings of submissions, counted one after the other.
 use Rattle.std.proofs.Common.{◌≡◌, ℕ, zero, suc, ◌+◌, ◌≤◌, Some, List, [], ◌∷◌, length, drop, slice_get, ap, ◌∙◌, arith}
-use Rattle.std.proofs.Math.ListN.{drop_of_length-le}
-use Rattle.std.proofs.lemmas.List.Sums.{sum_by-cons}
-use Rattle.vz_surface_manager.specs.Flown.{Flown}
-use Rattle.vz_surface_manager.specs.Rosters.{listing_count}
+use Rattle.std.proofs.{Math.ListN.drop_of_length-le, lemmas.List.Sums.sum_by-cons}
+use Rattle.vz_surface_manager.specs.{Flown.Flown, Rosters.listing_count}
 
 count_cons : (f : Flown) (fs : List Flown) → listing_count (f ∷ fs) ≡ length f.1 + listing_count fs
 unfolding listing_count

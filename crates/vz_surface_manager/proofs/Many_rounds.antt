@@ -1,19 +1,14 @@
 -- Settling, while rounds follow one another.
-use Rattle.std.proofs.Common.{◌≡◌, ℕ, zero, suc, ◌+◌, ◌≤◌, not, ◌&&◌, Option, List, [], ◌∷◌, ◌++◌, length, map, filter, drop, refl, ap, sym}
+use Rattle.std.proofs.Common.{◌≡◌, ℕ, suc, ◌+◌, ◌≤◌, Option, List, [], ◌++◌, length, map, drop, ap, sym}
 use Rattle.std.proofs.Common.{◌∙◌, subst, arith}
-use Rattle.std.proofs.lemmas.List.{length-map}
-use Rattle.vz_ids.specs.declared.SurfaceId.{SurfaceId}
-use Rattle.vz_ids.specs.declared.Sub.{Sub}
+use Rattle.std.proofs.{lemmas.List.length-map, lemmas.Bool.Decides.nat_tests, lemmas.Grind.common_steps}
+use Rattle.vz_ids.specs.{declared.SurfaceId.SurfaceId, declared.Sub.Sub}
 use Rattle.vz_rules.specs.World.{World, Submission, is_waiting, sub_of}
-use Rattle.vz_rules.specs.Settle.{is_ready, ready, round, rounds, activated_over, settle, activated_in}
+use Rattle.vz_rules.specs.Settle.{ready, round, rounds, activated_over, settle, activated_in}
 use Rattle.vz_rules.proofs.Kept_follows.{always_round}
-use Rattle.vz_deadlines.specs.Timing.{due_of}
-use Rattle.vz_surface_manager.specs.Waits.{Waits, AreWaiting}
-use Rattle.vz_surface_manager.proofs.Waits_on.{as_many}
-use Rattle.vz_surface_manager.specs.Live.{Live, AreLive}
-use Rattle.vz_surface_manager.specs.declared.surface_manager.SurfaceManager.{SurfaceManager}
-use Rattle.vz_surface_manager.specs.Settles.{AreSettling, IsRound, IsToSettle}
-use Rattle.vz_surface_manager.proofs.One_round.{surface_of}
+use Rattle.vz_surface_manager.specs.{Waits.Waits, Waits.AreWaiting, Live.Live, Live.AreLive}
+use Rattle.vz_surface_manager.proofs.{Waits_on.as_many, One_round.surface_of}
+use Rattle.vz_surface_manager.specs.{declared.surface_manager.SurfaceManager.SurfaceManager, Settles.AreSettling, Settles.IsRound, Settles.IsToSettle}
 use Rattle.vz_surface_manager.proofs.Rounded.{round_after, activated_after, settled, all_activated, waiting, fewer_wait, ready_or_not, behind}
 use Rattle.vz_surface_manager.proofs.Rounded.{both_long, none_long}
 
@@ -31,19 +26,11 @@ pub begins : (w : World) (but : Option SurfaceId) (v : SurfaceManager) (activate
     → IsToSettle w but v activated
     → IsSettlingOn w but v 0 activated ids
 unfolding rounds activated_over
-begins w but v activated ids none h =
-    record { over = zero; stands = h.stands; told = h.ready; begun = refl; beside = sym (ap length none); fewer = omega arith }
+begins w but v activated ids none h = grind (arith, nat_tests)
 
 -- as many are blocked as wait and are not ready
 blocked_are : (w : World) (a : Waits) → AreWaiting w a → length (ready w) + length a.blocked ≡ waiting w
-blocked_are w a h =
-    omega (
-      arith,
-      as_many w a h,
-      ap length h.due,
-      length-map (filter (λ s. is_waiting s && not (is_ready w s)) w.subs) due_of,
-      ready_or_not w,
-    )
+blocked_are w a h = grind (arith, nat_tests, as_many w a h, length-map, ready_or_not w)
 
 named : (w : World) (subs : List Sub) → subs ≡ map sub_of (ready w) → length subs ≡ length (ready w)
 named w subs e = ap length e ∙ length-map (ready w) (λ (s : Submission). sub_of s)
@@ -68,8 +55,7 @@ module _ (w : World) (but : Option SurfaceId) (v : SurfaceManager) (from : ℕ) 
   begins_round subs e = record { always = h.stands.always; live = h.stands.live; ready = e ∙ are_ready }
 
   pub so_long : length activated ≡ from + length round_subs
-  so_long =
-      omega (arith, ap length h.told, both_long (activated_over h.over w) (map sub_of (ready now)), h.begun, ap length are_ready)
+  so_long = grind (arith, nat_tests, both_long (activated_over h.over w), are_ready)
 
   pub within : (more : List SurfaceId) → more ≡ ids ++ map surface_of (ready now) → from ≤ length more
   within more e = omega (arith, ap length e, both_long ids (map surface_of (ready now)), h.beside)
@@ -117,13 +103,4 @@ module _ (w : World) (but : Option SurfaceId) (v : SurfaceManager) (from : ℕ) 
   ends over = subst (λ x. AreSettling x but v) (settled h.over w (none_ready over)) h.stands
 
   pub ends_told : length activated ≤ from → activated ≡ activated_in w
-  ends_told over =
-      h.told ∙ (ap (λ l. activated_over h.over w ++ map sub_of l) (none_ready over)
-      ∙ (append_none ∙ all_activated h.over w (none_ready over)))
-    where
-      nothing : (l : List Sub) → l ++ [] ≡ l
-      nothing [] = refl
-      nothing (x ∷ l) = ap (λ m. x ∷ m) (nothing l)
-
-      append_none : activated_over h.over w ++ [] ≡ activated_over h.over w
-      append_none = nothing (activated_over h.over w)
+  ends_told over = grind (arith, nat_tests, common_steps, none_ready over, all_activated h.over w (none_ready over))

@@ -1,45 +1,26 @@
 -- Those that wait where more dependencies are met.
-use Rattle.std.proofs.Common.{◌≡◌, ℕ, Bool, true, false, not, ◌&&◌, ◌||◌, List, [], ◌∷◌, map, filter, refl, ap, ◌∙◌}
-use Rattle.std.specs.Prelude.{nat_le}
-use Rattle.std.specs.List.{list_all}
+use Rattle.std.proofs.Common.{◌≡◌, ℕ, Bool, true, not, ◌&&◌, ◌||◌, List, [], ◌∷◌, map, filter, refl, ap, ◌∙◌, arith}
+use Rattle.std.specs.{Prelude.nat_le, List.list_all}
 use Rattle.vz_ids.specs.declared.SurfaceId.{SurfaceId}
 use Rattle.vz_rules.specs.World.{Submission, is_waiting, sub_of}
-use Rattle.vz_deps.specs.Tracking.{freed, still}
-use Rattle.vz_deps.specs.Blocking.{dependencies_of, lacks_in, blocked_of, blocked_by}
+use Rattle.vz_deps.specs.{Tracking.freed, Tracking.still, Blocking.dependencies_of, Blocking.lacks_in, Blocking.blocked_of, Blocking.blocked_by}
 use Rattle.vz_deps.proofs.Rounds.{frees_more, still_more}
 use Rattle.vz_deadlines.specs.Timing.{due_of}
 use Rattle.vz_surface_manager.specs.Left_out.{due_without}
 use Rattle.vz_rules.proofs.Kept_singly.{Apart}
-use Rattle.vz_surface_manager.proofs.Filtered.{named_is, filter_twice}
-use Rattle.vz_surface_manager.proofs.Waits_on.{comes, stays}
-use Rattle.vz_surface_manager.proofs.Dropped_waits.{due_less}
+use Rattle.vz_surface_manager.proofs.{Filtered.named_is, Filtered.filter_twice, Waits_on.comes, Waits_on.stays, Dropped_waits.due_less}
+use Rattle.std.proofs.lemmas.Bool.Decides.{nat_tests}
 
 -- in the tests: it waits, what it depends on was met, is met now, and its deadline has come
 
 freed_too : (a m n d : Bool) → (not (a && (m || d)) && ((a && not m) && n)) ≡ (not (a && (m || d)) && (a && (n || d)))
-freed_too true true n d = refl
-freed_too true false n true = refl
-freed_too true false true false = refl
-freed_too true false false false = refl
-freed_too false m n d = refl
+freed_too a m n d = grind (arith, nat_tests)
 
 left_too : (a m n d : Bool) → (m ≡ true → n ≡ true) → (not (a && (m || d)) && (a && not n)) ≡ (a && not (n || d))
-left_too true true true d h = refl
-left_too true true false d h = let no_way : false ≡ true = h refl in absurd (cc)
-left_too true false true true h = refl
-left_too true false true false h = refl
-left_too true false false true h = refl
-left_too true false false false h = refl
-left_too false m n d h = refl
+left_too a m n d h = grind (arith, nat_tests)
 
 due_too : (a m n d : Bool) → (m ≡ true → n ≡ true) → ((a && not (m || d)) && not (not (a && (m || d)) && (a && (n || d)))) ≡ (a && not (n || d))
-due_too true true true d h = refl
-due_too true true false d h = let no_way : false ≡ true = h refl in absurd (cc)
-due_too true false true true h = refl
-due_too true false true false h = refl
-due_too true false false true h = refl
-due_too true false false false h = refl
-due_too false m n d h = refl
+due_too a m n d h = grind (arith, nat_tests)
 
 module _ (met more : SurfaceId → Bool) (tick : ℕ) (subs : List Submission) where
   -- what is met then
@@ -52,17 +33,10 @@ module _ (met more : SurfaceId → Bool) (tick : ℕ) (subs : List Submission) w
 
   pub all_then : (ds : List SurfaceId) → list_all met ds ≡ true → list_all met_then ds ≡ true
   all_then [] e = refl
-  all_then (d ∷ ds) e =
-      elim (met d) as (λ (t : Bool). (t && list_all met ds) ≡ true → ((t || more d) && list_all met_then ds) ≡ true) [
-        | true ↦ λ f. all_then ds f
-        | false ↦ λ f. absurd (cc)
-      ] e
+  all_then (d ∷ ds) e = grind (arith, nat_tests, all_then ds)
 
   pub frees : freed more (blocked_by met (filter (λ s. not (comes met tick s)) subs)) ≡ map sub_of (filter rises subs)
-  frees =
-      frees_more met more (filter (λ s. not (comes met tick s)) subs)
-      ∙ ap (map sub_of) (filter_twice (λ (s : Submission). lacks_in met s && list_all met_then (dependencies_of s)) (λ s. not (comes met tick s)) subs
-      ∙ (λ i. filter (λ s. freed_too (is_waiting s) (list_all met (dependencies_of s)) (list_all met_then (dependencies_of s)) (nat_le s.due tick) i) subs))
+  frees = grind (arith, nat_tests, frees_more met more, comes met tick, filter_twice, freed_too)
 
   pub leaves : still more (blocked_by met (filter (λ s. not (comes met tick s)) subs)) ≡ map (blocked_of met_then) (filter (stays met_then tick) subs)
   unfolding blocked_by

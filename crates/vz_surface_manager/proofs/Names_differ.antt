@@ -3,9 +3,7 @@ use Rattle.std.proofs.Common.{◌≡◌, ℕ, zero, suc, Bool, true, false, inl,
 use Rattle.std.proofs.Common.{Contains}
 use Rattle.std.proofs.lemmas.Bool.{false_from_ne_true}
 use Rattle.vz_ids.specs.Ids.{same_sub, same_surface}
-use Rattle.vz_rules.specs.World.{World, Submission, Surface, sub_of}
-use Rattle.vz_rules.specs.Settle.{is_ready, ready}
-use Rattle.vz_rules.specs.Kept.{KeepsAlways}
+use Rattle.vz_rules.specs.{World.World, World.Submission, World.Surface, World.sub_of, Settle.is_ready, Settle.ready, Kept.KeepsAlways}
 use Rattle.vz_rules.proofs.Members.{contains_here, contains_there, contains_at, filter_at, append_contains}
 use Rattle.vz_rules.proofs.Kept_facts.{subs_apart, surfaces_apart}
 

@@ -2,27 +2,21 @@
 use Rattle.std.proofs.Common.{◌≡◌, ℕ, ◌+◌, Bool, true, false, ◌&&◌, ◌||◌, ◌==◌, ◌⊎◌, inl, inr, Some, None, [], ◌∷◌, ◌++◌, map, count_by, refl, ap, sym, ◌∙◌, subst, cond, Contains, nat_lt, nat_le, arith}
 use Rattle.std.specs.List.{list_any}
 use Rattle.std.proofs.lemmas.Bool.{and_parts, and_from, or_right, or_cases, both_ways, ltb-true}
-use Rattle.vz_ids.specs.declared.LocalSurfaceId.{LocalSurfaceId}
-use Rattle.vz_ids.specs.declared.SurfaceId.{SurfaceId}
-use Rattle.vz_ids.specs.Ids.{same_surface, is_raised}
-use Rattle.vz_frame.specs.declared.frame.CompositorFrame.{CompositorFrame}
-use Rattle.vz_frame.specs.Frame.{frame_size}
+use Rattle.vz_ids.specs.{declared.LocalSurfaceId.LocalSurfaceId, declared.SurfaceId.SurfaceId, Ids.same_surface, Ids.is_raised}
+use Rattle.vz_frame.specs.{declared.frame.CompositorFrame.CompositorFrame, Frame.frame_size}
 use Rattle.vz_rules.specs.World.{World, Client, Surface, Submission, FrameData, is_waiting, is_active, active_frames, frame_on, last_created}
-use Rattle.vz_rules.specs.Reach.{names, is_named_now, has_closed}
-use Rattle.vz_rules.specs.Messages.{took, submitting, lend, accepted, id_of, is_last, violates, replace_on, new_submission, with_surface}
-use Rattle.vz_rules.specs.Kept.{Keeps, KeepsAlways, stands_in}
-use Rattle.vz_rules.proofs.Reached.{from_same, self_same}
+use Rattle.vz_rules.specs.{Reach.names, Reach.is_named_now, Reach.has_closed, Kept.Keeps, Kept.KeepsAlways, Kept.stands_in}
+use Rattle.vz_rules.specs.Messages.{accepted, id_of, is_last, violates, replace_on, new_submission, with_surface}
+use Rattle.vz_rules.proofs.{Reached.from_same, Reached.self_same, Kept_reach.AllNamed, Kept_reach.named_after}
 use Rattle.vz_rules.proofs.Members.{contains_map, contains_push, push_contains, contains_at, any_at, any_from}
-use Rattle.vz_rules.proofs.Kept_worlds.{stands_at, stands_from}
-use Rattle.vz_rules.proofs.Kept_last.{raised_from_all, one_client}
-use Rattle.vz_rules.proofs.Kept_reach.{AllNamed, named_after}
+use Rattle.vz_rules.proofs.{Kept_worlds.stands_at, Kept_worlds.stands_from, Kept_last.raised_from_all, Kept_last.one_client}
 use Rattle.vz_refs.specs.Referring.{Temporary}
 use Rattle.vz_refs.specs.Referring.{Referring}
 use Rattle.vz_refs.specs.Meaning.{references_of}
 use Rattle.vz_surface_manager.specs.Kept_surfaces.{lasts, is_one, has_kept, names_it, AreNoted, IsKeptFor, AreKept}
 use Rattle.vz_surface_manager.proofs.Accepted_kept.{same_named, stands_active, replaced_state, replaced_same, frames_accepted}
-use Rattle.vz_surface_manager.proofs.Sets_kept.{lasts_by, closed_kept}
-use Rattle.vz_surface_manager.proofs.Set_owners.{never}
+use Rattle.vz_surface_manager.proofs.{Sets_kept.lasts_by, Sets_kept.closed_kept, Set_owners.never}
+use Rattle.std.proofs.lemmas.Bool.Decides.{nat_tests}
 
 pub raises_none : (a : LocalSurfaceId) → is_raised a a ≡ true → ⊥
 raises_none a h =
@@ -62,17 +56,7 @@ module _ (w : World) (c : Client) (local : LocalSurfaceId) (frame : CompositorFr
 
   closed_after : (q : ℕ) → has_closed after q ≡ has_closed w q
   unfolding accepted
-  closed_after q = closed_kept (λ x. cond (x.number == c.number) (took (submitting w frame x)) x) q w.clients (λ x. number (x.number == c.number) (frame.metadata.ack == w.tick) x) (λ x. closed (x.number == c.number) (frame.metadata.ack == w.tick) x)
-    where
-      number : (t u : Bool) (x : Client) → (cond t (took (cond u (record x { resources = map (lend frame.resources) x.resources; answered = w.tick }) (record x { resources = map (lend frame.resources) x.resources }))) x).number ≡ x.number
-      number true true x = refl
-      number true false x = refl
-      number false u x = refl
-
-      closed : (t u : Bool) (x : Client) → (cond t (took (cond u (record x { resources = map (lend frame.resources) x.resources; answered = w.tick }) (record x { resources = map (lend frame.resources) x.resources }))) x).closed ≡ x.closed
-      closed true true x = refl
-      closed true false x = refl
-      closed false u x = refl
+  closed_after q = grind (arith, nat_tests, closed_kept)
 
   tick_after : after.tick ≡ w.tick
   unfolding accepted
@@ -165,11 +149,7 @@ module _ (w : World) (c : Client) (local : LocalSurfaceId) (frame : CompositorFr
     named_more q = same_named w after q frames_after stands_after
 
     lasting_created : (x : Surface) → Contains after.surfaces x → is_one (Some id) x.id ≡ false → has_kept r.temporary x.id ≡ lasts after x
-    lasting_created x m apart =
-        elim (cases_of x m) [
-          | inl o ↦ h.lasting x o refl ∙ sym (lasts_by w after x (named_more x.id) (closed_after x.client) tick_after)
-          | inr e ↦ absurd (both_ways (same_surface id x.id) apart (ap (λ (y : Surface). same_surface id y.id) (sym e) ∙ self_same id))
-        ]
+    lasting_created x m apart = grind (arith, nat_tests, cases_of x m, lasts_by w, named_more x.id, closed_after x.client, tick_after, both_ways, self_same)
 
     fresh_created : (x : Surface) → Contains after.surfaces x → is_one (Some id) x.id ≡ true → has_kept r.temporary x.id ≡ false
     fresh_created x m one =
@@ -192,13 +172,4 @@ module _ (w : World) (c : Client) (local : LocalSurfaceId) (frame : CompositorFr
         ]
 
     pub kept_created : AreKept after (Some id) r
-    kept_created =
-        record {
-          sets = λ q. h.sets q ∙ sets_after q;
-          own = h.own;
-          all_set = λ i m. h.all_set i (subst (λ l. Contains l i) frames_after m);
-          lasting = lasting_created;
-          fresh = fresh_created;
-          known = known_created;
-          noted = noted_created;
-        }
+    kept_created = grind (arith, nat_tests, sets_after, frames_after, lasting_created, fresh_created, known_created, noted_created)

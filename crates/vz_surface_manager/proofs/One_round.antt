@@ -1,20 +1,13 @@
 -- A round, while its submissions become active one after another.
 use Rattle.std.proofs.Common.{◌≡◌, ℕ, ◌+◌, ◌<◌, ◌≤◌, true, Option, List, [], ◌∷◌, ◌++◌, length, map, slice_index_or, refl, ap, sym, ◌∙◌}
 use Rattle.std.proofs.Common.{subst, arith, Contains, append_assoc, append-nil}
-use Rattle.std.proofs.lemmas.List.{map-append, length-map}
-use Rattle.vz_ids.specs.declared.SurfaceId.{SurfaceId}
-use Rattle.vz_ids.specs.declared.Sub.{Sub}
-use Rattle.vz_rules.specs.World.{World, Submission, is_waiting, sub_of}
-use Rattle.vz_rules.specs.Settle.{is_ready, ready, round}
-use Rattle.vz_rules.specs.Singly.{rising, all_rising}
-use Rattle.vz_rules.specs.Kept.{KeepsAlways}
-use Rattle.vz_rules.proofs.Members.{contains_here, contains_there, filter_at}
-use Rattle.vz_rules.proofs.Kept_follows.{ready_waits}
-use Rattle.vz_rules.proofs.Kept_rounds.{round_singly}
-use Rattle.vz_rules.proofs.Kept_singly.{always_rising, others_wait}
-use Rattle.vz_surface_manager.specs.Live.{Live, AreLive}
-use Rattle.vz_surface_manager.specs.Changes.{IsRising}
-use Rattle.vz_surface_manager.specs.Settles.{IsRound}
+use Rattle.std.proofs.{lemmas.List.map-append, lemmas.List.length-map, lemmas.Bool.Decides.nat_tests, lemmas.Grind.common_steps}
+use Rattle.vz_ids.specs.{declared.SurfaceId.SurfaceId, declared.Sub.Sub}
+use Rattle.vz_rules.specs.{World.World, World.Submission, World.is_waiting, World.sub_of, Settle.is_ready, Settle.ready, Settle.round}
+use Rattle.vz_rules.specs.{Singly.rising, Singly.all_rising, Kept.KeepsAlways}
+use Rattle.vz_rules.proofs.{Members.contains_here, Members.contains_there, Members.filter_at, Kept_singly.always_rising, Kept_singly.others_wait}
+use Rattle.vz_rules.proofs.{Kept_follows.ready_waits, Kept_rounds.round_singly}
+use Rattle.vz_surface_manager.specs.{Live.Live, Live.AreLive, Changes.IsRising, Settles.IsRound}
 use Rattle.vz_surface_manager.proofs.Names_differ.{Differ, ready_differ}
 
 -- the surface of a submission
@@ -84,11 +77,7 @@ module _ (w : World) (but : Option SurfaceId) (subs : List Sub) (k : ℕ) (d : S
       by (s ∷ ss) e = record { one = s; more = ss; is = e }
 
   its_name : sub_of next.one ≡ slice_index_or subs k d
-  its_name =
-      sym (at_place h.done next.more next.one d)
-      ∙ (ap (λ l. slice_index_or (map sub_of (h.done ++ l)) (length h.done) d) (sym next.is)
-      ∙ (ap (λ n. slice_index_or (map sub_of (h.done ++ h.rest)) n d) h.many
-      ∙ ap (λ l. slice_index_or l k d) (sym (ready_is ∙ ap (map sub_of) h.all))))
+  its_name = grind (arith, nat_tests, at_place h.done)
 
   first_waits : Contains h.now.subs next.one × (is_waiting next.one ≡ true)
   first_waits = h.wait next.one (subst (λ l. Contains l next.one) (sym next.is) (contains_here next.one next.more))
@@ -125,24 +114,7 @@ module _ (w : World) (but : Option SurfaceId) (subs : List Sub) (k : ℕ) (v : L
     (ready_is : subs ≡ map sub_of (ready w))
     (over : length subs ≤ k) (h : IsRisingOn w but k v old new) where
   no_rest : h.rest ≡ []
-  no_rest = by h.rest refl
-    where
-      longer : (done rest : List Submission) (s : Submission) → length (done ++ s ∷ rest) ≡ length done + length rest + 1
-      longer [] rest s = omega arith
-      longer (x ∷ done) rest s = omega (arith, longer done rest s)
-
-      by : (l : List Submission) → h.rest ≡ l → h.rest ≡ []
-      by [] e = e
-      by (s ∷ ss) e =
-          absurd (omega (
-            arith,
-            over,
-            h.many,
-            ap length (ready_is ∙ ap (map sub_of) (h.all ∙ ap (λ l. h.done ++ l) e)),
-            length-map
-                (h.done ++ s ∷ ss) (λ (x : Submission). sub_of x),
-            longer h.done ss s,
-          ))
+  no_rest = grind (arith, nat_tests, common_steps, length-map)
 
   pub rounded : AreLive (round w) but v
   unfolding all_rising

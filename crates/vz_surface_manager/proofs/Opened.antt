@@ -1,17 +1,13 @@
 -- Before the first step.
 use Rattle.std.proofs.Common.{◌≡◌, None, List, [], refl, sym, ◌∙◌, arith, sum_by}
-use Rattle.vz_rules.specs.Plan.{Plan}
-use Rattle.vz_rules.specs.World.{opening}
+use Rattle.vz_rules.specs.{Plan.Plan, World.opening}
 use Rattle.vz_rules.proofs.Members.{contains_none}
 use Rattle.vz_refs.specs.Referring.{Referring}
-use Rattle.vz_surface_manager.proofs.Sets_kept.{kept_opening}
+use Rattle.vz_surface_manager.proofs.{Sets_kept.kept_opening, Stored.told_first, Flights_kept.flown_opening}
 use Rattle.vz_surfaces.specs.Stored.{Stored, nothing_stored}
 use Rattle.vz_surfaces.proofs.Following.{started}
 use Rattle.vz_damage.specs.Told.{Damaged}
-use Rattle.vz_surface_manager.proofs.Stored.{told_first}
-use Rattle.vz_returns.specs.Lent.{Lent, AreLent}
-use Rattle.vz_returns.specs.Owed.{OwedAndRoom, AreOwed}
-use Rattle.vz_surface_manager.proofs.Flights_kept.{flown_opening}
+use Rattle.vz_returns.specs.{Lent.Lent, Lent.AreLent, Owed.OwedAndRoom, Owed.AreOwed}
 use Rattle.vz_surface_manager.specs.Live.{AreLive, AreWhole, wants}
 
 none_whole : (p : Plan) → AreWhole (opening p).subs

@@ -1,25 +1,14 @@
 -- Changes of the machine's state at which no submission comes to wait or waits no longer.
-use Rattle.std.proofs.Common.{◌≡◌, ℕ, ◌+◌, ◌≤◌, Bool, true, false, ◌==◌, Option, Some, None, List, [], ◌∷◌, length, map, refl, ap, sym, ◌∙◌, subst, arith, cond, sum_by}
-use Rattle.std.proofs.lemmas.List.Sums.{sum_by-cons}
-use Rattle.vz_ids.specs.declared.SurfaceId.{SurfaceId}
-use Rattle.vz_ids.specs.declared.FrameSinkId.{FrameSinkId}
-use Rattle.vz_ids.specs.declared.LocalSurfaceId.{LocalSurfaceId}
-use Rattle.vz_ids.specs.declared.Sub.{Sub}
+use Rattle.std.proofs.Common.{◌≡◌, ℕ, ◌≤◌, Option, Some, None, List, [], ◌∷◌, map, refl, ap, sym, ◌∙◌, subst, arith, sum_by}
+use Rattle.std.proofs.{lemmas.List.Sums.sum_by-cons, lemmas.Bool.Decides.nat_tests}
+use Rattle.vz_ids.specs.{declared.SurfaceId.SurfaceId, declared.FrameSinkId.FrameSinkId, declared.LocalSurfaceId.LocalSurfaceId, declared.Sub.Sub}
 use Rattle.vz_pixels.specs.Block.{Block}
-use Rattle.vz_rules.specs.World.{World, Client, Submission, is_waiting}
-use Rattle.vz_rules.specs.declared.entry.Refusal.{Refusal}
-use Rattle.vz_rules.specs.declared.entry.Reply.TheVariants as reply
-use Rattle.vz_rules.specs.declared.entry.Refusal.TheVariants as refusal
-use Rattle.vz_rules.specs.Messages.{Answer, says, refused, unless_refused, taking, in_use, put_resource, upload_answer, hierarchy_answer, hierarchy_refusal, relate, root_answer, id_of, await_answer}
-use Rattle.vz_rules.specs.Returns.{mark_fed}
+use Rattle.vz_rules.specs.{World.World, World.Client, World.Submission, World.is_waiting, Returns.mark_fed}
+use Rattle.vz_rules.specs.Messages.{taking, put_resource, upload_answer, hierarchy_answer, relate, root_answer, id_of, await_answer}
 use Rattle.vz_rules.proofs.Members.{map_fixed}
 use Rattle.vz_surfaces.specs.Stored.{stored_of}
-use Rattle.vz_returns.specs.Lent.{AreLent}
-use Rattle.vz_returns.specs.Owed.{AreOwed}
-use Rattle.vz_surface_manager.specs.Kept_surfaces.{AreKept}
-use Rattle.vz_surface_manager.specs.Told_damage.{AreTold}
-use Rattle.vz_surface_manager.specs.Flown.{AreFlown}
-use Rattle.vz_surface_manager.specs.Live.{Live, AreLive, AreWhole, wants}
+use Rattle.vz_returns.specs.{Lent.AreLent, Owed.AreOwed}
+use Rattle.vz_surface_manager.specs.{Kept_surfaces.AreKept, Told_damage.AreTold, Flown.AreFlown, Live.Live, Live.AreLive, Live.AreWhole, Live.wants}
 use Rattle.vz_surface_manager.proofs.Live_kept.{whole_mapped}
 
 -- the submissions may only be fed
@@ -28,8 +17,7 @@ pub record OnlyFeeds (f : Submission → Submission) : Type 0 where
   pub waits : (s : Submission) → is_waiting (f s) ≡ is_waiting s
 
 wants_same : (f : Submission → Submission) (s : Submission) → OnlyFeeds f → wants (f s) ≡ wants s
-wants_same f s h =
-    λ i. cond (h.waits s i) (length (h.submitted s i).frame.metadata.references + 1) 0
+wants_same f s h = grind (arith, nat_tests)
 
 sum_same : (f : Submission → Submission) (xs : List Submission) → OnlyFeeds f → sum_by wants (map f xs) ≡ sum_by wants xs
 sum_same f [] h = refl
@@ -63,49 +51,29 @@ live_by w v b c x y subs = live_from w v b c x y (λ s. s) (subs ∙ sym (map_fi
 -- all stays
 pub live_stays : (w v : World) (b : Option SurfaceId) (x : Live) → v.subs ≡ w.subs → stored_of v ≡ stored_of w → AreLent v x.lent → AreOwed v x.owed.owed
     → AreKept v b x.kept → AreTold v x.damaged → AreFlown v x.flight → AreLive w b x → AreLive v b x
-live_stays w v b x subs stored lent owed kept told flown h =
-    live_by w v b b x x subs (h.store ∙ sym stored) lent owed kept told flown refl (omega arith) h
+live_stays w v b x subs stored lent owed kept told flown h = grind (arith, nat_tests, live_by w v b b x x subs)
 
 -- Messages by cases
 
 pub upload_cases : (P : World → Type 0) (w : World) (c : Client) (id : ℕ) (block : Block) → P (taking (λ x. x) c w)
     → P (taking (λ x. record x { resources = put_resource id block x.resources }) c w) → P (upload_answer w c id block).world
 unfolding upload_answer
-upload_cases P w c id block kept done =
-    elim (in_use c.resources id) as (λ (t : Bool). P (cond t (refused w c refusal.InUse) (says reply.Stored (taking (λ x. record x { resources = put_resource id block x.resources }) c w))).world) [
-      | true ↦ kept
-      | false ↦ done
-    ]
+upload_cases P w c id block kept done = grind (arith, nat_tests)
 
 pub hierarchy_cases : (P : World → Type 0) (w : World) (c : Client) (parent child : FrameSinkId) → P (taking (λ x. x) c w)
     → P (record (taking (λ x. x) c w) { relations = relate parent child w.relations }) → P (hierarchy_answer w c parent child).world
 unfolding hierarchy_answer
-hierarchy_cases P w c parent child kept done = by (hierarchy_refusal w c parent child)
-  where
-    by : (o : Option Refusal) → P (unless_refused w c o (says reply.Joined (record (taking (λ x. x) c w) { relations = relate parent child w.relations }))).world
-    by None = done
-    by (Some r) = kept
+hierarchy_cases P w c parent child kept done = grind (arith, nat_tests)
 
 pub root_cases : (P : World → Type 0) (w : World) (c : Client) (local : LocalSurfaceId) → P (taking (λ x. x) c w)
     → P (record (taking (λ x. x) c w) { root = Some (id_of c local) }) → P (root_answer w c local).world
 unfolding root_answer
-root_cases P w c local kept done =
-    elim (c.number == 1) as (λ (t : Bool). P (cond t (says reply.Rooted (record (taking (λ x. x) c w) { root = Some (id_of c local) })) (refused w c refusal.NotRoot)).world) [
-      | true ↦ done
-      | false ↦ kept
-    ]
+root_cases P w c local kept done = grind (arith, nat_tests)
 
 pub await_cases : (P : World → Type 0) (w : World) (c : Client) → P (taking (λ (x : Client). record x { delivered = None }) c w) → P (taking (λ x. x) c w) → P w
     → P (await_answer w c).world
 unfolding await_answer
-await_cases P w c takes over none = by c.delivered
-  where
-    by : (o : Option ℕ) → P (elim o as (λ o. Answer) [
-      | Some n ↦ says (reply.Began n) (taking (λ (x : Client). record x { delivered = None }) c w)
-      | None ↦ cond w.over (says reply.Over (taking (λ x. x) c w)) (says (reply.Refused refusal.NotYet) w)
-    ]).world
-    by (Some n) = takes
-    by None = elim w.over as (λ (t : Bool). P (cond t (says reply.Over (taking (λ x. x) c w)) (says (reply.Refused refusal.NotYet) w)).world) [ true ↦ over | false ↦ none ]
+await_cases P w c takes over none = grind (arith, nat_tests)
 
 -- feedback
 pub feeds_only : (w : World) (presented : List Sub) → OnlyFeeds (mark_fed w presented)

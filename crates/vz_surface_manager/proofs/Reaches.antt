@@ -1,31 +1,21 @@
 -- What is reached over what is kept is what is reached in the machine's state.
-use Rattle.std.proofs.Common.{true, false, ◌+◌, ◌≤◌, length, arith, ◌≡◌, Bool, Option, Some, None, IfSome, IsTrue, List, refl, ap, ◌∙◌, subst, cond}
+use Rattle.std.proofs.Common.{true, false, ◌+◌, ◌≤◌, length, arith, ◌≡◌, Option, None, IfSome, IsTrue, List, ap, ◌∙◌, subst}
 use Rattle.std.specs.List.{list_any}
-use Rattle.vz_ids.specs.declared.SurfaceId.{SurfaceId}
-use Rattle.vz_ids.specs.declared.SurfaceRange.{SurfaceRange}
-use Rattle.vz_ids.specs.Ids.{same_surface}
-use Rattle.vz_rules.specs.World.{World}
-use Rattle.vz_rules.specs.Closure.{IsLeastClosed}
-use Rattle.vz_rules.specs.Scene.{shown}
-use Rattle.vz_rules.specs.Reach.{has_id, naming, reach}
-use Rattle.vz_rules.specs.Kept.{KeepsAlways}
+use Rattle.vz_ids.specs.{declared.SurfaceId.SurfaceId, declared.SurfaceRange.SurfaceRange, Ids.same_surface}
+use Rattle.vz_rules.specs.{World.World, Closure.IsLeastClosed, Scene.shown, Reach.has_id, Reach.naming, Reach.reach, Kept.KeepsAlways}
 use Rattle.vz_frame.specs.Frame.{has_repeat}
-use Rattle.vz_rules.proofs.Marking.{fits}
-use Rattle.vz_rules.proofs.Reached.{from_same, self_same}
+use Rattle.vz_rules.proofs.{Marking.fits, Reached.from_same, Reached.self_same}
 use Rattle.vz_refs.specs.Referring.{Ranged, Temporary, is_set, next_in, starts}
 use Rattle.vz_refs.proofs.Gathering.{all_of, all_fit, next_inside, starts_inside}
-use Rattle.vz_surfaces.specs.Stored.{Stored, stored_of}
-use Rattle.vz_surfaces.specs.Reading.{stands, shown_in}
+use Rattle.vz_surfaces.specs.{Stored.Stored, Stored.stored_of, Reading.shown_in}
 use Rattle.vz_surfaces.proofs.Telling.{tells_exists, tells_shown}
-use Rattle.vz_surface_manager.specs.Kept_surfaces.{if_exists}
+use Rattle.vz_surface_manager.specs.{Kept_surfaces.if_exists, Live.Live, Live.AreLive, Roots.if_stands}
 use Rattle.vz_surface_manager.proofs.Rooted.{shown_set, marked_reached}
-use Rattle.vz_surface_manager.specs.Live.{Live, AreLive}
-use Rattle.vz_surface_manager.specs.Roots.{if_stands}
+use Rattle.std.proofs.lemmas.Bool.Decides.{nat_tests}
 
 -- the root where it exists
 pub root_there : (w : World) (st : Stored) (root : Option SurfaceId) → st ≡ stored_of w → if_stands st root ≡ if_exists w root
-root_there w st None e = refl
-root_there w st (Some id) e = ap (λ (t : Bool). cond t (Some id) None) (ap (λ (s : Stored). stands s id) e ∙ tells_exists w id)
+root_there w st root e = grind (arith, nat_tests, tells_exists)
 
 module _ (w : World) (but : Option SurfaceId) (v : Live) (h : KeepsAlways w) (live : AreLive w but v) where
   pub shows_is : (x : SurfaceRange) → shown_in v.store x ≡ shown w x

@@ -1,28 +1,16 @@
 -- What a drawing reads of what is told.
-use Rattle.std.proofs.Common.{◌≡◌, Bool, true, Option, Some, None, map, filter, ap, sym, ◌∙◌, cond, Contains}
-use Rattle.std.proofs.lemmas.Bool.{or_right}
-use Rattle.vz_frame.specs.Frame.{root_damage}
-use Rattle.vz_rules.specs.World.{World, Submission, FrameData, Aggregation, is_on, is_waiting, is_active}
+use Rattle.std.proofs.Common.{◌≡◌, true, Some, filter, ap, sym, ◌∙◌, Contains, arith}
+use Rattle.std.proofs.{lemmas.Bool.or_right, lemmas.Bool.Decides.nat_tests}
+use Rattle.vz_rules.specs.World.{World, Submission, FrameData, Aggregation, is_waiting, is_active}
 use Rattle.vz_rules.specs.Kept.{KeepsAlways}
-use Rattle.vz_rules.proofs.Kept_facts.{active_seen}
-use Rattle.vz_rules.proofs.Members.{contains_map, filter_at}
-use Rattle.vz_damage.specs.Told.{Damaged, told_on}
-use Rattle.vz_damage.specs.Accepted.{TellsLast, told_of}
-use Rattle.vz_surface_manager.specs.Told_damage.{AreTold, told_in, index_of, index_on}
+use Rattle.vz_rules.proofs.{Kept_facts.active_seen, Members.contains_map, Members.filter_at}
+use Rattle.vz_damage.specs.{Told.Damaged, Told.told_on, Accepted.TellsLast, Accepted.told_of}
+use Rattle.vz_surface_manager.specs.Told_damage.{AreTold}
 
 tells_one : (w : World) (d : Damaged) (a : Aggregation) (s : Submission) → KeepsAlways w → AreTold w d → w.last ≡ Some a
     → Contains w.subs s → is_active s ≡ true
     → told_on d.surfaces s.submitted.id ≡ Some (told_of w a s.submitted)
-tells_one w d a s h k last m acts =
-    k.told s.submitted.id
-    ∙ (ap (λ (t : Bool). cond t (Some (told_in w.subs w.last s.submitted.id)) None)
-    (h.states.stand s m (or_right (is_waiting s) (is_active s) acts))
-    ∙ (ap (λ (o : Option Aggregation). Some (told_in w.subs o s.submitted.id)) last
-    ∙ ap (λ (o : Option FrameData). Some (record {
-      damages = map (λ (x : Submission). root_damage x.submitted.frame) (filter (is_on s.submitted.id) w.subs);
-      active = index_of o;
-      seen = index_on (Some a) s.submitted.id;
-    })) (active_seen w s h m acts)))
+tells_one w d a s h k last m acts = grind (arith, nat_tests, or_right (is_waiting s) (is_active s) acts, active_seen w s h m acts)
 
 pub tells_last : (w : World) (d : Damaged) → KeepsAlways w → AreTold w d → TellsLast w d.surfaces
 tells_last w d h k a last i m =

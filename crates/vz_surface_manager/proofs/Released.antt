@@ -4,14 +4,10 @@ use Rattle.std.proofs.Common.{◌∷◌, length, drop, slice_get, ap, sym, ◌�
 use Rattle.std.proofs.Math.ListN.{drop_of_length-le}
 use Rattle.vz_ids.specs.declared.Sub.{Sub}
 use Rattle.vz_frame.specs.declared.frame.Listing.{Listing}
-use Rattle.vz_rules.specs.World.{World, Submission, has_sub, sub_of}
-use Rattle.vz_rules.specs.Kept.{KeepsAlways}
+use Rattle.vz_rules.specs.{World.World, World.Submission, World.has_sub, World.sub_of, Kept.KeepsAlways}
 use Rattle.vz_rules.proofs.Members.{contains_at, at_contains, at_within}
-use Rattle.vz_returns.specs.Lent.{Lent, AreLent, IsLender}
-use Rattle.vz_returns.specs.Listed.{lists_twice}
-use Rattle.vz_returns.specs.Changes.{IsDone}
-use Rattle.vz_surface_manager.specs.Flown.{Flown, subs_of}
-use Rattle.vz_surface_manager.specs.Frame_end.{IsLanding}
+use Rattle.vz_returns.specs.{Lent.Lent, Lent.AreLent, Lent.IsLender, Listed.lists_twice, Changes.IsDone}
+use Rattle.vz_surface_manager.specs.{Flown.Flown, Flown.subs_of, Frame_end.IsLanding}
 use Rattle.vz_surface_manager.proofs.Found.{client_of, whole_once}
 
 drop_from : (xs : List Flown) (k : ℕ) (f : Flown) → slice_get xs k ≡ Some f → subs_of (drop k xs) ≡ f.0 ∷ subs_of (drop (suc k) xs)

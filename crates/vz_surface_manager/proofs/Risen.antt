@@ -1,54 +1,31 @@
 -- A submission becomes active: what hangs on its surface stands for the state then.
 use Rattle.std.proofs.Common.{◌≡◌, ℕ, ◌+◌, ◌-◌, ◌≤◌, Bool, true, false, ◌&&◌, Option, Some, None, List, length, map, find, refl, ap, sym, ◌∙◌, subst, arith, cond, Contains, sum_by}
 use Rattle.std.specs.Option.{option_map}
-use Rattle.std.proofs.lemmas.Bool.{and_from, and_parts, both_ways}
-use Rattle.vz_ids.specs.declared.SurfaceId.{SurfaceId}
-use Rattle.vz_ids.specs.declared.SurfaceRange.{SurfaceRange}
-use Rattle.vz_ids.specs.declared.Sub.{Sub}
-use Rattle.vz_ids.specs.Ids.{same_surface, same_sub}
+use Rattle.std.proofs.{lemmas.Bool.and_from, lemmas.Bool.and_parts, lemmas.Bool.both_ways, lemmas.Bool.Decides.nat_tests}
+use Rattle.vz_ids.specs.{declared.SurfaceId.SurfaceId, declared.SurfaceRange.SurfaceRange, declared.Sub.Sub, Ids.same_surface, Ids.same_sub}
 use Rattle.vz_frame.specs.declared.frame.Listing.{Listing}
-use Rattle.vz_rules.specs.declared.entry.State.TheVariants.{Active, Past}
+use Rattle.vz_rules.specs.{declared.entry.State.TheVariants.Active, declared.entry.State.TheVariants.Past, Singly.as_one_rises, Singly.rising}
 use Rattle.vz_rules.specs.World.{World, Submission, is_waiting, is_active, is_on, sub_of}
-use Rattle.vz_rules.specs.Singly.{as_one_rises, rising}
-use Rattle.vz_rules.proofs.Reached.{self_same}
-use Rattle.vz_rules.proofs.Kept_singly.{apart, own_sub, active_waits_not}
+use Rattle.vz_rules.proofs.{Reached.self_same, Kept_singly.apart, Kept_singly.own_sub, Kept_singly.active_waits_not}
 use Rattle.vz_refs.specs.Referring.{Referring, setting, unnamed}
 use Rattle.vz_surface_manager.proofs.Risen_kept.{kept_rising}
-use Rattle.vz_surfaces.specs.declared.held.Held.{Held}
-use Rattle.vz_surfaces.specs.Stored.{Stored, stored_of, bare_sub, activating}
-use Rattle.vz_surfaces.specs.Reading.{held_of, active_on, waiting_at}
-use Rattle.vz_surfaces.specs.Keeping.{KeepsStored}
-use Rattle.vz_surfaces.specs.Memory.{is_waiting_in}
-use Rattle.vz_surfaces.proofs.Following.{follows_activated}
-use Rattle.vz_surfaces.proofs.Kept_of_world.{keeps_of_world}
+use Rattle.vz_surfaces.specs.{declared.held.Held.Held, Stored.Stored, Stored.stored_of, Stored.bare_sub, Stored.activating, Memory.is_waiting_in}
+use Rattle.vz_surfaces.specs.{Reading.held_of, Reading.active_on, Reading.waiting_at, Keeping.KeepsStored}
+use Rattle.vz_surfaces.proofs.{Following.follows_activated, Kept_of_world.keeps_of_world}
 use Rattle.vz_damage.specs.Told.{Damaged, told_on, with_active}
-use Rattle.vz_surface_manager.proofs.Raised.{told_raised}
-use Rattle.vz_returns.specs.Lent.{Lent, AreLent, IsLender}
-use Rattle.vz_returns.specs.Listed.{lists_twice, listed_by}
-use Rattle.vz_returns.specs.Changes.{IsRising as Releases}
-use Rattle.vz_returns.proofs.Alive.{one_there}
-use Rattle.vz_returns.proofs.Lent_kept.{lends}
-use Rattle.vz_returns.specs.declared.ended.Ended.{Ended}
-use Rattle.vz_returns.specs.Owed.{OwedAndRoom, AreOwed, ended_of, active_on as sub_active_on}
-use Rattle.vz_surface_manager.specs.Live.{Live, AreLive, wants}
-use Rattle.vz_surface_manager.specs.Ended_subs.{listings_of, ended_in}
-use Rattle.vz_surface_manager.specs.Changes.{IsRising}
+use Rattle.vz_surface_manager.proofs.{Raised.told_raised, Flights_kept.flown_risen, Live_kept.whole_mapped, Live_kept.kept_same, Live_kept.ended_is}
+use Rattle.vz_returns.specs.{Lent.Lent, Lent.AreLent, Lent.IsLender, Owed.OwedAndRoom, Owed.AreOwed, Owed.ended_of, Owed.active_on as sub_active_on}
+use Rattle.vz_returns.specs.{Changes.IsRising as Releases, declared.ended.Ended.Ended}
+use Rattle.vz_returns.proofs.{Alive.one_there, Lent_kept.lends}
+use Rattle.vz_surface_manager.specs.{Live.Live, Live.AreLive, Live.wants, Ended_subs.listings_of, Ended_subs.ended_in, Changes.IsRising}
 use Rattle.vz_surface_manager.proofs.Wanted_places.{sum_less, sum_one, one_wants, wants_not}
-use Rattle.vz_surface_manager.proofs.Flights_kept.{flown_risen}
-use Rattle.vz_surface_manager.proofs.Live_kept.{whole_mapped, kept_same, ended_is}
 use Rattle.vz_surface_manager.proofs.Found.{frame_of, acts_in, waits_in, listings_read, found_once, client_of, one_waits, waits_alone, waits_stored, is_waiting_there}
 
 some_same : {A : Type 0} {a b : A} → Some a ≡ Some b → a ≡ b
 some_same f = cc
 
 frame_rises : (a b : Bool) (t : Submission) → (cond a (record t { state = Active; was_active = true }) (cond b (record t { state = Past }) t)).submitted ≡ t.submitted
-frame_rises true b t = refl
-frame_rises false true t = refl
-frame_rises false false t = refl
-
-active_wants : (b : Bool) (t : Submission) → b ≡ true → wants (cond b (record t { state = Active; was_active = true }) t) ≡ 0
-active_wants true t e = refl
-active_wants false t e = absurd (cc)
+frame_rises a b t = grind (arith, nat_tests)
 
 past_wants : (a b : Bool) (t : Submission) → is_active t ≡ a → wants (cond (a && b) (record t { state = Past }) t) ≡ wants t
 past_wants true true t e = sym (wants_not t (active_waits_not t e))
@@ -76,17 +53,7 @@ module _ (w : World) (but : Option SurfaceId) (s : Submission) (sub : Sub) (v : 
   acts_is o id e f = acts_in w v.store s.submitted.id o h.always h.live.store (f ∙ ap (λ i. option_map held_of (active_on v.store i)) e)
 
   pub releases : (o : Option Held) (L : List Listing) → o ≡ frame_of acting → L ≡ listings_of o → Releases w s sub.client L v.lent
-  releases o L e f =
-      let listed : L ≡ listed_by acting = f ∙ (ap listings_of e ∙ listings_read acting) in
-      record {
-        always = h.always;
-        known = h.known;
-        waits = h.waits;
-        own = ap (λ x. x.client) h.name;
-        listed = listed;
-        once = ap lists_twice listed ∙ found_once (λ t. is_active t && is_on s.submitted.id t) w.subs h.live.whole;
-        lent = h.live.lent;
-      }
+  releases o L e f = grind (arith, nat_tests, listings_read, found_once)
 
   pub is_lender : IsLender sub.client v.lent
   is_lender =
@@ -127,25 +94,10 @@ module _ (w : World) (but : Option SurfaceId) (s : Submission) (sub : Sub) (v : 
 
   -- it waits no longer, and the others want what they wanted
   goes : (t : Submission) → Contains w.subs t → (is_waiting t && is_on s.submitted.id t) ≡ true → wants (as_one_rises s t) ≡ 0
-  goes t c e =
-      let parts = and_parts (is_waiting t) (is_on s.submitted.id t) e in
-      let one : t ≡ s = one_waits w s t h.always h.known h.waits c parts.0 parts.1 in
-      by (same_sub (sub_of t) (sub_of s)) (ap (λ (x : Submission). same_sub (sub_of x) (sub_of s)) one ∙ own_sub (sub_of s))
-    where
-      by : (b : Bool) → b ≡ true → wants (cond b (record t { state = Active; was_active = true }) (cond (is_active t && is_on s.submitted.id t) (record t { state = Past }) t)) ≡ 0
-      by true e = refl
-      by false e = absurd (cc)
+  goes t c e = grind (arith, nat_tests, and_parts (is_waiting t) (is_on s.submitted.id t) e, one_waits w s t h.always h.known h.waits c, own_sub (sub_of s))
 
   stays : (t : Submission) → Contains w.subs t → (is_waiting t && is_on s.submitted.id t) ≡ false → wants (as_one_rises s t) ≡ wants t
-  stays t c e = by (same_sub (sub_of t) (sub_of s)) refl
-    where
-      by : (b : Bool) → same_sub (sub_of t) (sub_of s) ≡ b
-          → wants (cond b (record t { state = Active; was_active = true }) (cond (is_active t && is_on s.submitted.id t) (record t { state = Past }) t)) ≡ wants t
-      by true f =
-          let one : t ≡ s = apart w h.always t s c h.known f in
-          absurd (both_ways (is_waiting t && is_on s.submitted.id t) e
-          (and_from (is_waiting t) (is_on s.submitted.id t) (ap is_waiting one ∙ h.waits) (ap (λ (x : Submission). is_on s.submitted.id x) one ∙ self_same s.submitted.id)))
-      by false f = past_wants (is_active t) (is_on s.submitted.id t) t refl
+  stays t c e = grind (arith, nat_tests, apart, both_ways, and_from, self_same, past_wants)
 
   less : sum_by wants (map (as_one_rises s) w.subs) + wants s ≡ sum_by wants w.subs
   less =

@@ -1,46 +1,21 @@
 -- One submission becomes active: what is found on surfaces, and what is named, after it.
-use Rattle.std.proofs.Common.{◌≡◌, Bool, true, false, not, ◌&&◌, ◌||◌, ◌==◌, ◌⊎◌, inl, inr, Option, Some, None, List, [], ◌∷◌, map, filter, refl, ap, sym, ◌∙◌, subst, cond, Contains, is_some}
-use Rattle.std.specs.Option.{option_map}
-use Rattle.std.specs.List.{list_any}
-use Rattle.std.proofs.lemmas.Bool.{and_parts, and_from, or_left, or_right, both_ways, eq-eqb}
-use Rattle.vz_ids.specs.declared.SurfaceId.{SurfaceId}
-use Rattle.vz_ids.specs.declared.Sub.{Sub}
-use Rattle.vz_ids.specs.Ids.{same_surface, same_sub}
-use Rattle.vz_rules.specs.declared.entry.State.{State}
-use Rattle.vz_rules.specs.declared.entry.State.TheVariants.{Waiting, Active, Past, Dropped}
+use Rattle.std.proofs.Common.{◌≡◌, Bool, true, false, ◌&&◌, ◌||◌, ◌⊎◌, inl, inr, Option, Some, List, [], ◌∷◌, map, refl, ap, sym, ◌∙◌, subst, cond, Contains, is_some, arith}
+use Rattle.std.specs.{Option.option_map, List.list_any}
+use Rattle.std.proofs.lemmas.Bool.{and_parts, and_from, or_left, or_right, both_ways, or_cases as either}
+use Rattle.vz_ids.specs.{declared.SurfaceId.SurfaceId, Ids.same_surface, Ids.same_sub}
 use Rattle.vz_rules.specs.World.{World, Surface, Submission, FrameData, is_waiting, is_active, is_on, sub_of, active_frames, frame_on, exists, existing}
-use Rattle.vz_rules.specs.Settle.{marked_by, is_before}
-use Rattle.vz_rules.specs.Singly.{as_one_rises, rising}
-use Rattle.vz_rules.specs.Kept.{KeepsAlways}
-use Rattle.vz_rules.proofs.Reached.{from_same, self_same}
+use Rattle.vz_rules.specs.{Settle.marked_by, Singly.as_one_rises, Singly.rising, Kept.KeepsAlways, Reach.names, Reach.is_named_now}
+use Rattle.vz_rules.proofs.{Reached.from_same, Reached.self_same, Counts.one_place, Kept_facts.subs_apart, Rising.find_map, Kept_rounds.self_sub}
 use Rattle.vz_rules.proofs.Members.{contains_here, contains_there, contains_none, contains_cases, contains_map, map_contains, contains_at, at_same, any_at, any_from, same_tests}
-use Rattle.vz_rules.proofs.Counts.{one_place}
-use Rattle.vz_rules.proofs.Kept_facts.{subs_apart}
-use Rattle.vz_rules.specs.Reach.{names, is_named_now}
 use Rattle.vz_surface_manager.specs.Kept_surfaces.{names_it}
-use Rattle.vz_rules.proofs.Rising.{find_map}
-
-either : (s t : Bool) → (s || t) ≡ true → (s ≡ true) ⊎ (t ≡ true)
-either true t e = inl refl
-either false t e = inr e
+pub use Rattle.vz_returns.proofs.Alive.{not_both as waits_inactive}
+use Rattle.std.proofs.lemmas.Bool.Decides.{nat_tests}
 
 -- Submissions
 
-pub waits_inactive : (s : Submission) → is_waiting s ≡ true → is_active s ≡ false
-waits_inactive s h = by s.state h
-  where
-    by : (t : State) → (elim t as (λ t. Bool) [ Waiting ↦ true | _ ↦ false ]) ≡ true → (elim t as (λ t. Bool) [ Active ↦ true | _ ↦ false ]) ≡ false
-    by Waiting h = refl
-    by Active h = absurd (cc)
-    by Past h = absurd (cc)
-    by Dropped h = absurd (cc)
-
 -- a submission of the same name is the same
 pub one_sub : (w : World) (s t : Submission) → KeepsAlways w → Contains w.subs s → Contains w.subs t → same_sub (sub_of s) (sub_of t) ≡ true → s ≡ t
-one_sub w s t h c d e =
-    let n = contains_at w.subs s c in
-    let m = contains_at w.subs t d in
-    at_same w.subs n.0 m.0 s t n.1 m.1 (subs_apart w n.0 m.0 s t h n.1 m.1 e)
+one_sub w s t h c d e = grind (arith, nat_tests, contains_at w.subs s c, contains_at w.subs t d, at_same w.subs, subs_apart w)
 
 -- of a surface one at most waits
 pub one_waits : (w : World) (s t : Submission) → KeepsAlways w → Contains w.subs s → Contains w.subs t → is_waiting s ≡ true → is_waiting t ≡ true
@@ -59,31 +34,16 @@ pub data Rises (x t : Submission) (r : Submission) : Type 0 where
   IsPast : is_active t ≡ true → is_on x.submitted.id t ≡ true → is_active r ≡ false → is_waiting r ≡ false → r.submitted ≡ t.submitted → Rises x t r
   Stays : (t ≡ x → ⊥) → (is_active t ≡ true → is_on x.submitted.id t ≡ false) → r ≡ t → Rises x t r
 
-self_sub : (a : Sub) → same_sub a a ≡ true
-self_sub a = and_from (a.client == a.client) (a.ordinal == a.ordinal) (eq-eqb a.client a.client refl) (eq-eqb a.ordinal a.ordinal refl)
-
 other : {x t : Submission} → t ≡ x → same_sub (sub_of t) (sub_of x) ≡ false → ⊥
 other {x} {t} s e = absurd (both_ways (same_sub (sub_of t) (sub_of x)) e (ap (λ (y : Submission). same_sub (sub_of y) (sub_of x)) s ∙ self_sub (sub_of x)))
 
 pub rises_by : (w : World) (x t : Submission) → KeepsAlways w → Contains w.subs x → Contains w.subs t → Rises x t (as_one_rises x t)
-rises_by w x t h c d = by (same_sub (sub_of t) (sub_of x)) refl (is_active t) refl (is_on x.submitted.id t) refl
-  where
-    by : (a : Bool) → same_sub (sub_of t) (sub_of x) ≡ a → (b : Bool) → is_active t ≡ b → (o : Bool) → is_on x.submitted.id t ≡ o
-        → Rises x t (cond a (record t { state = Active; was_active = true }) (cond (b && o) (record t { state = Past }) t))
-    by true e b f o g = let same : t ≡ x = one_sub w t x h d c e in IsIt same refl refl (ap (λ (s : Submission). s.submitted) same)
-    by false e true f true g = IsPast f g refl refl refl
-    by false e true f false g = Stays (λ s. other s e) (λ k. g) refl
-    by false e false f o g = Stays (λ s. other s e) (λ k. absurd (both_ways (is_active t) f k)) refl
+rises_by w x t h c d = grind (arith, nat_tests, one_sub w t x h d c, other, both_ways (is_active t))
 
 -- Active frames
 
 pub active_cons : (id : SurfaceId) (r : Submission) (ys : List Submission) → frame_on id (active_frames (r ∷ ys)) ≡ cond (is_active r && same_surface r.submitted.id id) (Some r.submitted) (frame_on id (active_frames ys))
-active_cons id r ys = by (is_active r)
-  where
-    by : (b : Bool) → frame_on id (map (λ (s : Submission). s.submitted) (cond b (r ∷ filter is_active ys) (filter is_active ys)))
-        ≡ cond (b && same_surface r.submitted.id id) (Some r.submitted) (frame_on id (active_frames ys))
-    by true = refl
-    by false = refl
+active_cons id r ys = grind (arith, nat_tests)
 
 abbrev pub seen_as : SurfaceId → Bool → FrameData → Option FrameData → Option FrameData
 seen_as id b i rest = cond (b && same_surface i.id id) (Some i) rest
@@ -95,8 +55,7 @@ pub seen_inactive : (id : SurfaceId) (b : Bool) (i : FrameData) (rest : Option F
 seen_inactive id b i rest e = ap (λ (t : Bool). seen_as id t i rest) e
 
 pub seen_off : (id : SurfaceId) (b : Bool) (i : FrameData) (rest : Option FrameData) → (b ≡ true → same_surface i.id id ≡ false) → seen_as id b i rest ≡ rest
-seen_off id true i rest f = ap (λ (t : Bool). cond t (Some i) rest) (f refl)
-seen_off id false i rest f = refl
+seen_off id b i rest f = grind (arith, nat_tests)
 
 module _ (w : World) (x : Submission) (h : KeepsAlways w) (there : Contains w.subs x) (waits : is_waiting x ≡ true) where
   rises : (t : Submission) → Contains w.subs t → Rises x t (as_one_rises x t)
@@ -132,13 +91,11 @@ module _ (w : World) (x : Submission) (h : KeepsAlways w) (there : Contains w.su
   -- the surface on which it rises shows it
   on_step : (t r : Submission) (ts : List Submission) (a : Option FrameData) → Rises x t r → (t ≡ x) ⊎ Contains ts x → (Contains ts x → a ≡ Some x.submitted)
       → seen_as x.submitted.id (is_active r) r.submitted a ≡ Some x.submitted
-  on_step t r ts a (IsIt same acts rests is) c rest =
-      seen_active x.submitted.id (is_active r) r.submitted x.submitted a acts is ∙ ap (λ (q : Bool). cond q (Some x.submitted) a) (self_same x.submitted.id)
+  on_step t r ts a (IsIt same acts rests is) c rest = grind (arith, nat_tests, seen_active x.submitted.id (is_active r) r.submitted x.submitted a acts is, self_same x.submitted.id)
   on_step t r ts a (IsPast acts on gone rests is) (inl e) rest = absurd (both_ways (is_active t) (ap is_active e ∙ waits_inactive x waits) acts)
   on_step t r ts a (IsPast acts on gone rests is) (inr c) rest = seen_inactive x.submitted.id (is_active r) r.submitted a gone ∙ rest c
   on_step t r ts a (Stays apart clear is) (inl e) rest = absurd (apart e)
-  on_step t r ts a (Stays apart clear is) (inr c) rest =
-      ap (λ (s : Submission). seen_as x.submitted.id (is_active s) s.submitted a) is ∙ (seen_off x.submitted.id (is_active t) t.submitted a clear ∙ rest c)
+  on_step t r ts a (Stays apart clear is) (inr c) rest = grind (arith, nat_tests, seen_off x.submitted.id (is_active t) t.submitted a clear)
 
   frames_on : (ts : List Submission) → ((t : Submission) → Contains ts t → Contains w.subs t) → Contains ts x
       → frame_on x.submitted.id (active_frames (map (as_one_rises x) ts)) ≡ Some x.submitted
@@ -149,42 +106,23 @@ module _ (w : World) (x : Submission) (h : KeepsAlways w) (there : Contains w.su
 
   pub frame_risen : (id : SurfaceId) → frame_on id (active_frames (rising x w).subs) ≡ cond (same_surface x.submitted.id id) (Some x.submitted) (frame_on id (active_frames w.subs))
   unfolding rising
-  frame_risen id = by (same_surface x.submitted.id id) refl
-    where
-      by : (t : Bool) → same_surface x.submitted.id id ≡ t → frame_on id (active_frames (map (as_one_rises x) w.subs)) ≡ cond t (Some x.submitted) (frame_on id (active_frames w.subs))
-      by true e =
-          ap (λ (i : SurfaceId). frame_on i (active_frames (map (as_one_rises x) w.subs))) (sym (from_same x.submitted.id id e)) ∙ frames_on w.subs (λ t c. c) there
-      by false e = frames_off id w.subs (λ t c. c) e
+  frame_risen id = grind (arith, nat_tests, from_same x.submitted.id id, frames_on w.subs, frames_off id w.subs)
 
   -- Names
 
-  marked_same : (c d : Surface) (t : Bool) → d ≡ cond t (record c { marked = true }) c → (d.id ≡ c.id) × (d.destroyed ≡ c.destroyed)
-  marked_same c d true e = (ap (λ (s : Surface). s.id) e, ap (λ (s : Surface). s.destroyed) e)
-  marked_same c d false e = (ap (λ (s : Surface). s.id) e, ap (λ (s : Surface). s.destroyed) e)
-
   stands_map : (id : SurfaceId) (o : Option Surface) (f : Surface → Surface) → is_some (option_map f o) ≡ is_some o
-  stands_map id None f = refl
-  stands_map id (Some c) f = refl
+  stands_map id o f = grind (arith, nat_tests)
 
   -- the same surfaces exist
   pub exists_risen : (id : SurfaceId) → exists (rising x w) id ≡ exists w id
   unfolding rising
-  exists_risen id =
-      ap is_some (find_map (λ (s : Surface). same_surface s.id id && not s.destroyed) (marked_by w.surfaces (x ∷ [])) w.surfaces (λ c. same_one id c (list_any (is_before w.surfaces c) (x ∷ []))))
-      ∙ stands_map id (existing w id) (marked_by w.surfaces (x ∷ []))
-    where
-      same_one : (id : SurfaceId) (c : Surface) (t : Bool) → (same_surface (cond t (record c { marked = true }) c).id id && not (cond t (record c { marked = true }) c).destroyed) ≡ (same_surface c.id id && not c.destroyed)
-      same_one id c true = refl
-      same_one id c false = refl
+  exists_risen id = grind (arith, nat_tests, find_map, stands_map id (existing w id) (marked_by w.surfaces (x ∷ [])))
 
   abbrev names_now : World → SurfaceId → Submission → Bool
   names_now v id s = is_active s && exists v s.submitted.id && names_it id s
 
   names_parts : (v : World) (id : SurfaceId) (s : Submission) → names_now v id s ≡ true → (is_active s ≡ true) × (exists v s.submitted.id ≡ true) × (names_it id s ≡ true)
-  names_parts v id s e =
-      let parts = and_parts (is_active s && exists v s.submitted.id) (names_it id s) e in
-      let first = and_parts (is_active s) (exists v s.submitted.id) parts.0 in
-      (first.0, first.1, parts.1)
+  names_parts v id s e = grind (arith, nat_tests, and_parts, and_parts (is_active s) (exists v s.submitted.id))
 
   names_from : (v : World) (id : SurfaceId) (s : Submission) → is_active s ≡ true → exists v s.submitted.id ≡ true → names_it id s ≡ true → names_now v id s ≡ true
   names_from v id s a e n = and_from (is_active s && exists v s.submitted.id) (names_it id s) (and_from (is_active s) (exists v s.submitted.id) a e) n
@@ -238,8 +176,4 @@ module _ (w : World) (x : Submission) (h : KeepsAlways w) (there : Contains w.su
     named_before e = let m = any_at (names_now w id) w.subs e in from_old m.0 (as_one_rises x m.0) m.1 (rises m.0 m.1) refl m.2
 
     pub named_risen : is_named_now (rising x w) id ≡ (is_named_now w id || names_it id x)
-    named_risen =
-        same_tests (is_named_now (rising x w) id) (is_named_now w id || names_it id x) forth (λ e. elim (either (is_named_now w id) (names_it id x) e) [
-          | inl l ↦ named_before l
-          | inr r ↦ from_it (as_one_rises x x) (rises x there) refl r
-        ])
+    named_risen = grind (arith, nat_tests, same_tests, forth, either, named_before, from_it)

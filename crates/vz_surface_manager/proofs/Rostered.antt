@@ -1,34 +1,23 @@
 -- What a walk meets is what it draws, in another order.
-use Rattle.std.proofs.Common.{◌≡◌, Bool, true, ◌==◌, Some, List, [], ◌∷◌, ◌++◌, refl, ap, sym, ◌∙◌, subst}
+use Rattle.std.proofs.Common.{◌≡◌, Bool, true, Some, List, [], ◌∷◌, ◌++◌, refl, ap, sym, ◌∙◌, subst, arith}
 use Rattle.std.proofs.Common.{inl, inr, Contains, map, filter}
-use Rattle.std.proofs.lemmas.Bool.{and_from, eq-eqb}
-use Rattle.std.proofs.lemmas.List.{append-nil}
-use Rattle.std.proofs.lemmas.List.Elements.{filter_map-append}
+use Rattle.std.proofs.{lemmas.List.append-nil, lemmas.List.Elements.filter_map-append, lemmas.Bool.Decides.nat_tests, lemmas.Grind.common_steps}
 use Rattle.std.specs.List.{list_any, filter_map}
 use Rattle.vz_geom.specs.declared.Size.{Size}
-use Rattle.vz_ids.specs.declared.SurfaceId.{SurfaceId}
-use Rattle.vz_ids.specs.declared.Sub.{Sub}
-use Rattle.vz_ids.specs.Ids.{same_sub}
-use Rattle.vz_rules.specs.Closure.{adding}
-use Rattle.vz_rules.specs.Kept.{stands_in}
+use Rattle.vz_ids.specs.{declared.SurfaceId.SurfaceId, declared.Sub.Sub, Ids.same_sub}
+use Rattle.vz_rules.specs.{Closure.adding, Kept.stands_in}
 use Rattle.vz_rules.specs.World.{FrameData, Scene, Submission, active_frames, has_sub, is_active, sub_of}
 use Rattle.vz_rules.specs.Walk.{Visit, Quad, Shows, Enters, goes_into, walked_subs}
 use Rattle.vz_rules.proofs.Members.{contains_none, contains_cases, contains_map, map_contains, contains_at, at_same, any_at, any_from}
 use Rattle.vz_rules.proofs.Members.{filter_at, filter_has, filter_map_at, filter_map_has, same_tests}
-use Rattle.vz_rules.proofs.Kept_accepted.{subs_differ}
-use Rattle.vz_surfaces.specs.Stored.{Stored}
-use Rattle.vz_surfaces.specs.Reading.{seen_frames}
-use Rattle.vz_surfaces.specs.Keeping.{KeepsStored}
-use Rattle.vz_walk.specs.Meeting.{Meets}
-use Rattle.vz_walk.specs.Scenes.{scene_in, walked_in}
+use Rattle.vz_rules.proofs.{Kept_accepted.subs_differ, Kept_rounds.self_sub as own_sub}
+use Rattle.vz_surfaces.specs.{Stored.Stored, Reading.seen_frames, Keeping.KeepsStored}
+use Rattle.vz_walk.specs.{Meeting.Meets, Scenes.scene_in, Scenes.walked_in}
 use Rattle.vz_damage.proofs.Entering.{Each, GoesTo, goes_to_active}
 use Rattle.vz_surface_manager.specs.Flown.{Flown, subs_of}
 use Rattle.vz_surface_manager.specs.Rosters.{flown_as, flown_in, flown_from, flown_at, same_flown, met_in, IsRosterOf}
 use Rattle.vz_surface_manager.proofs.Counted.{Apart, seen_apart, drawn_once, as_many}
 use Rattle.vz_surface_manager.proofs.Gathered.{adding_from, adding_has, adding_once, once_before, once_behind}
-
-own_sub : (s : Sub) → same_sub s s ≡ true
-own_sub s = and_from (s.client == s.client) (s.ordinal == s.ordinal) (eq-eqb s.client s.client refl) (eq-eqb s.ordinal s.ordinal refl)
 
 -- what holds of each visit holds of one of them
 each_at : (P : Visit → Type 0) (xs : List Visit) (x : Visit) → Each P xs → Contains xs x → P x
@@ -71,15 +60,11 @@ module _ (active : List FrameData) (visits : List Visit) (goes : Each (GoesTo ac
       (any_from (goes_into i) visits (Enters depth i place) c (own_sub i.sub))))
 
   met_is_drawn : (f : Flown) → Contains (filter_map flown_at visits) f → Contains (flown_in active visits) f
-  met_is_drawn f c =
-      let m = filter_map_at flown_at visits f c in
-      drawn_by m.0 f m.1 (each_at (GoesTo active) visits m.0 goes m.1) m.2
+  met_is_drawn f c = grind (arith, nat_tests, common_steps, filter_map_at flown_at visits f c, drawn_by)
 
   met_by : (i : FrameData) (x : Visit) → Contains active i → Contains visits x → GoesTo active x → goes_into i x ≡ true
       → flown_at x ≡ Some (flown_as i)
-  met_by i Quad a c h e = absurd (cc)
-  met_by i (Shows range now seen) a c h e = absurd (cc)
-  met_by i (Enters depth j place) a c h e = ap (λ (k : FrameData). Some (flown_as k)) (sym (alone i j a h e))
+  met_by i x a c h e = grind (arith, nat_tests)
 
   -- and one that is drawn is met
   drawn_is_met : (f : Flown) → Contains (flown_in active visits) f → Contains (filter_map flown_at visits) f
@@ -165,9 +150,7 @@ adding_more xs (y ∷ ys) zs = adding_more (adding same_flown xs (y ∷ [])) ys 
 
 met_more : (before : List Visit) (x : Visit) → adding same_flown (met_in before) (filter_map flown_at (x ∷ [])) ≡ met_in (before ++ x ∷ [])
 unfolding met_in
-met_more before x =
-    sym (adding_more [] (filter_map flown_at before) (filter_map flown_at (x ∷ [])))
-    ∙ ap (adding same_flown []) (sym (filter_map-append flown_at before (x ∷ [])))
+met_more before x = grind (arith, nat_tests, adding_more [] (filter_map flown_at before) (filter_map flown_at (x ∷ [])), filter_map-append flown_at before (x ∷ []))
 
 -- nothing is met at first
 pub nothing_met : met_in [] ≡ []
@@ -184,7 +167,4 @@ module _ {V : Type 0} (roster : V → List Flown) where
   -- one visit is met where the walk goes on
   pub meets_one : (r : Bool) (old new : V) (x : Visit)
       → (r ≡ true → roster new ≡ adding same_flown (roster old) (filter_map flown_at (x ∷ []))) → Meets Has Stops r old new (x ∷ [])
-  meets_one r old new x step = record {
-    all = λ first before e h. step e ∙ (ap (λ (l : List Flown). adding same_flown l (filter_map flown_at (x ∷ []))) h ∙ met_more before x);
-    some = λ first before e h. record { front = before ++ x ∷ []; back = []; splits = append-nil (before ++ x ∷ []); there = tt };
-  }
+  meets_one r old new x step = grind (arith, nat_tests, met_more, append-nil)

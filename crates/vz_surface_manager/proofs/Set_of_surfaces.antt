@@ -1,14 +1,11 @@
 -- Surfaces are put into a set.
-use Rattle.std.proofs.Common.{◌≡◌, ℕ, ◌+◌, ◌<◌, Bool, true, false, ◌||◌, List, [], ◌∷◌, length, take, slice_index_or, refl, ap, sym, ◌∙◌}
+use Rattle.std.proofs.Common.{◌≡◌, ℕ, ◌+◌, ◌<◌, Bool, false, ◌||◌, List, [], ◌∷◌, length, take, slice_index_or, ap, sym, ◌∙◌, arith}
 use Rattle.std.proofs.Common.{subst, Result, Ok, IfOk}
-use Rattle.std.proofs.lemmas.List.Folds.{list_any_more}
+use Rattle.std.proofs.{lemmas.List.Folds.list_any_more, lemmas.Bool.Decides.nat_tests}
 use Rattle.indexmap.specs.IndexSet.{insert_key}
-use Rattle.vz_ids.specs.declared.SurfaceId.{SurfaceId}
-use Rattle.vz_ids.specs.Ids.{same_surface}
-use Rattle.vz_ids.specs.contracts.SurfaceIdPartialEq.TheImpl.{eq-value as surface_eq}
+use Rattle.vz_ids.specs.{declared.SurfaceId.SurfaceId, Ids.same_surface, contracts.SurfaceIdPartialEq.TheImpl.eq-value as surface_eq}
 use Rattle.vz_rules.specs.Reach.{has_id}
-use Rattle.vz_rules.proofs.Marking.{adding_has}
-use Rattle.vz_rules.proofs.Reached.{from_same, self_same}
+use Rattle.vz_rules.proofs.{Marking.adding_has, Reached.from_same, Reached.self_same}
 use Rattle.vz_refs.proofs.Keyed.{surfaces}
 
 -- the fact of an answer that is Ok
@@ -16,11 +13,7 @@ pub got : {A E : Type 0} (r : Result A E) (x : A) (P : A → Type 0) → r ≡ O
 got r x P e h = subst (λ (q : Result _ _). IfOk q P) e h
 
 others : (a b s : Bool) → ((a || b) || (s || false)) ≡ ((a || s) || b)
-others true b s = refl
-others false true true = refl
-others false true false = refl
-others false false true = refl
-others false false false = refl
+others a b s = grind (arith, nat_tests)
 
 pub inserted : (ids : List SurfaceId) (k : ℕ) (d : SurfaceId) (first old new : List SurfaceId) (q : SurfaceId) → k < length ids
     → has_id old q ≡ (has_id (take k ids) q || has_id first q) → new ≡ insert_key surface_eq.it old (slice_index_or ids k d)

@@ -1,18 +1,12 @@
 -- Each entry of what is set is the one that is found for its surface.
-use Rattle.std.proofs.Common.{◌≡◌, Bool, true, false, not, inl, inr, List, [], ◌∷◌, ◌++◌, map, refl, ap, ◌∙◌, subst, cond, Contains}
-use Rattle.std.proofs.lemmas.Bool.{both_ways}
-use Rattle.vz_ids.specs.declared.SurfaceId.{SurfaceId}
-use Rattle.vz_ids.specs.declared.SurfaceRange.{SurfaceRange}
-use Rattle.vz_ids.specs.Ids.{same_surface}
-use Rattle.vz_rules.proofs.Reached.{from_same, self_same}
-use Rattle.vz_rules.proofs.Members.{contains_map, contains_push, filter_at, any_from}
+use Rattle.std.proofs.Common.{◌≡◌, Bool, true, false, not, inl, inr, List, [], ◌∷◌, ◌++◌, map, refl, ap, ◌∙◌, subst, cond, Contains, arith}
+use Rattle.std.proofs.{lemmas.Bool.both_ways, lemmas.Bool.Decides.nat_tests}
+use Rattle.vz_ids.specs.{declared.SurfaceId.SurfaceId, declared.SurfaceRange.SurfaceRange, Ids.same_surface}
+use Rattle.vz_rules.proofs.{Reached.from_same, Reached.self_same, Members.contains_map, Members.contains_push, Members.filter_at, Members.any_from}
 use Rattle.vz_refs.specs.Referring.{Ranged, is_set, ranges_of, set_one, setting, removing}
 use Rattle.vz_refs.proofs.Keeping.{set_ranges, removed_ranges}
 use Rattle.vz_surface_manager.specs.Kept_surfaces.{AreOwn}
-
-pub never : (t : Bool) → (t ≡ true → ⊥) → t ≡ false
-never true f = absurd (f refl)
-never false f = refl
+pub use Rattle.std.proofs.lemmas.Bool.{false_from_ne_true as never}
 
 pub other_way : (a b : SurfaceId) → same_surface a b ≡ false → same_surface b a ≡ false
 other_way a b e = never (same_surface b a) (λ f. both_ways (same_surface a b) e (ap (same_surface a) (from_same b a f) ∙ self_same a))
@@ -22,16 +16,11 @@ here_set id refs sets = set_ranges sets id id refs ∙ ap (λ t. cond t refs (ra
 
 off_set : (id : SurfaceId) (refs : List SurfaceRange) (sets : List Ranged) (s : Ranged) → AreOwn sets → Contains sets s → same_surface s.id id ≡ false
     → ranges_of (setting id refs sets) s.id ≡ s.ranges
-off_set id refs sets s own c e =
-    set_ranges sets id s.id refs ∙ (ap (λ t. cond t refs (ranges_of sets s.id)) (other_way s.id id e) ∙ own s c)
+off_set id refs sets s own c e = grind (arith, nat_tests, set_ranges sets id s.id refs, other_way s.id id e)
 
 mapped_own : (id : SurfaceId) (refs : List SurfaceRange) (sets : List Ranged) (s : Ranged) → AreOwn sets → Contains sets s
     → ranges_of (setting id refs sets) (set_one id refs s).id ≡ (set_one id refs s).ranges
-mapped_own id refs sets s own c = by (same_surface s.id id) refl
-  where
-    by : (t : Bool) → same_surface s.id id ≡ t → ranges_of (setting id refs sets) (cond t (record { id = s.id; ranges = refs }) s).id ≡ (cond t (record { id = s.id; ranges = refs }) s).ranges
-    by true e = ap (ranges_of (setting id refs sets)) (from_same s.id id e) ∙ here_set id refs sets
-    by false e = off_set id refs sets s own c e
+mapped_own id refs sets s own c = grind (arith, nat_tests, from_same s.id id, here_set id refs sets, off_set id refs sets s own c)
 
 none_set : (sets : List Ranged) (id : SurfaceId) (s : Ranged) → is_set sets id ≡ false → Contains sets s → same_surface s.id id ≡ false
 none_set sets id s e c = never (same_surface s.id id) (λ f. both_ways (is_set sets id) e (any_from (λ (x : Ranged). same_surface x.id id) sets s c f))

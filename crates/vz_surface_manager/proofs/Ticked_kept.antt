@@ -1,17 +1,12 @@
 -- What is temporary, as a begin-frame comes.
-use Rattle.std.proofs.Common.{◌≡◌, ℕ, ◌+◌, ◌≤◌, Bool, true, false, not, ◌&&◌, ◌||◌, ◌==◌, Option, Some, List, [], ◌∷◌, filter, refl, ap, sym, ◌∙◌, cond, Contains, nat_lt, arith}
-use Rattle.std.proofs.lemmas.Bool.{ltb-true, lt-ltb}
-use Rattle.vz_base.specs.declared.limits.TheConstants.{TEMPORARY_TICKS, LAST_TICK}
-use Rattle.vz_ids.specs.declared.SurfaceId.{SurfaceId}
-use Rattle.vz_ids.specs.Ids.{same_surface}
-use Rattle.vz_rules.specs.Plan.{Plan}
-use Rattle.vz_rules.specs.World.{World, Client, Surface}
-use Rattle.vz_rules.specs.Reach.{is_named_now, has_closed}
-use Rattle.vz_rules.specs.Kept.{KeepsAlways}
-use Rattle.vz_rules.specs.Step.{next_tick, deliver, is_attached, begin_answer}
-use Rattle.vz_rules.proofs.Reached.{from_same, self_same}
+use Rattle.std.proofs.Common.{◌≡◌, ℕ, ◌+◌, ◌≤◌, Bool, true, false, ◌&&◌, ◌||◌, Option, Some, List, [], ◌∷◌, filter, refl, ap, sym, ◌∙◌, cond, Contains, nat_lt, arith}
+use Rattle.std.proofs.{lemmas.Bool.ltb-true, lemmas.Bool.lt-ltb, lemmas.Bool.Decides.nat_tests}
+use Rattle.vz_base.specs.declared.limits.TheConstants.{TEMPORARY_TICKS}
+use Rattle.vz_ids.specs.{declared.SurfaceId.SurfaceId, Ids.same_surface}
+use Rattle.vz_rules.specs.{Plan.Plan, World.World, World.Client, World.Surface, Kept.KeepsAlways, Step.next_tick, Step.deliver, Step.begin_answer}
+use Rattle.vz_rules.specs.Reach.{has_closed}
+use Rattle.vz_rules.proofs.{Reached.from_same, Reached.self_same, Kept_facts.surfaces_apart}
 use Rattle.vz_rules.proofs.Members.{contains_here, contains_there, contains_at, at_same, filter_at}
-use Rattle.vz_rules.proofs.Kept_facts.{surfaces_apart}
 use Rattle.vz_refs.specs.Referring.{Temporary}
 use Rattle.vz_refs.specs.Referring.{Referring, lasting}
 use Rattle.vz_surface_manager.specs.Kept_surfaces.{lasts, has_kept, AreKept}
@@ -19,10 +14,7 @@ use Rattle.vz_surface_manager.proofs.Sets_kept.{named_alike, closed_kept}
 
 -- of one id there is one surface
 pub one_surface : (w : World) (s t : Surface) → KeepsAlways w → Contains w.surfaces s → Contains w.surfaces t → s.id ≡ t.id → s ≡ t
-one_surface w s t h c d e =
-    let n = contains_at w.surfaces s c in
-    let m = contains_at w.surfaces t d in
-    at_same w.surfaces n.0 m.0 s t n.1 m.1 (surfaces_apart w n.0 m.0 s t h n.1 m.1 (ap (λ i. same_surface i t.id) e ∙ self_same t.id))
+one_surface w s t h c d e = grind (arith, nat_tests, contains_at w.surfaces s c, contains_at w.surfaces t d, at_same w.surfaces, surfaces_apart w, self_same t.id)
 
 -- those that last beyond a tick
 kept_lasting : (n b : ℕ) (id : SurfaceId) (xs : List Temporary) → ((t : Temporary) → Contains xs t → same_surface t.id id ≡ true → t.until ≡ b)
@@ -47,37 +39,19 @@ kept_lasting n b id (t ∷ xs) f =
     by false g false e rest = rest
 
 later : (tick b : ℕ) (q : Bool) → (nat_lt (next_tick tick) b ≡ true → nat_lt tick b ≡ true) → (q && nat_lt (next_tick tick) b) ≡ ((q && nat_lt tick b) && nat_lt (next_tick tick) b)
-later tick b q f = by (nat_lt (next_tick tick) b) refl
-  where
-    none : (q : Bool) → (q && false) ≡ false
-    none true = refl
-    none false = refl
-
-    by : (t : Bool) → nat_lt (next_tick tick) b ≡ t → (q && t) ≡ ((q && nat_lt tick b) && t)
-    by true e = sym (ap (λ u. (q && u) && true) (f e) ∙ ends q)
-      where
-        ends : (q : Bool) → ((q && true) && true) ≡ (q && true)
-        ends true = refl
-        ends false = refl
-    by false e = none q ∙ sym (none (q && nat_lt tick b))
+later tick b q f = grind (arith, nat_tests)
 
 goes_on : (tick : ℕ) → tick ≤ next_tick tick
-goes_on tick = by (tick == LAST_TICK)
-  where
-    by : (t : Bool) → tick ≤ cond t tick (tick + 1)
-    by true = omega arith
-    by false = omega arith
+goes_on tick = grind (arith, nat_tests)
 
 still : (tick b : ℕ) → nat_lt (next_tick tick) b ≡ true → nat_lt tick b ≡ true
 still tick b e = let l = ltb-true (next_tick tick) b e in let g = goes_on tick in lt-ltb tick b (omega (arith, l, g))
 
 delivered_number : (t : Bool) (n : ℕ) (x : Client) → (cond t (record x { delivered = Some n }) x).number ≡ x.number
-delivered_number true n x = refl
-delivered_number false n x = refl
+delivered_number t n x = grind (arith, nat_tests)
 
 delivered_closed : (t : Bool) (n : ℕ) (x : Client) → (cond t (record x { delivered = Some n }) x).closed ≡ x.closed
-delivered_closed true n x = refl
-delivered_closed false n x = refl
+delivered_closed t n x = grind (arith, nat_tests)
 
 module _ (p : Plan) (w : World) (but : Option SurfaceId) (r : Referring) (always : KeepsAlways w) (h : AreKept w but r) where
   until_is : (c : Surface) → Contains w.surfaces c → (t : Temporary) → Contains r.temporary t → same_surface t.id c.id ≡ true → t.until ≡ c.born + TEMPORARY_TICKS
@@ -88,17 +62,11 @@ module _ (p : Plan) (w : World) (but : Option SurfaceId) (r : Referring) (always
 
   closed_ticked : (q : ℕ) → has_closed (begin_answer p w).world q ≡ has_closed w q
   unfolding begin_answer
-  closed_ticked q =
-      closed_kept (deliver p w (next_tick w.tick)) q w.clients (λ x. delivered_number (is_attached p w x && not x.closed) (next_tick w.tick) x)
-      (λ x. delivered_closed (is_attached p w x && not x.closed) (next_tick w.tick) x)
+  closed_ticked q = grind (arith, nat_tests, closed_kept (deliver p w (next_tick w.tick)) q w.clients, delivered_number, delivered_closed)
 
   lasts_ticked : (c : Surface) → lasts (begin_answer p w).world c ≡ (lasts w c && nat_lt (next_tick w.tick) (c.born + TEMPORARY_TICKS))
   unfolding lasts begin_answer
-  lasts_ticked c =
-      ap (λ k. ((not c.destroyed && not (c.named || k)) && not (has_closed (begin_answer p w).world c.client)) && nat_lt (next_tick w.tick) (c.born + TEMPORARY_TICKS))
-      (named_alike w (begin_answer p w).world c.id refl refl)
-      ∙ (ap (λ k. ((not c.destroyed && not (c.named || is_named_now w c.id)) && not k) && nat_lt (next_tick w.tick) (c.born + TEMPORARY_TICKS)) (closed_ticked c.client)
-      ∙ later w.tick (c.born + TEMPORARY_TICKS) ((not c.destroyed && not (c.named || is_named_now w c.id)) && not (has_closed w c.client)) (still w.tick (c.born + TEMPORARY_TICKS)))
+  lasts_ticked c = grind (arith, nat_tests, named_alike w (begin_answer p w).world c.id refl refl, closed_ticked c.client, later w.tick, still w.tick)
 
   kept_one : (c : Surface) → Contains w.surfaces c → has_kept (lasting (next_tick w.tick) r.temporary) c.id ≡ (has_kept r.temporary c.id && nat_lt (next_tick w.tick) (c.born + TEMPORARY_TICKS))
   kept_one c m = kept_lasting (next_tick w.tick) (c.born + TEMPORARY_TICKS) c.id r.temporary (until_is c m)

@@ -1,29 +1,17 @@
 -- Those that wait at a new tick, and how many they are.
-use Rattle.std.proofs.Common.{◌≡◌, ℕ, suc, ◌+◌, Bool, true, false, not, ◌&&◌, ◌||◌, List, [], ◌∷◌, length, map, filter, refl, ap, sym, ◌∙◌, arith, cond}
-use Rattle.std.specs.Prelude.{nat_le, nat_lt}
-use Rattle.std.specs.List.{list_any, list_all}
-use Rattle.std.proofs.lemmas.Bool.Decides.{nat_tests}
-use Rattle.std.proofs.lemmas.List.{length-map}
-use Rattle.vz_ids.specs.declared.SurfaceId.{SurfaceId}
-use Rattle.vz_ids.specs.declared.Sub.{Sub}
-use Rattle.vz_rules.specs.Plan.{Plan}
-use Rattle.vz_rules.specs.World.{World, Client, Submission, is_waiting, sub_of}
-use Rattle.vz_rules.specs.Settle.{is_met, ready}
-use Rattle.vz_rules.specs.Step.{next_tick, deliver, begin_answer, is_attached}
-use Rattle.vz_rules.specs.Course.{some_waits}
-use Rattle.vz_rules.specs.Kept.{KeepsAlways}
-use Rattle.vz_rules.proofs.Members.{when_same}
-use Rattle.vz_deps.specs.Tracking.{Blocked, freed, still, lacking}
-use Rattle.vz_deps.specs.Blocking.{dependencies_of}
-use Rattle.vz_deadlines.specs.declared.due.Due.{Due}
-use Rattle.vz_deadlines.specs.Timing.{due_at, left_at, due_of}
-use Rattle.vz_surface_manager.specs.Waits.{Waits, AreWaiting}
-use Rattle.vz_surface_manager.specs.Left_out.{blocked_without}
-use Rattle.vz_rules.proofs.Kept_singly.{apart}
+use Rattle.std.proofs.Common.{◌≡◌, ℕ, suc, ◌+◌, Bool, true, false, not, ◌&&◌, ◌||◌, List, [], ◌∷◌, length, map, filter, refl, ap, sym, ◌∙◌, arith}
+use Rattle.std.specs.{Prelude.nat_le, Prelude.nat_lt, List.list_any, List.list_all}
+use Rattle.std.proofs.{lemmas.Bool.Decides.nat_tests, lemmas.List.length-map}
+use Rattle.vz_ids.specs.{declared.SurfaceId.SurfaceId, declared.Sub.Sub}
+use Rattle.vz_rules.specs.{Plan.Plan, World.World, World.Submission, World.is_waiting, World.sub_of, Step.next_tick, Step.deliver, Step.begin_answer}
+use Rattle.vz_rules.specs.{Settle.is_met, Settle.ready, Course.some_waits, Kept.KeepsAlways}
+use Rattle.vz_rules.proofs.{Members.when_same, Kept_singly.apart}
+use Rattle.vz_deps.specs.{Tracking.Blocked, Tracking.freed, Tracking.still, Tracking.lacking, Blocking.dependencies_of}
+use Rattle.vz_deadlines.specs.{declared.due.Due.Due, Timing.due_at, Timing.left_at, Timing.due_of}
+use Rattle.vz_surface_manager.specs.{Waits.Waits, Waits.AreWaiting, Left_out.blocked_without}
 use Rattle.vz_surface_manager.proofs.Filtered.{named_is, filter_alike, filter_twice, filter_mapped, both_lengths}
 use Rattle.vz_surface_manager.proofs.Waits_on.{Stand, comes, stays, stand_of, waiting_from, stand_alike, ready_comes}
-use Rattle.vz_surface_manager.proofs.Waits_kept.{ClosesNone, met_is, met_of_clients}
-use Rattle.vz_surface_manager.proofs.Dropped_waits.{blocked_less}
+use Rattle.vz_surface_manager.proofs.{Waits_kept.ClosesNone, Waits_kept.met_is, Waits_kept.met_of_clients, Dropped_waits.blocked_less}
 use Rattle.vz_surface_manager.proofs.Closed_waits.{none_comes}
 
 map_map : {A B C : Type 0} (f : B → C) (g : A → B) (xs : List A) → map f (map g xs) ≡ map (λ x. f (g x)) xs
@@ -33,22 +21,13 @@ map_map f g (x ∷ xs) = ap (λ l. f (g x) ∷ l) (map_map f g xs)
 -- in the tests: it waits, all is met, its deadline had come and has come now, where it was not ready before
 
 due_then : (a m d e : Bool) → (a && (m || d)) ≡ false → ((a && not (m || d)) && e) ≡ (a && (m || e))
-due_then true true d e h = absurd (cc)
-due_then true false true e h = absurd (cc)
-due_then true false false e h = refl
-due_then false m d e h = refl
+due_then a m d e h = grind (arith, nat_tests)
 
 left_then : (a m d e : Bool) → (a && (m || d)) ≡ false → ((a && not (m || d)) && not e) ≡ (a && not (m || e))
-left_then true true d e h = absurd (cc)
-left_then true false true e h = absurd (cc)
-left_then true false false e h = refl
-left_then false m d e h = refl
+left_then a m d e h = grind (arith, nat_tests)
 
 blocked_then : (a m d e : Bool) → (a && (m || d)) ≡ false → ((a && not (m || d)) && not (a && (m || e))) ≡ (a && not (m || e))
-blocked_then true true d e h = absurd (cc)
-blocked_then true false true e h = absurd (cc)
-blocked_then true false false e h = refl
-blocked_then false m d e h = refl
+blocked_then a m d e h = grind (arith, nat_tests)
 
 module _ (w : World) (n : ℕ) (none : ready w ≡ []) where
   due_comes : due_at n (map due_of (filter (stays (is_met w) w.tick) w.subs)) ≡ map sub_of (filter (comes (is_met w) n) w.subs)
@@ -86,11 +65,7 @@ module _ (w : World) (n : ℕ) (none : ready w ≡ []) where
       }
 
 delivers : (p : Plan) (w : World) (n : ℕ) → ClosesNone (deliver p w n)
-delivers p w n =
-    record {
-      closed = λ x. when_same (λ (y : Client). y.closed) (λ (y : Client). record y { delivered = _ }) (is_attached p w x && not x.closed) x refl;
-      sink = λ x. when_same (λ (y : Client). y.sink) (λ (y : Client). record y { delivered = _ }) (is_attached p w x && not x.closed) x refl;
-    }
+delivers p w n = grind (arith, nat_tests, when_same)
 
 met_begun : (p : Plan) (w : World) → is_met (begin_answer p w).world ≡ is_met w
 unfolding begin_answer
@@ -105,9 +80,7 @@ waits_ticked w p n old new gone h none r at is e f =
 
 pub ready_ticked : (w : World) (p : Plan) (n : ℕ) (old : Waits) → ready w ≡ [] → AreWaiting w old → n ≡ next_tick w.tick → due_at n old.due ≡ map sub_of (ready (begin_answer p w).world)
 unfolding begin_answer
-ready_ticked w p n old none r at =
-    let v = (begin_answer p w).world in
-    due_of_waiting w n none old r ∙ ap (map sub_of) ((λ i. filter (comes (sym (met_begun p w) i) (at i)) w.subs) ∙ sym (ready_comes v))
+ready_ticked w p n old none r at = grind (arith, nat_tests, due_of_waiting w n none old r, comes, met_begun p w, ready_comes)
 
 -- How many
 
@@ -126,17 +99,10 @@ one_more n = let some : nat_lt 0 (suc n) ≡ true = grind (arith, nat_tests) in 
 
 some_filtered : (p : Submission → Bool) (subs : List Submission) → list_any p subs ≡ nat_lt 0 (length (map due_of (filter p subs)))
 some_filtered p [] = refl
-some_filtered p (s ∷ subs) =
-    elim (p s) as (λ (t : Bool). (t || list_any p subs) ≡ nat_lt 0 (length (map due_of (cond t (s ∷ filter p subs) (filter p subs))))) [
-      | true ↦ one_more (length (map due_of (filter p subs)))
-      | false ↦ some_filtered p subs
-    ]
+some_filtered p (s ∷ subs) = grind (arith, nat_tests, one_more (length (map due_of (filter p subs))), some_filtered p subs)
 
 waits_on : (a m d : Bool) → (a && (m || d)) ≡ false → (a && not (m || d)) ≡ a
-waits_on true true d h = absurd (cc)
-waits_on true false true h = absurd (cc)
-waits_on true false false h = refl
-waits_on false m d h = refl
+waits_on a m d h = grind (arith, nat_tests)
 
 pub some_wait : (w : World) (a : Waits) (n : ℕ) → ready w ≡ [] → AreWaiting w a → n ≡ length a.due → some_waits w ≡ nat_lt 0 n
 some_wait w a n none r is =

@@ -1,30 +1,19 @@
 -- A submission is accepted: what is told of its surface.
 use Rattle.std.proofs.Common.{arith, ◌≡◌, ℕ, ◌+◌, ◌==◌, Bool, true, false, Option, Some, None, List, [], ◌∷◌, ◌++◌, map, count_by, refl, ap, sym, ◌∙◌, subst, cond, Contains, inl, inr}
-use Rattle.std.proofs.lemmas.Bool.{both_ways, or_left}
-use Rattle.std.proofs.lemmas.List.{append-nil}
-use Rattle.std.specs.Option.{option_map}
-use Rattle.vz_geom.specs.Rectangle.{Rectangle}
-use Rattle.vz_ids.specs.declared.LocalSurfaceId.{LocalSurfaceId}
-use Rattle.vz_ids.specs.declared.SurfaceId.{SurfaceId}
-use Rattle.vz_ids.specs.Ids.{same_surface}
-use Rattle.vz_frame.specs.declared.frame.CompositorFrame.{CompositorFrame}
-use Rattle.vz_frame.specs.Frame.{frame_size, root_damage}
-use Rattle.vz_rules.specs.World.{World, Client, Surface, Submission, FrameData, Aggregation, is_on, is_waiting, is_active, active_frames, frame_on, exists, last_created}
+use Rattle.std.proofs.{lemmas.Bool.both_ways, lemmas.Bool.or_left, lemmas.List.append-nil, lemmas.Bool.Decides.nat_tests}
+use Rattle.vz_ids.specs.{declared.LocalSurfaceId.LocalSurfaceId, declared.SurfaceId.SurfaceId, Ids.same_surface}
+use Rattle.vz_frame.specs.{declared.frame.CompositorFrame.CompositorFrame, Frame.frame_size, Frame.root_damage}
+use Rattle.vz_rules.specs.World.{World, Client, Surface, Submission, is_on, is_waiting, is_active, active_frames, frame_on, exists, last_created}
 use Rattle.vz_rules.specs.Messages.{accepted, id_of, is_last, new_submission, replace_on, with_surface, violates}
 use Rattle.vz_rules.specs.Kept.{KeepsAlways, stands_in}
-use Rattle.vz_rules.proofs.Reached.{from_same, self_same}
-use Rattle.vz_rules.proofs.Members.{contains_map, contains_push, push_contains_last}
-use Rattle.vz_rules.proofs.Counts.{count_none}
-use Rattle.vz_rules.proofs.Kept_submits.{always_accepted}
-use Rattle.vz_surface_manager.proofs.Accepted_kept.{frames_accepted}
+use Rattle.vz_rules.proofs.{Reached.from_same, Reached.self_same, Members.contains_map, Members.contains_push, Members.push_contains_last}
+use Rattle.vz_rules.proofs.{Counts.count_none, Kept_submits.always_accepted}
+use Rattle.vz_surface_manager.proofs.{Accepted_kept.frames_accepted, Raised.damages, Raised.as_many, Absent.no_damages, Absent.no_frame}
 use Rattle.vz_surfaces.specs.Stored.{stored_of}
 use Rattle.vz_damage.specs.Told.{Told, Damaged, told_on, next_index, with_damage}
-use Rattle.vz_damage.specs.Measured.{without_indices}
 use Rattle.vz_surface_manager.specs.Told_damage.{AreTold, AreLatest, AreUnseen, told_in, index_of, index_on}
 use Rattle.vz_surface_manager.specs.Allowed.{IsAllowed}
 use Rattle.vz_surface_manager.proofs.Stored.{count_bare}
-use Rattle.vz_surface_manager.proofs.Raised.{damages, as_many}
-use Rattle.vz_surface_manager.proofs.Absent.{no_damages, no_frame}
 use Rattle.vz_surface_manager.proofs.Found_accepted.{off_back, unknown, allowed_parts, waits_on, damages_more, count_more, stands_more}
 
 abbrev Where : Bool → Told → Option Told
@@ -108,11 +97,7 @@ module _ (w : World) (c : Client) (local : LocalSurfaceId) (frame : CompositorFr
   exists_here = stands_here
 
   exists_there : (x : SurfaceId) → same_surface id x ≡ false → exists after x ≡ exists w x
-  exists_there x off = ap (λ (l : List Surface). stands_in l x) surfaces_after ∙ by (is_last (last_created w c.number) local)
-    where
-      by : (t : Bool) → stands_in (cond t w.surfaces (w.surfaces ++ made ∷ [])) x ≡ stands_in w.surfaces x
-      by true = refl
-      by false = stands_more w.surfaces made x off
+  exists_there x off = grind (arith, nat_tests, surfaces_after, stands_more w.surfaces)
 
   -- nothing was accepted on a surface that does not exist yet
   none_on : exists w id ≡ false → count_by (is_on id) w.subs ≡ 0
@@ -131,30 +116,17 @@ module _ (w : World) (c : Client) (local : LocalSurfaceId) (frame : CompositorFr
   -- Submissions
 
   count_after : (x : SurfaceId) → count_by (is_on x) after.subs ≡ count_by (is_on x) w.subs + cond (same_surface id x) 1 0
-  count_after x =
-      ap (λ (l : List Submission). count_by (is_on x) l) subs_after
-      ∙ (count_more x id new w.subs ∙ ap (λ (i : SurfaceId). count_by (is_on x) w.subs + cond {A = ℕ} (same_surface i x) 1 0) new_id)
+  count_after x = grind (arith, nat_tests, subs_after, count_more x, new_id)
 
   told_after : (x : SurfaceId) → told_in after.subs w.last x ≡ record {
     damages = damages x w.subs ++ cond (same_surface id x) (root_damage frame ∷ []) [];
     active = index_of (frame_on x (active_frames w.subs));
     seen = index_on w.last x;
   }
-  told_after x =
-      ap (λ (l : List Submission). told_in l w.last x) subs_after
-      ∙ (λ i. record {
-        damages = (damages_more x id new w.subs
-            ∙ ap (λ (t : FrameData). damages x w.subs ++ cond (same_surface t.id x) (root_damage t.frame ∷ []) []) new_data) i;
-        active = index_of (frame_on x (frames_accepted id new w.subs new_inactive i));
-        seen = index_on w.last x;
-      })
+  told_after x = grind (arith, nat_tests, subs_after, damages, damages_more x, damages x w.subs, new_data, frames_accepted, new_inactive)
 
   unseen_after : AreUnseen w.subs w.last → AreUnseen after.subs w.last
-  unseen_after u x none = u x (less (same_surface id x) (count_by (is_on x) w.subs) (sym (count_after x) ∙ none))
-    where
-      less : (t : Bool) (n : ℕ) → n + cond {A = ℕ} t 1 0 ≡ 0 → n ≡ 0
-      less true n e = absurd (omega (arith, e))
-      less false n e = omega (arith, e)
+  unseen_after u x none = grind (arith, nat_tests, count_after x)
 
   latest_after : AreLatest w.subs → AreLatest after.subs
   latest_after l r m waits =
@@ -183,47 +155,18 @@ module _ (w : World) (c : Client) (local : LocalSurfaceId) (frame : CompositorFr
 
   -- What is told
 
-  abbrev as_told : List Rectangle → Told
-  as_told more =
-      record {
-        damages = damages id w.subs ++ more;
-        active = index_of (frame_on id (active_frames w.subs));
-        seen = index_on w.last id;
-      }
-
   with_here : AreUnseen w.subs w.last → (t : Bool) → exists w id ≡ t
       → with_damage (Where t (told_in w.subs w.last id)) (root_damage frame) ≡ told_in after.subs w.last id
-  with_here u t e = by t e ∙ (ap (λ (q : Bool). as_told (cond q (root_damage frame ∷ []) [])) (sym (self_same id)) ∙ sym (told_after id))
-    where
-      by : (t : Bool) → exists w id ≡ t
-          → with_damage (Where t (told_in w.subs w.last id)) (root_damage frame) ≡ as_told (root_damage frame ∷ [])
-      by true e = refl
-      by false e =
-          let none = none_on e in
-          λ i. record {
-            damages = sym (no_damages id w.subs none) i ++ root_damage frame ∷ [];
-            active = index_of (sym (no_frame id w.subs none) i);
-            seen = sym (u id none) i;
-          }
+  with_here u t e = grind (arith, nat_tests, self_same, told_after, none_on, damages, no_damages, no_frame)
 
   told_here : AreUnseen w.subs w.last → (d : Damaged) → AreTold w d → (y : Told)
       → y ≡ with_damage (told_on d.surfaces id) (root_damage frame)
       → Some y ≡ Where (exists after id) (told_in after.subs w.last id)
-  told_here u d told y e =
-      ap (λ (z : Told). Some z)
-      (e ∙ (ap (λ (o : Option Told). with_damage o (root_damage frame)) (told.told id) ∙ with_here u (exists w id) refl))
-      ∙ ap (λ (t : Bool). Where t (told_in after.subs w.last id)) (sym exists_here)
+  told_here u d told y e = grind (arith, nat_tests, with_here u, exists_here)
 
   told_there : (x : SurfaceId) → same_surface id x ≡ false
       → Where (exists w x) (told_in w.subs w.last x) ≡ Where (exists after x) (told_in after.subs w.last x)
-  told_there x off =
-      ap (λ (t : Bool). Where t (told_in w.subs w.last x)) (sym (exists_there x off))
-      ∙ ap (Where (exists after x)) (λ i. record {
-        damages = (sym (append-nil (damages x w.subs))
-            ∙ ap (λ (q : Bool). damages x w.subs ++ cond q (root_damage frame ∷ []) []) (sym off)) i;
-        active = index_of (frame_on x (active_frames w.subs));
-        seen = index_on w.last x;
-      }) ∙ ap (Where (exists after x)) (sym (told_after x))
+  told_there x off = grind (arith, nat_tests, exists_there x off, damages, append-nil (damages x w.subs), damages x w.subs, told_after x)
 
   told_by : (d d' : Damaged) → AreTold w d → told_on d'.surfaces id ≡ Some (with_damage (told_on d.surfaces id) (root_damage frame))
       → ((x : SurfaceId) → same_surface id x ≡ false → told_on d'.surfaces x ≡ told_on d.surfaces x)
@@ -238,14 +181,7 @@ module _ (w : World) (c : Client) (local : LocalSurfaceId) (frame : CompositorFr
   pub told_accepted : (d d' : Damaged) → AreTold w d
       → told_on d'.surfaces id ≡ Some (with_damage (told_on d.surfaces id) (root_damage frame))
       → ((x : SurfaceId) → same_surface id x ≡ false → told_on d'.surfaces x ≡ told_on d.surfaces x) → d'.last ≡ d.last → AreTold after d'
-  told_accepted d d' told here others last =
-      record {
-        told = λ x. told_by d d' told here others x (same_surface id x) refl
-            ∙ ap (λ (o : Option Aggregation). Where (exists after x) (told_in after.subs o x)) (sym last_after);
-        last = last ∙ (told.last ∙ ap (λ (o : Option Aggregation). option_map without_indices o) (sym last_after));
-        latest = latest_after told.latest;
-        unseen = λ x none. ap (λ (o : Option Aggregation). index_on o x) last_after ∙ unseen_after told.unseen x none;
-      }
+  told_accepted d d' told here others last = grind (arith, nat_tests, told_by d d' told here others, last_after, latest_after told.latest, unseen_after told.unseen)
 
   -- The index
 

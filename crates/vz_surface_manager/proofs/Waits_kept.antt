@@ -1,30 +1,21 @@
 -- Changes of the machine's state that leave what is met, and who waits.
-use Rattle.std.proofs.Common.{◌≡◌, ℕ, Bool, true, false, ◌&&◌, ◌||◌, ◌==◌, Option, Some, None, List, [], ◌∷◌, map, refl, ap, sym, ◌∙◌, cond, is_some}
+use Rattle.std.proofs.Common.{◌≡◌, ℕ, Bool, true, ◌&&◌, ◌||◌, ◌==◌, Option, Some, None, List, [], ◌∷◌, map, refl, ap, sym, ◌∙◌, cond, is_some, arith}
 use Rattle.std.specs.List.{list_any}
 use Rattle.vz_geom.specs.Rectangle.{is_empty_rect}
-use Rattle.vz_ids.specs.declared.FrameSinkId.{FrameSinkId}
-use Rattle.vz_ids.specs.declared.LocalSurfaceId.{LocalSurfaceId}
-use Rattle.vz_ids.specs.declared.SurfaceId.{SurfaceId}
-use Rattle.vz_ids.specs.declared.Sub.{Sub}
+use Rattle.vz_ids.specs.{declared.FrameSinkId.FrameSinkId, declared.LocalSurfaceId.LocalSurfaceId, declared.SurfaceId.SurfaceId, declared.Sub.Sub}
 use Rattle.vz_ids.specs.Ids.{same_sink, at_least}
 use Rattle.vz_pixels.specs.Block.{Block}
-use Rattle.vz_rules.specs.declared.entry.Refusal.{Refusal}
-use Rattle.vz_rules.specs.Plan.{Plan}
-use Rattle.vz_rules.specs.World.{World, Client, Submission, Scene}
-use Rattle.vz_rules.specs.Scene.{scene_of}
-use Rattle.vz_rules.specs.Settle.{is_met}
-use Rattle.vz_rules.specs.Reach.{naming}
-use Rattle.vz_rules.specs.Returns.{give_back, feed, mark_fed, queue_returns}
-use Rattle.vz_rules.specs.Walk.{walk_of, too_much}
-use Rattle.vz_rules.specs.Damage.{drawn_damage}
+use Rattle.vz_rules.specs.{declared.entry.Refusal.Refusal, Settle.is_met, Step.draw_answer, Step.done_answer, Step.scene_answer, Step.accepted_frames}
+use Rattle.vz_rules.specs.{Plan.Plan, World.World, World.Client, World.Submission, World.Scene, Scene.scene_of, Reach.naming}
+use Rattle.vz_rules.specs.{Returns.give_back, Returns.feed, Returns.mark_fed, Returns.queue_returns, Walk.walk_of, Walk.too_much, Damage.drawn_damage}
 use Rattle.vz_rules.specs.Messages.{Answer, took, taking, refused, answer_tick, reclaim, unless_refused, in_use, put_resource, upload_answer, hierarchy_answer, hierarchy_refusal, root_answer, await_answer}
-use Rattle.vz_rules.specs.Step.{draw_answer, done_answer, scene_answer, accepted_frames}
 use Rattle.vz_rules.proofs.Members.{any_map, when_same}
 use Rattle.vz_deps.specs.Blocking.{blocked_of}
 use Rattle.vz_deadlines.specs.Timing.{due_of}
 use Rattle.vz_surface_manager.specs.Waits.{Waits, AreWaiting}
 use Rattle.vz_surface_manager.proofs.Filtered.{filter_changed}
 use Rattle.vz_surface_manager.proofs.Waits_on.{Stand, stays, stand_of, waiting_from, stand_alike}
+use Rattle.std.proofs.lemmas.Bool.Decides.{nat_tests}
 
 -- a change of clients that closes none
 pub record ClosesNone (k : Client → Client) : Type 0 where
@@ -46,10 +37,7 @@ met_is w = refl
 
 pub met_alike : (f : Submission → Submission) (k : Client → Client) (subs : List Submission) (clients : List Client) → LeavesActive f → ClosesNone k
     → met_by (map f subs) (map k clients) ≡ met_by subs clients
-met_alike f k subs clients h g =
-    λ i d. any_map f (λ (s : Submission). s.was_active && at_least s.submitted.id d) (λ (s : Submission). s.was_active && at_least s.submitted.id d) subs
-    (λ s j. h.was s j && at_least (h.submitted s j).id d) i
-    || any_map k (λ (c : Client). c.closed && same_sink c.sink d.sink) (λ (c : Client). c.closed && same_sink c.sink d.sink) clients (λ x j. g.closed x j && same_sink (g.sink x j) d.sink) i
+met_alike f k subs clients h g = grind (arith, nat_tests, any_map f, any_map k)
 
 pub map_same : {A : Type 0} (xs : List A) → map (λ x. x) xs ≡ xs
 map_same [] = refl
@@ -73,11 +61,7 @@ of_same w v a e f g r = of_clients w v (λ x. x) a e f (g ∙ sym (map_same w.cl
 
 -- a client that takes a message
 pub taken_closes : (f : Client → Client) (n : ℕ) → ((x : Client) → (f x).closed ≡ x.closed) → ((x : Client) → (f x).sink ≡ x.sink) → ClosesNone (λ x. cond (x.number == n) (took (f x)) x)
-taken_closes f n h g =
-    record {
-      closed = λ x. when_same (λ (y : Client). y.closed) (λ y. took (f y)) (x.number == n) x (h x);
-      sink = λ x. when_same (λ (y : Client). y.sink) (λ y. took (f y)) (x.number == n) x (g x);
-    }
+taken_closes f n h g = grind (arith, nat_tests, when_same)
 
 pub stay_taken : (w : World) (f : Client → Client) (c : Client) (a : Waits) → ((x : Client) → (f x).closed ≡ x.closed) → ((x : Client) → (f x).sink ≡ x.sink)
     → AreWaiting w a → AreWaiting (taking f c w) a
@@ -88,21 +72,16 @@ plainly w c a r = stay_taken w (λ x. x) c a (λ x. refl) (λ x. refl) r
 
 -- one of two answers
 either : (t : Bool) (x y : Answer) (a : Waits) → AreWaiting x.world a → AreWaiting y.world a → AreWaiting (cond t x y).world a
-either true x y a e f = e
-either false x y a e f = f
+either t x y a e f = grind (arith, nat_tests)
 
 refused_or : (w : World) (c : Client) (o : Option Refusal) (x : Answer) (a : Waits) → AreWaiting w a → AreWaiting x.world a → AreWaiting (unless_refused w c o x).world a
-refused_or w c None x a r e = e
-refused_or w c (Some t) x a r e = plainly w c a r
+refused_or w c o x a r e = grind (arith, nat_tests, plainly w c a r)
 
 pub stay_refused : (w : World) (c : Client) (t : Refusal) (a : Waits) → AreWaiting w a → AreWaiting (refused w c t).world a
 stay_refused w c t a r = plainly w c a r
 
 pub stay_noted : (w : World) (c : Client) (n : ℕ) (a : Waits) → AreWaiting w a → AreWaiting (taking (answer_tick w.tick n) c w) a
-stay_noted w c n a r =
-    stay_taken w (answer_tick w.tick n) c a
-    (λ x. when_same (λ (y : Client). y.closed) (λ (y : Client). record y { answered = w.tick }) (n == w.tick) x refl)
-    (λ x. when_same (λ (y : Client). y.sink) (λ (y : Client). record y { answered = w.tick }) (n == w.tick) x refl) r
+stay_noted w c n a r = grind (arith, nat_tests, stay_taken w (answer_tick w.tick n) c a, when_same)
 
 pub stay_reclaimed : (w : World) (c : Client) (a : Waits) → AreWaiting w a → AreWaiting (taking reclaim c w) a
 stay_reclaimed w c a r = stay_taken w reclaim c a (λ x. refl) (λ x. refl) r
@@ -122,8 +101,7 @@ stay_rooted w c local a r = either (c.number == 1) _ _ a (of_same (taking (λ x.
 
 begun_by : (w : World) (o : Option ℕ) (f : ℕ → Answer) (b : Answer) (a : Waits) → ((n : ℕ) → AreWaiting (f n).world a) → AreWaiting b.world a
     → AreWaiting (elim o as (λ o. Answer) [ Some n ↦ f n | None ↦ b ]).world a
-begun_by w None f b a e g = g
-begun_by w (Some n) f b a e g = e n
+begun_by w o f b a e g = grind (arith, nat_tests)
 
 pub stay_begun : (w : World) (c : Client) (a : Waits) → AreWaiting w a → AreWaiting (await_answer w c).world a
 unfolding await_answer
@@ -167,8 +145,7 @@ stay_scene p w scene a r =
 
 seen_or : (o : Option Scene) (f : Scene → Answer) (b : Answer) (a : Waits) → ((s : Scene) → AreWaiting (f s).world a) → AreWaiting b.world a
     → AreWaiting (elim o as (λ o. Answer) [ Some s ↦ f s | None ↦ b ]).world a
-seen_or None f b a e g = g
-seen_or (Some s) f b a e g = e s
+seen_or o f b a e g = grind (arith, nat_tests)
 
 pub stay_drawn : (p : Plan) (w : World) (a : Waits) → AreWaiting w a → AreWaiting (draw_answer p w).world a
 unfolding draw_answer

@@ -1,15 +1,11 @@
 -- Which submissions wait on, by what is met and by the tick.
-use Rattle.std.proofs.Common.{◌≡◌, ℕ, Bool, true, false, not, ◌&&◌, ◌||◌, List, length, map, filter, refl, ap, sym, ◌∙◌}
-use Rattle.std.specs.Prelude.{nat_le}
-use Rattle.std.specs.List.{list_all}
-use Rattle.std.proofs.lemmas.List.{length-map}
+use Rattle.std.proofs.Common.{◌≡◌, ℕ, Bool, not, ◌&&◌, ◌||◌, List, length, map, filter, refl, sym, ◌∙◌, arith}
+use Rattle.std.specs.{Prelude.nat_le, List.list_all}
+use Rattle.std.proofs.{lemmas.List.length-map, lemmas.Bool.Decides.nat_tests}
 use Rattle.vz_ids.specs.declared.SurfaceId.{SurfaceId}
-use Rattle.vz_rules.specs.World.{World, Submission, is_waiting}
-use Rattle.vz_rules.specs.Settle.{is_met, has_come, is_ready, ready}
-use Rattle.vz_deps.specs.Tracking.{Blocked}
-use Rattle.vz_deps.specs.Blocking.{dependencies_of, lacks_in, blocked_of, blocked_by}
-use Rattle.vz_deadlines.specs.declared.due.Due.{Due}
-use Rattle.vz_deadlines.specs.Timing.{due_of}
+use Rattle.vz_rules.specs.{World.World, World.Submission, World.is_waiting, Settle.is_met, Settle.has_come, Settle.is_ready, Settle.ready}
+use Rattle.vz_deps.specs.{Tracking.Blocked, Blocking.dependencies_of, Blocking.blocked_of, Blocking.blocked_by}
+use Rattle.vz_deadlines.specs.{declared.due.Due.Due, Timing.due_of}
 use Rattle.vz_surface_manager.specs.Waits.{Waits, AreWaiting}
 use Rattle.vz_surface_manager.proofs.Filtered.{filter_twice}
 
@@ -27,20 +23,14 @@ pub record Stand (met : SurfaceId → Bool) (tick : ℕ) (subs : List Submission
   pub due : ds ≡ map due_of (filter (stays met tick) subs)
 
 lacks_too : (a m d : Bool) → (not (a && (m || d)) && (a && not m)) ≡ (a && not (m || d))
-lacks_too true true d = refl
-lacks_too true false true = refl
-lacks_too true false false = refl
-lacks_too false m d = refl
+lacks_too a m d = grind (arith, nat_tests)
 
 waits_too : (a m d : Bool) → (a && not (a && (m || d))) ≡ (a && not (m || d))
-waits_too true m d = refl
-waits_too false m d = refl
+waits_too a m d = grind (arith, nat_tests)
 
 pub blocked_stand : (w : World) → blocked_by (is_met w) (filter (λ s. not (is_ready w s)) w.subs) ≡ map (blocked_of (is_met w)) (filter (stays (is_met w) w.tick) w.subs)
 unfolding blocked_by is_ready has_come
-blocked_stand w =
-    ap (map (blocked_of (is_met w))) (filter_twice (lacks_in (is_met w)) (λ s. not (comes (is_met w) w.tick s)) w.subs
-    ∙ (λ i. filter (λ s. lacks_too (is_waiting s) (list_all (is_met w) (dependencies_of s)) (nat_le s.due w.tick) i) w.subs))
+blocked_stand w = grind (arith, nat_tests, filter_twice, lacks_too)
 
 pub due_stand : (w : World) → map due_of (filter (λ s. is_waiting s && not (is_ready w s)) w.subs) ≡ map due_of (filter (stays (is_met w) w.tick) w.subs)
 unfolding is_ready has_come
@@ -59,14 +49,7 @@ ready_comes w = refl
 -- they stand where the same is met at the same tick
 pub stand_alike : (met then : SurfaceId → Bool) (tick later : ℕ) (subs more : List Submission) (bs : List Blocked) (ds : List Due) → then ≡ met → later ≡ tick → more ≡ subs
     → Stand met tick subs bs ds → Stand then later more bs ds
-stand_alike met then tick later subs more bs ds e f g h =
-    record {
-      blocked = h.blocked ∙ (λ i. map (blocked_of (sym e i)) (filter (stays (sym e i) (sym f i)) (sym g i)));
-      due = h.due ∙ (λ i. map due_of (filter (stays (sym e i) (sym f i)) (sym g i)));
-    }
+stand_alike met then tick later subs more bs ds e f g h = grind (arith, nat_tests)
 
 pub as_many : (w : World) (a : Waits) → AreWaiting w a → length a.blocked ≡ length a.due
-as_many w a h =
-    let stand = stand_of w a h in
-    let those = filter (stays (is_met w) w.tick) w.subs in
-    ap length stand.blocked ∙ (length-map those (blocked_of (is_met w)) ∙ (sym (length-map those due_of) ∙ sym (ap length stand.due)))
+as_many w a h = grind (arith, nat_tests, stand_of w a h, length-map)

@@ -1,9 +1,8 @@
 -- The places that submissions want which wait.
 use Rattle.std.proofs.Common.{◌≡◌, ℕ, zero, suc, slice_get, ◌+◌, ◌≤◌, Bool, true, false, Option, Some, None, List, [], ◌∷◌, length, map, filter, find, refl, ap, arith, cond, Contains, sum_by, count_by}
-use Rattle.std.proofs.lemmas.List.Sums.{sum_by-cons}
+use Rattle.std.proofs.{lemmas.List.Sums.sum_by-cons, lemmas.Bool.Decides.nat_tests}
 use Rattle.vz_rules.specs.World.{Submission, is_waiting}
-use Rattle.vz_rules.proofs.Members.{contains_here, contains_there, contains_at}
-use Rattle.vz_rules.proofs.Counts.{count_cons}
+use Rattle.vz_rules.proofs.{Members.contains_here, Members.contains_there, Members.contains_at, Counts.count_cons}
 use Rattle.vz_surface_manager.specs.Live.{wants}
 
 -- a sum over a list that is changed: what changed counts nothing afterwards
@@ -31,22 +30,12 @@ wanted_of o = elim o [ Some s ↦ wants s | None ↦ 0 ]
 -- where none passes they want nothing
 none_sum : (p : Submission → Bool) (xs : List Submission) → count_by p xs ≡ 0 → sum_by wants (filter p xs) ≡ 0
 none_sum p [] e = refl
-none_sum p (x ∷ xs) e = by (p x) refl (λ f. none_sum p xs f)
-  where
-    by : (t : Bool) → p x ≡ t → (count_by p xs ≡ 0 → sum_by wants (filter p xs) ≡ 0) → sum_by wants (cond t (x ∷ filter p xs) (filter p xs)) ≡ 0
-    by true g rest = absurd (omega (arith, e, count_cons p x xs, ap {B = ℕ} (λ (b : Bool). cond b 1 0) g))
-    by false g rest = rest (omega (arith, e, count_cons p x xs, ap {B = ℕ} (λ (b : Bool). cond b 1 0) g))
+none_sum p (x ∷ xs) e = grind (arith, nat_tests, none_sum p xs, count_cons p x xs)
 
 -- where one at most passes, its sum is that of the one that is found
 pub sum_one : (p : Submission → Bool) (xs : List Submission) → count_by p xs ≤ 1 → sum_by wants (filter p xs) ≡ wanted_of (find p xs)
 sum_one p [] few = refl
-sum_one p (x ∷ xs) few = by (p x) refl (λ f. sum_one p xs f)
-  where
-    by : (t : Bool) → p x ≡ t → (count_by p xs ≤ 1 → sum_by wants (filter p xs) ≡ wanted_of (find p xs))
-        → sum_by wants (cond t (x ∷ filter p xs) (filter p xs)) ≡ wanted_of (cond t (Some x) (find p xs))
-    by true e rest =
-        omega (arith, sum_by-cons wants x (filter p xs), none_sum p xs (omega (arith, few, count_cons p x xs, ap {B = ℕ} (λ (b : Bool). cond b 1 0) e)))
-    by false e rest = rest (omega (arith, few, count_cons p x xs, ap {B = ℕ} (λ (b : Bool). cond b 1 0) e))
+sum_one p (x ∷ xs) few = grind (arith, nat_tests, sum_one p xs, sum_by-cons wants x (filter p xs), none_sum p xs, count_cons p x xs)
 
 some_same : {a b : Submission} → Some a ≡ Some b → a ≡ b
 some_same f = cc

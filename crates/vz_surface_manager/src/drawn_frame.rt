@@ -16,6 +16,7 @@ ghost use Rattle.vz_surface_manager.specs.Frame_end.{flying_count};
 use crate::live::LiveSurfaces;
 use crate::{Flight, Flyer, Roster};
 use std::alloc::Global;
+use std::mem;
 use vz_base::Memory;
 use vz_damage::Measured;
 use vz_frame::Room;
@@ -84,7 +85,7 @@ impl LiveSurfaces {
         ensures flown { IfOk result (λ o. IfSome o (λ f. Flies root.now size self.old f.1)) }
         ensures same { self.new ≡ self.old }
     {
-        let flyer = Flyer::new(alloc);
+        let flyer = Flyer::new(mem::replace(&mut self.idle, Roster::new(alloc)));
         let Some((measured, flyer)) = self.damage.measure(&self.store, root, size, flyer)? else {
             return Ok(None);
         };

@@ -45,6 +45,12 @@ impl Flight {
         self.roster.len()
     }
 
+    /// Its roster, for the room that it has.
+    pub(crate) fn into_roster(self) -> Roster {
+        let Flight { roster, .. } = self;
+        roster
+    }
+
     /// The submissions in the order in which the walk met them, each once, with what they list.
     pub fn roster(&self) -> &Roster
         ensures { IsRosterOf self.now result.now }

@@ -9,7 +9,6 @@ ghost use Rattle.vz_surface_manager.specs.Rosters.{flown_from, met_in};
 use crate::drawing::Drawing;
 use crate::flight::Flight;
 use crate::roster::Roster;
-use std::alloc::Global;
 use vz_geom::{Rect, Size};
 use vz_ids::{SurfaceId, SurfaceRange};
 use vz_placement::Placement;
@@ -24,13 +23,13 @@ pub struct Flyer {
 }
 
 impl Flyer {
-    /// Creates a visitor that has met nothing. It allocates nothing.
-    pub fn new(alloc: Global) -> Flyer
+    /// Creates a visitor that has met nothing, with a roster whose room it uses and whose
+    /// submissions are dropped. It allocates nothing.
+    pub fn new(mut roster: Roster) -> Flyer
         ensures { result.roster ≡ met_in [] }
     {
-        Flyer {
-            roster: Roster::new(alloc),
-        }
+        roster.clear();
+        Flyer { roster }
     }
 
     /// The submissions whose surfaces the walk entered, with what they list. Conditions: the

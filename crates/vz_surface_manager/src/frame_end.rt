@@ -50,6 +50,7 @@ impl LiveSurfaces {
         release_each(&mut self.lending, roster);
         self.lending.give_back(returned);
         self.feeding.present(roster.subs(), fed);
+        self.idle = flight.into_roster();
     }
 }
 

@@ -18,7 +18,7 @@ ghost use Rattle.vz_surface_manager.specs.Live.{AreLive};
 ghost use Rattle.vz_surface_manager.specs.Last_surface.{name_and_size};
 ghost use Rattle.vz_surface_manager.specs.Roots.{if_stands};
 
-use crate::Flight;
+use crate::{Flight, Roster};
 use std::alloc::Global;
 use std::marker::Model;
 use vz_base::Memory;
@@ -34,7 +34,8 @@ use vz_surfaces::Store;
 /// The surfaces of the machine with what belongs to them. Contracts see a value for each part.
 ///
 /// The room for the references of a waiting submission is reserved when it is accepted, so that
-/// nothing that follows a step's own change allocates.
+/// nothing that follows a step's own change allocates. The roster of the last drawn frame is kept
+/// for the room that it has (`idle`), which contracts do not see.
 #[derive(Drop)]
 pub struct LiveSurfaces {
     pub(crate) store: Store,
@@ -43,6 +44,7 @@ pub struct LiveSurfaces {
     pub(crate) references: References,
     pub(crate) damage: Damage,
     pub(crate) flight: Option<Flight>,
+    pub(crate) idle: Roster,
     pub(crate) wanted: usize,
 }
 
@@ -77,6 +79,7 @@ impl LiveSurfaces {
             references: References::new(alloc),
             damage: Damage::new(alloc),
             flight: None,
+            idle: Roster::new(alloc),
             wanted: 0,
         })
     }

@@ -49,6 +49,13 @@ impl Roster {
         }
     }
 
+    /// Empties the roster, and keeps its room.
+    pub(crate) fn clear(&mut self)
+        ensures { self.new ≡ [] }
+    {
+        self.subs.clear();
+    }
+
     /// Whether the roster has a submission.
     pub fn has(&self, sub: &Sub) -> bool
         ensures { result ≡ has_sub (subs_of self.now) sub.now }

@@ -1,9 +1,9 @@
 -- Where the names inside a frame lead.
-use Rattle.std.proofs.Common.{◌≡◌, ℕ, zero, suc, ◌+◌, ◌<◌, ◌≤◌, nat_lt, not, Bool, true, false, Option, Some, None, List, [], ◌∷◌, ◌++◌, length, take, get_or, slice_get, refl, ap, ◌∙◌, arith, filter, if◌then◌else◌}
+use Rattle.std.proofs.Common.{◌≡◌, ◌==◌, ℕ, zero, suc, ◌+◌, ◌<◌, ◌≤◌, nat_lt, not, Bool, true, false, Option, Some, None, List, [], ◌∷◌, ◌++◌, length, take, get_or, slice_get, refl, ap, ◌∙◌, arith, filter, if◌then◌else◌}
 use Rattle.std.proofs.lemmas.Bool.Decides.{nat_tests}
 use Rattle.std.specs.List.{position_or_len, last_or, range_with_len}
 use Rattle.std.specs.Option.{option_map}
-use Rattle.std.proofs.lemmas.Bool.{lt-ltb, le-ltb}
+use Rattle.std.proofs.lemmas.Bool.{lt-ltb, le-ltb, eq-eqb}
 use Rattle.std.proofs.lemmas.Option.{none-some, same_Some, slice_get-map, slice_get-get_or, slice_get_within}
 use Rattle.std.proofs.lemmas.Grind.{take_at_read}
 use Rattle.std.proofs.lemmas.List.{map-append, append-nil}
@@ -16,7 +16,7 @@ use Rattle.vz_frame.specs.declared.frame.DrawQuad.{DrawQuad}
 use Rattle.vz_frame.specs.declared.frame.Material.TheVariants.{Tile, Pass}
 use Rattle.vz_frame.specs.Frame.{lists, names_pass}
 use Rattle.vz_rules.specs.Paint.{block_of}
-use Rattle.vz_surfaces.specs.Names.{has_id_at, places_before, pass_place, listing_place, place_named, places_in, AreNamed, block_at}
+use Rattle.vz_surfaces.specs.Names.{has_id_at, places_before, pass_place, listing_place, place_named, places_in, AreNamed, AreNamedIfAny, block_at}
 
 -- Listings
 
@@ -123,6 +123,19 @@ pub record AreNamedTo (frame : CompositorFrame) (n : ℕ) (places : List (List (
   pub there : (k : ℕ) (pass : RenderPass) → k < n → slice_get frame.passes k ≡ Some pass → slice_get places k ≡ Some (places_in frame k pass.quads)
 
 -- What is read
+
+some_there : (n : ℕ) (t : Bool) → t ≡ (n == 0) → t ≡ false → n ≡ 0 → ⊥
+some_there n t is off none = grind (arith, nat_tests, eq-eqb n 0)
+
+-- where there are places, they are the right ones
+pub named_there : (frame : CompositorFrame) (places all : List (List (Option ℕ))) (t : Bool) → AreNamedIfAny frame places → all ≡ places
+    → t ≡ (length all == 0) → t ≡ false → AreNamed frame places
+named_there frame places all t named same is some = named (some_there (length places) t (is ∙ ap (λ l. length l == 0) same) some)
+
+-- what is read of a list by a place is what stands there
+pub item_is : {A : Type 0} (items all : List A) (k : ℕ) (x got : A) → all ≡ items → k < length all → got ≡ get_or all k got
+    → slice_get items k ≡ Some x → got ≡ x
+item_is items all k x got same low is at = grind (arith, nat_tests, same_Some got x, slice_get-get_or all k got low)
 
 module _ (frame : CompositorFrame) (places : List (List (Option ℕ))) (k n : ℕ) (pass : RenderPass) (quad : DrawQuad)
     (named : AreNamed frame places) (at : slice_get frame.passes k ≡ Some pass) (here : slice_get pass.quads n ≡ Some quad) where

@@ -1,5 +1,5 @@
 -- What the ids inside a frame refer to: the pass of a pass quad, the listing of a tile.
-use Rattle.std.specs.Prelude.{◌≡◌, ℕ, Bool, false, Option, Some, None, List, map, filter, slice_get}
+use Rattle.std.specs.Prelude.{◌≡◌, ℕ, Bool, false, Option, Some, None, List, length, map, filter, slice_get}
 use Rattle.std.specs.List.{last_or, position, range_with_len}
 use Rattle.vz_pixels.specs.Block.{Block}
 use Rattle.vz_frame.specs.declared.frame.CompositorFrame.{CompositorFrame}
@@ -41,6 +41,10 @@ places_in frame k quads = map (place_named frame k) quads
 -- these are the places that the ids in the quads of each pass refer to
 pub record AreNamed (frame : CompositorFrame) (places : List (List (Option ℕ))) : Type 0 where
   pub there : (k : ℕ) (pass : RenderPass) → slice_get frame.passes k ≡ Some pass → slice_get places k ≡ Some (places_in frame k pass.quads)
+
+-- these are the places, or there are none, as names are then searched for
+abbrev pub AreNamedIfAny : CompositorFrame → List (List (Option ℕ)) → Type 0
+AreNamedIfAny frame places = (length places ≡ 0 → ⊥) → AreNamed frame places
 
 -- the block at a place, if there is one
 abbrev pub block_at : Option ℕ → List Block → Option Block

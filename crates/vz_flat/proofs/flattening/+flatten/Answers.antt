@@ -1,8 +1,6 @@
 use Rattle.std.proofs.Common.{rules, ◌<◌, ◌-◌, length, slice_get, ap, sym, refl, ◌∙◌, subst, arith, ◌++◌, append-nil}
 use Rattle.std.proofs.lemmas.Option.{slice_get_read, slice_get_within}
-use Rattle.vz_surfaces.specs.Names.{block_at}
-use Rattle.vz_surfaces.specs.Reading.{seen_frames}
-use Rattle.vz_surfaces.specs.declared.held.Held.{Held}
+use Rattle.vz_surfaces.specs.{Names.block_at, Reading.seen_frames, declared.held.Held.Held}
 use Rattle.vz_walk.specs.Walking.{ids}
 use Rattle.vz_flat.specs.Flattening.{Stand, earlier_of, passes_in, ranges_of, group_here, group_at, group_in}
 use Rattle.vz_flat.proofs.Wholes.{frame_whole}

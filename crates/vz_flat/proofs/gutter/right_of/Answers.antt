@@ -1,5 +1,4 @@
-use Rattle.std.proofs.Common.{arith, ◌∙◌}
-use Rattle.std.proofs.lemmas.Int.{ints}
+use Rattle.std.proofs.{Common.arith, Common.◌∙◌, lemmas.Int.ints}
 use Rattle.vz_flat.proofs.Rounded.{same_sides, facts_of}
 use Rattle.vz_flat.proofs.gutter.right_of.Goals as goal
 

@@ -1,7 +1,5 @@
-use Rattle.std.proofs.Common.{arith, ap, ◌∙◌}
-use Rattle.std.proofs.lemmas.Int.{ints}
-use Rattle.vz_geom.specs.declared.Point.{Point}
-use Rattle.vz_geom.specs.Rectangle.{Rectangle}
+use Rattle.std.proofs.{Common.arith, Common.ap, Common.◌∙◌, lemmas.Int.ints}
+use Rattle.vz_geom.specs.{declared.Point.Point, Rectangle.Rectangle}
 use Rattle.vz_geom.proofs.Points.{same_point}
 use Rattle.vz_flat.proofs.Rounded.{read_along}
 use Rattle.vz_flat.proofs.tile.first_texel.Goals as goal

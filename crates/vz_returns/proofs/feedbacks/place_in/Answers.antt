@@ -1,5 +1,4 @@
-use Rattle.std.proofs.Common.{rules}
-use Rattle.std.proofs.lemmas.List.Sorted.{IsPartitionPoint-from_clause}
+use Rattle.std.proofs.{Common.rules, lemmas.List.Sorted.IsPartitionPoint-from_clause}
 use Rattle.vz_returns.specs.Unfed.{before}
 use Rattle.vz_returns.proofs.Halved.{parted, point_is}
 use Rattle.vz_returns.proofs.feedbacks.place_in.Goals as goal

@@ -1,5 +1,4 @@
-use Rattle.vz_returns.proofs.Orders.{rising_put}
-use Rattle.vz_returns.proofs.Releases.{received_shared, alive_shared, some_shared}
+use Rattle.vz_returns.proofs.{Orders.rising_put, Releases.received_shared, Releases.alive_shared, Releases.some_shared}
 use Rattle.vz_returns.proofs.laws.holding_counts.Goals as goal
 
 pub returns-clause-received : goal.returns-clause-received

@@ -1,5 +1,4 @@
-use Rattle.vz_returns.proofs.Orders.{rising_put}
-use Rattle.vz_returns.proofs.Releases.{received_lent, alive_lent, some_lent}
+use Rattle.vz_returns.proofs.{Orders.rising_put, Releases.received_lent, Releases.alive_lent, Releases.some_lent}
 use Rattle.vz_returns.proofs.laws.lending_counts.Goals as goal
 
 pub returns-clause-received : goal.returns-clause-received

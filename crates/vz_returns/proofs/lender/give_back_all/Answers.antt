@@ -1,7 +1,6 @@
 use Rattle.std.proofs.Common.{ap, ◌∙◌, arith}
 use Rattle.vz_returns.specs.Held.{is_rising}
-use Rattle.vz_returns.proofs.Releases.{rising_released}
-use Rattle.vz_returns.proofs.Releases_in_turn.{released_next, out_next, rest_of_left}
+use Rattle.vz_returns.proofs.{Releases.rising_released, Releases_in_turn.released_next, Releases_in_turn.out_next, Releases_in_turn.rest_of_left}
 use Rattle.vz_returns.proofs.lender.give_back_all.Goals as goal
 
 pub loop-id-preserved : goal.loop-id-preserved

@@ -1,7 +1,5 @@
 use Rattle.std.proofs.Common.{◌≡◌, ◌≤◌, ◌+◌, ◌++◌, true, length, drop}
-use Rattle.vz_returns.specs.Held.{is_rising}
-use Rattle.vz_returns.specs.Released.{release_all, returns_in}
-use Rattle.vz_returns.specs.Lent.{Suffice}
+use Rattle.vz_returns.specs.{Held.is_rising, Released.release_all, Released.returns_in, Lent.Suffice}
 use Rattle.vz_returns.proofs.lender.give_back_all.Given as goal
 
 -- those so far are released

@@ -1,7 +1,6 @@
 use Rattle.std.proofs.Common.{length, ap, arith}
 use Rattle.vz_returns.specs.Lent.{resources_out}
-use Rattle.vz_returns.proofs.Listings.{left_none}
-use Rattle.vz_returns.proofs.Lent_rooms.{out_left, out_none}
+use Rattle.vz_returns.proofs.{Listings.left_none, Lent_rooms.out_left, Lent_rooms.out_none}
 use Rattle.vz_returns.proofs.lenders.count_out.Goals as goal
 
 pub loop-lender-preserved : goal.loop-lender-preserved

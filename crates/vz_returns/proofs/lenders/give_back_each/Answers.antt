@@ -1,6 +1,5 @@
 use Rattle.std.proofs.Common.{◌≡◌, ◌<◌, ◌+◌, [], length, get_or, ◌∙◌, arith}
-use Rattle.vz_returns.proofs.Steps.{at_others}
-use Rattle.vz_returns.proofs.Lent_rooms.{by_place, out_left, out_more, length_set}
+use Rattle.vz_returns.proofs.{Steps.at_others, Lent_rooms.by_place, Lent_rooms.out_left, Lent_rooms.out_more, Lent_rooms.length_set}
 use Rattle.vz_returns.proofs.Returns_to_all.{given_next, given_all, item_there, item_enough, out_behind, later_other, earlier_other, all_none}
 use Rattle.vz_returns.proofs.lenders.give_back_each.Goals as goal
 

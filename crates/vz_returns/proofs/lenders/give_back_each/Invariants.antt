@@ -1,6 +1,5 @@
 use Rattle.std.proofs.Common.{◌≡◌, ◌≤◌, ◌<◌, ℕ, Some, [], length, drop, slice_get}
-use Rattle.vz_rules.specs.World.{World}
-use Rattle.vz_rules.specs.Kept.{KeepsAlways}
+use Rattle.vz_rules.specs.{World.World, Kept.KeepsAlways}
 use Rattle.vz_returns.specs.Lent.{Lent, AreLent, resources_out}
 use Rattle.vz_returns.proofs.Returns_to_all.{GivenTo}
 use Rattle.vz_returns.proofs.lenders.give_back_each.Given as goal

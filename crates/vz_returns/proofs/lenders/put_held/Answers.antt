@@ -1,10 +1,8 @@
 use Rattle.std.proofs.Common.{◌+◌, ◌++◌, length, drop, ap, sym, ◌∙◌, arith}
 use Rattle.std.specs.List.{flat_map}
 use Rattle.std.proofs.lemmas.List.{append_assoc}
-use Rattle.vz_returns.specs.Held.{held}
-use Rattle.vz_returns.specs.Lent.{Lent}
-use Rattle.vz_returns.proofs.Listings.{left_next}
-use Rattle.vz_returns.proofs.Lent_rooms.{out_left}
+use Rattle.vz_returns.specs.{Held.held, Lent.Lent}
+use Rattle.vz_returns.proofs.{Listings.left_next, Lent_rooms.out_left}
 use Rattle.vz_returns.proofs.lenders.put_held.Goals as goal
 
 pub held-requires : goal.held-requires

@@ -1,7 +1,6 @@
 use Rattle.std.proofs.Common.{◌≡◌, ◌≤◌, ◌++◌, drop}
 use Rattle.std.specs.List.{flat_map}
-use Rattle.vz_returns.specs.Held.{held}
-use Rattle.vz_returns.specs.Lent.{Lent, resources_out}
+use Rattle.vz_returns.specs.{Held.held, Lent.Lent, Lent.resources_out}
 use Rattle.vz_returns.proofs.lenders.put_held.Given as goal
 
 -- what is left belongs behind what is there

@@ -1,7 +1,6 @@
 use Rattle.std.proofs.Common.{Some, ap, ◌∙◌}
 use Rattle.vz_rules.specs.World.{Aggregation}
-use Rattle.vz_damage.specs.Accepted.{scene_from}
-use Rattle.vz_damage.specs.Measured.{without_indices}
+use Rattle.vz_damage.specs.{Accepted.scene_from, Measured.without_indices}
 use Rattle.vz_surface_manager.proofs.Seen.{told_drawn, told_busy, told_nowhere, told_too_much}
 use Rattle.vz_surface_manager.proofs.damage_laws.damages_are_seen.Goals as goal
 

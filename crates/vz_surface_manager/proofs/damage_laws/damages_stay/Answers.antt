@@ -1,6 +1,4 @@
-use Rattle.vz_rules.specs.Reach.{naming}
-use Rattle.vz_rules.specs.Returns.{give_back, feed}
-use Rattle.vz_rules.specs.Step.{begin_answer, done_answer}
+use Rattle.vz_rules.specs.{Reach.naming, Returns.give_back, Returns.feed, Step.begin_answer, Step.done_answer}
 use Rattle.vz_surface_manager.proofs.Stored.{told_stays, last_named, last_given, last_fed, last_begun, last_done}
 use Rattle.vz_surface_manager.proofs.Told_messages.{told_over}
 use Rattle.vz_surface_manager.proofs.damage_laws.damages_stay.Goals as goal

@@ -3,8 +3,7 @@ use Rattle.vz_rules.specs.World.{Aggregation}
 use Rattle.vz_walk.specs.Scenes.{walked_in}
 use Rattle.vz_surfaces.specs.Stored.{stored_of}
 use Rattle.vz_damage.specs.Measured.{told_damage}
-use Rattle.vz_surface_manager.proofs.Read.{tells_last}
-use Rattle.vz_surface_manager.proofs.Seen.{reply_drawn}
+use Rattle.vz_surface_manager.proofs.{Read.tells_last, Seen.reply_drawn}
 use Rattle.vz_surface_manager.proofs.damage_laws.damages_tell.Goals as goal
 
 pub returns-clause-last : goal.returns-clause-last

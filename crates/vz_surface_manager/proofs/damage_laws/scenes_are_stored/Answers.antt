@@ -1,6 +1,5 @@
 use Rattle.std.proofs.Common.{List, ap, sym, ◌∙◌}
-use Rattle.vz_rules.specs.World.{FrameData}
-use Rattle.vz_rules.specs.Walk.{walk_of}
+use Rattle.vz_rules.specs.{World.FrameData, Walk.walk_of}
 use Rattle.vz_surface_manager.proofs.Viewed.{rootless, unseen_root, seen_root}
 use Rattle.vz_surface_manager.proofs.damage_laws.scenes_are_stored.Goals as goal
 

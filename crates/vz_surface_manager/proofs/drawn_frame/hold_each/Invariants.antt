@@ -1,10 +1,7 @@
 use Rattle.std.proofs.Common.{◌≡◌, ℕ, Some, take, drop}
-use Rattle.vz_rules.specs.Plan.{Plan}
-use Rattle.vz_rules.specs.World.{World}
+use Rattle.vz_rules.specs.{Plan.Plan, World.World}
 use Rattle.vz_returns.specs.Lent.{AreLent, HasPlaces, NoneReleased, resources_out}
-use Rattle.vz_surface_manager.specs.Flown.{subs_of}
-use Rattle.vz_surface_manager.specs.Rosters.{listing_count}
-use Rattle.vz_surface_manager.specs.Drawn_frame.{IsLifting}
+use Rattle.vz_surface_manager.specs.{Flown.subs_of, Rosters.listing_count, Drawn_frame.IsLifting}
 use Rattle.vz_surface_manager.proofs.drawn_frame.hold_each.Given as goal
 
 -- those so far hold what they list, and there are places for the others

@@ -1,8 +1,7 @@
 use Rattle.std.proofs.Common.{◌≡◌, Some, drop}
 use Rattle.vz_rules.specs.World.{World}
 use Rattle.vz_returns.specs.Lent.{AreLent, resources_out}
-use Rattle.vz_surface_manager.specs.Flown.{subs_of}
-use Rattle.vz_surface_manager.specs.Frame_end.{IsLanding}
+use Rattle.vz_surface_manager.specs.{Flown.subs_of, Frame_end.IsLanding}
 use Rattle.vz_surface_manager.proofs.frame_end.release_each.Given as goal
 
 -- those that are left hold what they list

@@ -1,5 +1,4 @@
-use Rattle.vz_surface_manager.proofs.Sets_kept.{stays_same, stays_taken, stays_given}
-use Rattle.vz_surface_manager.proofs.Fed_kept.{stays_fed}
+use Rattle.vz_surface_manager.proofs.{Sets_kept.stays_same, Sets_kept.stays_taken, Sets_kept.stays_given, Fed_kept.stays_fed}
 use Rattle.vz_surface_manager.proofs.kept_laws.kept_ones_stay.Goals as goal
 
 pub returns : goal.returns

@@ -1,7 +1,6 @@
 use Rattle.std.proofs.Common.{map, ap, sym}
 use Rattle.vz_rules.specs.World.{sub_of}
-use Rattle.vz_rules.proofs.Activated.{none_ready_after}
-use Rattle.vz_rules.proofs.Kept_follows.{always_naming}
+use Rattle.vz_rules.proofs.{Activated.none_ready_after, Kept_follows.always_naming}
 use Rattle.vz_surface_manager.proofs.laws.settled_ones_stay.Goals as goal
 
 pub returns-clause-ready : goal.returns-clause-ready

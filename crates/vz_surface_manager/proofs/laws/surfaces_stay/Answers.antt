@@ -1,8 +1,6 @@
 use Rattle.std.proofs.Common.{◌≡◌, refl}
-use Rattle.vz_rules.specs.Reach.{naming}
+use Rattle.vz_rules.specs.{Reach.naming, Step.answer_to, declared.entry.Event.TheVariants.Over}
 use Rattle.vz_rules.specs.Messages.{taking, upload_answer, hierarchy_answer, root_answer, await_answer}
-use Rattle.vz_rules.specs.Step.{answer_to}
-use Rattle.vz_rules.specs.declared.entry.Event.TheVariants.{Over}
 use Rattle.vz_surface_manager.specs.Kept_surfaces.{AreKept}
 use Rattle.vz_surface_manager.proofs.Flights_kept.{flown_named, flown_taking, flown_uploaded, flown_related, flown_rooted, flown_awaited, flown_over}
 use Rattle.vz_surface_manager.proofs.Quiet.{live_stays, upload_cases, hierarchy_cases, root_cases, await_cases}

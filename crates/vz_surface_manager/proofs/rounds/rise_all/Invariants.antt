@@ -1,8 +1,7 @@
 use Rattle.std.proofs.Common.{◌≡◌, ◌+◌, ◌≤◌, length, Option}
 use Rattle.vz_ids.specs.declared.SurfaceId.{SurfaceId}
 use Rattle.vz_rules.specs.World.{World}
-use Rattle.vz_returns.specs.Lent.{resources_out}
-use Rattle.vz_returns.specs.Notes.{owed_count}
+use Rattle.vz_returns.specs.{Lent.resources_out, Notes.owed_count}
 use Rattle.vz_surface_manager.specs.Settles.{IsRound}
 use Rattle.vz_surface_manager.proofs.One_round.{IsRisingOn}
 use Rattle.vz_surface_manager.proofs.rounds.rise_all.Given as goal

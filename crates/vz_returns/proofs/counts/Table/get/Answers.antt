@@ -1,6 +1,5 @@
 use Rattle.std.proofs.Common.{ap, ◌∙◌}
-use Rattle.vz_returns.specs.Held.{received_of, alive_of}
-use Rattle.vz_returns.specs.Ordered.{counted_of, in_order}
+use Rattle.vz_returns.specs.{Held.received_of, Held.alive_of, Ordered.counted_of, Ordered.in_order}
 use Rattle.vz_returns.proofs.Orders.{read_some, read_none, received_some, received_none, alive_some, alive_none}
 use Rattle.vz_returns.proofs.counts.Table.get.Goals as goal
 

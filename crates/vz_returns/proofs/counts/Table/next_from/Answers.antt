@@ -1,9 +1,8 @@
 use Rattle.std.proofs.Common.{◌≡◌, true, false, ap, sym, ◌∙◌, arith}
 use Rattle.vz_returns.specs.Held.{is_rising}
 use Rattle.vz_returns.proofs.Orders.{rising_order}
-use Rattle.vz_returns.proofs.Least.{none_yet, next_entry}
+use Rattle.vz_returns.proofs.{Least.none_yet, Least.next_entry, counts.Table.next_from.Goals.in-Some, counts.Table.next_from.Goals.in_default}
 use Rattle.vz_returns.proofs.counts.Table.next_from.Goals as goal
-use Rattle.vz_returns.proofs.counts.Table.next_from.Goals.{in-Some, in_default}
 
 pub loop-k-init : goal.loop-k-init
 loop-k-init c = (none_yet c.args.from c.len-len.result c.self.inside.counts.entries c.len-len.ensures.len, c.len-len.ensures.len)

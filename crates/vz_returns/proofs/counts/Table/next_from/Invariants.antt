@@ -1,6 +1,5 @@
 use Rattle.std.proofs.Common.{◌≡◌, ◌-◌, length, drop}
-use Rattle.vz_returns.specs.Held.{first_from}
-use Rattle.vz_returns.specs.Ordered.{in_order}
+use Rattle.vz_returns.specs.{Held.first_from, Ordered.in_order}
 use Rattle.vz_returns.proofs.counts.Table.next_from.Given as goal
 
 -- the least of those from the end on

@@ -1,6 +1,5 @@
 use Rattle.std.proofs.Common.{length, ap, ◌∙◌, arith}
-use Rattle.vz_returns.specs.Held.{put_in}
-use Rattle.vz_returns.specs.Ordered.{counted_of, in_order}
+use Rattle.vz_returns.specs.{Held.put_in, Ordered.counted_of, Ordered.in_order}
 use Rattle.vz_returns.proofs.Orders.{order_put, put_more}
 use Rattle.vz_returns.proofs.counts.Table.put.Goals as goal
 

@@ -1,6 +1,5 @@
 use Rattle.std.proofs.Common.{◌+◌, length, ap, ◌∙◌, is_some}
-use Rattle.vz_returns.specs.Held.{counted_at, without}
-use Rattle.vz_returns.specs.Ordered.{in_order}
+use Rattle.vz_returns.specs.{Held.counted_at, Held.without, Ordered.in_order}
 use Rattle.vz_returns.proofs.Orders.{order_without, without_length, rising_order, counts_there}
 use Rattle.vz_returns.proofs.counts.Table.remove.Goals as goal
 

@@ -1,6 +1,5 @@
 use Rattle.std.proofs.Common.{◌≡◌, true, false, ap, sym, ◌∙◌, is_some, None, length}
-use Rattle.vz_returns.specs.Held.{put_in, counted_at}
-use Rattle.vz_returns.specs.Ordered.{counted_of, in_order}
+use Rattle.vz_returns.specs.{Held.put_in, Held.counted_at, Ordered.counted_of, Ordered.in_order}
 use Rattle.vz_returns.proofs.Orders.{order_put, read_none, counts_there, rising_order, put_same}
 use Rattle.vz_returns.proofs.counts.Table.set.Goals as goal
 use Rattle.vz_returns.proofs.counts.Table.set.Goals.{in-Some, in_default}

@@ -1,7 +1,6 @@
 use Rattle.std.proofs.Common.{◌≡◌, ap, sym, ◌∙◌, remove, true, false}
 use Rattle.vz_returns.specs.Unfed.{in_order, is_open, place_in, fed}
-use Rattle.vz_returns.proofs.Kept.{fed_in_order}
-use Rattle.vz_returns.proofs.Halved.{stands, none_left}
+use Rattle.vz_returns.proofs.{Kept.fed_in_order, Halved.stands, Halved.none_left}
 use Rattle.vz_returns.proofs.feedbacks.Feedbacks.feed.Goals as goal
 
 pub invariant_of-self : goal.invariant_of-self

@@ -1,10 +1,6 @@
-use Rattle.std.proofs.Common.{ap, ◌++◌, length, arith}
-use Rattle.std.proofs.lemmas.List.{length-map}
-use Rattle.vz_returns.specs.Held.{alive_of}
-use Rattle.vz_returns.specs.Released.{times}
-use Rattle.vz_returns.specs.Listed.{ids_of}
-use Rattle.vz_returns.proofs.Steps.{alive_lent_all}
-use Rattle.vz_returns.proofs.Lent_rooms.{lent_length}
+use Rattle.std.proofs.{Common.ap, Common.◌++◌, Common.length, Common.arith, lemmas.List.length-map}
+use Rattle.vz_returns.specs.{Held.alive_of, Released.times, Listed.ids_of}
+use Rattle.vz_returns.proofs.{Steps.alive_lent_all, Lent_rooms.lent_length}
 use Rattle.vz_returns.proofs.lender.Lender.accept.Goals as goal
 
 pub release_all-requires : goal.release_all-requires

@@ -1,12 +1,8 @@
 use Rattle.std.proofs.Common.{rules, ◌≡◌, true, [], ap, sym, subst, ◌∙◌, length, arith}
-use Rattle.std.proofs.lemmas.List.{nil_from_length}
-use Rattle.std.proofs.lemmas.List.Sorted.{IsNonDecreasingBy-from_sort, length_permutation}
+use Rattle.std.proofs.{lemmas.List.nil_from_length, lemmas.List.Sorted.IsNonDecreasingBy-from_sort, lemmas.List.Sorted.length_permutation}
 use Rattle.std.specs.List.Sorted.{IsPermutation}
-use Rattle.vz_returns.specs.Held.{is_rising}
-use Rattle.vz_returns.specs.Released.{AreCounts, is_sorted}
-use Rattle.vz_returns.proofs.All_released.{rising_all}
-use Rattle.vz_returns.specs.Lent.{Suffice, all_alive}
-use Rattle.vz_returns.proofs.Totals.{no_more}
+use Rattle.vz_returns.specs.{Held.is_rising, Released.AreCounts, Released.is_sorted, Lent.Suffice, Lent.all_alive}
+use Rattle.vz_returns.proofs.{All_released.rising_all, Totals.no_more}
 use Rattle.vz_returns.proofs.Releases_in_turn.{fewer_alive, sorted_suffice, never_fall, given_in_order, none_given, none_less_all}
 use Rattle.vz_returns.proofs.lender.Lender.give_back.Goals as goal
 

@@ -1,8 +1,6 @@
 use Rattle.std.proofs.Common.{ap, ◌∙◌, arith}
-use Rattle.vz_returns.specs.Held.{is_rising}
-use Rattle.vz_returns.proofs.Orders.{rising_put}
-use Rattle.vz_returns.specs.Lent.{all_alive}
-use Rattle.vz_returns.proofs.Totals.{all_shared}
+use Rattle.vz_returns.specs.{Held.is_rising, Lent.all_alive}
+use Rattle.vz_returns.proofs.{Orders.rising_put, Totals.all_shared}
 use Rattle.vz_returns.proofs.lender.Lender.hold.Goals as goal
 
 pub invariant_of-self : goal.invariant_of-self

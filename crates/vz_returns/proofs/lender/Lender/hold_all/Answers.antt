@@ -1,7 +1,5 @@
 use Rattle.std.proofs.Common.{sym, subst, refl, ◌∙◌, ◌+◌, drop, arith}
-use Rattle.vz_returns.specs.Held.{shared}
-use Rattle.vz_returns.specs.Lent.{AreCountable, Suffice, shared_all}
-use Rattle.vz_returns.specs.Listed.{ids_of}
+use Rattle.vz_returns.specs.{Held.shared, Lent.AreCountable, Lent.Suffice, Lent.shared_all, Listed.ids_of}
 use Rattle.vz_returns.proofs.Listings.{done_next, once_parts, countable_shared, suffice_shared, left_suffice, left_countable, first_countable}
 use Rattle.vz_returns.proofs.lender.Lender.hold_all.Goals as goal
 

@@ -1,6 +1,5 @@
 use Rattle.std.proofs.Common.{◌≡◌, ◌≤◌, ◌+◌, false, length, drop}
-use Rattle.vz_returns.specs.Lent.{Suffice, AreCountable, shared_all}
-use Rattle.vz_returns.specs.Listed.{ids_of, lists_twice}
+use Rattle.vz_returns.specs.{Lent.Suffice, Lent.AreCountable, Lent.shared_all, Listed.ids_of, Listed.lists_twice}
 use Rattle.vz_returns.proofs.lender.Lender.hold_all.Given as goal
 
 -- those so far are done

@@ -1,9 +1,7 @@
 use Rattle.std.proofs.Common.{◌≡◌, subst, ap, ◌∙◌, arith}
 use Rattle.std.specs.Prelude.{OnOk, Result}
-use Rattle.vz_returns.specs.Held.{is_rising, lent}
-use Rattle.vz_returns.proofs.Orders.{rising_put}
-use Rattle.vz_returns.specs.Lent.{all_alive}
-use Rattle.vz_returns.proofs.Totals.{all_lent}
+use Rattle.vz_returns.specs.{Held.is_rising, Held.lent, Lent.all_alive}
+use Rattle.vz_returns.proofs.{Orders.rising_put, Totals.all_lent}
 use Rattle.vz_returns.proofs.lender.Lender.lend.Goals as goal
 
 pub invariant_of-self : goal.invariant_of-self

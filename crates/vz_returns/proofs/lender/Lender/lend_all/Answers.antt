@@ -1,7 +1,5 @@
 use Rattle.std.proofs.Common.{sym, subst, refl, ◌∙◌, ◌+◌, drop, arith}
-use Rattle.vz_returns.specs.Held.{lent}
-use Rattle.vz_returns.specs.Lent.{AreCountable, lent_all}
-use Rattle.vz_returns.specs.Listed.{ids_of}
+use Rattle.vz_returns.specs.{Held.lent, Lent.AreCountable, Lent.lent_all, Listed.ids_of}
 use Rattle.vz_returns.proofs.Listings.{done_next, once_parts, countable_lent, left_countable, first_countable}
 use Rattle.vz_returns.proofs.lender.Lender.lend_all.Goals as goal
 

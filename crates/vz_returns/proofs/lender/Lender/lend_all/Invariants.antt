@@ -1,6 +1,5 @@
 use Rattle.std.proofs.Common.{◌≡◌, ◌≤◌, ◌+◌, false, length, drop}
-use Rattle.vz_returns.specs.Lent.{AreCountable, lent_all}
-use Rattle.vz_returns.specs.Listed.{ids_of, lists_twice}
+use Rattle.vz_returns.specs.{Lent.AreCountable, Lent.lent_all, Listed.ids_of, Listed.lists_twice}
 use Rattle.vz_returns.proofs.lender.Lender.lend_all.Given as goal
 
 -- those so far are done

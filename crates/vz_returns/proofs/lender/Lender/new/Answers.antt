@@ -1,6 +1,5 @@
 use Rattle.std.proofs.Common.{ap, sym, arith}
-use Rattle.vz_returns.specs.Held.{is_rising}
-use Rattle.vz_returns.specs.Lent.{all_alive}
+use Rattle.vz_returns.specs.{Held.is_rising, Lent.all_alive}
 use Rattle.vz_returns.proofs.lender.Lender.new.Goals as goal
 
 pub invariant_of-result : goal.invariant_of-result

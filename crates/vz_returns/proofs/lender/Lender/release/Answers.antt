@@ -1,8 +1,6 @@
 use Rattle.std.proofs.Common.{rules, ◌≡◌, ap, ◌++◌, [], ◌∷◌, length, vec_len, arith}
-use Rattle.vz_returns.specs.Held.{alive_of}
-use Rattle.vz_returns.specs.Released.{times}
+use Rattle.vz_returns.specs.{Held.alive_of, Released.times, Lent.Suffice}
 use Rattle.std.proofs.lemmas.List.{length-append}
-use Rattle.vz_returns.specs.Lent.{Suffice}
 use Rattle.vz_returns.proofs.Totals.{no_more}
 use Rattle.vz_returns.proofs.lender.Lender.release.Goals as goal
 

@@ -1,6 +1,5 @@
 use Rattle.std.proofs.Common.{◌≡◌, ◌++◌, drop}
-use Rattle.vz_returns.specs.Lent.{Suffice}
-use Rattle.vz_returns.specs.Listed.{ids_of}
+use Rattle.vz_returns.specs.{Lent.Suffice, Listed.ids_of}
 use Rattle.vz_returns.proofs.lender.Lender.release_all.Given as goal
 
 -- those so far are released

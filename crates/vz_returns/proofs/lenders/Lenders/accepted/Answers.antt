@@ -1,6 +1,5 @@
 use Rattle.std.proofs.Common.{ap, sym, subst, length, arith}
-use Rattle.vz_returns.specs.Lent.{IsLender, HasRoom, resources_out}
-use Rattle.vz_returns.specs.Changes.{IsAccepted}
+use Rattle.vz_returns.specs.{Lent.IsLender, Lent.HasRoom, Lent.resources_out, Changes.IsAccepted}
 use Rattle.vz_returns.proofs.Changed.{here, accepted_once, accepted_countable, accepted_enough, accepted_lent}
 use Rattle.vz_returns.proofs.Lent_rooms.{out_more}
 use Rattle.vz_returns.proofs.lenders.Lenders.accepted.Goals as goal

@@ -1,7 +1,5 @@
 use Rattle.std.proofs.Common.{ap, sym, subst, ◌∙◌, ◌+◌, length, arith}
-use Rattle.vz_returns.specs.Lent.{IsLender, NoneReleased, HasPlaces, resources_out}
-use Rattle.vz_returns.specs.Changes.{IsDrawn}
-use Rattle.vz_returns.specs.Listed.{ids_of}
+use Rattle.vz_returns.specs.{Lent.IsLender, Lent.NoneReleased, Lent.HasPlaces, Lent.resources_out, Changes.IsDrawn, Listed.ids_of}
 use Rattle.vz_returns.proofs.Changed.{here, drawn_countable, drawn_alive, drawn_lent, drawn_rising}
 use Rattle.vz_returns.proofs.Lent_rooms.{out_same, none_released_set, places_set, shared_length}
 use Rattle.vz_returns.proofs.lenders.Lenders.drawn.Goals as goal

@@ -1,8 +1,6 @@
 use Rattle.std.proofs.Common.{ap, sym, subst, ◌∙◌, length}
-use Rattle.vz_returns.specs.Lent.{IsLender, resources_out}
-use Rattle.vz_returns.specs.Changes.{IsGoing}
-use Rattle.vz_returns.proofs.Changed.{here, gone_enough, gone_lent}
-use Rattle.vz_returns.proofs.Lent_rooms.{out_same}
+use Rattle.vz_returns.specs.{Lent.IsLender, Lent.resources_out, Changes.IsGoing}
+use Rattle.vz_returns.proofs.{Changed.here, Changed.gone_enough, Changed.gone_lent, Lent_rooms.out_same}
 use Rattle.vz_returns.proofs.lenders.Lenders.dropped.Goals as goal
 
 pub drop_all-requires : goal.drop_all-requires

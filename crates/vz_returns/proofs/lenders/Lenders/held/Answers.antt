@@ -1,7 +1,6 @@
 use Rattle.std.proofs.Common.{◌++◌, ap, ◌∙◌}
 use Rattle.std.specs.List.{flat_map}
-use Rattle.vz_returns.specs.Held.{held}
-use Rattle.vz_returns.specs.Lent.{Lent}
+use Rattle.vz_returns.specs.{Held.held, Lent.Lent}
 use Rattle.vz_returns.proofs.Rest.{rest_is}
 use Rattle.vz_returns.proofs.lenders.Lenders.held.Goals as goal
 

@@ -1,8 +1,6 @@
 use Rattle.std.proofs.Common.{ap, sym, subst, ◌∙◌, length}
-use Rattle.vz_returns.specs.Lent.{IsLender, resources_out}
-use Rattle.vz_returns.specs.Changes.{IsRising}
-use Rattle.vz_returns.proofs.Changed.{here, past_enough, past_lent}
-use Rattle.vz_returns.proofs.Lent_rooms.{out_same}
+use Rattle.vz_returns.specs.{Lent.IsLender, Lent.resources_out, Changes.IsRising}
+use Rattle.vz_returns.proofs.{Changed.here, Changed.past_enough, Changed.past_lent, Lent_rooms.out_same}
 use Rattle.vz_returns.proofs.lenders.Lenders.past.Goals as goal
 
 pub release_all-requires : goal.release_all-requires

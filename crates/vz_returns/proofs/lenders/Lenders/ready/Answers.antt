@@ -1,8 +1,7 @@
 use Rattle.std.proofs.Common.{set, ◌∙◌, ap, sym, subst, ◌-◌}
 use Rattle.vz_rules.proofs.Members.{at_contains}
 use Rattle.vz_returns.specs.Lent.{IsLender, AreLent, HasRoom, AreRoomier, NoneReleased, resources_out}
-use Rattle.vz_returns.proofs.Changed.{here}
-use Rattle.vz_returns.proofs.Lent_rooms.{roomier_lent, roomier_none, roomier_out, roomier_set}
+use Rattle.vz_returns.proofs.{Changed.here, Lent_rooms.roomier_lent, Lent_rooms.roomier_none, Lent_rooms.roomier_out, Lent_rooms.roomier_set}
 use Rattle.vz_returns.proofs.lenders.Lenders.ready.Goals as goal
 
 pub returns-clause-lent : goal.returns-clause-lent

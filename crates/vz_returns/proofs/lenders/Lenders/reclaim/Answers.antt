@@ -2,8 +2,7 @@ use Rattle.std.proofs.Common.{ap, sym, subst, ◌∙◌, length}
 use Rattle.vz_returns.specs.Lent.{IsLender, AreLent, NoneReleased, resources_out}
 use Rattle.std.proofs.Common.{◌++◌}
 use Rattle.vz_returns.proofs.Changed.{here}
-use Rattle.vz_returns.proofs.Lent_rooms.{out_same, none_released_set}
-use Rattle.vz_returns.proofs.Returns_to_all.{its_queue, reclaimed_lent}
+use Rattle.vz_returns.proofs.{Lent_rooms.out_same, Lent_rooms.none_released_set, Returns_to_all.its_queue, Returns_to_all.reclaimed_lent}
 use Rattle.vz_returns.proofs.lenders.Lenders.reclaim.Goals as goal
 
 pub returns-clause-returned : goal.returns-clause-returned

@@ -2,8 +2,7 @@ use Rattle.std.proofs.Common.{◌≡◌, ◌-◌, ◌<◌, None, length, vec_len
 use Rattle.std.specs.Map.{lookup}
 use Rattle.indexmap.specs.IndexMap.{spare as spare_of}
 use Rattle.vz_ids.specs.Ids.{same_sub}
-use Rattle.vz_returns.specs.Owed.{OwedAndRoom, place_of}
-use Rattle.vz_returns.specs.Notes.{room_for}
+use Rattle.vz_returns.specs.{Owed.OwedAndRoom, Owed.place_of, Notes.room_for}
 use Rattle.vz_returns.proofs.Open_places.{kept_added, on_ok, if_ok, one_longer, has_free}
 use Rattle.vz_returns.proofs.pending_feedback.PendingFeedback.add.Goals as goal
 

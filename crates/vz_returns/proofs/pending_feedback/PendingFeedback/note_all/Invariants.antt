@@ -1,8 +1,6 @@
 use Rattle.std.proofs.Common.{◌≤◌, ◌+◌, true, Option, List, length, take}
-use Rattle.vz_rules.specs.declared.entry.Fed.{Fed}
-use Rattle.vz_rules.specs.World.{Submission, has_sub}
-use Rattle.vz_returns.specs.Owed.{Owes}
-use Rattle.vz_returns.specs.Notes.{noted}
+use Rattle.vz_rules.specs.{declared.entry.Fed.Fed, World.Submission, World.has_sub}
+use Rattle.vz_returns.specs.{Owed.Owes, Notes.noted}
 use Rattle.vz_returns.proofs.pending_feedback.PendingFeedback.note_all.Given as goal
 
 -- the feedback of those so far is due

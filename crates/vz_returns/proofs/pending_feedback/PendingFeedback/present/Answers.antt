@@ -1,6 +1,5 @@
 use Rattle.std.proofs.Common.{[]}
-use Rattle.vz_rules.specs.Ends.{landed}
-use Rattle.vz_rules.specs.Returns.{feedback_of}
+use Rattle.vz_rules.specs.{Ends.landed, Returns.feedback_of}
 use Rattle.vz_returns.proofs.Given.{fed_is, owed_landed, owed_presented}
 use Rattle.vz_returns.proofs.pending_feedback.PendingFeedback.present.Goals as goal
 

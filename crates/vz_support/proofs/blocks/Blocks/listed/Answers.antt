@@ -1,6 +1,5 @@
 use Rattle.std.proofs.Common.{◌++◌, ap, sym, ◌∙◌, take}
-use Rattle.std.specs.List.{filter_map}
-use Rattle.std.specs.Option.{option_copied, option_to_list}
+use Rattle.std.specs.{List.filter_map, Option.option_copied, Option.option_to_list}
 use Rattle.vz_frame.specs.declared.frame.Listing.{Listing}
 use Rattle.vz_support.specs.Sent.{block_in}
 use Rattle.vz_support.proofs.Listed.{given_more}

@@ -1,7 +1,5 @@
 use Rattle.std.proofs.Common.{subst, sym}
-use Rattle.vz_support.specs.Sent.{answered_by}
-use Rattle.vz_support.specs.Changed.{ChangesOne}
-use Rattle.vz_support.specs.Supporting.{HasTaken}
+use Rattle.vz_support.specs.{Sent.answered_by, Changed.ChangesOne, Supporting.HasTaken}
 use Rattle.vz_support.proofs.Submitting.{accepts}
 use Rattle.vz_support.proofs.support.Support.accept.Goals as goal
 

@@ -1,6 +1,5 @@
 use Rattle.std.proofs.Common.{ap, ◌∙◌}
-use Rattle.vz_support.specs.Sent.{sender_at}
-use Rattle.vz_support.specs.Supporting.{Supported}
+use Rattle.vz_support.specs.{Sent.sender_at, Supporting.Supported}
 use Rattle.vz_support.proofs.Asking.{answered_here}
 use Rattle.vz_support.proofs.support.Support.answered.Goals as goal
 

@@ -1,7 +1,5 @@
 use Rattle.std.proofs.Common.{Some, ap, subst, sym, ◌∙◌}
-use Rattle.vz_support.specs.Sent.{answered_by}
-use Rattle.vz_support.specs.Changed.{ChangesOne}
-use Rattle.vz_support.specs.Supporting.{IsSupport}
+use Rattle.vz_support.specs.{Sent.answered_by, Changed.ChangesOne, Supporting.IsSupport}
 use Rattle.vz_support.proofs.Taking.{same_number, sent_is, takes_answer}
 use Rattle.vz_support.proofs.support.Support.did_not_produce.Goals as goal
 

@@ -1,7 +1,6 @@
 use Rattle.std.proofs.Common.{subst, sym, refl, ◌∙◌}
 use Rattle.vz_sinks.specs.Relating.{refusal_in}
-use Rattle.vz_support.specs.Relations.{reply_for, relations_for}
-use Rattle.vz_support.specs.Supporting.{IsSupport}
+use Rattle.vz_support.specs.{Relations.reply_for, Relations.relations_for, Supporting.IsSupport}
 use Rattle.vz_support.proofs.Requesting.{asked_is, says_related, relates}
 use Rattle.vz_support.proofs.support.Support.hierarchy.Goals as goal
 

@@ -1,7 +1,6 @@
 use Rattle.std.proofs.Common.{is_none, ap, ◌∙◌}
 use Rattle.vz_frame.specs.Frame.{first_of}
-use Rattle.vz_support.specs.Sent.{sender_at}
-use Rattle.vz_support.specs.Supporting.{Supported}
+use Rattle.vz_support.specs.{Sent.sender_at, Supporting.Supported}
 use Rattle.vz_support.proofs.Asking.{copied_none, idle_here}
 use Rattle.vz_support.proofs.support.Support.idle.Goals as goal
 

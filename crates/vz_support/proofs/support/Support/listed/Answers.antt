@@ -1,8 +1,7 @@
 use Rattle.std.proofs.Common.{ap, ◌∙◌}
 use Rattle.vz_frame.specs.Frame.{first_of}
 use Rattle.vz_machine.specs.Stepping.{listed_in}
-use Rattle.vz_support.specs.Sent.{sender_at}
-use Rattle.vz_support.specs.Supporting.{Supported}
+use Rattle.vz_support.specs.{Sent.sender_at, Supporting.Supported}
 use Rattle.vz_support.proofs.Asking.{listed_here}
 use Rattle.vz_support.proofs.support.Support.listed.Goals as goal
 

@@ -1,7 +1,6 @@
 use Rattle.std.proofs.Common.{ap, ◌∙◌}
 use Rattle.vz_frame.specs.Frame.{first_of}
-use Rattle.vz_support.specs.Sent.{sender_at}
-use Rattle.vz_support.specs.Supporting.{Supported}
+use Rattle.vz_support.specs.{Sent.sender_at, Supporting.Supported}
 use Rattle.vz_support.proofs.Asking.{next_same}
 use Rattle.vz_support.proofs.support.Support.next.Goals as goal
 

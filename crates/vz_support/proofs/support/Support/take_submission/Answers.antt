@@ -1,7 +1,6 @@
 use Rattle.std.proofs.Common.{subst, sym, ◌∙◌}
 use Rattle.vz_support.specs.Supporting.{IsSupport}
-use Rattle.vz_support.proofs.Taking.{sent_is, takes_plain}
-use Rattle.vz_support.proofs.Submitting.{same_submission}
+use Rattle.vz_support.proofs.{Taking.sent_is, Taking.takes_plain, Submitting.same_submission}
 use Rattle.vz_support.proofs.support.Support.take_submission.Goals as goal
 
 pub returns-clause-frame : goal.returns-clause-frame

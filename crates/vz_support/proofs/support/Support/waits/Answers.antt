@@ -1,8 +1,7 @@
 use Rattle.std.proofs.Common.{is_some, ap, ◌∙◌}
 use Rattle.vz_frame.specs.Frame.{first_of}
-use Rattle.vz_support.specs.Sent.{sender_at}
+use Rattle.vz_support.specs.{Sent.sender_at, Supporting.Supported, Supporting.is_await}
 use Rattle.vz_sinks.specs.Relating.{standing}
-use Rattle.vz_support.specs.Supporting.{Supported, is_await}
 use Rattle.vz_support.proofs.Asking.{waits_here}
 use Rattle.vz_support.proofs.support.Support.waits.Goals as goal
 

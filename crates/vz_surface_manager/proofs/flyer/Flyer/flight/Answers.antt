@@ -1,7 +1,6 @@
 use Rattle.std.proofs.Common.{List, ap, sym, ◌∙◌, subst}
 use Rattle.vz_walk.specs.Scenes.{scene_in, walked_in}
-use Rattle.vz_surface_manager.specs.Flown.{Flown, subs_of}
-use Rattle.vz_surface_manager.specs.Rosters.{flown_from, IsRosterOf}
+use Rattle.vz_surface_manager.specs.{Flown.Flown, Flown.subs_of, Rosters.flown_from, Rosters.IsRosterOf}
 use Rattle.vz_surface_manager.proofs.Rostered.{walk_is_roster, drawn_names}
 use Rattle.vz_surface_manager.proofs.flyer.Flyer.flight.Goals as goal
 

@@ -1,12 +1,9 @@
 use Rattle.std.proofs.Common.{List, [], ◌∷◌, ap, sym, ◌∙◌}
-use Rattle.vz_frame.specs.declared.frame.CompositorFrame.{CompositorFrame}
-use Rattle.vz_frame.specs.declared.frame.Listing.{Listing}
+use Rattle.vz_frame.specs.{declared.frame.CompositorFrame.CompositorFrame, declared.frame.Listing.Listing}
 use Rattle.vz_surfaces.specs.declared.held.Held.{Held}
-use Rattle.vz_rules.specs.Closure.{adding}
-use Rattle.vz_rules.specs.Walk.{Enters}
+use Rattle.vz_rules.specs.{Closure.adding, Walk.Enters}
 use Rattle.vz_damage.proofs.Claiming.{where_ok}
-use Rattle.vz_surface_manager.specs.Rosters.{same_flown}
-use Rattle.vz_surface_manager.specs.declared.flyer.Flyer.{Flyer}
+use Rattle.vz_surface_manager.specs.{Rosters.same_flown, declared.flyer.Flyer.Flyer}
 use Rattle.vz_surface_manager.proofs.Rostered.{meets_one}
 use Rattle.vz_surface_manager.proofs.flyer.FlyerVisitor.enters.Goals as goal
 

@@ -1,13 +1,10 @@
 use Rattle.std.proofs.Common.{◌+◌, ◌≤◌, ap, sym, ◌∙◌, subst, length, arith}
-use Rattle.vz_frame.specs.declared.frame.CompositorFrame.{CompositorFrame}
-use Rattle.vz_frame.specs.Frame.{root_damage}
+use Rattle.vz_frame.specs.{declared.frame.CompositorFrame.CompositorFrame, Frame.root_damage}
 use Rattle.vz_surfaces.specs.Reading.{existing_count}
 use Rattle.vz_returns.specs.Lent.{resources_out}
-use Rattle.vz_surface_manager.specs.Live.{Live}
-use Rattle.vz_surface_manager.specs.Acceptance.{IsAccepting, HasRoomFor}
-use Rattle.vz_surface_manager.proofs.Live_kept.{got}
+use Rattle.vz_surface_manager.specs.{Live.Live, Acceptance.IsAccepting, Acceptance.HasRoomFor}
+use Rattle.vz_surface_manager.proofs.{Live_kept.got, Fewer.one_created}
 use Rattle.vz_surface_manager.proofs.Arrived.{number_is, keeps_store, good, stands_there, few, sink_is, is_lender, listed_is, replaced_is, is_accepted, room_for, name_is, index_is, next_is, unplaced, few_owed, ended, replaced_name, wants_less, live_accepted}
-use Rattle.vz_surface_manager.proofs.Fewer.{one_created}
 use Rattle.vz_surface_manager.proofs.live.LiveSurfaces.accept.Goals as goal
 
 pub accept-requires-clause-number : goal.accept-requires-clause-number

@@ -1,8 +1,7 @@
 use Rattle.std.proofs.Common.{◌≡◌, ◌≤◌, length, sym, subst}
 use Rattle.vz_surfaces.specs.Reading.{existing_count}
 use Rattle.vz_surface_manager.specs.Live.{Live, AreLive}
-use Rattle.vz_surface_manager.proofs.Given.{live_closed}
-use Rattle.vz_surface_manager.proofs.Fewer.{none_joins, as_many_marked}
+use Rattle.vz_surface_manager.proofs.{Given.live_closed, Fewer.none_joins, Fewer.as_many_marked}
 use Rattle.vz_surface_manager.proofs.live.LiveSurfaces.close.Goals as goal
 
 pub returns-clause-live : goal.returns-clause-live

@@ -1,12 +1,9 @@
 use Rattle.std.proofs.Common.{Some, List, ◌++◌, sym, subst, ◌∙◌, ap}
 use Rattle.vz_ids.specs.declared.Sub.{Sub}
-use Rattle.vz_rules.specs.World.{World}
-use Rattle.vz_rules.specs.Ends.{landed, presenting}
-use Rattle.vz_rules.specs.Returns.{fed_in}
+use Rattle.vz_rules.specs.{World.World, Ends.landed, Ends.presenting, Returns.fed_in}
 use Rattle.vz_returns.proofs.Lent_kept.{lent_all_done}
 use Rattle.vz_returns.specs.Owed.{AreOwed}
-use Rattle.vz_surface_manager.specs.Flown.{subs_of}
-use Rattle.vz_surface_manager.specs.Frame_end.{IsFlying}
+use Rattle.vz_surface_manager.specs.{Flown.subs_of, Frame_end.IsFlying}
 use Rattle.vz_surface_manager.proofs.Landed.{always_landed, is_landing, owed_rostered, fed_drawn, owed_drawn, live_presented}
 use Rattle.vz_surface_manager.proofs.live.LiveSurfaces.land.Goals as goal
 

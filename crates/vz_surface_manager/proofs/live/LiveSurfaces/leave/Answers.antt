@@ -1,6 +1,5 @@
 use Rattle.std.proofs.Common.{sym, subst}
-use Rattle.vz_surface_manager.specs.Live.{Live}
-use Rattle.vz_surface_manager.specs.Drawn_frame.{IsShowing, Measures}
+use Rattle.vz_surface_manager.specs.{Live.Live, Drawn_frame.IsShowing, Drawn_frame.Measures}
 use Rattle.vz_surface_manager.proofs.Drawn.{live_unchanged}
 use Rattle.vz_surface_manager.proofs.live.LiveSurfaces.leave.Goals as goal
 

@@ -1,10 +1,8 @@
 use Rattle.std.proofs.Common.{◌+◌, ◌≤◌, length, ap, sym, ◌∙◌, subst}
 use Rattle.vz_frame.specs.declared.frame.CompositorFrame.{CompositorFrame}
-use Rattle.vz_surface_manager.specs.Live.{Live}
-use Rattle.vz_surface_manager.specs.Changes.{IsRising}
-use Rattle.vz_surface_manager.proofs.Live_kept.{got}
+use Rattle.vz_surface_manager.specs.{Live.Live, Changes.IsRising}
+use Rattle.vz_surface_manager.proofs.{Live_kept.got, Set_counts.one_set, Set_counts.none_more}
 use Rattle.vz_surface_manager.proofs.Risen.{id_is, none_missing, acts_is, releases, is_lender, none_waits, ranges_are, wants_less, fits, keeps, waits_there, past_is, live_risen}
-use Rattle.vz_surface_manager.proofs.Set_counts.{one_set, none_more}
 use Rattle.vz_surface_manager.proofs.live.LiveSurfaces.rise.Goals as goal
 
 pub unreachable-requires : goal.unreachable-requires

@@ -1,6 +1,5 @@
 use Rattle.std.proofs.Common.{sym, subst, arith}
-use Rattle.vz_surface_manager.specs.Live.{Live}
-use Rattle.vz_surface_manager.specs.Drawn_frame.{IsShowing, Measures, Flies}
+use Rattle.vz_surface_manager.specs.{Live.Live, Drawn_frame.IsShowing, Drawn_frame.Measures, Drawn_frame.Flies}
 use Rattle.vz_surface_manager.proofs.Drawn.{lifting, live_drawn}
 use Rattle.vz_surface_manager.proofs.live.LiveSurfaces.show.Goals as goal
 

@@ -1,7 +1,6 @@
 use Rattle.std.proofs.Common.{◌≤◌, length, sym, subst}
 use Rattle.vz_surface_manager.specs.Live.{Live, AreLive}
-use Rattle.vz_surface_manager.proofs.Given.{live_ticked}
-use Rattle.vz_surface_manager.proofs.Fewer.{none_begins}
+use Rattle.vz_surface_manager.proofs.{Given.live_ticked, Fewer.none_begins}
 use Rattle.vz_surface_manager.proofs.live.LiveSurfaces.tick.Goals as goal
 
 pub returns-clause-live : goal.returns-clause-live

@@ -1,8 +1,7 @@
 use Rattle.std.proofs.Common.{◌≡◌, ◌+◌, ◌≤◌, [], length, Option}
 use Rattle.vz_ids.specs.declared.SurfaceId.{SurfaceId}
 use Rattle.vz_rules.specs.World.{World}
-use Rattle.vz_returns.specs.Lent.{resources_out}
-use Rattle.vz_returns.specs.Notes.{owed_count}
+use Rattle.vz_returns.specs.{Lent.resources_out, Notes.owed_count}
 use Rattle.vz_surface_manager.specs.Settles.{IsToSettle}
 use Rattle.vz_surface_manager.proofs.Many_rounds.{IsSettlingOn}
 use Rattle.vz_surface_manager.proofs.surface_manager.SurfaceManager.settle.Given as goal

@@ -1,9 +1,7 @@
 use Rattle.std.proofs.Common.{◌-◌, ◌++◌, length, take, drop, ap, ◌∙◌, arith}
 use Rattle.vz_deps.specs.Tracking.{freed, still, meets_any}
 use Rattle.vz_surface_manager.specs.Left_out.{due_without}
-use Rattle.vz_surface_manager.proofs.Closed_waits.{waits_round, ready_round}
-use Rattle.vz_surface_manager.proofs.Ticked_waits.{still_and_freed}
-use Rattle.vz_surface_manager.proofs.Without.{appended}
+use Rattle.vz_surface_manager.proofs.{Closed_waits.waits_round, Closed_waits.ready_round, Ticked_waits.still_and_freed, Without.appended}
 use Rattle.vz_surface_manager.proofs.waiting.Waiting.activated.Goals as goal
 
 pub returns-clause-waits : goal.returns-clause-waits

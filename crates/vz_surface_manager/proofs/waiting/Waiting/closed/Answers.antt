@@ -1,9 +1,7 @@
 use Rattle.std.proofs.Common.{◌-◌, ◌++◌, length, take, drop, ap, ◌∙◌, arith}
 use Rattle.vz_deps.specs.Tracking.{freed, still, is_of_sink}
 use Rattle.vz_surface_manager.specs.Left_out.{due_without}
-use Rattle.vz_surface_manager.proofs.Closed_waits.{waits_closed, ready_closed}
-use Rattle.vz_surface_manager.proofs.Ticked_waits.{still_and_freed}
-use Rattle.vz_surface_manager.proofs.Without.{appended}
+use Rattle.vz_surface_manager.proofs.{Closed_waits.waits_closed, Closed_waits.ready_closed, Ticked_waits.still_and_freed, Without.appended}
 use Rattle.vz_surface_manager.proofs.waiting.Waiting.closed.Goals as goal
 
 pub returns-clause-waits : goal.returns-clause-waits

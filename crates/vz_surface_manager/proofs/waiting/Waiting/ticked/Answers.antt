@@ -1,8 +1,7 @@
 use Rattle.std.proofs.Common.{◌-◌, ◌++◌, length, take, drop, ap, ◌∙◌, arith}
 use Rattle.vz_deadlines.specs.Timing.{due_at, left_at}
 use Rattle.vz_surface_manager.specs.Left_out.{blocked_without}
-use Rattle.vz_surface_manager.proofs.Ticked_waits.{waits_ticked, ready_ticked, left_and_due}
-use Rattle.vz_surface_manager.proofs.Without.{appended}
+use Rattle.vz_surface_manager.proofs.{Ticked_waits.waits_ticked, Ticked_waits.ready_ticked, Ticked_waits.left_and_due, Without.appended}
 use Rattle.vz_surface_manager.proofs.waiting.Waiting.ticked.Goals as goal
 
 pub returns-clause-waits : goal.returns-clause-waits
