@@ -1,6 +1,6 @@
 //! The schedule, which has one byte for each event.
 ghost use Rattle.std.specs.Prelude.{◌≡◌, ◌≤◌, None, Some, All, [], ◌∷◌, ◌++◌, ◌*◌, pos, ◌≤ℤ◌, nat_abs};
-ghost use Rattle.std.specs.Prelude.{IfOk, OnOk, IsErrOf, ◌<◌, ◌+◌, vec_len, vec_capacity};
+ghost use Rattle.std.specs.Prelude.{IfOk, OnOk, IsErrOf, ◌<◌, ◌+◌, length, vec_len, vec_capacity};
 ghost use Rattle.vz_base.specs.declared.limits.TheConstants.{MOST_EVENTS, GREATEST_DISPLAY_SIDE};
 ghost use Rattle.vz_frame.specs.Fits.{within};
 ghost use Rattle.vz_geom.specs.Display.{IsDisplaySize};
@@ -27,8 +27,10 @@ const DRAW: u8 = 0x12;
 pub fn event_of(byte: u8) -> Option<Event>
     ensures { result ≡ event_of byte }
 {
+    if 0x01 <= byte && byte <= 0x10 {
+        return Some(Event::Client(u32::from(byte)));
+    }
     match byte {
-        0x01..=0x10 => Some(Event::Client(u32::from(byte))),
         0x11 => Some(Event::Begin),
         DRAW => Some(Event::Draw),
         0x13 => Some(Event::Done),
@@ -53,11 +55,32 @@ pub fn events_of(alloc: Global, plan: &Plan, bytes: &[u8]) -> Result<Vec<Event>,
     if bytes.len() > MOST_EVENTS {
         return Err(refused(MOST_EVENTS, Reason::Long));
     }
-    let clients = plan.files().len();
-    let size = plan.size();
     let Ok(mut events) = Vec::with_capacity(alloc, bytes.len()) else {
         return Err(InputError::Memory);
     };
+    match fill(plan, bytes, &mut events) {
+        Ok(()) => Ok(events),
+        Err(error) => Err(error),
+    }
+}
+
+/// Puts the events of a schedule for a plan into an empty list that has room for them. It is a
+/// separate function, as the number of events would be kept in two halves in one that returns
+/// them. Conditions: the schedule is not too long, and the list is empty and has the room.
+#[inline(never)]
+fn fill(plan: &Plan, bytes: &[u8], events: &mut Vec<Event>) -> Result<(), InputError>
+    requires short { length bytes.now ≤ MOST_EVENTS }
+    requires none { events.old.items ≡ [] }
+    requires empty { vec_len events.old ≡ 0 }
+    requires room { length bytes.now ≤ vec_capacity events.old }
+    ensures events { OnOk result (events.new.items ≡ events_of bytes.now) }
+    ensures named { OnOk result (All (NamesClient plan.now) events.new.items) }
+    ensures accepted { OnOk result (schedule_refused plan.now bytes.now ≡ None) }
+    ensures refused { (r : Refusal) → IsErrOf result (input_error.Refused r)
+        → schedule_refused plan.now bytes.now ≡ Some r }
+{
+    let clients = plan.files().len();
+    let size = plan.size();
     let mut draws = 0;
     for at in 0..bytes.len() {
         let byte = bytes[at];
@@ -65,9 +88,9 @@ pub fn events_of(alloc: Global, plan: &Plan, bytes: &[u8]) -> Result<Vec<Event>,
         if let Some(rule) = rule_broken(clients, &size, draws, byte) {
             return Err(refused(at, Reason::Rule(rule)));
         }
-        push_event(&mut events, byte);
+        push_event(events, byte);
     }
-    Ok(events)
+    Ok(())
 }
 
 /// The rule that a byte breaks in a plan with `clients` clients, if it breaks one. If the byte is
@@ -77,9 +100,16 @@ fn rule_broken(clients: usize, size: &Size, draws: u32, byte: u8) -> Option<File
     requires few { draws ≤ MOST_EVENTS }
     ensures { result ≡ rule_broken clients size.now draws byte }
 {
+    if !is_draw(byte) {
+        return if is_event(clients, byte) {
+            None
+        } else {
+            Some(FileRule::Tag)
+        };
+    }
     if !is_event(clients, byte) {
         Some(FileRule::Tag)
-    } else if is_draw(byte) && !frames_fit(size, draws) {
+    } else if !frames_fit(size, draws) {
         Some(FileRule::Limit)
     } else {
         None
@@ -90,8 +120,10 @@ fn rule_broken(clients: usize, size: &Size, draws: u32, byte: u8) -> Option<File
 fn is_event(clients: usize, byte: u8) -> bool
     ensures { result ≡ is_event clients byte }
 {
-    let client = 1 <= byte && usize::from(byte) <= clients;
-    client || is_of_display(byte)
+    if 1 <= byte && usize::from(byte) <= clients {
+        return true;
+    }
+    is_of_display(byte)
 }
 
 /// Whether a byte is an event of the display.

@@ -8,10 +8,10 @@ ghost use Rattle.vz_codec.specs.Spelling.{magic, file_bytes};
 
 use crate::error::ReadError;
 use crate::fault::FileRule;
-use crate::field::{Field, fit_all, read_many, write_many};
+use crate::field::{Field, fit_all, write_many};
 use crate::ids::Sinks;
 use crate::limits::{MOST_MESSAGES, NEWEST_FORMAT};
-use crate::messages::Messages;
+use crate::messages::{Messages, read_messages};
 use crate::reader::Reader;
 use crate::writer::Writer;
 use std::alloc::{AllocError, Global};
@@ -31,7 +31,7 @@ pub fn read_file(alloc: Global, bytes: &[u8]) -> Result<ClientFile, ReadError>
     let format = input.u16_within(FileRule::Version, 1, u16::from(NEWEST_FORMAT))? as u8;
     let sink = read_header(&mut input)?;
     let count = input.u32_within(FileRule::Limit, 0, MOST_MESSAGES)?;
-    let messages = read_many(&Messages(format), count as usize, &mut input)?;
+    let messages = read_messages(format, count as usize, &mut input)?;
     let file = ClientFile {
         format,
         sink,

@@ -1,8 +1,8 @@
 //! Fields of messages and of blocks of pixels.
-ghost use Rattle.std.specs.Prelude.{◌≡◌, ◌≤◌, ◌*◌, IfOk};
+ghost use Rattle.std.specs.Prelude.{◌≡◌, ◌≤◌, ◌*◌, IfOk, OnOk, IfErr};
 ghost use Rattle.vz_frame.specs.Fits.{fits_block, fits_message};
 ghost use Rattle.vz_codec.specs.Fields.{field};
-ghost use Rattle.vz_codec.specs.Giving.{Gives};
+ghost use Rattle.vz_codec.specs.Giving.{Gives, Fails, PutsNext};
 ghost use Rattle.vz_codec.specs.Reading.{colour_at, many_at, block_at, message_at};
 ghost use Rattle.vz_codec.specs.Spelling.{block_bytes, message_bytes};
 
@@ -116,6 +116,62 @@ impl Field for Messages {
             Message::Reclaim | Message::Await | Message::Close => true,
         }
     }
+}
+
+/// Reads so many messages, as `read_many` does, but nearly all messages of a long file are tags
+/// alone, which are put directly into their places.
+pub fn read_messages(
+    format: u8,
+    count: usize,
+    input: &mut Reader,
+) -> Result<Vec<Message>, ReadError>
+    ensures { let read = many_at (message_at format) count in
+        Gives (λ x. (x.items, input.new)) result (read input.old) }
+{
+    let mut messages = Vec::with_capacity(input.alloc(), count.min(input.left()))?;
+
+    // A copy of the reader is used while the messages are read.
+    let mut ahead = input.ahead();
+    for _ in 0..count {
+        put_next(format, &mut messages, &mut ahead)?;
+    }
+    *input = ahead;
+    Ok(messages)
+}
+
+/// Reads a message and puts it behind the others.
+#[inline(always)]
+fn put_next(format: u8, messages: &mut Vec<Message>, input: &mut Reader) -> Result<(), ReadError>
+    ensures read { OnOk result (PutsNext (message_at format)
+        input.old input.new messages.old.items messages.new.items) }
+    ensures err { IfErr result (λ e. Fails e (message_at format input.old)) }
+{
+    let mut ahead = input.ahead();
+    match ahead.u8_within(FileRule::Tag, UPLOAD, CLOSE)? {
+        RECLAIM => {
+            *input = ahead;
+            messages.push(Message::Reclaim)?;
+            Ok(())
+        }
+        AWAIT => {
+            *input = ahead;
+            messages.push(Message::Await)?;
+            Ok(())
+        }
+        _ => put_longer(format, messages, input),
+    }
+}
+
+/// Reads a message of any kind and puts it behind the others.
+#[inline(never)]
+fn put_longer(format: u8, messages: &mut Vec<Message>, input: &mut Reader) -> Result<(), ReadError>
+    ensures read { OnOk result (PutsNext (message_at format)
+        input.old input.new messages.old.items messages.new.items) }
+    ensures err { IfErr result (λ e. Fails e (message_at format input.old)) }
+{
+    let message = Messages(format).read(input)?;
+    messages.push(message)?;
+    Ok(())
 }
 
 /// The field of a block: its sides, and its texels row by row.

@@ -1,5 +1,6 @@
 pub mod Chosen
 pub mod Numerals
+mod Plain
 pub mod Damages
 pub mod Took
 pub mod Took_lines

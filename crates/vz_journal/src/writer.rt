@@ -14,7 +14,7 @@ use vz_base::Memory;
 use vz_frame::{List, Rule};
 use vz_geom::Rect;
 use vz_ids::Sub;
-use vz_rules::{BoxedEffects, Effects, Entry, Event, Fed, Lost, Refusal, Reply, Rest, Returned};
+use vz_rules::{Effects, Entry, Event, Fed, Lost, Refusal, Reply, Rest, Returned};
 
 /// Returns the text of a log, in ASCII: a line for each entry of the history, the `held` lines
 /// and the `open` lines of the rest, and the line `end`. The only error is `Memory`.
@@ -54,14 +54,72 @@ fn push_entries(out: &mut String, history: &[Entry]) -> Result<(), AllocError>
     Ok(())
 }
 
-/// Appends the line of an entry. The only error is `AllocError`.
+/// Appends the line of an entry. The only error is `AllocError`. It is inlined, as are the lines
+/// that a long history has most of: a client's, with one word and without effects.
 #[tactic(auto, unfolding(vz_rules::specs::Log::entry_text))]
+#[inline(always)]
 pub fn push_entry(out: &mut String, entry: &Entry) -> Result<(), AllocError>
     ensures { OnOk result (IsAppended out.old out.new (entry_text entry.now)) }
 {
     push_event(out, entry.event)?;
-    push_reply(out, &entry.reply)?;
-    push_boxed(out, &entry.effects)?;
+    match entry.effects.get() {
+        None => push_plain(out, &entry.reply),
+        Some(effects) => push_rich(out, &entry.reply, effects),
+    }
+}
+
+/// Appends what follows the event in a line without effects.
+#[tactic(auto, unfolding(vz_rules::specs::Log::reply_text))]
+#[inline(always)]
+fn push_plain(out: &mut String, reply: &Reply) -> Result<(), AllocError>
+    ensures { OnOk result (IsAppended out.old out.new (32 ∷ reply_text reply.now ++ 10 ∷ [])) }
+{
+    match reply {
+        Reply::Noted => out.push_str(" noted\n"),
+        Reply::Over => out.push_str(" over\n"),
+        Reply::Reclaimed(returns) => push_taken(out, returns.as_slice()),
+        _ => push_other(out, reply),
+    }
+}
+
+/// Appends the references that a client takes, of which there are mostly none.
+#[tactic(auto, unfolding(vz_rules::specs::Log::reply_text))]
+#[inline(always)]
+fn push_taken(out: &mut String, returns: &[Returned]) -> Result<(), AllocError>
+    ensures { OnOk result (IsAppended out.old out.new
+        (32 ∷ reply_text (Reply.Reclaimed returns.now) ++ 10 ∷ [])) }
+{
+    match returns {
+        [] => out.push_str(" reclaimed\n"),
+        [_, ..] => push_some_taken(out, returns),
+    }
+}
+
+#[inline(never)]
+fn push_some_taken(out: &mut String, returns: &[Returned]) -> Result<(), AllocError>
+    ensures { OnOk result (IsAppended out.old out.new
+        (32 ∷ reply_text (Reply.Reclaimed returns.now) ++ 10 ∷ [])) }
+{
+    push_reclaimed(out, returns)?;
+    out.push_str("\n")
+}
+
+#[inline(never)]
+fn push_other(out: &mut String, reply: &Reply) -> Result<(), AllocError>
+    ensures { OnOk result (IsAppended out.old out.new (32 ∷ reply_text reply.now ++ 10 ∷ [])) }
+{
+    push_reply(out, reply)?;
+    out.push_str("\n")
+}
+
+/// Appends what follows the event in a line with these effects.
+#[inline(never)]
+fn push_rich(out: &mut String, reply: &Reply, effects: &Effects) -> Result<(), AllocError>
+    ensures { OnOk result (IsAppended out.old out.new
+        (32 ∷ reply_text reply.now ++ effects_text effects.now ++ 10 ∷ [])) }
+{
+    push_reply(out, reply)?;
+    push_effects(out, effects)?;
     out.push_str("\n")
 }
 
@@ -75,10 +133,18 @@ fn push_number(out: &mut String, word: &str, number: u32) -> Result<(), AllocErr
     push_decimal(out, number)
 }
 
-/// Appends a number in decimal. Nearly each line has the number of a client, which has at most
-/// two digits.
+/// Appends a number in decimal.
 #[inline(never)]
 fn push_decimal(out: &mut String, number: u32) -> Result<(), AllocError>
+    ensures { OnOk result (IsAppended out.old out.new (decimal number)) }
+{
+    push_short(out, number)
+}
+
+/// Appends a number in decimal. It is inlined for the numbers of clients, one of which nearly each
+/// line has: they have at most two digits.
+#[inline(always)]
+fn push_short(out: &mut String, number: u32) -> Result<(), AllocError>
     ensures { OnOk result (IsAppended out.old out.new (decimal number)) }
 {
     if number < 10 {
@@ -109,16 +175,25 @@ fn push_longer(out: &mut String, number: u32) -> Result<(), AllocError>
 }
 
 #[tactic(auto, unfolding(vz_rules::specs::Log::event_text))]
+#[inline(always)]
 fn push_event(out: &mut String, event: Event) -> Result<(), AllocError>
     ensures { OnOk result (IsAppended out.old out.new (event_text event)) }
 {
     match event {
-        Event::Client(client) => push_number(out, "c", client),
+        Event::Client(client) => push_client(out, client),
         Event::Begin => out.push_str("begin"),
         Event::Draw => out.push_str("draw"),
         Event::Done => out.push_str("done"),
         Event::Over => out.push_str("over"),
     }
+}
+
+#[inline(always)]
+fn push_client(out: &mut String, client: u32) -> Result<(), AllocError>
+    ensures { OnOk result (IsAppended out.old out.new (99 ∷ decimal client)) }
+{
+    out.push_str("c")?;
+    push_short(out, client)
 }
 
 #[tactic(auto, unfolding(vz_rules::specs::Log::reply_text))]
@@ -232,19 +307,6 @@ fn numbers_of(damage: &Rect) -> [u32; 4]
         damage.w().unsigned_abs(),
         damage.h().unsigned_abs(),
     ]
-}
-
-/// Appends the effects of an entry. Most have none.
-fn push_boxed(out: &mut String, effects: &BoxedEffects) -> Result<(), AllocError>
-    ensures { OnOk result (IsAppended out.old out.new (effects_text effects.now)) }
-{
-    match effects.get() {
-        None => Ok(()),
-        Some(effects) => {
-            push_effects(out, effects)?;
-            Ok(())
-        }
-    }
 }
 
 #[tactic(auto, unfolding(vz_rules::specs::Log::effects_text))]

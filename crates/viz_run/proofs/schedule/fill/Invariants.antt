@@ -1,7 +1,7 @@
 use Rattle.std.proofs.Common.{◌≡◌, ◌≤◌, length, take, vec_len, vec_capacity}
 use Rattle.viz_run.specs.Schedule.{draws_in}
 use Rattle.viz_run.proofs.Schedules.{HasEvents}
-use Rattle.viz_run.proofs.schedule.events_of.Given as goal
+use Rattle.viz_run.proofs.schedule.fill.Given as goal
 
 -- the first bytes are events, and there is room for one of each byte
 abbrev pub invariant-loop-at : goal.invariant-loop-at

@@ -1,6 +1,6 @@
 use Rattle.std.proofs.Common.{◌≡◌, string_bytes, OnOk, subst}
 use Rattle.vz_journal.proofs.Numerals.{two_digits}
-use Rattle.vz_journal.proofs.writer.push_decimal.Goals as goal
+use Rattle.vz_journal.proofs.writer.push_short.Goals as goal
 
 pub returns-then-number-lt100 : goal.returns-then-number-lt100
 returns-then-number-lt100 c =

@@ -1,7 +1,7 @@
 use Rattle.std.proofs.Common.{◌+◌, ◌≤◌, length, get_or, refl, ◌∙◌, sym, subst, arith}
 use Rattle.viz_run.proofs.Flaws.{error_is, refused_is}
 use Rattle.viz_run.proofs.Schedules.{events_more, flawed_here, none_flawed, draws_more, asked_of}
-use Rattle.viz_run.proofs.schedule.events_of.Goals as goal
+use Rattle.viz_run.proofs.schedule.fill.Goals as goal
 
 pub returns-in-Some-clause-refused : goal.returns-in-Some-clause-refused
 returns-in-Some-clause-refused c r is =
@@ -11,7 +11,7 @@ returns-in-Some-clause-refused c r is =
     flawed_here c.args.plan.now bytes c.loop-at.at (get_or bytes c.loop-at.at 0) (c.loop-at.draws + c.from-draws.result) c.loop-at.events.items c.in-Some.rule r c.loop-at-test.true refl
     c.loop-at.invariant.2 c.loop-at.invariant.0 drawn
     (asked_of c.args.plan.now (length c.files-clients.result.now) c.size-size.result (c.loop-at.draws + c.from-draws.result) (get_or bytes c.loop-at.at 0) _ c.loop-at.invariant.4 c.loop-at.invariant.3 (sym c.rule_broken.ensures ∙ c.in-Some.is))
-    (refused_is (sym (error_is _ _ is) ∙ c.refused-in-Some.ensures))
+    (refused_is (sym (error_is _ _ is) ∙ c.refused.ensures))
 
 pub loop-at-preserved : goal.loop-at-preserved
 loop-at-preserved c =
@@ -20,7 +20,7 @@ loop-at-preserved c =
     c.is_draw.ensures c.from-draws.ensures in (
       events_more c.args.plan.now bytes c.loop-at.at (get_or bytes c.loop-at.at 0) (c.loop-at.draws + c.from-draws.result) c.loop-at.events.items c.push_event.new.events.items
           c.loop-at-test.true refl c.files-clients.ensures.kept.few_files c.loop-at.invariant.0 drawn
-          (asked_of c.args.plan.now (length c.files-clients.result.now) c.size-size.result (c.loop-at.draws + c.from-draws.result) (get_or bytes c.loop-at.at 0) _ c.loop-at.invariant.4 c.loop-at.invariant.3 (sym c.rule_broken.ensures ∙ c.in_default-rule_broken.is))
+          (asked_of c.args.plan.now (length c.files-clients.result.now) c.size-size.result (c.loop-at.draws + c.from-draws.result) (get_or bytes c.loop-at.at 0) _ c.loop-at.invariant.4 c.loop-at.invariant.3 (sym c.rule_broken.ensures ∙ c.in_default.is))
           c.push_event.ensures.pushed,
       drawn,
       c.loop-at.invariant.2,
