@@ -5,7 +5,6 @@
 ghost use Rattle.std.specs.Prelude.{◌≡◌, ◌<◌};
 
 use std::alloc::AllocError;
-use std::env;
 use std::io::ErrorKind;
 use std::marker::Brand;
 use std::process::ExitCode;
@@ -13,6 +12,7 @@ use std::rt::Env;
 use std::sync::Wait;
 use std::sync::ledger::{Blank, Ledger};
 use std::thread::Threads;
+use std::{env, mem};
 use viz_run::viz;
 use vz_buffers::Steps;
 use vz_outside::{OpenGate, RealShelf, RealSink, Shelf, Sink};
@@ -20,7 +20,21 @@ use vz_outside::{OpenGate, RealShelf, RealSink, Shelf, Sink};
 /// The status after a failed allocation.
 const MEMORY: u8 = 5;
 
+/// How many bytes of memory are asked for at first. From 32 MiB on the C library forgets it.
+const LARGE: usize = 33_000_000;
+
+/// Asks for a large piece of memory and gives it back untouched. From then on the C library keeps
+/// pieces up to that size as they are given back, where it would else return each large one to the
+/// system: the buffers of the display are then made where the files were read, in memory that is
+/// there already.
+fn keep_memory<R: AllocGlobal>(rt: &R) {
+    if let Ok(piece) = Vec::<u8>::with_capacity(rt.alloc(), LARGE) {
+        drop(piece);
+    }
+}
+
 fn main(rt: HostRuntime) -> ExitCode {
+    keep_memory(&rt);
     let Ok(words) = words_of(&rt) else {
         return ExitCode::from(MEMORY);
     };
@@ -45,7 +59,11 @@ fn run<L: Ledger, F: Shelf + Send, O: Sink, R: Threads + Wait + AllocGlobal + Sy
     requires some { 0 < L.parts }
 {
     let mut steps = Steps::<L>::new(blank);
-    viz(rt, words, shelf, out, &OpenGate, &mut steps).status
+    let ended = viz(rt, words, shelf, out, &OpenGate, &mut steps);
+    let status = ended.status;
+    // The system takes the memory of the history back with the process.
+    mem::forget(ended);
+    status
 }
 
 /// The words after the program's name. If one of them is not UTF-8, the list is empty, so that

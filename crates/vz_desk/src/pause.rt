@@ -31,8 +31,8 @@ where
 
     /// Waits until each attached client is idle or has answered the current begin-frame, in the
     /// world after the entries that the end has seen when the call returns, and returns None. If
-    /// the desk is stopped before, it returns the reason. It makes no entry, and sleeps until its
-    /// bell rings. Condition: the end is of this desk.
+    /// the desk is stopped before, it returns the reason. It makes no entry, and watches its bell
+    /// until that rings. Condition: the end is of this desk.
     pub fn pace<R: Wait>(&self, rt: &R, d: &mut DisplayEnd<M, S>) -> Option<S>
         requires { d.old.desk ≡ self.now.id }
         ensures same { IsSameOwner d.old d.new }
@@ -49,7 +49,7 @@ where
                     }
                 }
             }
-            self.display.wait_beyond(rt, heard);
+            self.display.watch_beyond(rt, heard);
         }
         unreachable!()
     }

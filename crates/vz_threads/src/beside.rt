@@ -8,6 +8,7 @@ use crate::crew::{Started, finish_all, start_all};
 use crate::halt::Halt;
 use crate::outlet::Outlet;
 use crate::playing::play;
+use crate::run::Course;
 use std::alloc::AllocGlobal;
 use std::sync::Wait;
 use std::sync::atomic::AtomicBool;
@@ -40,8 +41,7 @@ pub(crate) fn play_beside<
     gate: &G,
     refused: &[AtomicBool],
     messages: &[u64],
-    rounds: u32,
-    paced: bool,
+    course: Course,
     started: Vec<Started<M>>,
     ends: Vec<End<M, Halt>>,
     display: DisplayEnd<M, Halt>,
@@ -53,12 +53,12 @@ where
     requires flags { length refused.now ≡ length messages.now }
     requires room { (started.items ≡ []) × (vec_len ends ≤ vec_capacity started) }
     requires display { display.desk ≡ desk.now.id }
-    requires begun { HasBegunPlay paced (O.stands outlet) display }
+    requires begun { HasBegunPlay course.paced (O.stands outlet) display }
     ensures works { CrewWorksOn ends.items result.ends.items }
     ensures same { IsSameOwner display result.display }
     ensures played { OnOk result.played
-        (PlaysAll paced (O.stands outlet) display (O.stands result.outlet) result.display rounds) }
-    ensures cut { OnErr result.played (IsCutShort paced (O.stands outlet) display
+        (PlaysAll course.paced (O.stands outlet) display (O.stands result.outlet) result.display course.rounds) }
+    ensures cut { OnErr result.played (IsCutShort course.paced (O.stands outlet) display
         (O.stands result.outlet) result.display result.played) }
 {
     thread::scope(
@@ -69,12 +69,12 @@ where
             requires flags { length refused.now ≡ length messages.now }
             requires room { (started.items ≡ []) × (vec_len ends ≤ vec_capacity started) }
             requires display { display.desk ≡ desk.now.id }
-            requires begun { HasBegunPlay paced (O.stands outlet) display }
+            requires begun { HasBegunPlay course.paced (O.stands outlet) display }
             ensures works { CrewWorksOn ends.items result.ends.items }
             ensures same { IsSameOwner display result.display }
-            ensures played { OnOk result.played (PlaysAll paced (O.stands outlet) display
-                (O.stands result.outlet) result.display rounds) }
-            ensures cut { OnErr result.played (IsCutShort paced (O.stands outlet) display
+            ensures played { OnOk result.played (PlaysAll course.paced (O.stands outlet) display
+                (O.stands result.outlet) result.display course.rounds) }
+            ensures cut { OnErr result.played (IsCutShort course.paced (O.stands outlet) display
                 (O.stands result.outlet) result.display result.played) }
         {
             let mut ends = ends;
@@ -99,8 +99,7 @@ where
                 gate,
                 &mut started,
                 messages,
-                rounds,
-                paced,
+                course,
                 &mut display,
                 &mut outlet,
             );

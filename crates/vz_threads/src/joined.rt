@@ -8,6 +8,7 @@ use crate::beside::{Beside, play_beside};
 use crate::crew::Started;
 use crate::halt::Halt;
 use crate::outlet::Outlet;
+use crate::run::Course;
 use std::alloc::AllocGlobal;
 use std::snapshot::Snapshot;
 use std::sync::Wait;
@@ -74,8 +75,7 @@ fn play_with<
     gate: &'s G,
     refused: &[AtomicBool],
     messages: &[u64],
-    rounds: u32,
-    paced: bool,
+    course: Course,
     started: Vec<Started<M>>,
     ends: Vec<End<M, Halt>>,
     display: DisplayEnd<M, Halt>,
@@ -88,13 +88,13 @@ where
     requires flags { length refused.now ≡ length messages.now }
     requires room { (started.items ≡ []) × (vec_len ends ≤ vec_capacity started) }
     requires display { display.desk ≡ desk.now.id }
-    requires begun { HasBegunPlay paced (O.stands outlet) display }
+    requires begun { HasBegunPlay course.paced (O.stands outlet) display }
     requires can { C.can chore }
     ensures works { CrewWorksOn ends.items result.beside.ends.items }
     ensures same { IsSameOwner display result.beside.display }
-    ensures played { OnOk result.beside.played (PlaysAll paced (O.stands outlet) display
-        (O.stands result.beside.outlet) result.beside.display rounds) }
-    ensures cut { OnErr result.beside.played (IsCutShort paced (O.stands outlet) display
+    ensures played { OnOk result.beside.played (PlaysAll course.paced (O.stands outlet) display
+        (O.stands result.beside.outlet) result.beside.display course.rounds) }
+    ensures cut { OnErr result.beside.played (IsCutShort course.paced (O.stands outlet) display
         (O.stands result.beside.outlet) result.beside.display result.beside.played) }
     ensures done { C.done chore result.chore }
 {
@@ -109,7 +109,7 @@ where
         { carried_out(rt, gate, chore) },
     );
     let beside = play_beside(
-        rt, desk, gate, refused, messages, rounds, paced, started, ends, display, outlet,
+        rt, desk, gate, refused, messages, course, started, ends, display, outlet,
     );
     match begun {
         Ok(child) => Joined {
@@ -139,8 +139,7 @@ pub(crate) fn play_joined<
     gate: &G,
     refused: &[AtomicBool],
     messages: &[u64],
-    rounds: u32,
-    paced: bool,
+    course: Course,
     started: Vec<Started<M>>,
     ends: Vec<End<M, Halt>>,
     display: DisplayEnd<M, Halt>,
@@ -153,13 +152,13 @@ where
     requires flags { length refused.now ≡ length messages.now }
     requires room { (started.items ≡ []) × (vec_len ends ≤ vec_capacity started) }
     requires display { display.desk ≡ desk.now.id }
-    requires begun { HasBegunPlay paced (O.stands outlet) display }
+    requires begun { HasBegunPlay course.paced (O.stands outlet) display }
     requires can { C.can chore }
     ensures works { CrewWorksOn ends.items result.beside.ends.items }
     ensures same { IsSameOwner display result.beside.display }
-    ensures played { OnOk result.beside.played (PlaysAll paced (O.stands outlet) display
-        (O.stands result.beside.outlet) result.beside.display rounds) }
-    ensures cut { OnErr result.beside.played (IsCutShort paced (O.stands outlet) display
+    ensures played { OnOk result.beside.played (PlaysAll course.paced (O.stands outlet) display
+        (O.stands result.beside.outlet) result.beside.display course.rounds) }
+    ensures cut { OnErr result.beside.played (IsCutShort course.paced (O.stands outlet) display
         (O.stands result.beside.outlet) result.beside.display result.beside.played) }
     ensures done { C.done chore result.chore }
 {
@@ -171,19 +170,19 @@ where
             requires flags { length refused.now ≡ length messages.now }
             requires room { (started.items ≡ []) × (vec_len ends ≤ vec_capacity started) }
             requires display { display.desk ≡ desk.now.id }
-            requires begun { HasBegunPlay paced (O.stands outlet) display }
+            requires begun { HasBegunPlay course.paced (O.stands outlet) display }
             requires can { C.can chore }
             ensures works { CrewWorksOn ends.items result.beside.ends.items }
             ensures same { IsSameOwner display result.beside.display }
-            ensures played { OnOk result.beside.played (PlaysAll paced (O.stands outlet) display
-                (O.stands result.beside.outlet) result.beside.display rounds) }
-            ensures cut { OnErr result.beside.played (IsCutShort paced (O.stands outlet) display
+            ensures played { OnOk result.beside.played (PlaysAll course.paced (O.stands outlet) display
+                (O.stands result.beside.outlet) result.beside.display course.rounds) }
+            ensures cut { OnErr result.beside.played (IsCutShort course.paced (O.stands outlet) display
                 (O.stands result.beside.outlet) result.beside.display result.beside.played) }
             ensures done { C.done chore result.chore }
         {
             play_with(
-                rt, scope, desk, gate, refused, messages, rounds, paced, started, ends, display,
-                outlet, chore,
+                rt, scope, desk, gate, refused, messages, course, started, ends, display, outlet,
+                chore,
             )
         },
     )

@@ -10,6 +10,7 @@ use crate::crew::{Started, serve_all};
 use crate::halt::Halt;
 use crate::outlet::Outlet;
 use crate::rounds::{begin_frame, end_round, tell_over};
+use crate::run::Course;
 use std::alloc::AllocGlobal;
 use std::sync::Wait;
 use std::thread::Threads;
@@ -85,8 +86,7 @@ fn play_rounds<M: Machine + Send, O: Outlet, G: Gate, R: Threads + Wait + AllocG
     gate: &G,
     started: &mut Vec<Started<M>>,
     messages: &[u64],
-    rounds: u32,
-    paced: bool,
+    course: Course,
     d: &mut DisplayEnd<M, Halt>,
     outlet: &mut O,
 ) -> Result<(), ShelfError>
@@ -94,17 +94,17 @@ where
     M::Picture: Send + Drop,
     requires desk { d.old.desk ≡ desk.now.id }
     requires crew { IsCrew desk.now.id messages.now (crew_of started.old.items) }
-    requires begun { HasBegunPlay paced (O.stands outlet.old) d.old }
+    requires begun { HasBegunPlay course.paced (O.stands outlet.old) d.old }
     ensures same { IsSameOwner d.old d.new }
     ensures played { OnOk result
-        (PlaysRounds paced (O.stands outlet.old) d.old (O.stands outlet.new) d.new rounds) }
+        (PlaysRounds course.paced (O.stands outlet.old) d.old (O.stands outlet.new) d.new course.rounds) }
     ensures cut { OnErr result
-        (IsCutShort paced (O.stands outlet.old) d.old (O.stands outlet.new) d.new result) }
+        (IsCutShort course.paced (O.stands outlet.old) d.old (O.stands outlet.new) d.new result) }
     ensures count { vec_len started.new ≡ vec_len started.old }
     ensures works { CrewWorksOn (crew_of started.old.items) (crew_of started.new.items) }
 {
-    for _ in 0..rounds {
-        play_round(rt, desk, gate, started, messages, paced, d, outlet)?;
+    for _ in 0..course.rounds {
+        play_round(rt, desk, gate, started, messages, course.paced, d, outlet)?;
     }
     Ok(())
 }
@@ -116,8 +116,7 @@ fn play_to_over<M: Machine + Send, O: Outlet, G: Gate, R: Threads + Wait + Alloc
     gate: &G,
     started: &mut Vec<Started<M>>,
     messages: &[u64],
-    rounds: u32,
-    paced: bool,
+    course: Course,
     d: &mut DisplayEnd<M, Halt>,
     outlet: &mut O,
 ) -> Result<(), ShelfError>
@@ -125,16 +124,16 @@ where
     M::Picture: Send + Drop,
     requires desk { d.old.desk ≡ desk.now.id }
     requires crew { IsCrew desk.now.id messages.now (crew_of started.old.items) }
-    requires begun { HasBegunPlay paced (O.stands outlet.old) d.old }
+    requires begun { HasBegunPlay course.paced (O.stands outlet.old) d.old }
     ensures same { IsSameOwner d.old d.new }
     ensures played { OnOk result
-        (PlaysAll paced (O.stands outlet.old) d.old (O.stands outlet.new) d.new rounds) }
+        (PlaysAll course.paced (O.stands outlet.old) d.old (O.stands outlet.new) d.new course.rounds) }
     ensures cut { OnErr result
-        (IsCutShort paced (O.stands outlet.old) d.old (O.stands outlet.new) d.new result) }
+        (IsCutShort course.paced (O.stands outlet.old) d.old (O.stands outlet.new) d.new result) }
     ensures count { vec_len started.new ≡ vec_len started.old }
     ensures works { CrewWorksOn (crew_of started.old.items) (crew_of started.new.items) }
 {
-    play_rounds(rt, desk, gate, started, messages, rounds, paced, d, outlet)?;
+    play_rounds(rt, desk, gate, started, messages, course, d, outlet)?;
     let Ok(()) = tell_over(rt, desk, gate, d) else {
         return Err(ShelfError::Memory);
     };
@@ -155,8 +154,7 @@ pub(crate) fn play<M: Machine + Send, O: Outlet, G: Gate, R: Threads + Wait + Al
     gate: &G,
     started: &mut Vec<Started<M>>,
     messages: &[u64],
-    rounds: u32,
-    paced: bool,
+    course: Course,
     d: &mut DisplayEnd<M, Halt>,
     outlet: &mut O,
 ) -> Result<(), ShelfError>
@@ -164,16 +162,16 @@ where
     M::Picture: Send + Drop,
     requires desk { d.old.desk ≡ desk.now.id }
     requires crew { IsCrew desk.now.id messages.now (crew_of started.old.items) }
-    requires begun { HasBegunPlay paced (O.stands outlet.old) d.old }
+    requires begun { HasBegunPlay course.paced (O.stands outlet.old) d.old }
     ensures same { IsSameOwner d.old d.new }
     ensures played { OnOk result
-        (PlaysAll paced (O.stands outlet.old) d.old (O.stands outlet.new) d.new rounds) }
+        (PlaysAll course.paced (O.stands outlet.old) d.old (O.stands outlet.new) d.new course.rounds) }
     ensures cut { OnErr result
-        (IsCutShort paced (O.stands outlet.old) d.old (O.stands outlet.new) d.new result) }
+        (IsCutShort course.paced (O.stands outlet.old) d.old (O.stands outlet.new) d.new result) }
     ensures count { vec_len started.new ≡ vec_len started.old }
     ensures works { CrewWorksOn (crew_of started.old.items) (crew_of started.new.items) }
 {
-    match play_to_over(rt, desk, gate, started, messages, rounds, paced, d, outlet) {
+    match play_to_over(rt, desk, gate, started, messages, course, d, outlet) {
         Ok(()) => Ok(()),
         Err(error) => {
             desk.stop_display(rt, d, halt_for(error));

@@ -138,17 +138,7 @@ where
         refused,
     } = opened;
     let beside = play_beside(
-        rt,
-        &desk,
-        gate,
-        &refused,
-        messages,
-        course.rounds,
-        course.paced,
-        started,
-        ends,
-        display,
-        outlet,
+        rt, &desk, gate, &refused, messages, course, started, ends, display, outlet,
     );
     gather_run(rt, desk, messages, gate, beside)
 }

@@ -123,18 +123,7 @@ where
         wrote: Ok(()),
     };
     let Joined { beside, chore } = play_joined(
-        rt,
-        &desk,
-        gate,
-        &refused,
-        messages,
-        course.rounds,
-        course.paced,
-        started,
-        ends,
-        display,
-        outlet,
-        writer,
+        rt, &desk, gate, &refused, messages, course, started, ends, display, outlet, writer,
     );
     let Writer {
         receiver,

@@ -23,7 +23,7 @@ play_round-requires-clause-somewhere g c κs within =
 
 pub returns-in_err-play_round-clause-cut : goal.returns-in_err-play_round-clause-cut
 returns-in_err-play_round-clause-cut g c =
-    err_as _ c.from_residual.result (IsCutShort c.args.paced (g.O.Outlet.stands c.args.outlet.now) c.args.d.now (g.O.Outlet.stands c.play_round.new.outlet) c.play_round.new.d) c.from_residual.ensures.1
+    err_as _ c.from_residual.result (IsCutShort c.args.course.paced (g.O.Outlet.stands c.args.outlet.now) c.args.d.now (g.O.Outlet.stands c.play_round.new.outlet) c.play_round.new.d) c.from_residual.ensures.1
     (λ k start p. let q = c.loop.invariant.played k start p in c.in_err-play_round.ensures.cut k start q.history q.at)
 
 pub returns-in_err-play_round-clause-works : goal.returns-in_err-play_round-clause-works

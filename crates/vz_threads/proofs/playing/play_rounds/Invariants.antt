@@ -9,5 +9,5 @@ invariant-loop g l = record {
   same : IsSameOwner l.fn.d l.d;
   crew : CrewWorksOn (crew_of l.fn.started.items) (crew_of l.started.items);
   count : vec_len l.started ≡ vec_len l.fn.started;
-  played : PlaysRounds l.paced (g.O.Outlet.stands l.fn.outlet) l.fn.d (g.O.Outlet.stands l.outlet) l.d l.counter;
+  played : PlaysRounds l.course.paced (g.O.Outlet.stands l.fn.outlet) l.fn.d (g.O.Outlet.stands l.outlet) l.d l.counter;
 }
