@@ -1,5 +1,5 @@
 //! Sixteen pixels of a row as one vector of their channels.
-ghost use Rattle.std.specs.Prelude.{◌≡◌, ◌+◌, ◌≤◌, ◌<◌, length, get_or};
+ghost use Rattle.std.specs.Prelude.{◌≡◌, ◌+◌, ◌≤◌, ◌<◌, length, slice_index_or};
 ghost use lib.Lanes.{chunk, put_chunk, Each1};
 ghost use Rattle.vz_pixels.specs.Colour.{IsPremultiplied, transparent};
 ghost use Rattle.vz_kernel.specs.Lanes.{channels_of, word_of, colours, AreBytes, AreLanes};
@@ -21,9 +21,9 @@ fn word_of(pixel: Pixel) -> u32
 #[inline(always)]
 fn word_at(row: &[Pixel], at: usize) -> u32
     requires { at < length row.now }
-    ensures value { result ≡ word_of (get_or row.now at transparent) }
-    ensures good { IsPremultiplied (get_or row.now at transparent) }
-    ensures bytes { AreBytes (channels_of (get_or row.now at transparent)) }
+    ensures value { result ≡ word_of (slice_index_or row.now at transparent) }
+    ensures good { IsPremultiplied (slice_index_or row.now at transparent) }
+    ensures bytes { AreBytes (channels_of (slice_index_or row.now at transparent)) }
 {
     word_of(row[at])
 }
@@ -61,7 +61,7 @@ pub(crate) fn load(row: &[Pixel], at: usize) -> u8x64
 fn pixel_of(channels: &[u8; 64], k: usize) -> Pixel
     requires inside { k < 16 }
     requires good { Each1 IsPremultiplied (colours channels.now) }
-    ensures { result ≡ get_or (colours channels.now) k transparent }
+    ensures { result ≡ slice_index_or (colours channels.now) k transparent }
 {
     Pixel::premultiplied(
         channels[4 * k],

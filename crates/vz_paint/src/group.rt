@@ -1,5 +1,5 @@
 //! The groups that are open while a row is painted.
-ghost use Rattle.std.specs.Prelude.{◌≡◌, ◌<◌, ℕ, length, replicate, get_or, if◌then◌else◌, IfOk};
+ghost use Rattle.std.specs.Prelude.{◌≡◌, ◌<◌, ℕ, length, replicate, slice_index_or, if◌then◌else◌, IfOk};
 ghost use Rattle.vz_geom.specs.Rectangle.{has};
 ghost use Rattle.vz_pixels.specs.Colour.{transparent};
 ghost use Rattle.vz_frame.specs.Blending.{laid};
@@ -54,11 +54,11 @@ pub(crate) fn end(below: &mut [Pixel], group: &OpenGroup, start: Point)
     requires start { IsStart start }
     requires same { length group.now.row.items ≡ length below.old }
     ensures long { length below.new ≡ length below.old }
-    ensures each { (i : ℕ) → i < length below.old → get_or below.new i transparent
+    ensures each { (i : ℕ) → i < length below.old → slice_index_or below.new i transparent
         ≡ (if has group.now.area (right_of start i)
-        then laid group.now.mode (get_or group.now.row.items i transparent) group.now.opacity
-        (get_or below.old i transparent)
-        else get_or below.old i transparent) }
+        then laid group.now.mode (slice_index_or group.now.row.items i transparent)
+        group.now.opacity (slice_index_or below.old i transparent)
+        else slice_index_or below.old i transparent) }
 {
     lay(
         below,

@@ -1,5 +1,5 @@
 //! Drawing operations in one row.
-ghost use Rattle.std.specs.Prelude.{◌≡◌, ◌≤◌, ◌<◌, ◌-◌, ◌∷◌, ℕ, List, length, map, get_or, replicate, true};
+ghost use Rattle.std.specs.Prelude.{◌≡◌, ◌≤◌, ◌<◌, ◌-◌, ◌∷◌, ℕ, List, length, map, slice_index_or, replicate, true};
 ghost use Rattle.vz_base.specs.declared.limits.TheConstants.{GREATEST_DISPLAY_SIDE};
 ghost use Rattle.vz_pixels.specs.Colour.{transparent};
 ghost use Rattle.vz_flat.specs.declared.op.Op.{Op as Step};
@@ -22,8 +22,8 @@ fn draw_item(op: &Op, start: Point, row: &mut [Pixel])
     ensures long { length row.new ≡ length row.old }
     ensures drawn { IsItem op.now → (i : ℕ) (rest : List Step) (stack : List Group)
         → i < length row.old
-        → run (right_of start i) (op.now ∷ rest) stack (get_or row.old i transparent)
-        ≡ run (right_of start i) rest stack (get_or row.new i transparent) }
+        → run (right_of start i) (op.now ∷ rest) stack (slice_index_or row.old i transparent)
+        ≡ run (right_of start i) rest stack (slice_index_or row.new i transparent) }
 {
     match op {
         Op::Fill {
@@ -159,7 +159,7 @@ pub(crate) fn draw_row(
     ensures long { length lowest.new ≡ length lowest.old }
     ensures count { length groups.new ≡ length groups.old }
     ensures rows { AreRows (length lowest.old) groups.new }
-    ensures painted { (i : ℕ) → i < length lowest.old → get_or lowest.new i transparent
+    ensures painted { (i : ℕ) → i < length lowest.old → slice_index_or lowest.new i transparent
         ≡ value (map (λ r. r.now) ops.now) (right_of start i) ground }
 {
     level(lowest, ground);

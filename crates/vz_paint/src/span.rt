@@ -1,5 +1,5 @@
 //! The part of a row that an area covers, and colours that are blended there.
-ghost use Rattle.std.specs.Prelude.{true, ◌==◌, ◌-ℤ◌, ◌+◌, ◌*◌, take, drop, ◌≡◌, ◌≤◌, ◌<◌, ◌<ℤ◌, ◌≤ℤ◌, ◌+ℤ◌, pos, int_le, nat_le, nat_lt, ◌&&◌, ℕ, length, map, get_or, if◌then◌else◌, IsTrue, Some};
+ghost use Rattle.std.specs.Prelude.{true, ◌==◌, ◌-ℤ◌, ◌+◌, ◌*◌, take, drop, ◌≡◌, ◌≤◌, ◌<◌, ◌<ℤ◌, ◌≤ℤ◌, ◌+ℤ◌, pos, int_le, nat_le, nat_lt, ◌&&◌, ℕ, length, map, slice_index_or, if◌then◌else◌, IsTrue, Some};
 ghost use Rattle.vz_base.specs.declared.limits.TheConstants.{GREATEST_DISPLAY_SIDE, GREATEST_BLOCK_SIDE};
 ghost use Rattle.vz_geom.specs.Rectangle.{has, plus, minus, corner};
 ghost use Rattle.vz_pixels.specs.Colour.{transparent, scale};
@@ -101,10 +101,10 @@ pub(crate) fn fill(
 )
     requires start { IsStart start }
     ensures long { length row.new ≡ length row.old }
-    ensures each { (i : ℕ) → i < length row.old → get_or row.new i transparent
+    ensures each { (i : ℕ) → i < length row.old → slice_index_or row.new i transparent
         ≡ (if has area.now (right_of start i)
-        then laid mode color opacity (get_or row.old i transparent)
-        else get_or row.old i transparent) }
+        then laid mode color opacity (slice_index_or row.old i transparent)
+        else slice_index_or row.old i transparent) }
 {
     let here = span_of(area, start, row.len());
     tint(&mut row[here.from..here.to], shade(color, opacity), mode);
@@ -122,10 +122,11 @@ pub(crate) fn lay(
     requires start { IsStart start }
     requires same { length row.old ≡ length source.now }
     ensures long { length row.new ≡ length row.old }
-    ensures each { (i : ℕ) → i < length row.old → get_or row.new i transparent
+    ensures each { (i : ℕ) → i < length row.old → slice_index_or row.new i transparent
         ≡ (if has area.now (right_of start i)
-        then laid mode (get_or source.now i transparent) opacity (get_or row.old i transparent)
-        else get_or row.old i transparent) }
+        then laid mode (slice_index_or source.now i transparent) opacity
+        (slice_index_or row.old i transparent)
+        else slice_index_or row.old i transparent) }
 {
     let here = span_of(area, start, row.len());
     mix(
@@ -259,13 +260,13 @@ pub(crate) fn blit(
     requires short { length row.old ≤ GREATEST_DISPLAY_SIDE }
     requires inside { is_inside (Blit area.now block.now tx.now ty.now opacity mode) ≡ true }
     ensures long { length row.new ≡ length row.old }
-    ensures each { (i : ℕ) → i < length row.old → get_or row.new i transparent
+    ensures each { (i : ℕ) → i < length row.old → slice_index_or row.new i transparent
         ≡ (if has area.now (right_of start i)
         then laid mode (texel_of (Some block.now)
         (plus (minus (right_of start i) (corner area.now))
         (record { x = tx.now; y = ty.now }))) opacity
-        (get_or row.old i transparent)
-        else get_or row.old i transparent) }
+        (slice_index_or row.old i transparent)
+        else slice_index_or row.old i transparent) }
 {
     let here = span_of(area, start, row.len());
     if here.to <= here.from {

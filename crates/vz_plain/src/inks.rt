@@ -1,5 +1,5 @@
 //! Colours that are laid on a row, one at each place.
-ghost use Rattle.std.specs.Prelude.{◌≡◌, ◌<◌, ◌≤◌, ℕ, ◌||◌, length, get_or, if◌then◌else◌};
+ghost use Rattle.std.specs.Prelude.{◌≡◌, ◌<◌, ◌≤◌, ℕ, ◌||◌, length, slice_index_or, if◌then◌else◌};
 ghost use Rattle.vz_pixels.specs.Colour.{transparent};
 ghost use Rattle.vz_frame.specs.Blending.{blend, laid};
 ghost use Rattle.vz_plain.specs.Rows.{within};
@@ -13,7 +13,8 @@ use vz_pixels::Pixel;
 fn tint(colour: Pixel, mode: Blend, row: &mut [Pixel])
     ensures long { length row.new ≡ length row.old }
     ensures each { (i : ℕ) → i < length row.old
-        → get_or row.new i transparent ≡ blend mode colour (get_or row.old i transparent) }
+        → slice_index_or row.new i transparent
+        ≡ blend mode colour (slice_index_or row.old i transparent) }
 {
     match mode {
         Blend::Over => over_fill(row, colour),
@@ -26,8 +27,9 @@ fn tint(colour: Pixel, mode: Blend, row: &mut [Pixel])
 fn mix(source: &[Pixel], mode: Blend, opacity: u8, row: &mut [Pixel])
     requires { length row.old ≡ length source.now }
     ensures long { length row.new ≡ length row.old }
-    ensures each { (i : ℕ) → i < length row.old → get_or row.new i transparent
-        ≡ laid mode (get_or source.now i transparent) opacity (get_or row.old i transparent) }
+    ensures each { (i : ℕ) → i < length row.old → slice_index_or row.new i transparent
+        ≡ laid mode (slice_index_or source.now i transparent) opacity
+        (slice_index_or row.old i transparent) }
 {
     match mode {
         Blend::Over => over_row(row, source, opacity),
@@ -40,8 +42,8 @@ fn mix(source: &[Pixel], mode: Blend, opacity: u8, row: &mut [Pixel])
 #[tactic(auto, unfolding(vz_frame::specs::Blending::laid))]
 pub(crate) fn lay_colour(colour: Pixel, mode: Blend, opacity: u8, row: &mut [Pixel])
     ensures long { length row.new ≡ length row.old }
-    ensures each { (i : ℕ) → i < length row.old → get_or row.new i transparent
-        ≡ laid mode colour opacity (get_or row.old i transparent) }
+    ensures each { (i : ℕ) → i < length row.old → slice_index_or row.new i transparent
+        ≡ laid mode colour opacity (slice_index_or row.old i transparent) }
 {
     tint(scaled(colour, opacity), mode, row);
 }
@@ -51,8 +53,9 @@ pub(crate) fn lay_colour(colour: Pixel, mode: Blend, opacity: u8, row: &mut [Pix
 pub(crate) fn lay_row(source: &[Pixel], mode: Blend, opacity: u8, row: &mut [Pixel])
     requires { length source.now ≤ length row.old }
     ensures long { length row.new ≡ length row.old }
-    ensures each { (i : ℕ) → i < length row.old → get_or row.new i transparent
-        ≡ laid mode (get_or source.now i transparent) opacity (get_or row.old i transparent) }
+    ensures each { (i : ℕ) → i < length row.old → slice_index_or row.new i transparent
+        ≡ laid mode (slice_index_or source.now i transparent) opacity
+        (slice_index_or row.old i transparent) }
 {
     let end = source.len();
     let count = row.len();
@@ -73,9 +76,9 @@ pub(crate) fn lay_outside(
     requires ordered { here.from ≤ here.to }
     requires most { here.to ≤ length row.old }
     ensures long { length row.new ≡ length row.old }
-    ensures each { (i : ℕ) → i < length row.old → get_or row.new i transparent
-        ≡ (if within here i || is_end then get_or row.old i transparent
-        else laid mode background opacity (get_or row.old i transparent)) }
+    ensures each { (i : ℕ) → i < length row.old → slice_index_or row.new i transparent
+        ≡ (if within here i || is_end then slice_index_or row.old i transparent
+        else laid mode background opacity (slice_index_or row.old i transparent)) }
 {
     if is_end {
         return;

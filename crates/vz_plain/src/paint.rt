@@ -1,5 +1,5 @@
 //! What quads, passes and surfaces leave in a piece of a row.
-ghost use Rattle.std.specs.Prelude.{◌≡◌, ◌<◌, ◌≤◌, ℕ, length, get_or};
+ghost use Rattle.std.specs.Prelude.{◌≡◌, ◌<◌, ◌≤◌, ℕ, length, slice_index_or};
 ghost use Rattle.vz_ids.specs.Ids.{same_surface};
 ghost use Rattle.vz_pixels.specs.Colour.{transparent, black};
 ghost use Rattle.vz_frame.specs.Blending.{laid};
@@ -354,7 +354,7 @@ impl<'b, 'i, 'a> Painter<'b, 'i, 'a> {
 #[tactic(auto, unfolding(vz_rules::specs::Paint::full, vz_rules::specs::Paint::levels))]
 pub(crate) fn full(active: &ActiveFrames<'_, '_>, root: &SurfaceId, start: Point, row: &mut [Pixel])
     requires few { length row.old ≤ PIECE }
-    requires black { (i : ℕ) → i < length row.old → get_or row.old i transparent ≡ black }
+    requires black { (i : ℕ) → i < length row.old → slice_index_or row.old i transparent ≡ black }
     ensures { IsPainted (λ q d. full (record { root = root.now; active = active.now }) q)
         start row.old row.new }
 {

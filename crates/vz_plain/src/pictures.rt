@@ -1,5 +1,5 @@
 //! Whole pictures, row by row.
-ghost use Rattle.std.specs.Prelude.{◌≡◌, ◌<◌, ◌≤◌, ◌++◌, ℕ, pos, map, length, get_or, OnOk, IfOk};
+ghost use Rattle.std.specs.Prelude.{◌≡◌, ◌<◌, ◌≤◌, ◌++◌, ℕ, pos, map, length, slice_index_or, OnOk, IfOk};
 ghost use Rattle.std.specs.Option.{option_and_then};
 ghost use Rattle.vz_base.specs.declared.limits.TheConstants.{GREATEST_DISPLAY_SIDE};
 ghost use Rattle.vz_geom.specs.Rectangle.{row_points, points_of};
@@ -35,7 +35,8 @@ fn point_at(x: u32, y: u32) -> Point
 /// Paints a piece of a row of the display, from a point on; it stays black if there is no root.
 fn paint(active: &ActiveFrames<'_, '_>, root: &Option<SurfaceId>, start: Point, piece: &mut [Pixel])
     requires few { length piece.old ≤ PIECE }
-    requires black { (i : ℕ) → i < length piece.old → get_or piece.old i transparent ≡ black }
+    requires black { (i : ℕ) → i < length piece.old
+        → slice_index_or piece.old i transparent ≡ black }
     ensures { IsPainted (λ q d. colour_of active.now root.now q) start piece.old piece.new }
 {
     match root {

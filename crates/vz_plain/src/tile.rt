@@ -1,5 +1,5 @@
 //! The colours of tiles.
-ghost use Rattle.std.specs.Prelude.{◌≡◌, ◌≤◌, ◌<◌, ◌≤ℤ◌, ℕ, Some, pos, map, get_or, length};
+ghost use Rattle.std.specs.Prelude.{◌≡◌, ◌≤◌, ◌<◌, ◌≤ℤ◌, ℕ, Some, pos, map, slice_index_or, length};
 ghost use Rattle.vz_geom.specs.Rectangle.{plus};
 ghost use Rattle.vz_pixels.specs.Colour.{transparent};
 ghost use Rattle.std.specs.Option.{option_copied};
@@ -35,7 +35,7 @@ fn block_of<'a>(id: u32, listings: &[Listing], blocks: &[&'a PixelBlock]) -> Opt
 
 /// The pixel at a place, or transparent if there is none.
 fn pixel_at(pixels: &[Pixel], k: usize) -> Pixel
-    ensures { result ≡ get_or pixels.now k transparent }
+    ensures { result ≡ slice_index_or pixels.now k transparent }
 {
     if k < pixels.len() {
         pixels[k]
@@ -65,7 +65,7 @@ fn texel_at(block: &PixelBlock, first: Point, k: usize) -> Pixel
 fn texels(block: &PixelBlock, first: Point, count: usize) -> &[Pixel]
     requires { pos 0 ≤ℤ first.x }
     ensures most { length result.now ≤ count }
-    ensures each { (k : ℕ) → k < count → get_or result.now k transparent
+    ensures each { (k : ℕ) → k < count → slice_index_or result.now k transparent
         ≡ texel_of (Some block.now) (right_of first k) }
 {
     let x = first.x.unsigned_abs() as usize;
@@ -83,9 +83,9 @@ fn texels(block: &PixelBlock, first: Point, count: usize) -> &[Pixel]
 fn lay_each(block: &PixelBlock, first: Point, mode: Blend, opacity: u8, row: &mut [Pixel])
     requires { length row.old ≤ PIECE }
     ensures long { length row.new ≡ length row.old }
-    ensures each { (k : ℕ) → k < length row.old → get_or row.new k transparent
+    ensures each { (k : ℕ) → k < length row.old → slice_index_or row.new k transparent
         ≡ laid mode (texel_of (Some block.now) (right_of first k)) opacity
-        (get_or row.old k transparent) }
+        (slice_index_or row.old k transparent) }
 {
     for k in 0..row.len() {
         row[k] = mode.laid(texel_at(block, first, k), opacity, row[k]);
@@ -98,9 +98,9 @@ fn lay_each(block: &PixelBlock, first: Point, mode: Blend, opacity: u8, row: &mu
 fn lay_texels(block: &PixelBlock, first: Point, mode: Blend, opacity: u8, row: &mut [Pixel])
     requires { length row.old ≤ PIECE }
     ensures long { length row.new ≡ length row.old }
-    ensures each { (k : ℕ) → k < length row.old → get_or row.new k transparent
+    ensures each { (k : ℕ) → k < length row.old → slice_index_or row.new k transparent
         ≡ laid mode (texel_of (Some block.now) (right_of first k)) opacity
-        (get_or row.old k transparent) }
+        (slice_index_or row.old k transparent) }
 {
     if first.x < 0 {
         lay_each(block, first, mode, opacity, row);

@@ -1,5 +1,5 @@
 //! Actors, which are the display and the clients, and the numbers of their steps.
-ghost use Rattle.std.specs.Prelude.{◌≡◌, ℕ, ◌<◌, ◌+◌, ◌++◌, ◌∷◌, replicate, take, drop, get_or};
+ghost use Rattle.std.specs.Prelude.{◌≡◌, ℕ, ◌<◌, ◌+◌, ◌++◌, ◌∷◌, replicate, take, drop, slice_index_or};
 ghost use Rattle.std.specs.List.{All};
 ghost use Rattle.vz_rules.specs.declared.entry.Entry.{Entry as OneEntry};
 ghost use Rattle.vz_player.specs.Played.{next_number, actor_in, steps_of};
@@ -41,7 +41,7 @@ impl Actors {
     pub fn after(history: &[Entry]) -> Actors
         requires { All (λ (e : OneEntry). actor_in e.event < MOST_ACTORS) history.now }
         ensures { (actor : ℕ) → actor < MOST_ACTORS
-            → get_or result actor 0 ≡ steps_of history.now actor }
+            → slice_index_or result actor 0 ≡ steps_of history.now actor }
     {
         let mut actors = Actors::new();
         for entry in history {
@@ -55,7 +55,7 @@ impl Actors {
     pub fn next_turn(&mut self, actor: u32) -> Turn
         requires { actor < MOST_ACTORS }
         ensures actor { result.actor ≡ actor }
-        ensures number { result.number ≡ next_number (get_or self.old actor 0) }
+        ensures number { result.number ≡ next_number (slice_index_or self.old actor 0) }
         ensures counted { self.new
             ≡ take actor self.old ++ result.number ∷ drop (actor + 1) self.old }
     {

@@ -1,5 +1,5 @@
 //! The active frames by groups, so that the frame that a range shows is found fast.
-ghost use Rattle.std.specs.Prelude.{◌≡◌, ◌++◌, ◌∷◌, [], cond, filter, None, IfOk, OnOk};
+ghost use Rattle.std.specs.Prelude.{◌≡◌, ◌++◌, ◌∷◌, [], if◌then◌else◌, filter, None, IfOk, OnOk};
 ghost use Rattle.std.specs.BTreeMap.{get};
 ghost use Rattle.std.specs.Ordering.{is_eq};
 ghost use Rattle.std.specs.Option.{option_copied};
@@ -47,7 +47,7 @@ fn take_group<'b, 'a>(
 ) -> Group<'b, 'a>
     ensures group { result ≡ frames_at groups.old key.now }
     ensures rest { (q : Key) → get by_group groups.new q
-        ≡ cond (is_eq (by_group key.now q)) None (get by_group groups.old q) }
+        ≡ (if is_eq (by_group key.now q) then None else get by_group groups.old q) }
 {
     match groups.remove(key) {
         Some(group) => group,
@@ -63,7 +63,7 @@ fn add<'b, 'a>(
 ) -> Result<(), AllocError>
     ensures { (id : Surface) → OnOk result (frames_in groups.new id
         ≡ frames_in groups.old id
-        ++ cond (same_group submitted.now.id id) (submitted.now ∷ []) []) }
+        ++ (if same_group submitted.now.id id then submitted.now ∷ [] else [])) }
 {
     let key = submitted.id.group();
     let mut group = take_group(alloc, groups, &key);

@@ -1,5 +1,5 @@
 //! Activation, in rounds.
-ghost use Rattle.std.specs.Prelude.{◌≡◌, ◌==◌, ◌&&◌, ◌++◌, ◌∷◌, nat_lt, map, [], cond, length, IsTrue, IsFalse, IfOk, OnOk};
+ghost use Rattle.std.specs.Prelude.{◌≡◌, ◌==◌, ◌&&◌, ◌++◌, ◌∷◌, nat_lt, map, [], if◌then◌else◌, length, IsTrue, IsFalse, IfOk, OnOk};
 ghost use Rattle.std.specs.List.{list_any, list_all};
 ghost use Rattle.vz_ids.specs.Ids.{same_surface};
 ghost use Rattle.vz_rules.specs.World.{sub_of};
@@ -79,8 +79,9 @@ impl<'w, 'a> Round<'w, 'a> {
         ensures becomes { OnOk result (becomes.new.items
             ≡ becomes.old.items ++ is_ready self.now submission.now ∷ []) }
         ensures risen { OnOk result (risen.new.items
-            ≡ risen.old.items ++ cond (is_ready self.now submission.now)
-            (risen_of self.now.surfaces submission.now ∷ []) []) }
+            ≡ risen.old.items ++ (if is_ready self.now submission.now
+            then risen_of self.now.surfaces submission.now ∷ []
+            else [])) }
     {
         let ready = self.is_ready(submission);
         becomes.push(ready)?;

@@ -1,5 +1,5 @@
 //! The resources of clients, and what changes them.
-ghost use Rattle.std.specs.Prelude.{◌≡◌, ◌&&◌, ◌==◌, ◌++◌, ◌<◌, ◌≤◌, length, map, take, drop, get_or, OnOk, OnErr};
+ghost use Rattle.std.specs.Prelude.{◌≡◌, ◌&&◌, ◌==◌, ◌++◌, ◌<◌, ◌≤◌, length, map, take, drop, slice_index_or, OnOk, OnErr};
 ghost use Rattle.std.specs.List.{list_any};
 ghost use Rattle.std.specs.Option.{option_copied};
 ghost use Rattle.vz_base.specs.declared.limits.TheConstants.{MOST_MESSAGES};
@@ -148,7 +148,7 @@ fn place_for(resources: &[Resource<'_>], id: u32) -> usize
     ensures put { (block : Block) → put_resource id block resources.now
         ≡ take result resources.now ++ put_resource id block (drop result resources.now) }
     ensures not_smaller { (d : ResourceState) → result < length resources.now
-        → id ≤ (get_or resources.now result d).id }
+        → id ≤ (slice_index_or resources.now result d).id }
 {
     let mut k = 0;
     while k < resources.len() {

@@ -1,5 +1,5 @@
 //! Submissions that were accepted, and their state.
-ghost use Rattle.std.specs.Prelude.{◌≡◌, ◌||◌, ◌++◌, map, OnOk, IfOk, [], ◌∷◌, false, cond};
+ghost use Rattle.std.specs.Prelude.{◌≡◌, ◌||◌, ◌++◌, map, OnOk, IfOk, [], ◌∷◌, false, if◌then◌else◌};
 ghost use Rattle.vz_rules.specs.World.{is_active, is_waiting, is_on, active_frames, sub_of};
 ghost use Rattle.vz_ids.specs.declared.SurfaceId.{SurfaceId as Surface};
 ghost use Rattle.vz_scene.specs.Reached.{is_reached};
@@ -162,7 +162,8 @@ fn add_active<'a>(
     submission: &Submission<'a>,
 ) -> Result<(), AllocError>
     ensures { OnOk result (active.new.items
-        ≡ active.old.items ++ cond (is_active submission.now) (submission.now.submitted ∷ []) []) }
+        ≡ active.old.items ++ (if is_active submission.now then submission.now.submitted ∷ []
+        else [])) }
 {
     if submission.is_active() {
         active.push(submission.submitted.share()?)?;
