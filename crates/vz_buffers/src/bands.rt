@@ -1,4 +1,4 @@
-//! Painting rows of a buffer in bands, each on a thread of its own.
+//! Painting rows of a buffer in bands, which the threads that paint take one by one.
 ghost use Rattle.std.specs.Prelude.{◌≡◌, ◌+◌, ◌*◌, ◌≤◌, ◌<◌, ◌+ℤ◌, ◌≤ℤ◌, pos, nat_abs, List, length};
 ghost use Rattle.std.specs.List.{All};
 ghost use Rattle.vz_base.specs.declared.limits.TheConstants.{GREATEST_DISPLAY_SIDE};

@@ -110,10 +110,10 @@ where
     }
 }
 
-/// Ends a round that was begun: passes on the frame of the round before, while the clients answer
-/// the begin-frame, pauses if the run is paced, waits for the buffer that is next, draws, and shows
-/// the picture. After an error a front part of the bytes of the frame was written. Conditions: the
-/// end is of this desk, and the display is somewhere in its run.
+/// Ends a round that was begun: pauses if the run is paced, waits for the buffer that is next,
+/// draws, shows the picture, and passes its frame on. After an error a front part of the bytes of
+/// the frame was written. Conditions: the end is of this desk, and the display is somewhere in its
+/// run.
 pub(crate) fn end_round<
     M: Machine + Send,
     O: Outlet,
@@ -137,12 +137,12 @@ where
     ensures cut { OnErr result
         (IsCutFrom (O.stands outlet.old) d.old (O.stands outlet.new) d.new result) }
 {
-    outlet.pass_on(rt);
     let Ok(()) = pause(rt, desk, paced, d, outlet) else {
         return Err(ShelfError::Memory);
     };
     outlet.ready(rt);
     show_drawing(rt, desk, gate, d, outlet)?;
+    outlet.pass_on(rt);
     Ok(())
 }
 
