@@ -12,13 +12,13 @@ use Rattle.vz_frame.specs.Frame.{frame_size}
 use Rattle.vz_rules.specs.World.{World, Client, Surface, FrameData, last_created}
 use Rattle.vz_rules.specs.Settle.{is_before, marked_by, ready, round, rounds, settle}
 use Rattle.vz_rules.specs.Reach.{is_named_now, has_closed, name_one, naming}
-use Rattle.vz_rules.specs.Messages.{took, submitting, lend, accepted, id_of, is_last, with_surface}
+use Rattle.vz_rules.specs.Messages.{accepted, id_of, is_last, with_surface}
 use Rattle.vz_rules.specs.Kept.{KeepsClients, stands_in}
 use Rattle.vz_rules.proofs.Members.{map_contains, push_contains_last, any_at, any_map, found}
 use Rattle.vz_rules.proofs.Kept_submits.{one_of_number}
 use Rattle.vz_rules.proofs.Kept_reach.{named_after, naming_stays}
 use Rattle.vz_surface_manager.proofs.Accepted_kept.{same_named}
-use Rattle.vz_surface_manager.proofs.Sets_kept.{closed_kept}
+use Rattle.vz_surface_manager.proofs.Quiet_changes.{same_closed, closes_submitting}
 use Rattle.vz_surface_manager.proofs.Set_owners.{never}
 use Rattle.vz_surface_manager.specs.Changes.{IsNew}
 use Rattle.vz_manager.specs.declared.outcome.New.{New}
@@ -163,24 +163,7 @@ module _ (w : World) (x : Client) (local : LocalSurfaceId) (frame : CompositorFr
 
   closed_after : (q : ℕ) → has_closed after q ≡ has_closed w q
   unfolding accepted
-  closed_after q =
-      closed_kept (λ y. cond (y.number == x.number) (took (submitting w frame y)) y) q w.clients
-      (λ y. number (y.number == x.number) (frame.metadata.ack == w.tick) y)
-      (λ y. closed (y.number == x.number) (frame.metadata.ack == w.tick) y)
-    where
-      number : (t u : Bool) (y : Client)
-          → (cond t (took (cond u (record y { resources = map (lend frame.resources) y.resources; answered = w.tick })
-          (record y { resources = map (lend frame.resources) y.resources }))) y).number ≡ y.number
-      number true true y = refl
-      number true false y = refl
-      number false u y = refl
-
-      closed : (t u : Bool) (y : Client)
-          → (cond t (took (cond u (record y { resources = map (lend frame.resources) y.resources; answered = w.tick })
-          (record y { resources = map (lend frame.resources) y.resources }))) y).closed ≡ y.closed
-      closed true true y = refl
-      closed true false y = refl
-      closed false u y = refl
+  closed_after = same_closed _ w after refl (closes_submitting w frame x.number)
 
   -- the surface that is created
   abbrev made : Surface

@@ -25,9 +25,7 @@ use Rattle.vz_returns.specs.Lent.{NoneReleased, resources_out}
 use Rattle.vz_returns.proofs.Lent_rooms.{roomier_out}
 use Rattle.vz_surface_manager.specs.Flown.{Flown, subs_of, AreFlown}
 use Rattle.vz_machine.specs.declared.machine.Step.{Step}
-use Rattle.vz_surface_manager.specs.Waits.{Waits, AreWaiting}
 use Rattle.vz_surface_manager.specs.declared.changes.Accepted.{Accepted}
-use Rattle.vz_surface_manager.specs.Live.{AreLive}
 use Rattle.vz_surface_manager.specs.Frame_end.{flying_count}
 use Rattle.vz_surface_manager.specs.Acceptance.{IsReadier, new_one}
 use Rattle.vz_surface_manager.specs.declared.surface_manager.SurfaceManager.{SurfaceManager}
@@ -47,16 +45,6 @@ use Rattle.vz_manager.proofs.Rooming.{can_follow}
 use Rattle.vz_manager.proofs.Stepped.{followed_answer, followed_flight, serves_after}
 
 -- Room
-
--- those that wait stay, where there may be more room
-same_waiting : (w : World) (a b : Waits) → AreWaiting w a → b.blocked ≡ a.blocked → b.due ≡ a.due → AreWaiting w b
-same_waiting w a b h blocked due = record { blocked = blocked ∙ h.blocked; due = due ∙ h.due }
-
--- the surfaces and what waits stand for the state still
-pub readier_stands : (w : World) (s t : SurfaceManager) → (AreLive w None s.live → AreLive w None t.live) → t.waiting.blocked ≡ s.waiting.blocked
-    → t.waiting.due ≡ s.waiting.due → AreSettling w None s → AreSettling w None t
-readier_stands w s t lives blocked due h =
-    record { always = h.always; live = lives h.live; waiting = same_waiting w s.waiting t.waiting h.waiting blocked due }
 
 -- there is room for the end of the drawn frame, where that list only grows
 still_lands : (s t : SurfaceManager) (size : Size) (support : Supported) (r q : Roomy Returned) (fed : Roomy Fed) (room : Bool) → IsReadier s.live t.live

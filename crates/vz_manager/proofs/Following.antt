@@ -4,7 +4,6 @@ use Rattle.std.proofs.Common.{None, [], length, refl, ap, sym, ◌∙◌, subst,
 use Rattle.std.specs.Prelude.{if◌then◌else◌}
 use Rattle.vz_pixels.specs.Block.{Block}
 use Rattle.vz_ids.specs.declared.FrameSinkId.{FrameSinkId}
-use Rattle.vz_ids.specs.declared.SurfaceId.{SurfaceId}
 use Rattle.vz_frame.specs.declared.message.Message.{Message}
 use Rattle.vz_frame.specs.declared.message.Message.TheVariants.{Upload, DidNotProduce, Reclaim, Hierarchy, Await}
 use Rattle.vz_rules.specs.declared.entry.Event.{Event}
@@ -18,17 +17,18 @@ use Rattle.vz_rules.specs.Messages.{reclaim, upload_answer, hierarchy_answer}
 use Rattle.vz_rules.specs.Messages.{await_answer, message_answer, known_client_answer, client_answer}
 use Rattle.vz_rules.specs.Step.{Outcome, answer_to, presented_by, outcome_of, step_in}
 use Rattle.vz_rules.specs.Kept.{Keeps, no_effects}
-use Rattle.vz_rules.proofs.Members.{find_at, when_same}
+use Rattle.vz_rules.proofs.Members.{find_at}
 use Rattle.vz_rules.proofs.Kept_quiet.{nothing_follows}
 use Rattle.vz_rules.proofs.Kept_between.{keeps_step}
 use Rattle.vz_rules.proofs.Kept_answers.{keeps_over}
 use Rattle.vz_rules.proofs.Kept_planned.{plan_step}
 use Rattle.vz_rules.proofs.Kept_sending.{messages_step}
 use Rattle.vz_machine.specs.declared.machine.Step.{Step}
-use Rattle.vz_returns.specs.Lent.{NoneReleased, IsLender, resources_out}
-use Rattle.vz_surface_manager.specs.Waits.{AreWaiting}
+use Rattle.vz_returns.specs.Lent.{NoneReleased, AreLent, IsLender, resources_out}
+use Rattle.vz_returns.specs.Quiet.{KeepsReferences}
+use Rattle.vz_returns.proofs.Lent_kept.{keeps_when}
 use Rattle.vz_surface_manager.specs.Live.{Live, AreLive}
-use Rattle.vz_surface_manager.specs.Changes.{KeepsHolding}
+use Rattle.vz_surface_manager.proofs.{Quiet_changes.IsQuiet, Quiet.live_like, Waits_kept.waits_like}
 use Rattle.vz_surface_manager.specs.Settles.{AreSettling}
 use Rattle.vz_support.specs.Supporting.{Supported, IsSupport, Sends}
 use Rattle.vz_manager.specs.Serving.{Served, Serves, CanLand, IsStepOf, IsSending, HasNone, IsClosed, IsRefused}
@@ -99,11 +99,6 @@ pub over_keeps : (p : Plan) (w : World) → Keeps w → Keeps (record w { over =
 unfolding answer_to
 over_keeps p w h = keeps_over p w h
 
-pub over_live : (p : Plan) (w : World) (but : Option SurfaceId) (v : Live) → AreLive (answer_to p w event.Over).world but v
-    → AreLive (record w { over = true }) but v
-unfolding answer_to
-over_live p w but v h = h
-
 -- Steps
 
 -- where an answer leaves what is kept between steps, and nothing is presented, the step is that answer
@@ -122,9 +117,9 @@ step_of p w e a s is none keeps told follows =
 pub serves_with : (p : Plan) (w : World) (e : Event) (a : Answer) (v : Served) (support : Supported) (live : Live) → Serves p w v
     → answer_to p w e ≡ a → presented_by w e ≡ [] → Keeps a.world → live ≡ record v.settling.live { lent = live.lent }
     → NoneReleased live.lent → resources_out live.lent ≡ resources_out v.settling.live.lent
-    → IsSupport p a.world support → AreLive a.world None live → AreWaiting a.world v.settling.waiting
+    → IsSupport p a.world support → IsQuiet w a.world → AreLive a.world None live
     → Serves p (step_in p w e).world (record v { support = support; settling = record v.settling { live = live } })
-serves_with p w e a v support live h is none keeps rest released out kept stands waiting =
+serves_with p w e a v support live h is none keeps rest released out kept quiet stands =
     record {
       plan = h.plan;
       keeps = keeps_step p w e h.keeps.always;
@@ -133,7 +128,7 @@ serves_with p w e a v support live h is none keeps rest released out kept stands
       size = h.size;
       support = subst (λ u. IsSupport p u support) (sym left) kept;
       settling = subst (λ u. AreSettling u None (record v.settling { live = live })) (sym left)
-          (record { always = keeps.always; live = stands; waiting = waiting });
+          (record { always = keeps.always; live = stands; waiting = waits_like w a.world v.settling.waiting quiet h.settling.waiting });
       released = released;
       lands = subst (λ (l : Live). CanLand (record v { support = support; settling = record v.settling { live = l } })) (sym rest) lands;
     }
@@ -151,13 +146,14 @@ serves_with p w e a v support live h is none keeps rest released out kept stands
           effects = h.lands.effects;
         }
 
--- with only what is kept for the clients changed
+-- where nothing but what is kept for the clients changes
 pub serves_on : (p : Plan) (w : World) (e : Event) (a : Answer) (v : Served) (support : Supported) → Serves p w v
     → answer_to p w e ≡ a → presented_by w e ≡ [] → Keeps a.world
-    → IsSupport p a.world support → AreLive a.world None v.settling.live → AreWaiting a.world v.settling.waiting
+    → IsSupport p a.world support → IsQuiet w a.world → AreLent a.world v.settling.live.lent
     → Serves p (step_in p w e).world (record v { support = support })
-serves_on p w e a v support h is none keeps kept stands waiting =
-    serves_with p w e a v support v.settling.live h is none keeps refl h.released refl kept stands waiting
+serves_on p w e a v support h is none keeps kept quiet lent =
+    serves_with p w e a v support v.settling.live h is none keeps refl h.released refl kept quiet
+    (live_like w a.world None v.settling.live v.settling.live.lent quiet lent h.settling.live)
 
 -- Clients
 
@@ -166,17 +162,13 @@ pub sends_next : (p : Plan) (w : World) (v : Served) (c : ℕ) (x : Client) (m :
     → Sends p w c x m
 sends_next p w v c x m h is = record { keeps = h.keeps.always; here = is.here; next = is.next }
 
-pub holds_plain : KeepsHolding (λ x. x)
-holds_plain = record { number = λ c. refl; closed = λ c. refl; resources = λ c. refl; queue = λ c. refl }
+pub refers_plain : KeepsReferences (λ x. x)
+refers_plain = record { number = λ c. refl; resources = λ c. refl; queue = λ c. refl }
 
-pub holds_noted : (tick n : ℕ) → KeepsHolding (answer_tick tick n)
-holds_noted tick n =
-    record {
-      number = λ c. when_same (λ (x : Client). x.number) (λ (x : Client). record x { answered = tick }) (n == tick) c refl;
-      closed = λ c. when_same (λ (x : Client). x.closed) (λ (x : Client). record x { answered = tick }) (n == tick) c refl;
-      resources = λ c. when_same (λ (x : Client). x.resources) (λ (x : Client). record x { answered = tick }) (n == tick) c refl;
-      queue = λ c. when_same (λ (x : Client). x.queue) (λ (x : Client). record x { answered = tick }) (n == tick) c refl;
-    }
+pub refers_noted : (tick n : ℕ) → KeepsReferences (answer_tick tick n)
+refers_noted tick n =
+    keeps_when (λ (x : Client). record x { answered = tick }) (λ x. n == tick)
+    (record { number = λ c. refl; resources = λ c. refl; queue = λ c. refl })
 
 -- a client that is there
 pub client_here : (w : World) (c : ℕ) (x : Client) → client_at w c ≡ Some x → Contains w.clients x

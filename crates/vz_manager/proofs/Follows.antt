@@ -2,6 +2,7 @@
 use Rattle.std.proofs.Common.{◌≡◌, ◌==◌, ℕ, zero, suc, ◌+◌, ◌≤◌, Bool, true, false, not, ◌||◌, Option, None, List, [], ◌∷◌, ◌++◌}
 use Rattle.std.proofs.Common.{map, length, append-nil, refl, ap, sym, ◌∙◌, subst, arith}
 use Rattle.std.proofs.lemmas.Bool.{eqb-true}
+use Rattle.std.specs.List.{flat_map}
 use Rattle.vz_base.specs.declared.limits.TheConstants.{MOST_FILES, TEMPORARY_TICKS}
 use Rattle.vz_ids.specs.declared.SurfaceId.{SurfaceId}
 use Rattle.vz_ids.specs.declared.Sub.{Sub}
@@ -10,19 +11,16 @@ use Rattle.vz_rules.specs.declared.entry.Lost.{Lost}
 use Rattle.vz_rules.specs.declared.entry.Reply.{Reply}
 use Rattle.vz_rules.specs.World.{World, Submission, sub_of}
 use Rattle.vz_rules.specs.Settle.{ready, round, rounds, settle, activated_in}
-use Rattle.vz_rules.specs.Reach.{naming, lost_in, clearing, collect, destroyed_in}
+use Rattle.vz_rules.specs.Reach.{naming, lost_in, lost_of, clearing, collect, destroyed_in}
 use Rattle.vz_rules.specs.Returns.{give_back, returned_in, feed, fed_in}
 use Rattle.vz_rules.specs.Messages.{says}
 use Rattle.vz_rules.specs.Step.{outcome_of}
-use Rattle.vz_rules.specs.Kept.{KeepsAlways}
 use Rattle.vz_rules.proofs.Kept_quiet.{settle_stays, destroyed_none}
-use Rattle.vz_rules.proofs.Kept_collected.{clearing_stays}
-use Rattle.vz_surface_manager.specs.Waits.{Waits, AreWaiting}
-use Rattle.vz_surface_manager.specs.Live.{Live, AreLive}
+use Rattle.vz_rules.proofs.{Kept_collected.clearing_stays, Kept_follows.always_naming}
 use Rattle.vz_surface_manager.specs.declared.surface_manager.SurfaceManager.{SurfaceManager}
 use Rattle.vz_surface_manager.specs.Settles.{AreSettling}
 use Rattle.vz_surface_manager.specs.Collects.{IsToCollect}
-use Rattle.vz_surface_manager.proofs.Rounded.{none_long}
+use Rattle.vz_surface_manager.proofs.{Rounded.none_long, Named_kept.named_again, Quiet.live_named, Waits_kept.stay_named}
 use Rattle.vz_manager.specs.declared.outcome.Following.{Following}
 use Rattle.vz_manager.specs.declared.outcome.New.{New}
 use Rattle.vz_manager.specs.Followed.{IsFollowed, IsKeeping, IsAsked, Tells, new_id}
@@ -55,6 +53,14 @@ pub named_tick : (w : World) → (naming (settle w)).tick ≡ w.tick
 unfolding naming settle
 named_tick w = rounds_tick (length w.subs) w
 
+pub destroyed_named : (w : World) → destroyed_in (naming w) ≡ destroyed_in w
+unfolding destroyed_in naming
+destroyed_named w = ap (λ (x : World). flat_map (lost_of (lost_in x)) w.clients) (named_again w)
+
+pub collect_is : (w : World) → collect w ≡ clearing (naming w)
+unfolding collect
+collect_is w = refl
+
 -- what follows, by its parts
 pub outcome_world : (w : World) (r : Reply) → (outcome_of [] (says r w)).world ≡ feed [] (give_back (collect (settle w)))
 unfolding outcome_of
@@ -69,13 +75,6 @@ pub effects_are : (w : World) (r : Reply) → (outcome_of [] (says r w)).effects
     }
 unfolding outcome_of
 effects_are w r = refl
-
--- what keeps what always holds, and what stands for the surfaces and for what waits, as names are noted
-pub record NamesKeep : Type 0 where
-  pub always : (w : World) → KeepsAlways w → KeepsAlways (naming w)
-  pub live : (w : World) (but : Option SurfaceId) (v : Live) → AreLive w but v → AreLive (naming w) but v
-  pub waiting : (w : World) (a : Waits) → AreWaiting w a → AreWaiting (naming w) a
-  pub again : (w : World) → naming (naming w) ≡ naming w
 
 none_here : (l : List Sub) (t : Bool) → (length l == 0) ≡ t → not t ≡ false → l ≡ []
 none_here l true e f = none_long l (omega (arith, eqb-true (length l) 0 e))
@@ -92,7 +91,6 @@ none_named (s ∷ l) e = absurd (cc)
 
 -- the state has settled, and the new surface, if there is one, is kept
 pub record HasKept (w : World) (root : Option SurfaceId) (new : Option New) (anew : Bool) (v v1 v2 : SurfaceManager) (f : Following) : Type 0 where
-  pub names : NamesKeep
   pub follows : IsFollowed w root new anew v f
   pub settled : AreSettling (settle w) (new_id new) v1
   pub keeps : (u : World) → IsKeeping u new v1 → AreSettling u None v2
@@ -104,9 +102,9 @@ module _ (w : World) (root : Option SurfaceId) (new : Option New) (anew : Bool) 
       h.keeps (naming (settle w))
       (record {
         stands = record {
-          always = h.names.always (settle w) h.settled.always;
-          live = h.names.live (settle w) (new_id new) v1.live h.settled.live;
-          waiting = h.names.waiting (settle w) v1.waiting h.settled.waiting;
+          always = always_naming (settle w) h.settled.always;
+          live = live_named (settle w) (new_id new) v1.live h.settled.live;
+          waiting = stay_named (settle w) v1.waiting h.settled.waiting;
         };
         is = λ n e. let x = h.follows.is n e in (x.0, x.1, x.2 ∙ ap (λ t. t + TEMPORARY_TICKS) (sym (named_tick w)));
       })
@@ -115,7 +113,7 @@ module _ (w : World) (root : Option SurfaceId) (new : Option New) (anew : Bool) 
   collects_in =
       record {
         stands = kept_in;
-        named = h.names.again (settle w);
+        named = named_again (settle w);
         is_root = h.follows.of_root ∙ sym (named_root w);
         few = subst (λ cs. length cs ≤ MOST_FILES) (sym (named_clients w)) h.follows.few;
       }

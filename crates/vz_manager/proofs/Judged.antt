@@ -11,7 +11,7 @@ use Rattle.std.proofs.lemmas.Int.{ints}
 use Rattle.std.proofs.lemmas.List.{append-nil, append_assoc, take_all}
 use Rattle.std.proofs.lemmas.List.Elements.{filter-append}
 use Rattle.std.proofs.lemmas.Grind.{take_at_read}
-use Rattle.vz_base.specs.declared.limits.TheConstants.{GREATEST_DEADLINE, LAST_TICK, MOST_FILES}
+use Rattle.vz_base.specs.declared.limits.TheConstants.{GREATEST_DEADLINE, MOST_FILES}
 use Rattle.vz_geom.specs.declared.Size.{Size}
 use Rattle.vz_ids.specs.declared.LocalSurfaceId.{LocalSurfaceId}
 use Rattle.vz_ids.specs.declared.SurfaceId.{SurfaceId}
@@ -21,7 +21,7 @@ use Rattle.vz_frame.specs.declared.message.Message.{Message}
 use Rattle.vz_frame.specs.declared.message.Message.TheVariants.{Submit}
 use Rattle.vz_frame.specs.declared.rules.Rule.{Rule}
 use Rattle.vz_frame.specs.Fits.{is_number, fits_optional, fits_surface, fits_range, fits_listing, fits_pass, fits_local, fits_frame}
-use Rattle.vz_frame.specs.Frame.{first_of, first_broken, frame_size, same_size}
+use Rattle.vz_frame.specs.Frame.{first_broken, frame_size, same_size}
 use Rattle.vz_rules.specs.declared.entry.Event.TheVariants as event
 use Rattle.vz_rules.specs.declared.entry.Refusal.{Refusal}
 use Rattle.vz_rules.specs.declared.entry.Refusal.TheVariants as refusal
@@ -30,13 +30,10 @@ use Rattle.vz_rules.specs.World.{World, Client, Surface, client_at, next_message
 use Rattle.vz_rules.specs.Messages.{first_some, when, is_unknown, violates, has_other_size, submit_refusal, unless_refused, refused}
 use Rattle.vz_rules.specs.Messages.{new_submission, accepted, submit_answer, message_answer}
 use Rattle.vz_rules.specs.Step.{answer_to}
-use Rattle.vz_rules.specs.Kept.{KeepsAlways, AreRising, IsWhole}
+use Rattle.vz_rules.specs.Kept.{KeepsAlways, AreRising}
 use Rattle.vz_rules.proofs.Cases.{number_at}
 use Rattle.vz_rules.proofs.Kept_files.{next_fits}
-use Rattle.vz_rules.proofs.Kept_sent.{submit_fits, new_whole}
-use Rattle.vz_support.specs.Sent.{sender_at}
-use Rattle.vz_support.proofs.Clients_kept.{tells_next}
-use Rattle.vz_support.specs.Supporting.{Supported, IsSupport, IsNext, Sends}
+use Rattle.vz_rules.proofs.Kept_sent.{submit_fits}
 use Rattle.vz_surface_manager.specs.Last_surface.{NameAndSize, name_and_size, violates_named, has_other_size_named}
 use Rattle.vz_surface_manager.proofs.Asked.{violates_asked, size_asked}
 use Rattle.vz_manager.specs.Serving.{Served, Serves, IsSending}
@@ -49,25 +46,6 @@ use Rattle.vz_manager.proofs.Following.{sent_answer, client_here}
 pub asked : (p : Plan) (w : World) (v : Served) → Serves p w v → AreAsked p w v.support v.settling.live
 asked p w v h = record { always = h.keeps.always; support = h.support; live = h.settling.live }
 
--- the message that is kept for a client is the one that it takes next
-pub message_here : (p : Plan) (w : World) (v : Supported) (c : ℕ) (x : Client) → IsSupport p w v → client_at w c ≡ Some x
-    → first_of (sender_at v.clients c).left ≡ next_message p x
-message_here p w v c x is here =
-    let number : x.number ≡ c = number_at w c x here in
-    ap (λ n. first_of (sender_at v.clients n).left) (sym number)
-    ∙ tells_next p w x v.clients is.clients (ap (client_at w) number ∙ here)
-
--- what is kept as the next message of a client is sent in the state
-pub sends_here : (p : Plan) (w : World) (v : Served) (c : ℕ) (x : Client) (m : Message) → Serves p w v → client_at w c ≡ Some x
-    → IsNext v.support c m → Sends p w c x m
-sends_here p w v c x m h here next =
-    record { keeps = h.keeps.always; here = here; next = sym (message_here p w v.support c x h.support here) ∙ next }
-
--- and what is sent is kept as the next message
-pub next_here : (p : Plan) (w : World) (v : Served) (c : ℕ) (x : Client) (m : Message) → Serves p w v → IsSending p w c x m
-    → IsNext v.support c m
-next_here p w v c x m h is = message_here p w v.support c x h.support is.here ∙ is.next
-
 pub same_sent : (a b : LocalSurfaceId) (f g : CompositorFrame) → ◌≡◌ {A = Option Message} (Some (Submit a f)) (Some (Submit b g))
     → (a ≡ b) × (f ≡ g)
 same_sent a b f g e = (cc, cc)
@@ -78,10 +56,6 @@ same_sent a b f g e = (cc, cc)
 pub few_clients : (p : Plan) (w : World) (v : Served) (c : ℕ) → Serves p w v → c ≤ length v.support.clients → c ≤ MOST_FILES
 few_clients p w v c h known =
     omega (arith, known, h.support.clients.count, h.of_plan.files.as_many, h.plan.few_files)
-
--- the tick is not behind the last one
-pub early_tick : (p : Plan) (w : World) (v : Served) (tick : ℕ) → Serves p w v → tick ≡ w.tick → tick ≤ LAST_TICK
-early_tick p w v tick h e = subst (λ n. n ≤ LAST_TICK) (sym e) h.keeps.always.time.tick
 
 third_of : (a b c d e f g h i j k l : Bool) → (a && b && c && d && e && f && g && h && i && j && k && l) ≡ true → c ≡ true
 third_of a b true d e f g h i j k l t = refl
@@ -123,15 +97,6 @@ pub due_told : (w : World) (x : Client) (local : LocalSurfaceId) (frame : Compos
     → due ≡ tick + deadline_of frame → due ≡ (new_submission w x local frame).due
 unfolding new_submission
 due_told w x local frame tick due e is = is ∙ ap (λ n. n + deadline_of frame) e
-
--- where it is not refused its frame is whole
-pub submitted_whole : (p : Plan) (w : World) (v : Served) (c : ℕ) (x : Client) (local : LocalSurfaceId) (frame : CompositorFrame)
-    → Serves p w v → IsSending p w c x (Submit local frame) → refusal_in w x local frame ≡ None
-    → IsWhole (new_submission w x local frame).submitted
-submitted_whole p w v c x local frame h is allowed =
-    let fits = submitted_fits p x local frame h.plan is.next in
-    let here = client_here w c x is.here in
-    new_whole w x local frame (h.keeps.always.shelves x here).rising (h.messages.blocks x here) fits.0 fits.1 allowed
 
 -- Answers
 

@@ -1,6 +1,6 @@
 -- The drawn frame is done: there is room, what is told follows, and the parts stand for the state that is left.
 use Rattle.std.proofs.Common.{◌≡◌, ℕ, ◌≤◌, ◌+◌, Bool, true, false, Some, None, Option, List, [], ◌∷◌, length, is_some, slice_get}
-use Rattle.std.proofs.Common.{refl, ap, sym, ◌∙◌, subst, arith, cond, Contains}
+use Rattle.std.proofs.Common.{refl, ap, sym, ◌∙◌, subst, arith, Contains}
 use Rattle.std.specs.Option.{option_and_then}
 use Rattle.vz_ids.specs.declared.Sub.{Sub}
 use Rattle.vz_frame.specs.Roomy.{Roomy}
@@ -11,10 +11,9 @@ use Rattle.vz_rules.specs.declared.entry.Reply.TheVariants as reply
 use Rattle.vz_rules.specs.declared.entry.Returned.{Returned}
 use Rattle.vz_rules.specs.Plan.{Plan}
 use Rattle.vz_rules.specs.World.{World, Submission}
-use Rattle.vz_rules.specs.Messages.{says}
-use Rattle.vz_rules.specs.Returns.{returned_in, feedback_of, fed_in}
+use Rattle.vz_rules.specs.Returns.{give_back, returned_in, feedback_of, fed_in}
 use Rattle.vz_rules.specs.Ends.{landed, presenting}
-use Rattle.vz_rules.specs.Step.{Outcome, done_answer, step_in}
+use Rattle.vz_rules.specs.Step.{Outcome, step_in}
 use Rattle.vz_rules.specs.Kept.{Keeps, no_effects}
 use Rattle.vz_rules.proofs.Members.{at_contains, contains_here}
 use Rattle.vz_rules.proofs.Kept_between.{keeps_step}
@@ -28,10 +27,12 @@ use Rattle.vz_returns.specs.Owed.{Owed, AreOwed, gets_at}
 use Rattle.vz_returns.proofs.Owed_kept.{none_gets}
 use Rattle.vz_surface_manager.specs.Flown.{Flown}
 use Rattle.vz_surface_manager.proofs.Flights_kept.{flown_some}
-use Rattle.vz_surface_manager.specs.Waits.{Waits, AreWaiting}
+use Rattle.vz_surface_manager.specs.Waits.{AreWaiting}
+use Rattle.vz_surface_manager.proofs.{Waits_kept.waits_like, Waits_kept.stay_landed, Waits_kept.stay_fed, Quiet_changes.quiet_given}
 use Rattle.vz_surface_manager.specs.Live.{Live, AreLive}
 use Rattle.vz_surface_manager.specs.Frame_end.{IsFlying, flying_count}
-use Rattle.vz_support.specs.Supporting.{Supported, IsSupport}
+use Rattle.vz_support.specs.Supporting.{IsSupport}
+use Rattle.vz_support.proofs.Support_kept.{stays_like, stays_given, stays_fed}
 use Rattle.vz_manager.specs.Serving.{Served, Serves, IsStepOf}
 
 -- What a frame that is in flight comes with
@@ -112,40 +113,30 @@ step_landed p w s drawn returned fed h flies told follows goes feeds =
 
 -- What is left
 
--- the end of a frame in flight is that it lands
-done_lands : (w : World) (drawn : List Sub) → w.in_flight ≡ Some drawn → (done_answer w).world ≡ landed w
-unfolding done_answer
-done_lands w drawn e =
-    ap (λ (o : Option (List Sub)). (cond (is_some o) (says reply.Shown (landed w)) (says reply.Nothing w)).world) e
-
-pub support_landed : (p : Plan) (w : World) (drawn : List Sub) (s : Supported) → w.in_flight ≡ Some drawn
-    → IsSupport p (done_answer w).world s → IsSupport p (landed w) s
-support_landed p w drawn s e h = subst (λ (u : World). IsSupport p u s) (done_lands w drawn e) h
-
-pub waiting_landed : (w : World) (drawn : List Sub) (a : Waits) → w.in_flight ≡ Some drawn → AreWaiting (done_answer w).world a
-    → AreWaiting (landed w) a
-waiting_landed w drawn a e h = subst (λ (u : World). AreWaiting u a) (done_lands w drawn e) h
-
 pub serves_landed : (p : Plan) (w : World) (v : Served) (drawn : List Sub) (live : Live) (returned : Roomy Returned) (fed : Roomy Fed) (room : Bool)
     → Serves p w v → w.in_flight ≡ Some drawn
-    → IsSupport p (presenting drawn (landed w)).world v.support → AreLive (presenting drawn (landed w)).world None live
-    → AreWaiting (presenting drawn (landed w)).world v.settling.waiting → NoneReleased live.lent → live.flight ≡ None
+    → AreLive (presenting drawn (landed w)).world None live → NoneReleased live.lent → live.flight ≡ None
     → returned.list ≡ [] → fed.list ≡ []
     → Serves p (step_in p w event.Done).world
     (record v { settling = record v.settling { live = live }; returned = returned; fed = fed; landed = room })
-serves_landed p w v drawn live returned fed room h flies support stands waiting released lands none_returned none_fed =
+serves_landed p w v drawn live returned fed room h flies stands released lands none_returned none_fed =
+    let given : World = give_back (landed w) in
     record {
       plan = h.plan;
       keeps = keeps_step p w event.Done h.keeps.always;
       of_plan = plan_step p w event.Done h.plan h.keeps.always h.of_plan;
       messages = messages_step p w event.Done h.plan h.keeps.always h.messages;
       size = h.size;
-      support = subst (λ (u : World). IsSupport p u v.support) (sym left) support;
+      support = subst (λ (u : World). IsSupport p u v.support) (sym left)
+          (stays_fed p given drawn v.support (stays_given p (landed w) v.support (stays_like p w (landed w) v.support
+          (record { clients = refl; relations = refl; tick = refl; root = refl; over = refl }) h.support)));
       settling =
           record {
             always = (keeps_step p w event.Done h.keeps.always).always;
             live = subst (λ (u : World). AreLive u None live) (sym left) stands;
-            waiting = subst (λ (u : World). AreWaiting u v.settling.waiting) (sym left) waiting;
+            waiting = subst (λ (u : World). AreWaiting u v.settling.waiting) (sym left)
+                (stay_fed drawn given v.settling.waiting (waits_like (landed w) given v.settling.waiting (quiet_given (landed w))
+                (stay_landed w v.settling.waiting h.settling.waiting)));
           };
       released = released;
       lands =

@@ -16,7 +16,7 @@ use Rattle.vz_rules.specs.Plan.{Plan}
 use Rattle.vz_rules.specs.World.{World, Client, client_at, sub_of}
 use Rattle.vz_rules.specs.Settle.{ready}
 use Rattle.vz_rules.specs.Reach.{naming, lost_in}
-use Rattle.vz_rules.specs.Messages.{Answer, took, taking, root_answer, message_answer}
+use Rattle.vz_rules.specs.Messages.{took, root_answer, message_answer}
 use Rattle.vz_rules.specs.Step.{answer_to, begin_answer, next_tick, deliver}
 use Rattle.vz_rules.specs.Kept.{KeepsAlways}
 use Rattle.vz_rules.proofs.Kept_messages.{always_root, always_closed}
@@ -28,7 +28,8 @@ use Rattle.vz_returns.specs.Notes.{owed_count}
 use Rattle.vz_surfaces.specs.Memory.{HasNumber}
 use Rattle.vz_surfaces.specs.Reading.{existing_count}
 use Rattle.vz_surface_manager.specs.Waits.{Waits, AreWaiting}
-use Rattle.vz_surface_manager.proofs.Waits_on.{as_many}
+use Rattle.vz_surface_manager.proofs.{Waits_on.as_many, Waits_kept.waits_like, Quiet.live_like, Quiet_changes.IsQuiet, Quiet_changes.quiet_rooted}
+use Rattle.vz_returns.proofs.Lent_kept.{lent_root}
 use Rattle.vz_surface_manager.specs.Live.{Live, AreLive}
 use Rattle.vz_surface_manager.specs.declared.surface_manager.SurfaceManager.{SurfaceManager}
 use Rattle.vz_surface_manager.specs.Settles.{AreSettling, IsToSettle}
@@ -50,30 +51,17 @@ pub record LeavesSubs (w u : World) : Type 0 where
   pub in_flight : u.in_flight ≡ w.in_flight
   pub clients : length u.clients ≡ length w.clients
 
-leaves_either : (t : Bool) (a b : Answer) (w : World) → LeavesSubs w a.world → LeavesSubs w b.world → LeavesSubs w (cond t a b).world
-leaves_either true a b w e f = e
-leaves_either false a b w e f = f
-
-takes_leaves : (f : Client → Client) (c : Client) (w : World) → LeavesSubs w (taking f c w)
-takes_leaves f c w =
-    record {
-      subs = refl;
-      in_flight = refl;
-      clients = length-map w.clients (λ (x : Client). cond (x.number == c.number) (took (f x)) x);
-    }
-
-pub root_leaves : (w : World) (c : Client) (local : LocalSurfaceId) → LeavesSubs w (root_answer w c local).world
-unfolding root_answer
-root_leaves w c local =
-    let taken = takes_leaves (λ x. x) c w in
-    leaves_either (c.number == 1) _ _ w (record { subs = taken.subs; in_flight = taken.in_flight; clients = taken.clients })
-    (record { subs = taken.subs; in_flight = taken.in_flight; clients = taken.clients })
+quiet_leaves : (w u : World) → IsQuiet w u → LeavesSubs w u
+quiet_leaves w u q = record { subs = q.subs; in_flight = q.in_flight; clients = ap length q.clients ∙ length-map w.clients q.change }
 
 pub close_leaves : (w : World) (c : Client) → LeavesSubs w (message_answer w c Close).world
 unfolding message_answer
 close_leaves w c =
-    let taken = takes_leaves (λ (x : Client). record x { closed = true }) c w in
-    record { subs = taken.subs; in_flight = taken.in_flight; clients = taken.clients }
+    record {
+      subs = refl;
+      in_flight = refl;
+      clients = length-map w.clients (λ (x : Client). cond (x.number == c.number) (took (record x { closed = true })) x);
+    }
 
 pub begin_leaves : (p : Plan) (w : World) → LeavesSubs w (begin_answer p w).world
 unfolding begin_answer
@@ -191,16 +179,20 @@ root_sent p w c x local h = sent_answer p w c x (SetRoot local) h
 pub record IsRooted (p : Plan) (w : World) (x : Client) (local : LocalSurfaceId) (v : Served) (root : Option SurfaceId) : Type 0 where
   pub serves : Serves p w v
   pub rooted : root ≡ (root_answer w x local).world.root
-  pub live : AreLive (root_answer w x local).world None v.settling.live
-  pub waiting : AreWaiting (root_answer w x local).world v.settling.waiting
 
 pub root_follows : (p : Plan) (w : World) (x : Client) (local : LocalSurfaceId) (v : Served) (root : Option SurfaceId) (f : Following)
     → IsRooted p w x local v root → f.activated.list ≡ [] → IsFollowed (root_answer w x local).world root None true v.settling f
 root_follows p w x local v root f h none =
     let u = (root_answer w x local).world in
-    let leaves = root_leaves w x local in
+    let quiet : IsQuiet w u = quiet_rooted w x local in
+    let leaves = quiet_leaves w u quiet in
+    let old = h.serves.settling in
     let stands : AreSettling u None v.settling =
-    record { always = always_root w x local h.serves.keeps.always; live = h.live; waiting = h.waiting } in
+    record {
+      always = always_root w x local h.serves.keeps.always;
+      live = live_like w u None v.settling.live v.settling.live.lent quiet (lent_root w x local v.settling.live.lent old.live.lent) old.live;
+      waiting = waits_like w u v.settling.waiting quiet old.waiting;
+    } in
     is_followed p w u v root true v.settling f h.serves leaves h.rooted
     (record {
       stands = stands;

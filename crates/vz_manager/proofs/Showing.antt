@@ -24,7 +24,6 @@ use Rattle.vz_machine.specs.declared.machine.Step.{Step}
 use Rattle.vz_damage.specs.Measured.{Measurement}
 use Rattle.vz_surface_manager.specs.Allowed.{drawn_reply}
 use Rattle.vz_returns.specs.Lent.{Lent, NoneReleased, resources_out}
-use Rattle.vz_surface_manager.specs.Waits.{AreWaiting}
 use Rattle.vz_surface_manager.specs.Flown.{Flown}
 use Rattle.vz_surface_manager.specs.Live.{Live, AreLive}
 use Rattle.vz_surface_manager.specs.Frame_end.{flying_count}
@@ -34,6 +33,8 @@ use Rattle.vz_surface_manager.specs.declared.drawn_frame.Look.TheVariants as loo
 use Rattle.vz_surface_manager.proofs.Drawn.{flightless}
 use Rattle.vz_surface_manager.specs.Settles.{AreSettling}
 use Rattle.vz_support.specs.Supporting.{IsSupport}
+use Rattle.vz_support.proofs.Support_kept.{stays_drawn}
+use Rattle.vz_surface_manager.proofs.Waits_kept.{stay_drawn}
 use Rattle.vz_manager.specs.Serving.{Served, Serves, CanLand, IsStepOf}
 use Rattle.vz_manager.specs.Showing.{IsToMeasure, IsToShow}
 use Rattle.vz_manager.proofs.Following.{quiet_step, step_of}
@@ -123,31 +124,29 @@ shown v live returned fed room = record v { settling = record v.settling { live 
 
 -- the parts stand for the state that is left
 serves_left : (p : Plan) (w : World) (v : Served) (live : Live) (returned : Roomy Returned) (fed : Roomy Fed) (room : Bool) → Serves p w v
-    → IsSupport p (draw_answer p w).world v.support → AreLive (draw_answer p w).world None live
-    → AreWaiting (draw_answer p w).world v.settling.waiting → NoneReleased live.lent → CanLand (shown v live returned fed room)
+    → AreLive (draw_answer p w).world None live → NoneReleased live.lent → CanLand (shown v live returned fed room)
     → Serves p (step_in p w event.Draw).world (shown v live returned fed room)
-serves_left p w v live returned fed room h support stands waiting released lands =
+serves_left p w v live returned fed room h stands released lands =
     record {
       plan = h.plan;
       keeps = keeps_step p w event.Draw h.keeps.always;
       of_plan = plan_step p w event.Draw h.plan h.keeps.always h.of_plan;
       messages = messages_step p w event.Draw h.plan h.keeps.always h.messages;
       size = h.size;
-      support = subst (λ (u : World). IsSupport p u v.support) (sym (world_drawn p w h.keeps)) support;
+      support = subst (λ (u : World). IsSupport p u v.support) (sym (world_drawn p w h.keeps)) (stays_drawn p w v.support h.support);
       settling = subst (λ (u : World). AreSettling u None (record v.settling { live = live })) (sym (world_drawn p w h.keeps))
-          (record { always = (keeps_draw p w h.keeps).always; live = stands; waiting = waiting });
+          (record { always = (keeps_draw p w h.keeps).always; live = stands; waiting = stay_drawn p w v.settling.waiting h.settling.waiting });
       released = released;
       lands = lands;
     }
 
 -- where there is room for the end of what is drawn
 pub serves_drawn : (p : Plan) (w : World) (v : Served) (live : Live) (returned : Roomy Returned) (fed : Roomy Fed) (room : Bool) → Serves p w v
-    → IsSupport p (draw_answer p w).world v.support → AreLive (draw_answer p w).world None live
-    → AreWaiting (draw_answer p w).world v.settling.waiting → NoneReleased live.lent
+    → AreLive (draw_answer p w).world None live → NoneReleased live.lent
     → returned.list ≡ [] → fed.list ≡ [] → resources_out live.lent ≤ returned.spare → flying_count live.flight ≤ fed.spare → room ≡ true
     → Serves p (step_in p w event.Draw).world (shown v live returned fed room)
-serves_drawn p w v live returned fed room h support stands waiting released none_returned none_fed returns places has =
-    serves_left p w v live returned fed room h support stands waiting released
+serves_drawn p w v live returned fed room h stands released none_returned none_fed returns places has =
+    serves_left p w v live returned fed room h stands released
     (record { none_returned = none_returned; none_fed = none_fed; returned = λ flies. returns; fed = λ flies. places; effects = λ flies. has })
 
 unlike : {A : Type 0} (t : Bool) → t ≡ false → t ≡ true → A
@@ -169,11 +168,9 @@ unflown v live returned fed room none none_returned none_fed =
 -- where nothing changed, and what is seen is remembered alone
 pub serves_unchanged : (p : Plan) (w : World) (root : SurfaceId) (v : Served) (live : Live) → IsToShow p w root v
     → live ≡ record v.settling.live { damaged = live.damaged }
-    → IsSupport p (draw_answer p w).world v.support → AreLive (draw_answer p w).world None live
-    → AreWaiting (draw_answer p w).world v.settling.waiting
-    → Serves p (step_in p w event.Draw).world (measured_at v live)
-serves_unchanged p w root v live h rest support stands waiting =
-    serves_left p w v live v.returned v.fed v.landed h.serves support stands waiting
+    → AreLive (draw_answer p w).world None live → Serves p (step_in p w event.Draw).world (measured_at v live)
+serves_unchanged p w root v live h rest stands =
+    serves_left p w v live v.returned v.fed v.landed h.serves stands
     (subst (λ (l : List Lent). NoneReleased l) (sym (ap (λ (l : Live). l.lent) rest)) h.serves.released)
     (unflown v live v.returned v.fed v.landed (ap (λ (l : Live). is_some l.flight) rest ∙ none_flying p w v root h) h.serves.lands.none_returned
     h.serves.lands.none_fed)

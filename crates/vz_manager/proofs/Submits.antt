@@ -18,8 +18,6 @@ use Rattle.vz_rules.proofs.Kept_small.{small_client}
 use Rattle.vz_rules.proofs.Kept_sent.{new_whole}
 use Rattle.vz_rules.proofs.Kept_steps.{always_answer}
 use Rattle.vz_surfaces.specs.Memory.{HasNumber}
-use Rattle.vz_returns.specs.Lent.{IsLender}
-use Rattle.vz_returns.proofs.Lent_kept.{lends}
 use Rattle.vz_surface_manager.specs.Acceptance.{IsAccepting}
 use Rattle.vz_surface_manager.specs.declared.surface_manager.SurfaceManager.{SurfaceManager}
 use Rattle.vz_support.specs.Supporting.{Supported, IsSupport, IsNext, Sends}
@@ -65,9 +63,6 @@ module _ (p : Plan) (w : World) (c : ℕ) (x : Client) (local : LocalSurfaceId) 
   -- its number is one of those that a plan may have
   pub has_number : HasNumber c
   has_number = subst HasNumber number (small_client p w h.plan h.keeps.always h.of_plan x there).0
-
-  pub is_lender : IsLender c settling.live.lent
-  is_lender = subst (λ n. IsLender n settling.live.lent) number (lends w x settling.live.lent h.keeps.always there h.stands.live.lent)
 
   -- the deadline is near, and no tick is behind the last one
   pub is_soon : deadline_of frame ≤ GREATEST_DEADLINE

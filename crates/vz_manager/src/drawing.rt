@@ -23,8 +23,6 @@ use vz_ids::SurfaceId;
 use vz_machine::Step;
 use vz_occlude::FlatPicture;
 use vz_rules::{EffectsRoom, Reply, Returned};
-use vz_support::laws::support_stays_at_ends;
-use vz_surface_manager::laws::waiting_ones_stay;
 use vz_surface_manager::{Flight, LiveSurfaces, Look};
 
 /// What a draw needs before it shows a frame, since it cannot be undone: the drawing operations,
@@ -119,8 +117,6 @@ impl Parts {
         ensures err { (p : Plan) (w : World) → Serves p w self.old
             → OnErr result (Serves p w self.new) }
     {
-        waiting_ones_stay();
-        support_stays_at_ends();
         let Some(damage) = measured.changed() else {
             self.settling.live.leave(measured);
             return Ok((nothing_follows(Reply::Unchanged), None));

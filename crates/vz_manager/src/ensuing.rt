@@ -15,7 +15,6 @@ use crate::room::ready_to_follow;
 use vz_base::Memory;
 use vz_machine::Step;
 use vz_rules::Reply;
-use vz_surface_manager::laws::{surfaces_stay, waiting_ones_stay};
 
 impl Parts {
     /// A client names the root surface, which need not exist. Only the first client may; the
@@ -35,8 +34,6 @@ impl Parts {
             → OnOk result (Serves p (step_in p w (event.Client c)).world self.new) }
         ensures err { OnErr result (self.new ≡ self.old) }
     {
-        surfaces_stay();
-        waiting_ones_stay();
         ready_to_follow(&self.settling, 0, &mut self.following)?;
         let reply = self.support.set_root(c);
         let root = self.support.root();

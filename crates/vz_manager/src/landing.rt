@@ -14,8 +14,6 @@ use std::mem;
 use vz_frame::{List, Room};
 use vz_machine::Step;
 use vz_rules::{Effects, EffectsRoom, Fed, Reply, Returned};
-use vz_support::laws::support_stays_at_ends;
-use vz_surface_manager::laws::waiting_ones_stay;
 
 /// The step in which the drawn frame was shown, with the returned resources and the feedback. It
 /// allocates nothing.
@@ -52,8 +50,6 @@ impl Parts {
         ensures serves { (p : Plan) (w : World) → Serves p w self.old
             → Serves p (step_in p w event.Done).world self.new }
     {
-        waiting_ones_stay();
-        support_stays_at_ends();
         if !self.settling.live.is_flying() {
             return nothing_follows(Reply::Nothing);
         }

@@ -18,9 +18,7 @@ use std::mem;
 use vz_frame::{List, Room};
 use vz_ids::{Sub, SurfaceId};
 use vz_machine::Step;
-use vz_rules::kept_laws::changes_keep;
 use vz_rules::{BoxedEffects, Effects, EffectsRoom, Fed, Lost, Reply, Returned};
-use vz_surface_manager::laws::{named_ones_are_collected, surfaces_stay, waiting_ones_stay};
 use vz_surface_manager::{Lists, SurfaceManager};
 
 /// The lists for the effects of a step, and the work lists. Their room is reserved before the
@@ -117,10 +115,6 @@ pub(crate) fn follow(
     ensures out { resources_out settling.new.live.lent ≤ resources_out settling.old.live.lent }
     ensures place { following.new.effects ≡ following.old.effects }
 {
-    surfaces_stay();
-    waiting_ones_stay();
-    changes_keep();
-    named_ones_are_collected();
     let asked = may_lose(anew, following.activated.as_slice());
     settling.settle(&mut following.ids, &mut following.activated);
     keep(settling, new);

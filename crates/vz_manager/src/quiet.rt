@@ -19,7 +19,6 @@ use vz_frame::{Message, Room};
 use vz_machine::Step;
 use vz_rules::{BoxedEffects, Refusal, Reply};
 use vz_support::Support;
-use vz_surface_manager::laws::{surfaces_stay, waiting_ones_stay};
 
 /// A step with this reply and no effects.
 pub(crate) fn nothing_follows(reply: Reply) -> Step
@@ -64,8 +63,6 @@ impl Parts {
             → IsRefused p w c x m refusal
             → Serves p (step_in p w (event.Client c)).world self.new }
     {
-        surfaces_stay();
-        waiting_ones_stay();
         self.support.refuse(c);
         nothing_follows(Reply::Refused(refusal))
     }
@@ -82,8 +79,6 @@ impl Parts {
             → IsSending p w c x (DidNotProduce n)
             → Serves p (step_in p w (event.Client c)).world self.new }
     {
-        surfaces_stay();
-        waiting_ones_stay();
         self.support.did_not_produce(c);
         nothing_follows(Reply::Noted)
     }
@@ -104,8 +99,6 @@ impl Parts {
             → OnOk result (Serves p (step_in p w (event.Client c)).world self.new) }
         ensures err { OnErr result (self.new ≡ self.old) }
     {
-        surfaces_stay();
-        waiting_ones_stay();
         let reply = self.support.hierarchy(self.alloc, c)?;
         Ok(nothing_follows(reply))
     }
@@ -122,8 +115,6 @@ impl Parts {
         ensures serves { (p : Plan) (w : World) (x : Client) → Serves p w self.old
             → IsSending p w c x Await → Serves p (step_in p w (event.Client c)).world self.new }
     {
-        surfaces_stay();
-        waiting_ones_stay();
         let reply = self.support.await_begin(c);
         nothing_follows(reply)
     }
@@ -145,8 +136,6 @@ impl Parts {
             → OnOk result (Serves p (step_in p w (event.Client c)).world self.new) }
         ensures err { OnErr result (self.new ≡ self.old) }
     {
-        surfaces_stay();
-        waiting_ones_stay();
         let id = uploaded(&self.support, c);
         if self.settling.live.in_use(c, id) {
             return Ok(self.refuse(c, Refusal::InUse));
@@ -171,7 +160,6 @@ impl Parts {
             → OnOk result (Serves p (step_in p w (event.Client c)).world self.new) }
         ensures err { OnErr result (self.new ≡ self.old) }
     {
-        waiting_ones_stay();
         let mut queue = Room::new(self.alloc);
         queue.reserve(self.settling.live.queued(c))?;
         self.settling.live.reclaim(c, &mut queue);
@@ -186,8 +174,6 @@ impl Parts {
         ensures serves { (p : Plan) (w : World) → Serves p w self.old
             → Serves p (step_in p w event.Over).world self.new }
     {
-        surfaces_stay();
-        waiting_ones_stay();
         self.support.over();
         nothing_follows(Reply::Ended)
     }

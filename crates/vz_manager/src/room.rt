@@ -6,9 +6,7 @@ ghost use Rattle.vz_manager.specs.Followed.{IsBetween, HasRoomAfter};
 use crate::outcome::Following;
 use vz_base::Memory;
 use vz_frame::Room;
-use vz_returns::laws::owed_are_known;
 use vz_surface_manager::SurfaceManager;
-use vz_surface_manager::laws::waiting_ones_lack;
 
 /// Empties a list and makes room for `n` items. The only error is `Memory`, if an allocation
 /// fails.
@@ -50,8 +48,6 @@ pub(crate) fn ready_to_follow(
     requires between { (w : World) × IsBetween w settling.now }
     ensures room { OnOk result (HasRoomAfter listings settling.now following.new) }
 {
-    waiting_ones_lack();
-    owed_are_known();
     let risen = one_more(settling.waiting.count())?;
     let exist = one_more(settling.live.surfaces())?;
     let owed = one_more(settling.live.unfed())?;

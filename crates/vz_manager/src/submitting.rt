@@ -35,7 +35,6 @@ use vz_machine::Step;
 use vz_pixels::PixelBlock;
 use vz_rules::{Refusal, Reply};
 use vz_support::Support;
-use vz_surface_manager::laws::arrivals_are_new;
 use vz_surface_manager::{Accepted, Arrival, SurfaceManager, Waiting};
 
 /// Takes and accepts the submission of a client. If an allocation fails, it is the client's next
@@ -157,7 +156,6 @@ fn take_in(
         → OnErr result (IsSupport p w support.new) }
     ensures err { OnErr result (settling.new ≡ settling.old) }
 {
-    arrivals_are_new();
     let accepted = put_in(support, settling, c, coming.sink, coming.blocks)?;
     let arrival = Arrival {
         sub: accepted.sub,

@@ -12,10 +12,9 @@ use Rattle.vz_rules.specs.Messages.{Answer, says, id_of, took, taking, refused, 
 use Rattle.vz_rules.specs.{Step.begin_answer, Step.deliver, Step.next_tick, Step.is_attached, Kept.KeepsAlways, Kept.AreRising, Kept.borrows}
 use Rattle.vz_rules.proofs.Members.{at_map, at_within, at_contains, contains_at, when_same}
 use Rattle.vz_rules.proofs.{Counts.count_none, Rising.counted, Rising.Rising, Given.id_of as resource_id, Totals.answered_stored}
-use Rattle.vz_returns.specs.{Released.alive_in, Released.holds_there, Released.out_in, Lent.Lent, Lent.AreLent, Lent.IsLender, Listed.active_listings}
+use Rattle.vz_returns.specs.{Released.alive_in, Released.holds_there, Released.out_in, Lent.Lent, Lent.AreLent, Lent.IsLender}
 use Rattle.vz_returns.specs.Quiet.{KeepsReferences, AreAlike}
-use Rattle.vz_returns.proofs.Test_counts.{share}
-use Rattle.vz_returns.proofs.Alive.{alive_step, alive_risen, split_by, exists_kept, false_and}
+use Rattle.vz_returns.proofs.Alive.{alive_step, split_by, exists_kept, false_and}
 
 -- a client of the other state with the same references
 pub record IsAs (w : World) (n : ℕ) (d : Client) : Type 0 where
@@ -116,22 +115,6 @@ lent_fed presented w items lent =
     (λ c id. let all = alive_step w (feed presented w) (mark_fed w presented) (λ s. false) refl refl (λ s. refl)
     (λ s q. split_by _ _ false refl refl) c id in
     omega (arith, all, count_none (λ s. borrows c id s && false) w.subs (λ s q. false_and (borrows c id s)))) lent
-
-none_shared : (client c id : ℕ) → share client [] c id ≡ 0
-unfolding share
-none_shared client c id = grind (arith, nat_tests)
-
-pub lent_risen : (w : World) (s : Submission) (items : List Lent) → KeepsAlways w → Contains w.subs s → is_waiting s ≡ true
-    → active_listings w s.submitted.id ≡ [] → AreLent w items → AreLent (rising s w) items
-unfolding rising
-lent_risen w s items always known waits none lent =
-    lent_same w (rising s w) items refl (stays_as w (rising s w) refl)
-    (λ c id. omega (
-      arith,
-      alive_risen w always s known waits s.submitted.sub.client [] refl (sym none) refl c id,
-      none_shared
-          s.submitted.sub.client c id,
-    )) lent
 
 -- Messages
 

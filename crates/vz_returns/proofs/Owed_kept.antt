@@ -3,14 +3,13 @@ use Rattle.std.proofs.Common.{◌≡◌, ℕ, ◌+◌, ◌<◌, Bool, true, fals
 use Rattle.std.proofs.lemmas.Bool.Decides.{nat_tests}
 use Rattle.std.specs.Option.{option_and_then}
 use Rattle.vz_geom.specs.Rectangle.{is_empty_rect}
-use Rattle.vz_ids.specs.{declared.FrameSinkId.FrameSinkId, declared.LocalSurfaceId.LocalSurfaceId, declared.Sub.Sub, Ids.same_sub}
-use Rattle.vz_pixels.specs.Block.{Block}
+use Rattle.vz_ids.specs.{declared.LocalSurfaceId.LocalSurfaceId, declared.Sub.Sub, Ids.same_sub}
 use Rattle.vz_frame.specs.{declared.frame.CompositorFrame.CompositorFrame, declared.message.Message.TheVariants.Close}
-use Rattle.vz_rules.specs.{declared.entry.Event.TheVariants.Over, Plan.Plan, Plan.IsPlan, Scene.scene_of, Reach.naming, Damage.drawn_damage}
-use Rattle.vz_rules.specs.{declared.entry.Refusal.Refusal, Returns.give_back, Returns.feedback_of, Walk.walk_of, Walk.walked_subs, Walk.too_much}
+use Rattle.vz_rules.specs.{Plan.Plan, Plan.IsPlan, Scene.scene_of, Reach.naming, Damage.drawn_damage}
+use Rattle.vz_rules.specs.{Returns.feedback_of, Walk.walk_of, Walk.walked_subs, Walk.too_much}
 use Rattle.vz_rules.specs.World.{World, Client, Scene, Submission, sub_of}
-use Rattle.vz_rules.specs.Messages.{Answer, unless_refused, taking, in_use, new_submission, message_answer, upload_answer, hierarchy_answer, hierarchy_refusal, root_answer, await_answer}
-use Rattle.vz_rules.specs.Step.{begin_answer, draw_answer, scene_answer, accepted_frames, answer_to}
+use Rattle.vz_rules.specs.Messages.{Answer, new_submission, message_answer}
+use Rattle.vz_rules.specs.Step.{begin_answer, draw_answer, scene_answer, accepted_frames}
 use Rattle.vz_rules.specs.Kept.{Keeps, KeepsAlways, KeepsPlan, KeepsMessages, is_by}
 use Rattle.vz_rules.proofs.{Members.at_contains, Members.contains_here, Kept_facts.unfed_open, Kept_few.lists_short}
 use Rattle.vz_returns.specs.{declared.due.Due.Due, Owed.Owed, Owed.AreOwed, Owed.place_of, Owed.gets_at}
@@ -20,45 +19,10 @@ pub stays_named : (w : World) (f : Owed) → AreOwed w f → AreOwed (naming w) 
 unfolding naming
 stays_named w f o = o
 
-pub stays_returned : (w : World) (f : Owed) → AreOwed w f → AreOwed (give_back w) f
-unfolding give_back
-stays_returned w f o = o
-
-pub stays_taken : (g : Client → Client) (c : Client) (w : World) (f : Owed) → AreOwed w f → AreOwed (taking g c w) f
-stays_taken g c w f o = o
-
 -- one of two answers
 answered : (t : Bool) (a b : Answer) (f : Owed) → AreOwed a.world f → AreOwed b.world f → AreOwed (cond t a b).world f
 answered true a b f o q = o
 answered false a b f o q = q
-
-refused_or : (w : World) (c : Client) (r : Option Refusal) (a : Answer) (f : Owed) → AreOwed w f → AreOwed a.world f
-    → AreOwed (unless_refused w c r a).world f
-refused_or w c None a f o q = q
-refused_or w c (Some r) a f o q = o
-
-pub stays_uploaded : (w : World) (c : Client) (id : ℕ) (block : Block) (f : Owed) → AreOwed w f
-    → AreOwed (upload_answer w c id block).world f
-unfolding upload_answer
-stays_uploaded w c id block f o = answered (in_use c.resources id) _ _ f o o
-
-pub stays_related : (w : World) (c : Client) (parent child : FrameSinkId) (f : Owed) → AreOwed w f
-    → AreOwed (hierarchy_answer w c parent child).world f
-unfolding hierarchy_answer
-stays_related w c parent child f o = refused_or w c (hierarchy_refusal w c parent child) _ f o o
-
-pub stays_rooted : (w : World) (c : Client) (local : LocalSurfaceId) (f : Owed) → AreOwed w f → AreOwed (root_answer w c local).world f
-unfolding root_answer
-stays_rooted w c local f o = answered (Rattle.std.specs.Prelude.eqb c.number 1) _ _ f o o
-
-begun_by : (r : Option ℕ) (g : ℕ → Answer) (b : Answer) (f : Owed) → ((n : ℕ) → AreOwed (g n).world f) → AreOwed b.world f
-    → AreOwed (elim r as (λ _. Answer) [ Some n ↦ g n | None ↦ b ]).world f
-begun_by None g b f o q = q
-begun_by (Some n) g b f o q = o n
-
-pub stays_begun : (w : World) (c : Client) (f : Owed) → AreOwed w f → AreOwed (await_answer w c).world f
-unfolding await_answer
-stays_begun w c f o = begun_by c.delivered _ _ f (λ n. o) (answered w.over _ _ f o o)
 
 pub stays_closed : (w : World) (c : Client) (f : Owed) → AreOwed w f → AreOwed (message_answer w c Close).world f
 unfolding message_answer
@@ -67,10 +31,6 @@ stays_closed w c f o = o
 pub stays_ticked : (p : Plan) (w : World) (f : Owed) → AreOwed w f → AreOwed (begin_answer p w).world f
 unfolding begin_answer
 stays_ticked p w f o = o
-
-pub stays_over : (p : Plan) (w : World) (f : Owed) → AreOwed w f → AreOwed (answer_to p w Over).world f
-unfolding answer_to
-stays_over p w f o = o
 
 -- Between steps
 

@@ -4,27 +4,16 @@ ghost use Rattle.std.specs.Prelude.{◌≡◌, ℕ, ◌+◌, ◌-◌, ◌<◌, �
 ghost use Rattle.std.specs.List.{Contains};
 ghost use Rattle.vz_ids.specs.declared.Sub.{Sub};
 ghost use Rattle.vz_ids.specs.Ids.{same_sub};
-ghost use Rattle.vz_ids.specs.declared.FrameSinkId.{FrameSinkId};
-ghost use Rattle.vz_ids.specs.declared.LocalSurfaceId.{LocalSurfaceId};
-ghost use Rattle.vz_pixels.specs.Block.{Block};
-ghost use Rattle.vz_frame.specs.declared.message.Message.TheVariants.{Close};
-ghost use Rattle.vz_frame.specs.declared.frame.CompositorFrame.{CompositorFrame};
-ghost use Rattle.vz_rules.specs.World.{World, Client, Submission, sub_of, is_waiting, has_sub};
-ghost use Rattle.vz_rules.specs.Kept.{AreRising, KeepsShelf, KeepsAlways, Keeps, KeepsPlan, KeepsMessages};
-ghost use Rattle.vz_rules.specs.Messages.{in_use as refused_in_use, taking, upload_answer, hierarchy_answer, root_answer, await_answer, message_answer, new_submission};
-ghost use Rattle.vz_rules.specs.Returns.{holds, returns_of, queue_returns, give_back, feed};
-ghost use Rattle.vz_rules.specs.Plan.{Plan, IsPlan};
-ghost use Rattle.vz_rules.specs.Reach.{naming};
+ghost use Rattle.vz_rules.specs.World.{World, Client, Submission, sub_of, has_sub};
+ghost use Rattle.vz_rules.specs.Kept.{AreRising, KeepsShelf, KeepsAlways};
+ghost use Rattle.vz_rules.specs.Messages.{in_use as refused_in_use};
+ghost use Rattle.vz_rules.specs.Returns.{holds, returns_of, queue_returns, give_back};
 ghost use Rattle.vz_rules.specs.Singly.{rising};
-ghost use Rattle.vz_rules.specs.Step.{begin_answer, draw_answer, answer_to};
-ghost use Rattle.vz_rules.specs.declared.entry.Event.TheVariants.{Over};
 ghost use Rattle.vz_returns.specs.Unfed.{in_order, is_open, opened, fed, AreUnfed, mark_of};
 ghost use Rattle.vz_returns.specs.Held.{Holding, received_of, alive_of, is_rising, lent, shared, released, is_last, in_use};
 ghost use Rattle.vz_returns.specs.Released.{are_some, is_sorted, AreCounts, release_all, returns_in};
 ghost use Rattle.vz_returns.specs.Lent.{Lent, AreLent, IsLender};
-ghost use Rattle.vz_returns.specs.Listed.{active_listings};
-ghost use Rattle.vz_returns.specs.Quiet.{KeepsReferences, AreAlike};
-ghost use Rattle.vz_returns.specs.Owed.{Owed, AreOwed, place_of};
+ghost use Rattle.vz_returns.specs.Quiet.{AreAlike};
 
 /// After `opened` a submission awaits feedback, after `fed` it does not, and the others do not
 /// change. The list stays in the order of clients and ordinals.
@@ -124,69 +113,4 @@ pub fn references_are_of_the_state()
     ensures over { (w : World) (lenders : List Lent)
         → AreLent (record w { in_flight = Some [] }) lenders
         → AreLent (record w { in_flight = None }) lenders }
-{}
-
-/// These changes of the machine's state leave references as they are: naming, feedback, a message
-/// that changes neither the resources nor the queue of its client, an upload, and a submission
-/// that becomes active if its surface had no active one or the active one lists nothing.
-pub fn references_stay()
-    ensures naming { (w : World) (lenders : List Lent) → AreLent w lenders
-        → AreLent (naming w) lenders }
-    ensures feedback { (presented : List Sub) (w : World) (lenders : List Lent)
-        → AreLent w lenders → AreLent (feed presented w) lenders }
-    ensures clients { (f : Client → Client) (c : Client) (w : World) (lenders : List Lent)
-        → KeepsReferences f → AreLent w lenders → AreLent (taking f c w) lenders }
-    ensures upload { (w : World) (c : Client) (id : ℕ) (block : Block) (lenders : List Lent)
-        → KeepsAlways w → AreLent w lenders → AreLent (upload_answer w c id block).world lenders }
-    ensures hierarchy { (w : World) (c : Client) (parent child : FrameSinkId)
-        (lenders : List Lent) → AreLent w lenders
-        → AreLent (hierarchy_answer w c parent child).world lenders }
-    ensures root { (w : World) (c : Client) (local : LocalSurfaceId) (lenders : List Lent)
-        → AreLent w lenders → AreLent (root_answer w c local).world lenders }
-    ensures awaits { (w : World) (c : Client) (lenders : List Lent) → AreLent w lenders
-        → AreLent (await_answer w c).world lenders }
-    ensures begin { (p : Plan) (w : World) (lenders : List Lent) → AreLent w lenders
-        → AreLent (begin_answer p w).world lenders }
-    ensures closed { (w : World) (c : Client) (lenders : List Lent) → AreLent w lenders
-        → AreLent (message_answer w c Close).world lenders }
-    ensures none_past { (w : World) (s : Submission) (lenders : List Lent) → KeepsAlways w
-        → Contains w.subs s → IsTrue (is_waiting s) → active_listings w s.submitted.id ≡ []
-        → AreLent w lenders → AreLent (rising s w) lenders }
-{}
-
-/// What is owed does not change unless a submission is accepted, becomes active or is dropped. So
-/// it stays the same for all messages but submissions, for begin-frames, for draws between steps,
-/// for the end, and for naming and the return of resources.
-pub fn owed_stay()
-    ensures naming { (w : World) (f : Owed) → AreOwed w f → AreOwed (naming w) f }
-    ensures returns { (w : World) (f : Owed) → AreOwed w f → AreOwed (give_back w) f }
-    ensures clients { (g : Client → Client) (c : Client) (w : World) (f : Owed)
-        → AreOwed w f → AreOwed (taking g c w) f }
-    ensures upload { (w : World) (c : Client) (id : ℕ) (block : Block) (f : Owed)
-        → AreOwed w f → AreOwed (upload_answer w c id block).world f }
-    ensures hierarchy { (w : World) (c : Client) (parent child : FrameSinkId) (f : Owed)
-        → AreOwed w f → AreOwed (hierarchy_answer w c parent child).world f }
-    ensures root { (w : World) (c : Client) (local : LocalSurfaceId) (f : Owed)
-        → AreOwed w f → AreOwed (root_answer w c local).world f }
-    ensures begun { (w : World) (c : Client) (f : Owed)
-        → AreOwed w f → AreOwed (await_answer w c).world f }
-    ensures closed { (w : World) (c : Client) (f : Owed)
-        → AreOwed w f → AreOwed (message_answer w c Close).world f }
-    ensures begin { (p : Plan) (w : World) (f : Owed)
-        → AreOwed w f → AreOwed (begin_answer p w).world f }
-    ensures draw { (p : Plan) (w : World) (f : Owed)
-        → Keeps w → AreOwed w f → AreOwed (draw_answer p w).world f }
-    ensures over { (p : Plan) (w : World) (f : Owed)
-        → AreOwed w f → AreOwed (answer_to p w Over).world f }
-{}
-
-/// The next submission of a client does not await feedback yet, fewer than 2^64 - 1 were
-/// accepted, and between steps no feedback is due.
-pub fn owed_are_known()
-    ensures new { (w : World) (c : Client) (local : LocalSurfaceId) (frame : CompositorFrame)
-        (f : Owed) → KeepsAlways w → AreOwed w f
-        → place_of f (sub_of (new_submission w c local frame)) ≡ None }
-    ensures few { (p : Plan) (w : World) (f : Owed) → IsPlan p → KeepsAlways w → KeepsPlan p w
-        → KeepsMessages w → AreOwed w f → f.accepted < u64.MAX }
-    ensures none { (w : World) (f : Owed) → Keeps w → AreOwed w f → f.due ≡ [] }
 {}

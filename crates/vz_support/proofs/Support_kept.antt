@@ -3,9 +3,9 @@ use Rattle.std.proofs.Common.{◌≡◌, ℕ, zero, suc, Bool, true, false, ◌=
 use Rattle.std.proofs.Common.{length, refl, ap, sym, ◌∙◌, cond}
 use Rattle.vz_ids.specs.{declared.FrameSinkId.FrameSinkId, declared.Sub.Sub}
 use Rattle.vz_rules.specs.declared.entry.Reply.TheVariants as reply
-use Rattle.vz_rules.specs.{Plan.Plan, Returns.queue_returns, Returns.give_back, Returns.feed, Step.scene_answer, Step.draw_answer, Step.done_answer}
-use Rattle.vz_rules.specs.World.{World, Client, Surface, Submission, Scene}
-use Rattle.vz_rules.specs.{Scene.scene_of, Singly.rising, Singly.going, Walk.walk_of, Walk.too_much}
+use Rattle.vz_rules.specs.{Plan.Plan, Returns.queue_returns, Returns.give_back, Returns.feed, Step.scene_answer, Step.draw_answer}
+use Rattle.vz_rules.specs.World.{World, Client, Scene}
+use Rattle.vz_rules.specs.{Scene.scene_of, Walk.walk_of, Walk.too_much}
 use Rattle.vz_rules.specs.{Settle.round, Settle.rounds, Settle.settle, Reach.naming, Reach.clearing, Reach.collect, Messages.Answer, Messages.says}
 use Rattle.vz_support.specs.{Sending.AreSenders, Supporting.Supported, Supporting.IsSupport}
 use Rattle.vz_support.proofs.Clients_kept.{stays_given as keeps_given}
@@ -34,11 +34,6 @@ stays_like p w u v like h = grind (arith, nat_tests, same_senders p w u v like.c
 
 -- Rounds
 
-pub stays_rising : (p : Plan) (w : World) (s : Submission) (v : Supported) → IsSupport p w v → IsSupport p (rising s w) v
-unfolding rising
-stays_rising p w s v h =
-    stays_like p w (rising s w) v (record { clients = refl; relations = refl; tick = refl; root = refl; over = refl }) h
-
 pub stays_round : (p : Plan) (w : World) (v : Supported) → IsSupport p w v → IsSupport p (round w) v
 unfolding round
 stays_round p w v h = stays_like p w (round w) v (record { clients = refl; relations = refl; tick = refl; root = refl; over = refl }) h
@@ -57,10 +52,6 @@ stays_settled p w v h = stays_rounds (length w.subs) p w v h
 pub stays_named : (p : Plan) (w : World) (v : Supported) → IsSupport p w v → IsSupport p (naming w) v
 unfolding naming
 stays_named p w v h = stays_like p w (naming w) v (record { clients = refl; relations = refl; tick = refl; root = refl; over = refl }) h
-
-pub stays_going : (p : Plan) (w : World) (c : Surface) (v : Supported) → IsSupport p w v → IsSupport p (going c w) v
-unfolding going
-stays_going p w c v h = stays_like p w (going c w) v (record { clients = refl; relations = refl; tick = refl; root = refl; over = refl }) h
 
 pub stays_cleared : (p : Plan) (w : World) (v : Supported) → IsSupport p w v → IsSupport p (clearing w) v
 unfolding clearing
@@ -89,13 +80,6 @@ stays_fed p w presented v h =
 like_either : (t : Bool) (a b : Answer) (w : World) → IsLike w a.world → IsLike w b.world → IsLike w (cond t a b).world
 like_either true a b w e f = e
 like_either false a b w e f = f
-
-like_done : (w : World) → IsLike w (done_answer w).world
-unfolding done_answer
-like_done w = grind (arith, nat_tests, like_either (is_some w.in_flight))
-
-pub stays_done : (p : Plan) (w : World) (v : Supported) → IsSupport p w v → IsSupport p (done_answer w).world v
-stays_done p w v h = stays_like p w (done_answer w).world v (like_done w) h
 
 like_scene : (p : Plan) (w : World) (scene : Scene) → IsLike w (scene_answer p w scene).world
 unfolding scene_answer

@@ -1,23 +1,21 @@
 //! Laws of what is kept for clients: each is the contract of a function with an empty body.
-ghost use Rattle.std.specs.Prelude.{ℕ, ◌≤◌, List, length, ◌≡◌, not, ◌&&◌, Some, None, false, true, IsTrue, IsFalse, map};
+ghost use Rattle.std.specs.Prelude.{ℕ, ◌≤◌, List, length, ◌≡◌, not, Some, None, false, map};
 ghost use Rattle.std.specs.List.{list_any, list_all};
 ghost use Rattle.vz_ids.specs.declared.Sub.{Sub};
-ghost use Rattle.vz_ids.specs.declared.FrameSinkId.{FrameSinkId};
 ghost use Rattle.vz_ids.specs.declared.LocalSurfaceId.{LocalSurfaceId};
-ghost use Rattle.vz_ids.specs.Ids.{same_sink};
 ghost use Rattle.vz_pixels.specs.Block.{Block};
 ghost use Rattle.vz_frame.specs.Frame.{first_of};
 ghost use Rattle.vz_frame.specs.declared.frame.CompositorFrame.{CompositorFrame};
 ghost use Rattle.vz_frame.specs.declared.message.Message.TheVariants.{Close};
 ghost use Rattle.vz_rules.specs.Plan.{Plan};
 ghost use Rattle.vz_rules.specs.World.{World, Machine, Surface, Submission, Client, opening, client_at, next_message};
-ghost use Rattle.vz_rules.specs.Settle.{round, settle};
-ghost use Rattle.vz_rules.specs.Reach.{naming, clearing, collect};
+ghost use Rattle.vz_rules.specs.Settle.{round};
+ghost use Rattle.vz_rules.specs.Reach.{naming};
 ghost use Rattle.vz_rules.specs.Returns.{give_back, feed};
 ghost use Rattle.vz_rules.specs.Singly.{rising, going};
 ghost use Rattle.vz_rules.specs.Step.{draw_answer, done_answer, begin_answer};
 ghost use Rattle.vz_rules.specs.Kept.{KeepsPlan, KeepsClients, AreRising};
-ghost use Rattle.vz_rules.specs.Messages.{accepted, taking, reclaim, answer_tick, is_unknown, blocks_of, in_use, message_answer, upload_answer, hierarchy_answer, hierarchy_refusal, root_answer, await_answer};
+ghost use Rattle.vz_rules.specs.Messages.{accepted, taking, reclaim, answer_tick, is_unknown, blocks_of, in_use, message_answer, upload_answer};
 ghost use Rattle.vz_machine.specs.Stepping.{HasClient};
 ghost use Rattle.vz_support.specs.Supporting.{Supported, IsSupport};
 ghost use Rattle.vz_support.specs.Sent.{Sender, opened, sender_at, taking_one, closing, answered_by, storing_block, knows, blocks_in};
@@ -28,42 +26,6 @@ ghost use Rattle.vz_support.specs.Sending.{AreSenders};
 pub fn clients_are_known()
     ensures { (m : Machine) (c : ℕ) (v : Supported) → KeepsPlan m.plan m.world
         → IsSupport m.plan m.world v → HasClient m c → (1 ≤ c) × (c ≤ length v.clients) }
-{}
-
-/// What is kept for clients does not change when a submission becomes active, nor through a round
-/// or all rounds of a step.
-pub fn support_stays_in_rounds()
-    ensures rising { (p : Plan) (w : World) (s : Submission) (v : Supported)
-        → IsSupport p w v → IsSupport p (rising s w) v }
-    ensures round { (p : Plan) (w : World) (v : Supported)
-        → IsSupport p w v → IsSupport p (round w) v }
-    ensures settle { (p : Plan) (w : World) (v : Supported)
-        → IsSupport p w v → IsSupport p (settle w) v }
-{}
-
-/// It does not change when surfaces are named or destroyed.
-pub fn support_stays_in_collections()
-    ensures naming { (p : Plan) (w : World) (v : Supported)
-        → IsSupport p w v → IsSupport p (naming w) v }
-    ensures going { (p : Plan) (w : World) (c : Surface) (v : Supported)
-        → IsSupport p w v → IsSupport p (going c w) v }
-    ensures clearing { (p : Plan) (w : World) (v : Supported)
-        → IsSupport p w v → IsSupport p (clearing w) v }
-    ensures collect { (p : Plan) (w : World) (v : Supported)
-        → IsSupport p w v → IsSupport p (collect w) v }
-{}
-
-/// It does not change when resources are returned, feedback is given, or a frame is drawn or
-/// done.
-pub fn support_stays_at_ends()
-    ensures returns { (p : Plan) (w : World) (v : Supported)
-        → IsSupport p w v → IsSupport p (give_back w) v }
-    ensures feedback { (p : Plan) (w : World) (presented : List Sub) (v : Supported)
-        → IsSupport p w v → IsSupport p (feed presented w) v }
-    ensures draw { (p : Plan) (w : World) (v : Supported)
-        → IsSupport p w v → IsSupport p (draw_answer p w).world v }
-    ensures done { (p : Plan) (w : World) (v : Supported)
-        → IsSupport p w v → IsSupport p (done_answer w).world v }
 {}
 
 /// Before the first message of any file is taken, what is kept of clients is that of the opening

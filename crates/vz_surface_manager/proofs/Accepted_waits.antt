@@ -8,14 +8,15 @@ use Rattle.vz_frame.specs.declared.frame.CompositorFrame.{CompositorFrame}
 use Rattle.vz_rules.specs.{declared.entry.State.TheVariants.Dropped, Settle.is_met, Settle.ready, Kept.KeepsAlways, Kept.is_by}
 use Rattle.vz_rules.specs.World.{World, Client, Submission, is_waiting, is_on, sub_of}
 use Rattle.vz_rules.specs.Messages.{new_submission, accepted, id_of, took, submitting}
-use Rattle.vz_rules.proofs.Members.{any_none, any_map, contains_at, contains_map, filter_at, filter_none, when_same}
+use Rattle.vz_rules.proofs.Members.{any_none, any_map, contains_at, contains_map, filter_at, filter_none}
 use Rattle.vz_rules.proofs.{Counts.count_at, Facts.or_false as or_none}
 use Rattle.vz_deps.specs.{Tracking.Blocked, Tracking.is_blocked, Blocking.dependencies_of, Blocking.blocked_of}
 use Rattle.vz_deadlines.specs.{declared.due.Due.Due, Timing.waits, Timing.due_of}
 use Rattle.vz_surface_manager.specs.declared.arrival.Arrival.{Arrival}
 use Rattle.vz_surface_manager.specs.{Waits.Waits, Waits.AreWaiting, Waits.Tells, Waits.is_among, Left_out.blocked_without, Left_out.due_without}
 use Rattle.vz_surface_manager.proofs.Waits_on.{Stand, comes, stays, stand_of, waiting_from, stand_alike, ready_comes}
-use Rattle.vz_surface_manager.proofs.Waits_kept.{ClosesNone, met_by, met_is, met_alike, taken_closes}
+use Rattle.vz_surface_manager.proofs.Waits_kept.{met_by, met_is, met_alike}
+use Rattle.vz_surface_manager.proofs.Quiet_changes.{closes_submitting}
 use Rattle.vz_surface_manager.proofs.{Dropped_waits.dropping, Dropped_waits.drops_leave, Dropped_waits.stand_dropped, Closed_waits.none_comes}
 
 none_is_less : (n : ℕ) → false ≡ (suc n == 0)
@@ -43,9 +44,6 @@ module _ (w : World) (c : Client) (local : LocalSurfaceId) (frame : CompositorFr
   abbrev k : Client → Client
   k x = cond (x.number == c.number) (took (submitting w frame x)) x
 
-  submits : ClosesNone k
-  submits = grind (arith, nat_tests, taken_closes (submitting w frame) c.number, when_same)
-
   subs_then : (accepted w c local frame).world.subs ≡ map (dropping drops) w.subs ++ new ∷ []
   unfolding accepted
   subs_then = refl
@@ -69,7 +67,7 @@ module _ (w : World) (c : Client) (local : LocalSurfaceId) (frame : CompositorFr
   met_then : is_met (accepted w c local frame).world ≡ is_met w
   met_then =
       met_is (accepted w c local frame).world
-      ∙ ((λ i. met_by (subs_then i) (clients_then i)) ∙ (meets_none (map k w.clients) ∙ (met_alike (dropping drops) k w.subs w.clients (drops_leave drops) submits ∙ sym (met_is w))))
+      ∙ ((λ i. met_by (subs_then i) (clients_then i)) ∙ (meets_none (map k w.clients) ∙ (met_alike (dropping drops) k w.subs w.clients (drops_leave drops) (closes_submitting w frame c.number) ∙ sym (met_is w))))
 
   waits_new : is_waiting new ≡ true
   unfolding new_submission

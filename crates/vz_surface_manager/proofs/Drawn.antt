@@ -1,12 +1,12 @@
 -- A drawing: what is answered, and what hangs on surfaces stands for the state that it leaves.
-use Rattle.std.proofs.Common.{◌≡◌, ◌&&◌, Bool, true, false, Option, Some, None}
+use Rattle.std.proofs.Common.{◌≡◌, Bool, true, false, Option, Some, None}
 use Rattle.std.proofs.Common.{is_some, List, refl, ap, sym, ◌∙◌, subst, arith, cond, Contains}
 use Rattle.std.specs.{Option.option_map, Prelude.IfSome}
-use Rattle.vz_geom.specs.{declared.Size.Size, Rectangle.Rectangle, Rectangle.is_empty_rect}
-use Rattle.vz_ids.specs.{declared.SurfaceId.SurfaceId, declared.Sub.Sub}
+use Rattle.vz_geom.specs.{declared.Size.Size, Rectangle.Rectangle}
+use Rattle.vz_ids.specs.{declared.SurfaceId.SurfaceId}
 use Rattle.vz_rules.specs.declared.entry.Reply.TheVariants as reply
 use Rattle.vz_rules.specs.{Plan.Plan, Walk.walk_of, Walk.too_much, Messages.Answer, Messages.says, Kept.IsWhole}
-use Rattle.vz_rules.specs.World.{World, Scene, Submission, Aggregation, active_frames, frame_on}
+use Rattle.vz_rules.specs.World.{World, Scene, Submission, active_frames, frame_on}
 use Rattle.vz_rules.specs.{Scene.scene_of, Damage.aggregation_of, Damage.drawn_damage, Step.draw_answer, Step.scene_answer, Step.accepted_frames}
 use Rattle.vz_rules.proofs.Members.{contains_map}
 use Rattle.vz_surface_manager.specs.{Kept_surfaces.AreKept, Flown.Flown, Flown.AreFlown, Flown.subs_of, Live.Live, Live.AreLive, Live.AreWhole}
@@ -20,7 +20,7 @@ use Rattle.vz_damage.specs.{Told.Damaged, Told.told_on, Told.with_seen, Measured
 use Rattle.vz_damage.specs.Accepted.{scene_from}
 use Rattle.vz_damage.proofs.Entering.{measured_is_drawn}
 use Rattle.vz_surface_manager.specs.{Told_damage.AreTold, Allowed.drawn_reply, Rosters.IsRosterOf, Rosters.flown_from}
-use Rattle.vz_surface_manager.proofs.{Read.tells_last, Quiet.live_by}
+use Rattle.vz_surface_manager.proofs.{Read.tells_last, Quiet.live_by, Quiet_changes.drawn_as}
 use Rattle.vz_returns.specs.Lent.{Lent, AreLent, NoneReleased}
 use Rattle.vz_returns.proofs.Lent_kept.{lent_alike, lent_ordered, lent_none_drawn}
 use Rattle.vz_returns.proofs.Owed_kept as owed
@@ -48,24 +48,6 @@ free_answer p w o e f = grind (arith, nat_tests)
 heavy_answer : (p : Plan) (w : World) (s : Scene) → too_much (walk_of p.size s) ≡ true → scene_answer p w s ≡ says reply.TooMuch w
 unfolding scene_answer
 heavy_answer p w s e = grind (arith, nat_tests)
-
--- What a drawing leaves
-
-one_of : (P : World → Type 0) (t : Bool) (a b : Answer) → P a.world → P b.world → P (cond t a b).world
-one_of _ t a b first other = grind (arith, nat_tests)
-
-drawn_as : (P : World → Type 0) (p : Plan) (w : World)
-    → ((last : Option Aggregation) (flight : Option (List Sub)) → P (record w { last = last; in_flight = flight }))
-    → P (draw_answer p w).world
-unfolding draw_answer scene_answer
-drawn_as P p w h = one_of P (is_some w.in_flight) _ _ (h w.last w.in_flight) (seen (scene_of w))
-  where
-    seen : (o : Option Scene) → P (by_scene p w o).world
-    seen None = h w.last w.in_flight
-    seen (Some s) =
-        one_of P (too_much (walk_of p.size s)) _ _ (h w.last w.in_flight)
-        (one_of P (is_some w.last && is_empty_rect (drawn_damage p.size w.last (accepted_frames w) s.root (walk_of p.size s))) _ _
-        (h _ w.in_flight) (h _ _))
 
 frames_stored : (w : World) → AreWhole w.subs → KeepsFrames (stored_of w)
 unfolding stored_of

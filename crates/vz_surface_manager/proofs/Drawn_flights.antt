@@ -1,5 +1,5 @@
 -- A drawing: the drawn frame is what the walk over the store goes into.
-use Rattle.std.proofs.Common.{◌≡◌, Bool, true, false, ◌&&◌, Option, Some, None, is_some, List, filter, refl, ap, sym, ◌∙◌, cond, Contains, arith}
+use Rattle.std.proofs.Common.{◌≡◌, Bool, true, false, ◌&&◌, Option, Some, is_some, List, filter, refl, ap, sym, ◌∙◌, cond, Contains, arith}
 use Rattle.std.proofs.Common.{subst}
 use Rattle.std.specs.List.{list_any}
 use Rattle.vz_geom.specs.{declared.Size.Size, Rectangle.Rectangle, Rectangle.is_empty_rect}
@@ -7,8 +7,8 @@ use Rattle.vz_ids.specs.{declared.SurfaceId.SurfaceId, declared.Sub.Sub}
 use Rattle.vz_rules.specs.declared.entry.Reply.TheVariants as reply
 use Rattle.vz_rules.specs.{Plan.Plan, Messages.Answer, Messages.says}
 use Rattle.vz_rules.specs.World.{World, Scene, FrameData, Submission, active_frames, is_active, sub_of}
-use Rattle.vz_rules.specs.{Scene.scene_of, Damage.aggregation_of, Damage.drawn_damage, Step.scene_answer, Step.draw_answer, Step.accepted_frames}
-use Rattle.vz_rules.specs.Walk.{Visit, walk_of, walked_subs, too_much, goes_into}
+use Rattle.vz_rules.specs.{Damage.aggregation_of, Damage.drawn_damage, Step.scene_answer, Step.draw_answer, Step.accepted_frames}
+use Rattle.vz_rules.specs.Walk.{Visit, walk_of, walked_subs, goes_into}
 use Rattle.vz_rules.proofs.Members.{contains_map, filter_at}
 use Rattle.vz_surfaces.specs.{Stored.stored_of, Reading.seen_frames}
 use Rattle.vz_damage.specs.Accepted.{scene_from}
@@ -102,34 +102,6 @@ module _ (p : Plan) (w : World) (root : SurfaceId) (k : Draws p w root) where
 
 -- Where nothing is drawn
 
-busy_by : (t : Bool) (a : Answer) (w : World) (f : Option (List Flown)) → t ≡ true → AreFlown w f
-    → AreFlown (cond t (says reply.Busy w) a).world f
-busy_by t a w f busy h = grind (arith, nat_tests)
-
-pub flown_busy : (p : Plan) (w : World) (f : Option (List Flown)) → is_some w.in_flight ≡ true → AreFlown w f
-    → AreFlown (draw_answer p w).world f
-unfolding draw_answer
-flown_busy p w f busy h = busy_by (is_some w.in_flight) _ w f busy h
-
 either : (t : Bool) (a : Answer) (w : World) (f : Option (List Flown)) → AreFlown w f → AreFlown a.world f
     → AreFlown (cond t (says reply.Busy w) a).world f
 either t a w f h then = grind (arith, nat_tests)
-
-pub flown_nowhere : (p : Plan) (w : World) (f : Option (List Flown)) → scene_of w ≡ None → AreFlown w f
-    → AreFlown (draw_answer p w).world f
-unfolding draw_answer
-flown_nowhere p w f none h = grind (arith, nat_tests, either (is_some w.in_flight))
-
-beyond : (t : Bool) (a : Answer) (w : World) (f : Option (List Flown)) → t ≡ true → AreFlown w f
-    → AreFlown (cond t (says reply.TooMuch w) a).world f
-beyond t a w f much h = grind (arith, nat_tests)
-
-too_much_by : (p : Plan) (w : World) (f : Option (List Flown)) (s : Scene) → too_much (walk_of p.size s) ≡ true → AreFlown w f
-    → AreFlown (scene_answer p w s).world f
-unfolding scene_answer
-too_much_by p w f s much h = beyond (too_much (walk_of p.size s)) _ w f much h
-
-pub flown_too_much : (p : Plan) (w : World) (f : Option (List Flown)) (s : Scene) → scene_of w ≡ Some s
-    → too_much (walk_of p.size s) ≡ true → AreFlown w f → AreFlown (draw_answer p w).world f
-unfolding draw_answer
-flown_too_much p w f s seen much h = grind (arith, nat_tests, either (is_some w.in_flight), too_much_by p w f s much h)

@@ -12,7 +12,9 @@ use Rattle.vz_deadlines.specs.{declared.due.Due.Due, Timing.due_of}
 use Rattle.vz_surface_manager.specs.{Waits.Waits, Waits.AreWaiting, Waits.waiting_on, Left_out.blocked_without, Left_out.due_without}
 use Rattle.vz_surface_manager.proofs.Filtered.{filter_alike, filter_twice, filter_mapped, filter_changed}
 use Rattle.vz_surface_manager.proofs.Waits_on.{Stand, stays, stand_of, waiting_from, stand_alike}
-use Rattle.vz_surface_manager.proofs.Waits_kept.{LeavesActive, met_by, met_is, met_alike, map_same}
+use Rattle.vz_surface_manager.proofs.Quiet_changes.{closes_plain}
+use Rattle.std.proofs.lemmas.List.{map-id}
+use Rattle.vz_surface_manager.proofs.Waits_kept.{LeavesActive, met_by, met_is, met_alike}
 
 pub blocked_less : (met : SurfaceId → Bool) (p q : Submission → Bool) (gone : List Sub) (subs : List Submission)
     → ((s : Submission) → Contains subs s → (p s && not (has_sub gone (sub_of s))) ≡ q s) → blocked_without gone (map (blocked_of met) (filter p subs)) ≡ map (blocked_of met) (filter q subs)
@@ -108,5 +110,5 @@ waits_gone w c old new sub h r told e f =
     let stand' : Stand (is_met w) w.tick (map (dropping t) w.subs) new.blocked new.due =
     record { blocked = e ∙ (ap (λ o. blocked_without (option_to_list o) old.blocked) told ∙ stand.blocked); due = f ∙ (ap (λ o. due_without (option_to_list o) old.due) told ∙ stand.due) } in
     let met : is_met v ≡ is_met w =
-    met_is v ∙ (ap (met_by (map (dropping t) w.subs)) (sym (map_same w.clients)) ∙ (met_alike (dropping t) (λ x. x) w.subs w.clients (drops_leave t) (record { closed = λ x. refl; sink = λ x. refl }) ∙ sym (met_is w))) in
+    met_is v ∙ (ap (met_by (map (dropping t) w.subs)) (sym (map-id w.clients)) ∙ (met_alike (dropping t) (λ x. x) w.subs w.clients (drops_leave t) closes_plain ∙ sym (met_is w))) in
     waiting_from v new (stand_alike (is_met w) (is_met v) w.tick v.tick (map (dropping t) w.subs) v.subs new.blocked new.due met refl refl stand')

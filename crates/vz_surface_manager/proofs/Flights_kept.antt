@@ -1,20 +1,18 @@
 -- The drawn frame stays where what is in flight and what was accepted does.
-use Rattle.std.proofs.Common.{◌≡◌, ℕ, Bool, true, ◌&&◌, ◌||◌, Option, Some, None, List, [], ◌∷◌, map, refl, ap, sym, ◌∙◌, cond, arith}
+use Rattle.std.proofs.Common.{◌≡◌, Bool, true, ◌&&◌, ◌||◌, Option, Some, None, List, [], ◌∷◌, map, refl, ap, sym, ◌∙◌, cond, arith}
 use Rattle.std.proofs.Common.{Contains, subst}
 use Rattle.std.proofs.Common.{is_some}
 use Rattle.std.specs.{Option.option_map, List.list_any}
-use Rattle.vz_ids.specs.{declared.FrameSinkId.FrameSinkId, declared.LocalSurfaceId.LocalSurfaceId, declared.Sub.Sub, Ids.same_sub}
-use Rattle.vz_pixels.specs.Block.{Block}
-use Rattle.vz_frame.specs.{declared.frame.CompositorFrame.CompositorFrame, declared.message.Message.TheVariants.Close}
-use Rattle.vz_rules.specs.{declared.entry.Event.TheVariants.Over, declared.entry.Refusal.Refusal, Singly.rising, Singly.going, Singly.as_one_rises}
+use Rattle.vz_ids.specs.{declared.LocalSurfaceId.LocalSurfaceId, declared.Sub.Sub, Ids.same_sub}
+use Rattle.vz_frame.specs.{declared.frame.CompositorFrame.CompositorFrame}
+use Rattle.vz_rules.specs.{Singly.rising, Singly.going, Singly.as_one_rises}
 use Rattle.vz_rules.specs.declared.entry.State.TheVariants.{Active, Past, Dropped}
-use Rattle.vz_rules.specs.{Plan.Plan, Returns.give_back, Returns.feed, Returns.mark_fed, Step.answer_to, Step.begin_answer, Step.done_answer}
+use Rattle.vz_rules.specs.{Plan.Plan, Returns.feed, Returns.mark_fed, Step.done_answer}
 use Rattle.vz_rules.specs.World.{World, Client, Surface, Submission, FrameData, opening, is_waiting, is_active, is_on, is_in_flight}
 use Rattle.vz_rules.specs.World.{has_sub, sub_of}
-use Rattle.vz_rules.specs.Reach.{naming, drop_on}
+use Rattle.vz_rules.specs.Reach.{drop_on}
 use Rattle.vz_rules.specs.declared.entry.Reply.TheVariants as reply
-use Rattle.vz_rules.specs.Messages.{Answer, says, accepted, new_submission, replace_on, taking, unless_refused, in_use, upload_answer}
-use Rattle.vz_rules.specs.Messages.{hierarchy_refusal, hierarchy_answer, root_answer, await_answer, message_answer}
+use Rattle.vz_rules.specs.Messages.{says, accepted, new_submission, replace_on}
 use Rattle.vz_rules.proofs.Members.{map_contains, push_contains}
 use Rattle.vz_surface_manager.specs.{Flown.Flown, Flown.AreFlown, Flown.subs_of, Flown.flies, Rosters.IsRosterOf}
 use Rattle.std.proofs.lemmas.Bool.Decides.{nat_tests}
@@ -43,18 +41,10 @@ flown_changed : (w v : World) (f : Option (List Flown)) (g : Submission → Subm
 flown_changed w v f g e changed same h =
     flown_kept w v f e (λ s c. (g s, subst (λ (l : List Submission). Contains l (g s)) (sym changed) (map_contains g w.subs s c), same s)) h
 
-flown_same : (w v : World) (f : Option (List Flown)) → v.in_flight ≡ w.in_flight → v.subs ≡ w.subs → AreFlown w f → AreFlown v f
+pub flown_same : (w v : World) (f : Option (List Flown)) → v.in_flight ≡ w.in_flight → v.subs ≡ w.subs → AreFlown w f → AreFlown v f
 flown_same w v f e same h = grind (arith, nat_tests, flown_kept w v f e)
 
 -- What follows a step
-
-pub flown_named : (w : World) (f : Option (List Flown)) → AreFlown w f → AreFlown (naming w) f
-unfolding naming
-flown_named w f h = flown_same w _ f refl refl h
-
-pub flown_given : (w : World) (f : Option (List Flown)) → AreFlown w f → AreFlown (give_back w) f
-unfolding give_back
-flown_given w f h = flown_same w _ f refl refl h
 
 pub flown_fed : (presented : List Sub) (w : World) (f : Option (List Flown)) → AreFlown w f → AreFlown (feed presented w) f
 unfolding feed
@@ -79,18 +69,7 @@ flown_gone c w f h =
     flown_changed w _ f (drop_on (c ∷ [])) refl refl
     (λ s. dropped_by ((is_waiting s || is_active s) && list_any (λ (d : Surface). is_on d.id s) (c ∷ [])) s) h
 
-pub flown_begun : (p : Plan) (w : World) (f : Option (List Flown)) → AreFlown w f → AreFlown (begin_answer p w).world f
-unfolding begin_answer
-flown_begun p w f h = flown_same w _ f refl refl h
-
-pub flown_over : (p : Plan) (w : World) (f : Option (List Flown)) → AreFlown w f → AreFlown (answer_to p w Over).world f
-unfolding answer_to
-flown_over p w f h = flown_same w _ f refl refl h
-
 -- Messages
-
-pub flown_taking : (g : Client → Client) (c : Client) (w : World) (f : Option (List Flown)) → AreFlown w f → AreFlown (taking g c w) f
-flown_taking g c w f h = flown_same w _ f refl refl h
 
 pub flown_accepted : (w : World) (c : Client) (local : LocalSurfaceId) (frame : CompositorFrame) (f : Option (List Flown)) → AreFlown w f
     → AreFlown (accepted w c local frame).world f
@@ -103,44 +82,6 @@ flown_accepted w c local frame f h =
       push_contains (map change w.subs) (new_submission w c local frame) (change s) (map_contains change w.subs s there),
       dropped_by (is_waiting s && is_on (record { sink = c.sink; local = local }) s) s,
     )) h
-
--- by the way that is taken
-either : (w : World) (f : Option (List Flown)) (t : Bool) (a b : Answer) → AreFlown a.world f → AreFlown b.world f
-    → AreFlown (cond t a b).world f
-either w f t a b h k = grind (arith, nat_tests)
-
-refused_or : (w : World) (f : Option (List Flown)) (c : Client) (o : Option Refusal) (a : Answer) → AreFlown w f → AreFlown a.world f
-    → AreFlown (unless_refused w c o a).world f
-refused_or w f c None a h k = k
-refused_or w f c (Some r) a h k = flown_taking (λ x. x) c w f h
-
-pub flown_uploaded : (w : World) (c : Client) (id : ℕ) (block : Block) (f : Option (List Flown)) → AreFlown w f
-    → AreFlown (upload_answer w c id block).world f
-unfolding upload_answer
-flown_uploaded w c id block f h = grind (arith, nat_tests, either w f (in_use c.resources id), flown_taking, flown_same w)
-
-pub flown_related : (w : World) (c : Client) (parent child : FrameSinkId) (f : Option (List Flown)) → AreFlown w f
-    → AreFlown (hierarchy_answer w c parent child).world f
-unfolding hierarchy_answer
-flown_related w c parent child f h = grind (arith, nat_tests, refused_or w f c (hierarchy_refusal w c parent child), flown_same w)
-
-pub flown_rooted : (w : World) (c : Client) (local : LocalSurfaceId) (f : Option (List Flown)) → AreFlown w f
-    → AreFlown (root_answer w c local).world f
-unfolding root_answer
-flown_rooted w c local f h = grind (arith, nat_tests, either w f, flown_same w, flown_taking)
-
-begun_by : (f : Option (List Flown)) (o : Option ℕ) (g : ℕ → Answer) (b : Answer) → ((n : ℕ) → AreFlown (g n).world f)
-    → AreFlown b.world f → AreFlown (elim o as (λ o. Answer) [ Some n ↦ g n | None ↦ b ]).world f
-begun_by f o g b h k = grind (arith, nat_tests)
-
-pub flown_awaited : (w : World) (c : Client) (f : Option (List Flown)) → AreFlown w f → AreFlown (await_answer w c).world f
-unfolding await_answer
-flown_awaited w c f h =
-    begun_by f c.delivered _ _ (λ n. flown_same w _ f refl refl h) (either w f w.over _ _ (flown_taking (λ x. x) c w f h) h)
-
-pub flown_closed : (w : World) (c : Client) (f : Option (List Flown)) → AreFlown w f → AreFlown (message_answer w c Close).world f
-unfolding message_answer
-flown_closed w c f h = flown_same w _ f refl refl h
 
 -- No drawn frame
 

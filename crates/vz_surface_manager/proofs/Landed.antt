@@ -1,12 +1,12 @@
 -- The drawn frame is done: what hangs on surfaces stands for the state then.
-use Rattle.std.proofs.Common.{◌≡◌, ◌++◌, Some, None, is_some, Option, List, [], refl, sym, ◌∙◌, subst, arith, cond, map, pos}
+use Rattle.std.proofs.Common.{◌≡◌, ◌++◌, Some, None, is_some, Option, List, [], refl, sym, ◌∙◌, subst, arith, cond, pos}
 use Rattle.vz_ids.specs.declared.Sub.{Sub}
 use Rattle.vz_rules.specs.declared.entry.Event.TheVariants as event
 use Rattle.vz_rules.specs.declared.entry.Reply.TheVariants as reply
 use Rattle.vz_rules.specs.{declared.entry.Fed.Fed, World.World, Messages.says, Ends.landed, Ends.presenting}
 use Rattle.vz_rules.specs.{Step.answer_to, Step.done_answer, Returns.give_back, Returns.feed, Returns.fed_in, Returns.mark_fed, Kept.KeepsAlways}
 use Rattle.vz_rules.proofs.Kept_steps.{always_answer}
-use Rattle.vz_surface_manager.proofs.{Sets_kept.stays_same, Sets_kept.stays_given, Stored.told_stays, Stored.last_given, Stored.last_fed}
+use Rattle.vz_surface_manager.proofs.{Sets_kept.stays_same, Sets_kept.kept_like, Quiet_changes.quiet_given, Stored.told_stays}
 use Rattle.vz_surface_manager.proofs.{Fed_kept.stays_fed, Roster_in_flight.roster_feeds, Roster_in_flight.roster_fed, Roster_in_flight.roster_feed}
 use Rattle.vz_surfaces.specs.Stored.{stored_of}
 use Rattle.vz_surfaces.proofs.Stores_kept as stored
@@ -32,11 +32,6 @@ unfolding answer_to done_answer
 always_landed w drawn e h =
     done_by w w.in_flight drawn e (always_answer (record { files = []; size = record { w = pos 1; h = pos 1 } }) w event.Done h)
 
-presented_subs : (drawn : List Sub) (w : World)
-    → (presenting drawn (landed w)).world.subs ≡ map (mark_fed (give_back (landed w)) drawn) w.subs
-unfolding feed give_back
-presented_subs drawn w = refl
-
 stored_landed : (w : World) → stored_of (landed w) ≡ stored_of w
 unfolding stored_of
 stored_landed w = refl
@@ -44,23 +39,20 @@ stored_landed w = refl
 stored_presented : (drawn : List Sub) (w : World) → stored_of (presenting drawn (landed w)).world ≡ stored_of w
 stored_presented drawn w = stored.stays_fed drawn (give_back (landed w)) ∙ (stored.stays_given (landed w) ∙ stored_landed w)
 
-none_presented : (drawn : List Sub) (w : World) → (presenting drawn (landed w)).world.in_flight ≡ None
-unfolding feed give_back
-none_presented drawn w = refl
-
 pub live_presented : (w : World) (drawn : List Sub) (v : Live) (lent : List Lent) (owed : OwedAndRoom) (flight : Option (List Flown))
     → flight ≡ None → AreLive w None v
     → AreLent (give_back (landed w)) lent → AreOwed (presenting drawn (landed w)).world owed.owed
     → AreLive (presenting drawn (landed w)).world None (record v { lent = lent; owed = owed; flight = flight })
+unfolding feed give_back
 live_presented w drawn v lent owed flight none h is_lent is_owed =
     let given : World = give_back (landed w) in
     let done : World = (presenting drawn (landed w)).world in
-    live_from w done None None v _ (mark_fed given drawn) (presented_subs drawn w) (feeds_only given drawn)
+    live_from w done None None v _ (mark_fed given drawn) refl (feeds_only given drawn)
     (h.store ∙ sym (stored_presented drawn w)) (lent_fed drawn given lent is_lent) is_owed
-    (stays_fed drawn given None v.kept (stays_given (landed w) None v.kept
+    (stays_fed drawn given None v.kept (kept_like (landed w) _ None v.kept (quiet_given (landed w))
     (stays_same w (landed w) None v.kept refl refl refl (λ n. refl) h.kept)))
-    (told_stays w done v.damaged tells_exists (stored_presented drawn w) (last_fed drawn given ∙ last_given (landed w)) h.told)
-    (subst (AreFlown done) (sym none) (flown_none done (none_presented drawn w))) refl (omega arith) h
+    (told_stays w done v.damaged tells_exists (stored_presented drawn w) refl h.told)
+    (subst (AreFlown done) (sym none) (flown_none done refl)) refl (omega arith) h
 
 module _ (w : World) (drawn : List Sub) (v : Live) (h : IsFlying w drawn v) (flown roster : List Flown) (e : v.flight ≡ Some flown)
     (is : IsRosterOf flown roster) where

@@ -32,8 +32,8 @@ pub mod Roster_in_flight
 mod Wanted_places
 mod Found
 mod Live_kept
-mod Quiet
-mod Kept_quiet
+pub mod Quiet_changes
+pub mod Quiet
 mod Risen
 mod Gone
 mod Given
@@ -49,12 +49,12 @@ pub mod Asked
 pub mod Drawn
 mod Filtered
 pub mod Waits_on
-mod Waits_kept
+pub mod Waits_kept
 mod Dropped_waits
 mod More_met
 mod Closed_waits
 mod Ticked_waits
-mod Accepted_waits
+pub mod Accepted_waits
 mod Without
 mod Names_differ
 mod One_round

@@ -1,5 +1,5 @@
 -- What is temporary stays so where what is named now is named.
-use Rattle.std.proofs.Common.{◌≡◌, ◌+◌, Bool, true, false, not, ◌&&◌, ◌||◌, ◌⊎◌, Option, map, refl, ap, sym, ◌∙◌, cond, Contains, nat_lt, arith}
+use Rattle.std.proofs.Common.{◌≡◌, ◌+◌, Bool, true, false, not, ◌&&◌, ◌||◌, Option, map, refl, ap, sym, ◌∙◌, cond, Contains, nat_lt, arith}
 use Rattle.vz_base.specs.declared.limits.TheConstants.{TEMPORARY_TICKS}
 use Rattle.vz_ids.specs.{declared.SurfaceId.SurfaceId, Ids.same_surface}
 use Rattle.vz_rules.specs.{World.World, World.Surface, Reach.is_named_now, Reach.has_closed, Reach.name_one, Reach.naming, Kept.stands_in}
@@ -73,9 +73,6 @@ module _ (w : World) (but : Option SurfaceId) (r : Referring) (h : AreKept w but
   known_named t m =
       let k = h.known t m in
       (name_one w k.0, goes_in k.0 k.1, one_id (is_new k.0) k.0 ∙ k.2, k.3 ∙ ap (λ n. n + TEMPORARY_TICKS) (sym (one_born (is_new k.0) k.0)))
-
-  abbrev Noted : Surface → Type 0
-  Noted c = (c.named ≡ true) ⊎ (c.destroyed ≡ true) ⊎ (is_one but c.id ≡ true)
 
   noted_named : AreNoted (naming w) but
   unfolding naming

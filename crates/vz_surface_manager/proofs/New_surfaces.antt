@@ -15,7 +15,7 @@ use Rattle.vz_refs.specs.Referring.{Referring}
 use Rattle.vz_refs.specs.Meaning.{references_of}
 use Rattle.vz_surface_manager.specs.Kept_surfaces.{lasts, is_one, has_kept, names_it, AreNoted, IsKeptFor, AreKept}
 use Rattle.vz_surface_manager.proofs.Accepted_kept.{same_named, stands_active, replaced_state, replaced_same, frames_accepted}
-use Rattle.vz_surface_manager.proofs.{Sets_kept.lasts_by, Sets_kept.closed_kept, Set_owners.never}
+use Rattle.vz_surface_manager.proofs.{Sets_kept.lasts_by, Quiet_changes.same_closed, Quiet_changes.closes_submitting, Set_owners.never}
 use Rattle.std.proofs.lemmas.Bool.Decides.{nat_tests}
 
 pub raises_none : (a : LocalSurfaceId) → is_raised a a ≡ true → ⊥
@@ -56,7 +56,7 @@ module _ (w : World) (c : Client) (local : LocalSurfaceId) (frame : CompositorFr
 
   closed_after : (q : ℕ) → has_closed after q ≡ has_closed w q
   unfolding accepted
-  closed_after q = grind (arith, nat_tests, closed_kept)
+  closed_after = same_closed _ w after refl (closes_submitting w frame c.number)
 
   tick_after : after.tick ≡ w.tick
   unfolding accepted

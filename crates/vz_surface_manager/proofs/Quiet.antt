@@ -1,15 +1,17 @@
--- Changes of the machine's state at which no submission comes to wait or waits no longer.
-use Rattle.std.proofs.Common.{◌≡◌, ℕ, ◌≤◌, Option, Some, None, List, [], ◌∷◌, map, refl, ap, sym, ◌∙◌, subst, arith, sum_by}
+-- What stands for the surfaces, where no submission comes to wait or waits no longer.
+use Rattle.std.proofs.Common.{◌≡◌, ◌≤◌, Option, List, [], ◌∷◌, map, refl, ap, sym, ◌∙◌, subst, arith, sum_by}
 use Rattle.std.proofs.{lemmas.List.Sums.sum_by-cons, lemmas.Bool.Decides.nat_tests}
-use Rattle.vz_ids.specs.{declared.SurfaceId.SurfaceId, declared.FrameSinkId.FrameSinkId, declared.LocalSurfaceId.LocalSurfaceId, declared.Sub.Sub}
-use Rattle.vz_pixels.specs.Block.{Block}
-use Rattle.vz_rules.specs.{World.World, World.Client, World.Submission, World.is_waiting, Returns.mark_fed}
-use Rattle.vz_rules.specs.Messages.{taking, put_resource, upload_answer, hierarchy_answer, relate, root_answer, id_of, await_answer}
+use Rattle.vz_ids.specs.{declared.SurfaceId.SurfaceId, declared.Sub.Sub}
+use Rattle.vz_rules.specs.{World.World, World.Submission, World.is_waiting, Reach.naming, Returns.feedback_of, Returns.mark_fed}
 use Rattle.vz_rules.proofs.Members.{map_fixed}
-use Rattle.vz_surfaces.specs.Stored.{stored_of}
-use Rattle.vz_returns.specs.{Lent.AreLent, Owed.AreOwed}
+use Rattle.vz_surfaces.specs.Stored.{bare_surface, bare_sub, stored_of}
+use Rattle.vz_surfaces.proofs.{Stores_kept.stays_named, Telling.tells_exists}
+use Rattle.vz_returns.specs.{Lent.Lent, Lent.AreLent, Owed.Owed, Owed.Owes, Owed.AreOwed}
+use Rattle.vz_returns.proofs.Lent_kept.{lent_naming}
+use Rattle.vz_returns.proofs.Owed_kept as owed
 use Rattle.vz_surface_manager.specs.{Kept_surfaces.AreKept, Told_damage.AreTold, Flown.AreFlown, Live.Live, Live.AreLive, Live.AreWhole, Live.wants}
-use Rattle.vz_surface_manager.proofs.Live_kept.{whole_mapped}
+use Rattle.vz_surface_manager.proofs.{Live_kept.whole_mapped, Quiet_changes.IsQuiet, Sets_kept.kept_like, Named_kept.kept_naming}
+use Rattle.vz_surface_manager.proofs.{Stored.told_stays, Flights_kept.flown_same}
 
 -- the submissions may only be fed
 pub record OnlyFeeds (f : Submission → Submission) : Type 0 where
@@ -48,32 +50,29 @@ pub live_by : (w v : World) (b c : Option SurfaceId) (x y : Live) → v.subs ≡
     → y.wanted ≡ x.wanted → x.kept.spare ≤ y.kept.spare → AreLive w b x → AreLive v c y
 live_by w v b c x y subs = live_from w v b c x y (λ s. s) (subs ∙ sym (map_fixed (λ s. s) w.subs (λ s k. refl))) feeds_none
 
--- all stays
-pub live_stays : (w v : World) (b : Option SurfaceId) (x : Live) → v.subs ≡ w.subs → stored_of v ≡ stored_of w → AreLent v x.lent → AreOwed v x.owed.owed
-    → AreKept v b x.kept → AreTold v x.damaged → AreFlown v x.flight → AreLive w b x → AreLive v b x
-live_stays w v b x subs stored lent owed kept told flown h = grind (arith, nat_tests, live_by w v b b x x subs)
+stored_like : (w v : World) → IsQuiet w v → stored_of v ≡ stored_of w
+unfolding stored_of
+stored_like w v q = λ i. record { surfaces = map bare_surface (q.surfaces i); subs = map bare_sub (q.subs i) }
 
--- Messages by cases
+owed_like : (w v : World) (f : Owed) → IsQuiet w v → AreOwed w f → AreOwed v f
+owed_like w v f q h =
+    subst (λ (subs : List Submission). Owes (feedback_of v []) subs f) (sym q.subs)
+    (subst (λ (flying : Option (List Sub)). Owes (feedback_of (record v { in_flight = flying }) []) w.subs f) (sym q.in_flight) h)
 
-pub upload_cases : (P : World → Type 0) (w : World) (c : Client) (id : ℕ) (block : Block) → P (taking (λ x. x) c w)
-    → P (taking (λ x. record x { resources = put_resource id block x.resources }) c w) → P (upload_answer w c id block).world
-unfolding upload_answer
-upload_cases P w c id block kept done = grind (arith, nat_tests)
+-- a quiet change, by which at most what clients lent changes
+pub live_like : (w v : World) (b : Option SurfaceId) (x : Live) (lent : List Lent) → IsQuiet w v → AreLent v lent → AreLive w b x
+    → AreLive v b (record x { lent = lent })
+live_like w v b x lent q is h =
+    let same : stored_of v ≡ stored_of w = stored_like w v q in
+    live_by w v b b x _ q.subs (h.store ∙ sym same) is (owed_like w v x.owed.owed q h.owed) (kept_like w v b x.kept q h.kept)
+    (told_stays w v x.damaged tells_exists same q.last h.told) (flown_same w v x.flight q.in_flight q.subs h.flown) refl (omega arith) h
 
-pub hierarchy_cases : (P : World → Type 0) (w : World) (c : Client) (parent child : FrameSinkId) → P (taking (λ x. x) c w)
-    → P (record (taking (λ x. x) c w) { relations = relate parent child w.relations }) → P (hierarchy_answer w c parent child).world
-unfolding hierarchy_answer
-hierarchy_cases P w c parent child kept done = grind (arith, nat_tests)
-
-pub root_cases : (P : World → Type 0) (w : World) (c : Client) (local : LocalSurfaceId) → P (taking (λ x. x) c w)
-    → P (record (taking (λ x. x) c w) { root = Some (id_of c local) }) → P (root_answer w c local).world
-unfolding root_answer
-root_cases P w c local kept done = grind (arith, nat_tests)
-
-pub await_cases : (P : World → Type 0) (w : World) (c : Client) → P (taking (λ (x : Client). record x { delivered = None }) c w) → P (taking (λ x. x) c w) → P w
-    → P (await_answer w c).world
-unfolding await_answer
-await_cases P w c takes over none = grind (arith, nat_tests)
+pub live_named : (w : World) (b : Option SurfaceId) (x : Live) → AreLive w b x → AreLive (naming w) b x
+unfolding naming
+live_named w b x h =
+    live_by w (naming w) b b x x refl (h.store ∙ sym (stays_named w)) (lent_naming w x.lent h.lent) (owed.stays_named w x.owed.owed h.owed)
+    (kept_naming w b x.kept h.kept) (told_stays w (naming w) x.damaged tells_exists (stays_named w) refl h.told)
+    (flown_same w (naming w) x.flight refl refl h.flown) refl (omega arith) h
 
 -- feedback
 pub feeds_only : (w : World) (presented : List Sub) → OnlyFeeds (mark_fed w presented)

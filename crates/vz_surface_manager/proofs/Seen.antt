@@ -1,12 +1,12 @@
 -- A drawing: the active submission of each surface was seen.
-use Rattle.std.proofs.Common.{◌&&◌, ◌≡◌, Bool, true, Option, Some, None, is_some, List, [], ◌∷◌, refl, cond, arith}
+use Rattle.std.proofs.Common.{◌&&◌, ◌≡◌, Bool, Option, Some, None, is_some, List, [], ◌∷◌, refl, cond, arith}
 use Rattle.std.specs.Option.{option_map}
 use Rattle.vz_geom.specs.Rectangle.{Rectangle, is_empty_rect}
 use Rattle.vz_ids.specs.{declared.SurfaceId.SurfaceId, declared.Sub.Sub}
 use Rattle.vz_rules.specs.declared.entry.Reply.TheVariants as reply
-use Rattle.vz_rules.specs.{Plan.Plan, Scene.scene_of, Damage.aggregation_of, Damage.drawn_damage, Messages.Answer, Messages.says}
+use Rattle.vz_rules.specs.{Plan.Plan, Damage.aggregation_of, Damage.drawn_damage, Messages.Answer, Messages.says}
 use Rattle.vz_rules.specs.World.{World, Scene, FrameData, Aggregation, frame_on}
-use Rattle.vz_rules.specs.{Walk.Visit, Walk.walk_of, Walk.walked_subs, Walk.too_much, Step.scene_answer, Step.draw_answer, Step.accepted_frames}
+use Rattle.vz_rules.specs.{Walk.Visit, Walk.walk_of, Walk.walked_subs, Step.scene_answer, Step.draw_answer, Step.accepted_frames}
 use Rattle.vz_damage.specs.{Told.Told, Told.Damaged, Told.told_on, Told.with_seen, Measured.without_indices, Measured.what_changed}
 use Rattle.vz_damage.specs.Accepted.{scene_from}
 use Rattle.vz_surface_manager.specs.{Told_damage.AreTold, Told_damage.index_of, Told_damage.index_on, Allowed.Draws, Allowed.drawn_reply}
@@ -79,31 +79,6 @@ module _ (p : Plan) (w : World) (root : SurfaceId) (k : Draws p w root) where
 
 -- Where nothing is drawn
 
-busy_by : (t : Bool) (a : Answer) (w : World) (d : Damaged) → t ≡ true → AreTold w d → AreTold (cond t (says reply.Busy w) a).world d
-busy_by t a w d busy told = grind (arith, nat_tests)
-
-pub told_busy : (p : Plan) (w : World) (d : Damaged) → is_some w.in_flight ≡ true → AreTold w d → AreTold (draw_answer p w).world d
-unfolding draw_answer
-told_busy p w d busy told = grind (arith, nat_tests, busy_by (is_some w.in_flight))
-
 either : (t : Bool) (a : Answer) (w : World) (d : Damaged) → AreTold w d → AreTold a.world d
     → AreTold (cond t (says reply.Busy w) a).world d
 either t a w d told then = grind (arith, nat_tests)
-
-pub told_nowhere : (p : Plan) (w : World) (d : Damaged) → scene_of w ≡ None → AreTold w d → AreTold (draw_answer p w).world d
-unfolding draw_answer
-told_nowhere p w d none told = grind (arith, nat_tests, either (is_some w.in_flight))
-
-beyond : (t : Bool) (a : Answer) (w : World) (d : Damaged) → t ≡ true → AreTold w d → AreTold (cond t (says reply.TooMuch w) a).world d
-beyond t a w d much told = grind (arith, nat_tests)
-
-too_much_by : (p : Plan) (w : World) (d : Damaged) (s : Scene) → too_much (walk_of p.size s) ≡ true → AreTold w d
-    → AreTold (scene_answer p w s).world d
-unfolding scene_answer
-too_much_by p w d s much told = beyond (too_much (walk_of p.size s)) _ w d much told
-
-pub told_too_much : (p : Plan) (w : World) (d : Damaged) (s : Scene) → scene_of w ≡ Some s → too_much (walk_of p.size s) ≡ true
-    → AreTold w d
-    → AreTold (draw_answer p w).world d
-unfolding draw_answer
-told_too_much p w d s seen much told = grind (arith, nat_tests, either (is_some w.in_flight), too_much_by p w d s much told)

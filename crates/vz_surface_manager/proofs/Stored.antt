@@ -1,9 +1,9 @@
 -- What is told depends on what a store stands for, and on the last aggregation.
 use Rattle.std.proofs.Common.{◌≡◌, Bool, Option, Some, None, List, [], ◌∷◌, map, filter, count_by, refl, ap, sym, ◌∙◌, cond, arith}
 use Rattle.vz_geom.specs.Rectangle.{Rectangle}
-use Rattle.vz_ids.specs.{declared.SurfaceId.SurfaceId, declared.Sub.Sub}
+use Rattle.vz_ids.specs.{declared.SurfaceId.SurfaceId}
 use Rattle.vz_rules.specs.World.{World, Submission, Aggregation, is_on, active_frames, exists, opening}
-use Rattle.vz_rules.specs.{Reach.naming, Returns.give_back, Returns.feed, Step.begin_answer, Step.done_answer, Plan.Plan}
+use Rattle.vz_rules.specs.{Plan.Plan}
 use Rattle.vz_rules.proofs.{Members.contains_map, Members.map_contains, Members.contains_none, Counts.count_cons}
 use Rattle.vz_surfaces.specs.{Stored.Stored, Stored.stored_of, Stored.bare_sub, Reading.stands}
 use Rattle.std.specs.Option.{option_map}
@@ -70,23 +70,3 @@ unfolding opening told_on
 told_first p d none first = grind (arith, nat_tests, contains_none)
 
 -- The last aggregation
-
-pub last_named : (w : World) → (naming w).last ≡ w.last
-unfolding naming
-last_named w = refl
-
-pub last_given : (w : World) → (give_back w).last ≡ w.last
-unfolding give_back
-last_given w = refl
-
-pub last_fed : (presented : List Sub) (w : World) → (feed presented w).last ≡ w.last
-unfolding feed
-last_fed presented w = refl
-
-pub last_begun : (p : Plan) (w : World) → (begin_answer p w).world.last ≡ w.last
-unfolding begin_answer
-last_begun p w = refl
-
-pub last_done : (w : World) → (done_answer w).world.last ≡ w.last
-unfolding done_answer
-last_done w = grind (arith, nat_tests)

@@ -1,16 +1,17 @@
 -- What is temporary, as a begin-frame comes.
-use Rattle.std.proofs.Common.{◌≡◌, ℕ, ◌+◌, ◌≤◌, Bool, true, false, ◌&&◌, ◌||◌, Option, Some, List, [], ◌∷◌, filter, refl, ap, sym, ◌∙◌, cond, Contains, nat_lt, arith}
+use Rattle.std.proofs.Common.{◌≡◌, ℕ, ◌+◌, ◌≤◌, Bool, true, false, ◌&&◌, ◌||◌, Option, List, [], ◌∷◌, filter, refl, ap, sym, ◌∙◌, cond, Contains, nat_lt, arith}
 use Rattle.std.proofs.{lemmas.Bool.ltb-true, lemmas.Bool.lt-ltb, lemmas.Bool.Decides.nat_tests}
 use Rattle.vz_base.specs.declared.limits.TheConstants.{TEMPORARY_TICKS}
 use Rattle.vz_ids.specs.{declared.SurfaceId.SurfaceId, Ids.same_surface}
-use Rattle.vz_rules.specs.{Plan.Plan, World.World, World.Client, World.Surface, Kept.KeepsAlways, Step.next_tick, Step.deliver, Step.begin_answer}
+use Rattle.vz_rules.specs.{Plan.Plan, World.World, World.Surface, Kept.KeepsAlways, Step.next_tick, Step.deliver, Step.begin_answer}
 use Rattle.vz_rules.specs.Reach.{has_closed}
 use Rattle.vz_rules.proofs.{Reached.from_same, Reached.self_same, Kept_facts.surfaces_apart}
 use Rattle.vz_rules.proofs.Members.{contains_here, contains_there, contains_at, at_same, filter_at}
 use Rattle.vz_refs.specs.Referring.{Temporary}
 use Rattle.vz_refs.specs.Referring.{Referring, lasting}
 use Rattle.vz_surface_manager.specs.Kept_surfaces.{lasts, has_kept, AreKept}
-use Rattle.vz_surface_manager.proofs.Sets_kept.{named_alike, closed_kept}
+use Rattle.vz_surface_manager.proofs.Sets_kept.{named_alike}
+use Rattle.vz_surface_manager.proofs.Quiet_changes.{same_closed, closes_delivering}
 
 -- of one id there is one surface
 pub one_surface : (w : World) (s t : Surface) → KeepsAlways w → Contains w.surfaces s → Contains w.surfaces t → s.id ≡ t.id → s ≡ t
@@ -47,12 +48,6 @@ goes_on tick = grind (arith, nat_tests)
 still : (tick b : ℕ) → nat_lt (next_tick tick) b ≡ true → nat_lt tick b ≡ true
 still tick b e = let l = ltb-true (next_tick tick) b e in let g = goes_on tick in lt-ltb tick b (omega (arith, l, g))
 
-delivered_number : (t : Bool) (n : ℕ) (x : Client) → (cond t (record x { delivered = Some n }) x).number ≡ x.number
-delivered_number t n x = grind (arith, nat_tests)
-
-delivered_closed : (t : Bool) (n : ℕ) (x : Client) → (cond t (record x { delivered = Some n }) x).closed ≡ x.closed
-delivered_closed t n x = grind (arith, nat_tests)
-
 module _ (p : Plan) (w : World) (but : Option SurfaceId) (r : Referring) (always : KeepsAlways w) (h : AreKept w but r) where
   until_is : (c : Surface) → Contains w.surfaces c → (t : Temporary) → Contains r.temporary t → same_surface t.id c.id ≡ true → t.until ≡ c.born + TEMPORARY_TICKS
   until_is c m t d e =
@@ -62,7 +57,7 @@ module _ (p : Plan) (w : World) (but : Option SurfaceId) (r : Referring) (always
 
   closed_ticked : (q : ℕ) → has_closed (begin_answer p w).world q ≡ has_closed w q
   unfolding begin_answer
-  closed_ticked q = grind (arith, nat_tests, closed_kept (deliver p w (next_tick w.tick)) q w.clients, delivered_number, delivered_closed)
+  closed_ticked = same_closed (deliver p w (next_tick w.tick)) w (begin_answer p w).world refl (closes_delivering p w (next_tick w.tick))
 
   lasts_ticked : (c : Surface) → lasts (begin_answer p w).world c ≡ (lasts w c && nat_lt (next_tick w.tick) (c.born + TEMPORARY_TICKS))
   unfolding lasts begin_answer

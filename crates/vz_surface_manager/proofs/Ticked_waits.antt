@@ -5,13 +5,13 @@ use Rattle.std.proofs.{lemmas.Bool.Decides.nat_tests, lemmas.List.length-map}
 use Rattle.vz_ids.specs.{declared.SurfaceId.SurfaceId, declared.Sub.Sub}
 use Rattle.vz_rules.specs.{Plan.Plan, World.World, World.Submission, World.is_waiting, World.sub_of, Step.next_tick, Step.deliver, Step.begin_answer}
 use Rattle.vz_rules.specs.{Settle.is_met, Settle.ready, Course.some_waits, Kept.KeepsAlways}
-use Rattle.vz_rules.proofs.{Members.when_same, Kept_singly.apart}
+use Rattle.vz_rules.proofs.{Kept_singly.apart}
 use Rattle.vz_deps.specs.{Tracking.Blocked, Tracking.freed, Tracking.still, Tracking.lacking, Blocking.dependencies_of}
 use Rattle.vz_deadlines.specs.{declared.due.Due.Due, Timing.due_at, Timing.left_at, Timing.due_of}
 use Rattle.vz_surface_manager.specs.{Waits.Waits, Waits.AreWaiting, Left_out.blocked_without}
 use Rattle.vz_surface_manager.proofs.Filtered.{named_is, filter_alike, filter_twice, filter_mapped, both_lengths}
 use Rattle.vz_surface_manager.proofs.Waits_on.{Stand, comes, stays, stand_of, waiting_from, stand_alike, ready_comes}
-use Rattle.vz_surface_manager.proofs.{Waits_kept.ClosesNone, Waits_kept.met_is, Waits_kept.met_of_clients, Dropped_waits.blocked_less}
+use Rattle.vz_surface_manager.proofs.{Quiet_changes.closes_delivering, Waits_kept.met_is, Waits_kept.met_of_clients, Dropped_waits.blocked_less}
 use Rattle.vz_surface_manager.proofs.Closed_waits.{none_comes}
 
 map_map : {A B C : Type 0} (f : B → C) (g : A → B) (xs : List A) → map f (map g xs) ≡ map (λ x. f (g x)) xs
@@ -64,12 +64,9 @@ module _ (w : World) (n : ℕ) (none : ready w ≡ []) where
         due = e ∙ (ap (left_at n) stand.due ∙ left_stays);
       }
 
-delivers : (p : Plan) (w : World) (n : ℕ) → ClosesNone (deliver p w n)
-delivers p w n = grind (arith, nat_tests, when_same)
-
 met_begun : (p : Plan) (w : World) → is_met (begin_answer p w).world ≡ is_met w
 unfolding begin_answer
-met_begun p w = met_is (begin_answer p w).world ∙ (met_of_clients (deliver p w (next_tick w.tick)) w.subs w.clients (delivers p w (next_tick w.tick)) ∙ sym (met_is w))
+met_begun p w = met_is (begin_answer p w).world ∙ (met_of_clients (deliver p w (next_tick w.tick)) w.subs w.clients (closes_delivering p w (next_tick w.tick)) ∙ sym (met_is w))
 
 pub waits_ticked : (w : World) (p : Plan) (n : ℕ) (old new : Waits) (gone : List Sub) → KeepsAlways w → ready w ≡ [] → AreWaiting w old → n ≡ next_tick w.tick
     → gone ≡ due_at n old.due → new.due ≡ left_at n old.due → new.blocked ≡ blocked_without gone old.blocked → AreWaiting (begin_answer p w).world new

@@ -3,7 +3,7 @@ use Rattle.std.specs.Prelude.{◌≡◌, false, Option, None, IsTrue, IsFalse}
 use Rattle.std.specs.List.{Contains}
 use Rattle.vz_ids.specs.declared.SurfaceId.{SurfaceId}
 use Rattle.vz_ids.specs.declared.Sub.{Sub}
-use Rattle.vz_rules.specs.World.{World, Client, Surface, Submission, is_waiting, sub_of}
+use Rattle.vz_rules.specs.World.{World, Surface, Submission, is_waiting, sub_of}
 use Rattle.vz_rules.specs.Reach.{naming, has_closed, is_named_now}
 use Rattle.vz_rules.specs.Kept.{KeepsAlways}
 use Rattle.vz_surface_manager.specs.Kept_surfaces.{has_kept}
@@ -26,13 +26,6 @@ pub record IsGoing (w : World) (c : Surface) (id : SurfaceId) (v : Live) : Type 
   pub name : c.id ≡ id
   pub exists : IsFalse c.destroyed
   pub lasts_not : has_kept v.kept.temporary id ≡ false
-
--- the client changes, and keeps its number, whether it is closed, its resources and its queue
-pub record KeepsHolding (f : Client → Client) : Type 0 where
-  pub number : (c : Client) → (f c).number ≡ c.number
-  pub closed : (c : Client) → (f c).closed ≡ c.closed
-  pub resources : (c : Client) → (f c).resources ≡ c.resources
-  pub queue : (c : Client) → (f c).queue ≡ c.queue
 
 -- the surface with this id was created in this tick by a client that is not closed, and exists;
 -- naming has happened, and this surface is named only if it is named now

@@ -1,21 +1,19 @@
 //! Laws of which surfaces are kept: each is the contract of a function with an empty body. What
 //! is set and what is temporary changes as the machine's state does.
-ghost use Rattle.std.specs.Prelude.{◌≡◌, ℕ, ◌+◌, Bool, not, ◌&&◌, true, false, Option, Some, None, IfSome, IsTrue, IsFalse, List, [], map, filter, ◌==◌};
+ghost use Rattle.std.specs.Prelude.{◌≡◌, ℕ, ◌+◌, not, ◌&&◌, true, false, Option, Some, None, IfSome, IsTrue, List, [], map, filter, ◌==◌};
 ghost use Rattle.std.specs.List.{Contains};
 ghost use Rattle.vz_base.specs.declared.limits.TheConstants.{TEMPORARY_TICKS};
 ghost use Rattle.vz_ids.specs.declared.SurfaceId.{SurfaceId};
 ghost use Rattle.vz_ids.specs.declared.LocalSurfaceId.{LocalSurfaceId};
-ghost use Rattle.vz_ids.specs.declared.Sub.{Sub};
 ghost use Rattle.vz_ids.specs.declared.SurfaceRange.{SurfaceRange};
 ghost use Rattle.vz_ids.specs.Ids.{same_surface};
 ghost use Rattle.vz_frame.specs.declared.frame.CompositorFrame.{CompositorFrame};
 ghost use Rattle.vz_frame.specs.declared.message.Message.TheVariants.{Close};
 ghost use Rattle.vz_rules.specs.Plan.{Plan};
-ghost use Rattle.vz_rules.specs.World.{World, Client, Surface, Submission, opening, client_at, is_waiting, last_created};
+ghost use Rattle.vz_rules.specs.World.{World, Client, Surface, Submission, opening, is_waiting, last_created};
 ghost use Rattle.vz_rules.specs.Kept.{Keeps, KeepsAlways};
-ghost use Rattle.vz_rules.specs.Messages.{accepted, id_of, is_last, violates, taking, message_answer};
+ghost use Rattle.vz_rules.specs.Messages.{accepted, id_of, is_last, violates, message_answer};
 ghost use Rattle.vz_rules.specs.Reach.{has_id, naming, has_closed, is_named_now, reach, is_lost, lost_in};
-ghost use Rattle.vz_rules.specs.Returns.{give_back, feed};
 ghost use Rattle.vz_rules.specs.Closure.{IsLeastClosed};
 ghost use Rattle.vz_rules.specs.Scene.{shown};
 ghost use Rattle.vz_rules.specs.Singly.{rising, going};
@@ -39,30 +37,6 @@ pub fn ranges_follow()
           sets = setting s.submitted.id s.submitted.frame.metadata.references r.sets;
           temporary = unnamed s.submitted.frame.metadata.references r.temporary;
         }) }
-{}
-
-/// A change of the machine's state that leaves the submissions, the surfaces, the tick and which
-/// clients are closed as they are changes nothing of what is kept.
-pub fn kept_ones_stay()
-    ensures same { (w v : World) (but : Option SurfaceId) (r : Referring) → v.subs ≡ w.subs
-        → v.surfaces ≡ w.surfaces → v.tick ≡ w.tick
-        → ((c : ℕ) → has_closed v c ≡ has_closed w c) → AreKept w but r → AreKept v but r }
-    ensures clients { (w : World) (but : Option SurfaceId) (r : Referring) (f : Client → Client)
-        (c : Client) → ((x : Client) → (f x).number ≡ x.number)
-        → ((x : Client) → (f x).closed ≡ x.closed) → AreKept w but r
-        → AreKept (taking f c w) but r }
-    ensures returns { (w : World) (but : Option SurfaceId) (r : Referring) → AreKept w but r
-        → AreKept (give_back w) but r }
-    ensures feedback { (presented : List Sub) (w : World) (but : Option SurfaceId) (r : Referring)
-        → AreKept w but r → AreKept (feed presented w) but r }
-{}
-
-/// When the surfaces that active frames name are noted as named, what is kept does not change,
-/// and a second time notes nothing more.
-pub fn names_are_noted()
-    ensures kept { (w : World) (but : Option SurfaceId) (r : Referring) → AreKept w but r
-        → AreKept (naming w) but r }
-    ensures again { (w : World) → naming (naming w) ≡ naming w }
 {}
 
 /// A begin-frame ends the temporary surfaces whose last tick is not after its own.

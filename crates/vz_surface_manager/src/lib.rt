@@ -30,7 +30,6 @@ mod flyer;
 mod frame_end;
 mod index;
 pub mod kept_laws;
-pub mod laws;
 mod lists;
 mod live;
 mod roster;

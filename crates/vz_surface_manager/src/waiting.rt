@@ -1,5 +1,5 @@
 //! The submissions that wait to become active.
-ghost use Rattle.std.specs.Prelude.{◌≡◌, ◌≤◌, ◌<◌, ◌+◌, ◌++◌, ◌∷◌, [], nat_lt, cond, map, length, IsTrue, IsFalse, IsOk, OnOk, OnErr, List, option_to_list};
+ghost use Rattle.std.specs.Prelude.{◌≡◌, ◌≤◌, ◌<◌, ◌+◌, ◌++◌, ◌∷◌, [], nat_lt, if◌then◌else◌, map, length, IsTrue, IsFalse, IsOk, OnOk, OnErr, List, option_to_list};
 ghost use Rattle.std.specs.List.{Contains};
 ghost use Rattle.vz_ids.specs.declared.LocalSurfaceId.{LocalSurfaceId};
 ghost use Rattle.vz_frame.specs.declared.frame.CompositorFrame.{CompositorFrame};
@@ -28,9 +28,9 @@ use vz_ids::{FrameSinkId, Sub, SurfaceId};
 /// deadline comes. Contracts see the unmet dependencies of each, their deadlines, and the room
 /// that was reserved before.
 ///
-/// Each call is a change of the machine's state that these submissions depend on; `laws` says
-/// that they depend on no other. A submission that becomes active is appended to `out`
-/// (`accepted` returns true for it) and no longer waits. Only `ready` allocates.
+/// Each call is a change of the machine's state that these submissions depend on. They depend on
+/// no other. A submission that becomes active is appended to `out` (`accepted` returns true for
+/// it) and no longer waits. Only `ready` allocates.
 #[derive(Drop)]
 pub struct Waiting {
     tracker: Tracker,
@@ -99,8 +99,10 @@ impl Waiting {
             → AreWaiting (accepted w c local frame).world self.new }
         ensures active { (w : World) (c : Client) (local : LocalSurfaceId) (frame : CompositorFrame)
             → KeepsAlways w → ready w ≡ [] → Tells w c local frame a tick lacked.now
-            → map sub_of (ready (accepted w c local frame).world) ≡ cond result (a.sub ∷ []) [] }
-        ensures few { length self.new.blocked + cond result 1 0 ≤ length self.old.blocked + 1 }
+            → map sub_of (ready (accepted w c local frame).world) ≡ (if result then a.sub ∷ []
+            else []) }
+        ensures few { length self.new.blocked + (if result then 1 else 0)
+            ≤ length self.old.blocked + 1 }
     {
         drop_one(&mut self.tracker, &mut self.deadlines, a.replaced);
         if lacked.is_empty() || a.due <= tick {

@@ -1,13 +1,15 @@
 use Rattle.std.proofs.Common.{arith, ◌∙◌}
+use Rattle.vz_returns.proofs.Owed_kept.{nothing_due}
+use Rattle.vz_surface_manager.proofs.Waits_on.{as_many}
 use Rattle.vz_manager.proofs.Rooming.{owed_are_unfed}
 use Rattle.vz_manager.proofs.room.ready_to_follow.Goals as goal
 
 pub returns : goal.returns
 returns c =
     let b = c.requires.between in
-    let lack = c.waiting_ones_lack.ensures b.0 c.args.settling.now.waiting b.1.stands.waiting in
+    let lack = as_many b.0 c.args.settling.now.waiting b.1.stands.waiting in
     let unfed = owed_are_unfed c.args.settling.now.live.owed.owed
-    (c.owed_are_known.ensures.none b.0 c.args.settling.now.live.owed.owed b.1.keeps b.1.stands.live.owed) in
+    (nothing_due b.0 c.args.settling.now.live.owed.owed b.1.keeps b.1.stands.live.owed) in
     record {
       room = record {
         none_activated = c.make_room.ensures.list;

@@ -1,6 +1,7 @@
 use Rattle.std.proofs.Common.{IsFalse, sym, subst}
 use Rattle.vz_rules.specs.Messages.{accepted}
 use Rattle.vz_surface_manager.specs.Waits.{is_among}
+use Rattle.vz_surface_manager.proofs.Accepted_waits.{is_new}
 use Rattle.vz_manager.proofs.Taken_in.{arrives, still_waiting, is_told, is_taken_in, is_within}
 use Rattle.vz_manager.proofs.submitting.take_in.Goals as goal
 
@@ -12,7 +13,7 @@ wait-requires-clause-new c =
     let waits = still_waiting s.0 s.1 c.args.c s.2 s.3 s.4 c.args.coming c.args.support.now c.args.settling.now s.5
     c.put_in.new.settling.waiting c.put_in.ensures.waiting in
     subst (λ n. IsFalse (is_among c.put_in.new.settling.waiting n)) (sym told.sub)
-    (c.arrivals_are_new.ensures s.1 s.2 s.3 s.4 c.put_in.new.settling.waiting s.5.submits.keeps.always waits)
+    (is_new s.1 s.2 s.3 s.4 c.put_in.new.settling.waiting s.5.submits.keeps.always waits)
 
 pub returns-clause-accepted : goal.returns-clause-accepted
 returns-clause-accepted c p w x local frame h =

@@ -1,7 +1,9 @@
-use Rattle.std.proofs.Common.{None, refl, sym, ◌∙◌, subst}
+use Rattle.std.proofs.Common.{refl, sym, ◌∙◌, subst}
 use Rattle.vz_rules.specs.declared.entry.Event.TheVariants as event
 use Rattle.vz_rules.specs.Messages.{await_answer}
 use Rattle.vz_rules.proofs.Kept_answers.{keeps_await}
+use Rattle.vz_surface_manager.proofs.Quiet_changes.{quiet_awaited}
+use Rattle.vz_returns.proofs.Lent_kept.{lent_awaits}
 use Rattle.vz_manager.specs.Serving.{Serves}
 use Rattle.vz_manager.proofs.Following.{await_sent, step_of, serves_on, sends_next}
 use Rattle.vz_manager.proofs.parts.Parts.await_begin.Goals as goal
@@ -19,4 +21,4 @@ returns-clause-serves c p w x old is =
     let h = subst (Serves p w) (sym c.self.view_is) old in
     serves_on p w (event.Client c.args.c) (await_answer w x) _ _ h (await_sent p w c.args.c x is) refl (keeps_await w x h.keeps)
     (c.await_begin-reply.ensures.world p w x (sends_next p w _ c.args.c x _ h is) h.support)
-    (c.surfaces_stay.ensures.awaits w x None _ h.settling.live) (c.waiting_ones_stay.ensures.begun w x _ h.settling.waiting)
+    (quiet_awaited w x) (lent_awaits w x _ h.settling.live.lent)

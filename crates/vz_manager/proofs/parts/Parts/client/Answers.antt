@@ -5,6 +5,7 @@ use Rattle.vz_rules.specs.declared.entry.Refusal.TheVariants as refusal
 use Rattle.vz_rules.specs.Messages.{says}
 use Rattle.vz_manager.specs.declared.kind.Kind.TheVariants as kind
 use Rattle.vz_manager.specs.Serving.{Serves}
+use Rattle.vz_surface_manager.proofs.Quiet_changes.{quiet_none}
 use Rattle.vz_manager.proofs.Following.{none_answer, closed_refused, step_of, serves_on}
 use Rattle.vz_manager.proofs.Comings.{found, stays_at_want}
 use Rattle.vz_manager.proofs.parts.Parts.client.Goals as goal
@@ -21,7 +22,7 @@ returns-in-Nothing-clause-serves c p w x old here =
     let h = subst (Serves p w) (sym c.self.view_is) old in
     let f = found p w c.args.c x kind.Nothing here (c.in-Nothing.ensures.kind p w x h.support here) in
     serves_on p w (event.Client c.args.c) (says (reply.Refused refusal.NoMessage) w) c.args.self.now c.args.self.now.support old
-    (none_answer p w c.args.c x f) refl old.keeps old.support old.settling.live old.settling.waiting
+    (none_answer p w c.args.c x f) refl old.keeps old.support (quiet_none w) old.settling.live.lent
 
 pub returns-in-Closed-clause-step : goal.returns-in-Closed-clause-step
 returns-in-Closed-clause-step c p w x old here =

@@ -1,10 +1,12 @@
-use Rattle.std.proofs.Common.{None, refl, sym, subst}
+use Rattle.std.proofs.Common.{refl, sym, subst}
 use Rattle.vz_rules.specs.declared.entry.Event.TheVariants as event
 use Rattle.vz_rules.specs.declared.entry.Reply.TheVariants as reply
 use Rattle.vz_rules.specs.Messages.{says, taking, answer_tick}
 use Rattle.vz_rules.proofs.Kept_answers.{keeps_noted}
+use Rattle.vz_surface_manager.proofs.Quiet_changes.{quiet_noted}
+use Rattle.vz_returns.proofs.Lent_kept.{lent_taking}
 use Rattle.vz_manager.specs.Serving.{Serves}
-use Rattle.vz_manager.proofs.Following.{noted_answer, step_of, serves_on, sends_next, holds_noted}
+use Rattle.vz_manager.proofs.Following.{noted_answer, step_of, serves_on, sends_next, refers_noted}
 use Rattle.vz_manager.proofs.parts.Parts.did_not_produce.Goals as goal
 
 pub returns-clause-step : goal.returns-clause-step
@@ -19,5 +21,4 @@ returns-clause-serves c p w x n old is =
     serves_on p w (event.Client c.args.c) (says reply.Noted (taking (answer_tick w.tick n) x w)) _ _ h (noted_answer p w c.args.c x n is)
     refl
     (keeps_noted w x n h.keeps) (c.did_not_produce.ensures p w x n (sends_next p w _ c.args.c x _ h is) h.support)
-    (c.surfaces_stay.ensures.clients (answer_tick w.tick n) x w None _ (holds_noted w.tick n) h.settling.live)
-    (c.waiting_ones_stay.ensures.noted w x n _ h.settling.waiting)
+    (quiet_noted w x n) (lent_taking (answer_tick w.tick n) x w _ (refers_noted w.tick n) h.settling.live.lent)

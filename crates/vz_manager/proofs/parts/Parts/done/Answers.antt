@@ -2,13 +2,12 @@ use Rattle.std.proofs.Common.{sym, subst, ◌∙◌, ap, arith, refl}
 use Rattle.vz_frame.specs.Roomy.{Roomy}
 use Rattle.vz_rules.specs.declared.entry.Fed.{Fed}
 use Rattle.vz_rules.specs.declared.entry.Returned.{Returned}
-use Rattle.vz_rules.specs.Returns.{give_back, returned_in, fed_in}
+use Rattle.vz_rules.specs.Returns.{returned_in, fed_in}
 use Rattle.vz_rules.specs.Ends.{landed}
 use Rattle.vz_surface_manager.specs.Live.{Live}
 use Rattle.vz_manager.specs.Serving.{Serves}
 use Rattle.vz_manager.proofs.Resting.{appended}
-use Rattle.vz_manager.proofs.Landings.{flying, places_there, step_idle, serves_idle, step_landed}
-use Rattle.vz_manager.proofs.Landings.{support_landed, waiting_landed, serves_landed}
+use Rattle.vz_manager.proofs.Landings.{flying, places_there, step_idle, serves_idle, step_landed, serves_landed}
 use Rattle.vz_manager.proofs.parts.Parts.done.Goals as goal
 
 pub returns-then-not-is_flying-clause-step : goal.returns-then-not-is_flying-clause-step
@@ -70,13 +69,7 @@ pub returns-clause-serves : goal.returns-clause-serves
 returns-clause-serves c p w old =
     let h = subst (Serves p w) (sym c.self.view_is) old in
     let f = flying p w _ h (sym c.is_flying.ensures ∙ c.if-not-is_flying.false) in
-    let support = support_landed p w f.0 _ f.1.flies (c.support_stays_at_ends.ensures.done p w _ h.support) in
-    let waiting = waiting_landed w f.0 _ f.1.flies (c.waiting_ones_stay.ensures.done w _ h.settling.waiting) in
-    serves_landed p w _ f.0 c.land.new.self _ _ c.shown.new.room h f.1.flies
-    (c.support_stays_at_ends.ensures.feedback p (give_back (landed w)) f.0 _
-    (c.support_stays_at_ends.ensures.returns p (landed w) _ support))
-    (c.land.ensures.live w f.0 f.1)
-    (c.waiting_ones_stay.ensures.feedback f.0 (give_back (landed w)) _ (c.waiting_ones_stay.ensures.returns (landed w) _ waiting))
+    serves_landed p w _ f.0 c.land.new.self _ _ c.shown.new.room h f.1.flies (c.land.ensures.live w f.0 f.1)
     c.land.ensures.released (ap (λ (v : Live). v.flight) c.land.ensures.rest)
     (ap (λ (r : Roomy Returned). r.list) c.replace-returned.ensures.after ∙ c.new.ensures)
     (ap (λ (r : Roomy Fed). r.list) c.replace-fed.ensures.after ∙ c.new-2.ensures)

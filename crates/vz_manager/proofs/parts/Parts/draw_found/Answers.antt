@@ -22,9 +22,8 @@ pub returns-in_default-clause-serves : goal.returns-in_default-clause-serves
 returns-in_default-clause-serves c p w old =
     let h = subst (IsToShow p w c.args.root.now) (sym c.self.view_is) old in
     let m = subst (λ (v : Served). Measures c.args.root.now v.size v.settling.live c.args.measured) (sym c.self.view_is) c.requires.measured in
-    serves_unchanged p w c.args.root.now _ c.leave.new.self h c.leave.ensures.rest (c.support_stays_at_ends.ensures.draw p w _ h.serves.support)
+    serves_unchanged p w c.args.root.now _ c.leave.new.self h c.leave.ensures.rest
     (c.leave.ensures.live p w c.args.root.now _ h.shows m (sym c.changed.ensures ∙ c.in_default.is))
-    (c.waiting_ones_stay.ensures.draw p w _ h.serves.settling.waiting)
 
 pub ready_to_show-requires : goal.ready_to_show-requires
 ready_to_show-requires c =
@@ -97,8 +96,7 @@ returns-clause-serves c p w old =
     let flown = subst (λ (v : Served). Flies c.args.root.now v.size v.settling.live c.args.flight) (sym c.self.view_is) c.requires.flown in
     let m = subst (λ (v : Served). Measures c.args.root.now v.size v.settling.live c.args.measured) (sym c.self.view_is) c.requires.measured in
     serves_drawn p w _ c.show.new.self c.ready_to_show.new.returned c.show.new.fed c.ready_to_show.new.landed h.serves
-    (c.support_stays_at_ends.ensures.draw p w _ h.serves.support)
     (c.in_ok-show.ensures.live p w c.args.root.now _ c.in-Some.damage h.shows flown m (sym c.changed.ensures ∙ c.in-Some.is))
-    (c.waiting_ones_stay.ensures.draw p w _ h.serves.settling.waiting) c.show.ensures.released
+    c.show.ensures.released
     (c.ready_to_show.ensures.list ∙ h.serves.lands.none_returned) (c.show.ensures.list ∙ h.serves.lands.none_fed)
     (omega (arith, c.in_ok-ops.ensures.room, c.show.ensures.out)) c.in_ok-show.ensures.room c.in_ok-ops.ensures.landed

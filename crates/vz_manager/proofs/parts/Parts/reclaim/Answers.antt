@@ -5,6 +5,7 @@ use Rattle.vz_rules.specs.Messages.{says, taking, reclaim}
 use Rattle.vz_rules.proofs.Cases.{number_at}
 use Rattle.vz_rules.proofs.Kept_answers.{keeps_reclaimed}
 use Rattle.vz_returns.specs.Lent.{IsLender}
+use Rattle.vz_surface_manager.proofs.Quiet_changes.{quiet_reclaimed}
 use Rattle.vz_manager.specs.Serving.{Serves}
 use Rattle.vz_manager.proofs.Resting.{appended}
 use Rattle.vz_manager.proofs.Following.{reclaim_sent, step_of, serves_with, sends_next, client_here, lender_here}
@@ -45,6 +46,5 @@ returns-clause-serves c p w x old is =
     serves_with p w (event.Client c.args.c) (says (reply.Reclaimed x.queue) (taking reclaim x w)) _ _ _ h
     (reclaim_sent p w c.args.c x is) refl
     (keeps_reclaimed w x h.keeps) c.reclaim.ensures.rest (c.reclaim.ensures.released h.released) c.reclaim.ensures.out
-    (c.reclaim-2.ensures p w x (sends_next p w _ c.args.c x _ h is) h.support)
+    (c.reclaim-2.ensures p w x (sends_next p w _ c.args.c x _ h is) h.support) (quiet_reclaimed w x)
     (c.reclaim.ensures.live w None x h.keeps.always h.settling.live (client_here w c.args.c x is.here) (number_at w c.args.c x is.here))
-    (c.waiting_ones_stay.ensures.reclaimed w x _ h.settling.waiting)

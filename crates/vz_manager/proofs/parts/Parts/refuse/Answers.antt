@@ -1,9 +1,11 @@
-use Rattle.std.proofs.Common.{None, refl, sym, subst}
+use Rattle.std.proofs.Common.{refl, sym, subst}
 use Rattle.vz_rules.specs.declared.entry.Event.TheVariants as event
 use Rattle.vz_rules.specs.Messages.{refused}
 use Rattle.vz_rules.proofs.Kept_answers.{keeps_refused}
+use Rattle.vz_surface_manager.proofs.Quiet_changes.{quiet_refused}
+use Rattle.vz_returns.proofs.Lent_kept.{lent_taking}
 use Rattle.vz_manager.specs.Serving.{Serves}
-use Rattle.vz_manager.proofs.Following.{step_of, serves_on, holds_plain}
+use Rattle.vz_manager.proofs.Following.{step_of, serves_on, refers_plain}
 use Rattle.vz_manager.proofs.parts.Parts.refuse.Goals as goal
 
 pub returns-clause-step : goal.returns-clause-step
@@ -17,5 +19,4 @@ returns-clause-serves c p w x m old is =
     let h = subst (Serves p w) (sym c.self.view_is) old in
     serves_on p w (event.Client c.args.c) (refused w x c.args.refusal) _ _ h is.answer refl (keeps_refused w x c.args.refusal h.keeps)
     (c.refuse.ensures p w x m c.args.refusal (record { keeps = h.keeps.always; here = is.here; next = is.next }) h.support)
-    (c.surfaces_stay.ensures.clients (λ y. y) x w None _ holds_plain h.settling.live)
-    (c.waiting_ones_stay.ensures.refused w x c.args.refusal _ h.settling.waiting)
+    (quiet_refused w x c.args.refusal) (lent_taking (λ y. y) x w _ refers_plain h.settling.live.lent)

@@ -4,6 +4,8 @@ use Rattle.vz_rules.specs.Messages.{in_use, upload_answer}
 use Rattle.vz_rules.proofs.Cases.{number_at}
 use Rattle.vz_rules.proofs.Kept_answers.{keeps_upload}
 use Rattle.vz_returns.specs.Lent.{IsLender}
+use Rattle.vz_surface_manager.proofs.Quiet_changes.{quiet_uploaded}
+use Rattle.vz_returns.proofs.Lent_kept.{lent_uploaded}
 use Rattle.vz_manager.specs.Serving.{Serves}
 use Rattle.vz_manager.proofs.Following.{upload_sent, upload_refused, upload_stored, step_of}
 use Rattle.vz_manager.proofs.Following.{serves_on, sends_next, client_here, lender_here}
@@ -65,5 +67,4 @@ returns-clause-serves c p w x id block old is =
     let false_is = ap (in_use x.resources) (sym same) ∙ (sym used ∙ c.if-in_use.false) in
     serves_on p w (event.Client c.args.c) (upload_answer w x id block) _ _ h (upload_sent p w c.args.c x id block is) refl
     (keeps_upload w x id block h.keeps) (c.in_ok-upload.ensures.ok p w x id block (sends_next p w _ c.args.c x _ h is) false_is h.support)
-    (c.surfaces_stay.ensures.upload w x id block None _ h.keeps.always h.settling.live)
-    (c.waiting_ones_stay.ensures.upload w x id block _ h.settling.waiting)
+    (quiet_uploaded w x id block) (lent_uploaded w x id block _ h.keeps.always h.settling.live.lent)
