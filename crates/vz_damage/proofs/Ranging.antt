@@ -1,10 +1,11 @@
 -- What ranges showed, as they are looked up and noted.
-use Rattle.std.proofs.Common.{◌≡◌, Bool, true, false, Option, Some, None, is_some, [], ◌∷◌, ◌++◌, refl, ap, sym, ◌∙◌}
+use Rattle.std.proofs.Common.{◌≡◌, ℕ, zero, suc, ◌+◌, take, length, slice_get, Bool, true, false, Option, Some, None, is_some, [], ◌∷◌, ◌++◌, refl, ap, sym, ◌∙◌}
 use Rattle.std.proofs.Common.{cond, find, arith, if◌then◌else◌, Bor}
 use Rattle.std.proofs.lemmas.Bool.Decides.{nat_tests}
 use Rattle.std.specs.Option.{option_map, option_copied}
-use Rattle.std.specs.List.{list_any}
-use Rattle.std.specs.Map.{lookup}
+use Rattle.std.specs.List.{list_any, AllByRecursion, IsDistinct}
+use Rattle.std.proofs.lemmas.List.{take_all}
+use Rattle.std.specs.Map.{lookup, keys_of}
 use Rattle.indexmap.specs.IndexMap.{insert_entry}
 use Rattle.vz_ids.specs.declared.SurfaceId.{SurfaceId}
 use Rattle.vz_ids.specs.declared.SurfaceRange.{SurfaceRange}
@@ -73,3 +74,58 @@ noted_new xs new r v none e = grind (arith, nat_tests, inserted xs r v none, any
 
 pub copied_some : {A : Type 0} (o : Option (Bor A)) → is_some (option_copied o) ≡ is_some o
 copied_some o = grind (arith, nat_tests)
+
+-- The entry at a place
+
+-- the entry is of this range, and has this surface
+pub entry_is : (xs : Shown) (k : ℕ) (o r : SurfaceRange) (b v : Option SurfaceId) → Some (o, b) ≡ slice_get xs k → o ≡ r → b ≡ v
+    → slice_get xs k ≡ Some (r, v)
+entry_is xs k o r b v at same shown = grind (arith, nat_tests)
+
+apart_at : (k : ℕ) (xs : Shown) (x : SurfaceRange) (y : SurfaceRange × Option SurfaceId)
+    → AllByRecursion (λ z. same_key x z ≡ false) (keys_of xs) → slice_get xs k ≡ Some y → same_range y.0 x ≡ false
+apart_at zero [] x y all at = absurd (cc)
+apart_at (suc k) [] x y all at = absurd (cc)
+apart_at zero (z ∷ xs) x y all at = grind (arith, nat_tests, compared_range x y.0, range_sym x y.0, all.0)
+apart_at (suc k) (z ∷ xs) x y all at = apart_at k xs x y all.1 at
+
+-- none before it is of the same range
+pub first_at : (k : ℕ) (xs : Shown) (y : SurfaceRange × Option SurfaceId) → IsDistinct same_key (keys_of xs) → slice_get xs k ≡ Some y
+    → list_any (of_same_range y) (take k xs) ≡ false
+unfolding IsDistinct
+first_at zero [] y d at = absurd (cc)
+first_at (suc k) [] y d at = absurd (cc)
+first_at zero (x ∷ xs) y d at = refl
+first_at (suc k) (x ∷ xs) y d at = grind (arith, nat_tests, apart_at k xs x.0 y d.0 at, first_at k xs y d.1 at)
+
+take_more : (k : ℕ) (xs : Shown) (y : SurfaceRange × Option SurfaceId) → slice_get xs k ≡ Some y → take (suc k) xs ≡ take k xs ++ y ∷ []
+take_more zero [] y at = absurd (cc)
+take_more (suc k) [] y at = absurd (cc)
+take_more zero (x ∷ xs) y at = grind (arith, nat_tests)
+take_more (suc k) (x ∷ xs) y at = ap (λ l. x ∷ l) (take_more k xs y at)
+
+-- it is noted by a step over it
+pub noted_next : (k : ℕ) (xs : Shown) (y : SurfaceRange × Option SurfaceId) → slice_get xs k ≡ Some y
+    → list_any (of_same_range y) (take k xs) ≡ false → take (k + 1) xs ≡ adding of_same_range (take k xs) (y ∷ [])
+noted_next k xs y at first =
+    let one : k + 1 ≡ suc k = omega arith in
+    ap (λ n. take n xs) one ∙ take_more k xs y at
+    ∙ sym (ap (λ (t : Bool). if t then take k xs else take k xs ++ y ∷ []) first)
+
+take_twice : (k : ℕ) (xs : Shown) → take k (take k xs) ≡ take k xs
+take_twice zero xs = refl
+take_twice (suc k) [] = refl
+take_twice (suc k) (x ∷ xs) = ap (λ l. x ∷ l) (take_twice k xs)
+
+-- one that was met is not noted again
+pub noted_kept : (k : ℕ) (all xs : Shown) (r : SurfaceRange) (v : Option SurfaceId) → xs ≡ take k all
+    → is_some (lookup (same_key r) xs) ≡ true → take k xs ≡ adding of_same_range (take k all) ((r, v) ∷ [])
+noted_kept k all xs r v e there =
+    ap (take k) e ∙ take_twice k all ∙ noted_again (take k all) r v (ap (λ l. is_some (lookup (same_key r) l)) (sym e) ∙ there)
+
+-- another is, and is the last one then
+pub noted_put : (k n : ℕ) (all xs new : Shown) (r : SurfaceRange) (v : Option SurfaceId) → xs ≡ take k all
+    → is_some (lookup (same_key r) xs) ≡ false → new ≡ insert_entry same_key xs r v → n ≡ length new
+    → take n new ≡ adding of_same_range (take k all) ((r, v) ∷ [])
+noted_put k n all xs new r v e none put long =
+    take_all n new (omega (arith, long)) ∙ noted_new xs new r v none put ∙ ap (λ l. adding of_same_range l ((r, v) ∷ [])) e

@@ -216,7 +216,6 @@ impl Damage {
         requires keeps { KeepsStored store.now }
         requires frames { KeepsFrames store.now }
         requires size { IsDisplaySize size }
-        requires free { free ≡ [] }
         requires starts { V.has_met beside beside [] }
         ensures heavy { IfOk result (λ o. too_much (walked_in size root.now store.now)
             ≡ is_none o) }
@@ -286,8 +285,7 @@ impl Damage {
             V.has_met beside r.1 (walked_in size root.now store.now))) }
         ensures same { self.new ≡ self.old }
     {
-        let mut free = mem::replace(&mut self.free, Ranges::new(self.alloc));
-        free.clear();
+        let free = mem::replace(&mut self.free, Ranges::new(self.alloc));
         let found = self.walked(free, store, root, size, beside)?;
         Ok(found)
     }

@@ -9,6 +9,7 @@ mod damage;
 pub mod laws;
 mod measured;
 mod measurer;
+mod noted;
 mod ranges;
 mod running;
 

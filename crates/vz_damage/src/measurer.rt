@@ -7,6 +7,7 @@ ghost use Rattle.vz_placement.specs.Limits.{FitsFile, HasRoom};
 ghost use Rattle.vz_damage.specs.Told.{told_on, damage_in};
 ghost use Rattle.vz_damage.specs.Measured.{seen_damage};
 
+use crate::noted::Noted;
 use crate::ranges::Ranges;
 use crate::running::Running;
 use indexmap::IndexMap;
@@ -45,28 +46,28 @@ pub(crate) struct Measurer<'d> {
     told: &'d IndexMap<SurfaceId, Running>,
     last: &'d Ranges,
     damage: Rect,
-    ranges: Ranges,
+    ranges: Noted,
 }
 
 impl<'d> Measurer<'d> {
-    /// Creates a measurer that has met nothing. Condition: `ranges` is empty.
+    /// Creates a measurer that has met nothing. It notes ranges over those of an earlier walk.
     pub(crate) fn new(
         told: &'d IndexMap<SurfaceId, Running>,
         last: &'d Ranges,
-        ranges: Ranges,
+        earlier: Ranges,
     ) -> Measurer<'d>
         ensures { result ≡ record {
           told = told.entry;
           last = last.entry;
           damage = no_rectangle;
-          ranges = ranges;
+          ranges = [];
         } }
     {
         Measurer {
             told,
             last,
             damage: Rect::empty(),
-            ranges,
+            ranges: Noted::over(earlier),
         }
     }
 
@@ -76,7 +77,7 @@ impl<'d> Measurer<'d> {
         ensures ranges { result.1 ≡ self.entry.ranges }
     {
         let Measurer { damage, ranges, .. } = self;
-        (damage, ranges)
+        (damage, ranges.end())
     }
 
     /// The rectangle around the claims so far, after a range is met.
@@ -87,7 +88,7 @@ impl<'d> Measurer<'d> {
         ensures proper { IsRectangle seen.now }
     {
         let _ = seen.is_empty();
-        if self.last.is_switched(range, shown) {
+        if self.last.is_switched(self.ranges.len(), range, shown) {
             self.damage.bound(seen)
         } else {
             self.damage

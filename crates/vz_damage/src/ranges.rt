@@ -1,6 +1,6 @@
-//! What each range showed during a walk.
-ghost use Rattle.std.specs.Prelude.{◌≡◌, [], ◌∷◌, OnOk};
-ghost use Rattle.vz_rules.specs.Closure.{adding};
+//! What each range showed during a walk that has ended.
+ghost use Rattle.std.specs.Prelude.{◌≡◌, ◌<◌, ◌^◌, [], true, false, Some, slice_get, take};
+ghost use Rattle.std.specs.List.{list_any};
 ghost use Rattle.vz_rules.specs.Scene.{id_of_frame};
 ghost use Rattle.vz_rules.specs.Damage.{of_same_range, shows_other, is_switched};
 ghost use Rattle.vz_rules.specs.World.{Aggregation};
@@ -8,7 +8,6 @@ ghost use Rattle.vz_rules.specs.World.{Aggregation};
 use indexmap::IndexMap;
 use std::alloc::Global;
 use std::marker::Model;
-use vz_base::Memory;
 use vz_ids::{SurfaceId, SurfaceRange};
 use vz_surfaces::Seen;
 
@@ -16,7 +15,7 @@ use vz_surfaces::Seen;
 /// showed.
 #[derive(Drop)]
 pub(crate) struct Ranges {
-    shown: IndexMap<SurfaceRange, Option<SurfaceId>>,
+    pub(crate) shown: IndexMap<SurfaceRange, Option<SurfaceId>>,
 }
 
 impl Model for Ranges {
@@ -28,7 +27,7 @@ impl Model for Ranges {
 }
 
 /// The surface of a frame, if there is a frame.
-fn id_of(now: &Option<Seen<'_>>) -> Option<SurfaceId>
+pub(crate) fn id_of(now: &Option<Seen<'_>>) -> Option<SurfaceId>
     ensures { result ≡ id_of_frame now.now }
 {
     match now {
@@ -50,6 +49,44 @@ fn shows_other(before: &Option<SurfaceId>, now: &Option<Seen<'_>>) -> bool
     }
 }
 
+/// Whether an entry is of a range, and has the surface that the range shows now.
+fn is_entry(
+    other: &SurfaceRange,
+    before: &Option<SurfaceId>,
+    range: &SurfaceRange,
+    now: &Option<Seen<'_>>,
+) -> bool
+    ensures range { result ≡ true → other.now ≡ range.now }
+    ensures shown { result ≡ true → before.now ≡ id_of_frame now.now }
+    ensures same { result ≡ true → shows_other before.now now.now ≡ false }
+{
+    *other == *range && !shows_other(before, now)
+}
+
+/// Whether the entry at a place is of a range, and has the surface that the range shows now.
+pub(crate) fn is_at(
+    shown: &IndexMap<SurfaceRange, Option<SurfaceId>>,
+    place: usize,
+    range: &SurfaceRange,
+    now: &Option<Seen<'_>>,
+) -> bool
+    ensures there { result ≡ true
+        → slice_get shown.now.entries place ≡ Some (range.now, id_of_frame now.now) }
+    ensures first { result ≡ true → list_any (of_same_range (range.now, id_of_frame now.now))
+        (take place shown.now.entries) ≡ false }
+    ensures same { result ≡ true → (a : Aggregation) → a.ranges ≡ shown.now.entries
+        → is_switched a range.now now.now ≡ false }
+    ensures low { result ≡ true → place < 2 ^ 63 }
+{
+    if shown.len() <= place {
+        return false;
+    }
+    match shown.get_index(place) {
+        None => false,
+        Some((other, before)) => is_entry(other, before, range, now),
+    }
+}
+
 impl Ranges {
     /// Creates an empty list. It allocates nothing.
     pub(crate) fn new(alloc: Global) -> Ranges
@@ -60,34 +97,20 @@ impl Ranges {
         }
     }
 
-    /// Empties the list, and keeps its room.
-    pub(crate) fn clear(&mut self)
-        ensures { self.new ≡ [] }
-    {
-        self.shown.clear();
-    }
-
-    /// Notes a range and what it shows. If the range was noted before, that stays.
-    pub(crate) fn note(
-        &mut self,
+    /// Whether a range was not met in that walk, or showed nothing or another surface than now. It
+    /// takes no search if the range was the one at `place`, from 0.
+    pub(crate) fn is_switched(
+        &self,
+        place: usize,
         range: &SurfaceRange,
         now: &Option<Seen<'_>>,
-    ) -> Result<(), Memory>
-        ensures { OnOk result (self.new
-            ≡ adding of_same_range self.old ((range.now, id_of_frame now.now) ∷ [])) }
-    {
-        if self.shown.get(range).is_some() {
-            return Ok(());
-        }
-        self.shown.insert(*range, id_of(now))?;
-        Ok(())
-    }
-
-    /// Whether a range was not met in that walk, or showed nothing or another surface than now.
-    pub(crate) fn is_switched(&self, range: &SurfaceRange, now: &Option<Seen<'_>>) -> bool
+    ) -> bool
         ensures { (a : Aggregation) → a.ranges ≡ self.now
             → result ≡ is_switched a range.now now.now }
     {
+        if is_at(&self.shown, place, range, now) {
+            return false;
+        }
         match self.shown.get(range) {
             None => true,
             Some(before) => shows_other(before, now),

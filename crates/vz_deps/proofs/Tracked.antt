@@ -1,5 +1,5 @@
 -- A submission is blocked, and one is forgotten.
-use Rattle.std.proofs.Common.{◌≡◌, ℕ, ◌+◌, ◌<◌, Bool, true, false, not, ◌==◌, cond, nat_eq, Option, Some, None, is_some, List, [], ◌∷◌, length, filter, slice_get, refl, ap, sym, inl, inr, ◌∙◌, arith}
+use Rattle.std.proofs.Common.{◌≡◌, ℕ, ◌+◌, ◌-◌, ◌<◌, ◌≤◌, min, Bool, true, false, not, ◌==◌, cond, nat_eq, Option, Some, None, is_some, List, [], ◌∷◌, length, filter, slice_get, refl, ap, sym, inl, inr, ◌∙◌, arith}
 use Rattle.std.specs.Map.{lookup}
 use Rattle.std.proofs.lemmas.Bool.Decides.{nat_tests}
 use Rattle.vz_ids.specs.declared.Sub.{Sub}
@@ -104,3 +104,7 @@ none_tracked subs numbers l no_subs no_numbers kept none freed = record {
 pub none_listed : (unmet : ℕ → List SurfaceId) (subs : List (ℕ × Sub)) → subs ≡ [] → listed unmet (in_order subs) ≡ []
 unfolding listed in_order
 none_listed unmet subs none = ap (λ l. listed unmet (in_order l)) none
+
+-- what room is left after this much of it was used
+pub room_used : (r n a b c d a' b' c' d' : ℕ) → r ≤ min a (min b (min c d)) → a ≤ a' + n → b ≤ b' + n → c ≤ c' + n → d ≤ d' + n → r - n ≤ min a' (min b' (min c' d'))
+room_used r n a b c d a' b' c' d' h p q s t = omega arith

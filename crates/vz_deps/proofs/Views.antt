@@ -23,6 +23,22 @@ unfolding listed
 listed_length unmet [] = refl
 listed_length unmet (e ∷ subs) = let rest = listed_length unmet subs in omega (arith, rest)
 
+-- where nothing is blocked, nothing is freed and nothing stays
+
+pub none_freed : (met : SurfaceId → Bool) (list : List Blocked) (out : List Sub) → length list ≡ 0 → out ≡ out ++ freed met list
+unfolding freed
+none_freed met [] out e = by out
+  where
+    by : (xs : List Sub) → xs ≡ xs ++ []
+    by [] = refl
+    by (x ∷ xs) = ap (λ l. x ∷ l) (by xs)
+none_freed met (b ∷ list) out e = absurd (omega (arith, e))
+
+pub none_still : (met : SurfaceId → Bool) (list : List Blocked) → length list ≡ 0 → list ≡ still met list
+unfolding still
+none_still met [] e = refl
+none_still met (b ∷ list) e = absurd (omega (arith, e))
+
 pub listed_more : (unmet : ℕ → List SurfaceId) (subs : List (ℕ × Sub)) (o : ℕ) (s : Sub) → listed unmet (subs ++ (o, s) ∷ []) ≡ listed unmet subs ++ record { sub = s; unmet = unmet o } ∷ []
 unfolding listed
 listed_more unmet [] o s = refl

@@ -1,5 +1,5 @@
 //! Unmet dependencies, in bunches. Those of one bunch are found without a look at the others.
-ghost use Rattle.std.specs.Prelude.{◌≡◌, ◌≤◌, ◌<◌, ◌+◌, ℕ, Some, None, IsOk, OnOk, OnErr, cond};
+ghost use Rattle.std.specs.Prelude.{◌≡◌, ◌≤◌, ◌<◌, ◌+◌, ℕ, Some, None, IsOk, OnOk, OnErr, if◌then◌else◌};
 ghost use Rattle.indexmap.specs.IndexMap.{spare as spare_of};
 ghost use Rattle.std.specs.Map.{lookup};
 ghost use Rattle.vz_deps.specs.declared.bunches.Bunch.{Bunch as BunchOf};
@@ -95,7 +95,7 @@ impl Bunches {
         requires room { 0 < room_in self.old }
         ensures stands { Stands self.new }
         ensures bunch { (x : LackOf) → bunch_of self.new x
-            ≡ cond (same_lack lack x) (Some bunch) (bunch_of self.old x) }
+            ≡ (if same_lack lack x then Some bunch else bunch_of self.old x) }
         ensures room { room_in self.old ≤ room_in self.new + 1 }
     {
         let at = self.size(&bunch);
@@ -112,7 +112,7 @@ impl Bunches {
         requires stands { Stands self.old }
         ensures stands { Stands self.new }
         ensures bunch { (x : LackOf) → bunch_of self.new x
-            ≡ cond (same_lack lack.now x) None (bunch_of self.old x) }
+            ≡ (if same_lack lack.now x then None else bunch_of self.old x) }
         ensures seats { (s : SeatOf) (x : LackOf) → seat_in self.new s ≡ Some x
             → (j : ℕ) × (s.at ≤ j) × (seat_in self.old (record s { at = j }) ≡ Some x) }
         ensures room { room_in self.old ≤ room_in self.new }
@@ -139,7 +139,7 @@ fn shrink(sizes: &mut IndexMap<Bunch, usize>, bunch: &Bunch) -> usize
     requires { 0 < sized sizes.old.entries bunch.now }
     ensures size { result + 1 ≡ sized sizes.old.entries bunch.now }
     ensures sizes { (k : BunchOf) → sized sizes.new.entries k
-        ≡ cond (same_bunch bunch.now k) result (sized sizes.old.entries k) }
+        ≡ (if same_bunch bunch.now k then result else sized sizes.old.entries k) }
     ensures spare { spare_of sizes.old ≤ spare_of sizes.new }
 {
     match sizes.get_mut(bunch) {
@@ -158,7 +158,7 @@ fn shrink(sizes: &mut IndexMap<Bunch, usize>, bunch: &Bunch) -> usize
 fn sit(seats: &mut IndexMap<Seat, Lack>, seat: &Seat, lack: Lack)
     requires { (x : LackOf) × (lookup (same_seat seat.now) seats.old.entries ≡ Some x) }
     ensures seats { (s : SeatOf) → lookup (same_seat s) seats.new.entries
-        ≡ cond (same_seat seat.now s) (Some lack) (lookup (same_seat s) seats.old.entries) }
+        ≡ (if same_seat seat.now s then Some lack else lookup (same_seat s) seats.old.entries) }
     ensures spare { spare_of seats.old ≤ spare_of seats.new }
 {
     if let Some(place) = seats.get_mut(seat) {
@@ -170,7 +170,7 @@ fn sit(seats: &mut IndexMap<Seat, Lack>, seat: &Seat, lack: Lack)
 fn note(seated: &mut IndexMap<Lack, Seat>, lack: &Lack, seat: Seat)
     requires { (s : SeatOf) × (lookup (same_lack lack.now) seated.old.entries ≡ Some s) }
     ensures seated { (x : LackOf) → lookup (same_lack x) seated.new.entries
-        ≡ cond (same_lack lack.now x) (Some seat) (lookup (same_lack x) seated.old.entries) }
+        ≡ (if same_lack lack.now x then Some seat else lookup (same_lack x) seated.old.entries) }
     ensures spare { spare_of seated.old ≤ spare_of seated.new }
 {
     if let Some(place) = seated.get_mut(lack) {

@@ -1,5 +1,5 @@
 //! The unmet dependencies of the blocked submissions.
-ghost use Rattle.std.specs.Prelude.{◌≡◌, ◌≤◌, ◌<◌, ◌+◌, ◌-◌, ◌++◌, ℕ, Bool, true, false, ◌==◌, cond, nat_eq, Some, None, [], IsOk, OnOk, length, slice_get, vec_len, vec_capacity};
+ghost use Rattle.std.specs.Prelude.{◌≡◌, ◌≤◌, ◌<◌, ◌+◌, ◌-◌, ◌++◌, ℕ, Bool, true, false, ◌==◌, if◌then◌else◌, nat_eq, Some, None, [], IsOk, OnOk, length, slice_get, vec_len, vec_capacity};
 ghost use Rattle.std.specs.Map.{lookup};
 ghost use Rattle.indexmap.specs.IndexMap.{spare as spare_of};
 ghost use Rattle.vz_ids.specs.declared.SurfaceId.{SurfaceId as SurfaceOf};
@@ -107,9 +107,9 @@ impl Lacks {
         requires room { length unmet.now + 1 ≤ room_of self.old }
         ensures kept { IsKept self.new }
         ensures on { (x : LackOf) → on_in self.new x
-            ≡ cond (order == x.order) (slice_get unmet.now x.nth) (on_in self.old x) }
+            ≡ (if order == x.order then slice_get unmet.now x.nth else on_in self.old x) }
         ensures counts { (o : ℕ) → count_in self.new o
-            ≡ cond (nat_eq order o) (Some (whole (length unmet.now))) (count_in self.old o) }
+            ≡ (if nat_eq order o then Some (whole (length unmet.now)) else count_in self.old o) }
         ensures freed { self.new.freed.items ≡ self.old.freed.items }
         ensures room { room_of self.old ≤ room_of self.new + (length unmet.now + 1) }
     {
@@ -128,9 +128,9 @@ impl Lacks {
         requires none { self.old.freed.items ≡ [] }
         ensures kept { IsKept self.new }
         ensures on { (x : LackOf) → on_in self.new x
-            ≡ cond (order == x.order) None (on_in self.old x) }
+            ≡ (if order == x.order then None else on_in self.old x) }
         ensures counts { (o : ℕ) → count_in self.new o
-            ≡ cond (nat_eq order o) None (count_in self.old o) }
+            ≡ (if nat_eq order o then None else count_in self.old o) }
         ensures freed { self.new.freed.items ≡ [] }
         ensures room { room_of self.old ≤ room_of self.new }
     {

@@ -1,6 +1,6 @@
 //! Each unmet dependency is in two bunches, that of its group and that of its sink: how it is put
 //! in and taken out.
-ghost use Rattle.std.specs.Prelude.{◌≡◌, ◌≤◌, ◌<◌, ◌+◌, ◌==◌, ◌&&◌, nat_lt, true, false, Some, None, cond, length, slice_get};
+ghost use Rattle.std.specs.Prelude.{◌≡◌, ◌≤◌, ◌<◌, ◌+◌, ◌==◌, ◌&&◌, nat_lt, true, false, Some, None, if◌then◌else◌, length, slice_get};
 ghost use Rattle.std.specs.Map.{lookup};
 ghost use Rattle.indexmap.specs.IndexMap.{spare as spare_of};
 ghost use Rattle.vz_deps.specs.declared.bunches.Lack.{Lack as LackOf};
@@ -49,7 +49,8 @@ pub(crate) fn put_all(
     requires sinks { length unmet.now ≤ room_in sinks.old }
     ensures placed { IsPlaced on.new.entries groups.new sinks.new }
     ensures on { (x : LackOf) → lookup (same_lack x) on.new.entries
-        ≡ cond (order == x.order) (slice_get unmet.now x.nth) (lookup (same_lack x) on.old.entries) }
+        ≡ (if order == x.order then slice_get unmet.now x.nth
+        else lookup (same_lack x) on.old.entries) }
     ensures spare { spare_of on.old ≤ spare_of on.new + length unmet.now }
     ensures room { room_in groups.old ≤ room_in groups.new + length unmet.now }
     ensures places { room_in sinks.old ≤ room_in sinks.new + length unmet.now }
@@ -74,7 +75,7 @@ fn put_one(
     requires sinks { 0 < room_in sinks.old }
     ensures placed { IsPlaced on.new.entries groups.new sinks.new }
     ensures on { (x : LackOf) → lookup (same_lack x) on.new.entries
-        ≡ cond (same_lack lack x) (Some d) (lookup (same_lack x) on.old.entries) }
+        ≡ (if same_lack lack x then Some d else lookup (same_lack x) on.old.entries) }
     ensures spare { spare_of on.old ≤ spare_of on.new + 1 }
     ensures room { room_in groups.old ≤ room_in groups.new + 1 }
     ensures places { room_in sinks.old ≤ room_in sinks.new + 1 }
@@ -95,7 +96,8 @@ pub(crate) fn take_all(
     requires placed { IsPlaced on.old.entries groups.old sinks.old }
     ensures placed { IsPlaced on.new.entries groups.new sinks.new }
     ensures on { (x : LackOf) → lookup (same_lack x) on.new.entries
-        ≡ cond ((order == x.order) && nat_lt x.nth all) None (lookup (same_lack x) on.old.entries) }
+        ≡ (if (order == x.order) && nat_lt x.nth all then None
+        else lookup (same_lack x) on.old.entries) }
     ensures spare { spare_of on.old ≤ spare_of on.new }
     ensures room { room_in groups.old ≤ room_in groups.new }
     ensures places { room_in sinks.old ≤ room_in sinks.new }
@@ -115,7 +117,7 @@ fn take_one(
     requires placed { IsPlaced on.old.entries groups.old sinks.old }
     ensures placed { IsPlaced on.new.entries groups.new sinks.new }
     ensures on { (x : LackOf) → lookup (same_lack x) on.new.entries
-        ≡ cond (same_lack lack.now x) None (lookup (same_lack x) on.old.entries) }
+        ≡ (if same_lack lack.now x then None else lookup (same_lack x) on.old.entries) }
     ensures spare { spare_of on.old ≤ spare_of on.new }
     ensures room { room_in groups.old ≤ room_in groups.new }
     ensures places { room_in sinks.old ≤ room_in sinks.new }

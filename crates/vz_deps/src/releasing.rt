@@ -1,6 +1,6 @@
 //! The release of the submissions that have no unmet dependency any more, in the order in which
 //! they were blocked.
-ghost use Rattle.std.specs.Prelude.{◌≡◌, ◌≤◌, ◌<◌, ◌+◌, ◌++◌, ℕ, not, nat_eq, IsTrue, Some, None, [], option_to_list, length, map, filter, cond, vec_capacity};
+ghost use Rattle.std.specs.Prelude.{◌≡◌, ◌≤◌, ◌<◌, ◌+◌, ◌++◌, ℕ, not, nat_eq, IsTrue, Some, None, [], option_to_list, length, map, filter, if◌then◌else◌, vec_capacity};
 ghost use Rattle.std.specs.Map.{lookup};
 ghost use Rattle.indexmap.specs.IndexMap.{spare as spare_of};
 ghost use Rattle.vz_ids.specs.declared.Sub.{Sub as SubOf};
@@ -60,9 +60,9 @@ fn release_all(
     requires room { length (in_order subs.old.entries) ≤ out.old.spare }
     ensures numbered { IsNumbered subs.new.entries numbers.new.entries }
     ensures subs { (o : ℕ) → lookup (nat_eq o) subs.new.entries
-        ≡ cond (is_in o freed.now) None (lookup (nat_eq o) subs.old.entries) }
+        ≡ (if is_in o freed.now then None else lookup (nat_eq o) subs.old.entries) }
     ensures counts { (o : ℕ) → lookup (nat_eq o) counts.new.entries
-        ≡ cond (is_in o freed.now) None (lookup (nat_eq o) counts.old.entries) }
+        ≡ (if is_in o freed.now then None else lookup (nat_eq o) counts.old.entries) }
     ensures len { length counts.new.entries ≤ length counts.old.entries }
     ensures out { out.new.list ≡ out.old.list
         ++ map (λ e. e.1) (filter (λ e. is_in e.0 freed.now) (in_order subs.old.entries)) }
@@ -89,7 +89,7 @@ fn release_one(
     requires room { length (option_to_list (lookup (nat_eq order) subs.old.entries)) ≤ out.old.spare }
     ensures numbered { IsNumbered subs.new.entries numbers.new.entries }
     ensures subs { (o : ℕ) → lookup (nat_eq o) subs.new.entries
-        ≡ cond (nat_eq order o) None (lookup (nat_eq o) subs.old.entries) }
+        ≡ (if nat_eq order o then None else lookup (nat_eq o) subs.old.entries) }
     ensures out { out.new.list
         ≡ out.old.list ++ option_to_list (lookup (nat_eq order) subs.old.entries) }
     ensures spare { out.new.spare + length out.new.list ≡ out.old.spare + length out.old.list }

@@ -31,25 +31,25 @@ pub struct Tracker {
     numbers: IndexMap<Sub, u64>,
     lacks: Lacks,
     next: u64,
+    room: usize,
 }
 
 impl Model for Tracker {
-    ghost use Rattle.std.specs.Prelude.{◌-◌, min};
-    ghost use Rattle.indexmap.specs.IndexMap.{spare as spare_of};
+    ghost use Rattle.std.specs.Prelude.{◌≤◌};
     ghost use Rattle.vz_deps.specs.Tracking.{Tracked, listed};
-    ghost use Rattle.vz_deps.specs.Lacking.{unmet_in, room_of};
+    ghost use Rattle.vz_deps.specs.Lacking.{unmet_in};
     ghost use Rattle.vz_deps.specs.Ordered.{in_order};
-    ghost use Rattle.vz_deps.specs.Numbering.{IsTracked, LAST_NUMBER};
+    ghost use Rattle.vz_deps.specs.Numbering.{IsTracked, room_for};
 
     ghost Value = { Tracked };
 
     ghost view = { λ a. record {
       list = listed (unmet_in a.lacks) (in_order a.subs.entries);
-      spare = min (spare_of a.subs) (min (spare_of a.numbers)
-          (min (room_of a.lacks) (LAST_NUMBER - a.next)));
+      spare = a.room;
     } };
 
-    ghost invariant = { λ a. IsTracked a.subs.entries a.numbers.entries a.lacks a.next };
+    ghost invariant = { λ a. IsTracked a.subs.entries a.numbers.entries a.lacks a.next
+        × (a.room ≤ room_for a.subs a.numbers a.lacks a.next) };
 }
 
 impl Tracker {
@@ -62,6 +62,7 @@ impl Tracker {
             numbers: IndexMap::new(alloc),
             lacks: Lacks::new(alloc),
             next: 0,
+            room: 0,
         }
     }
 
@@ -73,9 +74,13 @@ impl Tracker {
         ensures succeeds { n ≤ self.old.spare → IsOk result }
         ensures spare { self.old.spare ≤ self.new.spare }
     {
+        if n <= self.room {
+            return Ok(());
+        }
         let (subs, numbers) = (&mut self.subs, &mut self.numbers);
-        let done = make_room(subs, numbers, &mut self.lacks, self.next, n);
-        done
+        make_room(subs, numbers, &mut self.lacks, self.next, n)?;
+        self.room = n;
+        Ok(())
     }
 
     /// How many submissions are blocked.
@@ -104,6 +109,7 @@ impl Tracker {
         self.numbers.insert(s, self.next).unwrap();
         self.lacks.block(self.next, unmet);
         self.next += 1;
+        self.room -= unmet.len() + 1;
         Ok(())
     }
 
@@ -142,6 +148,9 @@ impl Tracker {
         ensures room { out.old.spare
             ≤ out.new.spare + length (freed (meets_any ids.now) self.old.list) }
     {
+        if self.subs.len() == 0 {
+            return;
+        }
         tell_all(&mut self.lacks, ids);
         release(&mut self.subs, &mut self.numbers, &mut self.lacks, out);
     }

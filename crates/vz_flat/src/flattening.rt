@@ -140,28 +140,27 @@ impl<'b, 's> Flattener<'b, 's> {
         let mut n = quads.len();
         while n > 0 {
             n -= 1;
-            let leads_to = self.place_named(k, n);
-            self.quad(k, pass, &quads[n], leads_to, place, ops)?;
+            self.quad(k, n, pass, &quads[n], place, ops)?;
         }
         Ok(())
     }
 
-    /// Appends what a quad of a pass draws, if it is visible. Condition: `leads_to` is where its
-    /// name leads.
+    /// Appends what the quad at a place of a pass draws, if it is visible.
     #[cycle(flatten)]
     fn quad(
         &self,
         k: usize,
+        n: usize,
         pass: &RenderPass,
         quad: &DrawQuad,
-        leads_to: Option<usize>,
         place: &Placement,
         ops: &mut Vec<Op>,
     ) -> Result<(), Memory>
         requires there { k < length self.now.seen.frame.passes }
         requires reach { IsPassInReach pass.now }
         requires whole { IsQuadWhole self.now.seen quad.now }
-        requires named { leads_to ≡ place_named self.now.seen.frame k quad.now }
+        requires own { slice_get self.now.seen.frame.passes k ≡ Some pass.now }
+        requires at { slice_get pass.now.quads n ≡ Some quad.now }
         requires room { HasRoom (room_for self.now.levels (k + 1)) place.now.shift }
         ensures { OnOk result (ops.new.items ≡ ops.old.items
             ++ seen_flat (place_in place.now pass.now quad.now).window
@@ -172,37 +171,39 @@ impl<'b, 's> Flattener<'b, 's> {
         if inner.window().is_empty() {
             return Ok(());
         }
-        self.material(k, quad, leads_to, &inner, ops)?;
+        self.material(k, n, pass, quad, &inner, ops)?;
         Ok(())
     }
 
-    /// Appends what a quad of a pass draws at its own place.
+    /// Appends what the quad at a place of a pass draws at its own place.
     #[tactic(auto, unfolding(crate::specs::Flat::material_flat))]
     #[cycle(flatten)]
     fn material(
         &self,
         k: usize,
+        n: usize,
+        pass: &RenderPass,
         quad: &DrawQuad,
-        leads_to: Option<usize>,
         place: &Placement,
         ops: &mut Vec<Op>,
     ) -> Result<(), Memory>
         requires there { k < length self.now.seen.frame.passes }
-        requires named { leads_to ≡ place_named self.now.seen.frame k quad.now }
+        requires own { slice_get self.now.seen.frame.passes k ≡ Some pass.now }
+        requires at { slice_get pass.now.quads n ≡ Some quad.now }
         requires room { HasRoom (room_for self.now.levels k + coordinates 1) place.now.shift }
         ensures { OnOk result (ops.new.items
             ≡ ops.old.items ++ material_here self.now (earlier_of self.now k) quad.now place.now) }
     {
         let blend = quad.blend;
         let opacity = quad.opacity;
-        match quad.material {
+        match &quad.material {
             Material::Solid(color) => {
                 let area = place.window();
                 put(
                     ops,
                     Op::Fill {
                         area,
-                        color,
+                        color: *color,
                         opacity,
                         blend,
                     },
@@ -211,15 +212,15 @@ impl<'b, 's> Flattener<'b, 's> {
             }
             Material::Tile { tx, ty, .. } => {
                 let blocks = self.seen.held().blocks.as_slice();
-                let block = block_at(blocks, leads_to);
-                put_tile(ops, block, tx, ty, blend, opacity, place)?;
+                let block = block_at(blocks, self.place_named(k, n));
+                put_tile(ops, block, *tx, *ty, blend, opacity, place)?;
                 Ok(())
             }
             Material::Surface { range, background } => {
-                self.range(&range, background, blend, opacity, place, ops)?;
+                self.range(range, *background, blend, opacity, place, ops)?;
                 Ok(())
             }
-            Material::Pass(_) => match leads_to {
+            Material::Pass(_) => match self.place_named(k, n) {
                 None => Ok(()),
                 Some(at) => {
                     self.named(at, blend, opacity, place, ops)?;

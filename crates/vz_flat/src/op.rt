@@ -1,6 +1,6 @@
 //! Drawing operations on the pixels of a display.
 ghost use Rattle.std.specs.Prelude.{◌≡◌, ◌≤◌, IsTrue, IfOk, IfErr, IsOk, ◌↔◌};
-ghost use Rattle.vz_flat.specs.Ops.{is_whole, deepest};
+ghost use Rattle.vz_flat.specs.Ops.{is_whole, deepest, deepest as greatest};
 
 use crate::nesting::deepest_of;
 use std::marker::Model;
@@ -89,6 +89,16 @@ impl Ops {
             Some(deepest) => Ok(Ops { list, deepest }),
             None => Err(list),
         }
+    }
+
+    /// The operations of a list of which is known that it breaks no rule of `Ops`, and how many of
+    /// its groups are open at once at most. Nothing is looked at.
+    pub fn known(list: List<Op>, deepest: u32) -> Ops
+        requires whole { IsTrue (is_whole list) }
+        requires deepest { deepest ≡ greatest 0 list }
+        ensures { result ≡ list }
+    {
+        Ops { list, deepest }
     }
 
     /// The operations, from back to front.

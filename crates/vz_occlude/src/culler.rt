@@ -10,9 +10,10 @@ ghost use Rattle.vz_occlude.specs.declared.role.Role.TheVariants.{Single, Begins
 ghost use Rattle.vz_occlude.specs.Occlusion.{kept as kept_of, gone as gone_of};
 ghost use Rattle.vz_occlude.specs.Walk_so_far.{IsAt, IsKeptAt, Precedes, HasTaken};
 
-use crate::MOST_OCCLUDERS;
+use crate::cover::{Cover, FEW_COVERS};
 use crate::occluder::{is_occluded, put_occluder};
 use crate::role::{Role, role_of};
+use smallvec::SmallVec;
 use std::alloc::Global;
 use vz_base::Memory;
 use vz_flat::{Op, Ops};
@@ -22,12 +23,15 @@ use vz_geom::Rect;
 /// What is remembered of a list while a group of it is walked: the index of its first occluder,
 /// and of what comes after the group, the index of the first operation that was kept and how many
 /// items were removed.
-#[derive(Clone, Copy)]
+#[derive(Clone, Copy, Default)]
 struct Level {
     start: usize,
     kept: usize,
     removed: u64,
 }
+
+/// How many levels take no memory of the allocator.
+const FEW_LEVELS: usize = 4;
 
 /// A walk over operations, from the last one to the first, that removes occluded items in place.
 /// The operations that were kept stand at the end of `ops`, in their order.
@@ -38,32 +42,30 @@ struct OcclusionCuller {
     kept: usize,
     /// The areas of the occluders of the open groups, with those of the innermost one from `start`
     /// on.
-    occluders: Vec<Rect>,
+    occluders: SmallVec<Cover, FEW_COVERS>,
     start: usize,
     /// How many items were removed.
     removed: u64,
     /// What is remembered of the lists round the innermost group.
-    behind: Vec<Level>,
+    behind: SmallVec<Level, FEW_LEVELS>,
 }
 
 impl OcclusionCuller {
-    /// A walk that has taken none of these operations yet, with places for the occluders of a list.
-    /// The only error is `Memory`.
-    fn new(alloc: Global, ops: Vec<Op>) -> Result<OcclusionCuller, Memory>
-        ensures nothing { IfOk result (λ culler. IsAt (Done ∷ []) culler) }
-        ensures ops { IfOk result (λ culler. culler.ops.items ≡ ops.items) }
-        ensures kept { IfOk result (λ culler. culler.kept ≡ length ops.items) }
+    /// A walk that has taken none of these operations yet. It takes no memory.
+    fn new(alloc: Global, ops: Vec<Op>) -> OcclusionCuller
+        ensures nothing { IsAt (Done ∷ []) result }
+        ensures ops { result.ops.items ≡ ops.items }
+        ensures kept { result.kept ≡ length ops.items }
     {
         let kept = ops.len();
-        let occluders = Vec::with_capacity(alloc, kept.min(MOST_OCCLUDERS))?;
-        Ok(OcclusionCuller {
+        OcclusionCuller {
             ops,
             kept,
-            occluders,
+            occluders: SmallVec::new(alloc),
             start: 0,
             removed: 0,
-            behind: Vec::new(alloc),
-        })
+            behind: SmallVec::new(alloc),
+        }
     }
 
     /// Keeps the operation at an index: it goes to the front of those that were kept.
@@ -156,7 +158,7 @@ fn walked(alloc: Global, ops: Vec<Op>) -> Result<OcclusionCuller, Memory>
     ensures { IfOk result (λ culler. IsAt (levels ops.items) culler) }
 {
     let mut left = ops.len();
-    let mut culler = OcclusionCuller::new(alloc, ops)?;
+    let mut culler = OcclusionCuller::new(alloc, ops);
     while left > 0 {
         left -= 1;
         culler.take(left)?;
@@ -188,6 +190,7 @@ pub(crate) fn remove_occluded(alloc: Global, ops: Ops) -> Result<(Ops, u64), Mem
         (λ culled. value culled.0 p d ≡ value ops p d) }
     ensures deep { IfOk result (λ culled. deepest 0 culled.0 ≤ deepest 0 ops) }
 {
+    let deepest = ops.deepest();
     let culler = walked(alloc, ops.into_list().into_vec())?;
     let OcclusionCuller {
         mut ops,
@@ -198,7 +201,11 @@ pub(crate) fn remove_occluded(alloc: Global, ops: Ops) -> Result<(Ops, u64), Mem
         behind: _,
     } = culler;
     remove_first(&mut ops, kept);
-    match Ops::of(List::from_vec(ops)) {
+    let left = List::from_vec(ops);
+    if removed == 0 {
+        return Ok((Ops::known(left, deepest), 0));
+    }
+    match Ops::of(left) {
         Ok(left) => Ok((left, removed)),
         Err(_) => unreachable!(),
     }

@@ -2,6 +2,7 @@
 #![tactic(auto)]
 
 mod bound;
+mod cover;
 mod culler;
 pub mod laws;
 mod occluder;

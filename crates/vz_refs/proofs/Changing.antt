@@ -268,6 +268,16 @@ opened_set id sets = changed_set (λ _. []) id id (cond (is_set sets id) sets (s
     by_set true e = e
     by_set false e = set_behind sets id id [] ∙ ap (λ t. t || is_set sets id) (self_same id)
 
+pub no_items : {A : Type 0} (xs : List A) → length xs ≡ 0 → xs ≡ []
+no_items [] e = refl
+no_items (x ∷ xs) e = absurd (omega (arith, e))
+
+-- a surface that has no ranges gets none: nothing changes
+pub bare_stays : (id : SurfaceId) (sets : List Ranged) → has_repeat same_surface (map (λ s. s.id) sets) ≡ false → is_set sets id ≡ true → ranges_of sets id ≡ [] → setting id [] sets ≡ sets
+unfolding setting
+bare_stays id sets once there none =
+    ap (λ t. cond t (map (set_one id []) sets) (sets ++ record { id = id; ranges = [] } ∷ [])) there ∙ sym (cleared (λ xs. xs) id sets once none) ∙ changing_same (λ xs. xs) id sets (λ xs. refl)
+
 -- a surface has no ranges, and is not set any more
 pub no_ranges : (id : SurfaceId) (sets : List Ranged) → ranges_of (map (set_one id []) sets) id ≡ []
 unfolding changing

@@ -126,6 +126,9 @@ impl References {
         ensures spare { self.old.spare ≤ self.new.spare + (length ranges.now + 1) }
         ensures room { self.old.room ≤ self.new.room }
     {
+        if self.sets.is_bare(&id, ranges) {
+            return Ok(());
+        }
         self.sets.reserve(ranges.len() + 1)?;
         self.sets.open(id);
         self.sets.clear(id);

@@ -1,5 +1,5 @@
 //! Temporary surfaces by name, each with its place in its group.
-ghost use Rattle.std.specs.Prelude.{◌≡◌, ◌≤◌, ◌<◌, ◌+◌, ◌-◌, ℕ, Bool, true, false, None, Some, [], cond, not, IsOk, OnOk, IsTrue};
+ghost use Rattle.std.specs.Prelude.{◌≡◌, ◌≤◌, ◌<◌, ◌+◌, ◌-◌, ℕ, Bool, true, false, None, Some, [], if◌then◌else◌, not, IsOk, OnOk, IsTrue};
 ghost use Rattle.std.specs.Option.{option_map};
 ghost use Rattle.std.specs.Map.{lookup};
 ghost use Rattle.indexmap.specs.IndexMap.{spare as spare_of};
@@ -78,7 +78,7 @@ impl Seats {
         requires room { 0 < room_in self.old }
         ensures stands { Stands self.new }
         ensures surface { (n : NameOf) → surface_in self.new n
-            ≡ cond (same_name name n) (Some id) (surface_in self.old n) }
+            ≡ (if same_name name n then Some id else surface_in self.old n) }
         ensures room { room_in self.old ≤ room_in self.new + 1 }
     {
         let group = id.group();
@@ -95,7 +95,7 @@ impl Seats {
         requires stands { Stands self.old }
         ensures stands { Stands self.new }
         ensures surface { (n : NameOf) → surface_in self.new n
-            ≡ cond (same_name name.now n) None (surface_in self.old n) }
+            ≡ (if same_name name.now n then None else surface_in self.old n) }
         ensures names { (p : PlaceOf) (n : NameOf) → name_in self.new p ≡ Some n
             → (j : ℕ) × (p.at ≤ j) × (name_in self.old (record p { at = j }) ≡ Some n) }
         ensures room { room_in self.old ≤ room_in self.new }
@@ -180,7 +180,8 @@ fn shrink(sizes: &mut IndexMap<GroupKey, usize>, group: &GroupKey) -> usize
     requires { 0 < or_zero (lookup (same_key group.now) sizes.old.entries) }
     ensures size { result + 1 ≡ or_zero (lookup (same_key group.now) sizes.old.entries) }
     ensures sizes { (g : GroupOf) → or_zero (lookup (same_key g) sizes.new.entries)
-        ≡ cond (same_key group.now g) result (or_zero (lookup (same_key g) sizes.old.entries)) }
+        ≡ (if same_key group.now g then result
+        else or_zero (lookup (same_key g) sizes.old.entries)) }
     ensures spare { spare_of sizes.old ≤ spare_of sizes.new }
 {
     match sizes.get_mut(group) {
@@ -198,10 +199,8 @@ fn shrink(sizes: &mut IndexMap<GroupKey, usize>, group: &GroupKey) -> usize
 /// Moves the surface of a name, if there is one, to another place of its group.
 fn seat(kept: &mut IndexMap<Name, Kept>, name: &Name, at: usize)
     ensures kept { (n : NameOf) → lookup (same_name n) kept.new.entries
-        ≡ cond (same_name name.now n)
-        (option_map (λ (k : KeptOf). record k { at = at })
-        (lookup (same_name n) kept.old.entries))
-        (lookup (same_name n) kept.old.entries) }
+        ≡ (if same_name name.now n then option_map (λ (k : KeptOf). record k { at = at })
+        (lookup (same_name n) kept.old.entries) else lookup (same_name n) kept.old.entries) }
     ensures spare { spare_of kept.old ≤ spare_of kept.new }
 {
     if let Some(one) = kept.get_mut(name) {
@@ -226,7 +225,8 @@ fn keep_others(kept: &mut IndexMap<Name, Kept>, sink: FrameSinkId)
 /// Keeps only the places in groups of other sinks.
 fn keep_other_places(names: &mut IndexMap<Place, Name>, sink: FrameSinkId)
     ensures names { (p : PlaceOf) → lookup (same_place p) names.new.entries
-        ≡ cond (not (same_sink p.group.sink sink)) (lookup (same_place p) names.old.entries) None }
+        ≡ (if not (same_sink p.group.sink sink) then lookup (same_place p) names.old.entries
+        else None) }
     ensures spare { spare_of names.old ≤ spare_of names.new }
 {
     names.retain(
@@ -240,7 +240,8 @@ fn keep_other_places(names: &mut IndexMap<Place, Name>, sink: FrameSinkId)
 /// Keeps only the sizes of groups of other sinks.
 fn keep_other_groups(sizes: &mut IndexMap<GroupKey, usize>, sink: FrameSinkId)
     ensures sizes { (g : GroupOf) → or_zero (lookup (same_key g) sizes.new.entries)
-        ≡ cond (not (same_sink g.sink sink)) (or_zero (lookup (same_key g) sizes.old.entries)) 0 }
+        ≡ (if not (same_sink g.sink sink) then or_zero (lookup (same_key g) sizes.old.entries)
+        else 0) }
     ensures spare { spare_of sizes.old ≤ spare_of sizes.new }
 {
     sizes.retain(

@@ -1,7 +1,7 @@
 //! The ranges that are set for each surface, with an index of their ends by group.
 ghost use Rattle.std.specs.Prelude.{◌≡◌, ◌≤◌, ◌<◌, ◌+◌, [], ◌++◌, length, map, position, IsTrue, IsOk, OnOk, Some, slice_get};
 ghost use Rattle.vz_ids.specs.Ids.{same_surface};
-ghost use Rattle.vz_refs.specs.Referring.{is_set, ranges_of, set_one, removing, is_named_in};
+ghost use Rattle.vz_refs.specs.Referring.{is_set, ranges_of, set_one, setting, removing, is_named_in};
 ghost use Rattle.vz_refs.specs.Indexing.{opening, changing, one_more, but_last};
 
 use crate::indexes::{move_edge, size_of, write};
@@ -98,6 +98,20 @@ impl Sets {
         ensures { result ≡ is_set self.now.list id.now }
     {
         self.counts.contains_key(id)
+    }
+
+    /// Whether a surface is set without ranges and is to get none, so that nothing changes.
+    pub(crate) fn is_bare(&self, id: &SurfaceId, ranges: &[SurfaceRange]) -> bool
+        ensures none { IsTrue result → ranges.now ≡ [] }
+        ensures same { IsTrue result → setting id.now ranges.now self.now.list ≡ self.now.list }
+    {
+        if !ranges.is_empty() {
+            return false;
+        }
+        match self.counts.get(id) {
+            Some(count) => *count == 0,
+            None => false,
+        }
     }
 
     /// How many ranges a surface has.

@@ -1,6 +1,6 @@
 //! The temporary surfaces, each with its last tick.
 ghost use Rattle.std.specs.Prelude.{◌≡◌, ◌≤◌, ◌<◌, ◌+◌, ℕ, [], ◌∷◌, ◌++◌, not, map, filter, length, Some, IsOk, OnOk, nat_lt};
-ghost use Rattle.std.specs.Prelude.{slice_get, cond, None};
+ghost use Rattle.std.specs.Prelude.{slice_get, if◌then◌else◌, None};
 ghost use Rattle.std.specs.Map.{keys_of};
 ghost use Rattle.std.specs.List.{list_any};
 ghost use Rattle.vz_refs.specs.declared.temporaries.Numbers.{Numbers as NumbersOf};
@@ -213,7 +213,7 @@ fn end_at(seats: &mut Seats, numbers: &IndexMap<u32, Numbers>, at: usize, tick: 
 /// Keeps only the numbers for later ticks.
 fn keep_later(numbers: &mut IndexMap<u32, Numbers>, tick: u32)
     ensures numbers { (u : ℕ) → numbers_in numbers.new u
-        ≡ cond (nat_lt tick u) (numbers_in numbers.old u) None }
+        ≡ (if nat_lt tick u then numbers_in numbers.old u else None) }
     ensures spare { spare_of numbers.old ≤ spare_of numbers.new }
 {
     numbers.retain(

@@ -119,7 +119,3 @@ no_key t h id none = by (key_at t id) refl none
     by : (o : Option ℕ) → key_at t id ≡ o → option_and_then (under t) o ≡ None → o ≡ None
     by None e f = refl
     by (Some k) e f = absurd (both_ways (is_some (under t k)) (ap is_some f) (h.there id k e))
-
--- there is a surface under a key that an id has
-pub key_lodges : (t : Table) → IsKeyed t → (id : SurfaceId) (key : ℕ) → key_at t id ≡ Some key → None ≡ under t key → ⊥
-key_lodges t h id key e none = both_ways (is_some (under t key)) (ap is_some (sym none)) (h.there id key e)

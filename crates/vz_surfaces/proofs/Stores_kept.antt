@@ -1,18 +1,14 @@
 -- What leaves a store as it is.
-use Rattle.std.proofs.Common.{arith, ◌≡◌, ℕ, Bool, true, false, ◌&&◌, not, Option, Some, None, List, [], ◌∷◌, map, refl, ap, ◌∙◌, cond, is_some}
+use Rattle.std.proofs.Common.{arith, ◌≡◌, Bool, true, false, ◌&&◌, not, Option, Some, None, List, [], ◌∷◌, map, refl, ap, ◌∙◌, cond, is_some}
 use Rattle.std.proofs.lemmas.Bool.Decides.{nat_tests}
-use Rattle.vz_ids.specs.declared.FrameSinkId.{FrameSinkId}
-use Rattle.vz_ids.specs.declared.LocalSurfaceId.{LocalSurfaceId}
 use Rattle.vz_ids.specs.declared.Sub.{Sub}
-use Rattle.vz_pixels.specs.Block.{Block}
-use Rattle.vz_rules.specs.declared.entry.Refusal.{Refusal}
 use Rattle.vz_rules.specs.Plan.{Plan}
-use Rattle.vz_rules.specs.World.{World, Client, Surface, Scene}
+use Rattle.vz_rules.specs.World.{World, Surface, Scene}
 use Rattle.vz_rules.specs.Scene.{scene_of}
 use Rattle.vz_rules.specs.Reach.{naming, name_one, is_named_now}
 use Rattle.vz_rules.specs.Returns.{give_back, feed, mark_fed}
-use Rattle.vz_rules.specs.Messages.{Answer, unless_refused, taking, in_use, upload_answer, hierarchy_answer, hierarchy_refusal, root_answer, await_answer}
-use Rattle.vz_rules.specs.Step.{begin_answer, draw_answer, done_answer, scene_answer}
+use Rattle.vz_rules.specs.Messages.{Answer}
+use Rattle.vz_rules.specs.Step.{begin_answer, draw_answer, scene_answer}
 use Rattle.vz_surfaces.specs.Stored.{Stored, bare_surface, bare_sub, stored_of}
 use Rattle.vz_surfaces.proofs.Following.{agree}
 
@@ -37,40 +33,10 @@ pub stays_fed : (presented : List Sub) (w : World) → stored_of (feed presented
 unfolding stored_of feed
 stays_fed presented w = agree refl (map_unseen bare_sub (mark_fed w presented) w.subs (λ s. refl))
 
-pub stays_taken : (f : Client → Client) (c : Client) (w : World) → stored_of (taking f c w) ≡ stored_of w
-unfolding stored_of
-stays_taken f c w = refl
-
 -- one of two answers
 either : (t : Bool) (a b : Answer) (st : Stored) → stored_of a.world ≡ st → stored_of b.world ≡ st → stored_of (cond t a b).world ≡ st
 either true a b st e f = e
 either false a b st e f = f
-
-refused_or : (w : World) (c : Client) (o : Option Refusal) (a : Answer) → stored_of a.world ≡ stored_of w → stored_of (unless_refused w c o a).world ≡ stored_of w
-unfolding stored_of
-refused_or w c None a e = e
-refused_or w c (Some r) a e = refl
-
-pub stays_uploaded : (w : World) (c : Client) (id : ℕ) (block : Block) → stored_of (upload_answer w c id block).world ≡ stored_of w
-unfolding stored_of upload_answer
-stays_uploaded w c id block = either (in_use c.resources id) _ _ (stored_of w) refl refl
-
-pub stays_related : (w : World) (c : Client) (parent child : FrameSinkId) → stored_of (hierarchy_answer w c parent child).world ≡ stored_of w
-unfolding stored_of hierarchy_answer
-stays_related w c parent child = refused_or w c (hierarchy_refusal w c parent child) _ refl
-
-pub stays_rooted : (w : World) (c : Client) (local : LocalSurfaceId) → stored_of (root_answer w c local).world ≡ stored_of w
-unfolding stored_of root_answer
-stays_rooted w c local = either (Rattle.std.specs.Prelude.eqb c.number 1) _ _ (stored_of w) refl refl
-
-begun_by : (w : World) (c : Client) (o : Option ℕ) (f : ℕ → Answer) (b : Answer) → ((n : ℕ) → stored_of (f n).world ≡ stored_of w) → stored_of b.world ≡ stored_of w
-    → stored_of (elim o as (λ o. Answer) [ Some n ↦ f n | None ↦ b ]).world ≡ stored_of w
-begun_by w c None f b e g = g
-begun_by w c (Some n) f b e g = e n
-
-pub stays_begun : (w : World) (c : Client) → stored_of (await_answer w c).world ≡ stored_of w
-unfolding stored_of await_answer
-stays_begun w c = begun_by w c c.delivered _ _ (λ n. refl) (either w.over _ _ (stored_of w) refl refl)
 
 pub stays_ticked : (p : Plan) (w : World) → stored_of (begin_answer p w).world ≡ stored_of w
 unfolding stored_of begin_answer
@@ -88,7 +54,3 @@ seen_or w (Some s) f b e g = e s
 pub stays_drawn : (p : Plan) (w : World) → stored_of (draw_answer p w).world ≡ stored_of w
 unfolding draw_answer
 stays_drawn p w = either (is_some w.in_flight) _ _ (stored_of w) refl (seen_or w (scene_of w) (scene_answer p w) _ (stays_scene p w) refl)
-
-pub stays_done : (w : World) → stored_of (done_answer w).world ≡ stored_of w
-unfolding stored_of done_answer
-stays_done w = either (is_some w.in_flight) _ _ (stored_of w) refl refl

@@ -109,7 +109,7 @@ found_waiting t w o ts st sub inv view waits none = grind (arith, nat_tests, wai
 
 pub activated_keeps : (t0 t1 : Table) (w0 w1 : Waits) (o : Owners) (ts now : List Told) (st : Stored) (sub : Sub) (id : SurfaceId) → KeepsStored st → Keeps t0 w0 o (stored ts) → stored ts ≡ st
     → is_waiting_in st sub ≡ true → now ≡ ts ++ told.Activated sub ∷ [] → Some id ≡ waits_on w0 sub
-    → ((s : Sub) → Some sub ≡ Some s → (q : Sub) → waits_on w1 q ≡ cond (is_name s q) None (waits_on w0 q))
+    → ((q : Sub) → waits_on w1 q ≡ cond (is_name sub q) None (waits_on w0 q))
     → ((q : SurfaceId) → look t1 q ≡ cond (is_key id q) (option_map raised (look t0 q)) (look t0 q)) → length t1.keys.entries ≡ length t0.keys.entries → IsKeyed t1 → Keeps t1 w1 o (stored now)
 activated_keeps t0 t1 w0 w1 o ts now st sub id keeps inv view waits e found gone rose same keyed =
     let h = subst (Keeps t0 w0 o) view inv in
@@ -123,7 +123,7 @@ activated_keeps t0 t1 w0 w1 o ts now st sub id keeps inv view waits e found gone
         count = same ∙ (h.table.count ∙ sym (raised_count st x.0 keeps in_it));
         keyed = keyed;
       };
-      waits = raised_waits st x.0 keeps in_it w0 w1 h.waits (λ q. gone sub refl q ∙ ap (λ s. cond (is_name s q) None (waits_on w0 q)) (sym x.2));
+      waits = raised_waits st x.0 keeps in_it w0 w1 h.waits (λ q. gone q ∙ ap (λ s. cond (is_name s q) None (waits_on w0 q)) (sym x.2));
       owners = raised_owners st x.0 keeps in_it o h.owners;
     })
   where

@@ -125,7 +125,7 @@ mark_there g t w o ts st sub id keeps inv view waits found =
 
 pub activated_stands : (g0 g1 : Groups) (t0 t1 : Table) (w0 w1 : Waits) (o0 o1 : Owners) (ts now : List Told) (st : Stored) (sub : Sub) (id : SurfaceId) → KeepsStored st → Stands t0 w0 o0 g0 (stored ts) → stored ts ≡ st
     → is_waiting_in st sub ≡ true → now ≡ ts ++ told.Activated sub ∷ [] → Some id ≡ waits_on w0 sub
-    → ((s : Sub) → Some sub ≡ Some s → (q : Sub) → waits_on w1 q ≡ cond (is_name s q) None (waits_on w0 q))
+    → ((q : Sub) → waits_on w1 q ≡ cond (is_name sub q) None (waits_on w0 q))
     → ((q : SurfaceId) → look t1 q ≡ cond (is_key id q) (option_map raised (look t0 q)) (look t0 q)) → t1.keys.entries ≡ t0.keys.entries → IsKeyed t1
     → ((q : SurfaceId) → links_at g1 q ≡ links_at g0 q) → ((q : SurfaceId) → newest_at g1 q ≡ cond (is_group id q) (newer_local id.local (newest_at g0 q)) (newest_at g0 q))
     → ((s : Surface) → look t0 id ≡ Some s → (q : ℕ) → 1 ≤ q → owner_at o1 q ≡ cond (q == sub.client) (marked_up (s.number - 1) (owner_at o0 sub.client)) (owner_at o0 q)) → Stands t1 w1 o1 g1 (stored now)

@@ -1,5 +1,5 @@
 //! The surfaces that exist, by groups, so that the newest one up to a given one is found fast.
-ghost use Rattle.std.specs.Prelude.{◌≡◌, ◌++◌, ◌∷◌, [], None, Some, cond, not, filter, is_some, IsTrue, OnOk, OnErr};
+ghost use Rattle.std.specs.Prelude.{◌≡◌, ◌++◌, ◌∷◌, [], None, Some, if◌then◌else◌, not, filter, is_some, IsTrue, OnOk, OnErr};
 ghost use Rattle.std.specs.Option.{option_copied};
 ghost use Rattle.vz_ids.specs.declared.SurfaceId.{SurfaceId as Id};
 ghost use Rattle.vz_ids.specs.Ids.{same_surface, at_least};
@@ -83,7 +83,8 @@ impl Groups {
     /// Adds a surface, the newest of its group.
     pub(crate) fn add(&mut self, alloc: Global, link: Link) -> Result<(), Memory>
         ensures chain { (q : Id) → OnOk result (links_at self.new q
-            ≡ cond (is_group link.id q) (links_at self.old q ++ link ∷ []) (links_at self.old q)) }
+            ≡ (if is_group link.id q then links_at self.old q ++ link ∷ []
+            else links_at self.old q)) }
         ensures err { (q : Id) → OnErr result (links_at self.new q ≡ links_at self.old q) }
         ensures newest { (q : Id) → newest_at self.new q ≡ newest_at self.old q }
     {
@@ -109,8 +110,9 @@ impl Groups {
     pub(crate) fn note_active(&mut self, id: &SurfaceId)
         requires { IsTrue (is_some (group_at self.old id.now)) }
         ensures chain { (q : Id) → links_at self.new q ≡ links_at self.old q }
-        ensures newest { (q : Id) → newest_at self.new q ≡ cond (is_group id.now q)
-            (newer_local id.now.local (newest_at self.old q)) (newest_at self.old q) }
+        ensures newest { (q : Id) → newest_at self.new q
+            ≡ (if is_group id.now q then newer_local id.now.local (newest_at self.old q)
+            else newest_at self.old q) }
     {
         if let Some(group) = self.groups.get_mut(&id.group()) {
             group.newest = newer_of(group.newest, id.local);
@@ -119,9 +121,10 @@ impl Groups {
 
     /// Removes a surface.
     pub(crate) fn remove(&mut self, id: &SurfaceId)
-        ensures chain { (q : Id) → links_at self.new q ≡ cond (is_group id.now q)
-            (filter (λ (l : One). not (same_surface l.id id.now)) (links_at self.old q))
-            (links_at self.old q) }
+        ensures chain { (q : Id) → links_at self.new q
+            ≡ (if is_group id.now q
+            then filter (λ (l : One). not (same_surface l.id id.now)) (links_at self.old q)
+            else links_at self.old q) }
         ensures newest { (q : Id) → newest_at self.new q ≡ newest_at self.old q }
     {
         if let Some(group) = self.groups.get_mut(&id.group()) {

@@ -1,26 +1,20 @@
 //! Laws of the store: each is the contract of a function with an empty body. What the store means
 //! changes as the machine's state does, and what is read of it agrees with that state.
-ghost use Rattle.std.specs.Prelude.{◌≡◌, ℕ, not, ◌&&◌, ◌||◌, ◌==◌, Some, None, false, List, map, filter, find, count_by};
+ghost use Rattle.std.specs.Prelude.{◌≡◌, ℕ, not, ◌&&◌, ◌||◌, ◌==◌, Some, None, false, map, filter, find, count_by};
 ghost use Rattle.std.specs.Option.{option_map};
 ghost use Rattle.std.specs.List.{Contains, list_any};
-ghost use Rattle.vz_ids.specs.declared.FrameSinkId.{FrameSinkId};
 ghost use Rattle.vz_ids.specs.declared.LocalSurfaceId.{LocalSurfaceId};
 ghost use Rattle.vz_ids.specs.declared.SurfaceId.{SurfaceId};
 ghost use Rattle.vz_ids.specs.declared.SurfaceRange.{SurfaceRange};
-ghost use Rattle.vz_ids.specs.declared.Sub.{Sub};
 ghost use Rattle.vz_ids.specs.Ids.{same_sink};
-ghost use Rattle.vz_pixels.specs.Block.{Block};
 ghost use Rattle.vz_frame.specs.declared.frame.CompositorFrame.{CompositorFrame};
 ghost use Rattle.vz_frame.specs.declared.message.Message.TheVariants.{Close};
 ghost use Rattle.vz_rules.specs.Plan.{Plan};
 ghost use Rattle.vz_rules.specs.World.{World, Client, Surface, Submission, opening, exists, existing, active_frames, frame_on, is_waiting, is_active, is_on, last_created, sub_of};
 ghost use Rattle.vz_rules.specs.Scene.{shown};
 ghost use Rattle.vz_rules.specs.Settle.{is_met};
-ghost use Rattle.vz_rules.specs.Reach.{naming};
-ghost use Rattle.vz_rules.specs.Returns.{give_back, feed};
-ghost use Rattle.vz_rules.specs.Messages.{accepted, blocks_of, taking, message_answer, upload_answer, hierarchy_answer, root_answer, await_answer};
+ghost use Rattle.vz_rules.specs.Messages.{accepted, blocks_of, message_answer};
 ghost use Rattle.vz_rules.specs.Singly.{rising, going};
-ghost use Rattle.vz_rules.specs.Step.{begin_answer, draw_answer, done_answer};
 ghost use Rattle.vz_rules.specs.Kept.{KeepsAlways, KeepsMessages};
 ghost use Rattle.vz_surfaces.specs.Stored.{stored_of, nothing_stored, storing, activating, marking, destroying};
 ghost use Rattle.vz_surfaces.specs.Reading.{stands, has_mark, existing_count, marked_of, last_of, seen_frames, active_on, waiting_at, shown_in, was_reached};
@@ -39,26 +33,6 @@ pub fn stores_follow()
         → stored_of (message_answer w c Close).world ≡ marking c.number (stored_of w) }
     ensures destroyed { (w : World) (c : Surface)
         → stored_of (going c w) ≡ destroying c.id (stored_of w) }
-{}
-
-/// No other change of the machine's state changes the store.
-pub fn stores_stay()
-    ensures naming { (w : World) → stored_of (naming w) ≡ stored_of w }
-    ensures returns { (w : World) → stored_of (give_back w) ≡ stored_of w }
-    ensures feedback { (presented : List Sub) (w : World)
-        → stored_of (feed presented w) ≡ stored_of w }
-    ensures clients { (f : Client → Client) (c : Client) (w : World)
-        → stored_of (taking f c w) ≡ stored_of w }
-    ensures upload { (w : World) (c : Client) (id : ℕ) (block : Block)
-        → stored_of (upload_answer w c id block).world ≡ stored_of w }
-    ensures hierarchy { (w : World) (c : Client) (parent child : FrameSinkId)
-        → stored_of (hierarchy_answer w c parent child).world ≡ stored_of w }
-    ensures root { (w : World) (c : Client) (local : LocalSurfaceId)
-        → stored_of (root_answer w c local).world ≡ stored_of w }
-    ensures begun { (w : World) (c : Client) → stored_of (await_answer w c).world ≡ stored_of w }
-    ensures begin { (p : Plan) (w : World) → stored_of (begin_answer p w).world ≡ stored_of w }
-    ensures draw { (p : Plan) (w : World) → stored_of (draw_answer p w).world ≡ stored_of w }
-    ensures done { (w : World) → stored_of (done_answer w).world ≡ stored_of w }
 {}
 
 /// What is read of the store agrees with the machine's state: the surfaces that exist and their

@@ -1,5 +1,5 @@
 //! The counts that are kept for each client.
-ghost use Rattle.std.specs.Prelude.{◌≡◌, ◌≤◌, ◌<◌, ◌+◌, ℕ, Some, None, cond, ◌==◌};
+ghost use Rattle.std.specs.Prelude.{◌≡◌, ◌≤◌, ◌<◌, ◌+◌, ℕ, Some, None, if◌then◌else◌, ◌==◌};
 ghost use Rattle.vz_surfaces.specs.Memory.{owner_at, no_owner, counting, is_named_last, marked_up};
 
 use vz_geom::Size;
@@ -95,7 +95,7 @@ impl Owners {
         requires least { 1 ≤ c }
         requires most { c ≤ 16 }
         ensures { (q : ℕ) → 1 ≤ q → owner_at self.new q
-            ≡ cond (q == c) owner (owner_at self.old q) }
+            ≡ (if q == c then owner else owner_at self.old q) }
     {
         self.owners[(c - 1) as usize] = owner;
     }

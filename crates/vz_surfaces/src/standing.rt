@@ -1,5 +1,5 @@
 //! The surfaces of each client that exist, in the order of creation.
-ghost use Rattle.std.specs.Prelude.{◌≡◌, ◌≤◌, ◌<◌, ◌+◌, ◌++◌, ◌∷◌, ◌&&◌, [], ℕ, None, false, cond, not, filter, map, length, nat_le, nat_eq, vec_len, vec_capacity, IsTrue, OnOk};
+ghost use Rattle.std.specs.Prelude.{◌≡◌, ◌≤◌, ◌<◌, ◌+◌, ◌++◌, ◌∷◌, ◌&&◌, [], ℕ, None, false, if◌then◌else◌, not, filter, map, length, nat_le, nat_eq, vec_len, vec_capacity, IsTrue, OnOk};
 ghost use Rattle.std.specs.List.{Contains};
 ghost use Rattle.vz_ids.specs.Ids.{same_surface};
 ghost use Rattle.vz_surfaces.specs.declared.standing.Numbered.{Numbered as One};
@@ -69,7 +69,7 @@ impl Standing {
     fn put(&mut self, c: u32, one: Numbered)
         requires { IsTrue (has_room self.old c) }
         ensures { (q : ℕ) → list_at self.new q
-            ≡ cond (nat_eq c q) (list_at self.old q ++ one ∷ []) (list_at self.old q) }
+            ≡ (if nat_eq c q then list_at self.old q ++ one ∷ [] else list_at self.old q) }
     {
         match self.lists.get_mut(&c) {
             None => unreachable!(),
@@ -83,9 +83,10 @@ impl Standing {
     pub(crate) fn open(&mut self, c: u32, created: u32, id: SurfaceId, last: bool)
         requires room { last ≡ false → IsTrue (has_room self.old c) }
         requires few { created < u32.MAX }
-        ensures { (q : ℕ) → list_at self.new q ≡ cond (not last && nat_eq c q)
-            (list_at self.old q ++ record { number = created + 1; id = id } ∷ [])
-            (list_at self.old q) }
+        ensures { (q : ℕ) → list_at self.new q
+            ≡ (if not last && nat_eq c q
+            then list_at self.old q ++ record { number = created + 1; id = id } ∷ []
+            else list_at self.old q) }
     {
         if last {
             return;
@@ -101,9 +102,10 @@ impl Standing {
 
     /// Removes a surface of a client.
     pub(crate) fn remove(&mut self, c: u32, id: &SurfaceId)
-        ensures { (q : ℕ) → list_at self.new q ≡ cond (nat_eq c q)
-            (filter (λ (x : One). not (same_surface x.id id.now)) (list_at self.old q))
-            (list_at self.old q) }
+        ensures { (q : ℕ) → list_at self.new q
+            ≡ (if nat_eq c q
+            then filter (λ (x : One). not (same_surface x.id id.now)) (list_at self.old q)
+            else list_at self.old q) }
     {
         if let Some(row) = self.lists.get_mut(&c) {
             forget(&mut row.all, id);

@@ -1,5 +1,5 @@
 //! The store of surfaces and submissions.
-ghost use Rattle.std.specs.Prelude.{◌≡◌, ◌≤◌, ◌<◌, ◌+◌, ◌++◌, ◌∷◌, ◌&&◌, [], ℕ, not, cond, length, Some, None, is_some, count_by, false, IsTrue, IfOk, OnOk, OnErr, IfErr};
+ghost use Rattle.std.specs.Prelude.{◌≡◌, ◌≤◌, ◌<◌, ◌+◌, ◌++◌, ◌∷◌, ◌&&◌, [], ℕ, not, if◌then◌else◌, length, Some, None, is_some, count_by, false, IsTrue, IfOk, OnOk, OnErr, IfErr};
 ghost use Rattle.std.specs.List.{Contains};
 ghost use Rattle.std.specs.Option.{option_copied, option_map};
 ghost use Rattle.indexmap.specs.IndexMap.{spare as spare_of};
@@ -303,13 +303,13 @@ impl Store {
     {
         let change = Told::Activated(s);
         self.told.show(&change);
-        let Some(id) = self.waits.get(&s) else {
+        let Some(id) = self.waits.take(&s) else {
             unreachable!()
         };
-        self.waits.remove(Some(s));
         self.groups.note_active(&id);
-        mark_before(&mut self.owners, &self.table, s.client, &id);
-        self.table.raise(&id)
+        let (number, past) = self.table.raise(&id);
+        mark_before(&mut self.owners, s.client, number);
+        past
     }
 
     /// Marks all surfaces of a client, as it is closed. It allocates nothing. Condition: the
@@ -372,9 +372,9 @@ fn grow(
     ensures surfaces { OnOk result (HasSpare table.new) }
     ensures names { OnOk result (0 < spare_of waits.new.surfaces) }
     ensures chain { (q : Id) → OnOk result (links_at groups.new q
-        ≡ cond (not last && is_group id q)
-        (links_at groups.old q ++ record { id = id; key = table.new.surfaces.vacant_key } ∷ [])
-        (links_at groups.old q)) }
+        ≡ (if not last && is_group id q
+        then links_at groups.old q ++ record { id = id; key = table.new.surfaces.vacant_key } ∷ []
+        else links_at groups.old q)) }
     ensures err { (q : Id) → OnErr result (links_at groups.new q ≡ links_at groups.old q) }
     ensures newest { (q : Id) → newest_at groups.new q ≡ newest_at groups.old q }
     ensures lists { (q : ℕ) → list_at standing.new q ≡ list_at standing.old q }

@@ -1,5 +1,5 @@
 //! The surfaces that exist, each found by its id.
-ghost use Rattle.std.specs.Prelude.{◌≡◌, ◌<◌, ◌+◌, ◌&&◌, not, false, Some, None, cond, is_some, length, OnOk};
+ghost use Rattle.std.specs.Prelude.{◌≡◌, ◌<◌, ◌+◌, ◌&&◌, not, false, Some, None, if◌then◌else◌, is_some, length, OnOk};
 ghost use Rattle.std.specs.Option.{option_copied, option_map};
 ghost use Rattle.vz_ids.specs.declared.SurfaceId.{SurfaceId as Id};
 ghost use Rattle.vz_surfaces.specs.declared.table.Surface.{Surface as Kept};
@@ -113,9 +113,9 @@ impl Table {
         requires new { look self.old id ≡ None }
         requires room { HasSpare self.old }
         ensures surfaces { (q : Id) → look self.new q
-            ≡ cond (is_key id q) (Some surface) (look self.old q) }
+            ≡ (if is_key id q then Some surface else look self.old q) }
         ensures keys { (q : Id) → key_at self.new q
-            ≡ cond (is_key id q) (Some self.old.surfaces.vacant_key) (key_at self.old q) }
+            ≡ (if is_key id q then Some self.old.surfaces.vacant_key else key_at self.old q) }
         ensures len { length self.new.keys.entries ≡ length self.old.keys.entries + 1 }
         ensures keyed { IsKeyed self.new }
     {
@@ -131,12 +131,14 @@ impl Table {
         requires new { last ≡ false → look self.old id ≡ None }
         requires room { HasSpare self.old }
         requires few { created < u32.MAX }
-        ensures surfaces { (q : Id) → look self.new q ≡ cond (not last && is_key id q)
-            (Some (empty_surface client (created + 1))) (look self.old q) }
-        ensures keys { (q : Id) → key_at self.new q ≡ cond (not last && is_key id q)
-            (Some self.old.surfaces.vacant_key) (key_at self.old q) }
+        ensures surfaces { (q : Id) → look self.new q
+            ≡ (if not last && is_key id q then Some (empty_surface client (created + 1))
+            else look self.old q) }
+        ensures keys { (q : Id) → key_at self.new q
+            ≡ (if not last && is_key id q then Some self.old.surfaces.vacant_key
+            else key_at self.old q) }
         ensures len { length self.new.keys.entries
-            ≡ length self.old.keys.entries + cond last 0 1 }
+            ≡ length self.old.keys.entries + (if last then 0 else 1) }
         ensures keyed { IsKeyed self.new }
     {
         if last {
@@ -167,8 +169,8 @@ impl Table {
         requires keyed { IsKeyed self.old }
         requires there { (s : Kept) × (look self.old id.now ≡ Some s) × (s.accepted < u32.MAX) }
         ensures surfaces { (q : Id) → look self.new q
-            ≡ cond (is_key id.now q) (option_map (holding sub frame blocks) (look self.old q))
-            (look self.old q) }
+            ≡ (if is_key id.now q then option_map (holding sub frame blocks) (look self.old q)
+            else look self.old q) }
         ensures index { (s : Kept) → look self.old id.now ≡ Some s → result.0 ≡ s.accepted + 1 }
         ensures replaced { (s : Kept) → look self.old id.now ≡ Some s
             → result.1 ≡ s.waiting }
@@ -184,20 +186,22 @@ impl Table {
         }
     }
 
-    /// Makes the submission that waits on a surface its active one. Returns the one that was
-    /// active, if there was one.
-    pub(crate) fn raise(&mut self, id: &SurfaceId) -> Option<Sub>
-        requires { IsKeyed self.old }
+    /// Makes the submission that waits on a surface its active one. Returns the number of the
+    /// surface, and the submission that was active, if there was one. Condition: the surface is in
+    /// the table.
+    pub(crate) fn raise(&mut self, id: &SurfaceId) -> (u32, Option<Sub>)
+        requires keyed { IsKeyed self.old }
+        requires there { (s : Kept) × (look self.old id.now ≡ Some s) }
         ensures surfaces { (q : Id) → look self.new q
-            ≡ cond (is_key id.now q) (option_map raised (look self.old q))
-            (look self.old q) }
+            ≡ (if is_key id.now q then option_map raised (look self.old q) else look self.old q) }
+        ensures number { (s : Kept) → look self.old id.now ≡ Some s → result.0 ≡ s.number }
         ensures past { (s : Kept) → look self.old id.now ≡ Some s
-            → result ≡ option_map (λ h. h.sub) s.active }
+            → result.1 ≡ option_map (λ h. h.sub) s.active }
         ensures keys { self.new.keys.entries ≡ self.old.keys.entries }
         ensures keyed { IsKeyed self.new }
     {
         let Some(key) = self.keys.get(id) else {
-            return None;
+            unreachable!()
         };
         match self.surfaces.get_mut(*key) {
             None => unreachable!(),
@@ -210,9 +214,9 @@ impl Table {
         requires { IsKeyed self.old }
         ensures gone { result ≡ look self.old id.now }
         ensures surfaces { (q : Id) → look self.new q
-            ≡ cond (is_key id.now q) None (look self.old q) }
+            ≡ (if is_key id.now q then None else look self.old q) }
         ensures keys { (q : Id) → key_at self.new q
-            ≡ cond (is_key id.now q) None (key_at self.old q) }
+            ≡ (if is_key id.now q then None else key_at self.old q) }
         ensures len { (s : Kept) → look self.old id.now ≡ Some s
             → length self.new.keys.entries + 1 ≡ length self.old.keys.entries }
         ensures keyed { IsKeyed self.new }
@@ -249,13 +253,14 @@ fn wait(
 }
 
 /// Makes the submission that waits the active one.
-fn rise(surface: &mut Surface) -> Option<Sub>
+fn rise(surface: &mut Surface) -> (u32, Option<Sub>)
     ensures surface { surface.new ≡ raised surface.old }
-    ensures past { result ≡ option_map (λ h. h.sub) surface.old.active }
+    ensures number { result.0 ≡ surface.old.number }
+    ensures past { result.1 ≡ option_map (λ h. h.sub) surface.old.active }
 {
     let risen = mem::replace(&mut surface.waiting, None);
     let past = mem::replace(&mut surface.active, risen);
-    sub_of(&past)
+    (surface.number, sub_of(&past))
 }
 
 /// The client and ordinal of a submission, if there is one.

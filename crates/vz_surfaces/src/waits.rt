@@ -1,5 +1,5 @@
 //! The surface on which each submission waits.
-ghost use Rattle.std.specs.Prelude.{◌≡◌, ◌≤◌, ◌<◌, Some, None, cond, OnOk};
+ghost use Rattle.std.specs.Prelude.{◌≡◌, ◌≤◌, ◌<◌, Some, None, if◌then◌else◌, OnOk};
 ghost use Rattle.indexmap.specs.IndexMap.{spare as spare_of};
 ghost use Rattle.vz_ids.specs.declared.Sub.{Sub as Name};
 ghost use Rattle.vz_surfaces.specs.Memory.{is_name, waits_on};
@@ -45,16 +45,25 @@ impl Waits {
     pub(crate) fn put(&mut self, sub: Sub, id: SurfaceId)
         requires { 0 < spare_of self.old.surfaces }
         ensures { (q : Name) → waits_on self.new q
-            ≡ cond (is_name sub q) (Some id) (waits_on self.old q) }
+            ≡ (if is_name sub q then Some id else waits_on self.old q) }
     {
         self.surfaces.insert(sub, id).unwrap();
+    }
+
+    /// Removes a submission that waits, and returns its surface, or None if it does not wait.
+    pub(crate) fn take(&mut self, sub: &Sub) -> Option<SurfaceId>
+        ensures found { result ≡ waits_on self.old sub.now }
+        ensures others { (q : Name)
+            → waits_on self.new q ≡ (if is_name sub.now q then None else waits_on self.old q) }
+    {
+        self.surfaces.swap_remove(sub)
     }
 
     /// Removes a submission, if one is given.
     pub(crate) fn remove(&mut self, sub: Option<Sub>)
         ensures none { sub ≡ None → self.new ≡ self.old }
         ensures others { (s : Name) → sub ≡ Some s → (q : Name)
-            → waits_on self.new q ≡ cond (is_name s q) None (waits_on self.old q) }
+            → waits_on self.new q ≡ (if is_name s q then None else waits_on self.old q) }
         ensures room { spare_of self.old.surfaces ≤ spare_of self.new.surfaces }
     {
         if let Some(sub) = sub {

@@ -1,10 +1,9 @@
 //! The walk over a store, quad by quad, as the definitions say.
-ghost use Rattle.std.specs.Prelude.{◌≡◌, ◌<◌, ◌+◌, length, Some};
+ghost use Rattle.std.specs.Prelude.{◌≡◌, ◌<◌, ◌+◌, length, slice_get, Some};
 ghost use Rattle.vz_geom.specs.Display.{IsDisplaySize};
 ghost use Rattle.vz_rules.specs.Walk.{walk};
 ghost use Rattle.vz_surfaces.specs.Reading.{seen_frames};
 ghost use Rattle.vz_surfaces.specs.Keeping.{KeepsStored, KeepsFrames};
-ghost use Rattle.vz_surfaces.specs.Names.{place_named};
 ghost use Rattle.vz_placement.specs.Limits.{FitsFile, HasRoom, IsPassInReach, IsQuadInReach, coordinates, room_for};
 ghost use Rattle.vz_walk.specs.Meeting.{Meets};
 ghost use Rattle.vz_walk.specs.Scenes.{walked_in};
@@ -104,31 +103,30 @@ impl<'b, 's> Walker<'b, 's> {
         let pass = &self.frame.frame().passes.as_slice()[k];
         let quads = pass.quads.as_slice();
         for n in 0..quads.len() {
-            let leads_to = self.frame.place_named(k, n);
-            if !self.quad(k, pass, &quads[n], leads_to, place, visitor) {
+            if !self.quad(k, n, pass, &quads[n], place, visitor) {
                 return false;
             }
         }
         true
     }
 
-    /// A quad of a pass, and the walk in what it draws. Conditions: the pass exists, the pass and
-    /// the quad are within the limits, `leads_to` is where the quad's name leads, and the place
-    /// has room as for the pass.
+    /// The quad at a place of a pass, and the walk in what it draws. Conditions: the pass exists,
+    /// the pass and the quad are within the limits, and the place has room as for the pass.
     #[cycle(walk)]
     fn quad<V: Visitor>(
         &self,
         k: usize,
+        n: usize,
         pass: &RenderPass,
         quad: &DrawQuad,
-        leads_to: Option<usize>,
         place: &Placement,
         visitor: &mut V,
     ) -> bool
         requires there { k < length self.now.frame.passes }
         requires pass { IsPassInReach pass.now }
         requires quad { IsQuadInReach quad.now }
-        requires named { leads_to ≡ place_named self.now.frame k quad.now }
+        requires own { slice_get self.now.frame.passes k ≡ Some pass.now }
+        requires at { slice_get pass.now.quads n ≡ Some quad.now }
         requires room { HasRoom (room_for self.now.levels (k + 1)) place.now.shift }
         ensures { Meets V.has_met V.has_stopped result visitor.old visitor.new
             (quad_of self.now k pass.now place.now quad.now) }
@@ -136,13 +134,13 @@ impl<'b, 's> Walker<'b, 's> {
         if !visitor.quad() {
             return false;
         }
-        match quad.material {
-            Material::Pass(_) => match leads_to {
+        match &quad.material {
+            Material::Pass(_) => match self.frame.place_named(k, n) {
                 None => true,
                 Some(at) => self.group(at, &place.place_in(pass, quad), visitor),
             },
             Material::Surface { range, .. } => {
-                self.range(&range, &place.place_in(pass, quad), visitor)
+                self.range(range, &place.place_in(pass, quad), visitor)
             }
             Material::Solid(_) => true,
             Material::Tile { .. } => true,

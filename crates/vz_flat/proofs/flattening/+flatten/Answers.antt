@@ -59,7 +59,6 @@ Flattener::pass-quad-requires t c =
     let low : c.loop-n.n - 1 < length c.as_slice-quads.result.now = omega (arith, most, c.loop-n-test.true) in
     let at_quad = ap (λ l. slice_get l (c.loop-n.n - 1)) (sym c.as_slice-quads.ensures)
     ∙ slice_get_read c.as_slice-quads.result.now (length c.as_slice-quads.result.now) (c.loop-n.n - 1) c.index-quads-n.result refl low c.index-quads-n.is in
-    let named = c.place_named-leads_to.ensures c.args.pass.now c.index-quads-n.result c.requires.there at_quad in
     search rules
 
 pub Flattener::quad-material-requires : goal.Flattener::quad-material-requires
@@ -71,7 +70,8 @@ Flattener::quad-material-requires t c =
 pub Flattener::material-named-requires : goal.Flattener::material-named-requires
 Flattener::material-named-requires t c =
     let s = c.args.self.now in
-    let low = name_before s c.args.k c.in-Some.at c.in-Pass.field-0 c.args.quad.now c.args.leads_to c.in-Pass.is c.requires.named c.in-Some.is in
+    let named = c.place_named-in-Pass.ensures c.args.pass.now c.args.quad.now c.requires.own c.requires.at in
+    let low = name_before s c.args.k c.in-Some.at c.in-Pass.field-0 c.args.quad.now c.place_named-in-Pass.result c.in-Pass.is named c.in-Some.is in
     let there : c.in-Some.at < length s.seen.frame.passes = omega (arith, low, c.requires.there) in
     let room = name_room s.levels c.args.place.now.shift c.args.k c.in-Some.at low c.requires.room in
     search rules
@@ -79,29 +79,32 @@ Flattener::material-named-requires t c =
 pub Flattener::material-returns-in_ok-put_tile-in-Tile : goal.Flattener::material-returns-in_ok-put_tile-in-Tile
 Flattener::material-returns-in_ok-put_tile-in-Tile t c =
     let s = c.args.self.now in
+    let named = c.place_named.ensures c.args.pass.now c.args.quad.now c.requires.own c.requires.at in
     let blocks = c.as_slice-blocks.ensures
     ∙ (ap (λ (h : Held). h.blocks) c.held.ensures ∙ ap (λ (stand : Stand). stand.seen.blocks) c.self.view_is) in
     c.in_ok-put_tile-in-Tile.ensures
     ∙ ap (λ l. c.args.ops.now.items ++ l)
-    (tile_drawn s.seen (passes_in s (earlier_of s c.args.k)) (ranges_of s) c.args.quad.now c.args.place.now c.args.k _ _ _ c.args.leads_to _ c.in-Tile.is
-    c.requires.named (c.block_at-block.ensures ∙ ap (block_at c.args.leads_to) blocks))
+    (tile_drawn s.seen (passes_in s (earlier_of s c.args.k)) (ranges_of s) c.args.quad.now c.args.place.now c.args.k _ _ _ c.place_named.result _ c.in-Tile.is
+    named (c.block_at-block.ensures ∙ ap (block_at c.place_named.result) blocks))
 
 pub Flattener::material-returns-in-None : goal.Flattener::material-returns-in-None
 Flattener::material-returns-in-None t c =
     let s = c.args.self.now in
+    let named = c.place_named-in-Pass.ensures c.args.pass.now c.args.quad.now c.requires.own c.requires.at in
     sym
     (ap (λ l. c.args.ops.now.items ++ l)
-    (sym (name_drawn s c.args.k c.in-Pass.field-0 c.args.quad.now c.args.place.now c.args.leads_to c.requires.there c.in-Pass.is c.requires.named)
+    (sym (name_drawn s c.args.k c.in-Pass.field-0 c.args.quad.now c.args.place.now c.place_named-in-Pass.result c.requires.there c.in-Pass.is named)
     ∙ ap (group_at s c.args.quad.now.blend c.args.quad.now.opacity c.args.place.now) c.in-None.is)
     ∙ append-nil c.args.ops.now.items)
 
 pub Flattener::material-returns-in_ok-named-in-Some : goal.Flattener::material-returns-in_ok-named-in-Some
 Flattener::material-returns-in_ok-named-in-Some t c =
     let s = c.args.self.now in
+    let named = c.place_named-in-Pass.ensures c.args.pass.now c.args.quad.now c.requires.own c.requires.at in
     c.in_ok-named-in-Some.ensures
     ∙ ap (λ l. c.args.ops.now.items ++ l)
     (ap (group_at s c.args.quad.now.blend c.args.quad.now.opacity c.args.place.now) (sym c.in-Some.is)
-    ∙ name_drawn s c.args.k c.in-Pass.field-0 c.args.quad.now c.args.place.now c.args.leads_to c.requires.there c.in-Pass.is c.requires.named)
+    ∙ name_drawn s c.args.k c.in-Pass.field-0 c.args.quad.now c.args.place.now c.place_named-in-Pass.result c.requires.there c.in-Pass.is named)
 
 pub Flattener::range-shown-requires : goal.Flattener::range-shown-requires
 Flattener::range-shown-requires t c =

@@ -4,7 +4,7 @@ use Rattle.vz_occlude.proofs.culler.walked.Goals as goal
 
 pub loop-left-init : goal.loop-left-init
 loop-left-init c =
-    walk_starts c.args.ops.items c.len-left.result c.in_ok-culler.culler c.in_ok-culler.ensures.nothing c.in_ok-culler.ensures.ops c.in_ok-culler.ensures.kept
+    walk_starts c.args.ops.items c.len-left.result c.new-culler.result c.new-culler.ensures.nothing c.new-culler.ensures.ops c.new-culler.ensures.kept
     (c.len-left.ensures ∙ c.args.ops.ok.0)
 
 pub take-requires : goal.take-requires

@@ -93,8 +93,7 @@ Walker::pass-quad-requires g _ c =
     let at_quad = ap (λ l. slice_get l c.loop-n.n) (sym c.as_slice-quads.ensures)
     ∙ slice_get_read c.as_slice-quads.result.now (length c.as_slice-quads.result.now) c.loop-n.n c.index-quads-n.result refl low
     c.index-quads-n.is in
-    let named = c.place_named-leads_to.ensures c.index-as_slice-k.result c.index-quads-n.result at_pass at_quad
-    ∙ ap (λ (i : Stand). place_named i.frame c.args.k c.index-quads-n.result) c.self.view_is in
+    let stands = ap (λ (i : Stand). slice_get i.frame.passes c.args.k) (sym c.self.view_is) ∙ at_pass in
     search rules
 
 pub Walker::pass-returns-then-not-quad : goal.Walker::pass-returns-then-not-quad
@@ -157,7 +156,10 @@ Walker::quad-returns-then-not-quad g _ c =
 pub Walker::quad-group-requires : goal.Walker::quad-group-requires
 Walker::quad-group-requires g _ c =
     let it = c.args.self.now in
-    let low = name_before it c.args.k c.in-Some.at c.in-Pass.field-0 c.args.quad.now c.args.leads_to c.in-Pass.is c.requires.named c.in-Some.is in
+    let at_pass = ap (λ (i : Stand). slice_get i.frame.passes c.args.k) c.self.view_is ∙ c.requires.own in
+    let named = c.place_named.ensures c.args.pass.now c.args.quad.now at_pass c.requires.at
+    ∙ ap (λ (i : Stand). place_named i.frame c.args.k c.args.quad.now) c.self.view_is in
+    let low = name_before it c.args.k c.in-Some.at c.in-Pass.field-0 c.args.quad.now c.place_named.result c.in-Pass.is named c.in-Some.is in
     let there : c.in-Some.at < length it.frame.passes = omega (arith, low, c.requires.there) in
     let place = place_room (room_for it.levels c.args.k + coordinates 1) c.place_in.result
     (place_in c.args.place.now c.args.pass.now c.args.quad.now) c.place_in.ensures
@@ -179,21 +181,27 @@ Walker::quad-range-requires g _ c =
 pub Walker::quad-returns-in-None : goal.Walker::quad-returns-in-None
 Walker::quad-returns-in-None g _ c =
     let it = c.args.self.now in
+    let at_pass = ap (λ (i : Stand). slice_get i.frame.passes c.args.k) c.self.view_is ∙ c.requires.own in
+    let named = c.place_named.ensures c.args.pass.now c.args.quad.now at_pass c.requires.at
+    ∙ ap (λ (i : Stand). place_named i.frame c.args.k c.args.quad.now) c.self.view_is in
     let place = place_in c.args.place.now c.args.pass.now c.args.quad.now in
     met_as g.V.Visitor.has_met g.V.Visitor.has_stopped true _ _ _ _
     (quad_is it c.args.k c.args.pass.now c.args.place.now c.args.quad.now (material.Pass c.in-Pass.field-0) [] c.in-Pass.is
     (ap (group_at (ranges_of it) it.frame.passes place) (sym c.in-None.is)
-    ∙ name_is it c.args.k c.in-Pass.field-0 c.args.quad.now c.args.leads_to place c.requires.there c.in-Pass.is c.requires.named))
+    ∙ name_is it c.args.k c.in-Pass.field-0 c.args.quad.now c.place_named.result place c.requires.there c.in-Pass.is named))
     (met_last g.V.Visitor.has_met g.V.Visitor.has_stopped c.quad.result _ _ (Quad ∷ []) c.if-not-quad.false c.quad.ensures)
 
 pub Walker::quad-returns-in-Some : goal.Walker::quad-returns-in-Some
 Walker::quad-returns-in-Some g _ c =
     let it = c.args.self.now in
+    let at_pass = ap (λ (i : Stand). slice_get i.frame.passes c.args.k) c.self.view_is ∙ c.requires.own in
+    let named = c.place_named.ensures c.args.pass.now c.args.quad.now at_pass c.requires.at
+    ∙ ap (λ (i : Stand). place_named i.frame c.args.k c.args.quad.now) c.self.view_is in
     let inner = group_at (ranges_of it) it.frame.passes c.place_in.result (Some c.in-Some.at) in
     met_as g.V.Visitor.has_met g.V.Visitor.has_stopped c.group.result _ _ _ _
     (quad_is it c.args.k c.args.pass.now c.args.place.now c.args.quad.now (material.Pass c.in-Pass.field-0) inner c.in-Pass.is
     (ap (group_at (ranges_of it) it.frame.passes c.place_in.result) (sym c.in-Some.is)
-    ∙ (name_is it c.args.k c.in-Pass.field-0 c.args.quad.now c.args.leads_to c.place_in.result c.requires.there c.in-Pass.is c.requires.named
+    ∙ (name_is it c.args.k c.in-Pass.field-0 c.args.quad.now c.place_named.result c.place_in.result c.requires.there c.in-Pass.is named
     ∙ ap (named_of it c.args.k c.in-Pass.field-0) c.place_in.ensures)))
     (met_then g.V.Visitor.has_met g.V.Visitor.has_stopped c.quad.result c.group.result _ _ _
     (Quad ∷ []) inner c.if-not-quad.false c.quad.ensures c.group.ensures)

@@ -13,7 +13,7 @@ returns-then-visitor-clause-heavy g c =
     too_heavy g.V.Visitor.has_met g.V.Visitor.has_stopped c.walk.result c.new.result c.new-measurer.result c.args.beside
     c.new-2.result c.new-visitor.result c.walk.new.visitor (walked_in c.args.size c.args.root.now c.args.store.now) c.new-2.ensures
     c.new-visitor.ensures c.new.ensures (ap (λ (m : Measurer). m.damage) c.new-measurer.ensures)
-    (ap (λ (m : Measurer). m.ranges) c.new-measurer.ensures ∙ c.requires.free) c.requires.starts c.walk.ensures
+    (ap (λ (m : Measurer). m.ranges) c.new-measurer.ensures) c.requires.starts c.walk.ensures
     c.if-not-walk.true c.if-visitor.true
 
 pub returns-then-has_root-clause-heavy : goal.returns-then-has_root-clause-heavy
@@ -21,7 +21,7 @@ returns-then-has_root-clause-heavy g c =
     light g.V.Visitor.has_met g.V.Visitor.has_stopped c.walk.result c.new.result c.new-measurer.result c.args.beside
     c.new-2.result c.new-visitor.result c.walk.new.visitor (walked_in c.args.size c.args.root.now c.args.store.now) c.new-2.ensures
     c.new-visitor.ensures c.new.ensures (ap (λ (m : Measurer). m.damage) c.new-measurer.ensures)
-    (ap (λ (m : Measurer). m.ranges) c.new-measurer.ensures ∙ c.requires.free) c.requires.starts c.walk.ensures
+    (ap (λ (m : Measurer). m.ranges) c.new-measurer.ensures) c.requires.starts c.walk.ensures
     c.if-not-walk.false
 
 pub returns-then-has_root-clause-measured : goal.returns-then-has_root-clause-measured
@@ -29,7 +29,7 @@ returns-then-has_root-clause-measured g c =
     let met = measured g.V.Visitor.has_met g.V.Visitor.has_stopped c.walk.result c.new.result c.new-measurer.result c.args.beside
     c.new-2.result c.new-visitor.result c.walk.new.visitor (walked_in c.args.size c.args.root.now c.args.store.now) c.new-2.ensures
     c.new-visitor.ensures c.new.ensures (ap (λ (m : Measurer). m.damage) c.new-measurer.ensures)
-    (ap (λ (m : Measurer). m.ranges) c.new-measurer.ensures ∙ c.requires.free) c.requires.starts c.walk.ensures
+    (ap (λ (m : Measurer). m.ranges) c.new-measurer.ensures) c.requires.starts c.walk.ensures
     c.if-not-walk.false in
     let here = c.self.inside in
     let walked = walked_in c.args.size c.args.root.now c.args.store.now in
@@ -52,7 +52,7 @@ returns-then-has_root-clause-beside g c =
     beside_met g.V.Visitor.has_met g.V.Visitor.has_stopped c.walk.result c.new.result c.new-measurer.result c.args.beside
     c.new-2.result c.new-visitor.result c.walk.new.visitor (walked_in c.args.size c.args.root.now c.args.store.now) c.new-2.ensures
     c.new-visitor.ensures c.new.ensures (ap (λ (m : Measurer). m.damage) c.new-measurer.ensures)
-    (ap (λ (m : Measurer). m.ranges) c.new-measurer.ensures ∙ c.requires.free) c.requires.starts c.walk.ensures
+    (ap (λ (m : Measurer). m.ranges) c.new-measurer.ensures) c.requires.starts c.walk.ensures
     c.if-not-walk.false
 
 pub returns-else-has_root-clause-heavy : goal.returns-else-has_root-clause-heavy
@@ -60,7 +60,7 @@ returns-else-has_root-clause-heavy g c =
     light g.V.Visitor.has_met g.V.Visitor.has_stopped c.walk.result c.new.result c.new-measurer.result c.args.beside
     c.new-2.result c.new-visitor.result c.walk.new.visitor (walked_in c.args.size c.args.root.now c.args.store.now) c.new-2.ensures
     c.new-visitor.ensures c.new.ensures (ap (λ (m : Measurer). m.damage) c.new-measurer.ensures)
-    (ap (λ (m : Measurer). m.ranges) c.new-measurer.ensures ∙ c.requires.free) c.requires.starts c.walk.ensures
+    (ap (λ (m : Measurer). m.ranges) c.new-measurer.ensures) c.requires.starts c.walk.ensures
     c.if-not-walk.false
 
 pub returns-else-has_root-clause-measured : goal.returns-else-has_root-clause-measured
@@ -68,7 +68,7 @@ returns-else-has_root-clause-measured g c =
     let met = measured g.V.Visitor.has_met g.V.Visitor.has_stopped c.walk.result c.new.result c.new-measurer.result c.args.beside
     c.new-2.result c.new-visitor.result c.walk.new.visitor (walked_in c.args.size c.args.root.now c.args.store.now) c.new-2.ensures
     c.new-visitor.ensures c.new.ensures (ap (λ (m : Measurer). m.damage) c.new-measurer.ensures)
-    (ap (λ (m : Measurer). m.ranges) c.new-measurer.ensures ∙ c.requires.free) c.requires.starts c.walk.ensures
+    (ap (λ (m : Measurer). m.ranges) c.new-measurer.ensures) c.requires.starts c.walk.ensures
     c.if-not-walk.false in
     let walked = walked_in c.args.size c.args.root.now c.args.store.now in
     measure_is c.args.self.now c.args.store.now c.args.root.now c.args.size c.measured-else-has_root.result c.of_display-whole.result
@@ -83,5 +83,5 @@ returns-else-has_root-clause-beside g c =
     beside_met g.V.Visitor.has_met g.V.Visitor.has_stopped c.walk.result c.new.result c.new-measurer.result c.args.beside
     c.new-2.result c.new-visitor.result c.walk.new.visitor (walked_in c.args.size c.args.root.now c.args.store.now) c.new-2.ensures
     c.new-visitor.ensures c.new.ensures (ap (λ (m : Measurer). m.damage) c.new-measurer.ensures)
-    (ap (λ (m : Measurer). m.ranges) c.new-measurer.ensures ∙ c.requires.free) c.requires.starts c.walk.ensures
+    (ap (λ (m : Measurer). m.ranges) c.new-measurer.ensures) c.requires.starts c.walk.ensures
     c.if-not-walk.false

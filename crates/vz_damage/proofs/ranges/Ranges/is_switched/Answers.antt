@@ -2,6 +2,9 @@ use Rattle.std.proofs.Common.{sym, ◌∙◌}
 use Rattle.vz_damage.proofs.Ranging.{switched_some, switched_none}
 use Rattle.vz_damage.proofs.ranges.Ranges.is_switched.Goals as goal
 
+pub returns-then-is_at : goal.returns-then-is_at
+returns-then-is_at c a e = sym (c.is_at.ensures.same c.if-is_at.true a (e ∙ sym c.self.view_is))
+
 pub returns-in-None : goal.returns-in-None
 returns-in-None c a e = switched_none a c.self.inside.shown.entries c.args.range.now c.args.now.now (e
     ∙ sym c.self.view_is) c.in-None.ensures.value

@@ -1,10 +1,31 @@
-use Rattle.std.proofs.Common.{◌++◌, length, ap, ◌∙◌, arith}
+use Rattle.std.proofs.Common.{◌≡◌, ◌++◌, length, ap, ◌∙◌, arith}
+use Rattle.std.proofs.lemmas.Bool.Decides.{nat_tests}
 use Rattle.vz_deps.specs.Tracking.{freed, still, listed, meets_any}
 use Rattle.vz_deps.specs.Lacking.{unmet_in}
 use Rattle.vz_deps.specs.Ordered.{in_order}
 use Rattle.vz_deps.proofs.Keeping.{joined_length}
-use Rattle.vz_deps.proofs.Views.{listed_length, told_unmet, freed_is, still_is}
+use Rattle.vz_deps.proofs.Orders.{order_length}
+use Rattle.vz_deps.proofs.Views.{listed_length, told_unmet, freed_is, still_is, none_freed, none_still}
 use Rattle.vz_deps.proofs.tracker.Tracker.all_activated.Goals as goal
+
+-- nothing is blocked
+pub returns-then-len-eq0-clause-out : goal.returns-then-len-eq0-clause-out
+returns-then-len-eq0-clause-out c =
+    let entries = c.self.inside.subs.entries in
+    let long = listed_length (unmet_in c.self.inside.lacks) (in_order entries) in
+    let all = order_length entries c.len.ensures.unique in
+    let same = ap (λ v. length v.list) c.self.view_is in
+    let none : c.len.result ≡ 0 = grind (arith, nat_tests, c.if-len-eq0.true) in
+    none_freed (meets_any c.args.ids.now) c.args.self.now.list c.args.out.now.list (omega (arith, c.len.ensures.len, long, all, same, none))
+
+pub returns-then-len-eq0-clause-list : goal.returns-then-len-eq0-clause-list
+returns-then-len-eq0-clause-list c =
+    let entries = c.self.inside.subs.entries in
+    let long = listed_length (unmet_in c.self.inside.lacks) (in_order entries) in
+    let all = order_length entries c.len.ensures.unique in
+    let same = ap (λ v. length v.list) c.self.view_is in
+    let none : c.len.result ≡ 0 = grind (arith, nat_tests, c.if-len-eq0.true) in
+    none_still (meets_any c.args.ids.now) c.args.self.now.list (omega (arith, c.len.ensures.len, long, all, same, none))
 
 pub release-requires-clause-room : goal.release-requires-clause-room
 release-requires-clause-room c =

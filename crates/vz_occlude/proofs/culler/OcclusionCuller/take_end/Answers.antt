@@ -10,5 +10,5 @@ returns c n op later p =
     let k = c.keep.ensures.kept op in
     end_taken n op later c.args.place c.args.self.now c.keep.new.self p (ap role_of same ∙ q.4)
     (record { low = k.low; before = k.before; kept = k.kept; ahead = k.ahead; long = k.long })
-    c.keep.ensures.occluders (c.keep.ensures.start ∙ (c.len-self.ensures ∙ c.args.self.now.occluders.ok.0)) c.keep.ensures.removed
-    (c.keep.ensures.behind ∙ c.in_ok-push.ensures.items)
+    c.keep.ensures.occluders (c.keep.ensures.start ∙ c.len-self.ensures.value) c.keep.ensures.removed
+    (c.keep.ensures.behind ∙ c.in_ok-push.ensures.ok)

@@ -9,13 +9,12 @@ use Rattle.vz_occlude.proofs.culler.OcclusionCuller.take_single.Goals as goal
 pub is_occluded-occluded-requires : goal.is_occluded-occluded-requires
 is_occluded-occluded-requires c =
     let q = c.requires.place in
-    subst (λ occluders. c.args.self.now.start ≤ length occluders) (sym c.deref.ensures.value) (innermost_start q.0 q.1 q.2 c.args.place c.args.self.now q.3)
+    subst (λ occluders. c.args.self.now.start ≤ length occluders) (sym c.deref.ensures) (innermost_start q.0 q.1 q.2 c.args.place c.args.self.now q.3)
 
 pub put_occluder-requires-clause-start : goal.put_occluder-requires-clause-start
 put_occluder-requires-clause-start c =
     let q = c.requires.place in
-    let a = innermost_start q.0 q.1 q.2 c.args.place c.args.self.now q.3 in
-    let b = c.args.self.now.occluders.ok.0 in omega (arith, a, b)
+    innermost_start q.0 q.1 q.2 c.args.place c.args.self.now q.3
 
 pub put_occluder-requires-clause-inside : goal.put_occluder-requires-clause-inside
 put_occluder-requires-clause-inside c =
@@ -34,7 +33,7 @@ returns-then-occluded c n op later p =
     let read = read_op n op later c.args.place c.args.self.now c.index.result.now p c.index.ensures in
     single_occluded n op later c.args.place c.args.area.now c.args.self.now _ p (ap role_of same ∙ q.4)
     (λ outer own e is. c.in_ok-put_occluder.ensures outer own e is ∙ ap (λ o. outer ++ take MOST_OCCLUDERS (own ++ listed_if (occludes o) c.args.area.now)) (sym read))
-    refl refl c.is_occluded-occluded.result (c.is_occluded-occluded.ensures ∙ ap (any_from c.args.area.now c.args.self.now.start) c.deref.ensures.value)
+    refl refl c.is_occluded-occluded.result (c.is_occluded-occluded.ensures ∙ ap (any_from c.args.area.now c.args.self.now.start) c.deref.ensures)
     c.if-occluded.true refl refl refl
 
 pub returns : goal.returns
@@ -47,5 +46,5 @@ returns c n op later p =
     (λ outer own e is. c.keep.ensures.occluders
     ∙ (c.in_ok-put_occluder.ensures outer own e is ∙ ap (λ o. outer ++ take MOST_OCCLUDERS (own ++ listed_if (occludes o) c.args.area.now)) (sym read)))
     c.keep.ensures.start c.keep.ensures.behind c.is_occluded-occluded.result
-    (c.is_occluded-occluded.ensures ∙ ap (any_from c.args.area.now c.args.self.now.start) c.deref.ensures.value) c.if-occluded.false
+    (c.is_occluded-occluded.ensures ∙ ap (any_from c.args.area.now c.args.self.now.start) c.deref.ensures) c.if-occluded.false
     (record { low = k.low; before = k.before; kept = k.kept; ahead = k.ahead; long = k.long }) c.keep.ensures.removed
